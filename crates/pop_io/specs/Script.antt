@@ -1,0 +1,12 @@
+-- Which trouble a call has, and how counts go up.
+use Rattle.std.specs.Prelude.{ℕ, ◌+◌, ◌-◌, ◌^◌, ◌==◌, min, List, Option, None, if◌then◌else◌, find, option_map}
+use Rattle.pop_io.specs.declared.trouble.Trouble.{Trouble}
+use Rattle.pop_io.specs.declared.trouble.TroubleKind.{TroubleKind}
+
+-- a count that stands still at its type's end
+abbrev pub next : ℕ → ℕ
+next n = min (n + 1) (2 ^ 64 - 1)
+
+-- the first trouble with this call's number; the greatest number names no call
+abbrev pub trouble_at : List Trouble → ℕ → Option TroubleKind
+trouble_at ts call = if call == 2 ^ 64 - 1 then None else option_map (λ (t : Trouble). t.kind) (find (λ (t : Trouble). t.call == call) ts)

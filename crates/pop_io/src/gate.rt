@@ -1,0 +1,20 @@
+//! Where a test may hold a worker.
+
+/// It has no clause: whatever a gate does, a run meets its promises.
+pub trait Gate: Sync {
+    /// A worker calls it before each of its meetings, with turns counted from 1 in each round.
+    fn pass(&self, worker: u16, turn: u64);
+
+    /// A meeting of the shared field calls it under its locks and before it reads a word.
+    fn held(&self, seat: u16, call: u64);
+}
+
+/// The gate that holds nobody.
+#[derive(Clone, Copy, Debug)]
+pub struct OpenGate;
+
+impl Gate for OpenGate {
+    fn pass(&self, _worker: u16, _turn: u64) {}
+
+    fn held(&self, _seat: u16, _call: u64) {}
+}

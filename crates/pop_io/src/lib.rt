@@ -1,0 +1,31 @@
+//! Lists, texts and names; sources, sinks and gates: all that the program has of the outside.
+//! It stands on std alone.
+//! The layer above uses: `read_all` gives all bytes, `write_all` appends all or a front, and a fault comes only where a count rose.
+#![tactic(auto)]
+
+mod fault;
+mod gate;
+mod list;
+mod memory_sink;
+mod memory_source;
+mod names;
+mod outside;
+mod standard;
+mod text;
+mod trouble;
+mod whole;
+
+pub use fault::{Failed, NoMemory, ReadAll, WriteFault};
+pub use gate::{Gate, OpenGate};
+pub use list::List;
+pub use memory_sink::{CalmSink, MemorySink};
+pub use memory_source::{CalmSource, MemorySource};
+pub use names::{is_state_name, is_variable_name};
+pub use outside::{Sink, Source};
+pub use standard::{StdSink, StdSource};
+pub use text::Text;
+pub use trouble::{Trouble, TroubleKind};
+pub use whole::{INPUT_LIMIT, read_all, write_all};
+
+#[cfg(test)]
+mod tests;
