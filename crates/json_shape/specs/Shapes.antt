@@ -1,0 +1,57 @@
+-- The parts of a JSON value: another kind is told before a length or a range, and a list's items go one by one.
+use Rattle.std.specs.Prelude.{ℕ, ◌+◌, ◌&&◌, nat_le, ℤ, pos, negsuc, Bool, List, [], ◌∷◌, ◌++◌, length, Option, Some, None, option_and_then, option_map, Result, Ok, if◌then◌else◌}
+use Rattle.serde_json.specs.Data.{Data, Items, no_items, item}
+use Rattle.serde_json.specs.Find.{get, as_number, as_i64, as_str, as_array, as_object, as_bool}
+use Rattle.json_shape.specs.declared.fault.Why.TheVariants.{Kind, Range}
+use Rattle.json_shape.specs.Faults.{Fault, ◌>>=◌, broken}
+use Rattle.json_shape.specs.Paths.{member_path}
+
+abbrev pub listed : Items → List Data
+listed no_items = []
+listed (item d ds) = d ∷ listed ds
+
+-- a value of the wanted kind
+abbrev pub of_kind : {A : Type 0} → List ℕ → Option A → Result A Fault
+of_kind path None = broken path Kind
+of_kind path (Some x) = Ok x
+
+-- that the value is an object
+unfoldable pub object_at : List ℕ → Data → Result (Unit {0}) Fault
+object_at path d = of_kind path (option_map (λ ms. tt) (as_object d))
+
+abbrev pub member_at : List ℕ → List ℕ → Data → Result Data Fault
+member_at path name d = of_kind (member_path path name) (get name d)
+
+-- a member, read by this reader at its path
+abbrev pub member_by : {A : Type 0} → List ℕ → List ℕ → (List ℕ → Data → Result A Fault) → Data → Result A Fault
+member_by path name read d = member_at path name d >>= λ e. read (member_path path name) e
+
+abbrev pub within : {A : Type 0} → List ℕ → ℕ → ℕ → List A → Result (List A) Fault
+within path least most xs = if nat_le least (length xs) && nat_le (length xs) most then Ok xs else broken path Range
+
+-- a list with least to most items
+unfoldable pub list_at : List ℕ → ℕ → ℕ → Data → Result (List Data) Fault
+list_at path least most d = do
+  ds ← of_kind path (as_array d)
+  within path least most (listed ds)
+
+abbrev pub in_range : List ℕ → ℕ → ℕ → ℤ → Result ℕ Fault
+in_range path least most (pos n) = if nat_le least n && nat_le n most then Ok n else broken path Range
+in_range path least most (negsuc n) = broken path Range
+
+-- a whole number from least to most; a number that is not whole is of another kind
+unfoldable pub number_at : List ℕ → ℕ → ℕ → Data → Result ℕ Fault
+number_at path least most d = do
+  z ← of_kind path (option_and_then as_i64 (as_number d))
+  in_range path least most z
+
+unfoldable pub text_at : List ℕ → Data → Result (List ℕ) Fault
+text_at path d = of_kind path (as_str d)
+
+unfoldable pub truth_at : List ℕ → Data → Result Bool Fault
+truth_at path d = of_kind path (as_bool d)
+
+-- each item, given those before it
+abbrev pub each : {A : Type 0} → (List A → ℕ → Data → Result A Fault) → List A → ℕ → List Data → Result (List A) Fault
+each at found i [] = Ok found
+each at found i (d ∷ ds) = at found i d >>= λ x. each at (found ++ x ∷ []) (i + 1) ds

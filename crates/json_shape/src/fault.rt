@@ -1,0 +1,82 @@
+//! What is wrong with a file, and where.
+
+ghost use Rattle.std.specs.Prelude.{◌≡◌};
+ghost use Rattle.json_shape.specs.Faults.{Says};
+ghost use Rattle.json_shape.specs.Paths.{path_text};
+
+use crate::path::Path;
+use pop_io::{NoMemory, Text};
+use std::alloc::{AllocError, AllocFailed, Global};
+
+/// Why a value breaks its rule.
+#[derive(Clone, Copy, Debug, PartialEq, Eq)]
+pub enum Why {
+    /// The value is missing, or of another JSON kind.
+    Kind,
+    /// A number or a list's length is out of range.
+    Range,
+    /// A text is out of form, or stands twice.
+    Name,
+    /// A combination in postfix is no single tree.
+    Shape,
+    /// A predicate's text is refused.
+    Pred(PredWhy),
+}
+
+/// Why a predicate's text is refused. The numbers are byte offsets, of `LongText` the length.
+#[derive(Clone, Copy, Debug, PartialEq, Eq)]
+pub enum PredWhy {
+    Syntax(u32),
+    UnknownName(u32),
+    TooLarge(u32),
+    TooDeep(u32),
+    LongText(u64),
+}
+
+/// Why a file was not read.
+#[derive(Debug, Drop)]
+pub enum FormatFault {
+    /// The first rule that is broken. The path is a `/` and a name or a number for each step from the root.
+    Broken { path: Text, why: Why },
+    NoMemory,
+}
+
+impl From<AllocError> for FormatFault {
+    ghost use Rattle.json_shape.specs.declared.fault.FormatFault.TheVariants.{NoMemory as OutOfMemory};
+
+    ghost from_gives = { λ _ e. e ≡ OutOfMemory };
+
+    fn from(_e: AllocError) -> FormatFault {
+        FormatFault::NoMemory
+    }
+}
+
+impl<T: Drop> From<AllocFailed<T>> for FormatFault {
+    ghost use Rattle.json_shape.specs.declared.fault.FormatFault.TheVariants.{NoMemory as OutOfMemory};
+
+    ghost from_gives = { λ _ e. e ≡ OutOfMemory };
+
+    fn from(_e: AllocFailed<T>) -> FormatFault {
+        FormatFault::NoMemory
+    }
+}
+
+impl From<NoMemory> for FormatFault {
+    ghost use Rattle.json_shape.specs.declared.fault.FormatFault.TheVariants.{NoMemory as OutOfMemory};
+
+    ghost from_gives = { λ _ e. e ≡ OutOfMemory };
+
+    fn from(_e: NoMemory) -> FormatFault {
+        FormatFault::NoMemory
+    }
+}
+
+/// The fault of a broken rule at this path.
+pub fn broken(alloc: Global, path: &Path<'_>, why: Why) -> FormatFault
+    ensures { Says result (path_text path.now) why }
+{
+    match path.text(alloc) {
+        Ok(path) => FormatFault::Broken { path, why },
+        Err(_) => FormatFault::NoMemory,
+    }
+}

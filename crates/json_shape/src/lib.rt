@@ -1,0 +1,12 @@
+//! Readers of the parts of a JSON value: a member, a list, a number, a text, each with the path that a fault names.
+//! It stands on pop_io, serde_json and itoa, and knows no file format.
+//! The layer above uses: each reader gives exactly what `specs/Shapes.antt` reads at its path, or want of memory.
+#![tactic(auto)]
+
+mod fault;
+mod path;
+mod shape;
+
+pub use fault::{FormatFault, PredWhy, Why, broken};
+pub use path::Path;
+pub use shape::{list_of, member_of, number_of, object_of, text_of, truth_of};

@@ -1,0 +1,103 @@
+//! The parts of a JSON value, each with the path that a fault names.
+
+ghost use Rattle.std.specs.Prelude.{◌≡◌, ◌≤◌, length, map, IfOk};
+ghost use Rattle.serde_json.specs.View.{view};
+ghost use Rattle.json_shape.specs.Faults.{Gives};
+ghost use Rattle.json_shape.specs.Paths.{path_text};
+ghost use Rattle.json_shape.specs.Shapes.{object_at, member_at, list_at, number_at, text_at, truth_at};
+
+use crate::fault::{FormatFault, Why, broken};
+use crate::path::Path;
+use serde_json::Value;
+use std::alloc::Global;
+
+/// That the value is an object.
+#[tactic(auto, unfolding(crate::specs::Shapes::object_at))]
+pub fn object_of(alloc: Global, path: &Path<'_>, value: &Value) -> Result<(), FormatFault>
+    ensures { Gives (λ u. u) result (object_at (path_text path.now) (view value.now)) }
+{
+    if !value.is_object() {
+        return Err(broken(alloc, path, Why::Kind));
+    }
+    Ok(())
+}
+
+/// A member by its name. The path is that of the object.
+pub fn member_of<'v>(
+    alloc: Global,
+    path: &Path<'_>,
+    name: &str,
+    value: &'v Value,
+) -> Result<&'v Value, FormatFault>
+    ensures { Gives (λ v. view v.now) result (member_at (path_text path.now) name.now (view value.now)) }
+{
+    match value.get(name) {
+        Some(member) => Ok(member),
+        None => Err(broken(alloc, &Path::Member(path, name), Why::Kind)),
+    }
+}
+
+/// A list with `least` to `most` items.
+#[tactic(auto, using(crate::proofs::Lists::listed_is), unfolding(crate::specs::Shapes::list_at))]
+pub fn list_of<'v>(
+    alloc: Global,
+    path: &Path<'_>,
+    least: usize,
+    most: usize,
+    value: &'v Value,
+) -> Result<&'v Vec<Value>, FormatFault>
+    ensures list { Gives (λ v. map view v.now.items) result
+        (list_at (path_text path.now) least most (view value.now)) }
+    ensures count { IfOk result (λ v. (least ≤ length v.now.items) × (length v.now.items ≤ most)) }
+{
+    let Some(list) = value.as_array() else {
+        return Err(broken(alloc, path, Why::Kind));
+    };
+    if list.len() < least || most < list.len() {
+        return Err(broken(alloc, path, Why::Range));
+    }
+    Ok(list)
+}
+
+/// A whole number from `least` to `most`.
+#[tactic(auto, unfolding(crate::specs::Shapes::number_at))]
+pub fn number_of(
+    alloc: Global,
+    path: &Path<'_>,
+    least: u32,
+    most: u32,
+    value: &Value,
+) -> Result<u32, FormatFault>
+    ensures number { Gives (λ n. n) result (number_at (path_text path.now) least most (view value.now)) }
+    ensures within { IfOk result (λ n. (least ≤ n) × (n ≤ most)) }
+{
+    let Some(number) = value.as_i64() else {
+        return Err(broken(alloc, path, Why::Kind));
+    };
+    if number < i64::from(least) || i64::from(most) < number {
+        return Err(broken(alloc, path, Why::Range));
+    }
+    Ok(number as u32)
+}
+
+/// A text.
+#[tactic(auto, unfolding(crate::specs::Shapes::text_at))]
+pub fn text_of<'v>(alloc: Global, path: &Path<'_>, value: &'v Value) -> Result<&'v str, FormatFault>
+    ensures { Gives (λ s. s.now) result (text_at (path_text path.now) (view value.now)) }
+{
+    match value.as_str() {
+        Some(text) => Ok(text),
+        None => Err(broken(alloc, path, Why::Kind)),
+    }
+}
+
+/// `true` or `false`.
+#[tactic(auto, unfolding(crate::specs::Shapes::truth_at))]
+pub fn truth_of(alloc: Global, path: &Path<'_>, value: &Value) -> Result<bool, FormatFault>
+    ensures { Gives (λ b. b) result (truth_at (path_text path.now) (view value.now)) }
+{
+    match value.as_bool() {
+        Some(truth) => Ok(truth),
+        None => Err(broken(alloc, path, Why::Kind)),
+    }
+}
