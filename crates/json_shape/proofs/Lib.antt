@@ -1,3 +1,6 @@
 pub mod Each
 pub mod FaultLemmas
 pub mod Lists
+pub mod Steps
+pub mod Readers
+pub mod Fresh

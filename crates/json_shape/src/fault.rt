@@ -7,6 +7,7 @@ ghost use Rattle.json_shape.specs.Paths.{path_text};
 use crate::path::Path;
 use pop_io::{NoMemory, Text};
 use std::alloc::{AllocError, AllocFailed, Global};
+use std::fmt;
 
 /// Why a value breaks its rule.
 #[derive(Clone, Copy, Debug, PartialEq, Eq)]
@@ -31,6 +32,42 @@ pub enum PredWhy {
     TooLarge(u32),
     TooDeep(u32),
     LongText(u64),
+}
+
+/// A word, and the number after it.
+impl fmt::Display for PredWhy {
+    ghost use Rattle.std.specs.Prelude.{Some};
+    ghost use Rattle.json_shape.specs.Reasons.{pred_reason};
+
+    ghost output = { λ why. Some (pred_reason why) };
+
+    fn fmt<W: fmt::Write>(&self, f: &mut fmt::Formatter<W>) -> fmt::Result {
+        match self {
+            PredWhy::Syntax(at) => write!(f, "syntax {at}"),
+            PredWhy::UnknownName(at) => write!(f, "unknown {at}"),
+            PredWhy::TooLarge(at) => write!(f, "large {at}"),
+            PredWhy::TooDeep(at) => write!(f, "deep {at}"),
+            PredWhy::LongText(length) => write!(f, "long {length}"),
+        }
+    }
+}
+
+/// One word, or `pred` and what is wrong with a predicate's text.
+impl fmt::Display for Why {
+    ghost use Rattle.std.specs.Prelude.{Some};
+    ghost use Rattle.json_shape.specs.Reasons.{reason};
+
+    ghost output = { λ why. Some (reason why) };
+
+    fn fmt<W: fmt::Write>(&self, f: &mut fmt::Formatter<W>) -> fmt::Result {
+        match self {
+            Why::Kind => write!(f, "kind"),
+            Why::Range => write!(f, "range"),
+            Why::Name => write!(f, "name"),
+            Why::Shape => write!(f, "shape"),
+            Why::Pred(why) => write!(f, "pred {why}"),
+        }
+    }
 }
 
 /// Why a file was not read.

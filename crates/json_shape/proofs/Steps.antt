@@ -1,0 +1,25 @@
+-- Readings that went well, step by step.
+use Rattle.std.proofs.Common.{◌≡◌, ℕ, ◌&&◌, Bool, true, false, cond, not, List, Result, Ok, Err, refl}
+use Rattle.json_shape.specs.declared.fault.Why.{Why}
+use Rattle.json_shape.specs.Faults.{Fault, ◌>>=◌, broken}
+
+-- what went on went well before
+pub bind_ok : {A B : Type 0} (r : Result A Fault) (f : A → Result B Fault) (y : B) → (r >>= f) ≡ Ok y → (x : A) × (r ≡ Ok x) × (f x ≡ Ok y)
+bind_ok (Ok x) f y e = (x, refl, e)
+bind_ok (Err d) f y e = absurd cc
+
+pub guard_ok : {A : Type 0} (b : Bool) (path : List ℕ) (why : Why) (x y : A) → cond b (Ok x) (broken path why) ≡ Ok y → (b ≡ true) × (x ≡ y)
+guard_ok true path why x y e = (refl, cc)
+guard_ok false path why x y e = absurd cc
+
+pub both_true : (a b : Bool) → (a && b) ≡ true → (a ≡ true) × (b ≡ true)
+both_true true true e = (refl, refl)
+both_true true false e = absurd cc
+both_true false b e = absurd cc
+
+pub not_true : (b : Bool) → not b ≡ true → b ≡ false
+not_true true e = absurd cc
+not_true false e = refl
+
+pub same_ok : {A : Type 0} (x y : A) → (let o : Result A Fault = Ok x in o ≡ Ok y) → x ≡ y
+same_ok x y e = cc

@@ -1,0 +1,4 @@
+mod Moves
+mod LeafLaws
+mod Postfix
+mod NetLaws

@@ -1,0 +1,190 @@
+-- What is read of a net is the net of its file, and each file of a net is read.
+use Rattle.std.proofs.Common.{◌≡◌, ℕ, ◌+◌, ◌-◌, ◌≤◌, ◌<◌, Bool, true, false, cond, List, [], ◌∷◌, ◌++◌, length, codes, Option, Some, None, Result, Ok, Err, refl, sym, ap, subst, ◌∙◌, arith}
+use Rattle.std.specs.Prelude.{All, is_some, IsSomeAnd, option_and_then}
+use Rattle.std.specs.Str.{bytes_eq}
+use Rattle.std.proofs.lemmas.Slice.Eq.{bytes_eq-Decides}
+use Rattle.serde_json.specs.Data.{Data, Num, unsigned, negative, float, null, boolean, number, string, array, object}
+use Rattle.serde_json.specs.Find.{get, as_str, as_number, as_i64}
+use Rattle.pop_io.specs.Names.{is_variable_name}
+use Rattle.json_shape.specs.declared.fault.Why.TheVariants.{Name, Shape}
+use Rattle.json_shape.specs.Faults.{Fault, ◌>>=◌, broken}
+use Rattle.json_shape.specs.Paths.{member_path, item_path}
+use Rattle.json_shape.specs.Shapes.{object_at, member_at, member_by, list_at, number_at, each}
+use Rattle.json_shape.specs.Parts.{IsNumber, IsText, HasMember, IsList}
+use Rattle.json_shape.proofs.Steps.{bind_ok, guard_ok, same_ok}
+use Rattle.json_shape.proofs.Readers
+use Rattle.json_shape.proofs.Fresh
+use Rattle.pop_net.specs.declared.net.Item.{Item}
+use Rattle.pop_net.specs.declared.net.Item.TheVariants.{Leaf, Not, And, Or}
+use Rattle.pop_net.specs.LeafModel.{LeafModel, IsLeaf}
+use Rattle.pop_net.specs.NetModel.{NetModel, IsNet, NamesBelow, combined, depths}
+use Rattle.net_json.specs.NetFile.{IsItem, IsLeafFile, IsNetFile}
+use Rattle.net_json.specs.Examined.{names_at, leaf_at, leaf_item, leaves_at, operator_at, operand_at, open_depths, is_shallow, item_at, combine_item, items_at, combine_at, net_at}
+use Rattle.net_json.proofs.LeafLaws.{names_at-takes, names_at-again, leaf_at-takes, leaf_at-again}
+use Rattle.net_json.proofs.Postfix.{IsPlaced, placed-takes, placed-again, one_tree, some_item}
+
+same_bytes : (s t : List ℕ) → bytes_eq s t ≡ true → s ≡ t
+same_bytes s t e = (bytes_eq-Decides s t).0 e
+
+-- the word of an operator, found by three tests
+by_words : (path s : List ℕ) (item : Item) (no con dis : Bool) → (bytes_eq s (codes "not") ≡ no) → (bytes_eq s (codes "and") ≡ con) → (bytes_eq s (codes "or") ≡ dis)
+    → cond no (let o : Result Item Fault = Ok Not in o) (cond con (Ok And) (cond dis (Ok Or) (broken path Name))) ≡ Ok item → (n : ℕ) → (d : Data) → as_str d ≡ Some s → IsItem item d × NamesBelow n item
+by_words path s item true con dis a b c e n d is =
+    let same : Not ≡ item = cc in
+    subst (λ (i : Item). IsItem i d × NamesBelow n i) same (is ∙ ap (λ (t : List ℕ). Some t) (same_bytes s (codes "not") a), tt)
+by_words path s item false true dis a b c e n d is =
+    let same : And ≡ item = cc in
+    subst (λ (i : Item). IsItem i d × NamesBelow n i) same (is ∙ ap (λ (t : List ℕ). Some t) (same_bytes s (codes "and") b), tt)
+by_words path s item false false true a b c e n d is =
+    let same : Or ≡ item = cc in
+    subst (λ (i : Item). IsItem i d × NamesBelow n i) same (is ∙ ap (λ (t : List ℕ). Some t) (same_bytes s (codes "or") c), tt)
+by_words path s item false false false a b c e n d is = absurd cc
+
+module _ (leaves : ℕ) (some_leaf : 1 ≤ leaves) where
+  operand_takes : (path : List ℕ) (d : Data) (o : Option (List ℕ)) (item : Item) → as_str d ≡ o → operand_at path leaves d o ≡ Ok item → IsItem item d × NamesBelow leaves item
+  operand_takes path d None item is e =
+      let a = bind_ok (number_at path 0 (leaves - 1) d) (λ i. (let o : Result Item Fault = Ok (Leaf i) in o)) item e in
+      let n = Readers.number_at-takes path 0 (leaves - 1) d a.0 a.1 in
+      subst (λ (i : Item). IsItem i d × NamesBelow leaves i) (same_ok (Leaf a.0) item a.2) (n.0, omega (arith, n.2))
+  operand_takes path d (Some s) item is e = by_words path s item (bytes_eq s (codes "not")) (bytes_eq s (codes "and")) (bytes_eq s (codes "or")) refl refl refl e leaves d is
+
+  -- a number is no text
+  no_text : (d : Data) (n : ℕ) → IsNumber n d → as_str d ≡ None
+  no_text null n is = absurd cc
+  no_text (boolean b) n is = absurd cc
+  no_text (number x) n is = refl
+  no_text (string s) n is = absurd cc
+  no_text (array ds) n is = absurd cc
+  no_text (object ms) n is = absurd cc
+
+  operand_again : (path : List ℕ) (d : Data) (item : Item) → IsItem item d → NamesBelow leaves item → operand_at path leaves d (as_str d) ≡ Ok item
+  operand_again path d (Leaf i) is below = rw (no_text d i is, Readers.number_at-again path 0 (leaves - 1) d i is (omega arith) (omega arith)) refl
+  operand_again path d Not is below = rw is refl
+  operand_again path d And is below = rw is refl
+  operand_again path d Or is below = rw is refl
+
+  abbrev Fits : List Item → Item → Type 0
+  Fits found item = NamesBelow leaves item × IsPlaced found item
+
+  item_takes : (path : List ℕ) (found : List Item) (i : ℕ) (d : Data) (item : Item) → combine_item path leaves found i d ≡ Ok item → IsItem item d × Fits found item
+  unfolding item_at
+  item_takes path found i d item e =
+      let at = item_path path i in
+      let a = bind_ok (operand_at at leaves d (as_str d)) (λ x. cond (is_shallow (open_depths (found ++ x ∷ []))) (Ok x) (broken at Shape)) item e in
+      let g = guard_ok (is_shallow (open_depths (found ++ a.0 ∷ []))) at Shape a.0 item a.2 in
+      let t = operand_takes at d (as_str d) a.0 refl a.1 in
+      subst (λ (x : Item). IsItem x d × Fits found x) g.1 (t.0, (t.1, g.0))
+
+  item_again : (path : List ℕ) (found : List Item) (i : ℕ) (d : Data) (item : Item) → IsItem item d → Fits found item → combine_item path leaves found i d ≡ Ok item
+  unfolding item_at
+  item_again path found i d item is fits = rw (operand_again (item_path path i) d item is fits.0, fits.1) refl
+
+  fit_both : (found items : List Item) → Readers.EachFrom (λ _ x. NamesBelow leaves x) found items → Readers.EachFrom IsPlaced found items → Readers.EachFrom Fits found items
+  fit_both found [] below placed = tt
+  fit_both found (x ∷ xs) below placed = ((below.0, placed.0), fit_both (found ++ x ∷ []) xs below.1 placed.1)
+
+  pub combine_at-takes : (path : List ℕ) (d : Data) (items : List Item) → combine_at leaves path d ≡ Ok items → IsList IsItem items d × All (NamesBelow leaves) items × (length items ≤ 1024) × IsSomeAnd (combined depths items) (λ n. n ≤ 65)
+  unfolding combine_at items_at
+  combine_at-takes path d items e =
+      let a = bind_ok (items_at leaves path d) (λ xs. cond (is_some (combined depths xs)) (Ok xs) (broken path Shape)) items e in
+      let g = guard_ok (is_some (combined depths a.0)) path Shape a.0 items a.2 in
+      let r = Readers.list-takes (combine_item path leaves) IsItem Fits (item_takes path) path 1 1024 d a.0 a.1 in
+      let below = Fresh.EachFrom-weaker Fits (λ _ x. NamesBelow leaves x) (λ found x fits. fits.0) [] a.0 r.1 in
+      let placed = Fresh.EachFrom-weaker Fits IsPlaced (λ found x fits. fits.1) [] a.0 r.1 in
+      subst (λ (xs : List Item). IsList IsItem xs d × All (NamesBelow leaves) xs × (length xs ≤ 1024) × IsSomeAnd (combined depths xs) (λ n. n ≤ 65)) g.1
+      (r.0, Fresh.EachFrom-All (NamesBelow leaves) [] a.0 below, r.3, placed-takes a.0 r.2 placed g.0)
+
+  pub combine_at-again : (path : List ℕ) (d : Data) (items : List Item) → IsList IsItem items d → All (NamesBelow leaves) items → length items ≤ 1024 → IsSomeAnd (combined depths items) (λ n. n ≤ 65) → combine_at leaves path d ≡ Ok items
+  unfolding combine_at items_at
+  combine_at-again path d items is below hi one =
+      let fits = fit_both [] items (Fresh.All-EachFrom (NamesBelow leaves) [] items below) (placed-again items one) in
+      rw (Readers.list-again (combine_item path leaves) IsItem Fits (item_again path) path 1 1024 d items is fits (some_item items one) hi, one_tree items one) refl
+
+-- the leaves have as many inputs as there are variables
+abbrev IsLeafOf : ℕ → LeafModel → Type 0
+IsLeafOf variables leaf = IsLeaf leaf × (length leaf.inputs ≡ variables)
+
+leaves_at-takes : (variables : ℕ) → 1 ≤ variables → variables ≤ 16 → (path : List ℕ) (d : Data) (leaves : List LeafModel) → leaves_at variables path d ≡ Ok leaves
+    → IsList IsLeafFile leaves d × All (IsLeafOf variables) leaves × (1 ≤ length leaves) × (length leaves ≤ 8)
+unfolding leaves_at
+leaves_at-takes variables lo hi path d leaves e =
+    let taken = λ (found : List LeafModel) (i : ℕ) (x : Data) (leaf : LeafModel) (is : leaf_item variables path found i x ≡ Ok leaf). (
+      let t = leaf_at-takes variables lo hi (item_path path i) x leaf is in
+      let both : IsLeafFile leaf x × IsLeafOf variables leaf = (t.0, (t.1, t.2)) in
+      both
+    ) in
+    let r = Readers.list-takes (leaf_item variables path) IsLeafFile (λ _ leaf. IsLeafOf variables leaf) taken path 1 8 d leaves e in
+    (r.0, Fresh.EachFrom-All (IsLeafOf variables) [] leaves r.1, r.2, r.3)
+
+leaves_at-again : (variables : ℕ) (path : List ℕ) (d : Data) (leaves : List LeafModel) → IsList IsLeafFile leaves d → All (IsLeafOf variables) leaves → 1 ≤ length leaves → length leaves ≤ 8 → leaves_at variables path d ≡ Ok leaves
+unfolding leaves_at
+leaves_at-again variables path d leaves is each_leaf lo hi =
+    Readers.list-again (leaf_item variables path) IsLeafFile (λ _ leaf. IsLeafOf variables leaf) (λ found i x leaf file fits. leaf_at-again variables (item_path path i) x leaf file fits.0 fits.1) path 1 8 d leaves is (Fresh.All-EachFrom (IsLeafOf variables) [] leaves each_leaf) lo hi
+
+-- the net of the lists that were read
+net_of : (path : List ℕ) (d : Data) (one : ℕ) (vars : List (List ℕ)) (leaves : List LeafModel) (items : List Item)
+    → member_by path (codes "format") (λ p. number_at p 1 1) d ≡ Ok one
+    → member_by path (codes "vars") (names_at is_variable_name 16) d ≡ Ok vars
+    → member_by path (codes "leaves") (leaves_at (length vars)) d ≡ Ok leaves
+    → member_by path (codes "combine") (combine_at (length leaves)) d ≡ Ok items
+    → IsNetFile (record { variables = vars; leaves = leaves; combine = items }) d
+net_of path d one vars leaves items f v l c =
+    let f' = bind_ok (member_at path (codes "format") d) (λ e. number_at (member_path path (codes "format")) 1 1 e) one f in
+    let v' = bind_ok (member_at path (codes "vars") d) (λ e. names_at is_variable_name 16 (member_path path (codes "vars")) e) vars v in
+    let l' = bind_ok (member_at path (codes "leaves") d) (λ e. leaves_at (length vars) (member_path path (codes "leaves")) e) leaves l in
+    let c' = bind_ok (member_at path (codes "combine") d) (λ e. combine_at (length leaves) (member_path path (codes "combine")) e) items c in
+    let ft = Readers.number_at-takes (member_path path (codes "format")) 1 1 f'.0 one f'.2 in
+    let vt = names_at-takes is_variable_name 16 (member_path path (codes "vars")) v'.0 vars v'.2 in
+    let lt = leaves_at-takes (length vars) vt.2 vt.3 (member_path path (codes "leaves")) l'.0 leaves l'.2 in
+    let ct = combine_at-takes (length leaves) lt.2 (member_path path (codes "combine")) c'.0 items c'.2 in
+    let is_one : one ≡ 1 = omega (arith, ft.1, ft.2) in
+    record {
+      format = (f'.0, Readers.member_at-takes path (codes "format") d f'.0 f'.1, subst (λ (n : ℕ). IsNumber n f'.0) is_one ft.0);
+      vars = (v'.0, Readers.member_at-takes path (codes "vars") d v'.0 v'.1, vt.0);
+      leaves = (l'.0, Readers.member_at-takes path (codes "leaves") d l'.0 l'.1, lt.0);
+      combine = (c'.0, Readers.member_at-takes path (codes "combine") d c'.0 c'.1, ct.0);
+      fits = record {
+        variable_names = vt.1;
+        some_variable = vt.2;
+        variables = vt.3;
+        some_leaf = lt.2;
+        leaf_count = lt.3;
+        leaves = λ k leaf within. (lt.1 k leaf within).0;
+        inputs = λ k leaf within. (lt.1 k leaf within).1;
+        items = ct.2;
+        leaf_numbers = ct.1;
+        depth = ct.3;
+      };
+    }
+
+pub net_at-takes : (path : List ℕ) (d : Data) (net : NetModel) → net_at path d ≡ Ok net → IsNetFile net d
+unfolding net_at
+net_at-takes path d net e =
+    let made = λ (vars : List (List ℕ)) (leaves : List LeafModel) (items : List Item). (let o : Result NetModel Fault = Ok (record { variables = vars; leaves = leaves; combine = items }) in o) in
+    let format = member_by path (codes "format") (λ p. number_at p 1 1) d in
+    let names = member_by path (codes "vars") (names_at is_variable_name 16) d in
+    let leaves = λ (vars : List (List ℕ)). member_by path (codes "leaves") (leaves_at (length vars)) d in
+    let combine = λ (ls : List LeafModel). member_by path (codes "combine") (combine_at (length ls)) d in
+    let a = bind_ok (object_at path d) (λ o. format >>= λ one. names >>= λ vs. leaves vs >>= λ ls. combine ls >>= λ cs. made vs ls cs) net e in
+    let f = bind_ok format (λ one. names >>= λ vs. leaves vs >>= λ ls. combine ls >>= λ cs. made vs ls cs) net a.2 in
+    let v = bind_ok names (λ vs. leaves vs >>= λ ls. combine ls >>= λ cs. made vs ls cs) net f.2 in
+    let l = bind_ok (leaves v.0) (λ ls. combine ls >>= λ cs. made v.0 ls cs) net v.2 in
+    let c = bind_ok (combine l.0) (λ cs. made v.0 l.0 cs) net l.2 in
+    subst (λ (n : NetModel). IsNetFile n d) (same_ok (record { variables = v.0; leaves = l.0; combine = c.0 }) net c.2) (net_of path d f.0 v.0 l.0 c.0 f.1 v.1 l.1 c.1)
+
+pub net_at-again : (path : List ℕ) (d : Data) (net : NetModel) → IsNetFile net d → net_at path d ≡ Ok net
+unfolding net_at
+net_at-again path d net file =
+    let is = file.fits in
+    let each_leaf : All (IsLeafOf (length net.variables)) net.leaves = λ k leaf within. (is.leaves k leaf within, is.inputs k leaf within) in
+    rw (
+      Readers.object_at-again path (codes "format") d file.format.0 file.format.1,
+      file.format.1,
+      Readers.number_at-again (member_path path (codes "format")) 1 1 file.format.0 1 file.format.2 (omega arith) (omega arith),
+      file.vars.1,
+      names_at-again is_variable_name 16 (member_path path (codes "vars")) file.vars.0 net.variables file.vars.2 is.variable_names is.some_variable is.variables,
+      file.leaves.1,
+      leaves_at-again (length net.variables) (member_path path (codes "leaves")) file.leaves.0 net.leaves file.leaves.2 each_leaf is.some_leaf is.leaf_count,
+      file.combine.1,
+      combine_at-again (length net.leaves) is.some_leaf (member_path path (codes "combine")) file.combine.0 net.combine file.combine.2 is.leaf_numbers is.items is.depth,
+    ) refl

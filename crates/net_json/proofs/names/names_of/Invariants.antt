@@ -1,0 +1,12 @@
+use Rattle.net_json.specs.NameForms.{form_of}
+use Rattle.std.proofs.Common.{◌≡◌, [], map, drop, vec_len}
+use Rattle.serde_json.specs.View.{view}
+use Rattle.json_shape.specs.Paths.{path_text}
+use Rattle.json_shape.specs.Shapes.{each}
+use Rattle.net_json.specs.Examined.{name_item}
+use Rattle.net_json.proofs.names.names_of.Given as goal
+
+abbrev pub invariant-loop-i : goal.invariant-loop-i
+invariant-loop-i l =
+    (each (name_item (form_of l.form) (path_text l.path)) l.names.items l.i (drop l.i (map view l.item-items)) ≡ each (name_item (form_of l.form) (path_text l.path)) [] 0 (map view l.item-items))
+    × (vec_len l.names ≡ l.i)

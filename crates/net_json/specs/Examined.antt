@@ -1,0 +1,138 @@
+-- The order in which a net's value is examined: member by member, each whole before the next; a list for its kind, its
+-- length, and then item by item. The first rule that is broken is the fault.
+use Rattle.std.specs.Prelude.{ℕ, ◌-◌, ◌&&◌, nat_le, Bool, true, false, not, List, [], ◌∷◌, ◌++◌, length, codes, Option, Some, None, is_some, Result, Ok, if◌then◌else◌}
+use Rattle.std.specs.List.{list_any}
+use Rattle.std.specs.Str.{bytes_eq}
+use Rattle.serde_json.specs.Data.{Data}
+use Rattle.serde_json.specs.Find.{as_array, as_str}
+use Rattle.pop_io.specs.Names.{is_variable_name, is_state_name}
+use Rattle.json_shape.specs.declared.fault.Why.TheVariants.{Kind, Name, Shape}
+use Rattle.json_shape.specs.Faults.{Fault, ◌>>=◌, broken}
+use Rattle.json_shape.specs.Paths.{item_path}
+use Rattle.json_shape.specs.Shapes.{of_kind, object_at, member_by, list_at, number_at, text_at, truth_at, each, listed}
+use Rattle.pop_net.specs.declared.leaf.Move.{Move}
+use Rattle.pop_net.specs.declared.net.Item.{Item}
+use Rattle.pop_net.specs.declared.net.Item.TheVariants.{Leaf, Not, And, Or}
+use Rattle.pop_net.specs.LeafModel.{LeafModel}
+use Rattle.pop_net.specs.NetModel.{NetModel, after_items, combined, depths}
+
+-- a name of this form that none of those before it equals
+unfoldable pub name_at : (List ℕ → Bool) → List ℕ → List (List ℕ) → Data → Result (List ℕ) Fault
+name_at is_name path found d = do
+  s ← text_at path d
+  if is_name s && not (list_any (bytes_eq s) found) then Ok s else broken path Name
+
+abbrev pub name_item : (List ℕ → Bool) → List ℕ → List (List ℕ) → ℕ → Data → Result (List ℕ) Fault
+name_item is_name path found i d = name_at is_name (item_path path i) found d
+
+-- 1 to most names
+unfoldable pub names_at : (List ℕ → Bool) → ℕ → List ℕ → Data → Result (List (List ℕ)) Fault
+names_at is_name most path d = do
+  ds ← list_at path 1 most d
+  each (name_item is_name path) [] 0 ds
+
+-- four numbers of states; a list of another length is of another kind
+abbrev pub four_at : List ℕ → ℕ → List Data → Result Move Fault
+four_at path states (a ∷ b ∷ c ∷ d ∷ []) = do
+  p ← number_at (item_path path 0) 0 (states - 1) a
+  q ← number_at (item_path path 1) 0 (states - 1) b
+  r ← number_at (item_path path 2) 0 (states - 1) c
+  s ← number_at (item_path path 3) 0 (states - 1) d
+  Ok (record { p = p; q = q; r = r; s = s })
+four_at path states _ = broken path Kind
+
+unfoldable pub move_at : List ℕ → ℕ → Data → Result Move Fault
+move_at path states d = do
+  ds ← of_kind path (as_array d)
+  four_at path states (listed ds)
+
+abbrev pub move_item : List ℕ → ℕ → List Move → ℕ → Data → Result Move Fault
+move_item path states found i d = move_at (item_path path i) states d
+
+unfoldable pub moves_at : ℕ → List ℕ → Data → Result (List Move) Fault
+moves_at states path d = do
+  ds ← list_at path 0 32768 d
+  each (move_item path states) [] 0 ds
+
+abbrev pub state_item : List ℕ → ℕ → List ℕ → ℕ → Data → Result ℕ Fault
+state_item path states found i d = number_at (item_path path i) 0 (states - 1) d
+
+-- a number of a state for each variable
+unfoldable pub inputs_at : ℕ → ℕ → List ℕ → Data → Result (List ℕ) Fault
+inputs_at variables states path d = do
+  ds ← list_at path variables variables d
+  each (state_item path states) [] 0 ds
+
+abbrev pub truth_item : List ℕ → List Bool → ℕ → Data → Result Bool Fault
+truth_item path found i d = truth_at (item_path path i) d
+
+-- an output for each state
+unfoldable pub outputs_at : ℕ → List ℕ → Data → Result (List Bool) Fault
+outputs_at states path d = do
+  ds ← list_at path states states d
+  each (truth_item path) [] 0 ds
+
+unfoldable pub leaf_at : ℕ → List ℕ → Data → Result LeafModel Fault
+leaf_at variables path d = do
+  o ← object_at path d
+  ss ← member_by path (codes "states") (names_at is_state_name 256) d
+  ts ← member_by path (codes "moves") (moves_at (length ss)) d
+  qs ← member_by path (codes "input") (inputs_at variables (length ss)) d
+  bs ← member_by path (codes "output") (outputs_at (length ss)) d
+  Ok (record { states = ss; moves = ts; inputs = qs; outputs = bs })
+
+abbrev pub leaf_item : ℕ → List ℕ → List LeafModel → ℕ → Data → Result LeafModel Fault
+leaf_item variables path found i d = leaf_at variables (item_path path i) d
+
+unfoldable pub leaves_at : ℕ → List ℕ → Data → Result (List LeafModel) Fault
+leaves_at variables path d = do
+  ds ← list_at path 1 8 d
+  each (leaf_item variables path) [] 0 ds
+
+abbrev pub operator_at : List ℕ → List ℕ → Result Item Fault
+operator_at path s =
+    if bytes_eq s (codes "not") then Ok Not
+    else (if bytes_eq s (codes "and") then Ok And else (if bytes_eq s (codes "or") then Ok Or else broken path Name))
+
+-- an operator where the value is a text, and else the number of a leaf
+abbrev pub operand_at : List ℕ → ℕ → Data → Option (List ℕ) → Result Item Fault
+operand_at path leaves d (Some s) = operator_at path s
+operand_at path leaves d None = number_at path 0 (leaves - 1) d >>= λ i. Ok (Leaf i)
+
+-- the depths of the trees that stand open after these items, the newest first
+abbrev pub open_depths : List Item → Option (List ℕ)
+open_depths items = after_items depths items []
+
+-- the newest tree has all its operands and is at most 65 deep
+abbrev pub is_shallow : Option (List ℕ) → Bool
+is_shallow None = false
+is_shallow (Some []) = false
+is_shallow (Some (d ∷ ds)) = nat_le d 65
+
+unfoldable pub item_at : List ℕ → ℕ → List Item → Data → Result Item Fault
+item_at path leaves found d = do
+  item ← operand_at path leaves d (as_str d)
+  if is_shallow (open_depths (found ++ item ∷ [])) then Ok item else broken path Shape
+
+abbrev pub combine_item : List ℕ → ℕ → List Item → ℕ → Data → Result Item Fault
+combine_item path leaves found i d = item_at (item_path path i) leaves found d
+
+unfoldable pub items_at : ℕ → List ℕ → Data → Result (List Item) Fault
+items_at leaves path d = do
+  ds ← list_at path 1 1024 d
+  each (combine_item path leaves) [] 0 ds
+
+-- a combination in postfix, of which one tree is left at the end
+unfoldable pub combine_at : ℕ → List ℕ → Data → Result (List Item) Fault
+combine_at leaves path d = do
+  items ← items_at leaves path d
+  if is_some (combined depths items) then Ok items else broken path Shape
+
+unfoldable pub net_at : List ℕ → Data → Result NetModel Fault
+net_at path d = do
+  o ← object_at path d
+  one ← member_by path (codes "format") (λ p. number_at p 1 1) d
+  vars ← member_by path (codes "vars") (names_at is_variable_name 16) d
+  leaves ← member_by path (codes "leaves") (leaves_at (length vars)) d
+  items ← member_by path (codes "combine") (combine_at (length leaves)) d
+  Ok (record { variables = vars; leaves = leaves; combine = items })

@@ -1,0 +1,4 @@
+pub mod NetFile
+pub mod Examined
+pub mod Written
+pub mod NameForms

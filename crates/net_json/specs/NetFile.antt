@@ -1,0 +1,33 @@
+-- NetFile: which JSON value is the file of which net. Members may stand in any order, and others may stand beside them.
+use Rattle.std.specs.Prelude.{[], ◌∷◌, codes}
+use Rattle.serde_json.specs.Data.{Data}
+use Rattle.json_shape.specs.Parts.{IsNumber, IsText, IsTruth, HasMember, IsList}
+use Rattle.pop_net.specs.declared.leaf.Move.{Move}
+use Rattle.pop_net.specs.declared.net.Item.{Item}
+use Rattle.pop_net.specs.declared.net.Item.TheVariants.{Leaf, Not, And, Or}
+use Rattle.pop_net.specs.LeafModel.{LeafModel}
+use Rattle.pop_net.specs.NetModel.{NetModel, IsNet}
+
+-- a move is a list of its four states
+abbrev pub IsMove : Move → Data → Type 0
+IsMove t d = IsList IsNumber (t.p ∷ t.q ∷ t.r ∷ t.s ∷ []) d
+
+-- an item of a combination is a leaf's number, or the word of an operator
+abbrev pub IsItem : Item → Data → Type 0
+IsItem (Leaf i) d = IsNumber i d
+IsItem Not d = IsText (codes "not") d
+IsItem And d = IsText (codes "and") d
+IsItem Or d = IsText (codes "or") d
+
+pub record IsLeafFile (leaf : LeafModel) (d : Data) : Type 0 where
+  pub states : HasMember (codes "states") (IsList IsText leaf.states) d
+  pub moves : HasMember (codes "moves") (IsList IsMove leaf.moves) d
+  pub input : HasMember (codes "input") (IsList IsNumber leaf.inputs) d
+  pub output : HasMember (codes "output") (IsList IsTruth leaf.outputs) d
+
+pub record IsNetFile (net : NetModel) (d : Data) : Type 0 where
+  pub format : HasMember (codes "format") (IsNumber 1) d
+  pub vars : HasMember (codes "vars") (IsList IsText net.variables) d
+  pub leaves : HasMember (codes "leaves") (IsList IsLeafFile net.leaves) d
+  pub combine : HasMember (codes "combine") (IsList IsItem net.combine) d
+  pub fits : IsNet net

@@ -1,0 +1,108 @@
+//! The parts of a leaf's object.
+
+ghost use Rattle.std.specs.Prelude.{◌≡◌, ◌-◌, ◌<◌, ◌≤◌, ◌^◌, length, IfOk};
+ghost use Rattle.serde_json.specs.View.{view};
+ghost use Rattle.json_shape.specs.Faults.{Gives};
+ghost use Rattle.json_shape.specs.Paths.{path_text};
+ghost use Rattle.json_shape.specs.Shapes.{number_at};
+ghost use Rattle.net_json.specs.Examined.{move_at, moves_at, inputs_at, outputs_at};
+
+use json_shape::{FormatFault, Path, Why, broken, list_of, number_of, truth_of};
+use pop_io::List;
+use pop_net::Move;
+use serde_json::Value;
+use std::alloc::Global;
+
+/// The number of one of `states` states, which are 1 to 256.
+fn state_of(
+    alloc: Global,
+    path: &Path<'_>,
+    states: usize,
+    value: &Value,
+) -> Result<u16, FormatFault>
+    requires { (1 ≤ states) × (states ≤ 256) }
+    ensures { Gives (λ q. q) result (number_at (path_text path.now) 0 (states - 1) (view value.now)) }
+{
+    let number = number_of(alloc, path, 0, states as u32 - 1, value)?;
+    Ok(number as u16)
+}
+
+#[tactic(auto, unfolding(crate::specs::Examined::move_at))]
+fn move_of(
+    alloc: Global,
+    path: &Path<'_>,
+    states: usize,
+    value: &Value,
+) -> Result<Move, FormatFault>
+    requires { (1 ≤ states) × (states ≤ 256) }
+    ensures { Gives (λ t. t) result (move_at (path_text path.now) states (view value.now)) }
+{
+    let Some(list) = value.as_array() else {
+        return Err(broken(alloc, path, Why::Kind));
+    };
+    let [p, q, r, s] = list.as_slice() else {
+        return Err(broken(alloc, path, Why::Kind));
+    };
+    let p = state_of(alloc, &Path::Item(path, 0), states, p)?;
+    let q = state_of(alloc, &Path::Item(path, 1), states, q)?;
+    let r = state_of(alloc, &Path::Item(path, 2), states, r)?;
+    let s = state_of(alloc, &Path::Item(path, 3), states, s)?;
+    Ok(Move { p, q, r, s })
+}
+
+/// At most 32,768 moves of a leaf with so many states.
+#[tactic(auto, unfolding(crate::specs::Examined::moves_at))]
+pub(crate) fn moves_of(
+    alloc: Global,
+    path: &Path<'_>,
+    states: usize,
+    value: &Value,
+) -> Result<List<Move>, FormatFault>
+    requires { (1 ≤ states) × (states ≤ 256) }
+    ensures { Gives (λ ts. ts) result (moves_at states (path_text path.now) (view value.now)) }
+{
+    let list = list_of(alloc, path, 0, 32_768, value)?;
+    let mut moves = Vec::new(alloc);
+    for (i, item) in list.iter().enumerate() {
+        moves.push(move_of(alloc, &Path::Item(&*path, i), states, item)?)?;
+    }
+    Ok(List::from_vec(moves))
+}
+
+/// One start state per variable.
+#[tactic(auto, unfolding(crate::specs::Examined::inputs_at))]
+pub(crate) fn inputs_of(
+    alloc: Global,
+    path: &Path<'_>,
+    variables: usize,
+    states: usize,
+    value: &Value,
+) -> Result<List<u16>, FormatFault>
+    requires { (1 ≤ states) × (states ≤ 256) }
+    ensures { Gives (λ qs. qs) result (inputs_at variables states (path_text path.now) (view value.now)) }
+{
+    let list = list_of(alloc, path, variables, variables, value)?;
+    let mut inputs = Vec::new(alloc);
+    for (i, item) in list.iter().enumerate() {
+        inputs.push(state_of(alloc, &Path::Item(&*path, i), states, item)?)?;
+    }
+    Ok(List::from_vec(inputs))
+}
+
+/// One output per state.
+#[tactic(auto, unfolding(crate::specs::Examined::outputs_at))]
+pub(crate) fn outputs_of(
+    alloc: Global,
+    path: &Path<'_>,
+    states: usize,
+    value: &Value,
+) -> Result<List<bool>, FormatFault>
+    ensures { Gives (λ bs. bs) result (outputs_at states (path_text path.now) (view value.now)) }
+{
+    let list = list_of(alloc, path, states, states, value)?;
+    let mut outputs = Vec::new(alloc);
+    for (i, item) in list.iter().enumerate() {
+        outputs.push(truth_of(alloc, &Path::Item(&*path, i), item)?)?;
+    }
+    Ok(List::from_vec(outputs))
+}

@@ -1,0 +1,1 @@
+//! Reading a net from a JSON value.
