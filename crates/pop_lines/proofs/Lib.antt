@@ -1,0 +1,4 @@
+pub mod Pieces
+pub mod Joined
+pub mod Digits
+pub mod Printed

@@ -1,0 +1,25 @@
+//! Numbers printed in decimal digits.
+
+ghost use Rattle.std.specs.Prelude.{◌≡◌, ◌++◌, decimal, Some, OnOk, OnErr};
+ghost use Rattle.pop_lines.specs.Numbers.{printed_number_of};
+
+use itoa::Buffer;
+use std::alloc::AllocError;
+
+/// Adds the number in decimal digits.
+pub fn push_number(out: &mut Vec<u8>, n: u64) -> Result<(), AllocError>
+    ensures ok { OnOk result (out.new.items ≡ out.old.items ++ decimal n) }
+    ensures err { OnErr result (out.new.items ≡ out.old.items) }
+    // What is printed is read back.
+    ensures read_back { printed_number_of (decimal n) ≡ Some n }
+{
+    out.extend_from_slice(Buffer::new().format(n).as_bytes())
+}
+
+/// Adds a number of up to 128 bits in decimal digits.
+pub fn push_wide_number(out: &mut Vec<u8>, n: u128) -> Result<(), AllocError>
+    ensures ok { OnOk result (out.new.items ≡ out.old.items ++ decimal n) }
+    ensures err { OnErr result (out.new.items ≡ out.old.items) }
+{
+    out.extend_from_slice(Buffer::new().format(n).as_bytes())
+}

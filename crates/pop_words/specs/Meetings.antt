@@ -1,0 +1,20 @@
+-- Meeting lines.
+use Rattle.std.specs.Prelude.{ℕ, ◌==◌, ◌&&◌, not, nat_lt, List, [], ◌∷◌, Option, Some, None, option_map, option_and_then, Result, Ok, Err, if◌then◌else◌}
+use Rattle.pop_lines.specs.Lines.{pieces}
+use Rattle.pop_lines.specs.Numbers.{number_of}
+use Rattle.pop_words.specs.declared.meeting.MeetingFault.{MeetingFault}
+use Rattle.pop_words.specs.declared.meeting.MeetingFault.TheVariants.{Form, Agents}
+
+-- two words that are numbers
+abbrev pub pair_of : List (List ℕ) → Option (ℕ × ℕ)
+pair_of (first ∷ second ∷ []) = option_and_then (λ a. option_map (λ b. (a, b)) (number_of second)) (number_of first)
+pair_of _ = None
+
+-- two different agents
+abbrev pub agents_of : ℕ → Option (ℕ × ℕ) → Result (ℕ × ℕ) MeetingFault
+agents_of agents None = Err Form
+agents_of agents (Some pair) = if not (pair.0 == pair.1) && (nat_lt pair.0 agents && nat_lt pair.1 agents) then Ok pair else Err Agents
+
+-- a meeting line: two numbers with one space between them, and they are two different agents
+unfoldable pub meeting_of : ℕ → List ℕ → Result (ℕ × ℕ) MeetingFault
+meeting_of agents line = agents_of agents (pair_of (pieces 32 line))

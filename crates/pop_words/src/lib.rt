@@ -1,0 +1,15 @@
+//! The words of the command line, the vars line, the crowd line and the meeting line.
+//! It stands on `pop_io` and `pop_lines`.
+//! The layer above uses: `read_words` is exactly `meaning_of`, and the readers of lines are exactly `meeting_of`, `vars_of` and `counts_of`.
+#![tactic(auto)]
+
+mod command;
+mod meeting;
+mod words;
+
+pub use command::{Command, Usage, UsageWhy};
+pub use meeting::{MeetingFault, read_meeting};
+pub use words::read_words;
+
+#[cfg(test)]
+mod tests;
