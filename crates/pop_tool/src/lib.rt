@@ -1,0 +1,9 @@
+//! The top call: the words and the bytes that a source has left go in, a text goes to a sink, and a status comes back.
+//! It stands on the public calls of all crates below.
+//! The layer above uses: what the sink gains and the status are what `specs/Answer.antt` gives.
+#![tactic(auto)]
+
+mod refusal;
+mod status;
+
+pub use status::Status;
