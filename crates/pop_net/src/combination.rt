@@ -31,11 +31,12 @@ pub fn combination_fault(leaves: u8, combine: &[Item]) -> Option<CombinationFaul
 }
 
 /// Takes an item in, unless it is a bad one.
-fn put_depth(depths: &mut Operands<u8>, leaves: u8, item: Item) -> bool
+pub(crate) fn put_depth(depths: &mut Operands<u8>, leaves: u8, item: Item) -> bool
     requires room { length depths.old < ITEM_LIMIT }
     requires low { All (λ d. d ≤ 65) depths.old }
     ensures good { result ≡ (names_below leaves item && are_low (after_item depth_operators item depths.old)) }
     ensures put { OnTrue result (after_item depth_operators item depths.old ≡ Some depths.new) }
+    ensures still_low { All (λ d. d ≤ 65) depths.new }
 {
     if !item.is_below(leaves) {
         return false;

@@ -8,6 +8,7 @@ mod examples;
 mod fault;
 mod leaf;
 mod net;
+mod open_trees;
 mod operands;
 mod rules;
 
@@ -16,3 +17,4 @@ pub use examples::{net_examples, reaction_examples, step_examples};
 pub use fault::{CombinationFault, LeafFault, NetFault};
 pub use leaf::{Leaf, Move};
 pub use net::{Item, Net, Word};
+pub use open_trees::OpenTrees;
