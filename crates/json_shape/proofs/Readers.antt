@@ -79,6 +79,9 @@ module _ {A : Type 0} (path name : List ℕ) (read : List ℕ → Data → Resul
       let a = bind_ok (member_at path name d) (λ v. read (member_path path name) v) x e in
       (a.0, kind_takes (member_path path name) (get name d) a.0 a.1, takes a.0 a.2)
 
+  pub member_by-goes : (e : Data) → member_at path name d ≡ Ok e → read (member_path path name) e ≡ Ok x → member_by path name read d ≡ Ok x
+  member_by-goes e is goes = rw is goes
+
   pub member_by-again : HasMember name Is d → ((e : Data) → Is e → read (member_path path name) e ≡ Ok x) → member_by path name read d ≡ Ok x
   member_by-again has again = rw has.1 (again has.0 has.2)
 

@@ -198,6 +198,20 @@ module _ (variables : ℕ) (some_variable : 1 ≤ variables) (few_variables : va
         qt.2,
       )
 
+  -- the four lists that were read make a leaf
+  pub leaf_read : (path : List ℕ) (d e f g h : Data) (n : ℕ) (ss : List (List ℕ)) (ts : List Move) (qs : List ℕ) (bs : List Bool) → n ≡ length ss
+      → member_at path (codes "states") d ≡ Ok e → names_at is_state_name 256 (member_path path (codes "states")) e ≡ Ok ss
+      → member_at path (codes "moves") d ≡ Ok f → moves_at n (member_path path (codes "moves")) f ≡ Ok ts
+      → member_at path (codes "input") d ≡ Ok g → inputs_at variables n (member_path path (codes "input")) g ≡ Ok qs
+      → member_at path (codes "output") d ≡ Ok h → outputs_at n (member_path path (codes "output")) h ≡ Ok bs
+      → IsLeaf (record { states = ss; moves = ts; inputs = qs; outputs = bs })
+  leaf_read path d e f g h n ss ts qs bs long s s' m m' q q' o o' =
+      (leaf_of path d ss ts qs bs
+      (rw s s')
+      (rw m (subst (λ (k : ℕ). moves_at k (member_path path (codes "moves")) f ≡ Ok ts) long m'))
+      (rw q (subst (λ (k : ℕ). inputs_at variables k (member_path path (codes "input")) g ≡ Ok qs) long q'))
+      (rw o (subst (λ (k : ℕ). outputs_at k (member_path path (codes "output")) h ≡ Ok bs) long o'))).1
+
   pub leaf_at-takes : (path : List ℕ) (d : Data) (leaf : LeafModel) → leaf_at variables path d ≡ Ok leaf → IsLeafFile leaf d × IsLeaf leaf × (length leaf.inputs ≡ variables)
   unfolding leaf_at
   leaf_at-takes path d leaf e =

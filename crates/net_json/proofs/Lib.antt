@@ -2,3 +2,4 @@ mod Moves
 mod LeafLaws
 mod Postfix
 mod NetLaws
+mod Items

@@ -1,13 +1,15 @@
 -- What is read of a net is the net of its file, and each file of a net is read.
 use Rattle.std.proofs.Common.{◌≡◌, ℕ, ◌+◌, ◌-◌, ◌≤◌, ◌<◌, Bool, true, false, cond, List, [], ◌∷◌, ◌++◌, length, codes, Option, Some, None, Result, Ok, Err, refl, sym, ap, subst, ◌∙◌, arith}
-use Rattle.std.specs.Prelude.{All, is_some, IsSomeAnd, option_and_then}
+use Rattle.std.specs.Prelude.{All, is_some, IsSomeAnd, option_and_then, IfOk, IfErr}
 use Rattle.std.specs.Str.{bytes_eq}
 use Rattle.std.proofs.lemmas.Slice.Eq.{bytes_eq-Decides}
 use Rattle.serde_json.specs.Data.{Data, Num, unsigned, negative, float, null, boolean, number, string, array, object}
 use Rattle.serde_json.specs.Find.{get, as_str, as_number, as_i64}
 use Rattle.pop_io.specs.Names.{is_variable_name}
 use Rattle.json_shape.specs.declared.fault.Why.TheVariants.{Name, Shape}
-use Rattle.json_shape.specs.Faults.{Fault, ◌>>=◌, broken}
+use Rattle.json_shape.specs.declared.fault.FormatFault.{FormatFault}
+use Rattle.json_shape.specs.declared.fault.FormatFault.TheVariants.{Broken, NoMemory}
+use Rattle.json_shape.specs.Faults.{Fault, ◌>>=◌, broken, Gives}
 use Rattle.json_shape.specs.Paths.{member_path, item_path}
 use Rattle.json_shape.specs.Shapes.{object_at, member_at, member_by, list_at, number_at, each}
 use Rattle.json_shape.specs.Parts.{IsNumber, IsText, HasMember, IsList}
@@ -18,8 +20,10 @@ use Rattle.pop_net.specs.declared.net.Item.{Item}
 use Rattle.pop_net.specs.declared.net.Item.TheVariants.{Leaf, Not, And, Or}
 use Rattle.pop_net.specs.LeafModel.{LeafModel, IsLeaf}
 use Rattle.pop_net.specs.NetModel.{NetModel, IsNet, NamesBelow, combined, depths}
+use Rattle.pop_net.specs.NetFaults.{are_low}
 use Rattle.net_json.specs.NetFile.{IsItem, IsLeafFile, IsNetFile}
-use Rattle.net_json.specs.Examined.{names_at, leaf_at, leaf_item, leaves_at, operator_at, operand_at, open_depths, is_shallow, item_at, combine_item, items_at, combine_at, net_at}
+use Rattle.net_json.specs.Kept.{IsBroken}
+use Rattle.net_json.specs.Examined.{names_at, leaf_at, leaf_item, leaves_at, operator_at, operand_at, open_depths, item_at, combine_item, items_at, combine_at, net_at}
 use Rattle.net_json.proofs.LeafLaws.{names_at-takes, names_at-again, leaf_at-takes, leaf_at-again}
 use Rattle.net_json.proofs.Postfix.{IsPlaced, placed-takes, placed-again, one_tree, some_item}
 
@@ -70,8 +74,8 @@ module _ (leaves : ℕ) (some_leaf : 1 ≤ leaves) where
   unfolding item_at
   item_takes path found i d item e =
       let at = item_path path i in
-      let a = bind_ok (operand_at at leaves d (as_str d)) (λ x. cond (is_shallow (open_depths (found ++ x ∷ []))) (Ok x) (broken at Shape)) item e in
-      let g = guard_ok (is_shallow (open_depths (found ++ a.0 ∷ []))) at Shape a.0 item a.2 in
+      let a = bind_ok (operand_at at leaves d (as_str d)) (λ x. cond (are_low (open_depths (found ++ x ∷ []))) (Ok x) (broken at Shape)) item e in
+      let g = guard_ok (are_low (open_depths (found ++ a.0 ∷ []))) at Shape a.0 item a.2 in
       let t = operand_takes at d (as_str d) a.0 refl a.1 in
       subst (λ (x : Item). IsItem x d × Fits found x) g.1 (t.0, (t.1, g.0))
 
@@ -157,6 +161,20 @@ net_of path d one vars leaves items f v l c =
       };
     }
 
+-- the lists that were read make a net
+pub net_read : (d e f g h : Data) (one m n : ℕ) (vars : List (List ℕ)) (leaves : List LeafModel) (items : List Item) → m ≡ length vars → n ≡ length leaves
+    → member_at [] (codes "format") d ≡ Ok e → number_at (member_path [] (codes "format")) 1 1 e ≡ Ok one
+    → member_at [] (codes "vars") d ≡ Ok f → names_at is_variable_name 16 (member_path [] (codes "vars")) f ≡ Ok vars
+    → member_at [] (codes "leaves") d ≡ Ok g → leaves_at m (member_path [] (codes "leaves")) g ≡ Ok leaves
+    → member_at [] (codes "combine") d ≡ Ok h → combine_at n (member_path [] (codes "combine")) h ≡ Ok items
+    → IsNet (record { variables = vars; leaves = leaves; combine = items })
+net_read d e f g h one m n vars leaves items long wide o o' v v' l l' c c' =
+    (net_of [] d one vars leaves items
+    (rw o o')
+    (rw v v')
+    (rw l (subst (λ (k : ℕ). leaves_at k (member_path [] (codes "leaves")) g ≡ Ok leaves) long l'))
+    (rw c (subst (λ (k : ℕ). combine_at k (member_path [] (codes "combine")) h ≡ Ok items) wide c'))).fits
+
 pub net_at-takes : (path : List ℕ) (d : Data) (net : NetModel) → net_at path d ≡ Ok net → IsNetFile net d
 unfolding net_at
 net_at-takes path d net e =
@@ -188,3 +206,12 @@ net_at-again path d net file =
       file.combine.1,
       combine_at-again (length net.leaves) is.some_leaf (member_path path (codes "combine")) file.combine.0 net.combine file.combine.2 is.leaf_numbers is.items is.depth,
     ) refl
+
+pub read-file : (d : Data) (r : Result NetModel FormatFault) → Gives (λ net. net) r (net_at [] d) → IfOk r (λ net. IsNetFile net d)
+read-file d (Ok net) given = net_at-takes [] d net given
+read-file d (Err e) given = tt
+
+pub broken-no_file : (d : Data) (r : Result NetModel FormatFault) → Gives (λ net. net) r (net_at [] d) → IfErr r (λ fault. IsBroken fault → (net : NetModel) → IsNetFile net d → ⊥)
+broken-no_file d (Ok net) given = tt
+broken-no_file d (Err (Broken p w)) given = λ is net file. absurd (cc (given, net_at-again [] d net file))
+broken-no_file d (Err NoMemory) given = λ is net file. is

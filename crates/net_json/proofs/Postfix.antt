@@ -6,31 +6,32 @@ use Rattle.pop_net.specs.declared.net.Item.{Item}
 use Rattle.pop_net.specs.declared.net.Item.TheVariants.{Leaf, Not, And, Or}
 use Rattle.pop_net.specs.NetModel.{Operators, after_item, after_items, only_one, combined, depths}
 use Rattle.json_shape.proofs.Readers.{EachFrom}
-use Rattle.net_json.specs.Examined.{open_depths, is_shallow}
+use Rattle.json_shape.proofs.Steps.{both_true}
+use Rattle.pop_net.specs.NetFaults.{are_low}
+use Rattle.net_json.specs.Examined.{open_depths}
 
 abbrev greatest : List ℕ → ℕ
 greatest [] = 0
 greatest (d ∷ ds) = max d (greatest ds)
 
--- an item leaves some tree open, and the greatest depth does not fall
-record Grows (before after : List ℕ) : Type 0 where
-  pub some_tree : 1 ≤ length after
-  pub grown : greatest before ≤ greatest after
+-- the greatest depth does not fall
+abbrev Grows : List ℕ → List ℕ → Type 0
+Grows before after = greatest before ≤ greatest after
 
 item_grows : (item : Item) (before after : List ℕ) → after_item depths item before ≡ Some after → Grows before after
 item_grows (Leaf i) before after e =
-    let is : 1 ∷ before ≡ after = cc in subst (Grows before) is (record { some_tree = omega arith; grown = omega arith })
+    let is : 1 ∷ before ≡ after = cc in subst (Grows before) is (omega arith)
 item_grows Not [] after e = absurd cc
 item_grows Not (d ∷ ds) after e =
-    let is : (d + 1) ∷ ds ≡ after = cc in subst (Grows (d ∷ ds)) is (record { some_tree = omega arith; grown = omega arith })
+    let is : (d + 1) ∷ ds ≡ after = cc in subst (Grows (d ∷ ds)) is (omega arith)
 item_grows And [] after e = absurd cc
 item_grows And (d ∷ []) after e = absurd cc
 item_grows And (d ∷ c ∷ ds) after e =
-    let is : (max c d + 1) ∷ ds ≡ after = cc in subst (Grows (d ∷ c ∷ ds)) is (record { some_tree = omega arith; grown = omega arith })
+    let is : (max c d + 1) ∷ ds ≡ after = cc in subst (Grows (d ∷ c ∷ ds)) is (omega arith)
 item_grows Or [] after e = absurd cc
 item_grows Or (d ∷ []) after e = absurd cc
 item_grows Or (d ∷ c ∷ ds) after e =
-    let is : (max c d + 1) ∷ ds ≡ after = cc in subst (Grows (d ∷ c ∷ ds)) is (record { some_tree = omega arith; grown = omega arith })
+    let is : (max c d + 1) ∷ ds ≡ after = cc in subst (Grows (d ∷ c ∷ ds)) is (omega arith)
 
 then_some : {A B : Type 0} (f : A → Option B) (o : Option A) (y : B) → option_and_then f o ≡ Some y → (x : A) × (o ≡ Some x) × (f x ≡ Some y)
 then_some f None y e = absurd cc
@@ -46,7 +47,7 @@ items_grow (item ∷ items) before after e =
     let a = then_some (after_items depths items) (after_item depths item before) after e in
     let one = item_grows item before a.0 a.1 in
     let rest = items_grow items a.0 after a.2 in
-    omega (arith, one.grown, rest)
+    omega (arith, one, rest)
 
 along : {A : Type 0} (f g h : List A → Option (List A)) (same : (zs : List A) → f zs ≡ option_and_then h (g zs)) (o : Option (List A)) → option_and_then f o ≡ option_and_then h (option_and_then g o)
 along f g h same None = refl
@@ -57,27 +58,25 @@ after_items-append ops [] ys operands = refl
 after_items-append ops (x ∷ xs) ys operands =
     along (after_items ops (xs ++ ys)) (after_items ops xs) (after_items ops ys) (after_items-append ops xs ys) (after_item ops x operands)
 
--- the newest tree is at most as deep as the deepest one
-shallow_by : (ds : List ℕ) → 1 ≤ length ds → greatest ds ≤ 65 → is_shallow (Some ds) ≡ true
-shallow_by [] some_tree low = absurd (omega arith)
-shallow_by (d ∷ ds) some_tree low = le-leb d 65 (omega arith)
+low_by : (ds : List ℕ) → greatest ds ≤ 65 → are_low (Some ds) ≡ true
+low_by [] low = refl
+low_by (d ∷ ds) low = rw (le-leb d 65 (omega arith), low_by ds (omega arith)) refl
 
--- after each item of a combination of depth at most 65 the newest tree is so shallow
-front_shallow : (found : List Item) (item : Item) (items : List Item) (after : List ℕ) → after_items depths (found ++ item ∷ items) [] ≡ Some after → greatest after ≤ 65 → is_shallow (open_depths (found ++ item ∷ [])) ≡ true
+-- after each item of a combination of depth at most 65 all trees are so shallow
+front_shallow : (found : List Item) (item : Item) (items : List Item) (after : List ℕ) → after_items depths (found ++ item ∷ items) [] ≡ Some after → greatest after ≤ 65 → are_low (open_depths (found ++ item ∷ [])) ≡ true
 front_shallow found item items after e low =
     let split = sym (after_items-append depths found (item ∷ items) []) ∙ e in
     let f = then_some (after_items depths (item ∷ items)) (after_items depths found []) after split in
     let g = then_some (after_items depths items) (after_item depths item f.0) after f.2 in
-    let one = item_grows item f.0 g.0 g.1 in
     let rest = items_grow items g.0 after g.2 in
     let here : after_items depths (item ∷ []) f.0 ≡ Some g.0 = then_goes (after_items depths []) (after_item depths item f.0) g.0 g.0 g.1 refl in
     let now : open_depths (found ++ item ∷ []) ≡ Some g.0 =
         after_items-append depths found (item ∷ []) [] ∙ then_goes (after_items depths (item ∷ [])) (after_items depths found []) f.0 g.0 f.1 here in
-    ap is_shallow now ∙ shallow_by g.0 one.some_tree (omega (arith, rest))
+    ap are_low now ∙ low_by g.0 (omega (arith, rest))
 
--- the newest tree has its operands and is at most 65 deep
+-- the item has its operands, and all trees are at most 65 deep
 abbrev pub IsPlaced : List Item → Item → Type 0
-IsPlaced found item = is_shallow (open_depths (found ++ item ∷ [])) ≡ true
+IsPlaced found item = are_low (open_depths (found ++ item ∷ [])) ≡ true
 
 all_shallow : (found items : List Item) (after : List ℕ) → after_items depths (found ++ items) [] ≡ Some after → greatest after ≤ 65 → EachFrom IsPlaced found items
 all_shallow found [] after e low = tt
@@ -106,15 +105,15 @@ placed-again items one =
 pub one_tree : (items : List Item) → IsSomeAnd (combined depths items) (λ d. d ≤ 65) → is_some (combined depths items) ≡ true
 one_tree items one = let s = some_and (combined depths items) (λ d. d ≤ 65) one in rw s.1 refl
 
-last_placed : (found : List Item) (item : Item) (items : List Item) → EachFrom IsPlaced found (item ∷ items) → is_shallow (open_depths (found ++ item ∷ items)) ≡ true
+last_placed : (found : List Item) (item : Item) (items : List Item) → EachFrom IsPlaced found (item ∷ items) → are_low (open_depths (found ++ item ∷ items)) ≡ true
 last_placed found item [] placed = placed.0
 last_placed found item (next ∷ items) placed =
-    subst (λ (xs : List Item). is_shallow (open_depths xs) ≡ true) (append_assoc found (item ∷ []) (next ∷ items)) (last_placed (found ++ item ∷ []) next items placed.1)
+    subst (λ (xs : List Item). are_low (open_depths xs) ≡ true) (append_assoc found (item ∷ []) (next ∷ items)) (last_placed (found ++ item ∷ []) next items placed.1)
 
-shallow_one : (o : Option (List ℕ)) → is_shallow o ≡ true → is_some (option_and_then only_one o) ≡ true → IsSomeAnd (option_and_then only_one o) (λ d. d ≤ 65)
+shallow_one : (o : Option (List ℕ)) → are_low o ≡ true → is_some (option_and_then only_one o) ≡ true → IsSomeAnd (option_and_then only_one o) (λ d. d ≤ 65)
 shallow_one None shallow one = absurd cc
 shallow_one (Some []) shallow one = absurd cc
-shallow_one (Some (d ∷ [])) shallow one = leb-true d 65 shallow
+shallow_one (Some (d ∷ [])) shallow one = leb-true d 65 (both_true (nat_le d 65) true shallow).0
 shallow_one (Some (d ∷ c ∷ ds)) shallow one = absurd cc
 
 pub placed-takes : (items : List Item) → 1 ≤ length items → EachFrom IsPlaced [] items → is_some (combined depths items) ≡ true → IsSomeAnd (combined depths items) (λ d. d ≤ 65)

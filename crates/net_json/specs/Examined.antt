@@ -1,6 +1,6 @@
 -- The order in which a net's value is examined: member by member, each whole before the next; a list for its kind, its
 -- length, and then item by item. The first rule that is broken is the fault.
-use Rattle.std.specs.Prelude.{ℕ, ◌-◌, ◌&&◌, nat_le, Bool, true, false, not, List, [], ◌∷◌, ◌++◌, length, codes, Option, Some, None, is_some, Result, Ok, if◌then◌else◌}
+use Rattle.std.specs.Prelude.{ℕ, ◌-◌, ◌&&◌, Bool, not, List, [], ◌∷◌, ◌++◌, length, codes, Option, Some, None, is_some, Result, Ok, if◌then◌else◌}
 use Rattle.std.specs.List.{list_any}
 use Rattle.std.specs.Str.{bytes_eq}
 use Rattle.serde_json.specs.Data.{Data}
@@ -15,6 +15,7 @@ use Rattle.pop_net.specs.declared.net.Item.{Item}
 use Rattle.pop_net.specs.declared.net.Item.TheVariants.{Leaf, Not, And, Or}
 use Rattle.pop_net.specs.LeafModel.{LeafModel}
 use Rattle.pop_net.specs.NetModel.{NetModel, after_items, combined, depths}
+use Rattle.pop_net.specs.NetFaults.{are_low}
 
 -- a name of this form that none of those before it equals
 unfoldable pub name_at : (List ℕ → Bool) → List ℕ → List (List ℕ) → Data → Result (List ℕ) Fault
@@ -103,16 +104,11 @@ operand_at path leaves d None = number_at path 0 (leaves - 1) d >>= λ i. Ok (Le
 abbrev pub open_depths : List Item → Option (List ℕ)
 open_depths items = after_items depths items []
 
--- the newest tree has all its operands and is at most 65 deep
-abbrev pub is_shallow : Option (List ℕ) → Bool
-is_shallow None = false
-is_shallow (Some []) = false
-is_shallow (Some (d ∷ ds)) = nat_le d 65
-
+-- an item finds its operands, and makes no tree of a depth over 65
 unfoldable pub item_at : List ℕ → ℕ → List Item → Data → Result Item Fault
 item_at path leaves found d = do
   item ← operand_at path leaves d (as_str d)
-  if is_shallow (open_depths (found ++ item ∷ [])) then Ok item else broken path Shape
+  if are_low (open_depths (found ++ item ∷ [])) then Ok item else broken path Shape
 
 abbrev pub combine_item : List ℕ → ℕ → List Item → ℕ → Data → Result Item Fault
 combine_item path leaves found i d = item_at (item_path path i) leaves found d

@@ -2,3 +2,4 @@ pub mod NetFile
 pub mod Examined
 pub mod Written
 pub mod NameForms
+pub mod Kept

@@ -3,9 +3,12 @@
 //! The layer above uses: `read_net` gives the net of the file or the first broken rule, and reads what `write_net` gives to an equal net.
 #![tactic(auto)]
 
+mod combine;
 mod leaf;
+mod leaves;
 mod names;
 mod read;
 mod write;
 
 pub use json_shape::{FormatFault, PredWhy, Why};
+pub use read::read_net;

@@ -1,0 +1,73 @@
+-- Reading a combination item by item.
+use Rattle.std.proofs.Common.{◌≡◌, ℕ, ◌+◌, ◌≤◌, ◌&&◌, Bool, true, false, List, [], ◌∷◌, ◌++◌, length, Option, Some, None, option_and_then, Result, Ok, Err, refl, sym, ap, subst, ◌∙◌, arith}
+use Rattle.std.specs.Bool.{OnTrue}
+use Rattle.serde_json.specs.Data.{Data}
+use Rattle.serde_json.specs.Find.{as_str}
+use Rattle.json_shape.specs.declared.fault.Why.TheVariants.{Shape}
+use Rattle.json_shape.specs.declared.fault.FormatFault.{FormatFault}
+use Rattle.json_shape.specs.declared.fault.FormatFault.TheVariants.{Broken, NoMemory}
+use Rattle.json_shape.specs.Faults.{Fault, ◌>>=◌, broken, Says, Fails}
+use Rattle.json_shape.specs.Paths.{item_path}
+use Rattle.json_shape.proofs.FaultLemmas.{Fails-said}
+use Rattle.pop_net.specs.declared.net.Item.{Item}
+use Rattle.pop_net.specs.declared.net.Item.TheVariants.{Leaf, Not, And, Or}
+use Rattle.pop_net.specs.NetModel.{after_item, after_items, depths}
+use Rattle.pop_net.specs.NetFaults.{are_low}
+use Rattle.net_json.specs.Examined.{operand_at, open_depths, item_at, combine_item}
+use Rattle.net_json.proofs.Postfix.{after_items-append}
+
+-- what the loop over the items keeps
+pub record Reading (so_far : Type 0) (items : List Item) (trees : List ℕ) (i : ℕ) : Type 0 where
+  pub read : so_far
+  pub trees_open : open_depths items ≡ Some trees
+  pub few : length trees ≤ i
+
+then_some_same : {A : Type 0} (o : Option A) → option_and_then (λ x. (let p : Option A = Some x in p)) o ≡ o
+then_some_same None = refl
+then_some_same (Some x) = refl
+
+-- the trees after one more item
+pub open_next : (items : List Item) (trees : List ℕ) (item : Item) → open_depths items ≡ Some trees → open_depths (items ++ item ∷ []) ≡ after_item depths item trees
+open_next items trees item is =
+    after_items-append depths items (item ∷ []) [] ∙ ap (option_and_then (after_items depths (item ∷ []))) is ∙ then_some_same (after_item depths item trees)
+
+abbrev length_of : Option (List ℕ) → ℕ
+length_of None = 0
+length_of (Some ds) = length ds
+
+pub after_item-length : (item : Item) (trees after : List ℕ) → after_item depths item trees ≡ Some after → length after ≤ length trees + 1
+after_item-length (Leaf i) trees after e = let is : 1 ∷ trees ≡ after = cc in subst (λ (ds : List ℕ). length ds ≤ length trees + 1) is (omega arith)
+after_item-length Not [] after e = absurd cc
+after_item-length Not (d ∷ ds) after e = let is : (d + 1) ∷ ds ≡ after = cc in subst (λ (xs : List ℕ). length xs ≤ length (d ∷ ds) + 1) is (omega arith)
+after_item-length And [] after e = absurd cc
+after_item-length And (d ∷ []) after e = absurd cc
+after_item-length And (d ∷ c ∷ ds) after e = let is = ap length_of e in omega (arith, is)
+after_item-length Or [] after e = absurd cc
+after_item-length Or (d ∷ []) after e = absurd cc
+after_item-length Or (d ∷ c ∷ ds) after e = let is = ap length_of e in omega (arith, is)
+
+fails_on : {A B : Type 0} (e : FormatFault) (read : Result A Fault) (f : A → Result B Fault) → Fails e read → Fails e (read >>= f)
+fails_on NoMemory read f failed = tt
+fails_on (Broken p w) read f failed = rw failed refl
+
+module _ (path : List ℕ) (leaves : ℕ) (found : List Item) (i : ℕ) (d : Data) where
+  pub operand-fails : (e : FormatFault) → Fails e (operand_at (item_path path i) leaves d (as_str d)) → Fails e (combine_item path leaves found i d)
+  unfolding item_at
+  operand-fails e failed = fails_on e (operand_at (item_path path i) leaves d (as_str d)) _ failed
+
+  pub shape-fails : (e : FormatFault) (item : Item) (trees : List ℕ) → operand_at (item_path path i) leaves d (as_str d) ≡ Ok item → open_depths found ≡ Some trees → are_low (after_item depths item trees) ≡ false → Says e (item_path path i) Shape → Fails e (combine_item path leaves found i d)
+  unfolding item_at
+  shape-fails e item trees read is high said =
+      Fails-said e (item_path path i) Shape (combine_item path leaves found i d) said (rw (read, open_next found trees item is, high) refl)
+
+  pub item-goes : (item : Item) (trees : List ℕ) → operand_at (item_path path i) leaves d (as_str d) ≡ Ok item → open_depths found ≡ Some trees → are_low (after_item depths item trees) ≡ true → combine_item path leaves found i d ≡ Ok item
+  unfolding item_at
+  item-goes item trees read is low = rw (read, open_next found trees item is, low) refl
+
+pub and_second : (r a b : Bool) → r ≡ (a && b) → a ≡ true → b ≡ r
+and_second r true b e is = sym e
+and_second r false b e is = absurd cc
+
+pub put_some : (r : Bool) {P : Type 0} → r ≡ true → OnTrue r P → P
+put_some true is on = on
+put_some false is on = absurd cc

@@ -1,0 +1,43 @@
+use Rattle.std.proofs.Common.{◌≡◌, true, false, arith, ◌∙◌}
+use Rattle.std.proofs.lemmas.Result.{err_from_is_err_and}
+use Rattle.serde_json.specs.View.{view}
+use Rattle.json_shape.specs.Paths.{path_text}
+use Rattle.pop_net.specs.NetModel.{after_item, depths}
+use Rattle.pop_net.specs.NetFaults.{names_below, are_low}
+use Rattle.net_json.specs.Examined.{combine_item, items_at}
+use Rattle.json_shape.proofs.Each.{each-fails, each-goes}
+use Rattle.net_json.proofs.Items.{open_next, after_item-length, operand-fails, shape-fails, item-goes, and_second, put_some}
+use Rattle.net_json.proofs.combine.items_of.Goals as goal
+
+pub returns-in_err-operand-clause-items : goal.returns-in_err-operand-clause-items
+unfolding items_at
+returns-in_err-operand-clause-items c =
+    let p = err_from_is_err_and c.from_residual-in_err-operand.result c.from_residual-in_err-operand.ensures.1 in
+    let path = path_text c.args.path.now in
+    let failed = operand-fails path c.args.leaves c.loop-i.items.items c.loop-i.i (view c.item-item.result) c.in_err-operand.field-0.0 c.in_err-operand.ensures.operand in
+    rw (p.1, p.2, c.in_ok-list.ensures.list, ← c.deref-item-items.ensures.value)
+    (each-fails (combine_item path c.args.leaves) c.loop-i.items.items c.deref-item-items.result.now c.loop-i.i c.in_err-operand.field-0.0 c.item-item.result _ c.loop-i-test.true c.item-item.is failed c.loop-i.invariant.read)
+
+pub returns-then-not-put-clause-items : goal.returns-then-not-put-clause-items
+unfolding items_at
+returns-then-not-put-clause-items c =
+    let path = path_text c.args.path.now in
+    let no : c.put.result ≡ false = cc in
+    let high : are_low (after_item depths c.in_ok-operand.operand c.loop-i.trees) ≡ false = and_second c.put.result (names_below c.args.leaves c.in_ok-operand.operand) _ c.put.ensures.good c.in_ok-operand.ensures.below ∙ no in
+    let failed = shape-fails path c.args.leaves c.loop-i.items.items c.loop-i.i (view c.item-item.result) c.broken.result c.in_ok-operand.operand c.loop-i.trees c.in_ok-operand.ensures.operand c.loop-i.invariant.trees_open high c.broken.ensures in
+    rw (c.in_ok-list.ensures.list, ← c.deref-item-items.ensures.value)
+    (each-fails (combine_item path c.args.leaves) c.loop-i.items.items c.deref-item-items.result.now c.loop-i.i c.broken.result c.item-item.result _ c.loop-i-test.true c.item-item.is failed c.loop-i.invariant.read)
+
+pub loop-i-preserved : goal.loop-i-preserved
+loop-i-preserved c =
+    let path = path_text c.args.path.now in
+    let item = c.in_ok-operand.operand in
+    let yes : c.put.result ≡ true = cc in
+    let low : are_low (after_item depths item c.loop-i.trees) ≡ true = and_second c.put.result (names_below c.args.leaves item) _ c.put.ensures.good c.in_ok-operand.ensures.below ∙ yes in
+    let after = put_some c.put.result yes c.put.ensures.put in
+    let goes = item-goes path c.args.leaves c.loop-i.items.items c.loop-i.i (view c.item-item.result) item c.loop-i.trees c.in_ok-operand.ensures.operand c.loop-i.invariant.trees_open low in
+    record {
+      read = rw c.in_ok-push.ensures.items (each-goes (combine_item path c.args.leaves) c.loop-i.items.items c.deref-item-items.result.now c.loop-i.i item c.item-item.result _ c.loop-i-test.true c.item-item.is goes c.loop-i.invariant.read);
+      trees_open = rw c.in_ok-push.ensures.items (open_next c.loop-i.items.items c.loop-i.trees item c.loop-i.invariant.trees_open ∙ after);
+      few = omega (arith, after_item-length item c.loop-i.trees c.put.new.self after, c.loop-i.invariant.few);
+    }

@@ -1,0 +1,15 @@
+use Rattle.std.proofs.Common.{ap, length}
+use Rattle.serde_json.specs.View.{view}
+use Rattle.net_json.proofs.NetLaws.{net_read}
+use Rattle.net_json.proofs.read.net_of.Goals as goal
+
+pub formed-requires : goal.formed-requires
+formed-requires c =
+    c.new.ensures.accepts
+    (net_read (view c.args.value.now) _ _ _ _ _ (length c.as_slice-variables.result.now) (length c.as_slice-count.result.now) _ _ _
+    (ap length c.as_slice-variables.ensures)
+    (ap length c.as_slice-count.ensures)
+    c.in_ok-format.ensures c.in_ok-number_of.ensures.number
+    c.in_ok-vars.ensures c.in_ok-vars-2.ensures.names
+    c.in_ok-leaves.ensures c.in_ok-leaves-2.ensures.leaves
+    c.in_ok-combine.ensures c.in_ok-combine-2.ensures)

@@ -1,0 +1,82 @@
+//! The combination of a net.
+
+ghost use Rattle.std.specs.Prelude.{◌≡◌, ◌≤◌, length, true, Some, IfOk, is_some};
+ghost use Rattle.serde_json.specs.Find.{as_str};
+ghost use Rattle.serde_json.specs.View.{view};
+ghost use Rattle.json_shape.specs.Faults.{Gives};
+ghost use Rattle.json_shape.specs.Paths.{path_text};
+ghost use Rattle.pop_net.specs.NetFaults.{names_below, operands_left};
+ghost use Rattle.net_json.specs.Examined.{operand_at, items_at, combine_at};
+
+use json_shape::{FormatFault, Path, Why, broken, list_of, number_of};
+use pop_io::List;
+use pop_net::{Item, OpenTrees};
+use serde_json::Value;
+use std::alloc::Global;
+
+/// An operator's word, or the number of one of the leaves.
+fn operand_of(
+    alloc: Global,
+    path: &Path<'_>,
+    leaves: u8,
+    value: &Value,
+) -> Result<Item, FormatFault>
+    requires { 1 ≤ leaves }
+    ensures operand { Gives (λ x. x) result
+        (operand_at (path_text path.now) leaves (view value.now) (as_str (view value.now))) }
+    ensures below { IfOk result (λ item. names_below leaves item ≡ true) }
+{
+    match value.as_str() {
+        Some("not") => Ok(Item::Not),
+        Some("and") => Ok(Item::And),
+        Some("or") => Ok(Item::Or),
+        Some(_) => Err(broken(alloc, path, Why::Name)),
+        None => {
+            let leaf = number_of(alloc, path, 0, u32::from(leaves) - 1, value)?;
+            Ok(Item::Leaf(leaf as u8))
+        }
+    }
+}
+
+/// The items, and how many trees they leave open.
+#[tactic(auto, unfolding(crate::specs::Examined::items_at))]
+fn items_of(
+    alloc: Global,
+    path: &Path<'_>,
+    leaves: u8,
+    value: &Value,
+) -> Result<(List<Item>, usize), FormatFault>
+    requires { 1 ≤ leaves }
+    ensures items { Gives (λ r. r.0) result (items_at leaves (path_text path.now) (view value.now)) }
+    ensures open { IfOk result (λ r. r.1 ≡ operands_left r.0) }
+{
+    let list = list_of(alloc, path, 1, 1024, value)?;
+    let mut items = Vec::new(alloc);
+    let mut trees = OpenTrees::new();
+    for (i, item) in list.iter().enumerate() {
+        let operand = operand_of(alloc, &Path::Item(&*path, i), leaves, item)?;
+        if !trees.put(leaves, operand) {
+            return Err(broken(alloc, &Path::Item(&*path, i), Why::Shape));
+        }
+        items.push(operand)?;
+    }
+    Ok((List::from_vec(items), trees.count()))
+}
+
+/// The combination of so many leaves.
+#[tactic(auto, unfolding(crate::specs::Examined::combine_at))]
+pub(crate) fn combine_of(
+    alloc: Global,
+    path: &Path<'_>,
+    leaves: u8,
+    value: &Value,
+) -> Result<List<Item>, FormatFault>
+    requires { 1 ≤ leaves }
+    ensures { Gives (λ xs. xs) result (combine_at leaves (path_text path.now) (view value.now)) }
+{
+    let (items, open) = items_of(alloc, path, leaves, value)?;
+    if open != 1 {
+        return Err(broken(alloc, path, Why::Shape));
+    }
+    Ok(items)
+}
