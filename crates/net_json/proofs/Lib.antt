@@ -3,3 +3,4 @@ mod LeafLaws
 mod Postfix
 mod NetLaws
 mod Items
+mod Writes

@@ -32,18 +32,16 @@ item_data Not = string (codes "not")
 item_data And = string (codes "and")
 item_data Or = string (codes "or")
 
+abbrev pub leaf_members : Data → Data → Data → Data → Data
+leaf_members input moves output states =
+    object (member (codes "input") input (member (codes "moves") moves (member (codes "output") output (member (codes "states") states no_members))))
+
 unfoldable pub leaf_data : LeafModel → Data
-leaf_data leaf =
-    object (
-      member (codes "input") (numbers_data leaf.inputs) (
-      member (codes "moves") (list_data (map move_data leaf.moves)) (
-      member (codes "output") (truths_data leaf.outputs) (
-      member (codes "states") (texts_data leaf.states) no_members))))
+leaf_data leaf = leaf_members (numbers_data leaf.inputs) (list_data (map move_data leaf.moves)) (truths_data leaf.outputs) (texts_data leaf.states)
+
+abbrev pub net_members : Data → Data → Data → Data
+net_members combine leaves vars =
+    object (member (codes "combine") combine (member (codes "format") (number_data 1) (member (codes "leaves") leaves (member (codes "vars") vars no_members))))
 
 unfoldable pub net_data : NetModel → Data
-net_data net =
-    object (
-      member (codes "combine") (list_data (map item_data net.combine)) (
-      member (codes "format") (number_data 1) (
-      member (codes "leaves") (list_data (map leaf_data net.leaves)) (
-      member (codes "vars") (texts_data net.variables) no_members))))
+net_data net = net_members (list_data (map item_data net.combine)) (list_data (map leaf_data net.leaves)) (texts_data net.variables)

@@ -12,3 +12,4 @@ mod write;
 
 pub use json_shape::{FormatFault, PredWhy, Why};
 pub use read::read_net;
+pub use write::write_net;

@@ -1,0 +1,7 @@
+use Rattle.std.proofs.Common.{◌≡◌, map, take}
+use Rattle.serde_json.specs.View.{view}
+use Rattle.serde_json.specs.Data.{string}
+use Rattle.net_json.proofs.write.states_value.Given as goal
+
+abbrev pub invariant-loop-state : goal.invariant-loop-state
+invariant-loop-state l = map view l.list.items ≡ map string (take l.state l.leaf.states)
