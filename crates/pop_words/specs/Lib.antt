@@ -1,2 +1,4 @@
 pub mod Words
 pub mod Meetings
+pub mod Vars
+pub mod Walk

@@ -5,10 +5,12 @@
 
 mod command;
 mod meeting;
+mod vars;
 mod words;
 
 pub use command::{Command, Usage, UsageWhy};
 pub use meeting::{MeetingFault, read_meeting};
+pub use vars::{VarsFault, read_vars};
 pub use words::read_words;
 
 #[cfg(test)]
