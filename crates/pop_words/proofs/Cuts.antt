@@ -1,5 +1,5 @@
 -- A word cut off a line.
-use Rattle.std.proofs.Common.{◌≡◌, ℕ, ◌+◌, ◌<◌, List, [], ◌∷◌, ◌++◌, length, Option, Some, None, ap, arith, length-append}
+use Rattle.std.proofs.Common.{◌≡◌, ℕ, ◌+◌, ◌<◌, List, ◌∷◌, length, Option, Some, None, ap, arith, length-append}
 use Rattle.pop_lines.specs.Lines.{pieces, IsCut}
 use Rattle.pop_words.specs.Walk.{words_after, left_of}
 

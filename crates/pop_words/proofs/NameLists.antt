@@ -1,15 +1,15 @@
 -- Lists of names, read one after the other.
-use Rattle.std.proofs.Common.{◌≡◌, ◌≢◌, ℕ, ◌+◌, ◌<◌, ◌≤◌, ◌⊎◌, inl, inr, Bool, true, false, not, ◌&&◌, ◌||◌, nat_le, nat_lt, List, [], ◌∷◌, ◌++◌, length, All, AllPairs, get_or, slice_index_or, zero, suc, append-nil, codes, refl, ap, sym, ◌∙◌, arith, length-append, append_assoc}
+use Rattle.std.proofs.Common.{◌≡◌, ◌≢◌, ℕ, ◌<◌, ◌≤◌, ◌⊎◌, inl, inr, Bool, true, false, not, ◌&&◌, nat_le, nat_lt, List, [], ◌∷◌, ◌++◌, length, All, AllPairs, slice_index_or, zero, suc, append-nil, codes, refl, sym, ◌∙◌, arith, length-append, append_assoc}
 use Rattle.std.specs.List.{list_all, list_any}
-use Rattle.std.specs.Str.{bytes_eq, IsUtf8, IsAscii}
-use Rattle.std.proofs.lemmas.Bool.{and_parts, and_from, and_left, and_right, or_left, or_right, or_parts, or_from, not-true, not-false, not_from_true, not_from_false, leb-true, le-leb, lt-leb, ltb-true, ltb-false, cases_Bool, or_cases, and_cases, true≢false}
+use Rattle.std.specs.Str.{bytes_eq, IsUtf8}
+use Rattle.std.proofs.lemmas.Bool.{and_parts, and_from, and_left, and_right, or_left, or_right, or_parts, or_from, not-true, not-false, not_from_true, not_from_false, leb-true, le-leb, lt-leb, ltb-true, ltb-false, or_cases, and_cases, true≢false}
 use Rattle.std.proofs.lemmas.Bool.Decides.{nat_tests}
 use Rattle.std.proofs.lemmas.Str.{IsUtf8-from_ascii}
-use Rattle.std.proofs.lemmas.List.Elements.{All-cons, All-nil, All-head, All-tail}
+use Rattle.std.proofs.lemmas.List.Elements.{All-cons, All-nil}
 use Rattle.std.proofs.lemmas.List.Folds.{list_all-append}
 use Rattle.std.proofs.lemmas.List.Kept.{AllPairs-cons}
 use Rattle.std.proofs.lemmas.Slice.Eq.{bytes_eq-Decides}
-use Rattle.pop_io.specs.Names.{is_variable_name, is_name_byte, starts_name, AreNames}
+use Rattle.pop_io.specs.Names.{is_variable_name, is_name_byte, starts_name}
 use Rattle.pop_words.specs.Vars.{are_distinct, are_variables, AreVariables}
 use Rattle.pop_words.specs.Walk.{can_join}
 
@@ -35,7 +35,7 @@ list_any-push_no p (x ∷ xs) w none is =
 are_distinct-twice : (names : List (List ℕ)) (w : List ℕ) (left : List (List ℕ)) → list_any (bytes_eq w) names ≡ true → are_distinct (names ++ w ∷ left) ≡ false
 are_distinct-twice [] w left twice = cc
 are_distinct-twice (x ∷ xs) w left twice = elim (or_cases (bytes_eq w x) (list_any (bytes_eq w) xs) twice) [
-    inl here ↦ and_left (not (list_any (bytes_eq x) (xs ++ w ∷ left))) (are_distinct (xs ++ w ∷ left))
+  | inl here ↦ and_left (not (list_any (bytes_eq x) (xs ++ w ∷ left))) (are_distinct (xs ++ w ∷ left))
       (not_from_true (list_any (bytes_eq x) (xs ++ w ∷ left)) (list_any-append_yes (bytes_eq x) xs w left (bytes_eq-swap w x here)))
   | inr later ↦ and_right (not (list_any (bytes_eq x) (xs ++ w ∷ left))) (are_distinct (xs ++ w ∷ left)) (are_distinct-twice xs w left later)
 ]
@@ -72,7 +72,7 @@ joins words names w left so_far can =
 -- a test of four parts fails where one of the last three fails
 fails : (a b c d : Bool) → (b ≡ false) ⊎ ((c ≡ false) ⊎ (d ≡ false)) → ((a && b) && (c && d)) ≡ false
 fails a b c d one = elim one [
-    inl second ↦ and_left (a && b) (c && d) (and_right a b second)
+  | inl second ↦ and_left (a && b) (c && d) (and_right a b second)
   | inr others ↦ and_right (a && b) (c && d) (elim others as (λ _. (c && d) ≡ false) [ inl third ↦ and_left c d third | inr fourth ↦ and_right c d fourth ])
 ]
 
@@ -90,9 +90,9 @@ broken_by names w left (inr (inr twice)) =
 
 reasons : (names : List (List ℕ)) (w : List ℕ) → can_join names w ≡ false → (is_variable_name w ≡ false) ⊎ ((16 ≤ length names) ⊎ (list_any (bytes_eq w) names ≡ true))
 reasons names w can = elim (and_cases (is_variable_name w) (nat_lt (length names) 16 && not (list_any (bytes_eq w) names)) can) [
-    inl form ↦ inl form
+  | inl form ↦ inl form
   | inr more ↦ inr (elim (and_cases (nat_lt (length names) 16) (not (list_any (bytes_eq w) names)) more) as (λ _. (16 ≤ length names) ⊎ (list_any (bytes_eq w) names ≡ true)) [
-      inl many ↦ inl (ltb-false (length names) 16 many)
+    | inl many ↦ inl (ltb-false (length names) 16 many)
     | inr twice ↦ inr (not-false (list_any (bytes_eq w) names) twice)
   ])
 ]
@@ -104,10 +104,12 @@ refused words names w left so_far can = rw so_far.joined (broken_by names w left
 -- all names have been read
 pub whole : (words names : List (List ℕ)) → SoFar words names [] → 0 < length names → (names ≡ words) × (are_variables words ≡ true)
 whole words names so_far some =
-    let same : words ≡ names = so_far.joined ∙ append-nil names in
-    (sym same, rw same (and_from (nat_le 1 (length names) && nat_le (length names) 16) (list_all is_variable_name names && are_distinct names)
-      (and_from (nat_le 1 (length names)) (nat_le (length names) 16) (le-leb 1 (length names) some) (le-leb (length names) 16 so_far.few))
-      (and_from (list_all is_variable_name names) (are_distinct names) so_far.formed so_far.distinct)))
+    let same : words ≡ names = so_far.joined ∙ append-nil names in (
+      sym same,
+      rw same (and_from (nat_le 1 (length names) && nat_le (length names) 16) (list_all is_variable_name names && are_distinct names)
+          (and_from (nat_le 1 (length names)) (nat_le (length names) 16) (le-leb 1 (length names) some) (le-leb (length names) 16 so_far.few))
+          (and_from (list_all is_variable_name names) (are_distinct names) so_far.formed so_far.distinct)),
+    )
 
 -- no name at all
 pub none : (words : List (List ℕ)) → words ≡ [] → are_variables words ≡ false

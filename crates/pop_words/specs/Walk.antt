@@ -1,5 +1,5 @@
 -- The words of a line, one after the other.
-use Rattle.std.specs.Prelude.{◌≡◌, ℕ, ◌+◌, ◌&&◌, not, Bool, nat_lt, List, [], ◌∷◌, length, Option, Some, None, Result, Ok, Err, true, false}
+use Rattle.std.specs.Prelude.{◌≡◌, ℕ, ◌+◌, ◌&&◌, not, Bool, nat_lt, List, [], length, Option, Some, None, Result, Ok, Err, true, false}
 use Rattle.std.specs.List.{list_any}
 use Rattle.std.specs.Str.{bytes_eq}
 use Rattle.pop_io.specs.Names.{is_variable_name}

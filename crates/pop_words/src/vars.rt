@@ -97,7 +97,11 @@ fn name_of(word: &[u8]) -> Option<&str>
     let Ok(name) = str::from_utf8(word) else {
         return None;
     };
-    if is_variable_name(name) { Some(name) } else { None }
+    if is_variable_name(name) {
+        Some(name)
+    } else {
+        None
+    }
 }
 
 fn is_among(names: &[Text], word: &[u8]) -> bool

@@ -1,9 +1,9 @@
-use Rattle.std.proofs.Common.{◌≡◌, ◌∷◌, List, ℕ, Bool, true, false, Option, Some, None, Result, Ok, Err, IfOk, codes, refl, ap, sym, ◌∙◌}
+use Rattle.std.proofs.Common.{◌≡◌, ◌∷◌, List, ℕ, true, false, Option, Some, None, Result, Ok, Err, IfOk, codes, refl, ap, sym, ◌∙◌}
 use Rattle.std.specs.Option.{option_copied}
 use Rattle.std.specs.Str.{bytes_eq}
 use Rattle.std.proofs.lemmas.Bool.{not-false, not-true}
 use Rattle.pop_lines.specs.Lines.{pieces}
-use Rattle.pop_words.specs.Vars.{vars_of, behind_vars, are_variables, Named, AreVariables}
+use Rattle.pop_words.specs.Vars.{vars_of, Named, AreVariables}
 use Rattle.pop_words.specs.Walk.{words_after, NamedBehind}
 use Rattle.pop_words.specs.declared.vars.VarsFault.{VarsFault}
 use Rattle.pop_words.specs.declared.vars.VarsFault.TheVariants.{Form, NoMemory}
