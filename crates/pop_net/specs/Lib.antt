@@ -1,0 +1,13 @@
+pub mod LeafModel
+pub mod FirstFault
+pub mod LeafFaults
+pub mod NetModel
+pub mod NetFaults
+pub mod InputCrowd
+pub mod Step
+pub mod Reachable
+pub mod Terminal
+pub mod Reaction
+pub mod Lanes
+pub mod ExampleNets
+pub mod Examples

@@ -1,0 +1,65 @@
+-- The first rule that a net breaks.
+use Rattle.std.specs.Prelude.{◌≡◌, ◌⊎◌, ℕ, ◌+◌, Bool, true, not, ◌&&◌, ◌==◌, nat_lt, nat_le, List, [], ◌∷◌, length, take, Option, Some, position, false}
+use Rattle.std.specs.List.{list_all}
+use Rattle.std.specs.Option.{option_map, option_map_or}
+use Rattle.pop_io.specs.Names.{is_variable_name}
+use Rattle.pop_net.specs.declared.net.Item.{Item}
+use Rattle.pop_net.specs.declared.net.Item.TheVariants as item
+use Rattle.pop_net.specs.declared.fault.CombinationFault.{CombinationFault}
+use Rattle.pop_net.specs.declared.fault.CombinationFault.TheVariants as combination
+use Rattle.pop_net.specs.declared.fault.NetFault.{NetFault}
+use Rattle.pop_net.specs.declared.fault.NetFault.TheVariants as fault
+use Rattle.pop_net.specs.NetModel.{NetModel, after_items, depths}
+use Rattle.pop_net.specs.FirstFault.{unless, first_of, first_below, first_bad_name}
+
+-- whether an item names one of n leaves, where it names one
+abbrev pub names_below : ℕ → Item → Bool
+names_below n (item.Leaf i) = nat_lt i n
+names_below n item.Not = true
+names_below n item.And = true
+names_below n item.Or = true
+
+-- whether operands were found, of which none has a depth over 65
+abbrev pub are_low : Option (List ℕ) → Bool
+are_low operands = option_map_or (list_all (λ d. nat_le d 65)) operands false
+
+-- whether items name leaves alone, find their operands, and make no tree of a depth over 65
+abbrev pub stands : ℕ → List Item → Bool
+stands leaves items = list_all (names_below leaves) items && are_low (after_items depths items [])
+
+-- the first item with which the items no longer stand
+abbrev pub first_bad_item : ℕ → List Item → Option ℕ
+first_bad_item leaves items = first_below (length items) (λ k. not (stands leaves (take (k + 1) items)))
+
+-- how many operands the items leave
+abbrev pub operands_left : List Item → ℕ
+operands_left items = option_map_or length (after_items depths items []) 0
+
+abbrev pub fault_of_combination : ℕ → List Item → Option CombinationFault
+fault_of_combination leaves items =
+    first_of
+    (option_map combination.Item (first_bad_item leaves items)
+    ∷ unless (operands_left items == 1) (combination.Open (operands_left items))
+    ∷ [])
+
+abbrev pub net_fault : CombinationFault → NetFault
+net_fault (combination.Item k) = fault.Item k
+net_fault (combination.Open n) = fault.Open n
+
+abbrev pub fault_of_net : NetModel → Option NetFault
+fault_of_net net =
+    let variables = length net.variables in
+    let leaves = length net.leaves in
+    let items = length net.combine in
+    first_of
+    (unless (nat_le 1 variables && nat_le variables 16) (fault.Vars variables)
+    ∷ option_map fault.VarName (first_bad_name is_variable_name net.variables)
+    ∷ unless (nat_le 1 leaves && nat_le leaves 8) (fault.Leaves leaves)
+    ∷ option_map fault.LeafInputs (position (λ leaf. not (length leaf.inputs == variables)) net.leaves)
+    ∷ unless (nat_le 1 items && nat_le items 1024) (fault.Items items)
+    ∷ option_map net_fault (fault_of_combination leaves net.combine)
+    ∷ [])
+
+-- the fault is the first rule that the net breaks, unless memory ran out
+abbrev pub RefusesNet : NetModel → NetFault → Type 0
+RefusesNet net f = (f ≡ fault.NoMemory) ⊎ (fault_of_net net ≡ Some f)

@@ -1,0 +1,68 @@
+//! Combinations in postfix: whether one is a tree, and its value.
+
+ghost use Rattle.std.specs.Prelude.{◌≡◌, ℕ, ◌≤◌, ◌<◌, ◌&&◌, ◌∷◌, length, drop, All, Some, None, MatchOption, unwrap_or};
+ghost use Rattle.std.specs.Bool.{OnTrue};
+ghost use Rattle.pop_net.specs.NetModel.{after_item, depths as depth_operators, truth, combined};
+ghost use Rattle.pop_net.specs.NetFaults.{names_below, are_low, fault_of_combination};
+
+use crate::fault::CombinationFault;
+use crate::net::Item;
+use crate::operands::{ITEM_LIMIT, Operands};
+
+/// The greatest depth of a combination's tree.
+const DEPTH_LIMIT: u8 = 65;
+
+/// The first rule that a combination of these leaves breaks. It takes no memory.
+pub fn combination_fault(leaves: u8, combine: &[Item]) -> Option<CombinationFault>
+    requires { length combine.now ≤ ITEM_LIMIT }
+    ensures { result ≡ fault_of_combination leaves combine.now }
+{
+    let mut depths = Operands::new(0);
+    for (k, item) in combine.iter().enumerate() {
+        if !put_depth(&mut depths, leaves, *item) {
+            return Some(CombinationFault::Item(k as u32));
+        }
+    }
+    if depths.len() == 1 {
+        None
+    } else {
+        Some(CombinationFault::Open(depths.len() as u32))
+    }
+}
+
+/// Takes an item in, unless it is a bad one.
+fn put_depth(depths: &mut Operands<u8>, leaves: u8, item: Item) -> bool
+    requires room { length depths.old < ITEM_LIMIT }
+    requires low { All (λ d. d ≤ 65) depths.old }
+    ensures good { result ≡ (names_below leaves item && are_low (after_item depth_operators item depths.old)) }
+    ensures put { OnTrue result (after_item depth_operators item depths.old ≡ Some depths.new) }
+{
+    if !item.is_below(leaves) {
+        return false;
+    }
+    match take_depth(depths, item) {
+        Some(depth) if depth <= DEPTH_LIMIT => {
+            depths.push(depth);
+            true
+        }
+        _ => false,
+    }
+}
+
+/// Takes an item's operands away, and gives the depth of its tree.
+fn take_depth(depths: &mut Operands<u8>, item: Item) -> Option<u8>
+    requires { All (λ d. d ≤ 65) depths.old }
+    ensures found { MatchOption result (after_item depth_operators item depths.old ≡ None)
+        (λ depth. after_item depth_operators item depths.old ≡ Some (depth ∷ depths.new)) }
+    ensures rest { (n : ℕ) × (depths.new ≡ drop n depths.old) }
+{
+    match item {
+        Item::Leaf(_) => Some(1),
+        Item::Not => Some(depths.pop()? + 1),
+        Item::And | Item::Or => {
+            let second = depths.pop()?;
+            let first = depths.pop()?;
+            Some(first.max(second) + 1)
+        }
+    }
+}

@@ -1,0 +1,64 @@
+//! The operands of a combination in postfix, without memory.
+
+ghost use Rattle.std.specs.Prelude.{◌≡◌, ◌<◌, ◌∷◌, [], length, Some, None, MatchOption};
+
+use std::marker::Model;
+
+/// A combination has at most as many items.
+pub(crate) const ITEM_LIMIT: usize = 1024;
+
+/// A stack of operands. Contracts see the list of them, the newest first.
+#[derive(Drop)]
+pub(crate) struct Operands<T> {
+    items: [T; ITEM_LIMIT],
+    count: usize,
+}
+
+impl<T> Model for Operands<T> {
+    ghost use Rattle.std.specs.Prelude.{◌≡◌, List, ◌≤◌, length, take, reverse};
+    ghost use Rattle.std.specs.Coded.{coded_list};
+
+    ghost Value = { List T };
+
+    ghost coded = { coded_list T.code };
+
+    ghost view = { λ o. reverse (take o.count o.items) };
+
+    ghost invariant = { λ o. (o.count ≤ 1024) × (length o.items ≡ 1024) };
+}
+
+impl<T: Copy> Operands<T> {
+    /// No operands. The blank is not seen.
+    pub(crate) fn new(blank: T) -> Operands<T>
+        ensures { result ≡ [] }
+    {
+        Operands {
+            items: [blank; ITEM_LIMIT],
+            count: 0,
+        }
+    }
+
+    pub(crate) fn len(&self) -> usize
+        ensures { result ≡ length self.now }
+    {
+        self.count
+    }
+
+    pub(crate) fn push(&mut self, operand: T)
+        requires { length self.old < ITEM_LIMIT }
+        ensures { self.new ≡ operand ∷ self.old }
+    {
+        self.items[self.count] = operand;
+        self.count += 1;
+    }
+
+    pub(crate) fn pop(&mut self) -> Option<T>
+        ensures { MatchOption result ((self.old ≡ []) × (self.new ≡ [])) (λ operand. self.old ≡ operand ∷ self.new) }
+    {
+        if self.count == 0 {
+            return None;
+        }
+        self.count -= 1;
+        Some(self.items[self.count])
+    }
+}
