@@ -1,2 +1,5 @@
 pub mod Words
 pub mod Meetings
+pub mod Vars
+pub mod Counts
+pub mod Walk

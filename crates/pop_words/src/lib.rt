@@ -4,11 +4,15 @@
 #![tactic(auto)]
 
 mod command;
+mod counts;
 mod meeting;
+mod vars;
 mod words;
 
 pub use command::{Command, Usage, UsageWhy};
+pub use counts::{CountFault, read_counts};
 pub use meeting::{MeetingFault, read_meeting};
+pub use vars::{VarsFault, read_vars};
 pub use words::read_words;
 
 #[cfg(test)]

@@ -1,6 +1,7 @@
 ghost use Rattle.std.specs.Prelude.{◌<◌, ◌^◌, length};
 
 use crate::*;
+use std::test::Fail;
 
 fn is_bad(words: &[&str], word: u32, why: UsageWhy) -> bool
     requires { length words.now < 2 ^ 32 }
@@ -49,4 +50,91 @@ fn meeting_lines(rt: HostRuntime) {
     ] {
         assert_eq!(rt; read_meeting(line, 3), Err(MeetingFault::Agents));
     }
+}
+
+const NAME_32: &[u8] = b"vars a23456789_123456789_123456789_12";
+
+const NAME_33: &[u8] = b"vars a23456789_123456789_123456789_123";
+
+const SIXTEEN: &[u8] = b"vars a b c d e f g h i j k l m n o p";
+
+const SEVENTEEN: &[u8] = b"vars a b c d e f g h i j k l m n o p q";
+
+#[test]
+fn vars_lines(rt: HostRuntime) -> Result<(), Fail> {
+    let alloc = rt.alloc();
+    let names = read_vars(alloc, b"vars x _y2")
+        .ok()
+        .ok_or("it is a vars line")?;
+    let names = names.into_vec();
+    assert_eq!(rt; names.len(), 2);
+    assert_eq!(rt; names[0].as_str(), "x");
+    assert_eq!(rt; names[1].as_str(), "_y2");
+    assert!(rt; read_vars(alloc, NAME_32).is_ok());
+    assert!(rt; read_vars(alloc, SIXTEEN).is_ok());
+    for line in [
+        b"".as_slice(),
+        b"vars".as_slice(),
+        b"vars ".as_slice(),
+        b"vars  x".as_slice(),
+        b"vars x ".as_slice(),
+        b"vars\tx".as_slice(),
+        b"vars x\r".as_slice(),
+        b"vars x x".as_slice(),
+        b"vars mod".as_slice(),
+        b"vars 2x".as_slice(),
+        b"vars \xc3\xa4".as_slice(),
+        b"Vars x".as_slice(),
+        NAME_33,
+        SEVENTEEN,
+    ] {
+        assert!(rt; matches!(read_vars(alloc, line), Err(VarsFault::Form)));
+    }
+    Ok(())
+}
+
+#[test]
+fn crowd_lines(rt: HostRuntime) -> Result<(), Fail> {
+    let alloc = rt.alloc();
+    let names = read_vars(alloc, b"vars x y")
+        .ok()
+        .ok_or("it is a vars line")?;
+    for (line, want) in [
+        (b"crowd y=007".as_slice(), [0, 7]),
+        (b"crowd".as_slice(), [0, 0]),
+        (
+            b"crowd x=18446744073709551615 y=00000000000000000001".as_slice(),
+            [u64::MAX, 1],
+        ),
+    ] {
+        let counts = read_counts(alloc, line, &names)
+            .ok()
+            .ok_or("it is a crowd line")?;
+        assert_eq!(rt; counts.as_slice(), want.as_slice());
+    }
+    for (line, want) in [
+        (b"".as_slice(), 0),
+        (b"crowds".as_slice(), 0),
+        (b" crowd".as_slice(), 0),
+        (b"crowd\tx=1".as_slice(), 0),
+        (b"crowd\r".as_slice(), 0),
+        (b"crowd x=1 x=2".as_slice(), 2),
+        (b"crowd z=3".as_slice(), 1),
+        (b"crowd z=3 x=q".as_slice(), 1),
+        (b"crowd x=q z=3".as_slice(), 1),
+        (b"crowd x=1  y=1".as_slice(), 2),
+        (b"crowd x=1 ".as_slice(), 2),
+        (b"crowd x=1 y=1\r".as_slice(), 2),
+        (b"crowd x=".as_slice(), 1),
+        (b"crowd x".as_slice(), 1),
+        (b"crowd =1".as_slice(), 1),
+        (b"crowd x=+1".as_slice(), 1),
+        (b"crowd x=18446744073709551616".as_slice(), 1),
+        (b"crowd x=000000000000000000001".as_slice(), 1),
+    ] {
+        assert!(rt;
+            matches!(read_counts(alloc, line, &names), Err(CountFault::Count(n)) if n == want)
+        );
+    }
+    Ok(())
 }

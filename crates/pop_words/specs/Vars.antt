@@ -1,0 +1,38 @@
+-- Vars lines: `vars`, and the names of the variables behind single spaces.
+use Rattle.std.specs.Prelude.{◌≡◌, ◌≤◌, ℕ, Bool, true, ◌&&◌, not, nat_le, List, [], ◌∷◌, length, codes, Option, Some, None, Result, Ok, Err, if◌then◌else◌}
+use Rattle.std.specs.List.{list_all, list_any}
+use Rattle.std.specs.Str.{bytes_eq}
+use Rattle.pop_io.specs.Names.{is_variable_name, AreNames}
+use Rattle.pop_lines.specs.Lines.{pieces}
+use Rattle.pop_words.specs.declared.vars.VarsFault.{VarsFault}
+use Rattle.pop_words.specs.declared.vars.VarsFault.TheVariants.{Form, NoMemory}
+
+-- no name is equal to a later one
+abbrev pub are_distinct : List (List ℕ) → Bool
+are_distinct [] = true
+are_distinct (name ∷ names) = not (list_any (bytes_eq name) names) && are_distinct names
+
+-- 1 to 16 distinct names of variables
+abbrev pub are_variables : List (List ℕ) → Bool
+are_variables names = (nat_le 1 (length names) && nat_le (length names) 16) && (list_all is_variable_name names && are_distinct names)
+
+-- the words behind the first, which is `vars`
+abbrev pub behind_vars : List (List ℕ) → Option (List (List ℕ))
+behind_vars [] = None
+behind_vars (first ∷ names) = if bytes_eq first (codes "vars") && are_variables names then Some names else None
+
+-- the names of a vars line, one space before each; the line has no other form
+unfoldable pub vars_of : List ℕ → Option (List (List ℕ))
+vars_of line = behind_vars (pieces 32 line)
+
+-- What a function returned is what the line says, unless memory ran out.
+abbrev pub Named : Result (List (List ℕ)) VarsFault → Option (List (List ℕ)) → Type 0
+Named (Ok names) read = read ≡ Some names
+Named (Err Form) read = read ≡ None
+Named (Err NoMemory) read = Unit {0}
+
+-- the names of a net's or a predicate's variables
+pub record AreVariables (names : List (List ℕ)) : Type 0 where
+  pub some : 1 ≤ length names
+  pub few : length names ≤ 16
+  pub formed : AreNames is_variable_name names

@@ -1,0 +1,29 @@
+-- The words of a line, one after the other.
+use Rattle.std.specs.Prelude.{◌≡◌, ℕ, ◌+◌, ◌&&◌, not, Bool, nat_lt, List, [], length, Option, Some, None, Result, Ok, Err, true, false}
+use Rattle.std.specs.List.{list_any}
+use Rattle.std.specs.Str.{bytes_eq}
+use Rattle.pop_io.specs.Names.{is_variable_name}
+use Rattle.pop_lines.specs.Lines.{pieces}
+use Rattle.pop_words.specs.Vars.{are_variables}
+use Rattle.pop_words.specs.declared.vars.VarsFault.{VarsFault}
+use Rattle.pop_words.specs.declared.vars.VarsFault.TheVariants.{Form, NoMemory}
+
+-- the words behind a space, if there is one
+abbrev pub words_after : Option (List ℕ) → List (List ℕ)
+words_after None = []
+words_after (Some rest) = pieces 32 rest
+
+-- how many bytes stand behind the last word that was read, its space among them
+abbrev pub left_of : Option (List ℕ) → ℕ
+left_of None = 0
+left_of (Some rest) = length rest + 1
+
+-- a further name
+abbrev pub can_join : List (List ℕ) → List ℕ → Bool
+can_join names word = is_variable_name word && (nat_lt (length names) 16 && not (list_any (bytes_eq word) names))
+
+-- the words, where they are names of variables
+abbrev pub NamedBehind : Result (List (List ℕ)) VarsFault → List (List ℕ) → Type 0
+NamedBehind (Ok names) words = (names ≡ words) × (are_variables words ≡ true)
+NamedBehind (Err Form) words = are_variables words ≡ false
+NamedBehind (Err NoMemory) words = Unit {0}

@@ -1,0 +1,145 @@
+//! The crowd line.
+
+ghost use Rattle.std.specs.Prelude.{◌≡◌, ◌<◌, ◌-◌, ◌^◌, ℕ, Option, None, Some, length, map, option_map, position, unwrap_or, IfOk, IfErr, MatchBool, false};
+ghost use Rattle.std.specs.Str.{bytes_eq};
+ghost use Rattle.std.specs.Option.{option_copied};
+ghost use Rattle.pop_words.specs.Vars.{AreVariables};
+ghost use Rattle.pop_words.specs.Counts.{split_once, entry_of, with_entry, with_word, with_words, counts_of, Counted};
+ghost use Rattle.pop_words.specs.Walk.{words_after, left_of};
+
+use pop_io::{List, Text};
+use pop_lines::{cut, small_number};
+use std::alloc::{AllocError, AllocFailed, Global};
+
+/// Why a crowd line was not read.
+#[derive(Clone, Copy, Debug, PartialEq, Eq)]
+pub enum CountFault {
+    /// The first word of the line that breaks its form, counted from 0.
+    Count(u32),
+    NoMemory,
+}
+
+impl From<AllocError> for CountFault {
+    ghost use Rattle.std.specs.Prelude.{◌≡◌};
+    ghost use Rattle.pop_words.specs.declared.counts.CountFault.TheVariants.{NoMemory};
+
+    ghost from_gives = { λ _ e. e ≡ NoMemory };
+
+    fn from(_e: AllocError) -> CountFault {
+        CountFault::NoMemory
+    }
+}
+
+impl<T: Drop> From<AllocFailed<T>> for CountFault {
+    ghost use Rattle.std.specs.Prelude.{◌≡◌};
+    ghost use Rattle.pop_words.specs.declared.counts.CountFault.TheVariants.{NoMemory};
+
+    ghost from_gives = { λ _ e. e ≡ NoMemory };
+
+    fn from(_e: AllocFailed<T>) -> CountFault {
+        CountFault::NoMemory
+    }
+}
+
+/// The counts of a crowd line, one per variable in the order of `names`.
+#[tactic(auto, unfolding(crate::specs::Counts::counts_of))]
+pub fn read_counts(alloc: Global, line: &[u8], names: &List<Text>) -> Result<List<u64>, CountFault>
+    requires names { AreVariables names.now }
+    requires short { length line.now < 2 ^ 32 - 2 }
+    ensures counts { Counted result (counts_of names.now line.now) }
+    ensures len { IfOk result (λ counts. length counts ≡ length names.now) }
+{
+    let (first, rest) = cut(line, b' ');
+    if first != b"crowd".as_slice() {
+        return Err(CountFault::Count(0));
+    }
+    let found = counts_behind(alloc, names.as_slice(), rest)?;
+    totals_of(alloc, found.as_slice())
+}
+
+/// The counts that the words behind the first give.
+fn counts_behind(
+    alloc: Global,
+    names: &[Text],
+    words: Option<&[u8]>,
+) -> Result<List<Option<u64>>, CountFault>
+    requires { left_of (option_copied words) < 2 ^ 32 - 2 }
+    ensures counts { Counted result (with_words names.now (map (λ _. None) names.now) 1 (words_after (option_copied words.entry))) }
+    ensures len { IfOk result (λ found. length found ≡ length names.now) }
+{
+    let mut found = none_of(alloc, names)?;
+    let mut rest = words;
+    let mut at = 1u32;
+    'words: while let Some(bytes) = rest {
+        let (word, after) = cut(bytes, b' ');
+        if !enter(names, &mut found, word) {
+            return Err(CountFault::Count(at));
+        }
+        at += 1;
+        rest = after;
+    }
+    Ok(List::from_vec(found))
+}
+
+/// Enters a word's count. A bad word changes nothing.
+#[tactic(auto, unfolding(crate::specs::Counts::with_word))]
+fn enter(names: &[Text], found: &mut Vec<Option<u64>>, word: &[u8]) -> bool
+    requires { length found.old.items ≡ length names.now }
+    ensures word { MatchBool result (with_word names.now found.old.items word.now ≡ Some found.new.items)
+        (with_word names.now found.old.items word.now ≡ None) }
+    ensures unchanged { result ≡ false → found.new.items ≡ found.old.items }
+    ensures len { length found.new.items ≡ length found.old.items }
+{
+    let Some((name, count)) = split_at_byte(word, b'=') else {
+        return false;
+    };
+    let Some(variable) = place_of(names, name) else {
+        return false;
+    };
+    let Some(count) = small_number(count) else {
+        return false;
+    };
+    if found[variable].is_some() {
+        return false;
+    }
+    found[variable] = Some(count);
+    true
+}
+
+fn split_at_byte(bytes: &[u8], byte: u8) -> Option<(&[u8], &[u8])>
+    ensures { option_map (λ p. (p.0.now, p.1.now)) result ≡ split_once byte bytes.now }
+{
+    for (i, b) in bytes.iter().enumerate() {
+        if *b == byte {
+            return Some((&bytes[..i], &bytes[i + 1..]));
+        }
+    }
+    None
+}
+
+fn place_of(names: &[Text], name: &[u8]) -> Option<usize>
+    ensures { result ≡ position (bytes_eq name.now) names.now }
+{
+    names.iter().position(|t| name == t.as_str().as_bytes())
+}
+
+fn none_of(alloc: Global, names: &[Text]) -> Result<Vec<Option<u64>>, AllocError>
+    ensures { IfOk result (λ v. v.items ≡ map (λ _. None) names.now) }
+{
+    let mut found = Vec::new(alloc);
+    for _name in names {
+        found.push(None)?;
+    }
+    Ok(found)
+}
+
+fn totals_of(alloc: Global, found: &[Option<u64>]) -> Result<List<u64>, CountFault>
+    ensures ok { IfOk result (λ v. v ≡ map (λ o. unwrap_or o 0) found.now) }
+    ensures memory { IfErr result (λ e. e ≡ CountFault.NoMemory) }
+{
+    let mut counts = Vec::new(alloc);
+    for count in found {
+        counts.push(count.unwrap_or(0))?;
+    }
+    Ok(List::from_vec(counts))
+}
