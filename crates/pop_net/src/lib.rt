@@ -6,10 +6,13 @@
 mod combination;
 mod examples;
 mod fault;
+mod lanes;
 mod leaf;
+mod moves;
 mod net;
 mod operands;
 mod rules;
+mod words;
 
 pub use combination::combination_fault;
 pub use examples::{net_examples, reaction_examples, step_examples};
