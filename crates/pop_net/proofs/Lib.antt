@@ -12,3 +12,8 @@ mod LeafFaults
 mod Trees
 mod Whole
 mod NetFaults
+mod LaneBits
+pub mod Packing
+mod Lanewise
+mod Values
+pub mod Within

@@ -28,9 +28,11 @@ abbrev pub state_of : Tuple → ℕ → ℕ
 state_of tuple i = slice_index tuple i
 
 -- each state of a tuple is one of its leaf
+abbrev pub AreStates : List LeafModel → Tuple → Type 0
+AreStates leaves tuple = (i : ℕ) (leaf : LeafModel) → slice_get leaves i ≡ Some leaf → state_of tuple i < length leaf.states
+
 abbrev pub HasStates : NetModel → Tuple → Type 0
-HasStates net tuple =
-    (i : ℕ) (leaf : LeafModel) → slice_get net.leaves i ≡ Some leaf → state_of tuple i < length leaf.states
+HasStates net tuple = AreStates net.leaves tuple
 
 -- what a leaf number and the three operators of a combination mean
 pub record Operators (A : Type 0) : Type 0 where

@@ -1,6 +1,6 @@
 //! Combinations in postfix: whether one is a tree, and its value.
 
-ghost use Rattle.std.specs.Prelude.{◌≡◌, ℕ, ◌≤◌, ◌<◌, ◌&&◌, ◌∷◌, length, drop, All, Some, None, MatchOption, unwrap_or};
+ghost use Rattle.std.specs.Prelude.{◌≡◌, ℕ, ◌≤◌, ◌<◌, ◌&&◌, ◌∷◌, length, drop, All, Some, None, MatchOption, unwrap_or, false};
 ghost use Rattle.std.specs.Bool.{OnTrue};
 ghost use Rattle.pop_net.specs.NetModel.{after_item, depths as depth_operators, truth, combined};
 ghost use Rattle.pop_net.specs.NetFaults.{names_below, are_low, fault_of_combination};
@@ -64,6 +64,43 @@ fn take_depth(depths: &mut Operands<u8>, item: Item) -> Option<u8>
             let second = depths.pop()?;
             let first = depths.pop()?;
             Some(first.max(second) + 1)
+        }
+    }
+}
+
+/// The value of a combination at the leaves' outputs; false where it is no tree.
+pub(crate) fn value_of(combine: &[Item], outputs: &[bool]) -> bool
+    requires { length combine.now ≤ ITEM_LIMIT }
+    ensures { result ≡ unwrap_or (combined (truth outputs.now) combine.now) false }
+{
+    let mut values = Operands::new(false);
+    for item in combine {
+        match take_value(&mut values, outputs, *item) {
+            Some(value) => values.push(value),
+            None => return false,
+        }
+    }
+    values.len() == 1 && values.pop() == Some(true)
+}
+
+/// Takes an item's operands away, and gives its value.
+fn take_value(values: &mut Operands<bool>, outputs: &[bool], item: Item) -> Option<bool>
+    ensures found { MatchOption result (after_item (truth outputs.now) item values.old ≡ None)
+        (λ value. after_item (truth outputs.now) item values.old ≡ Some (value ∷ values.new)) }
+    ensures fewer { length values.new ≤ length values.old }
+{
+    match item {
+        Item::Leaf(i) => Some(outputs.get(i as usize).copied().unwrap_or(false)),
+        Item::Not => Some(!values.pop()?),
+        Item::And => {
+            let second = values.pop()?;
+            let first = values.pop()?;
+            Some(first && second)
+        }
+        Item::Or => {
+            let second = values.pop()?;
+            let first = values.pop()?;
+            Some(first || second)
         }
     }
 }

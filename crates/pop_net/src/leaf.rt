@@ -4,6 +4,7 @@ ghost use Rattle.std.specs.Prelude.{◌≡◌, ◌<◌, length, Some, IfOk, IfEr
 ghost use Rattle.pop_net.specs.LeafFaults.{is_move_below};
 
 use crate::fault::LeafFault;
+use crate::moves::{first_taking, taken};
 use crate::rules::leaf_fault;
 use pop_io::{List, Text};
 use std::alloc::Global;
@@ -20,12 +21,20 @@ pub struct Move {
 
 impl Move {
     ghost use Rattle.pop_net.specs.LeafModel.{is_silent as silent_move};
+    ghost use Rattle.pop_net.specs.Reaction.{takes as takes_states};
 
     /// Whether it leaves the pair of its states as it is.
     pub fn is_silent(&self) -> bool
         ensures { result ≡ silent_move self.now }
     {
         (self.p == self.r && self.q == self.s) || (self.p == self.s && self.q == self.r)
+    }
+
+    /// Whether it is not silent and takes two states, in one order or the other.
+    pub fn takes(&self, x: u16, y: u16) -> bool
+        ensures { result ≡ takes_states x y self.now }
+    {
+        !self.is_silent() && ((x == self.p && y == self.q) || (x == self.q && y == self.p))
     }
 
     /// Whether each of its states is below a number.
@@ -60,6 +69,8 @@ impl Model for Leaf {
 
 impl Leaf {
     ghost use Rattle.pop_net.specs.LeafModel.{IsLeaf, is_silent as silent_move};
+    ghost use Rattle.pop_net.specs.Reaction.{leaf_reaction};
+    ghost use Rattle.pop_net.specs.Step.{LeafChange};
     ghost use Rattle.pop_net.specs.LeafFaults.{RefusesLeaf};
     ghost use Rattle.pop_net.specs.declared.fault.LeafFault.TheVariants.{NoMemory};
 
@@ -151,5 +162,18 @@ impl Leaf {
         ensures { slice_get self.now.outputs state ≡ Some result }
     {
         self.outputs.as_slice()[state as usize]
+    }
+
+    /// The first non-silent move that matches, in the order of the list, is taken, the first way before the second.
+    pub fn react(&self, x: u16, y: u16) -> (u16, u16)
+        requires x_in { x < length self.now.states }
+        requires y_in { y < length self.now.states }
+        ensures reaction { result ≡ leaf_reaction self.now x y }
+        ensures first_in { result.0 < length self.now.states }
+        ensures second_in { result.1 < length self.now.states }
+        // It is a change that a step allows.
+        ensures change { LeafChange self.now x y result.0 result.1 }
+    {
+        taken(first_taking(self.moves.as_slice(), x, y), x, y)
     }
 }

@@ -6,11 +6,14 @@
 mod combination;
 mod examples;
 mod fault;
+mod lanes;
 mod leaf;
+mod moves;
 mod net;
 mod open_trees;
 mod operands;
 mod rules;
+mod words;
 
 pub use combination::combination_fault;
 pub use examples::{net_examples, reaction_examples, step_examples};

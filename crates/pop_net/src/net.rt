@@ -1,11 +1,14 @@
 //! Protocols that run side by side on the same agents, and a combination of their outputs.
 
-ghost use Rattle.std.specs.Prelude.{◌≡◌, ◌<◌, length, Some, IfOk, IfErr, slice_get};
+ghost use Rattle.std.specs.Prelude.{◌≡◌, ◌<◌, ◌↔◌, length, Some, IfOk, IfErr, IfSome, IsTrue, slice_get};
 ghost use Rattle.pop_net.specs.NetFaults.{names_below};
 
+use crate::combination::value_of;
 use crate::fault::NetFault;
+use crate::lanes::lane_of;
 use crate::leaf::Leaf;
 use crate::rules::net_fault;
+use crate::words::{is_valid_word, react_words, start_word, word_outputs};
 use pop_io::{List, Text};
 use std::alloc::Global;
 use std::marker::Model;
@@ -54,7 +57,11 @@ impl Model for Net {
 }
 
 impl Net {
-    ghost use Rattle.pop_net.specs.NetModel.{IsNet};
+    ghost use Rattle.pop_net.specs.NetModel.{IsNet, state_of, output_of};
+    ghost use Rattle.pop_net.specs.InputCrowd.{start_of};
+    ghost use Rattle.pop_net.specs.Reaction.{reaction};
+    ghost use Rattle.pop_net.specs.Step.{TupleChange};
+    ghost use Rattle.pop_net.specs.Lanes.{tuple_of, IsValid};
     ghost use Rattle.pop_net.specs.NetFaults.{RefusesNet};
     ghost use Rattle.pop_net.specs.declared.fault.NetFault.TheVariants.{NoMemory};
 
@@ -121,5 +128,59 @@ impl Net {
         ensures { slice_get self.now.combine i ≡ Some result }
     {
         self.combine.as_slice()[i as usize]
+    }
+
+    /// Whether each lane holds a state of its leaf, and the lanes past the last leaf are 0.
+    pub fn valid(&self, word: Word) -> bool
+        ensures { IsTrue result ↔ IsValid self.now word }
+    {
+        is_valid_word(self.leaves.as_slice(), word.0)
+    }
+
+    /// The state of a leaf in a word.
+    pub fn lane(&self, word: Word, leaf: u8) -> u16
+        requires valid { IsValid self.now word }
+        requires leaf_in { leaf < length self.now.leaves }
+        ensures state { result ≡ state_of (tuple_of self.now word) leaf }
+        ensures bound { IfSome (slice_get self.now.leaves leaf) (λ l. result < length l.states) }
+    {
+        // A net has at most as many leaves as a word has lanes.
+        let _ = &self.leaves;
+        lane_of(word.0, leaf as usize)
+    }
+
+    /// Each leaf reacts by itself.
+    pub fn react(&self, a: Word, b: Word) -> (Word, Word)
+        requires a_valid { IsValid self.now a }
+        requires b_valid { IsValid self.now b }
+        ensures reaction { (tuple_of self.now result.0, tuple_of self.now result.1)
+            ≡ reaction self.now (tuple_of self.now a) (tuple_of self.now b) }
+        ensures first_valid { IsValid self.now result.0 }
+        ensures second_valid { IsValid self.now result.1 }
+        // It is a change that a step allows.
+        ensures change { TupleChange self.now (tuple_of self.now a) (tuple_of self.now b)
+            (tuple_of self.now result.0) (tuple_of self.now result.1) }
+    {
+        let (first, second) = react_words(self.leaves.as_slice(), a.0, b.0);
+        (Word(first), Word(second))
+    }
+
+    /// The combination of the leaves' outputs.
+    pub fn output(&self, word: Word) -> bool
+        requires { IsValid self.now word }
+        ensures { result ≡ output_of self.now (tuple_of self.now word) }
+    {
+        let leaves = self.leaves.as_slice();
+        let outputs = word_outputs(leaves, word.0);
+        value_of(self.combine.as_slice(), &outputs[..leaves.len()])
+    }
+
+    /// The word in which an agent of a variable starts.
+    pub fn start(&self, variable: u16) -> Word
+        requires { variable < length self.now.variables }
+        ensures start { tuple_of self.now result ≡ start_of self.now variable }
+        ensures valid { IsValid self.now result }
+    {
+        Word(start_word(self.leaves.as_slice(), variable))
     }
 }

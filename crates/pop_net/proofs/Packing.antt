@@ -1,0 +1,56 @@
+-- Words that are packed lane by lane.
+use Rattle.std.proofs.Common.{◌≡◌, ℕ, zero, suc, pred, ◌+◌, ◌*◌, ◌/◌, ◌%◌, ◌^◌, ◌<◌, ◌≤◌, Bool, true, false, List, [], ◌∷◌, ◌++◌, length, map, take, get_or, refl, ap, sym, ◌∙◌, arith}
+use Rattle.std.specs.Prelude.{Some, All, slice_get, slice_index, slice_index_or}
+use Rattle.std.proofs.Math.Nat.{pow-zero, pow-suc, mul_comm, mul_assoc, div-one, add-mul-mod_self_left, add-mul-div_left, add-mul-mod_self_right, add-mul-div_right, mod-eq_of_lt, div-eq_of_lt}
+use Rattle.std.proofs.lemmas.Nat.{div_below, pow_pos}
+use Rattle.std.proofs.lemmas.List.{take_more, take_all}
+use Rattle.pop_net.specs.LeafModel.{LeafModel}
+use Rattle.pop_net.specs.NetModel.{Tuple, state_of, leaf_outputs}
+use Rattle.pop_net.specs.Lanes.{digits}
+use Rattle.pop_net.proofs.Digits.{get_or-digits, length-digits}
+
+low_part : (base word s p : ℕ) → (word + s * (p * base)) % base ≡ word % base
+low_part base word s p = ap (λ n. (word + n) % base) (sym (mul_assoc s p base)) ∙ add-mul-mod_self_right word (s * p) base
+
+high_part : (base word s p : ℕ) → 0 < base → (word + s * (p * base)) / base ≡ word / base + s * p
+high_part base word s p l = ap (λ n. (word + n) / base) (sym (mul_assoc s p base)) ∙ add-mul-div_right word (s * p) l
+
+-- one more digit, the highest
+pub digits_more : (base i word s : ℕ) → 0 < base → word < base ^ i → s < base → digits base (suc i) (word + s * base ^ i) ≡ digits base i word ++ s ∷ []
+digits_more base zero word s l h k =
+    let none : word ≡ 0 = omega (arith, h, pow-zero base) in
+    let one : word + s * base ^ 0 ≡ s = omega (arith, none, ap (λ n. s * n) (pow-zero base)) in
+    ap (λ n. n % base ∷ []) one ∙ ap (λ n. n ∷ []) (mod-eq_of_lt k)
+digits_more base (suc i) word s l h k =
+    let e : word + s * base ^ suc i ≡ word + s * (base ^ i * base) = ap (λ n. word + s * n) (pow-suc base i) in
+    let low : (word + s * base ^ suc i) % base ≡ word % base = ap (λ n. n % base) e ∙ low_part base word s (base ^ i) in
+    let high : (word + s * base ^ suc i) / base ≡ word / base + s * base ^ i = ap (λ n. n / base) e ∙ high_part base word s (base ^ i) l in
+    let m : word < base ^ i * base = omega (arith, h, pow-suc base i) in
+    rw (low, high, digits_more base i (word / base) s l (div_below word base (base ^ i) l m) k) refl
+
+-- the lanes below i hold the first i states, and the others are 0
+pub record Packed (i : ℕ) (states : List ℕ) (word : ℕ) : Type 0 where
+  pub lanes : digits 256 i word ≡ take i states
+  pub free : word < 256 ^ i
+
+pub packed_none : (states : List ℕ) → Packed 0 states 0
+packed_none states = record { lanes = refl; free = omega (arith, pow-zero 256) }
+
+pub packed_more : (i : ℕ) (states : List ℕ) (word s next : ℕ) → Packed i states word → i < length states → s ≡ get_or states i 0 → s < 256 → next ≡ word + s * 256 ^ i → next < 256 ^ (i + 1) → Packed (i + 1) states next
+packed_more i states word s next p l e k sum free =
+    record {
+      lanes =
+          ap (λ n. digits 256 n next) (let m : i + 1 ≡ suc i = omega arith in m) ∙ ap (digits 256 (suc i)) sum ∙ digits_more 256 i word s (omega arith) p.free k
+          ∙ ap (λ xs. xs ++ s ∷ []) p.lanes
+          ∙ ap (λ x. take i states ++ x ∷ []) e
+          ∙ sym (take_more states i 0 l);
+      free = free;
+    }
+
+pub packed_all : (n i : ℕ) (states : List ℕ) (word : ℕ) → length states ≡ n → n ≤ i → i ≤ n → Packed i states word → digits 256 n word ≡ states
+packed_all n i states word e l m p =
+    ap (λ k. digits 256 k word) (let s : n ≡ i = omega arith in s) ∙ p.lanes ∙ take_all i states (omega (arith, e))
+
+-- the state in lane i
+pub lane_at : (n word i : ℕ) → i < n → state_of (digits 256 n word) i ≡ word / 256 ^ i % 256
+lane_at n word i l = get_or-digits 256 n word i l

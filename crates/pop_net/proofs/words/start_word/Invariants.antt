@@ -1,0 +1,8 @@
+use Rattle.std.proofs.Common.{map, length}
+use Rattle.std.specs.Prelude.{slice_index}
+use Rattle.pop_net.specs.LeafModel.{LeafModel}
+use Rattle.pop_net.proofs.Packing.{Packed}
+use Rattle.pop_net.proofs.words.start_word.Given as goal
+
+abbrev pub invariant-loop-i : goal.invariant-loop-i
+invariant-loop-i l = Packed l.i (map (λ (leaf : LeafModel). slice_index leaf.inputs l.variable) l.leaves) l.word
