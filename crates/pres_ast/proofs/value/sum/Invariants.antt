@@ -1,0 +1,9 @@
+use Rattle.std.proofs.Common.{◌≡◌, ◌≤◌, ◌^◌, ◌*◌, ◌+ℤ◌, nat_abs, drop}
+use Rattle.pres_ast.specs.PredicateValue.{weighted_sum}
+use Rattle.pres_ast.proofs.value.sum.Given as goal
+
+abbrev pub invariant-loop-i : goal.invariant-loop-i
+invariant-loop-i l = record {
+  sum : l.total +ℤ weighted_sum (drop l.i l.coefs) (drop l.i l.counts) ≡ weighted_sum l.coefs l.counts;
+  size : nat_abs l.total ≤ l.i * 2 ^ 95;
+}

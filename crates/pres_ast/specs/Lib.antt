@@ -1,0 +1,5 @@
+pub mod PredTree
+pub mod PredCode
+pub mod PredModel
+pub mod TreeOf
+pub mod PredicateValue

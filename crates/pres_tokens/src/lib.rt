@@ -1,0 +1,13 @@
+//! The tokens of predicate texts.
+//! It stands on `pop_io`.
+//! The layer above uses: `next_token` gives the list of the tokens, one after the other.
+#![tactic(auto)]
+
+mod scan;
+mod token;
+
+pub use scan::next_token;
+pub use token::{Kind, Relation, Token};
+
+#[cfg(test)]
+mod tests;

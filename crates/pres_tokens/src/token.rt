@@ -1,0 +1,40 @@
+//! What a token is.
+
+/// How a sum is compared with a constant.
+#[derive(Clone, Copy, Debug, PartialEq, Eq)]
+pub enum Relation {
+    Less,
+    AtMost,
+    Greater,
+    AtLeast,
+    Equal,
+    Unequal,
+}
+
+/// What stands at a token's place.
+#[derive(Clone, Copy, Debug)]
+pub enum Kind<'a> {
+    /// A word other than `mod`, of any length.
+    Name(&'a [u8]),
+    /// The digits of a number, of any length.
+    Number(&'a [u8]),
+    Plus,
+    Minus,
+    Star,
+    Compare(Relation),
+    And,
+    Or,
+    Not,
+    Open,
+    Close,
+    Mod,
+    /// A byte that begins no token.
+    Stray,
+}
+
+/// A token and the offset of its first byte.
+#[derive(Clone, Copy, Debug)]
+pub struct Token<'a> {
+    pub place: u32,
+    pub kind: Kind<'a>,
+}
