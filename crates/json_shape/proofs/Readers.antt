@@ -1,10 +1,10 @@
 -- What each reader reads, and that it reads each such value.
-use Rattle.std.proofs.Common.{◌≡◌, ℕ, suc, ◌+◌, ◌≤◌, ◌&&◌, Bool, true, false, cond, nat_le, List, [], ◌∷◌, ◌++◌, length, Option, Some, None, option_and_then, option_map, ℤ, pos, negsuc, Result, Ok, Err, refl, sym, ap, subst, ◌∙◌, append_assoc, append-nil, arith}
+use Rattle.std.proofs.Common.{◌≡◌, ℕ, suc, ◌+◌, ◌≤◌, ◌&&◌, Bool, nat_le, List, [], ◌∷◌, ◌++◌, length, Option, Some, None, option_and_then, ℤ, pos, negsuc, Result, Ok, refl, sym, ap, subst, ◌∙◌, append_assoc, append-nil}
 use Rattle.std.proofs.lemmas.Bool.{leb-true, le-leb}
 use Rattle.serde_json.specs.Data.{Data, Items, null, boolean, number, string, array, object}
-use Rattle.serde_json.specs.Find.{get, as_number, as_i64, as_str, as_array, as_object, as_bool}
-use Rattle.json_shape.specs.declared.fault.Why.TheVariants.{Kind, Range}
-use Rattle.json_shape.specs.Faults.{Fault, ◌>>=◌, broken}
+use Rattle.serde_json.specs.Find.{get, as_number, as_i64, as_str, as_array, as_bool}
+use Rattle.json_shape.specs.declared.fault.Why.TheVariants.{Range}
+use Rattle.json_shape.specs.Faults.{Fault, ◌>>=◌}
 use Rattle.json_shape.specs.Paths.{member_path}
 use Rattle.json_shape.specs.Shapes.{listed, of_kind, object_at, member_at, member_by, within, list_at, in_range, number_at, text_at, truth_at, each}
 use Rattle.json_shape.specs.Parts.{IsNumber, IsText, IsTruth, HasMember, AreItems, IsList}
@@ -127,8 +127,7 @@ module _ {A : Type 0} (at : List A → ℕ → Data → Result A Fault) (Is : A 
       let n = list_at-takes path least most d a.0 a.1 in
       let r = each-takes takes [] 0 a.0 xs a.2 in
       let are : AreItems Is xs a.0 = subst (λ (ys : List A). AreItems Is ys a.0) (sym r.whole) r.items in
-      let long = AreItems-length Is xs a.0 are in
-      (
+      let long = AreItems-length Is xs a.0 are in (
         (n.0, n.1, subst (λ (es : List Data). AreItems Is xs es) (sym n.2) are),
         subst (λ (ys : List A). EachFrom P [] ys) (sym r.whole) r.each_one,
         subst (λ (k : ℕ). least ≤ k) (sym long) n.3,

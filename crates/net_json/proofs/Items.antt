@@ -1,12 +1,12 @@
 -- Reading a combination item by item.
-use Rattle.std.proofs.Common.{◌≡◌, ℕ, ◌+◌, ◌≤◌, ◌&&◌, Bool, true, false, List, [], ◌∷◌, ◌++◌, length, Option, Some, None, option_and_then, Result, Ok, Err, refl, sym, ap, subst, ◌∙◌, arith}
+use Rattle.std.proofs.Common.{◌≡◌, ℕ, ◌+◌, ◌≤◌, ◌&&◌, Bool, true, false, List, [], ◌∷◌, ◌++◌, length, Option, Some, None, option_and_then, Result, Ok, refl, sym, ap, subst, ◌∙◌, arith}
 use Rattle.std.specs.Bool.{OnTrue}
 use Rattle.serde_json.specs.Data.{Data}
 use Rattle.serde_json.specs.Find.{as_str}
 use Rattle.json_shape.specs.declared.fault.Why.TheVariants.{Shape}
 use Rattle.json_shape.specs.declared.fault.FormatFault.{FormatFault}
 use Rattle.json_shape.specs.declared.fault.FormatFault.TheVariants.{Broken, NoMemory}
-use Rattle.json_shape.specs.Faults.{Fault, ◌>>=◌, broken, Says, Fails}
+use Rattle.json_shape.specs.Faults.{Fault, ◌>>=◌, Says, Fails}
 use Rattle.json_shape.specs.Paths.{item_path}
 use Rattle.json_shape.proofs.FaultLemmas.{Fails-said}
 use Rattle.pop_net.specs.declared.net.Item.{Item}

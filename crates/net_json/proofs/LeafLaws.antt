@@ -1,17 +1,16 @@
 -- What is read of a leaf is the leaf of its file, and each file of a leaf is read.
-use Rattle.std.proofs.Common.{◌≡◌, ℕ, ◌+◌, ◌-◌, ◌≤◌, ◌<◌, ◌&&◌, Bool, true, false, cond, not, IsTrue, List, [], ◌∷◌, ◌++◌, length, codes, Some, Result, Ok, Err, refl, sym, ap, subst, ◌∙◌, arith}
-use Rattle.std.specs.Prelude.{All, AllPairs}
+use Rattle.std.proofs.Common.{◌≡◌, ℕ, ◌-◌, ◌≤◌, ◌<◌, ◌&&◌, Bool, true, false, cond, not, IsTrue, List, [], ◌∷◌, ◌++◌, length, codes, Result, Ok, refl, subst, arith}
+use Rattle.std.specs.Prelude.{All}
 use Rattle.std.specs.List.{list_any}
 use Rattle.std.specs.Str.{bytes_eq}
-use Rattle.std.proofs.lemmas.List.Elements.{All-nil}
-use Rattle.serde_json.specs.Data.{Data, Items}
-use Rattle.serde_json.specs.Find.{get, as_array}
+use Rattle.serde_json.specs.Data.{Data}
+use Rattle.serde_json.specs.Find.{as_array}
 use Rattle.pop_io.specs.Names.{is_state_name, AreNames}
-use Rattle.json_shape.specs.declared.fault.Why.TheVariants.{Kind, Name}
+use Rattle.json_shape.specs.declared.fault.Why.TheVariants.{Name}
 use Rattle.json_shape.specs.Faults.{Fault, ◌>>=◌, broken}
 use Rattle.json_shape.specs.Paths.{member_path, item_path}
-use Rattle.json_shape.specs.Shapes.{of_kind, listed, object_at, member_at, member_by, list_at, number_at, text_at, truth_at, each}
-use Rattle.json_shape.specs.Parts.{IsNumber, IsText, IsTruth, HasMember, AreItems, IsList}
+use Rattle.json_shape.specs.Shapes.{of_kind, listed, object_at, member_at, member_by, number_at, text_at}
+use Rattle.json_shape.specs.Parts.{IsNumber, IsText, IsTruth, AreItems, IsList}
 use Rattle.json_shape.proofs.Steps.{bind_ok, guard_ok, both_true, not_true, same_ok}
 use Rattle.json_shape.proofs.Readers
 use Rattle.json_shape.proofs.Fresh
@@ -38,8 +37,7 @@ module _ (is_name : List ℕ → Bool) where
       let at = item_path path i in
       let a = bind_ok (text_at at d) (λ t. cond (is_name t && not (list_any (bytes_eq t) found)) (Ok t) (broken at Name)) s e in
       let g = guard_ok (is_name a.0 && not (list_any (bytes_eq a.0) found)) at Name a.0 s a.2 in
-      let t = both_true (is_name a.0) (not (list_any (bytes_eq a.0) found)) g.0 in
-      (
+      let t = both_true (is_name a.0) (not (list_any (bytes_eq a.0) found)) g.0 in (
         subst (λ (x : List ℕ). IsText x d) g.1 (Readers.text_at-takes at d a.0 a.1),
         subst (λ (x : List ℕ). IsNewName is_name found x) g.1 (from_true (is_name a.0) t.0, not_true (list_any (bytes_eq a.0) found) t.1),
       )
@@ -176,8 +174,7 @@ module _ (variables : ℕ) (some_variable : 1 ≤ variables) (few_variables : va
       let st = names_at-takes is_state_name 256 (member_path path (codes "states")) s'.0 ss s'.2 in
       let mt = moves_at-takes (length ss) st.2 (member_path path (codes "moves")) m'.0 ts m'.2 in
       let qt = inputs_at-takes (length ss) st.2 variables (member_path path (codes "input")) q'.0 qs q'.2 in
-      let ot = outputs_at-takes (length ss) st.2 (member_path path (codes "output")) o'.0 bs o'.2 in
-      (
+      let ot = outputs_at-takes (length ss) st.2 (member_path path (codes "output")) o'.0 bs o'.2 in (
         record {
           states = (s'.0, Readers.member_at-takes path (codes "states") d s'.0 s'.1, st.0);
           moves = (m'.0, Readers.member_at-takes path (codes "moves") d m'.0 m'.1, mt.0);

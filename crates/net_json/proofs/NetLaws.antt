@@ -1,18 +1,18 @@
 -- What is read of a net is the net of its file, and each file of a net is read.
-use Rattle.std.proofs.Common.{◌≡◌, ℕ, ◌+◌, ◌-◌, ◌≤◌, ◌<◌, Bool, true, false, cond, List, [], ◌∷◌, ◌++◌, length, codes, Option, Some, None, Result, Ok, Err, refl, sym, ap, subst, ◌∙◌, arith}
-use Rattle.std.specs.Prelude.{All, is_some, IsSomeAnd, option_and_then, IfOk, IfErr}
+use Rattle.std.proofs.Common.{◌≡◌, ℕ, ◌-◌, ◌≤◌, Bool, true, false, cond, List, [], ◌∷◌, ◌++◌, length, codes, Option, Some, None, Result, Ok, Err, refl, ap, subst, ◌∙◌, arith}
+use Rattle.std.specs.Prelude.{All, is_some, IsSomeAnd, IfOk, IfErr}
 use Rattle.std.specs.Str.{bytes_eq}
 use Rattle.std.proofs.lemmas.Slice.Eq.{bytes_eq-Decides}
-use Rattle.serde_json.specs.Data.{Data, Num, unsigned, negative, float, null, boolean, number, string, array, object}
-use Rattle.serde_json.specs.Find.{get, as_str, as_number, as_i64}
+use Rattle.serde_json.specs.Data.{Data, null, boolean, number, string, array, object}
+use Rattle.serde_json.specs.Find.{as_str}
 use Rattle.pop_io.specs.Names.{is_variable_name}
 use Rattle.json_shape.specs.declared.fault.Why.TheVariants.{Name, Shape}
 use Rattle.json_shape.specs.declared.fault.FormatFault.{FormatFault}
 use Rattle.json_shape.specs.declared.fault.FormatFault.TheVariants.{Broken, NoMemory}
 use Rattle.json_shape.specs.Faults.{Fault, ◌>>=◌, broken, Gives}
 use Rattle.json_shape.specs.Paths.{member_path, item_path}
-use Rattle.json_shape.specs.Shapes.{object_at, member_at, member_by, list_at, number_at, each}
-use Rattle.json_shape.specs.Parts.{IsNumber, IsText, HasMember, IsList}
+use Rattle.json_shape.specs.Shapes.{object_at, member_at, member_by, number_at}
+use Rattle.json_shape.specs.Parts.{IsNumber, IsList}
 use Rattle.json_shape.proofs.Steps.{bind_ok, guard_ok, same_ok}
 use Rattle.json_shape.proofs.Readers
 use Rattle.json_shape.proofs.Fresh
@@ -23,7 +23,7 @@ use Rattle.pop_net.specs.NetModel.{NetModel, IsNet, NamesBelow, combined, depths
 use Rattle.pop_net.specs.NetFaults.{are_low}
 use Rattle.net_json.specs.NetFile.{IsItem, IsLeafFile, IsNetFile}
 use Rattle.net_json.specs.Kept.{IsBroken}
-use Rattle.net_json.specs.Examined.{names_at, leaf_at, leaf_item, leaves_at, operator_at, operand_at, open_depths, item_at, combine_item, items_at, combine_at, net_at}
+use Rattle.net_json.specs.Examined.{names_at, leaf_item, leaves_at, operand_at, open_depths, item_at, combine_item, items_at, combine_at, net_at}
 use Rattle.net_json.proofs.LeafLaws.{names_at-takes, names_at-again, leaf_at-takes, leaf_at-again}
 use Rattle.net_json.proofs.Postfix.{IsPlaced, placed-takes, placed-again, one_tree, some_item}
 
@@ -113,9 +113,9 @@ leaves_at-takes : (variables : ℕ) → 1 ≤ variables → variables ≤ 16 →
 unfolding leaves_at
 leaves_at-takes variables lo hi path d leaves e =
     let taken = λ (found : List LeafModel) (i : ℕ) (x : Data) (leaf : LeafModel) (is : leaf_item variables path found i x ≡ Ok leaf). (
-      let t = leaf_at-takes variables lo hi (item_path path i) x leaf is in
-      let both : IsLeafFile leaf x × IsLeafOf variables leaf = (t.0, (t.1, t.2)) in
-      both
+    let t = leaf_at-takes variables lo hi (item_path path i) x leaf is in
+    let both : IsLeafFile leaf x × IsLeafOf variables leaf = (t.0, (t.1, t.2)) in
+    both
     ) in
     let r = Readers.list-takes (leaf_item variables path) IsLeafFile (λ _ leaf. IsLeafOf variables leaf) taken path 1 8 d leaves e in
     (r.0, Fresh.EachFrom-All (IsLeafOf variables) [] leaves r.1, r.2, r.3)

@@ -1,5 +1,5 @@
 -- Combinations in postfix: the trees that stand open only grow deeper.
-use Rattle.std.proofs.Common.{◌≡◌, ℕ, suc, ◌+◌, ◌≤◌, max, Bool, true, false, nat_le, List, [], ◌∷◌, ◌++◌, length, Option, Some, None, option_and_then, refl, sym, ap, subst, ◌∙◌, append_assoc, append-nil, arith}
+use Rattle.std.proofs.Common.{◌≡◌, ℕ, ◌+◌, ◌≤◌, max, true, nat_le, List, [], ◌∷◌, ◌++◌, length, Option, Some, None, option_and_then, refl, sym, ap, subst, ◌∙◌, append_assoc, arith}
 use Rattle.std.specs.Prelude.{is_some, IsSomeAnd}
 use Rattle.std.proofs.lemmas.Bool.{leb-true, le-leb}
 use Rattle.pop_net.specs.declared.net.Item.{Item}
@@ -71,7 +71,7 @@ front_shallow found item items after e low =
     let rest = items_grow items g.0 after g.2 in
     let here : after_items depths (item ∷ []) f.0 ≡ Some g.0 = then_goes (after_items depths []) (after_item depths item f.0) g.0 g.0 g.1 refl in
     let now : open_depths (found ++ item ∷ []) ≡ Some g.0 =
-        after_items-append depths found (item ∷ []) [] ∙ then_goes (after_items depths (item ∷ [])) (after_items depths found []) f.0 g.0 f.1 here in
+    after_items-append depths found (item ∷ []) [] ∙ then_goes (after_items depths (item ∷ [])) (after_items depths found []) f.0 g.0 f.1 here in
     ap are_low now ∙ low_by g.0 (omega (arith, rest))
 
 -- the item has its operands, and all trees are at most 65 deep
@@ -80,11 +80,10 @@ IsPlaced found item = are_low (open_depths (found ++ item ∷ [])) ≡ true
 
 all_shallow : (found items : List Item) (after : List ℕ) → after_items depths (found ++ items) [] ≡ Some after → greatest after ≤ 65 → EachFrom IsPlaced found items
 all_shallow found [] after e low = tt
-all_shallow found (item ∷ items) after e low =
-    (
-      front_shallow found item items after e low,
-      all_shallow (found ++ item ∷ []) items after (ap (λ (xs : List Item). after_items depths xs []) (append_assoc found (item ∷ []) items) ∙ e) low,
-    )
+all_shallow found (item ∷ items) after e low = (
+  front_shallow found item items after e low,
+  all_shallow (found ++ item ∷ []) items after (ap (λ (xs : List Item). after_items depths xs []) (append_assoc found (item ∷ []) items) ∙ e) low,
+)
 
 only : {A : Type 0} (xs : List A) (a : A) → only_one xs ≡ Some a → xs ≡ a ∷ []
 only [] a e = absurd cc

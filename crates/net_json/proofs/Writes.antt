@@ -1,12 +1,11 @@
 -- Lists of values that are written one after the other, and that what is written is a net's file.
-use Rattle.std.proofs.Common.{◌≡◌, ℕ, zero, suc, ◌+◌, ◌-◌, ◌≤◌, ◌<◌, ◌^◌, List, [], ◌∷◌, ◌++◌, length, map, take, codes, Bool, true, Option, Some, None, refl, sym, ap, ◌∙◌, arith, add-one}
+use Rattle.std.proofs.Common.{◌≡◌, ℕ, zero, suc, ◌+◌, ◌≤◌, ◌<◌, ◌^◌, List, [], ◌∷◌, ◌++◌, length, map, take, Bool, Some, refl, sym, ap, ◌∙◌, arith, add-one}
 use Rattle.std.specs.Prelude.{slice_get, All, Result, Ok, Err, IfOk}
 use Rattle.std.specs.declared.alloc.AllocError.{AllocError}
 use Rattle.std.proofs.lemmas.Bool.{lt-ltb}
 use Rattle.std.proofs.lemmas.List.Elements.{All-head, All-tail}
 use Rattle.std.proofs.lemmas.List.{map-append}
-use Rattle.std.proofs.lemmas.Option.{slice_get_within}
-use Rattle.serde_json.specs.Data.{Data, Items, string, boolean, array}
+use Rattle.serde_json.specs.Data.{Data, string, boolean, array}
 use Rattle.serde_json.specs.View.{view, items_of}
 use Rattle.serde_json.specs.declared.value.Value.{Value}
 use Rattle.json_shape.specs.Shapes.{listed}
@@ -61,12 +60,11 @@ number_is : (n : ℕ) → n < 1024 → IsNumber n (number_data n)
 number_is n small = let fits : n < 2 ^ 63 = omega arith in rw (lt-ltb n (2 ^ 63) fits) refl
 
 move_is : (states : ℕ) → states ≤ 256 → (t : Move) → IsMoveBelow states t → IsMove t (move_data t)
-move_is states few t below =
-    (
-      items_of (number_data t.p ∷ number_data t.q ∷ number_data t.r ∷ number_data t.s ∷ []),
-      refl,
-      (number_is t.p (omega (arith, below.0)), (number_is t.q (omega (arith, below.1)), (number_is t.r (omega (arith, below.2)), (number_is t.s (omega (arith, below.3)), tt)))),
-    )
+move_is states few t below = (
+  items_of (number_data t.p ∷ number_data t.q ∷ number_data t.r ∷ number_data t.s ∷ []),
+  refl,
+  (number_is t.p (omega (arith, below.0)), (number_is t.q (omega (arith, below.1)), (number_is t.r (omega (arith, below.2)), (number_is t.s (omega (arith, below.3)), tt)))),
+)
 
 texts_are : (ss : List (List ℕ)) → IsList IsText ss (texts_data ss)
 texts_are ss = written_list (λ _. Unit {0}) IsText string (λ s any. refl) ss (λ i d within. tt)

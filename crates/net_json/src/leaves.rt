@@ -46,7 +46,13 @@ fn leaf_of(
     let moves = member_of(alloc, path, "moves", value)?;
     let moves = moves_of(alloc, &Path::Member(path, "moves"), count, moves)?;
     let inputs = member_of(alloc, path, "input", value)?;
-    let inputs = inputs_of(alloc, &Path::Member(path, "input"), variables, count, inputs)?;
+    let inputs = inputs_of(
+        alloc,
+        &Path::Member(path, "input"),
+        variables,
+        count,
+        inputs,
+    )?;
     let outputs = member_of(alloc, path, "output", value)?;
     let outputs = outputs_of(alloc, &Path::Member(path, "output"), count, outputs)?;
     formed(Leaf::new(alloc, states, moves, inputs, outputs))

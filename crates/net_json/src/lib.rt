@@ -13,3 +13,6 @@ mod write;
 pub use json_shape::{FormatFault, PredWhy, Why};
 pub use read::read_net;
 pub use write::write_net;
+
+#[cfg(test)]
+mod tests;

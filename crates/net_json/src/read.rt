@@ -39,7 +39,13 @@ fn net_of(alloc: Global, value: &Value) -> Result<Net, FormatFault>
     let format = member_of(alloc, &root, "format", value)?;
     number_of(alloc, &Path::Member(&root, "format"), 1, 1, format)?;
     let vars = member_of(alloc, &root, "vars", value)?;
-    let vars = names_of(alloc, &Path::Member(&root, "vars"), NameForm::Variable, 16, vars)?;
+    let vars = names_of(
+        alloc,
+        &Path::Member(&root, "vars"),
+        NameForm::Variable,
+        16,
+        vars,
+    )?;
     let variables = vars.as_slice().len();
     let leaves = member_of(alloc, &root, "leaves", value)?;
     let leaves = leaves_of(alloc, &Path::Member(&root, "leaves"), variables, leaves)?;

@@ -15,6 +15,6 @@ returns-in_err-leaf_of-clause-leaves c =
 pub loop-i-preserved : goal.loop-i-preserved
 loop-i-preserved c = (
   rw c.in_ok-push.ensures.items
-  (each-goes (leaf_item c.args.variables (path_text c.args.path.now)) c.loop-i.leaves.items c.deref-item-items.result.now c.loop-i.i c.in_ok-leaf_of.field-0 c.item-item.result _ c.loop-i-test.true c.item-item.is c.in_ok-leaf_of.ensures c.loop-i.invariant.0),
+      (each-goes (leaf_item c.args.variables (path_text c.args.path.now)) c.loop-i.leaves.items c.deref-item-items.result.now c.loop-i.i c.in_ok-leaf_of.field-0 c.item-item.result _ c.loop-i-test.true c.item-item.is c.in_ok-leaf_of.ensures c.loop-i.invariant.0),
   omega (arith, c.in_ok-push.ensures.len),
 )
