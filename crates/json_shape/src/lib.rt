@@ -10,3 +10,6 @@ mod shape;
 pub use fault::{FormatFault, PredWhy, Why, broken};
 pub use path::Path;
 pub use shape::{list_of, member_of, number_of, object_of, text_of, truth_of};
+
+#[cfg(test)]
+mod tests;

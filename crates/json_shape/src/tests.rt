@@ -1,0 +1,35 @@
+use crate::*;
+use serde_json::Value;
+use std::test::Fail;
+
+#[test]
+fn parts_of_a_value(rt: HostRuntime) -> Result<(), Fail> {
+    let alloc = rt.alloc();
+    let value = Value::from_str(alloc, "{\"a\":[3,\"b\",true,1.0]}")?;
+    let root = Path::Root;
+    assert!(rt; object_of(alloc, &root, &value).is_ok());
+    let list = member_of(alloc, &root, "a", &value).ok().ok_or("a member")?;
+    let at = Path::Member(&root, "a");
+    let items = list_of(alloc, &at, 4, 4, list).ok().ok_or("a list")?;
+    assert_eq!(rt; items.len(), 4);
+    let third = Path::Item(&at, 3);
+    assert_eq!(rt; number_of(alloc, &at, 3, 3, &items[0]).ok(), Some(3));
+    assert_eq!(rt; text_of(alloc, &at, &items[1]).ok(), Some("b"));
+    assert_eq!(rt; truth_of(alloc, &at, &items[2]).ok(), Some(true));
+    match number_of(alloc, &third, 0, 9, &items[3]) {
+        Err(FormatFault::Broken { path, why }) => {
+            assert_eq!(rt; path.as_str(), "/a/3");
+            assert_eq!(rt; why, Why::Kind);
+        }
+        _ => return Err(Fail::from("1.0 is no whole number")),
+    }
+    Ok(())
+}
+
+#[test]
+fn reasons_are_told(rt: HostRuntime) -> Result<(), Fail> {
+    let why = Why::Pred(PredWhy::TooLarge(17));
+    let told = format!(in rt.alloc(); "{why} {}", Why::Shape)?;
+    assert_eq!(rt; told.as_str(), "pred large 17 shape");
+    Ok(())
+}
