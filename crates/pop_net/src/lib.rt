@@ -4,6 +4,7 @@
 #![tactic(auto)]
 
 mod combination;
+mod copies;
 mod examples;
 mod fault;
 mod lanes;
@@ -19,3 +20,6 @@ pub use examples::{net_examples, reaction_examples, step_examples};
 pub use fault::{CombinationFault, LeafFault, NetFault};
 pub use leaf::{Leaf, Move};
 pub use net::{Item, Net, Word};
+
+#[cfg(test)]
+mod tests;
