@@ -43,7 +43,7 @@ module _ (leaves : List LeafModel) (i : ℕ) (leaf : LeafModel) (l : i < length 
   pub start_more : (variable state word next : ℕ) → All IsLeaf leaves → slice_get leaf.inputs variable ≡ Some state → state < length leaf.states → next ≡ word + state * 256 ^ i → next < 256 ^ (i + 1) → Packed i (map (λ (leaf : LeafModel). slice_index leaf.inputs variable) leaves) word → Packed (i + 1) (map (λ (leaf : LeafModel). slice_index leaf.inputs variable) leaves) next
   start_more variable state word next formed e m sum free p =
       let at : slice_get (map (λ (leaf : LeafModel). slice_index leaf.inputs variable) leaves) i ≡ Some (slice_index leaf.inputs variable) =
-          slice_get-map (λ (leaf : LeafModel). slice_index leaf.inputs variable) leaves i ∙ ap (option_map (λ (leaf : LeafModel). slice_index leaf.inputs variable)) here in
+      slice_get-map (λ (leaf : LeafModel). slice_index leaf.inputs variable) leaves i ∙ ap (option_map (λ (leaf : LeafModel). slice_index leaf.inputs variable)) here in
       packed_more i (map (λ (leaf : LeafModel). slice_index leaf.inputs variable) leaves) word state next p
       (omega (arith, length-map leaves (λ (leaf : LeafModel). slice_index leaf.inputs variable)))
       (sym (get_or_from_slice_get leaf.inputs variable state 0 e) ∙ sym (get_or_from_slice_get _ i _ 0 at))
@@ -81,9 +81,9 @@ outputs_more leaves i leaf l is word lane output outputs e h m before =
     let tuple = digits 256 (length leaves) word in
     let long : length (leaf_outputs leaves tuple) ≡ length leaves = length-leaf_outputs leaves tuple (length-digits 256 (length leaves) word) in
     let same : get_or (leaf_outputs leaves tuple) i false ≡ output =
-        output_at leaves tuple i leaf (length-digits 256 (length leaves) word) (here leaves i leaf l is)
-        ∙ ap (λ n. slice_index_or leaf.outputs n false) (sym (lane_state leaves i leaf l is word lane e))
-        ∙ get_or_from_slice_get leaf.outputs lane output false h in
+    output_at leaves tuple i leaf (length-digits 256 (length leaves) word) (here leaves i leaf l is)
+    ∙ ap (λ n. slice_index_or leaf.outputs n false) (sym (lane_state leaves i leaf l is word lane e))
+    ∙ get_or_from_slice_get leaf.outputs lane output false h in
     take_more_set outputs i output m
     ∙ ap (λ xs. xs ++ output ∷ []) before
     ∙ ap (λ b. take i (leaf_outputs leaves tuple) ++ b ∷ []) (sym same)

@@ -2,11 +2,12 @@
 use Rattle.std.proofs.Common.{◌≡◌, ℕ, zero, suc, pred, ◌+◌, ◌*◌, ◌/◌, ◌%◌, ◌^◌, ◌<◌, ◌≤◌, Bool, true, false, List, [], ◌∷◌, ◌++◌, length, map, take, get_or, refl, ap, sym, ◌∙◌, arith}
 use Rattle.std.specs.Prelude.{Some, All, slice_get, slice_index, slice_index_or}
 use Rattle.std.proofs.Math.Nat.{pow-zero, pow-suc, mul_comm, mul_assoc, div-one, add-mul-mod_self_left, add-mul-div_left, add-mul-mod_self_right, add-mul-div_right, mod-eq_of_lt, div-eq_of_lt}
-use Rattle.std.proofs.lemmas.Nat.{div_below, pow_pos}
+use Rattle.std.proofs.lemmas.Nat.{div_below, div-add-mod'}
 use Rattle.std.proofs.lemmas.List.{take_more, take_all}
 use Rattle.pop_net.specs.LeafModel.{LeafModel}
-use Rattle.pop_net.specs.NetModel.{Tuple, state_of, leaf_outputs}
-use Rattle.pop_net.specs.Lanes.{digits}
+use Rattle.pop_net.specs.declared.net.Word.{Word}
+use Rattle.pop_net.specs.NetModel.{NetModel, state_of}
+use Rattle.pop_net.specs.Lanes.{digits, tuple_of, IsValid}
 use Rattle.pop_net.proofs.Digits.{get_or-digits, length-digits}
 
 low_part : (base word s p : ℕ) → (word + s * (p * base)) % base ≡ word % base
@@ -54,3 +55,19 @@ packed_all n i states word e l m p =
 -- the state in lane i
 pub lane_at : (n word i : ℕ) → i < n → state_of (digits 256 n word) i ≡ word / 256 ^ i % 256
 lane_at n word i l = get_or-digits 256 n word i l
+
+-- a number below a power has that many digits, which it is made of
+digits-same : (base n x y : ℕ) → 0 < base → x < base ^ n → y < base ^ n → digits base n x ≡ digits base n y → x ≡ y
+digits-same base zero x y l hx hy e = omega (arith, hx, hy, pow-zero base)
+digits-same base (suc n) x y l hx hy e =
+    let low : x % base ≡ y % base = cc in
+    let rest : digits base n (x / base) ≡ digits base n (y / base) = cc in
+    let mx : x < base ^ n * base = omega (arith, hx, pow-suc base n) in
+    let my : y < base ^ n * base = omega (arith, hy, pow-suc base n) in
+    let high : x / base ≡ y / base = digits-same base n (x / base) (y / base) l (div_below x base (base ^ n) l mx) (div_below y base (base ^ n) l my) rest in
+    sym (div-add-mod' x base) ∙ ap (λ q. q * base + x % base) high ∙ ap (λ r. y / base * base + r) low ∙ div-add-mod' y base
+
+-- valid words of the same tuple are the same
+pub same_word : (net : NetModel) (v w : Word) → IsValid net v → IsValid net w → tuple_of net v ≡ tuple_of net w → v ≡ w
+same_word net v w hv hw e =
+    ap (λ (n : ℕ). record { 0 = n }) (digits-same 256 (length net.leaves) v.0 w.0 (omega arith) hv.rest hw.rest e)

@@ -3,10 +3,11 @@
 ghost use Rattle.std.specs.Prelude.{◌≡◌, ◌<◌, length, Some, IfOk, IfErr, IfSome, slice_get};
 ghost use Rattle.pop_net.specs.LeafFaults.{is_move_below};
 
+use crate::copies::copy_texts;
 use crate::fault::LeafFault;
 use crate::moves::{first_taking, taken};
 use crate::rules::leaf_fault;
-use pop_io::{List, Text};
+use pop_io::{List, NoMemory, Text};
 use std::alloc::Global;
 use std::marker::Model;
 
@@ -72,7 +73,7 @@ impl Leaf {
     ghost use Rattle.pop_net.specs.Reaction.{leaf_reaction};
     ghost use Rattle.pop_net.specs.Step.{LeafChange};
     ghost use Rattle.pop_net.specs.LeafFaults.{RefusesLeaf};
-    ghost use Rattle.pop_net.specs.declared.fault.LeafFault.TheVariants.{NoMemory};
+    ghost use Rattle.pop_net.specs.declared.fault.LeafFault.TheVariants.{NoMemory as OutOfMemory};
 
     /// It takes no memory today. The names of the states, the moves, the start state of each variable,
     /// and the output of each state.
@@ -87,7 +88,7 @@ impl Leaf {
         ensures formed { IfOk result IsLeaf }
         ensures refused { IfErr result (RefusesLeaf (record { states = states; moves = moves; inputs = inputs; outputs = outputs })) }
         ensures accepts { IsLeaf (record { states = states; moves = moves; inputs = inputs; outputs = outputs })
-            → IfErr result (λ fault. fault ≡ NoMemory) }
+            → IfErr result (λ fault. fault ≡ OutOfMemory) }
     {
         let _ = alloc;
         match leaf_fault(
@@ -175,5 +176,17 @@ impl Leaf {
         ensures change { LeafChange self.now x y result.0 result.1 }
     {
         taken(first_taking(self.moves.as_slice(), x, y), x, y)
+    }
+
+    /// A leaf that is equal.
+    pub fn copy(&self, alloc: Global) -> Result<Leaf, NoMemory>
+        ensures { IfOk result (λ leaf. leaf ≡ self.now) }
+    {
+        Ok(Leaf {
+            states: copy_texts(alloc, self.states.as_slice())?,
+            moves: self.moves.copy(alloc)?,
+            inputs: self.inputs.copy(alloc)?,
+            outputs: self.outputs.copy(alloc)?,
+        })
     }
 }

@@ -4,6 +4,7 @@
 #![tactic(auto)]
 
 mod combination;
+mod copies;
 mod examples;
 mod fault;
 mod lanes;
@@ -21,3 +22,6 @@ pub use fault::{CombinationFault, LeafFault, NetFault};
 pub use leaf::{Leaf, Move};
 pub use net::{Item, Net, Word};
 pub use open_trees::OpenTrees;
+
+#[cfg(test)]
+mod tests;

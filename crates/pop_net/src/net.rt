@@ -4,12 +4,13 @@ ghost use Rattle.std.specs.Prelude.{◌≡◌, ◌<◌, ◌↔◌, length, Some,
 ghost use Rattle.pop_net.specs.NetFaults.{names_below};
 
 use crate::combination::value_of;
+use crate::copies::{copy_leaves, copy_texts};
 use crate::fault::NetFault;
 use crate::lanes::lane_of;
 use crate::leaf::Leaf;
 use crate::rules::net_fault;
 use crate::words::{is_valid_word, react_words, start_word, word_outputs};
-use pop_io::{List, Text};
+use pop_io::{List, NoMemory, Text};
 use std::alloc::Global;
 use std::marker::Model;
 
@@ -63,7 +64,7 @@ impl Net {
     ghost use Rattle.pop_net.specs.Step.{TupleChange};
     ghost use Rattle.pop_net.specs.Lanes.{tuple_of, IsValid};
     ghost use Rattle.pop_net.specs.NetFaults.{RefusesNet};
-    ghost use Rattle.pop_net.specs.declared.fault.NetFault.TheVariants.{NoMemory};
+    ghost use Rattle.pop_net.specs.declared.fault.NetFault.TheVariants.{NoMemory as OutOfMemory};
 
     /// It takes no memory today. The names of the variables, the leaves, and the combination in postfix.
     pub fn new(
@@ -76,7 +77,7 @@ impl Net {
         ensures formed { IfOk result IsNet }
         ensures refused { IfErr result (RefusesNet (record { variables = vars; leaves = leaves; combine = combine })) }
         ensures accepts { IsNet (record { variables = vars; leaves = leaves; combine = combine })
-            → IfErr result (λ fault. fault ≡ NoMemory) }
+            → IfErr result (λ fault. fault ≡ OutOfMemory) }
     {
         let _ = alloc;
         match net_fault(vars.as_slice(), leaves.as_slice(), combine.as_slice()) {
@@ -182,5 +183,16 @@ impl Net {
         ensures valid { IsValid self.now result }
     {
         Word(start_word(self.leaves.as_slice(), variable))
+    }
+
+    /// A net that is equal.
+    pub fn copy(&self, alloc: Global) -> Result<Net, NoMemory>
+        ensures { IfOk result (λ net. net ≡ self.now) }
+    {
+        Ok(Net {
+            vars: copy_texts(alloc, self.vars.as_slice())?,
+            leaves: copy_leaves(alloc, self.leaves.as_slice())?,
+            combine: self.combine.copy(alloc)?,
+        })
     }
 }
