@@ -1,0 +1,4 @@
+mod Values
+pub mod Limits
+pub mod Steps
+pub mod Ends

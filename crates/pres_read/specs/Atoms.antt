@@ -1,0 +1,76 @@
+-- The trees of atoms, from their sum, relation and constant.
+use Rattle.std.specs.Prelude.{ℕ, ◌-◌, ◌^◌, Bool, true, false, if◌then◌else◌, nat_lt, List, Option, Some, None, Result, Ok, Err, map, position, slice_set, slice_index_or, ℤ, pos, ◌+ℤ◌, ◌-ℤ◌, neg_ℤ, nat_abs, codes}
+use Rattle.std.specs.Int.{int_rem_euclid}
+use Rattle.std.specs.Str.{bytes_eq}
+use Rattle.pres_ast.specs.PredTree.{PredTree, LessThan, Congruent, Negation, Conjunction}
+use Rattle.pres_tokens.specs.declared.token.Relation.{Relation}
+use Rattle.pres_tokens.specs.declared.token.Relation.TheVariants.{Less, AtMost, Greater, AtLeast, Equal, Unequal}
+use Rattle.pres_read.specs.Numbers.{value_of, value_within}
+use Rattle.pres_read.specs.declared.fault.ReadPred.{ReadPred}
+use Rattle.pres_read.specs.declared.fault.ReadPred.TheVariants.{UnknownName, TooLarge}
+
+abbrev pub signed : Bool → ℕ → ℤ
+signed false n = pos n
+signed true n = neg_ℤ (pos n)
+
+abbrev pub turned : List ℤ → List ℤ
+turned coefs = map neg_ℤ coefs
+
+abbrev pub negated_if : Bool → PredTree → PredTree
+negated_if false p = p
+negated_if true p = Negation p
+
+abbrev pub equality : List ℤ → ℤ → PredTree
+equality coefs c = Conjunction (LessThan coefs (c +ℤ pos 1)) (LessThan (turned coefs) (pos 1 -ℤ c))
+
+-- the tree of a sum compared with a constant
+abbrev pub compared : List ℤ → Relation → ℤ → PredTree
+compared coefs Less c = LessThan coefs c
+compared coefs AtMost c = LessThan coefs (c +ℤ pos 1)
+compared coefs Greater c = LessThan (turned coefs) (neg_ℤ c)
+compared coefs AtLeast c = LessThan (turned coefs) (pos 1 -ℤ c)
+compared coefs Equal c = equality coefs c
+compared coefs Unequal c = Negation (equality coefs c)
+
+-- the constant's remainder in 0..m
+abbrev pub remainder : ℤ → ℕ → ℕ
+remainder c m = nat_abs (int_rem_euclid c (pos m))
+
+-- the tree of a sum compared with a constant modulo m
+abbrev pub congruent : List ℤ → Bool → ℤ → ℕ → PredTree
+congruent coefs unequal c m = negated_if unequal (Congruent coefs m (remainder c m))
+
+-- the greatest constant after a relation
+abbrev pub constant_limit : Relation → ℕ
+constant_limit Less = 2 ^ 40
+constant_limit AtMost = 2 ^ 40 - 1
+constant_limit Greater = 2 ^ 40 - 1
+constant_limit AtLeast = 2 ^ 40 - 1
+constant_limit Equal = 2 ^ 40 - 1
+constant_limit Unequal = 2 ^ 40 - 1
+
+-- a term's sign and number, and where the term begins
+pub record Factor : Type 0 where
+  pub negative : Bool
+  pub digits : List ℕ
+  pub place : ℕ
+
+-- a name alone has the number 1
+abbrev pub lone : Bool → ℕ → Factor
+lone negative place = record { negative = negative; digits = codes "1"; place = place }
+
+-- the coefficients in which that of variable i is z, where that is at most 2^31 in size
+abbrev pub with_coef : List ℤ → ℕ → ℤ → ℕ → Result (List ℤ) ReadPred
+with_coef coefs i z place = if nat_lt (2 ^ 31) (nat_abs z) then Err (TooLarge place) else Ok (slice_set coefs i z)
+
+abbrev pub with_number : List ℤ → ℕ → Factor → Option ℕ → Result (List ℤ) ReadPred
+with_number coefs i factor None = Err (TooLarge factor.place)
+with_number coefs i factor (Some n) = with_coef coefs i (slice_index_or coefs i (pos 0) +ℤ signed factor.negative n) factor.place
+
+abbrev pub with_term : List ℤ → Option ℕ → Factor → ℕ → Result (List ℤ) ReadPred
+with_term coefs None factor place = Err (UnknownName place)
+with_term coefs (Some i) factor place = with_number coefs i factor (value_within (2 ^ 31) (value_of factor.digits))
+
+-- the coefficients after a term at this name: those of equal names add up
+abbrev pub added : List (List ℕ) → List ℤ → Factor → ℕ → List ℕ → Result (List ℤ) ReadPred
+added names coefs factor place word = with_term coefs (position (λ name. bytes_eq name word) names) factor place

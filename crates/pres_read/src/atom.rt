@@ -1,0 +1,109 @@
+//! The trees of atoms.
+
+ghost use Rattle.std.specs.Prelude.{◌≡◌, ◌≤◌, ◌^◌, ◌-◌, All, nat_abs, IfOk};
+ghost use Rattle.pres_ast.specs.PredTree.{LessThan};
+ghost use Rattle.pres_ast.specs.TreeOf.{tree_of};
+ghost use Rattle.pres_read.specs.Atoms.{turned as turned_coefs, negated_if as negation_if, equality as equality_tree, compared as compared_tree, congruent as congruent_tree, constant_limit as limit_of};
+
+use pop_io::{List, NoMemory};
+use pres_ast::Tree;
+use pres_tokens::Relation;
+use std::alloc::{AllocError, Global};
+
+/// The greatest constant after a relation.
+pub(crate) fn constant_limit(relation: Relation) -> u64
+    ensures { result ≡ limit_of relation }
+{
+    match relation {
+        Relation::Less => 1_099_511_627_776,
+        _ => 1_099_511_627_775,
+    }
+}
+
+fn turned(alloc: Global, coefs: &[i64]) -> Result<Vec<i64>, AllocError>
+    requires { All (λ a. nat_abs a ≤ 2 ^ 31) coefs.now }
+    ensures { IfOk result (λ sum. sum.items ≡ turned_coefs coefs.now) }
+{
+    let mut turned = Vec::with_capacity(alloc, coefs.len())?;
+    for coef in coefs {
+        turned.push(-*coef)?;
+    }
+    Ok(turned)
+}
+
+fn less(coefs: Vec<i64>, bound: i64) -> Tree
+    ensures { tree_of result ≡ LessThan coefs.items bound }
+{
+    Tree::Less {
+        coefs: List::from_vec(coefs),
+        bound,
+    }
+}
+
+pub(crate) fn negated_if(alloc: Global, negative: bool, tree: Tree) -> Result<Tree, NoMemory>
+    ensures { IfOk result (λ negated. tree_of negated ≡ negation_if negative (tree_of tree)) }
+{
+    if negative {
+        Ok(Tree::Not(Box::new(alloc, tree)?))
+    } else {
+        Ok(tree)
+    }
+}
+
+/// The sum equals the constant.
+pub(crate) fn equality(alloc: Global, coefs: Vec<i64>, constant: i64) -> Result<Tree, NoMemory>
+    requires coefs { All (λ a. nat_abs a ≤ 2 ^ 31) coefs.items }
+    requires constant { nat_abs constant ≤ 2 ^ 40 - 1 }
+    ensures { IfOk result (λ tree. tree_of tree ≡ equality_tree coefs.items constant) }
+{
+    let opposite = turned(alloc, coefs.as_slice())?;
+    let below = Box::new(alloc, less(coefs, constant + 1))?;
+    let above = Box::new(alloc, less(opposite, 1 - constant))?;
+    Ok(Tree::And(below, above))
+}
+
+/// The sum has this relation to the constant.
+pub(crate) fn compared(
+    alloc: Global,
+    coefs: Vec<i64>,
+    relation: Relation,
+    constant: i64,
+) -> Result<Tree, NoMemory>
+    requires coefs { All (λ a. nat_abs a ≤ 2 ^ 31) coefs.items }
+    requires constant { nat_abs constant ≤ limit_of relation }
+    ensures { IfOk result (λ tree. tree_of tree ≡ compared_tree coefs.items relation constant) }
+{
+    match relation {
+        Relation::Less => Ok(less(coefs, constant)),
+        Relation::AtMost => Ok(less(coefs, constant + 1)),
+        Relation::Greater => Ok(less(turned(alloc, coefs.as_slice())?, -constant)),
+        Relation::AtLeast => Ok(less(turned(alloc, coefs.as_slice())?, 1 - constant)),
+        Relation::Equal => equality(alloc, coefs, constant),
+        Relation::Unequal => { negated_if(alloc, true, equality(alloc, coefs, constant)?) }
+    }
+}
+
+/// The sum equals the constant, or doesn't, modulo `modulus`.
+pub(crate) fn congruent(
+    alloc: Global,
+    coefs: Vec<i64>,
+    unequal: bool,
+    constant: i64,
+    modulus: u32,
+) -> Result<Tree, NoMemory>
+    requires positive { 2 ≤ modulus }
+    requires small { modulus ≤ 200 }
+    ensures { IfOk result (λ tree. tree_of tree ≡ congruent_tree coefs.items unequal constant modulus) }
+{
+    let rest = constant.rem_euclid(i64::from(modulus)) as u32;
+    let coefs = List::from_vec(coefs);
+    negated_if(
+        alloc,
+        unequal,
+        Tree::Rest {
+            coefs,
+            modulus,
+            rest,
+        },
+    )
+}

@@ -1,0 +1,47 @@
+//! Why a text is not read as a predicate.
+
+ghost use Rattle.std.specs.Prelude.{◌≡◌};
+ghost use Rattle.pres_read.specs.declared.fault.ReadPred.TheVariants.{NoMemory as OutOfMemory};
+
+use pop_io::NoMemory;
+use std::alloc::{AllocError, AllocFailed};
+
+/// The first token that breaks a rule, by its place, an offset in bytes. At one token the rules come in this order.
+#[derive(Clone, Copy, Debug, PartialEq, Eq)]
+pub enum ReadPred {
+    /// No text of the grammar has this token after the tokens before it, or none ends here.
+    Syntax(u32),
+    /// A name that no variable has.
+    UnknownName(u32),
+    /// A number past its limit, or a term that makes its name's coefficient so.
+    TooLarge(u32),
+    /// More than 64 open parentheses, or signs that are charged more than 64.
+    TooDeep(u32),
+    /// The text has this many bytes, more than 1,048,576.
+    LongText(u64),
+    NoMemory,
+}
+
+impl From<AllocError> for ReadPred {
+    ghost from_gives = { λ _ e. e ≡ OutOfMemory };
+
+    fn from(_e: AllocError) -> ReadPred {
+        ReadPred::NoMemory
+    }
+}
+
+impl<T: Drop> From<AllocFailed<T>> for ReadPred {
+    ghost from_gives = { λ _ e. e ≡ OutOfMemory };
+
+    fn from(_e: AllocFailed<T>) -> ReadPred {
+        ReadPred::NoMemory
+    }
+}
+
+impl From<NoMemory> for ReadPred {
+    ghost from_gives = { λ _ e. e ≡ OutOfMemory };
+
+    fn from(_e: NoMemory) -> ReadPred {
+        ReadPred::NoMemory
+    }
+}

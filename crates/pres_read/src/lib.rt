@@ -1,0 +1,20 @@
+//! Predicate texts, read and printed.
+//! It stands on `pop_io`, `pres_ast` and `pres_tokens`.
+//! The layer above uses: `read_pred` gives the tree that the grammar relates to a text, or the first fault and its place.
+#![tactic(auto)]
+
+mod atom;
+mod depth;
+mod fault;
+mod number;
+mod parser;
+mod place;
+mod read;
+mod sum;
+mod unit;
+
+pub use fault::ReadPred;
+pub use read::{TEXT_LIMIT, read_pred};
+
+#[cfg(test)]
+mod tests;

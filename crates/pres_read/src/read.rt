@@ -1,0 +1,86 @@
+//! Reading a predicate.
+
+ghost use Rattle.std.specs.Prelude.{◌≡◌, ◌≤◌, IfOk, length};
+ghost use Rattle.pop_io.specs.Names.{is_variable_name, AreNames};
+ghost use Rattle.pres_ast.specs.PredModel.{IsPred};
+ghost use Rattle.pres_ast.specs.TreeOf.{tree_of};
+ghost use Rattle.pres_tokens.specs.Tokens.{tokens_of};
+ghost use Rattle.pres_tokens.specs.Symbols.{token_of};
+ghost use Rattle.pres_read.specs.Outcome.{Gives};
+ghost use Rattle.pres_read.specs.Progress.{start};
+ghost use Rattle.pres_read.specs.Depth.{surface};
+ghost use Rattle.pres_read.specs.Reading.{run, read_on, pred_read};
+ghost use Rattle.pres_read.specs.Sound.{IsSound};
+ghost use Rattle.pres_read.specs.Views.{progress_of, depth_of};
+
+use crate::depth::Depth;
+use crate::fault::ReadPred;
+use crate::place::Parser;
+use pop_io::{List, Text};
+use pres_ast::{Pred, Tree};
+use pres_tokens::{Token, next_token};
+use std::alloc::Global;
+
+/// At most as many bytes are read.
+pub const TEXT_LIMIT: usize = 1_048_576;
+
+/// Reads a predicate over the variables with these names.
+pub fn read_pred(alloc: Global, text: &[u8], names: &List<Text>) -> Result<Pred, ReadPred>
+    requires some { 1 ≤ length names.now }
+    requires few { length names.now ≤ 16 }
+    requires names { AreNames is_variable_name names.now }
+    ensures exact { Gives (λ pred. pred) result (pred_read names.now text.now) }
+{
+    if text.len() > TEXT_LIMIT {
+        return Err(ReadPred::LongText(text.len() as u64));
+    }
+    let tree = read_tree(alloc, text, names)?;
+    Ok(Pred::new(names.as_slice().len() as u16, tree))
+}
+
+fn read_tree<'a>(alloc: Global, text: &'a [u8], names: &List<Text>) -> Result<Tree, ReadPred>
+    requires short { length text.now ≤ TEXT_LIMIT }
+    requires some { 1 ≤ length names.now }
+    requires few { length names.now ≤ 16 }
+    ensures exact { Gives tree_of result (run names.now (length text.now) start surface (tokens_of text.now)) }
+    ensures limits { IfOk result (λ tree. IsPred (length names.now) (tree_of tree)) }
+{
+    let mut reader = Reader {
+        parser: Parser::new(alloc),
+        depth: Depth::new(),
+    };
+    let mut at = 0;
+    while let Some((token, end)) = next_token(text, at) {
+        reader = reader.take(alloc, names, token)?;
+        at = end;
+    }
+    reader.parser.finish(alloc, names, text.len() as u32)
+}
+
+#[derive(Drop)]
+struct Reader<'a> {
+    parser: Parser<'a>,
+    depth: Depth,
+}
+
+impl<'a> Reader<'a> {
+    fn take(
+        self,
+        alloc: Global,
+        names: &List<Text>,
+        token: Token<'a>,
+    ) -> Result<Reader<'a>, ReadPred>
+        requires sound { IsSound (length names.now) (progress_of self.parser) self.depth.charge }
+        requires charge { self.depth.charge ≤ 64 }
+        requires parentheses { self.depth.parentheses ≤ 64 }
+        ensures sound { IfOk result (λ r. IsSound (length names.now) (progress_of r.parser) r.depth.charge) }
+        ensures charge { IfOk result (λ r. r.depth.charge ≤ 64) }
+        ensures parentheses { IfOk result (λ r. r.depth.parentheses ≤ 64) }
+        ensures exact { Gives (λ r. (progress_of r.parser, depth_of r.depth)) result (read_on names.now (progress_of self.entry.parser) (depth_of self.entry.depth) (token_of token.entry)) }
+    {
+        let Reader { parser, depth } = self;
+        let parser = parser.take(alloc, names, token)?;
+        let depth = depth.after(token)?;
+        Ok(Reader { parser, depth })
+    }
+}

@@ -1,0 +1,79 @@
+//! The coefficients of a sum, term by term.
+
+ghost use Rattle.std.specs.Prelude.{◌≡◌, ◌≤◌, ◌<◌, ◌^◌, length, position, vec_len, All, nat_abs, pos, ◌+ℤ◌, slice_index_or};
+ghost use Rattle.std.specs.Str.{bytes_eq};
+ghost use Rattle.pres_ast.specs.PredModel.{AreCoefs};
+ghost use Rattle.pres_read.specs.Outcome.{Gives};
+ghost use Rattle.pres_read.specs.Atoms.{added, with_coef as with_coef_at, signed as signed_number};
+ghost use Rattle.pres_read.specs.Views.{factor_of};
+
+use crate::fault::ReadPred;
+use crate::number::number_within;
+use crate::place::Factor;
+use pop_io::{List, Text};
+
+/// The greatest number of a term, and the greatest size of a coefficient.
+const COEF_LIMIT: u64 = 2_147_483_648;
+
+fn place_of(names: &List<Text>, word: &[u8]) -> Option<usize>
+    ensures { result ≡ position (λ name. bytes_eq name word.now) names.now }
+{
+    names
+        .as_slice()
+        .iter()
+        .position(|name| name.as_str().as_bytes() == word)
+}
+
+/// The coefficients after a further term, whose name is the word at `place`.
+pub(crate) fn with_term(
+    coefs: Vec<i64>,
+    names: &List<Text>,
+    factor: Factor<'_>,
+    word: &[u8],
+    place: u32,
+) -> Result<Vec<i64>, ReadPred>
+    requires { AreCoefs (length names.now) coefs.items }
+    ensures { Gives (λ sum. sum.items) result (added names.now coefs.items (factor_of factor.entry) place word.now) }
+{
+    let Some(at) = place_of(names, word) else {
+        return Err(ReadPred::UnknownName(place));
+    };
+    let Some(size) = number_within(factor.digits, COEF_LIMIT) else {
+        return Err(ReadPred::TooLarge(factor.place));
+    };
+    let coef = grown(coefs.as_slice(), at, signed(factor.negative, size));
+    with_coef(coefs, at, coef, factor.place)
+}
+
+fn grown(coefs: &[i64], at: usize, amount: i64) -> i64
+    requires at { at < length coefs.now }
+    requires coefs { All (λ a. nat_abs a ≤ 2 ^ 31) coefs.now }
+    requires amount { nat_abs amount ≤ 2 ^ 41 }
+    ensures { result ≡ slice_index_or coefs.now at (pos 0) +ℤ amount }
+{
+    coefs[at] + amount
+}
+
+fn with_coef(mut coefs: Vec<i64>, at: usize, coef: i64, place: u32) -> Result<Vec<i64>, ReadPred>
+    requires { at < vec_len coefs }
+    ensures { Gives (λ sum. sum.items) result (with_coef_at coefs.items at coef place) }
+{
+    if coef.unsigned_abs() > COEF_LIMIT {
+        return Err(ReadPred::TooLarge(place));
+    }
+    coefs[at] = coef;
+    Ok(coefs)
+}
+
+/// The number with its sign.
+pub(crate) fn signed(negative: bool, size: u64) -> i64
+    requires { size ≤ 2 ^ 41 }
+    ensures value { result ≡ signed_number negative size }
+    ensures small { nat_abs result ≡ size }
+{
+    if negative {
+        -(size as i64)
+    } else {
+        size as i64
+    }
+}
