@@ -76,7 +76,7 @@ length-ended : (lines : List (List ℕ)) → length lines ≤ length (ended line
 length-ended [] = omega arith
 length-ended (l ∷ ls) = omega (arith, length-ended ls, length-append (l ++ 10 ∷ []) (ended ls), length-append l (10 ∷ []))
 
-length-completed : (bytes : List ℕ) → length (completed bytes) ≤ length bytes + 1
+pub length-completed : (bytes : List ℕ) → length (completed bytes) ≤ length bytes + 1
 length-completed [] = omega arith
 length-completed (b ∷ []) = cond_both (eqb b 10) (b ∷ []) (b ∷ 10 ∷ []) (λ (xs : List ℕ). length xs ≤ 2) (λ _. omega arith) (λ _. omega arith)
 length-completed (b ∷ c ∷ bytes) = omega (arith, length-completed (c ∷ bytes))

@@ -2,22 +2,14 @@
 use Rattle.std.specs.Prelude.{ℕ, List, ◌++◌, codes, decimal}
 use Rattle.json_shape.specs.Reasons.{pred_reason, reason}
 use Rattle.pop_words.specs.declared.command.Usage.{Usage}
-use Rattle.pop_words.specs.declared.command.UsageWhy.{UsageWhy}
-use Rattle.pop_words.specs.declared.command.UsageWhy.TheVariants as usage
+use Rattle.pop_words.specs.Reasons.{usage_reason}
 use Rattle.pop_tool.specs.declared.refusal.LineWhy.{LineWhy}
 use Rattle.pop_tool.specs.declared.refusal.LineWhy.TheVariants as line
 use Rattle.pop_tool.specs.declared.refusal.Refusal.{Refusal}
 use Rattle.pop_tool.specs.declared.refusal.Refusal.TheVariants.{TooLong, Line, NotJson, Format, Pred, Count, Size}
 
-abbrev pub usage_reason : UsageWhy → List ℕ
-usage_reason usage.Missing = codes "missing"
-usage_reason usage.Unknown = codes "unknown"
-usage_reason usage.Twice = codes "twice"
-usage_reason usage.Value = codes "value"
-usage_reason usage.Product = codes "product"
-
 abbrev pub usage_text : Usage → List ℕ
-usage_text u = codes "fault: usage " ++ decimal u.word ++ codes " " ++ usage_reason u.why
+usage_text usage = codes "fault: usage " ++ decimal usage.word ++ codes " " ++ usage_reason usage.why
 
 abbrev pub line_reason : LineWhy → List ℕ
 line_reason line.Missing = codes "missing"

@@ -3,7 +3,10 @@
 //! The layer above uses: what the sink gains and the status are what `specs/Answer.antt` gives.
 #![tactic(auto)]
 
+mod eval;
+mod lines;
 mod refusal;
 mod status;
+mod stop;
 
 pub use status::Status;

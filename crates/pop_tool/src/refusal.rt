@@ -1,11 +1,10 @@
 //! Why an input is refused, and the line that says so.
 
 ghost use Rattle.std.specs.Prelude.{Some};
-ghost use Rattle.pop_tool.specs.Refusals.{line_reason, refusal_text, usage_reason, usage_text};
+ghost use Rattle.pop_tool.specs.Refusals.{line_reason, refusal_text};
 
 use json_shape::{PredWhy, Why};
 use pop_io::Text;
-use pop_words::{Usage, UsageWhy};
 use std::fmt;
 
 /// What is wrong with a line of the input.
@@ -61,6 +60,3 @@ impl fmt::Display for Refusal {
         }
     }
 }
-
-/// The line that names the first bad word, without its line feed.
-pub(crate) struct UsageLine(pub Usage);

@@ -3,3 +3,4 @@ pub mod Meetings
 pub mod Vars
 pub mod Counts
 pub mod Walk
+pub mod Reasons

@@ -1,5 +1,7 @@
 //! Commands, and why a list of words is none.
 
+use std::fmt;
+
 /// What the program is asked to do.
 #[derive(Clone, Copy, Debug, PartialEq, Eq)]
 pub enum Command {
@@ -26,4 +28,22 @@ pub enum UsageWhy {
     Value,
     /// All words were read, and two numbers are too great together.
     Product,
+}
+
+/// One word.
+impl fmt::Display for UsageWhy {
+    ghost use Rattle.std.specs.Prelude.{Some};
+    ghost use Rattle.pop_words.specs.Reasons.{usage_reason};
+
+    ghost output = { λ why. Some (usage_reason why) };
+
+    fn fmt<W: fmt::Write>(&self, f: &mut fmt::Formatter<W>) -> fmt::Result {
+        match self {
+            UsageWhy::Missing => write!(f, "missing"),
+            UsageWhy::Unknown => write!(f, "unknown"),
+            UsageWhy::Twice => write!(f, "twice"),
+            UsageWhy::Value => write!(f, "value"),
+            UsageWhy::Product => write!(f, "product"),
+        }
+    }
 }

@@ -1,0 +1,27 @@
+-- How many lines there are, and what is missing or too many.
+use Rattle.std.proofs.Common.{◌≡◌, ℕ, ◌≤◌, ◌<◌, List, [], ◌∷◌, length, refl, arith}
+use Rattle.std.specs.Prelude.{All}
+use Rattle.std.proofs.lemmas.List.Elements.{All-head, All-tail}
+use Rattle.pop_lines.specs.Lines.{IsTooFew, IsLineFault}
+use Rattle.pop_lines.specs.declared.fault.LineFault.{LineFault}
+use Rattle.pop_lines.specs.declared.fault.LineFault.TheVariants.{Missing, Extra}
+use Rattle.pop_tool.specs.Steps.{Stops}
+use Rattle.pop_tool.specs.Lines.{two_and_more, just_three}
+use Rattle.pop_tool.specs.Refused.{line_refusal}
+use Rattle.pop_tool.specs.declared.stop.Stop.TheVariants.{Refused}
+
+pub two_missing : (lines : List (List ℕ)) (fault : LineFault) → IsTooFew 2 lines fault → Stops (Refused (line_refusal fault)) (two_and_more lines)
+two_missing [] fault few = rw few.1 refl
+two_missing (first ∷ []) fault few = rw few.1 refl
+two_missing (first ∷ second ∷ more) fault few = absurd (omega (arith, few.0))
+
+pub not_three : (lines : List (List ℕ)) (fault : LineFault) → IsLineFault 3 lines fault → Stops (Refused (line_refusal fault)) (just_three lines)
+not_three [] (Missing n) bad = let same : n ≡ 1 = cc in rw same refl
+not_three (first ∷ []) (Missing n) bad = let same : n ≡ 2 = cc in rw same refl
+not_three (first ∷ second ∷ []) (Missing n) bad = let same : n ≡ 3 = cc in rw same refl
+not_three (first ∷ second ∷ third ∷ more) (Missing n) bad = absurd (omega (arith, bad.0))
+not_three [] (Extra n) bad = absurd (omega (arith, bad.0))
+not_three (first ∷ []) (Extra n) bad = absurd (omega (arith, bad.0))
+not_three (first ∷ second ∷ []) (Extra n) bad = absurd (omega (arith, bad.0))
+not_three (first ∷ second ∷ third ∷ []) (Extra n) bad = absurd (omega (arith, bad.0))
+not_three (first ∷ second ∷ third ∷ fourth ∷ more) (Extra n) bad = rw bad.1 refl

@@ -1,0 +1,25 @@
+-- The lines of an input, as many as its command takes.
+use Rattle.std.specs.Prelude.{ℕ, ◌+◌, List, [], ◌∷◌, length, Result, Ok, Err}
+use Rattle.pop_tool.specs.declared.refusal.Refusal.{Refusal}
+use Rattle.pop_tool.specs.declared.refusal.Refusal.TheVariants.{Line}
+use Rattle.pop_tool.specs.declared.refusal.LineWhy.TheVariants.{Missing, Extra}
+
+abbrev pub missing : {A : Type 0} → ℕ → Result A Refusal
+missing n = Err (Line n Missing)
+
+abbrev pub extra : {A : Type 0} → ℕ → Result A Refusal
+extra n = Err (Line n Extra)
+
+-- at least two lines
+abbrev pub two_and_more : List (List ℕ) → Result (List ℕ × List ℕ × List (List ℕ)) Refusal
+two_and_more [] = missing 1
+two_and_more (first ∷ []) = missing 2
+two_and_more (first ∷ second ∷ more) = Ok (first, second, more)
+
+-- just three lines
+abbrev pub just_three : List (List ℕ) → Result (List ℕ × List ℕ × List ℕ) Refusal
+just_three [] = missing 1
+just_three (first ∷ []) = missing 2
+just_three (first ∷ second ∷ []) = missing 3
+just_three (first ∷ second ∷ third ∷ []) = Ok (first, second, third)
+just_three (first ∷ second ∷ third ∷ fourth ∷ more) = extra 4

@@ -1,0 +1,38 @@
+//! Why a command stops before it has its text.
+
+ghost use Rattle.std.specs.Prelude.{◌≡◌};
+ghost use Rattle.pop_tool.specs.declared.stop.Stop.TheVariants.{NoMemory as OutOfMemory};
+
+use crate::refusal::Refusal;
+use pop_io::NoMemory;
+use std::alloc::{AllocError, AllocFailed};
+
+#[derive(Debug, Drop)]
+pub(crate) enum Stop {
+    Refused(Refusal),
+    NoMemory,
+}
+
+impl From<AllocError> for Stop {
+    ghost from_gives = { λ _ e. e ≡ OutOfMemory };
+
+    fn from(_e: AllocError) -> Stop {
+        Stop::NoMemory
+    }
+}
+
+impl<T: Drop> From<AllocFailed<T>> for Stop {
+    ghost from_gives = { λ _ e. e ≡ OutOfMemory };
+
+    fn from(_e: AllocFailed<T>) -> Stop {
+        Stop::NoMemory
+    }
+}
+
+impl From<NoMemory> for Stop {
+    ghost from_gives = { λ _ e. e ≡ OutOfMemory };
+
+    fn from(_e: NoMemory) -> Stop {
+        Stop::NoMemory
+    }
+}
