@@ -1,7 +1,7 @@
 -- Lanes by shifts.
 use Rattle.std.proofs.Common.{◌≡◌, ℕ, zero, suc, ◌+◌, ◌*◌, ◌/◌, ◌%◌, ◌^◌, ◌<◌, ◌≤◌, refl, ap, sym, ◌∙◌, arith}
 use Rattle.std.specs.Int.Bits.{bit_and}
-use Rattle.std.proofs.Math.Nat.{pow-suc, pow-le-pow_right, div-eq_of_lt, mul_comm}
+use Rattle.std.proofs.Math.Nat.{pow-suc, pow-le-pow_right, div-eq_of_lt}
 use Rattle.std.proofs.lemmas.Nat.{pow-add, and_mask, mul-add-lt, shl_whole, div-add-mod', mod_below}
 
 pub byte_pow : (i : ℕ) → 2 ^ (8 * i) ≡ 256 ^ i

@@ -1,14 +1,12 @@
 -- Words that are packed lane by lane.
-use Rattle.std.proofs.Common.{◌≡◌, ℕ, zero, suc, pred, ◌+◌, ◌*◌, ◌/◌, ◌%◌, ◌^◌, ◌<◌, ◌≤◌, Bool, true, false, List, [], ◌∷◌, ◌++◌, length, map, take, get_or, refl, ap, sym, ◌∙◌, arith}
-use Rattle.std.specs.Prelude.{Some, All, slice_get, slice_index, slice_index_or}
-use Rattle.std.proofs.Math.Nat.{pow-zero, pow-suc, mul_comm, mul_assoc, div-one, add-mul-mod_self_left, add-mul-div_left, add-mul-mod_self_right, add-mul-div_right, mod-eq_of_lt, div-eq_of_lt}
+use Rattle.std.proofs.Common.{◌≡◌, ℕ, zero, suc, ◌+◌, ◌*◌, ◌/◌, ◌%◌, ◌^◌, ◌<◌, ◌≤◌, List, [], ◌∷◌, ◌++◌, length, take, get_or, refl, ap, sym, ◌∙◌, arith}
+use Rattle.std.proofs.Math.Nat.{pow-zero, pow-suc, mul_assoc, add-mul-mod_self_right, add-mul-div_right, mod-eq_of_lt}
 use Rattle.std.proofs.lemmas.Nat.{div_below, div-add-mod'}
 use Rattle.std.proofs.lemmas.List.{take_more, take_all}
-use Rattle.pop_net.specs.LeafModel.{LeafModel}
 use Rattle.pop_net.specs.declared.net.Word.{Word}
 use Rattle.pop_net.specs.NetModel.{NetModel, state_of}
 use Rattle.pop_net.specs.Lanes.{digits, tuple_of, IsValid}
-use Rattle.pop_net.proofs.Digits.{get_or-digits, length-digits}
+use Rattle.pop_net.proofs.Digits.{get_or-digits}
 
 low_part : (base word s p : ℕ) → (word + s * (p * base)) % base ≡ word % base
 low_part base word s p = ap (λ n. (word + n) % base) (sym (mul_assoc s p base)) ∙ add-mul-mod_self_right word (s * p) base

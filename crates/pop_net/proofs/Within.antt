@@ -1,8 +1,6 @@
 -- A reaction of states of a leaf gives states of the leaf, and of valid tuples valid tuples.
-use Rattle.std.proofs.Common.{◌≡◌, ℕ, zero, suc, ◌<◌, Bool, true, false, List, [], ◌∷◌, length, map, refl, ap, sym, ◌∙◌}
-use Rattle.std.specs.Prelude.{Option, Some, None, All, find, slice_get, ◌==◌, ◌&&◌}
-use Rattle.std.proofs.lemmas.Option.{slice_get_within, get_or_from_slice_get}
-use Rattle.std.proofs.lemmas.List.Elements.{All-get_or}
+use Rattle.std.proofs.Common.{◌≡◌, ℕ, ◌<◌, Bool, true, false, List, length, refl}
+use Rattle.std.specs.Prelude.{Option, Some, None, All, find, ◌==◌, ◌&&◌}
 use Rattle.pop_net.specs.declared.leaf.Move.{Move}
 use Rattle.pop_net.specs.LeafModel.{LeafModel, IsLeaf, IsMoveBelow}
 use Rattle.pop_net.specs.NetModel.{NetModel, Tuple, IsTuple, HasStates, state_of}

@@ -1,4 +1,4 @@
-use Rattle.std.proofs.Common.{map, length}
+use Rattle.std.proofs.Common.{map}
 use Rattle.std.specs.Prelude.{slice_index}
 use Rattle.pop_net.specs.LeafModel.{LeafModel}
 use Rattle.pop_net.proofs.Packing.{Packed}

@@ -1,0 +1,44 @@
+-- The input crowd, one variable after the other.
+use Rattle.std.proofs.Common.{◌≡◌, ℕ, zero, suc, ◌+◌, ◌<◌, ◌≤◌, List, [], ◌∷◌, ◌++◌, length, map, take, replicate, get_or, sum, append_assoc, refl, ap, sym, ◌∙◌, arith}
+use Rattle.std.specs.Prelude.{All}
+use Rattle.std.proofs.lemmas.List.{length-map, map-append, take_more, take_all, length-take-le}
+use Rattle.std.proofs.lemmas.List.Elements.{All-append, All-replicate}
+use Rattle.pop_net.specs.declared.net.Word.{Word}
+use Rattle.pop_net.specs.NetModel.{NetModel, Tuple, CrowdModel}
+use Rattle.pop_net.specs.InputCrowd.{starts_from, start_of, input_crowd}
+use Rattle.pop_net.specs.Lanes.{tuple_of, crowd_of, IsValid, AreValid}
+use Rattle.pop_net.proofs.Tuples.{length-starts_from}
+
+append_nil : {A : Type 0} (xs : List A) → xs ++ [] ≡ xs
+append_nil [] = refl
+append_nil (x ∷ xs) = ap (λ ys. x ∷ ys) (append_nil xs)
+
+starts_from-push : {A : Type 0} (start : ℕ → A) (k n : ℕ) (counts : List ℕ) → starts_from start k (counts ++ n ∷ []) ≡ starts_from start k counts ++ replicate n (start (k + length counts))
+starts_from-push start k n [] = append_nil (replicate n (start k)) ∙ ap (λ j. replicate n (start j)) (let s : k ≡ k + 0 = omega arith in s)
+starts_from-push start k n (c ∷ counts) =
+    ap (λ ys. replicate c (start k) ++ ys) (starts_from-push start (k + 1) n counts)
+    ∙ ap (λ j. replicate c (start k) ++ (starts_from start (k + 1) counts ++ replicate n (start j))) (let s : k + 1 + length counts ≡ k + suc (length counts) = omega arith in s)
+    ∙ sym (append_assoc (replicate c (start k)) (starts_from start (k + 1) counts) (replicate n (start (k + suc (length counts)))))
+
+map-replicate : {A B : Type 0} (f : A → B) (n : ℕ) (x : A) → map f (replicate n x) ≡ replicate n (f x)
+map-replicate f zero x = refl
+map-replicate f (suc n) x = ap (λ xs. f x ∷ xs) (map-replicate f n x)
+
+-- the words of one more variable
+pub start_more : (net : NetModel) (counts : List ℕ) (v : ℕ) (old new : List Word) (word : Word) → v < length counts → new ≡ old ++ replicate (get_or counts v 0) word → tuple_of net word ≡ start_of net v → crowd_of net old ≡ input_crowd net (take v counts) → crowd_of net new ≡ input_crowd net (take (v + 1) counts)
+start_more net counts v old new word l e is before =
+    ap (crowd_of net) e
+    ∙ map-append (tuple_of net) old (replicate (get_or counts v 0) word)
+    ∙ ap (λ xs. xs ++ map (tuple_of net) (replicate (get_or counts v 0) word)) before
+    ∙ ap (λ xs. input_crowd net (take v counts) ++ xs) (map-replicate (tuple_of net) (get_or counts v 0) word ∙ ap (replicate (get_or counts v 0)) (is ∙ ap (start_of net) (let s : v ≡ 0 + length (take v counts) = omega (arith, length-take-le v counts (omega arith)) in s)))
+    ∙ sym (starts_from-push (start_of net) 0 (get_or counts v 0) (take v counts))
+    ∙ ap (input_crowd net) (sym (take_more counts v 0 l))
+
+pub valid_more : (net : NetModel) (n : ℕ) (old new : List Word) (word : Word) → new ≡ old ++ replicate n word → IsValid net word → AreValid net old → AreValid net new
+valid_more net n old new word e h before = rw e (All-append (IsValid net) old (replicate n word) before (All-replicate (IsValid net) n word h))
+
+pub all_started : (net : NetModel) (counts : List ℕ) (v : ℕ) (words : List Word) → length counts ≤ v → crowd_of net words ≡ input_crowd net (take v counts) → crowd_of net words ≡ input_crowd net counts
+all_started net counts v words l e = e ∙ ap (input_crowd net) (take_all v counts l)
+
+pub agents_started : (net : NetModel) (counts : List ℕ) (words : List Word) → crowd_of net words ≡ input_crowd net counts → length words ≡ sum counts
+agents_started net counts words e = sym (length-map words (tuple_of net)) ∙ ap length e ∙ length-starts_from (start_of net) 0 counts

@@ -1,0 +1,152 @@
+//! Crowds of agents, and their meetings one after the other.
+
+ghost use Rattle.std.specs.Prelude.{◌≡◌, ◌≢◌, ◌<◌, ◌≤◌, ◌==◌, ◌||◌, not, length, sum, Some, IfOk, IfErr, slice_get};
+
+use crate::fault::CrowdFault;
+use crate::starts::{AGENT_LIMIT, start_words, total};
+use pop_io::{List, NoMemory};
+use pop_net::{Net, Word};
+use std::alloc::Global;
+use std::marker::Model;
+
+/// A crowd of 2 to 65,536 agents, which contracts see as the list of its words.
+#[derive(Debug, Drop)]
+pub struct Crowd {
+    words: Vec<Word>,
+}
+
+impl Model for Crowd {
+    ghost use Rattle.std.specs.Prelude.{List, ◌≤◌, length};
+    ghost use Rattle.pop_net.specs.declared.net.Word.{Word};
+
+    ghost Value = { List Word };
+
+    ghost view = { λ c. c.words.items };
+
+    ghost invariant = { λ c. (2 ≤ length c.words.items) × (length c.words.items ≤ 65536) };
+}
+
+/// A meeting of two agents by a worker, and whether it changed a word.
+#[derive(Clone, Copy, Debug, PartialEq, Eq)]
+pub struct Meeting {
+    pub worker: u16,
+    pub a: u32,
+    pub b: u32,
+    pub changed: bool,
+}
+
+/// Whether one of two words was written anew.
+fn differ(old: (Word, Word), new: (Word, Word)) -> bool
+    ensures { result ≡ (not (new.0.0 == old.0.0) || not (new.1.0 == old.1.0)) }
+{
+    new.0 != old.0 || new.1 != old.1
+}
+
+impl Crowd {
+    ghost use Rattle.pop_net.specs.InputCrowd.{input_crowd};
+    ghost use Rattle.pop_net.specs.Lanes.{crowd_of, AreValid};
+    ghost use Rattle.pop_net.specs.Step.{Step};
+    ghost use Rattle.pop_net.specs.Reachable.{ReachedWithin};
+    ghost use Rattle.pop_net.specs.Reaction.{after_meeting};
+    ghost use Rattle.pop_crowd.specs.Crowds.{RefusesCounts};
+    ghost use Rattle.pop_crowd.specs.Replay.{changes, replay, change_count, AreMeetings};
+    ghost use Rattle.pop_crowd.specs.declared.fault.CrowdFault.TheVariants.{NoMemory as OutOfMemory};
+
+    /// First the agents of variable 0, then those of variable 1, and so on.
+    pub fn of_counts(alloc: Global, net: &Net, counts: &[u64]) -> Result<Crowd, CrowdFault>
+        requires { length counts.now ≡ length net.now.variables }
+        ensures start { IfOk result (λ crowd. crowd_of net.now crowd ≡ input_crowd net.now counts.now) }
+        ensures valid { IfOk result (AreValid net.now) }
+        ensures size { IfOk result (λ crowd. (2 ≤ length crowd) × (length crowd ≤ 65536)) }
+        ensures refused { IfErr result (RefusesCounts counts.now) }
+        ensures accepts { 2 ≤ sum counts.now → sum counts.now ≤ 65536
+            → IfErr result (λ fault. fault ≡ OutOfMemory) }
+    {
+        let _ = net.var_count();
+        let size = total(counts);
+        if size < 2 || AGENT_LIMIT < size {
+            return Err(CrowdFault::Size(size));
+        }
+        let words = start_words(alloc, net, counts)?;
+        Ok(Crowd { words })
+    }
+
+    /// It takes no memory.
+    pub fn of_words(net: &Net, words: List<Word>) -> Crowd
+        requires valid { AreValid net.now words }
+        requires some { 2 ≤ length words }
+        requires few { length words ≤ 65536 }
+        ensures { result ≡ words }
+    {
+        let _ = net;
+        Crowd {
+            words: words.into_vec(),
+        }
+    }
+
+    /// The number of agents.
+    pub fn len(&self) -> u32
+        ensures count { result ≡ length self.now }
+        ensures some { 2 ≤ result }
+        ensures few { result ≤ 65536 }
+    {
+        self.words.len() as u32
+    }
+
+    pub fn word(&self, agent: u32) -> Word
+        requires { agent < length self.now }
+        ensures { slice_get self.now agent ≡ Some result }
+    {
+        self.words[agent as usize]
+    }
+
+    /// Two agents react, and all others stay. The answer says whether a word changed.
+    pub fn meet(&mut self, net: &Net, a: u32, b: u32) -> bool
+        requires different { a ≢ b }
+        requires a_in { a < length self.old }
+        requires b_in { b < length self.old }
+        requires valid { AreValid net.now self.old }
+        ensures after { crowd_of net.now self.new ≡ after_meeting net.now a b (crowd_of net.now self.old) }
+        ensures changed { result ≡ changes net.now a b (crowd_of net.now self.old) }
+        ensures valid { AreValid net.now self.new }
+        ensures agents { length self.new ≡ length self.old }
+        // A meeting is a step of the model.
+        ensures step { Step net.now (crowd_of net.now self.old) (crowd_of net.now self.new) }
+    {
+        let x = self.words[a as usize];
+        let y = self.words[b as usize];
+        let (first, second) = net.react(x, y);
+        self.words[a as usize] = first;
+        self.words[b as usize] = second;
+        differ((x, y), (first, second))
+    }
+
+    /// Makes meetings one after the other. What they say of changes plays no part.
+    /// The answer is the number of meetings that changed a word.
+    pub fn replay(&mut self, net: &Net, meetings: &[Meeting]) -> u64
+        requires meetings { AreMeetings (length self.old) meetings.now }
+        requires valid { AreValid net.now self.old }
+        ensures after { crowd_of net.now self.new ≡ replay net.now meetings.now (crowd_of net.now self.old) }
+        ensures changed { result ≡ change_count net.now meetings.now (crowd_of net.now self.old) }
+        ensures valid { AreValid net.now self.new }
+        ensures agents { length self.new ≡ length self.old }
+        // The crowd afterwards is reached by at most as many steps as there are meetings.
+        ensures reached { ReachedWithin (Step net.now) (length meetings.now) (crowd_of net.now self.old) (crowd_of net.now self.new) }
+    {
+        let mut changed = 0;
+        for meeting in meetings {
+            if self.meet(net, meeting.a, meeting.b) {
+                changed += 1;
+            }
+        }
+        changed
+    }
+
+    /// A crowd that is equal.
+    pub fn copy(&self, alloc: Global) -> Result<Crowd, NoMemory>
+        ensures { IfOk result (λ crowd. crowd ≡ self.now) }
+    {
+        let words = Vec::from_slice(alloc, self.words.as_slice())?;
+        Ok(Crowd { words })
+    }
+}

@@ -1,0 +1,22 @@
+//! Why counts give no crowd.
+
+ghost use Rattle.std.specs.Prelude.{◌≡◌};
+ghost use Rattle.pop_crowd.specs.declared.fault.CrowdFault.TheVariants.{NoMemory as OutOfMemory};
+
+use pop_io::NoMemory;
+
+/// Counts whose sum is below 2 or over 65,536 give no crowd.
+#[derive(Clone, Copy, Debug, PartialEq, Eq)]
+pub enum CrowdFault {
+    /// The sum of the counts.
+    Size(u128),
+    NoMemory,
+}
+
+impl From<NoMemory> for CrowdFault {
+    ghost from_gives = { λ _ f. f ≡ OutOfMemory };
+
+    fn from(_fault: NoMemory) -> CrowdFault {
+        CrowdFault::NoMemory
+    }
+}

@@ -1,0 +1,13 @@
+//! Crowds of agents: how they start, meet and are printed.
+//! It stands on `pop_net`.
+//! The layer above uses: `meet` and `replay` are Reaction and Replay, and `of_counts` is InputCrowd.
+#![tactic(auto)]
+
+mod crowd;
+mod examples;
+mod fault;
+mod starts;
+
+pub use crowd::{Crowd, Meeting};
+pub use examples::replay_examples;
+pub use fault::CrowdFault;
