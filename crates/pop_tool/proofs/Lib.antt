@@ -1,2 +1,4 @@
 mod Short
 mod Lined
+mod Played
+mod Replies

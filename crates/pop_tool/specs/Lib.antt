@@ -4,3 +4,8 @@ pub mod Steps
 pub mod Lines
 pub mod Eval
 pub mod Refused
+pub mod Json
+pub mod Play
+pub mod Answer
+pub mod Outcome
+pub mod Told

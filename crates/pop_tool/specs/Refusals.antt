@@ -2,14 +2,14 @@
 use Rattle.std.specs.Prelude.{ℕ, List, ◌++◌, codes, decimal}
 use Rattle.json_shape.specs.Reasons.{pred_reason, reason}
 use Rattle.pop_words.specs.declared.command.Usage.{Usage}
-use Rattle.pop_words.specs.Reasons.{usage_reason}
+use Rattle.pop_words.specs.Reasons.{bad_word}
 use Rattle.pop_tool.specs.declared.refusal.LineWhy.{LineWhy}
 use Rattle.pop_tool.specs.declared.refusal.LineWhy.TheVariants as line
 use Rattle.pop_tool.specs.declared.refusal.Refusal.{Refusal}
 use Rattle.pop_tool.specs.declared.refusal.Refusal.TheVariants.{TooLong, Line, NotJson, Format, Pred, Count, Size}
 
 abbrev pub usage_text : Usage → List ℕ
-usage_text usage = codes "fault: usage " ++ decimal usage.word ++ codes " " ++ usage_reason usage.why
+usage_text usage = codes "fault: usage " ++ bad_word usage
 
 abbrev pub line_reason : LineWhy → List ℕ
 line_reason line.Missing = codes "missing"

@@ -4,9 +4,14 @@
 #![tactic(auto)]
 
 mod eval;
+mod json;
 mod lines;
+mod play;
+mod command;
 mod refusal;
+mod reply;
 mod status;
 mod stop;
 
+pub use command::{run_plain, run_tool};
 pub use status::Status;

@@ -47,3 +47,17 @@ impl fmt::Display for UsageWhy {
         }
     }
 }
+
+/// The word's number, and the reason.
+impl fmt::Display for Usage {
+    ghost use Rattle.std.specs.Prelude.{Some};
+    ghost use Rattle.pop_words.specs.Reasons.{bad_word};
+
+    ghost output = { λ usage. Some (bad_word usage) };
+
+    fn fmt<W: fmt::Write>(&self, f: &mut fmt::Formatter<W>) -> fmt::Result {
+        let word = self.word;
+        let why = self.why;
+        write!(f, "{word} {why}")
+    }
+}

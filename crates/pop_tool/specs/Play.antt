@@ -1,0 +1,61 @@
+-- What `play` makes of the lines of its input: a net, a crowd line and meeting lines.
+use Rattle.std.specs.Prelude.{ℕ, ◌+◌, ◌&&◌, nat_le, List, [], ◌∷◌, length, sum, false, Option, Some, None, Result, Ok, Err, if◌then◌else◌}
+use Rattle.serde_json.specs.Data.{Data}
+use Rattle.json_shape.specs.Faults.{Fault}
+use Rattle.net_json.specs.Examined.{net_at}
+use Rattle.pop_net.specs.NetModel.{NetModel, CrowdModel}
+use Rattle.pop_net.specs.InputCrowd.{input_crowd}
+use Rattle.pop_crowd.specs.declared.crowd.Meeting.{Meeting}
+use Rattle.pop_crowd.specs.Replay.{replay}
+use Rattle.pop_words.specs.Counts.{counts_of}
+use Rattle.pop_words.specs.Meetings.{meeting_of}
+use Rattle.pop_words.specs.declared.meeting.MeetingFault.{MeetingFault}
+use Rattle.pop_words.specs.declared.meeting.MeetingFault.TheVariants as meeting
+use Rattle.pop_tool.specs.declared.refusal.Refusal.{Refusal}
+use Rattle.pop_tool.specs.declared.refusal.Refusal.TheVariants.{Line, NotJson, Format, Size}
+use Rattle.pop_tool.specs.declared.refusal.LineWhy.TheVariants.{Form, Agents}
+use Rattle.pop_tool.specs.Steps.{◌>>=◌}
+use Rattle.pop_tool.specs.Eval.{counted}
+
+abbrev pub formatted : {A : Type 0} → Result A Fault → Result A Refusal
+formatted (Ok value) = Ok value
+formatted (Err fault) = Err (Format fault.path fault.why)
+
+-- the net of a line that is this value, or no JSON
+abbrev pub net_in : Option Data → Result NetModel Refusal
+net_in None = Err NotJson
+net_in (Some d) = formatted (net_at [] d)
+
+-- a crowd that is run has 2 to 65,536 agents
+abbrev pub sized : List ℕ → Result (List ℕ) Refusal
+sized counts = if nat_le 2 (sum counts) && nat_le (sum counts) 65536 then Ok counts else Err (Size (sum counts))
+
+-- the input crowd of a crowd line
+unfoldable pub crowd_in : NetModel → List ℕ → Result CrowdModel Refusal
+crowd_in net line = do
+  counts ← counted (counts_of net.variables line)
+  fitting ← sized counts
+  Ok (input_crowd net fitting)
+
+-- the meeting of two agents
+abbrev pub between : ℕ × ℕ → Meeting
+between pair = record { worker = 0; a = pair.0; b = pair.1; changed = false }
+
+-- the agents that the line of this number names
+abbrev pub paired : ℕ → Result (ℕ × ℕ) MeetingFault → Result (ℕ × ℕ) Refusal
+paired number (Ok pair) = Ok pair
+paired number (Err meeting.Form) = Err (Line number Form)
+paired number (Err meeting.Agents) = Err (Line number Agents)
+
+-- the meetings of all lines from this number on
+abbrev pub meetings_in : ℕ → ℕ → List (List ℕ) → Result (List Meeting) Refusal
+meetings_in agents number [] = Ok []
+meetings_in agents number (line ∷ lines) =
+    paired number (meeting_of agents line) >>= λ pair. meetings_in agents (number + 1) lines >>= λ more. Ok (between pair ∷ more)
+
+-- the crowd after the meetings of these lines, which are the input's from line 3 on
+unfoldable pub played : NetModel → CrowdModel → List (List ℕ) → Result CrowdModel Refusal
+played net crowd lines = meetings_in (length crowd) 3 lines >>= λ meetings. Ok (replay net meetings crowd)
+
+abbrev pub PlayGives : List (List ℕ) → Result (List ℕ) Refusal → Type 0
+PlayGives lines given = ⊥

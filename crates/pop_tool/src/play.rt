@@ -1,0 +1,91 @@
+//! The command `play`.
+
+ghost use Rattle.std.specs.Prelude.{◌≡◌, ◌≢◌, ◌<◌, ◌≤◌, ◌-◌, ◌^◌, length, IfOk, option_map};
+ghost use Rattle.serde_json.specs.View.{view};
+ghost use Rattle.pop_lines.specs.Lines.{lines_of};
+ghost use Rattle.pop_words.specs.Meetings.{meeting_of};
+ghost use Rattle.pop_net.specs.Lanes.{crowd_of, AreValid};
+ghost use Rattle.pop_tool.specs.Steps.{Gives};
+ghost use Rattle.pop_tool.specs.Play.{net_in, crowd_in, paired, played, PlayGives};
+ghost use Rattle.pop_tool.specs.Told.{Allows};
+
+use crate::eval::counts_in;
+use crate::refusal::{LineWhy, Refusal};
+use crate::stop::Stop;
+use net_json::{FormatFault, read_net};
+use pop_crowd::{Crowd, CrowdFault};
+use pop_lines::next_line;
+use pop_net::Net;
+use pop_words::{MeetingFault, read_meeting};
+use serde_json::Value;
+use std::alloc::Global;
+
+/// The net of a line that is this value.
+fn net_of(alloc: Global, value: &Option<Value>) -> Result<Net, Stop>
+    ensures { Gives (λ net. net) result (net_in (option_map view value.now)) }
+{
+    let Some(value) = value else {
+        return Err(Stop::Refused(Refusal::NotJson));
+    };
+    match read_net(alloc, value) {
+        Ok(net) => Ok(net),
+        Err(FormatFault::Broken { path, why }) => Err(Stop::Refused(Refusal::Format(path, why))),
+        Err(FormatFault::NoMemory) => Err(Stop::NoMemory),
+    }
+}
+
+/// The crowd in which a net starts at the counts of a crowd line.
+#[tactic(auto, unfolding(crate::specs::Play::crowd_in))]
+fn start_of(alloc: Global, net: &Net, line: &[u8]) -> Result<Crowd, Stop>
+    requires { length line.now < 2 ^ 32 - 2 }
+    ensures crowd { Gives (λ crowd. crowd_of net.now crowd) result (crowd_in net.now line.now) }
+    ensures valid { IfOk result (AreValid net.now) }
+{
+    let counts = counts_in(alloc, line, net.var_names())?;
+    match Crowd::of_counts(alloc, net, counts.as_slice()) {
+        Ok(crowd) => Ok(crowd),
+        Err(CrowdFault::Size(agents)) => Err(Stop::Refused(Refusal::Size(agents))),
+        Err(CrowdFault::NoMemory) => Err(Stop::NoMemory),
+    }
+}
+
+/// The agents that the line of this number names.
+fn pair_of(line: &[u8], agents: u32, number: u64) -> Result<(u32, u32), Stop>
+    ensures pair { Gives (λ pair. (pair.0, pair.1)) result (paired number (meeting_of agents line.now)) }
+    ensures agents { IfOk result (λ pair. (pair.0 ≢ pair.1) × (pair.0 < agents) × (pair.1 < agents)) }
+{
+    match read_meeting(line, agents) {
+        Ok(pair) => Ok(pair),
+        Err(MeetingFault::Form) => Err(Stop::Refused(Refusal::Line(number, LineWhy::Form))),
+        Err(MeetingFault::Agents) => Err(Stop::Refused(Refusal::Line(number, LineWhy::Agents))),
+    }
+}
+
+/// The crowd after the meetings of all lines, which are the input's from line 3 on.
+#[tactic(auto, unfolding(crate::specs::Play::played))]
+fn end_of(net: &Net, crowd: Crowd, lines: &[u8]) -> Result<Crowd, Stop>
+    requires short { length lines.now < 2 ^ 32 }
+    requires valid { AreValid net.now crowd }
+    ensures end { Gives (λ end. crowd_of net.now end) result
+        (played net.now (crowd_of net.now crowd) (lines_of lines.now)) }
+    ensures valid { IfOk result (AreValid net.now) }
+{
+    let mut crowd = crowd;
+    let mut rest = lines;
+    let mut number = 3u64;
+    'lines: while let Some((line, more)) = next_line(rest) {
+        let (a, b) = pair_of(line, crowd.len(), number)?;
+        crowd.meet(net, a, b);
+        number += 1;
+        rest = more;
+    }
+    Ok(crowd)
+}
+
+/// The text for an input that isn't too long.
+pub(crate) fn play(alloc: Global, input: &[u8]) -> Result<Vec<u8>, Stop>
+    requires { length input.now < 2 ^ 32 - 2 }
+    ensures { Allows (PlayGives (lines_of input.now)) (λ text. text.items) result }
+{
+    Err(Stop::NoMemory)
+}
