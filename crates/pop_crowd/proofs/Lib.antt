@@ -1,3 +1,7 @@
 pub mod Reached
 pub mod Words
 mod Inputs
+mod Counted
+mod Names
+
+mod Written

@@ -1,3 +1,5 @@
 pub mod Replay
 pub mod Crowds
+pub mod Tally
+pub mod Shown
 pub mod Examples

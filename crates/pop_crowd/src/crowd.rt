@@ -3,6 +3,7 @@
 ghost use Rattle.std.specs.Prelude.{◌≡◌, ◌≢◌, ◌<◌, ◌≤◌, ◌==◌, ◌||◌, not, length, sum, Some, IfOk, IfErr, slice_get};
 
 use crate::fault::CrowdFault;
+use crate::lines::lines_of;
 use crate::starts::{AGENT_LIMIT, start_words, total};
 use pop_io::{List, NoMemory};
 use pop_net::{Net, Word};
@@ -49,6 +50,7 @@ impl Crowd {
     ghost use Rattle.pop_net.specs.Reachable.{ReachedWithin};
     ghost use Rattle.pop_net.specs.Reaction.{after_meeting};
     ghost use Rattle.pop_crowd.specs.Crowds.{RefusesCounts};
+    ghost use Rattle.pop_crowd.specs.Tally.{crowd_lines, tuples_of, AreTuplesOf};
     ghost use Rattle.pop_crowd.specs.Replay.{changes, replay, change_count, AreMeetings};
     ghost use Rattle.pop_crowd.specs.declared.fault.CrowdFault.TheVariants.{NoMemory as OutOfMemory};
 
@@ -148,5 +150,17 @@ impl Crowd {
     {
         let words = Vec::from_slice(alloc, self.words.as_slice())?;
         Ok(Crowd { words })
+    }
+
+    /// The crowd lines: for each tuple that an agent has, in ascending order, the names of its states
+    /// joined by `/`, a space, the number of agents that have it, and a line feed.
+    pub fn tally(&self, alloc: Global, net: &Net) -> Result<List<u8>, NoMemory>
+        requires { AreValid net.now self.now }
+        ensures lines { IfOk result (λ text. text ≡ crowd_lines net.now (crowd_of net.now self.now)) }
+        // The lines are those of exactly the tuples that agents have, in ascending order.
+        ensures tuples { AreTuplesOf (crowd_of net.now self.now) (tuples_of (crowd_of net.now self.now)) }
+    {
+        let text = lines_of(alloc, net, self.words.as_slice())?;
+        Ok(List::from_vec(text))
     }
 }

@@ -6,6 +6,7 @@
 mod crowd;
 mod examples;
 mod fault;
+mod lines;
 mod starts;
 
 pub use crowd::{Crowd, Meeting};
