@@ -4,5 +4,7 @@ pub mod Atoms
 pub mod Progress
 pub mod Depth
 pub mod Reading
+pub mod Grammar
+pub mod Texts
 pub mod Sound
 pub mod Views
