@@ -6,5 +6,6 @@ pub mod Depth
 pub mod Reading
 pub mod Grammar
 pub mod Texts
+pub mod Canonical
 pub mod Sound
 pub mod Views
