@@ -2,3 +2,9 @@ mod Values
 pub mod Limits
 pub mod Steps
 pub mod Ends
+pub mod Traces
+pub mod Complete
+pub mod Fronts
+pub mod Goes
+pub mod Shows
+pub mod Outcomes

@@ -4,5 +4,8 @@ pub mod Atoms
 pub mod Progress
 pub mod Depth
 pub mod Reading
+pub mod Grammar
+pub mod Texts
+pub mod Canonical
 pub mod Sound
 pub mod Views

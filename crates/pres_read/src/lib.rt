@@ -9,11 +9,13 @@ mod fault;
 mod number;
 mod parser;
 mod place;
+mod print;
 mod read;
 mod sum;
 mod unit;
 
 pub use fault::ReadPred;
+pub use print::print_pred;
 pub use read::{TEXT_LIMIT, read_pred};
 
 #[cfg(test)]

@@ -1,7 +1,8 @@
 //! Reading a predicate.
 
-ghost use Rattle.std.specs.Prelude.{◌≡◌, ◌≤◌, IfOk, length};
+ghost use Rattle.std.specs.Prelude.{◌≡◌, ◌≤◌, ℕ, Err, IfOk, length};
 ghost use Rattle.pop_io.specs.Names.{is_variable_name, AreNames};
+ghost use Rattle.pres_ast.specs.PredTree.{PredTree};
 ghost use Rattle.pres_ast.specs.PredModel.{IsPred};
 ghost use Rattle.pres_ast.specs.TreeOf.{tree_of};
 ghost use Rattle.pres_tokens.specs.Tokens.{tokens_of};
@@ -10,6 +11,8 @@ ghost use Rattle.pres_read.specs.Outcome.{Gives};
 ghost use Rattle.pres_read.specs.Progress.{start};
 ghost use Rattle.pres_read.specs.Depth.{surface};
 ghost use Rattle.pres_read.specs.Reading.{run, read_on, pred_read};
+ghost use Rattle.pres_read.specs.Grammar.{Derives};
+ghost use Rattle.pres_read.specs.Texts.{text_symbols, IsReadAs, IsSyntaxFault};
 ghost use Rattle.pres_read.specs.Sound.{IsSound};
 ghost use Rattle.pres_read.specs.Views.{progress_of, depth_of};
 
@@ -29,7 +32,22 @@ pub fn read_pred(alloc: Global, text: &[u8], names: &List<Text>) -> Result<Pred,
     requires some { 1 ≤ length names.now }
     requires few { length names.now ≤ 16 }
     requires names { AreNames is_variable_name names.now }
+    // Token by token, each fault and its place.
     ensures exact { Gives (λ pred. pred) result (pred_read names.now text.now) }
+    // The grammar relates the text to the tree that is read.
+    ensures derived { IfOk result (λ pred. Derives names.now (text_symbols text.now) pred.tree) }
+    // A text that the grammar relates to a tree is read to no other one, and is no fault of syntax.
+    ensures only { (tree : PredTree) → Derives names.now (text_symbols text.now) tree → IsReadAs tree result }
+    // The tokens before the place begin a text of the grammar, and none goes on so.
+    ensures syntax { (at : ℕ) → result ≡ Err (ReadPred.Syntax at) → IsSyntaxFault text.now at }
+{
+    read_exactly(alloc, text, names)
+}
+
+fn read_exactly(alloc: Global, text: &[u8], names: &List<Text>) -> Result<Pred, ReadPred>
+    requires some { 1 ≤ length names.now }
+    requires few { length names.now ≤ 16 }
+    ensures { Gives (λ pred. pred) result (pred_read names.now text.now) }
 {
     if text.len() > TEXT_LIMIT {
         return Err(ReadPred::LongText(text.len() as u64));

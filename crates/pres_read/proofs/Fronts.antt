@@ -1,0 +1,250 @@
+-- The symbols that a trace was read from, and how they can go on to a text of the grammar.
+use Rattle.std.proofs.Common.{◌≡◌, ℕ, zero, suc, Bool, true, false, List, [], ◌∷◌, ◌++◌, Option, Some, None, refl, sym, ap, subst, ◌∙◌, append_assoc, codes}
+use Rattle.std.proofs.lemmas.List.{append-nil}
+use Rattle.std.specs.Prelude.{IfSome}
+use Rattle.pres_tokens.specs.declared.token.Relation.{Relation}
+use Rattle.pres_tokens.specs.declared.token.Relation.TheVariants.{Less, AtMost, Greater, AtLeast, Equal, Unequal}
+use Rattle.pres_tokens.specs.Symbols.{Symbol, Name, Number, Plus, Minus, Star, Compare, And, Or, Not, Open, Close, Mod, Stray}
+use Rattle.pres_read.specs.Grammar.{Term, bare, times, Sum, first, further, Atom, plain, modular, Part, APred, AConj, AUnit, Phrase, conj, either, unit, both, negate, group, atom, term_symbols, minus_if, plus_or_minus, sum_symbols, equal_or_not, constant_symbols, atom_symbols, symbols}
+use Rattle.pres_read.proofs.Traces.{Lead, begin, after, sum_with, Inner, IUnit, ITerm, IStar, IName, IRelation, IConstant, INumber, IModulo, IModulus, Side, bare_side, Trace, Inside, Done, begun, negates, with_ands, with_ors, conj_of, unit_done, trace_closed, trace_sign, trace_term, trace_unit, trace_star, trace_name, trace_relation, trace_compared, trace_number, trace_constant, equality_conj, trace_modulo, trace_modulus, trace_inner, trace_step, trace_goes_by, trace_run, trace_ended, trace_inner_end, trace_end}
+
+abbrev pub nots_front : ℕ → List Symbol
+nots_front zero = []
+nots_front (suc k) = Not ∷ nots_front k
+
+abbrev pub ors_front : Option (Phrase APred) → List Symbol
+ors_front None = []
+ors_front (Some p) = symbols p ++ Or ∷ []
+
+abbrev pub ands_front : Option (Phrase AConj) → List Symbol
+ands_front None = []
+ands_front (Some c) = symbols c ++ And ∷ []
+
+abbrev pub side_front : Side → List Symbol
+side_front side = ors_front side.ors ++ (ands_front side.ands ++ nots_front side.nots)
+
+abbrev pub above_front : List Side → List Symbol
+above_front [] = []
+above_front (side ∷ above) = above_front above ++ (side_front side ++ Open ∷ [])
+
+abbrev pub lead_front : Lead → List Symbol
+lead_front (begin negative) = minus_if negative
+lead_front (after sum negative) = sum_symbols sum ++ plus_or_minus negative ∷ []
+
+abbrev pub inner_front : Inner → List Symbol
+inner_front IUnit = []
+inner_front (ITerm lead) = lead_front lead
+inner_front (IStar lead digits) = lead_front lead ++ Number digits ∷ []
+inner_front (IName lead digits) = lead_front lead ++ Number digits ∷ Star ∷ []
+inner_front (IRelation sum) = sum_symbols sum
+inner_front (IConstant sum r) = sum_symbols sum ++ Compare r ∷ []
+inner_front (INumber sum r) = sum_symbols sum ++ Compare r ∷ Minus ∷ []
+inner_front (IModulo sum unequal negative digits) = sum_symbols sum ++ Compare (equal_or_not unequal) ∷ constant_symbols negative digits
+inner_front (IModulus sum unequal negative digits) =
+    sum_symbols sum ++ Compare (equal_or_not unequal) ∷ (constant_symbols negative digits ++ Mod ∷ [])
+
+abbrev pub front : Trace → List Symbol
+front (Inside above side inner) = above_front above ++ (side_front side ++ inner_front inner)
+front (Done above ors c) = above_front above ++ (ors_front ors ++ symbols c)
+
+-- ---- one symbol further
+
+pub symbols-sum_with : (lead : Lead) (term : Term) → sum_symbols (sum_with lead term) ≡ lead_front lead ++ term_symbols term
+symbols-sum_with (begin negative) term = refl
+symbols-sum_with (after sum negative) term = sym (append_assoc (sum_symbols sum) (plus_or_minus negative ∷ []) (term_symbols term))
+
+nots-push : (k : ℕ) → nots_front (suc k) ≡ nots_front k ++ Not ∷ []
+nots-push zero = refl
+nots-push (suc k) = ap (λ ss. Not ∷ ss) (nots-push k)
+
+symbols-negates : (k : ℕ) (u : Phrase AUnit) → symbols (negates k u) ≡ nots_front k ++ symbols u
+symbols-negates zero u = refl
+symbols-negates (suc k) u = ap (λ ss. Not ∷ ss) (symbols-negates k u)
+
+symbols-with_ands : (o : Option (Phrase AConj)) (u : Phrase AUnit) → symbols (with_ands o u) ≡ ands_front o ++ symbols u
+symbols-with_ands None u = refl
+symbols-with_ands (Some c) u = sym (append_assoc (symbols c) (And ∷ []) (symbols u))
+
+pub symbols-with_ors : (o : Option (Phrase APred)) (c : Phrase AConj) → symbols (with_ors o c) ≡ ors_front o ++ symbols c
+symbols-with_ors None c = refl
+symbols-with_ors (Some p) c = sym (append_assoc (symbols p) (Or ∷ []) (symbols c))
+
+symbols-conj_of : (side : Side) (u : Phrase AUnit) → symbols (conj_of side u) ≡ ands_front side.ands ++ (nots_front side.nots ++ symbols u)
+symbols-conj_of side u =
+    symbols-with_ands side.ands (negates side.nots u) ∙ ap (λ ss. ands_front side.ands ++ ss) (symbols-negates side.nots u)
+
+-- a unit whose symbols end with those that come next
+pub front-unit_done : (above : List Side) (side : Side) (u : Phrase AUnit) → front (unit_done above side u) ≡ above_front above ++ (side_front side ++ symbols u)
+front-unit_done above side u =
+    ap (λ ss. above_front above ++ (ors_front side.ors ++ ss)) (symbols-conj_of side u)
+    ∙ ap (λ ss. above_front above ++ ss) (simp append_assoc)
+
+-- the place of `inner` grows by `more`
+grown : (above : List Side) (side : Side) (inner next : List Symbol) (s : Symbol) → next ≡ inner ++ s ∷ []
+    → above_front above ++ (side_front side ++ next) ≡ (above_front above ++ (side_front side ++ inner)) ++ s ∷ []
+grown above side inner next s e = rw e (simp append_assoc)
+
+abbrev Follows : Option Trace → List Symbol → Type 0
+Follows o whole = IfSome o (λ b. front b ≡ whole)
+
+closed_follows : (above : List Side) (p : Phrase APred) → Follows (trace_closed above p) ((above_front above ++ symbols p) ++ Close ∷ [])
+closed_follows [] p = tt
+closed_follows (side ∷ above) p = front-unit_done above side (group p) ∙ simp append_assoc
+
+sign_follows : (above : List Side) (ors : Option (Phrase APred)) (c : Phrase AConj) (s : Symbol)
+    → Follows (trace_sign above ors c s) ((above_front above ++ (ors_front ors ++ symbols c)) ++ s ∷ [])
+sign_follows above ors c And = simp (append_assoc, append-nil)
+sign_follows above ors c Or = rw (symbols-with_ors ors c) (simp (append_assoc, append-nil))
+sign_follows above ors c Close =
+    subst (λ (ss : List Symbol). Follows (trace_closed above (with_ors ors c)) ((above_front above ++ ss) ++ Close ∷ [])) (symbols-with_ors ors c) (closed_follows above (with_ors ors c))
+sign_follows above ors c s = tt
+
+term_follows : (above : List Side) (side : Side) (lead : Lead) (s : Symbol)
+    → Follows (trace_term above side lead s) ((above_front above ++ (side_front side ++ lead_front lead)) ++ s ∷ [])
+term_follows above side lead (Name word) = grown above side (lead_front lead) (sum_symbols (sum_with lead (bare word))) (Name word) (symbols-sum_with lead (bare word))
+term_follows above side lead (Number digits) = grown above side (lead_front lead) (lead_front lead ++ Number digits ∷ []) (Number digits) refl
+term_follows above side lead s = tt
+
+unit_follows : (above : List Side) (side : Side) (s : Symbol)
+    → Follows (trace_unit above side s) ((above_front above ++ (side_front side ++ [])) ++ s ∷ [])
+unit_follows above side Not = rw (nots-push side.nots) (simp (append_assoc, append-nil))
+unit_follows above side Open = simp (append_assoc, append-nil)
+unit_follows above side Minus = grown above side [] (Minus ∷ []) Minus refl
+unit_follows above side s = term_follows above side (begin false) s
+
+star_follows : (above : List Side) (side : Side) (lead : Lead) (digits : List ℕ) (s : Symbol)
+    → Follows (trace_star above side lead digits s) ((above_front above ++ (side_front side ++ (lead_front lead ++ Number digits ∷ []))) ++ s ∷ [])
+star_follows above side lead digits Star =
+    grown above side (lead_front lead ++ Number digits ∷ []) (lead_front lead ++ Number digits ∷ Star ∷ []) Star (sym (append_assoc (lead_front lead) (Number digits ∷ []) (Star ∷ [])))
+star_follows above side lead digits s = tt
+
+name_follows : (above : List Side) (side : Side) (lead : Lead) (digits : List ℕ) (s : Symbol)
+    → Follows (trace_name above side lead digits s) ((above_front above ++ (side_front side ++ (lead_front lead ++ Number digits ∷ Star ∷ []))) ++ s ∷ [])
+name_follows above side lead digits (Name word) =
+    grown above side (lead_front lead ++ Number digits ∷ Star ∷ []) (sum_symbols (sum_with lead (times digits word))) (Name word)
+    (symbols-sum_with lead (times digits word) ∙ sym (append_assoc (lead_front lead) (Number digits ∷ Star ∷ []) (Name word ∷ [])))
+name_follows above side lead digits s = tt
+
+relation_follows : (above : List Side) (side : Side) (sum : Sum) (s : Symbol)
+    → Follows (trace_relation above side sum s) ((above_front above ++ (side_front side ++ sum_symbols sum)) ++ s ∷ [])
+relation_follows above side sum Plus = grown above side (sum_symbols sum) (sum_symbols sum ++ Plus ∷ []) Plus refl
+relation_follows above side sum Minus = grown above side (sum_symbols sum) (sum_symbols sum ++ Minus ∷ []) Minus refl
+relation_follows above side sum (Compare r) = grown above side (sum_symbols sum) (sum_symbols sum ++ Compare r ∷ []) (Compare r) refl
+relation_follows above side sum s = tt
+
+atom_done : (above : List Side) (side : Side) (inner : List Symbol) (a : Atom) (s : Symbol) → atom_symbols a ≡ inner ++ s ∷ []
+    → front (unit_done above side (atom a)) ≡ (above_front above ++ (side_front side ++ inner)) ++ s ∷ []
+atom_done above side inner a s e = front-unit_done above side (atom a) ∙ grown above side inner (atom_symbols a) s e
+
+compared_front : (above : List Side) (side : Side) (sum : Sum) (r : Relation) (negative : Bool) (digits : List ℕ) (inner : List Symbol) (s : Symbol)
+    → (sum_symbols sum ++ Compare r ∷ constant_symbols negative digits) ≡ inner ++ s ∷ []
+    → front (trace_compared above side sum r negative digits) ≡ (above_front above ++ (side_front side ++ inner)) ++ s ∷ []
+compared_front above side sum Less negative digits inner s e = atom_done above side inner (plain sum Less negative digits) s e
+compared_front above side sum AtMost negative digits inner s e = atom_done above side inner (plain sum AtMost negative digits) s e
+compared_front above side sum Greater negative digits inner s e = atom_done above side inner (plain sum Greater negative digits) s e
+compared_front above side sum AtLeast negative digits inner s e = atom_done above side inner (plain sum AtLeast negative digits) s e
+compared_front above side sum Equal negative digits inner s e =
+    grown above side inner (sum_symbols sum ++ Compare Equal ∷ constant_symbols negative digits) s e
+compared_front above side sum Unequal negative digits inner s e =
+    grown above side inner (sum_symbols sum ++ Compare Unequal ∷ constant_symbols negative digits) s e
+
+abbrev relation_front : Sum → Relation → Bool → List Symbol
+relation_front sum r negative = sum_symbols sum ++ Compare r ∷ minus_if negative
+
+number_follows : (above : List Side) (side : Side) (sum : Sum) (r : Relation) (negative : Bool) (s : Symbol)
+    → Follows (trace_number above side sum r negative s) ((above_front above ++ (side_front side ++ relation_front sum r negative)) ++ s ∷ [])
+number_follows above side sum r negative (Number digits) =
+    compared_front above side sum r negative digits (relation_front sum r negative) (Number digits)
+    (sym (append_assoc (sum_symbols sum) (Compare r ∷ minus_if negative) (Number digits ∷ [])))
+number_follows above side sum r negative s = tt
+
+constant_follows : (above : List Side) (side : Side) (sum : Sum) (r : Relation) (s : Symbol)
+    → Follows (trace_constant above side sum r s) ((above_front above ++ (side_front side ++ (sum_symbols sum ++ Compare r ∷ []))) ++ s ∷ [])
+constant_follows above side sum r Minus =
+    grown above side (sum_symbols sum ++ Compare r ∷ []) (sum_symbols sum ++ Compare r ∷ Minus ∷ []) Minus (sym (append_assoc (sum_symbols sum) (Compare r ∷ []) (Minus ∷ [])))
+constant_follows above side sum r s = number_follows above side sum r false s
+
+abbrev equality_front : Sum → Bool → Bool → List ℕ → List Symbol
+equality_front sum unequal negative digits = sum_symbols sum ++ Compare (equal_or_not unequal) ∷ constant_symbols negative digits
+
+-- an atom without a modulus, as a conjunction
+equality_conj_front : (above : List Side) (side : Side) (sum : Sum) (unequal negative : Bool) (digits : List ℕ)
+    → above_front above ++ (ors_front side.ors ++ symbols (equality_conj side sum unequal negative digits)) ≡ above_front above ++ (side_front side ++ equality_front sum unequal negative digits)
+equality_conj_front above side sum unequal negative digits = front-unit_done above side (atom (plain sum (equal_or_not unequal) negative digits))
+
+equality_follows : (above : List Side) (side : Side) (sum : Sum) (unequal negative : Bool) (digits : List ℕ) (s : Symbol)
+    → Follows (trace_sign above side.ors (equality_conj side sum unequal negative digits) s) ((above_front above ++ (side_front side ++ equality_front sum unequal negative digits)) ++ s ∷ [])
+equality_follows above side sum unequal negative digits s =
+    subst (λ (ss : List Symbol). Follows (trace_sign above side.ors (equality_conj side sum unequal negative digits) s) (ss ++ s ∷ []))
+    (equality_conj_front above side sum unequal negative digits) (sign_follows above side.ors (equality_conj side sum unequal negative digits) s)
+
+modulo_follows : (above : List Side) (side : Side) (sum : Sum) (unequal negative : Bool) (digits : List ℕ) (s : Symbol)
+    → Follows (trace_modulo above side sum unequal negative digits s) ((above_front above ++ (side_front side ++ equality_front sum unequal negative digits)) ++ s ∷ [])
+modulo_follows above side sum unequal negative digits Mod =
+    grown above side (equality_front sum unequal negative digits) (inner_front (IModulus sum unequal negative digits)) Mod
+    (sym (append_assoc (sum_symbols sum) (Compare (equal_or_not unequal) ∷ constant_symbols negative digits) (Mod ∷ [])))
+modulo_follows above side sum unequal negative digits s = equality_follows above side sum unequal negative digits s
+
+modulus_follows : (above : List Side) (side : Side) (sum : Sum) (unequal negative : Bool) (digits : List ℕ) (s : Symbol)
+    → Follows (trace_modulus above side sum unequal negative digits s) ((above_front above ++ (side_front side ++ inner_front (IModulus sum unequal negative digits))) ++ s ∷ [])
+modulus_follows above side sum unequal negative digits (Number modulus) =
+    atom_done above side (inner_front (IModulus sum unequal negative digits)) (modular sum unequal negative digits modulus) (Number modulus) (simp append_assoc)
+modulus_follows above side sum unequal negative digits s = tt
+
+inner_follows : (above : List Side) (side : Side) (inner : Inner) (s : Symbol)
+    → Follows (trace_inner above side inner s) ((above_front above ++ (side_front side ++ inner_front inner)) ++ s ∷ [])
+inner_follows above side IUnit s = unit_follows above side s
+inner_follows above side (ITerm lead) s = term_follows above side lead s
+inner_follows above side (IStar lead digits) s = star_follows above side lead digits s
+inner_follows above side (IName lead digits) s = name_follows above side lead digits s
+inner_follows above side (IRelation sum) s = relation_follows above side sum s
+inner_follows above side (IConstant sum r) s = constant_follows above side sum r s
+inner_follows above side (INumber sum r) s = number_follows above side sum r true s
+inner_follows above side (IModulo sum unequal negative digits) s = modulo_follows above side sum unequal negative digits s
+inner_follows above side (IModulus sum unequal negative digits) s = modulus_follows above side sum unequal negative digits s
+
+pub step_follows : (a : Trace) (s : Symbol) → Follows (trace_step a s) (front a ++ s ∷ [])
+step_follows (Inside above side inner) s = inner_follows above side inner s
+step_follows (Done above ors c) s = sign_follows above ors c s
+
+-- ---- many symbols further, and the end
+
+run_front : (b : Trace) (whole : List Symbol) (s : Symbol) (ss : List Symbol) (o : Option Trace)
+    → ((c : Trace) → trace_run c ss ≡ Some b → front b ≡ front c ++ ss) → Follows o (whole ++ s ∷ []) → trace_goes_by o (λ c. trace_run c ss) ≡ Some b
+    → front b ≡ whole ++ s ∷ ss
+run_front b whole s ss None go h e = cc
+run_front b whole s ss (Some c) go h e = go c e ∙ ap (λ w. w ++ ss) h ∙ append_assoc whole (s ∷ []) ss
+
+pub front-run : (a b : Trace) (ss : List Symbol) → trace_run a ss ≡ Some b → front b ≡ front a ++ ss
+front-run a b [] e = let same : a ≡ b = cc in ap front (sym same) ∙ sym (append-nil (front a))
+front-run a b (s ∷ ss) e = run_front b (front a) s ss (trace_step a s) (λ c h. front-run c b ss h) (step_follows a s) e
+
+Ends : Option (Phrase APred) → List Symbol → Type 0
+Ends o whole = IfSome o (λ p. symbols p ≡ whole)
+
+ended_front : (above : List Side) (ors : Option (Phrase APred)) (c : Phrase AConj) → Ends (trace_ended above ors c) (above_front above ++ (ors_front ors ++ symbols c))
+unfolding Ends
+ended_front [] ors c = symbols-with_ors ors c
+ended_front (side ∷ above) ors c = tt
+
+inner_end_front : (above : List Side) (side : Side) (inner : Inner) → Ends (trace_inner_end above side inner) (above_front above ++ (side_front side ++ inner_front inner))
+unfolding Ends
+inner_end_front above side IUnit = tt
+inner_end_front above side (ITerm lead) = tt
+inner_end_front above side (IStar lead digits) = tt
+inner_end_front above side (IName lead digits) = tt
+inner_end_front above side (IRelation sum) = tt
+inner_end_front above side (IConstant sum r) = tt
+inner_end_front above side (INumber sum r) = tt
+inner_end_front above side (IModulo sum unequal negative digits) =
+    subst (λ (ss : List Symbol). Ends (trace_ended above side.ors (equality_conj side sum unequal negative digits)) ss)
+    (equality_conj_front above side sum unequal negative digits) (ended_front above side.ors (equality_conj side sum unequal negative digits))
+inner_end_front above side (IModulus sum unequal negative digits) = tt
+
+end_front : (a : Trace) → Ends (trace_end a) (front a)
+end_front (Inside above side inner) = inner_end_front above side inner
+end_front (Done above ors c) = ended_front above ors c
+
+pub symbols-end : (a : Trace) (p : Phrase APred) → trace_end a ≡ Some p → symbols p ≡ front a
+unfolding Ends
+symbols-end a p e = let h = end_front a in (rw e at h)

@@ -1,0 +1,51 @@
+-- Texts of the grammar, and where one can't go on.
+use Rattle.std.specs.Prelude.{◌≡◌, ℕ, List, [], ◌∷◌, ◌++◌, length, map, Result, Ok, Err}
+use Rattle.pres_ast.specs.PredTree.{PredTree}
+use Rattle.pres_ast.specs.PredModel.{PredModel}
+use Rattle.pres_tokens.specs.Symbols.{Symbol, Placed}
+use Rattle.pres_tokens.specs.Tokens.{tokens_of}
+use Rattle.pres_read.specs.declared.fault.ReadPred.{ReadPred}
+use Rattle.pres_read.specs.declared.fault.ReadPred.TheVariants.{Syntax, UnknownName, TooLarge, TooDeep, LongText, NoMemory}
+use Rattle.pres_read.specs.Grammar.{APred, Phrase, symbols}
+
+abbrev pub symbols_of : List Placed → List Symbol
+symbols_of ts = map (λ (t : Placed). t.symbol) ts
+
+-- the symbols of a text
+abbrev pub text_symbols : List ℕ → List Symbol
+text_symbols text = symbols_of (tokens_of text)
+
+-- some text of the grammar begins with these symbols
+pub record Begins (front : List Symbol) : Type 0 where
+  pub more : List Symbol
+  pub phrase : Phrase APred
+  pub spelled : symbols phrase ≡ front ++ more
+
+-- no text of the grammar has the next token after these symbols, or none ends after them
+abbrev pub IsStuck : List Symbol → List Placed → Type 0
+IsStuck front [] = (p : Phrase APred) → symbols p ≡ front → ⊥
+IsStuck front (t ∷ ts) = (p : Phrase APred) (more : List Symbol) → symbols p ≡ front ++ t.symbol ∷ more → ⊥
+
+-- the place of the next token, or the text's length
+abbrev pub place_of : List Placed → ℕ → ℕ
+place_of [] end = end
+place_of (t ∷ ts) end = t.place
+
+-- the first token that no text of the grammar has after the tokens before it: these begin one
+pub record IsSyntaxFault (text : List ℕ) (at : ℕ) : Type 0 where
+  pub before : List Placed
+  pub rest : List Placed
+  pub tokens : tokens_of text ≡ before ++ rest
+  pub begins : Begins (symbols_of before)
+  pub stuck : IsStuck (symbols_of before) rest
+  pub place : place_of rest (length text) ≡ at
+
+-- what may be answered for a text that the grammar relates to this tree: the tree, or a rule on names, numbers or depth
+abbrev pub IsReadAs : PredTree → Result PredModel ReadPred → Type 0
+IsReadAs tree (Ok pred) = pred.tree ≡ tree
+IsReadAs tree (Err (Syntax at)) = ⊥
+IsReadAs tree (Err (UnknownName at)) = Unit {0}
+IsReadAs tree (Err (TooLarge at)) = Unit {0}
+IsReadAs tree (Err (TooDeep at)) = Unit {0}
+IsReadAs tree (Err (LongText n)) = Unit {0}
+IsReadAs tree (Err NoMemory) = Unit {0}
