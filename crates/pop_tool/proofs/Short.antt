@@ -4,7 +4,7 @@ use Rattle.std.specs.List.{flat_map}
 use Rattle.std.specs.Prelude.{All}
 use Rattle.std.proofs.lemmas.List.Folds.{length-flat_map-take}
 use Rattle.pop_lines.specs.Lines.{lines_of, completed}
-use Rattle.pop_lines.proofs.Joined.{ended, lines-joined, length-completed}
+use Rattle.pop_lines.proofs.Joined.{ended, lines-joined, length-completed, length-lines}
 
 pub lines_short : (bytes : List ℕ) → All (λ line. length line ≤ length bytes) (lines_of bytes)
 lines_short bytes = λ i d within.
@@ -21,3 +21,6 @@ pub third_short : (bytes first second third : List ℕ) (more : List (List ℕ))
 third_short bytes first second third more is =
     let short = subst (λ (lines : List (List ℕ)). All (λ line. length line ≤ length bytes) lines) is (lines_short bytes) in
     short 2 [] (omega arith)
+
+pub more_few : (bytes first second : List ℕ) (more : List (List ℕ)) → lines_of bytes ≡ first ∷ second ∷ more → length more ≤ length bytes
+more_few bytes first second more is = omega (arith, length-lines bytes, ap length is)

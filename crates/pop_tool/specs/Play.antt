@@ -1,12 +1,16 @@
 -- What `play` makes of the lines of its input: a net, a crowd line and meeting lines.
-use Rattle.std.specs.Prelude.{ℕ, ◌+◌, ◌&&◌, nat_le, List, [], ◌∷◌, length, sum, false, Option, Some, None, Result, Ok, Err, if◌then◌else◌}
+use Rattle.std.specs.Prelude.{◌≡◌, ℕ, ◌+◌, ◌&&◌, nat_le, List, [], ◌∷◌, ◌++◌, length, sum, codes, decimal, false, Option, Some, None, Result, Ok, Err, if◌then◌else◌}
 use Rattle.serde_json.specs.Data.{Data}
 use Rattle.json_shape.specs.Faults.{Fault}
 use Rattle.net_json.specs.Examined.{net_at}
 use Rattle.pop_net.specs.NetModel.{NetModel, CrowdModel}
 use Rattle.pop_net.specs.InputCrowd.{input_crowd}
 use Rattle.pop_crowd.specs.declared.crowd.Meeting.{Meeting}
+use Rattle.pop_net.specs.Step.{Step}
+use Rattle.pop_net.specs.Terminal.{IsTerminal}
 use Rattle.pop_crowd.specs.Replay.{replay}
+use Rattle.pop_crowd.specs.Tally.{crowd_lines}
+use Rattle.terminal_test.specs.Pairs.{IsLeastPair}
 use Rattle.pop_words.specs.Counts.{counts_of}
 use Rattle.pop_words.specs.Meetings.{meeting_of}
 use Rattle.pop_words.specs.declared.meeting.MeetingFault.{MeetingFault}
@@ -15,6 +19,8 @@ use Rattle.pop_tool.specs.declared.refusal.Refusal.{Refusal}
 use Rattle.pop_tool.specs.declared.refusal.Refusal.TheVariants.{Line, NotJson, Format, Size}
 use Rattle.pop_tool.specs.declared.refusal.LineWhy.TheVariants.{Form, Agents}
 use Rattle.pop_tool.specs.Steps.{◌>>=◌}
+use Rattle.pop_tool.specs.Lines.{two_and_more}
+use Rattle.pop_tool.specs.Json.{Reads}
 use Rattle.pop_tool.specs.Eval.{counted}
 
 abbrev pub formatted : {A : Type 0} → Result A Fault → Result A Refusal
@@ -57,5 +63,32 @@ meetings_in agents number (line ∷ lines) =
 unfoldable pub played : NetModel → CrowdModel → List (List ℕ) → Result CrowdModel Refusal
 played net crowd lines = meetings_in (length crowd) 3 lines >>= λ meetings. Ok (replay net meetings crowd)
 
+-- the net, and the crowd at the end
+unfoldable pub end_crowd : Option Data → List ℕ → List (List ℕ) → Result (NetModel × CrowdModel) Refusal
+end_crowd value line lines = do
+  net ← net_in value
+  start ← crowd_in net line
+  end ← played net start lines
+  Ok (net, end)
+
+-- no pair where the crowd is terminal, and else the least pair that changes a tuple
+abbrev pub IsLast : NetModel → CrowdModel → Option (ℕ × ℕ) → Type 0
+IsLast net crowd None = IsTerminal (Step net) crowd
+IsLast net crowd (Some (a, b)) = IsLeastPair net crowd a b
+
+abbrev pub last_line : Option (ℕ × ℕ) → List ℕ
+last_line None = codes "terminal\n"
+last_line (Some (a, b)) = codes "enabled " ++ decimal a ++ codes " " ++ decimal b ++ codes "\n"
+
+-- the crowd lines, and the last line
+abbrev pub OfEnd : Result (NetModel × CrowdModel) Refusal → Result (List ℕ) Refusal → Type 0
+OfEnd (Err refusal) given = given ≡ Err refusal
+OfEnd (Ok (net, crowd)) given = (last : Option (ℕ × ℕ)) × IsLast net crowd last × (given ≡ Ok (crowd_lines net crowd ++ last_line last))
+
+abbrev pub OfLines : Result (List ℕ × List ℕ × List (List ℕ)) Refusal → Result (List ℕ) Refusal → Type 0
+OfLines (Err refusal) given = given ≡ Err refusal
+OfLines (Ok (net, crowd, meetings)) given = (value : Option Data) × Reads net value × OfEnd (end_crowd value crowd meetings) given
+
+-- what `play` gives for the lines of its input
 abbrev pub PlayGives : List (List ℕ) → Result (List ℕ) Refusal → Type 0
-PlayGives lines given = ⊥
+PlayGives lines given = OfLines (two_and_more lines) given

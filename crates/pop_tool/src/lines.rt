@@ -25,6 +25,7 @@ pub(crate) fn two_and_more_lines(input: &[u8]) -> Result<(&[u8], &[u8], &[u8]), 
     ensures lines { Gives (λ found. (found.0.now, found.1.now, lines_of found.2.now)) result
         (two_and_more (lines_of input.now)) }
     ensures short { IfOk result (λ found. length found.1.now ≤ length input.now) }
+    ensures few { IfOk result (λ found. length (lines_of found.2.now) ≤ length input.now) }
 {
     match two_lines_and_more(input) {
         Ok(found) => Ok(found),

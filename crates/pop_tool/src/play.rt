@@ -1,24 +1,29 @@
 //! The command `play`.
 
-ghost use Rattle.std.specs.Prelude.{◌≡◌, ◌≢◌, ◌<◌, ◌≤◌, ◌-◌, ◌^◌, length, IfOk, option_map};
+ghost use Rattle.std.specs.Prelude.{◌≡◌, ◌≢◌, ◌<◌, ◌≤◌, ◌-◌, ◌^◌, ◌++◌, ℕ, Option, length, IfOk, OnOk, option_map};
 ghost use Rattle.serde_json.specs.View.{view};
 ghost use Rattle.pop_lines.specs.Lines.{lines_of};
 ghost use Rattle.pop_words.specs.Meetings.{meeting_of};
 ghost use Rattle.pop_net.specs.Lanes.{crowd_of, AreValid};
 ghost use Rattle.pop_tool.specs.Steps.{Gives};
-ghost use Rattle.pop_tool.specs.Play.{net_in, crowd_in, paired, played, PlayGives};
+ghost use Rattle.pop_tool.specs.Play.{net_in, crowd_in, paired, played, end_crowd, IsLast, last_line, OfEnd, PlayGives};
+ghost use Rattle.pop_crowd.specs.Tally.{crowd_lines};
 ghost use Rattle.pop_tool.specs.Told.{Allows};
 
 use crate::eval::counts_in;
+use crate::json::value_of;
+use crate::lines::two_and_more_lines;
 use crate::refusal::{LineWhy, Refusal};
 use crate::stop::Stop;
 use net_json::{FormatFault, read_net};
 use pop_crowd::{Crowd, CrowdFault};
-use pop_lines::next_line;
+use pop_io::NoMemory;
+use pop_lines::{next_line, push_number};
 use pop_net::Net;
 use pop_words::{MeetingFault, read_meeting};
 use serde_json::Value;
-use std::alloc::Global;
+use std::alloc::{AllocError, Global};
+use terminal_test::enabled_pair;
 
 /// The net of a line that is this value.
 fn net_of(alloc: Global, value: &Option<Value>) -> Result<Net, Stop>
@@ -64,7 +69,7 @@ fn pair_of(line: &[u8], agents: u32, number: u64) -> Result<(u32, u32), Stop>
 /// The crowd after the meetings of all lines, which are the input's from line 3 on.
 #[tactic(auto, unfolding(crate::specs::Play::played))]
 fn end_of(net: &Net, crowd: Crowd, lines: &[u8]) -> Result<Crowd, Stop>
-    requires short { length lines.now < 2 ^ 32 }
+    requires few { length (lines_of lines.now) < 2 ^ 32 }
     requires valid { AreValid net.now crowd }
     ensures end { Gives (λ end. crowd_of net.now end) result
         (played net.now (crowd_of net.now crowd) (lines_of lines.now)) }
@@ -82,10 +87,56 @@ fn end_of(net: &Net, crowd: Crowd, lines: &[u8]) -> Result<Crowd, Stop>
     Ok(crowd)
 }
 
+/// `terminal`, or `enabled` with the least pair of agents that a meeting changes.
+fn push_last(text: &mut Vec<u8>, pair: Option<(u32, u32)>) -> Result<(), AllocError>
+    ensures { OnOk result (text.new.items ≡ text.old.items ++ last_line (option_map (λ p. (p.0, p.1)) pair)) }
+{
+    let Some((a, b)) = pair else {
+        return text.extend_from_slice(b"terminal\n");
+    };
+    text.extend_from_slice(b"enabled ")?;
+    push_number(text, u64::from(a))?;
+    text.extend_from_slice(b" ")?;
+    push_number(text, u64::from(b))?;
+    text.extend_from_slice(b"\n")
+}
+
+/// The crowd lines, and the last line.
+fn end_text(alloc: Global, net: &Net, crowd: &Crowd) -> Result<Vec<u8>, NoMemory>
+    requires { AreValid net.now crowd.now }
+    ensures { IfOk result (λ text. (last : Option (ℕ × ℕ)) × IsLast net.now (crowd_of net.now crowd.now) last
+        × (text.items ≡ crowd_lines net.now (crowd_of net.now crowd.now) ++ last_line last)) }
+{
+    let mut text = crowd.tally(alloc, net)?.into_vec();
+    let pair = enabled_pair(alloc, net, crowd)?;
+    push_last(&mut text, pair)?;
+    Ok(text)
+}
+
+/// The text for a net line that is this value, a crowd line, and meeting lines.
+fn text_of(
+    alloc: Global,
+    value: &Option<Value>,
+    crowd: &[u8],
+    meetings: &[u8],
+) -> Result<Vec<u8>, Stop>
+    requires short { length crowd.now < 2 ^ 32 - 2 }
+    requires few { length (lines_of meetings.now) < 2 ^ 32 }
+    ensures { Allows (OfEnd (end_crowd (option_map view value.now) crowd.now (lines_of meetings.now)))
+        (λ text. text.items) result }
+{
+    let net = net_of(alloc, value)?;
+    let start = start_of(alloc, &net, crowd)?;
+    let end = end_of(&net, start, meetings)?;
+    Ok(end_text(alloc, &net, &end)?)
+}
+
 /// The text for an input that isn't too long.
 pub(crate) fn play(alloc: Global, input: &[u8]) -> Result<Vec<u8>, Stop>
     requires { length input.now < 2 ^ 32 - 2 }
     ensures { Allows (PlayGives (lines_of input.now)) (λ text. text.items) result }
 {
-    Err(Stop::NoMemory)
+    let (net, crowd, meetings) = two_and_more_lines(input)?;
+    let value = value_of(alloc, net)?;
+    text_of(alloc, &value, crowd, meetings)
 }

@@ -1,5 +1,5 @@
 use Rattle.pop_lines.specs.Lines.{lines_of}
-use Rattle.pop_tool.proofs.Short.{second_short}
+use Rattle.pop_tool.proofs.Short.{second_short, more_few}
 use Rattle.pop_tool.proofs.Lined.{two_missing}
 use Rattle.pop_tool.proofs.lines.two_and_more_lines.Goals as goal
 
@@ -8,3 +8,6 @@ returns-in-Err-clause-lines c = rw c.refused.ensures (two_missing (lines_of c.ar
 
 pub returns-in-Ok-clause-short : goal.returns-in-Ok-clause-short
 returns-in-Ok-clause-short c = second_short c.args.input.now _ _ _ c.in-Ok.ensures
+
+pub returns-in-Ok-clause-few : goal.returns-in-Ok-clause-few
+returns-in-Ok-clause-few c = more_few c.args.input.now _ _ _ c.in-Ok.ensures
