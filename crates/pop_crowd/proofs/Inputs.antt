@@ -1,10 +1,9 @@
 -- The input crowd, one variable after the other.
 use Rattle.std.proofs.Common.{◌≡◌, ℕ, zero, suc, ◌+◌, ◌<◌, ◌≤◌, List, [], ◌∷◌, ◌++◌, length, map, take, replicate, get_or, sum, append_assoc, refl, ap, sym, ◌∙◌, arith}
-use Rattle.std.specs.Prelude.{All}
 use Rattle.std.proofs.lemmas.List.{length-map, map-append, take_more, take_all, length-take-le}
 use Rattle.std.proofs.lemmas.List.Elements.{All-append, All-replicate}
 use Rattle.pop_net.specs.declared.net.Word.{Word}
-use Rattle.pop_net.specs.NetModel.{NetModel, Tuple, CrowdModel}
+use Rattle.pop_net.specs.NetModel.{NetModel}
 use Rattle.pop_net.specs.InputCrowd.{starts_from, start_of, input_crowd}
 use Rattle.pop_net.specs.Lanes.{tuple_of, crowd_of, IsValid, AreValid}
 use Rattle.pop_net.proofs.Tuples.{length-starts_from}

@@ -3,5 +3,4 @@ pub mod Words
 mod Inputs
 mod Counted
 mod Names
-
 mod Written

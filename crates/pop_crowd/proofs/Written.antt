@@ -1,20 +1,19 @@
 -- The steps of counting tuples and of writing their lines.
-use Rattle.std.proofs.Common.{◌≡◌, ℕ, zero, suc, ◌+◌, ◌<◌, ◌≤◌, List, [], ◌∷◌, ◌++◌, length, map, take, get_or, append_assoc, refl, ap, sym, subst, ◌∙◌, arith}
-use Rattle.std.specs.Prelude.{Option, All, Contains, Vec, unwrap_or, nat_eq}
+use Rattle.std.proofs.Common.{◌≡◌, ℕ, ◌+◌, ◌<◌, ◌≤◌, List, [], ◌∷◌, ◌++◌, length, map, take, get_or, append_assoc, ap, sym, ◌∙◌}
+use Rattle.std.specs.Prelude.{All, Vec, unwrap_or, nat_eq}
 use Rattle.std.specs.List.{concat}
-use Rattle.std.specs.declared.cmp.Ordering.{Ordering}
 use Rattle.std.specs.Ordering.{nat_cmp}
 use Rattle.std.specs.Cmp.Lexicographic.{slice_cmp, pointwise}
 use Rattle.std.specs.BTreeMap.{insert_entry, is_at}
 use Rattle.std.specs.Map.{lookup}
-use Rattle.std.proofs.lemmas.List.{take_more, map-append, length-map}
-use Rattle.std.proofs.lemmas.List.Elements.{All-map, All-contains, All-head, All-tail, All-same}
+use Rattle.std.proofs.lemmas.List.{take_more, map-append}
+use Rattle.std.proofs.lemmas.List.Elements.{All-map, All-contains}
 use Rattle.std.proofs.lemmas.List.Sums.{count_by-le-length}
 use Rattle.pop_net.specs.declared.net.Word.{Word}
 use Rattle.pop_net.specs.NetModel.{NetModel, Tuple, CrowdModel, IsTuple, HasStates}
-use Rattle.pop_net.specs.Lanes.{tuple_of, crowd_of, IsValid, AreValid}
+use Rattle.pop_net.specs.Lanes.{tuple_of, crowd_of, AreValid}
 use Rattle.pop_net.proofs.Digits.{length-digits}
-use Rattle.pop_crowd.specs.Tally.{tuple_cmp, tuples_of, agents_with, counts_of, crowd_line, crowd_lines}
+use Rattle.pop_crowd.specs.Tally.{tuple_cmp, tuples_of, agents_with, counts_of, crowd_line}
 use Rattle.pop_crowd.specs.Shown.{shown}
 use Rattle.pop_crowd.proofs.Counted.{shown-insert, shown-lookup, counts_more, count_found, tuples_of-crowd}
 

@@ -1,5 +1,5 @@
 -- Tally: the crowd lines, one for each tuple that an agent has.
-use Rattle.std.specs.Prelude.{◌≡◌, ℕ, List, [], ◌∷◌, ◌++◌, map, fold, count_by, decimal, codes, slice_index_or, nat_eq, All, Contains}
+use Rattle.std.specs.Prelude.{ℕ, List, [], ◌∷◌, ◌++◌, map, fold, count_by, decimal, codes, slice_index_or, nat_eq, All, Contains}
 use Rattle.std.specs.List.{join_with_byte, concat}
 use Rattle.std.specs.List.Sorted.{IsStrictlySortedBy}
 use Rattle.std.specs.declared.cmp.Ordering.{Ordering}

@@ -12,3 +12,6 @@ mod starts;
 pub use crowd::{Crowd, Meeting};
 pub use examples::replay_examples;
 pub use fault::CrowdFault;
+
+#[cfg(test)]
+mod tests;

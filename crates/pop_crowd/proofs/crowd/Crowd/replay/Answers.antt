@@ -1,6 +1,5 @@
-use Rattle.std.proofs.Common.{◌≡◌, length, sym, subst, ◌∙◌, ap, arith, drop}
+use Rattle.std.proofs.Common.{◌≡◌, length, sym, subst, ◌∙◌, ap, arith}
 use Rattle.std.proofs.lemmas.List.{length-map, drop_all}
-use Rattle.pop_net.specs.NetModel.{CrowdModel}
 use Rattle.pop_net.specs.Step.{Step}
 use Rattle.pop_net.specs.Reachable.{ReachedWithin}
 use Rattle.pop_net.specs.Lanes.{tuple_of, crowd_of}
@@ -14,6 +13,6 @@ returns-clause-reached c =
     let net = c.args.net.now in
     let crowd = crowd_of net c.args.self.now in
     let end : crowd_of net c.loop-meeting.self ≡ replay net c.args.meetings.now crowd =
-        ap (λ ms. replay net ms (crowd_of net c.loop-meeting.self)) (sym (drop_all c.loop-meeting.meeting-index c.args.meetings.now (omega arith))) ∙ c.loop-meeting.invariant.rest in
+    ap (λ ms. replay net ms (crowd_of net c.loop-meeting.self)) (sym (drop_all c.loop-meeting.meeting-index c.args.meetings.now (omega arith))) ∙ c.loop-meeting.invariant.rest in
     let meetings : AreMeetings (length crowd) c.args.meetings.now = rw (length-map c.args.self.now (tuple_of net)) c.requires.meetings in
     subst (ReachedWithin (Step net) (length c.args.meetings.now) crowd) (sym end) (replay_reached net c.args.meetings.now crowd (crowd_tuples net c.args.self.now) meetings)

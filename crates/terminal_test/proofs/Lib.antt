@@ -1,0 +1,3 @@
+pub mod Pairwise
+pub mod Ends
+pub mod Memo

@@ -1,0 +1,98 @@
+-- Pairs of words whose reaction changes nothing.
+use Rattle.std.proofs.Common.{◌≡◌, ◌≢◌, ◌⊎◌, inl, inr, ℕ, zero, suc, pred, ◌+◌, ◌<◌, ◌≤◌, Bool, true, false, not, ◌&&◌, ◌||◌, List, [], ◌∷◌, length, map, get_or, refl, ap, sym, subst, ◌∙◌, arith}
+use Rattle.std.specs.Prelude.{Option, Some, None, All, Contains, Decides, find, is_none, slice_get, nat_eq, ◌==◌}
+use Rattle.std.specs.Cmp.Lexicographic.{pointwise}
+use Rattle.std.proofs.lemmas.Bool.{and_parts, and_from, not-true, not-false, not_from_true, not_from_false, false≢true, cases_Bool, cases_order, eqb-true, eq-eqb}
+use Rattle.std.proofs.lemmas.Bool.Decides.{Decides-eqb}
+use Rattle.std.proofs.lemmas.Slice.Eq.{slice_eq-Decides}
+use Rattle.std.proofs.lemmas.Option.{get_or_from_slice_get, slice_get-map, slice_get_within, slice_get-get_or}
+use Rattle.std.proofs.lemmas.List.{length-map}
+use Rattle.pop_net.specs.declared.leaf.Move.{Move}
+use Rattle.pop_net.specs.declared.net.Word.{Word}
+use Rattle.pop_net.specs.LeafModel.{LeafModel, is_silent, same_pair}
+use Rattle.pop_net.specs.NetModel.{NetModel, Tuple, CrowdModel, IsTuple}
+use Rattle.pop_net.specs.Step.{Step}
+use Rattle.pop_net.specs.Terminal.{IsTerminal}
+use Rattle.pop_net.specs.Reaction.{takes, after_move, by_move, leaf_reaction, reactions, reaction, after_meeting}
+use Rattle.pop_net.proofs.Found.{find_some}
+use Rattle.pop_net.proofs.Quiet.{leaf_quiet, leaves_quiet, quiet_change, All-slice_get, set_same}
+use Rattle.pop_net.proofs.Reactions.{reaction_step}
+use Rattle.pop_crowd.specs.Replay.{reacts, changes}
+
+-- the reaction of two tuples leaves both as they are
+pub still : (net : NetModel) (x y : Tuple) → reacts net x y ≡ false → ((reaction net x y).0 ≡ x) × ((reaction net x y).1 ≡ y)
+still net x y e =
+    let both = and_parts (pointwise nat_eq (reaction net x y).0 x) (pointwise nat_eq (reaction net x y).1 y) (not-false _ e) in
+    ((slice_eq-Decides Decides-eqb (reaction net x y).0 x _ refl).0 both.0, (slice_eq-Decides Decides-eqb (reaction net x y).1 y _ refl).0 both.1)
+
+pub moved : (net : NetModel) (x y : Tuple) → (reaction net x y).0 ≡ x → (reaction net x y).1 ≡ y → reacts net x y ≡ false
+moved net x y e f =
+    not_from_true _ (and_from _ _ ((slice_eq-Decides Decides-eqb (reaction net x y).0 x _ refl).1 e) ((slice_eq-Decides Decides-eqb (reaction net x y).1 y _ refl).1 f))
+
+-- a non-silent move changes the states that take it
+after_itself : (t : Move) (x y : ℕ) (b : Bool) → (x == t.p) && (y == t.q) ≡ b → same_pair x y t.p t.q ≡ true → (after_move b t).0 ≡ x → (after_move b t).1 ≡ y → is_silent t ≡ true
+after_itself t x y true e s h k =
+    let parts = and_parts (x == t.p) (y == t.q) e in
+    let first : t.p ≡ t.r = sym (eqb-true x t.p parts.0) ∙ sym h in
+    let second : t.q ≡ t.s = sym (eqb-true y t.q parts.1) ∙ sym k in
+    rw (eq-eqb t.p t.r first, eq-eqb t.q t.s second) refl
+after_itself t x y false e s h k =
+    let other : (x == t.q) && (y == t.p) ≡ true = ap (λ b. b || (x == t.q) && (y == t.p)) (sym e) ∙ s in
+    let parts = and_parts (x == t.q) (y == t.p) other in
+    let first : t.p ≡ t.r = sym (eqb-true y t.p parts.1) ∙ sym k in
+    let second : t.q ≡ t.s = sym (eqb-true x t.q parts.0) ∙ sym h in
+    rw (eq-eqb t.p t.r first, eq-eqb t.q t.s second) refl
+
+quiet_leaf : (leaf : LeafModel) (x y : ℕ) (found : Option Move) → find (takes x y) leaf.moves ≡ found → (by_move x y found).0 ≡ x → (by_move x y found).1 ≡ y → is_none found ≡ true
+quiet_leaf leaf x y None e h k = refl
+quiet_leaf leaf x y (Some t) e h k =
+    let s = find_some (takes x y) leaf.moves t e in
+    let parts = and_parts (not (is_silent t)) (same_pair x y t.p t.q) s.2 in
+    let silent = after_itself t x y ((x == t.p) && (y == t.q)) refl parts.1 h k in
+    absurd (false≢true (sym (not-true _ parts.0) ∙ silent))
+
+heads : (x y : ℕ) (xs ys : List ℕ) → x ∷ xs ≡ y ∷ ys → x ≡ y
+heads x y xs ys e = cc
+
+tails : (x y : ℕ) (xs ys : List ℕ) → x ∷ xs ≡ y ∷ ys → xs ≡ ys
+tails x y xs ys e = cc
+
+-- where a reaction changes nothing, no leaf has a move for the two tuples
+pub quiet_leaves : (leaves : List LeafModel) (x y : Tuple) → length x ≡ length leaves → length y ≡ length leaves → map (λ z. z.0) (reactions leaves x y) ≡ x → map (λ z. z.1) (reactions leaves x y) ≡ y → leaves_quiet leaves x y ≡ true
+quiet_leaves [] x y hx hy e f = refl
+quiet_leaves (leaf ∷ leaves) [] y hx hy e f = refl
+quiet_leaves (leaf ∷ leaves) (p ∷ x) [] hx hy e f = refl
+quiet_leaves (leaf ∷ leaves) (p ∷ x) (q ∷ y) hx hy e f =
+    and_from _ _
+    (quiet_leaf leaf p q (find (takes p q) leaf.moves) refl (heads (leaf_reaction leaf p q).0 p _ x e) (heads (leaf_reaction leaf p q).1 q _ y f))
+    (quiet_leaves leaves x y (ap pred hx) (ap pred hy) (tails (leaf_reaction leaf p q).0 p _ x e) (tails (leaf_reaction leaf p q).1 q _ y f))
+
+or_turned : (a b : Bool) → a || b ≡ b || a
+or_turned true true = refl
+or_turned true false = refl
+or_turned false true = refl
+or_turned false false = refl
+
+and_turned : (a b : Bool) → a && b ≡ b && a
+and_turned true true = refl
+and_turned true false = refl
+and_turned false true = refl
+and_turned false false = refl
+
+takes_turned : (x y : ℕ) (t : Move) → takes x y t ≡ takes y x t
+takes_turned x y t =
+    ap (λ b. not (is_silent t) && b)
+    (or_turned ((x == t.p) && (y == t.q)) ((x == t.q) && (y == t.p)) ∙ ap (λ b. b || (x == t.p) && (y == t.q)) (and_turned (x == t.q) (y == t.p)) ∙ ap (λ b. (y == t.p) && (x == t.q) || b) (and_turned (x == t.p) (y == t.q)))
+
+leaf_turned : (leaf : LeafModel) (x y : ℕ) → leaf_quiet leaf x y ≡ leaf_quiet leaf y x
+leaf_turned leaf x y = ap (λ p. is_none (find p leaf.moves)) (λ i t. takes_turned x y t i)
+
+-- it does not matter which of the two comes first
+pub quiet_turned : (leaves : List LeafModel) (x y : Tuple) → leaves_quiet leaves x y ≡ true → leaves_quiet leaves y x ≡ true
+quiet_turned [] x y h = refl
+quiet_turned (leaf ∷ leaves) [] [] h = refl
+quiet_turned (leaf ∷ leaves) [] (q ∷ y) h = refl
+quiet_turned (leaf ∷ leaves) (p ∷ x) [] h = refl
+quiet_turned (leaf ∷ leaves) (p ∷ x) (q ∷ y) h =
+    let parts = and_parts (leaf_quiet leaf p q) (leaves_quiet leaves x y) h in
+    and_from _ _ (sym (leaf_turned leaf p q) ∙ parts.0) (quiet_turned leaves x y parts.1)

@@ -1,0 +1,10 @@
+//! Whether a crowd is terminal, and the least pair of agents that can change otherwise.
+//! It stands on `pop_crowd`.
+//! The layer above uses: `enabled_pair` is `None` exactly at terminal crowds, and else the least pair; `agreed` is exact.
+#![tactic(auto)]
+
+mod agreement;
+mod enabled;
+
+pub use agreement::agreed;
+pub use enabled::enabled_pair;
