@@ -5,7 +5,7 @@ use Rattle.pres_tokens.specs.declared.token.Relation.{Relation}
 use Rattle.pres_tokens.specs.declared.token.Relation.TheVariants.{Less, AtMost, Greater, AtLeast, Equal, Unequal}
 use Rattle.pres_tokens.specs.Symbols.{Symbol, Name, Number, Plus, Minus, Star, Compare, And, Or, Not, Open, Close, Mod, Stray}
 use Rattle.pres_read.specs.Grammar.{Term, bare, times, Sum, first, further, Atom, plain, modular, Part, APred, AConj, AUnit, Phrase, conj, either, unit, both, negate, group, atom, term_symbols, minus_if, plus_or_minus, sum_symbols, equal_or_not, constant_symbols, atom_symbols, symbols}
-use Rattle.pres_read.proofs.Traces.{Lead, begin, after, sum_with, Inner, IUnit, ITerm, IStar, IName, IRelation, IConstant, INumber, IModulo, IModulus, Side, bare_side, Trace, Inside, Done, begun, negates, with_ands, with_ors, conj_of, unit_done, trace_step, trace_read, trace_end, trace_compared, equality_conj}
+use Rattle.pres_read.proofs.Traces.{Lead, after, sum_with, IUnit, ITerm, IRelation, IModulo, Side, bare_side, Inside, Done, begun, negates, with_ands, with_ors, unit_done, trace_read, trace_compared}
 
 -- the symbols don't begin with `mod`
 abbrev pub NoMod : List Symbol → Type 0

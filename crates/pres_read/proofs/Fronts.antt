@@ -1,12 +1,12 @@
 -- The symbols that a trace was read from, and how they can go on to a text of the grammar.
-use Rattle.std.proofs.Common.{◌≡◌, ℕ, zero, suc, Bool, true, false, List, [], ◌∷◌, ◌++◌, Option, Some, None, refl, sym, ap, subst, ◌∙◌, append_assoc, codes}
+use Rattle.std.proofs.Common.{◌≡◌, ℕ, zero, suc, Bool, true, false, List, [], ◌∷◌, ◌++◌, Option, Some, None, refl, sym, ap, subst, ◌∙◌, append_assoc}
 use Rattle.std.proofs.lemmas.List.{append-nil}
 use Rattle.std.specs.Prelude.{IfSome}
 use Rattle.pres_tokens.specs.declared.token.Relation.{Relation}
 use Rattle.pres_tokens.specs.declared.token.Relation.TheVariants.{Less, AtMost, Greater, AtLeast, Equal, Unequal}
-use Rattle.pres_tokens.specs.Symbols.{Symbol, Name, Number, Plus, Minus, Star, Compare, And, Or, Not, Open, Close, Mod, Stray}
-use Rattle.pres_read.specs.Grammar.{Term, bare, times, Sum, first, further, Atom, plain, modular, Part, APred, AConj, AUnit, Phrase, conj, either, unit, both, negate, group, atom, term_symbols, minus_if, plus_or_minus, sum_symbols, equal_or_not, constant_symbols, atom_symbols, symbols}
-use Rattle.pres_read.proofs.Traces.{Lead, begin, after, sum_with, Inner, IUnit, ITerm, IStar, IName, IRelation, IConstant, INumber, IModulo, IModulus, Side, bare_side, Trace, Inside, Done, begun, negates, with_ands, with_ors, conj_of, unit_done, trace_closed, trace_sign, trace_term, trace_unit, trace_star, trace_name, trace_relation, trace_compared, trace_number, trace_constant, equality_conj, trace_modulo, trace_modulus, trace_inner, trace_step, trace_goes_by, trace_run, trace_ended, trace_inner_end, trace_end}
+use Rattle.pres_tokens.specs.Symbols.{Symbol, Name, Number, Plus, Minus, Star, Compare, And, Or, Not, Open, Close, Mod}
+use Rattle.pres_read.specs.Grammar.{Term, bare, times, Sum, Atom, plain, modular, APred, AConj, AUnit, Phrase, group, atom, term_symbols, minus_if, plus_or_minus, sum_symbols, equal_or_not, constant_symbols, atom_symbols, symbols}
+use Rattle.pres_read.proofs.Traces.{Lead, begin, after, sum_with, Inner, IUnit, ITerm, IStar, IName, IRelation, IConstant, INumber, IModulo, IModulus, Side, Trace, Inside, Done, negates, with_ands, with_ors, conj_of, unit_done, trace_closed, trace_sign, trace_term, trace_unit, trace_star, trace_name, trace_relation, trace_compared, trace_number, trace_constant, equality_conj, trace_modulo, trace_modulus, trace_inner, trace_step, trace_goes_by, trace_run, trace_ended, trace_inner_end, trace_end}
 
 abbrev pub nots_front : ℕ → List Symbol
 nots_front zero = []

@@ -1,11 +1,11 @@
 -- Every trace can go on to a whole text of the grammar.
-use Rattle.std.proofs.Common.{◌≡◌, ℕ, Bool, true, false, List, [], ◌∷◌, ◌++◌, Option, Some, None, refl, sym, ap, subst, ◌∙◌, append_assoc, codes}
+use Rattle.std.proofs.Common.{◌≡◌, true, false, List, [], ◌∷◌, ◌++◌, Option, refl, sym, ap, subst, ◌∙◌, append_assoc, codes}
 use Rattle.std.proofs.lemmas.List.{append-nil}
 use Rattle.pres_tokens.specs.declared.token.Relation.TheVariants.{Less}
 use Rattle.pres_tokens.specs.Symbols.{Symbol, Name, Number, Star, Compare, Close}
-use Rattle.pres_read.specs.Grammar.{Term, bare, times, Sum, first, further, Atom, plain, modular, Part, APred, AConj, AUnit, Phrase, conj, either, unit, both, negate, group, atom, term_symbols, sum_symbols, equal_or_not, atom_symbols, symbols}
+use Rattle.pres_read.specs.Grammar.{bare, times, Sum, first, Atom, plain, modular, APred, AConj, Phrase, group, atom, equal_or_not, atom_symbols, symbols}
 use Rattle.pres_read.specs.Texts.{Begins}
-use Rattle.pres_read.proofs.Traces.{Lead, begin, after, sum_with, Inner, IUnit, ITerm, IStar, IName, IRelation, IConstant, INumber, IModulo, IModulus, Side, Trace, Inside, Done, with_ors, conj_of, unit_done}
+use Rattle.pres_read.proofs.Traces.{sum_with, Inner, IUnit, ITerm, IStar, IName, IRelation, IConstant, INumber, IModulo, IModulus, Side, Trace, Inside, Done, with_ors, conj_of}
 use Rattle.pres_read.proofs.Fronts.{ors_front, side_front, above_front, inner_front, front, symbols-sum_with, symbols-with_ors, front-unit_done}
 
 closing : (above : List Side) (p : Phrase APred) → Begins (above_front above ++ symbols p)

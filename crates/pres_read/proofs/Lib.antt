@@ -8,3 +8,7 @@ pub mod Fronts
 pub mod Goes
 pub mod Shows
 pub mod Outcomes
+pub mod Digits
+pub mod Lexing
+pub mod Printed
+pub mod PrintedTrees

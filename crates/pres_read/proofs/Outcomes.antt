@@ -1,5 +1,5 @@
 -- What reading gives, against the trees of productions.
-use Rattle.std.proofs.Common.{◌≡◌, ℕ, Bool, true, false, List, [], ◌∷◌, ◌++◌, length, map, ltb, Option, Some, None, IfOk, Result, Ok, Err, refl, sym, ap, subst, ◌∙◌, append_assoc}
+use Rattle.std.proofs.Common.{◌≡◌, ℕ, Bool, true, false, List, [], ◌∷◌, ◌++◌, length, ltb, Option, Some, None, IfOk, Result, Ok, Err, refl, sym, ap, subst, ◌∙◌, append_assoc}
 use Rattle.std.specs.Prelude.{if◌then◌else◌, ◌||◌, IfSome}
 use Rattle.std.proofs.lemmas.List.{append-nil, map-append}
 use Rattle.pres_ast.specs.PredTree.{PredTree}
@@ -10,15 +10,15 @@ use Rattle.pres_read.specs.declared.fault.ReadPred.{ReadPred}
 use Rattle.pres_read.specs.declared.fault.ReadPred.TheVariants.{Syntax, UnknownName, TooLarge, TooDeep, LongText, NoMemory}
 use Rattle.pres_read.specs.Outcome.{◌>>=◌, Gives}
 use Rattle.pres_read.specs.Progress.{Progress, start}
-use Rattle.pres_read.specs.Depth.{Depth, surface, deeper, within_depth, sunk}
-use Rattle.pres_read.specs.Reading.{step, finish, with_progress, read_on, run, over, pred_read}
+use Rattle.pres_read.specs.Depth.{Depth, surface, deeper, sunk}
+use Rattle.pres_read.specs.Reading.{step, finish, with_progress, run, over, pred_read}
 use Rattle.pres_read.specs.Grammar.{APred, Phrase, symbols, meaning, Derives}
 use Rattle.pres_read.specs.Texts.{symbols_of, text_symbols, Begins, IsStuck, place_of, IsSyntaxFault, IsReadAs}
 use Rattle.pres_read.proofs.Traces.{Trace, begun, trace_step, trace_run, trace_goes_by, trace_end, trace_then, trace_read, trace_read-run}
 use Rattle.pres_read.proofs.Complete.{trace_read-symbols}
 use Rattle.pres_read.proofs.Fronts.{front, step_follows, front-run, symbols-end}
 use Rattle.pres_read.proofs.Goes.{goes_on}
-use Rattle.pres_read.proofs.Shows.{IsShown, FaultAt, Agrees, EndAgrees, step_agrees, finish_agrees, start_shown}
+use Rattle.pres_read.proofs.Shows.{IsShown, Agrees, EndAgrees, step_agrees, finish_agrees, start_shown}
 
 abbrev NoStep : Trace → List Placed → Type 0
 NoStep b [] = trace_end b ≡ None

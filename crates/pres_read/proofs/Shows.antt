@@ -1,19 +1,19 @@
 -- Reading with names and limits, against the tree of productions.
-use Rattle.std.proofs.Common.{◌≡◌, ℕ, zero, suc, ◌+◌, ◌^◌, Bool, true, false, List, [], ◌∷◌, ◌++◌, length, map, ltb, Option, Some, None, IsSome, option_map, Result, Ok, Err, refl, sym, ap, subst, ◌∙◌, arith, ℤ, pos, ◌+ℤ◌, nat_abs, position, slice_set, get_or, codes}
+use Rattle.std.proofs.Common.{◌≡◌, ℕ, zero, suc, ◌^◌, Bool, true, false, List, [], ◌∷◌, ltb, Option, Some, None, IsSome, option_map, Result, Ok, Err, refl, sym, ap, subst, ◌∙◌, ℤ, pos, ◌+ℤ◌, nat_abs, position, slice_set, get_or, codes}
 use Rattle.std.specs.Prelude.{if◌then◌else◌}
 use Rattle.std.specs.Str.{bytes_eq}
 use Rattle.pres_ast.specs.PredTree.{PredTree, Negation}
 use Rattle.pres_tokens.specs.declared.token.Relation.{Relation}
 use Rattle.pres_tokens.specs.declared.token.Relation.TheVariants.{Less, AtMost, Greater, AtLeast, Equal, Unequal}
-use Rattle.pres_tokens.specs.Symbols.{Symbol, Name, Number, Plus, Minus, Star, Compare, And, Or, Not, Open, Close, Mod, Stray, Placed}
+use Rattle.pres_tokens.specs.Symbols.{Symbol, Name, Number, Plus, Minus, Star, Compare, And, Or, Not, Open, Close, Mod, Placed}
 use Rattle.pres_read.specs.declared.fault.ReadPred.{ReadPred}
 use Rattle.pres_read.specs.declared.fault.ReadPred.TheVariants.{Syntax, UnknownName, TooLarge, TooDeep, LongText, NoMemory}
 use Rattle.pres_read.specs.Numbers.{value_of, value_within}
-use Rattle.pres_read.specs.Atoms.{signed, negated_if, equality, compared, congruent, constant_limit, Factor, lone, with_coef, with_number, with_term, added}
-use Rattle.pres_read.specs.Progress.{Span, clear, Around, Next, AUnit, ATerm, AStar, AName, ARelation, AConstant, ANumber, AModulo, AModulus, ASign, Progress, start}
+use Rattle.pres_read.specs.Atoms.{signed, negated_if, equality, compared, congruent, constant_limit, Factor, with_coef, with_number, with_term, added}
+use Rattle.pres_read.specs.Progress.{Span, Around, Next, AUnit, ATerm, AStar, AName, ARelation, AConstant, ANumber, AModulo, AModulus, ASign, Progress, start}
 use Rattle.pres_read.specs.Reading.{negated, conjoined, disjoined, zeros, after_unit, going_on, after_sum, at_term, at_unit, at_star, at_name, at_relation, after_constant, with_constant, at_number, at_constant, with_modulus, at_modulus, closed, at_sign, up_to_unit, after_equality, at_modulo, by_next, step, ended, finish_by, finish}
-use Rattle.pres_read.specs.Grammar.{Term, bare, times, Sum, first, further, Atom, plain, modular, Part, APred, AConj, AUnit, Phrase, conj, either, unit, both, negate, group, atom, equal_or_not, raised, with_a_term, coefs_of, atom_meaning, meaning}
-use Rattle.pres_read.proofs.Traces.{Lead, begin, after, sum_with, Inner, IUnit, ITerm, IStar, IName, IRelation, IConstant, INumber, IModulo, IModulus, Side, bare_side, Trace, Inside, Done, begun, negates, with_ands, with_ors, conj_of, unit_done, trace_closed, trace_sign, trace_term, trace_unit, trace_star, trace_name, trace_relation, trace_compared, trace_number, trace_constant, equality_conj, trace_modulo, trace_modulus, trace_inner, trace_step, trace_ended, trace_inner_end, trace_end}
+use Rattle.pres_read.specs.Grammar.{Term, bare, times, Sum, plain, modular, APred, AConj, AUnit, Phrase, group, atom, equal_or_not, raised, coefs_of, meaning}
+use Rattle.pres_read.proofs.Traces.{Lead, begin, after, sum_with, Inner, IUnit, ITerm, IStar, IName, IRelation, IConstant, INumber, IModulo, IModulus, Side, Trace, Inside, Done, begun, negates, with_ands, with_ors, conj_of, unit_done, trace_closed, trace_sign, trace_term, trace_unit, trace_star, trace_name, trace_relation, trace_compared, trace_number, trace_constant, equality_conj, trace_modulo, trace_modulus, trace_inner, trace_step, trace_ended, trace_inner_end, trace_end}
 
 abbrev pub side_span : List (List ℕ) → Side → Span
 side_span names side = record { ors = option_map (meaning names) side.ors; ands = option_map (meaning names) side.ands; nots = side.nots }

@@ -1,11 +1,9 @@
 -- Reading by itself, without names and limits: what the tokens so far have built of a tree of productions.
-use Rattle.std.proofs.Common.{◌≡◌, ℕ, zero, suc, Bool, true, false, List, [], ◌∷◌, ◌++◌, Option, Some, None, refl, sym, ap, ◌∙◌, append_assoc}
-use Rattle.std.proofs.lemmas.List.{append-nil}
-use Rattle.std.specs.Prelude.{IfSome}
+use Rattle.std.proofs.Common.{◌≡◌, ℕ, zero, suc, Bool, true, false, List, [], ◌∷◌, ◌++◌, Option, Some, None, ap}
 use Rattle.pres_tokens.specs.declared.token.Relation.{Relation}
 use Rattle.pres_tokens.specs.declared.token.Relation.TheVariants.{Less, AtMost, Greater, AtLeast, Equal, Unequal}
-use Rattle.pres_tokens.specs.Symbols.{Symbol, Name, Number, Plus, Minus, Star, Compare, And, Or, Not, Open, Close, Mod, Stray}
-use Rattle.pres_read.specs.Grammar.{Term, bare, times, Sum, first, further, Atom, plain, modular, Part, APred, AConj, AUnit, Phrase, conj, either, unit, both, negate, group, atom, term_symbols, minus_if, plus_or_minus, sum_symbols, equal_or_not, constant_symbols, atom_symbols, symbols}
+use Rattle.pres_tokens.specs.Symbols.{Symbol, Name, Number, Plus, Minus, Star, Compare, And, Or, Not, Open, Close, Mod}
+use Rattle.pres_read.specs.Grammar.{Term, bare, times, Sum, first, further, plain, modular, APred, AConj, AUnit, Phrase, conj, either, unit, both, negate, group, atom, equal_or_not}
 
 -- what stands before a term: nothing or `-`, or a sum and its sign
 pub data Lead : Type 0 where

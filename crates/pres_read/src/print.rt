@@ -6,6 +6,8 @@ ghost use Rattle.std.specs.Fmt.{signed_decimal};
 ghost use Rattle.pop_io.specs.Names.{is_variable_name, AreNames};
 ghost use Rattle.pres_ast.specs.PredModel.{HasAtoms};
 ghost use Rattle.pres_ast.specs.TreeOf.{tree_of};
+ghost use Rattle.pres_read.specs.Grammar.{Derives};
+ghost use Rattle.pres_read.specs.Texts.{text_symbols};
 ghost use Rattle.pres_read.specs.Canonical.{is_zero, term_text, sign_text, terms_text, zero_text, sum_text, tree_text};
 
 use itoa::Buffer;
@@ -17,10 +19,22 @@ use std::alloc::{AllocError, Global};
 pub fn print_pred(alloc: Global, pred: &Pred, names: &List<Text>) -> Result<Text, NoMemory>
     requires count { length names.now ≡ pred.now.variables }
     requires names { AreNames is_variable_name names.now }
-    ensures { IfOk result (λ text. text ≡ tree_text names.now pred.now.tree) }
+    ensures canonical { IfOk result (λ text. text ≡ tree_text names.now pred.now.tree) }
+    // The grammar relates the text to the predicate's tree.
+    ensures derived { IfOk result (λ text. Derives names.now (text_symbols text) pred.now.tree) }
+{
+    canonical_text(alloc, pred.tree(), names)
+}
+
+fn canonical_text(alloc: Global, tree: &Tree, names: &List<Text>) -> Result<Text, NoMemory>
+    requires some { 1 ≤ length names.now }
+    requires names { AreNames is_variable_name names.now }
+    requires atoms { HasAtoms (length names.now) (tree_of tree.now) }
+    ensures canonical { IfOk result (λ text. text ≡ tree_text names.now (tree_of tree.now)) }
+    ensures derived { IfOk result (λ text. Derives names.now (text_symbols text) (tree_of tree.now)) }
 {
     let mut out = String::new(alloc);
-    push_tree(&mut out, pred.tree(), names)?;
+    push_tree(&mut out, tree, names)?;
     Ok(Text::from_string(out))
 }
 
