@@ -1,3 +1,4 @@
 pub mod Pairwise
 pub mod Ends
 pub mod Memo
+mod Outputs

@@ -29,10 +29,12 @@ pub fn enabled_pair(alloc: Global, net: &Net, crowd: &Crowd) -> Result<Option<(u
         if quiet.contains(&word.0) {
             continue;
         }
-        if let Some(b) = partner(alloc, net, crowd, a)? {
-            return Ok(Some((a, b)));
+        match partner(alloc, net, crowd, a)? {
+            Some(b) => return Ok(Some((a, b))),
+            None => {
+                quiet.insert(word.0)?;
+            }
         }
-        quiet.insert(word.0)?;
     }
     Ok(None)
 }
