@@ -2,3 +2,4 @@ mod Short
 mod Lined
 mod Played
 mod Replies
+mod Ends

@@ -113,6 +113,26 @@ fn end_text(alloc: Global, net: &Net, crowd: &Crowd) -> Result<Vec<u8>, NoMemory
     Ok(text)
 }
 
+/// The net of a net line that is this value, and its crowd after the meetings.
+#[tactic(auto, unfolding(crate::specs::Play::end_crowd))]
+fn net_and_end(
+    alloc: Global,
+    value: &Option<Value>,
+    crowd: &[u8],
+    meetings: &[u8],
+) -> Result<(Net, Crowd), Stop>
+    requires short { length crowd.now < 2 ^ 32 - 2 }
+    requires few { length (lines_of meetings.now) < 2 ^ 32 }
+    ensures end { Gives (λ end. (end.0, crowd_of end.0 end.1)) result
+        (end_crowd (option_map view value.now) crowd.now (lines_of meetings.now)) }
+    ensures valid { IfOk result (λ end. AreValid end.0 end.1) }
+{
+    let net = net_of(alloc, value)?;
+    let start = start_of(alloc, &net, crowd)?;
+    let end = end_of(&net, start, meetings)?;
+    Ok((net, end))
+}
+
 /// The text for a net line that is this value, a crowd line, and meeting lines.
 fn text_of(
     alloc: Global,
@@ -125,10 +145,10 @@ fn text_of(
     ensures { Allows (OfEnd (end_crowd (option_map view value.now) crowd.now (lines_of meetings.now)))
         (λ text. text.items) result }
 {
-    let net = net_of(alloc, value)?;
-    let start = start_of(alloc, &net, crowd)?;
-    let end = end_of(&net, start, meetings)?;
-    Ok(end_text(alloc, &net, &end)?)
+    match net_and_end(alloc, value, crowd, meetings) {
+        Ok((net, end)) => Ok(end_text(alloc, &net, &end)?),
+        Err(stop) => Err(stop),
+    }
 }
 
 /// The text for an input that isn't too long.
