@@ -8,12 +8,12 @@ pub mod Lifting
 pub mod Digits
 pub mod Silent
 pub mod FirstFault
-mod LeafFaults
-mod Trees
-mod Whole
-mod NetFaults
-mod LaneBits
+pub mod LeafFaults
+pub mod Trees
+pub mod Whole
+pub mod NetFaults
+pub mod LaneBits
 pub mod Packing
-mod Lanewise
-mod Values
+pub mod Lanewise
+pub mod Values
 pub mod Within

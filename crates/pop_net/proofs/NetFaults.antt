@@ -8,10 +8,10 @@ use Rattle.pop_net.specs.declared.fault.NetFault.{NetFault}
 use Rattle.pop_net.specs.declared.fault.NetFault.TheVariants as fault
 use Rattle.pop_net.specs.LeafModel.{LeafModel, IsLeaf}
 use Rattle.pop_net.specs.NetModel.{NetModel, IsNet, combined, depths}
-use Rattle.pop_net.specs.NetFaults.{fault_of_net, net_fault, RefusesNet}
+use Rattle.pop_net.specs.NetFaults.{fault_of_net, net_fault, IsTree, RefusesNet}
 use Rattle.pop_net.proofs.FirstFault.{NoneIff, first_of-nil, first_of-cons, none_unless, none_map, none_position, none_bad}
 use Rattle.pop_net.proofs.LeafFaults.{within}
-use Rattle.pop_net.proofs.Whole.{IsTree, none_broken}
+use Rattle.pop_net.proofs.Whole.{none_broken}
 
 abbrev KeepsRules : NetModel → Type 0
 KeepsRules net =

@@ -10,9 +10,10 @@ use Rattle.std.proofs.lemmas.List.Elements.{All-head, All-tail, All-cons, All-ni
 use Rattle.std.proofs.lemmas.Option.{same_Some}
 use Rattle.pop_net.specs.declared.net.Item.{Item}
 use Rattle.pop_net.specs.declared.net.Item.TheVariants.{Leaf, Not, And, Or}
+use Rattle.pop_net.specs.declared.fault.CombinationFault.{CombinationFault}
 use Rattle.pop_net.specs.declared.fault.CombinationFault.TheVariants as combination
 use Rattle.pop_net.specs.NetModel.{after_item, after_items, depths, only_one, combined, NamesBelow}
-use Rattle.pop_net.specs.NetFaults.{names_below, are_low, stands, operands_left, fault_of_combination}
+use Rattle.pop_net.specs.NetFaults.{names_below, are_low, stands, operands_left, IsTree, fault_of_combination}
 use Rattle.pop_net.proofs.FirstFault.{NoneIff, first_of-nil, first_of-cons, none_unless, none_map, none_below}
 use Rattle.pop_net.proofs.Trees.{low_decides, after_items-append}
 
@@ -73,11 +74,6 @@ one_left [] d e = cc
 one_left (a ∷ []) d e = ap (λ x. x ∷ []) (same_Some a d e)
 one_left (a ∷ b ∷ operands) d e = cc
 
--- a combination that is one low tree
-pub record IsTree (leaves : ℕ) (items : List Item) : Type 0 where
-  pub named : All (NamesBelow leaves) items
-  pub depth : IsSomeAnd (combined depths items) (λ d. d ≤ 65)
-
 the_depth : (o : Option ℕ) → IsSomeAnd o (λ d. d ≤ 65) → (d : ℕ) × (o ≡ Some d) × (d ≤ 65)
 the_depth None h = absurd h
 the_depth (Some d) h = (d, refl, h)
@@ -128,3 +124,8 @@ none_broken leaves items = (there items, back)
 
     back : IsTree leaves items → fault_of_combination leaves items ≡ None
     back t = (both items).1 ((λ k l. not_from_true _ (front_stands leaves items (k + 1) t)), (one_operand leaves items t, tt))
+
+-- there is no fault exactly where there is one tree
+pub none_where_tree : (leaves : ℕ) (items : List Item) (result : Option CombinationFault) → result ≡ fault_of_combination leaves items → NoneIff result (IsTree leaves items)
+none_where_tree leaves items result h =
+    ((λ e. (none_broken leaves items).0 (sym h ∙ e)), (λ t. h ∙ (none_broken leaves items).1 t))

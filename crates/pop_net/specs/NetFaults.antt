@@ -1,5 +1,5 @@
 -- The first rule that a net breaks.
-use Rattle.std.specs.Prelude.{◌≡◌, ◌⊎◌, ℕ, ◌+◌, Bool, true, not, ◌&&◌, ◌==◌, nat_lt, nat_le, List, [], ◌∷◌, length, take, Option, Some, position, false}
+use Rattle.std.specs.Prelude.{◌≡◌, ◌⊎◌, ℕ, ◌+◌, Bool, true, not, ◌&&◌, ◌==◌, nat_lt, nat_le, List, [], ◌∷◌, length, take, Option, Some, position, false, ◌≤◌, All, IsSomeAnd}
 use Rattle.std.specs.List.{list_all}
 use Rattle.std.specs.Option.{option_map, option_map_or}
 use Rattle.pop_io.specs.Names.{is_variable_name}
@@ -9,7 +9,7 @@ use Rattle.pop_net.specs.declared.fault.CombinationFault.{CombinationFault}
 use Rattle.pop_net.specs.declared.fault.CombinationFault.TheVariants as combination
 use Rattle.pop_net.specs.declared.fault.NetFault.{NetFault}
 use Rattle.pop_net.specs.declared.fault.NetFault.TheVariants as fault
-use Rattle.pop_net.specs.NetModel.{NetModel, after_items, depths}
+use Rattle.pop_net.specs.NetModel.{NetModel, NamesBelow, after_items, combined, depths}
 use Rattle.pop_net.specs.FirstFault.{unless, first_of, first_below, first_bad_name}
 
 -- whether an item names one of n leaves, where it names one
@@ -41,6 +41,11 @@ fault_of_combination leaves items =
     (option_map combination.Item (first_bad_item leaves items)
     ∷ unless (operands_left items == 1) (combination.Open (operands_left items))
     ∷ [])
+
+-- a combination of n leaves that is one tree of a depth of at most 65
+pub record IsTree (leaves : ℕ) (items : List Item) : Type 0 where
+  pub named : All (NamesBelow leaves) items
+  pub depth : IsSomeAnd (combined depths items) (λ d. d ≤ 65)
 
 abbrev pub net_fault : CombinationFault → NetFault
 net_fault (combination.Item k) = fault.Item k

@@ -1,9 +1,9 @@
 //! Combinations in postfix: whether one is a tree, and its value.
 
-ghost use Rattle.std.specs.Prelude.{◌≡◌, ℕ, ◌≤◌, ◌<◌, ◌&&◌, ◌∷◌, length, drop, All, Some, None, MatchOption, unwrap_or, false};
+ghost use Rattle.std.specs.Prelude.{◌≡◌, ◌↔◌, ℕ, ◌≤◌, ◌<◌, ◌&&◌, ◌∷◌, length, drop, All, Some, None, MatchOption, unwrap_or, false};
 ghost use Rattle.std.specs.Bool.{OnTrue};
 ghost use Rattle.pop_net.specs.NetModel.{after_item, depths as depth_operators, truth, combined};
-ghost use Rattle.pop_net.specs.NetFaults.{names_below, are_low, fault_of_combination};
+ghost use Rattle.pop_net.specs.NetFaults.{names_below, are_low, IsTree, fault_of_combination};
 
 use crate::fault::CombinationFault;
 use crate::net::Item;
@@ -15,7 +15,9 @@ const DEPTH_LIMIT: u8 = 65;
 /// The first rule that a combination of these leaves breaks. It takes no memory.
 pub fn combination_fault(leaves: u8, combine: &[Item]) -> Option<CombinationFault>
     requires { length combine.now ≤ ITEM_LIMIT }
-    ensures { result ≡ fault_of_combination leaves combine.now }
+    ensures first { result ≡ fault_of_combination leaves combine.now }
+    // No rule is broken exactly where the combination is one tree, as a net needs it.
+    ensures none { (result ≡ None) ↔ IsTree leaves combine.now }
 {
     let mut depths = Operands::new(0);
     for (k, item) in combine.iter().enumerate() {

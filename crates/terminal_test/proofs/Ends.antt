@@ -66,9 +66,9 @@ module _ (net : NetModel) (crowd : CrowdModel) (tuples : All (IsTuple net) crowd
       unmoved : after_meeting net a b crowd ≡ crowd → changes net a b crowd ≡ false
       unmoved same =
           let first : (reaction net x y).0 ≡ x =
-              sym (get_or-set_other (set crowd a (reaction net x y).0) b a (reaction net x y).1 [] (λ e. absurd (omega (arith, e, h.lower))) ∙ get_or-set_same crowd a (reaction net x y).0 [] la) ∙ ap (λ c. get_or c a []) same in
+          sym (get_or-set_other (set crowd a (reaction net x y).0) b a (reaction net x y).1 [] (λ e. absurd (omega (arith, e, h.lower))) ∙ get_or-set_same crowd a (reaction net x y).0 [] la) ∙ ap (λ c. get_or c a []) same in
           let second : (reaction net x y).1 ≡ y =
-              sym (get_or-set_same (set crowd a (reaction net x y).0) b (reaction net x y).1 [] (omega (arith, length-set crowd a (reaction net x y).0, h.within))) ∙ ap (λ c. get_or c b []) same in
+          sym (get_or-set_same (set crowd a (reaction net x y).0) b (reaction net x y).1 [] (omega (arith, length-set crowd a (reaction net x y).0, h.within))) ∙ ap (λ c. get_or c b []) same in
           moved net x y first second
 
   pub not_terminal : (a b : ℕ) → IsEnabled net crowd a b → IsTerminal (Step net) crowd → ⊥

@@ -8,3 +8,6 @@ mod enabled;
 
 pub use agreement::agreed;
 pub use enabled::enabled_pair;
+
+#[cfg(test)]
+mod tests;
