@@ -7,7 +7,10 @@ use std::alloc::{AllocError, Global};
 use std::test::Fail;
 
 const WORD: &str = "play";
-const INPUT: &str = "{\"format\":1,\"vars\":[\"x\",\"y\"],\"leaves\":[{\"states\":[\"A\",\"B\",\"a\",\"b\"],\"moves\":[[0,1,2,3],[0,3,0,2],[1,2,1,3],[3,2,3,3]],\"input\":[0,1],\"output\":[true,false,true,false]}],\"combine\":[0]}\ncrowd x=2 y=1\n0 2\n1 2\n";
+
+const INPUT: &str =
+    "{\"format\":1,\"vars\":[\"x\",\"y\"],\"leaves\":[{\"states\":[\"A\",\"B\",\"a\",\"b\"],\"moves\":[[0,1,2,3],[0,3,0,2],[1,2,1,3],[3,2,3,3]],\"input\":[0,1],\"output\":[true,false,true,false]}],\"combine\":[0]}\ncrowd x=2 y=1\n0 2\n1 2\n";
+
 const TEXT: &str = "A 1\na 2\nterminal\n";
 
 fn trouble(alloc: Global, troubles: &[Trouble]) -> Result<List<Trouble>, AllocError> {
@@ -15,11 +18,17 @@ fn trouble(alloc: Global, troubles: &[Trouble]) -> Result<List<Trouble>, AllocEr
 }
 
 fn fails(call: u64) -> Trouble {
-    Trouble { call, kind: TroubleKind::Fail }
+    Trouble {
+        call,
+        kind: TroubleKind::Fail,
+    }
 }
 
 fn part(call: u64, most: u64) -> Trouble {
-    Trouble { call, kind: TroubleKind::Part(most) }
+    Trouble {
+        call,
+        kind: TroubleKind::Part(most),
+    }
 }
 
 /// What the sink holds and the status, with these troubles of source and sink.
