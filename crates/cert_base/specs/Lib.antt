@@ -1,0 +1,2 @@
+pub mod ValidLayers
+pub mod ProofBound

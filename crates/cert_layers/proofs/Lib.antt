@@ -1,0 +1,13 @@
+pub mod LayerMoves
+pub mod Termination
+pub mod Entries
+pub mod Filled
+pub mod Heavy
+pub mod Small
+pub mod PairEntries
+pub mod Firsts
+pub mod Asleep
+pub mod Covers
+pub mod Woken
+pub mod Valid
+pub mod Failing

@@ -1,0 +1,60 @@
+-- The first place at which the layers of a leaf fail.
+use Rattle.std.specs.Prelude.{◌≡◌, ◌≢◌, ℕ, ◌+◌, ◌<◌, ◌≤◌, ◌*◌, ◌^◌, false, ℤ, nat_abs, List, Some, slice_get, length, take, All, AllPairs, Contains}
+use Rattle.pop_net.specs.declared.leaf.Move.{Move}
+use Rattle.pop_net.specs.LeafModel.{LeafModel, is_silent}
+use Rattle.pop_net.specs.Step.{LeafStep}
+use Rattle.pop_net.specs.Reachable.{ReachedWithin}
+use Rattle.pop_net.specs.Terminal.{IsTerminal}
+use Rattle.cert_base.specs.declared.layer.Layer.{Layer}
+use Rattle.cert_base.specs.ValidLayers.{listed, IsInLayer, IsLower, IsEnabledBefore}
+use Rattle.cert_layers.specs.declared.fault.LayerFault.{LayerFault}
+use Rattle.cert_layers.specs.declared.fault.LayerFault.TheVariants.{Shape, NoLayer, NotLower, Wakes, NoMemory}
+
+-- layer n, where there is one, has one weight per state and lists numbers of moves, and up to it no number stands twice
+pub record IsShaped (leaf : LeafModel) (layers : List Layer) (n : ℕ) (layer : Layer) : Type 0 where
+  pub weights : length layer.weights ≡ length leaf.states
+  pub in_range : All (λ number. number < length leaf.moves) layer.moves
+  pub once : AllPairs ◌≢◌ (listed (take (n + 1) layers))
+
+abbrev pub ShapedAt : LeafModel → List Layer → ℕ → Type 0
+ShapedAt leaf layers n = (layer : Layer) → slice_get layers n ≡ Some layer → IsShaped leaf layers n layer
+
+-- a non-silent move with number n is listed
+abbrev pub ListedAt : LeafModel → List Layer → ℕ → Type 0
+ListedAt leaf layers n = (t : Move) → slice_get leaf.moves n ≡ Some t → is_silent t ≡ false → Contains (listed layers) n
+
+-- a non-silent move with number n lowers the weights of its layer
+abbrev pub LowerAt : LeafModel → List Layer → ℕ → Type 0
+LowerAt leaf layers n = (i : ℕ) (t : Move) (at : IsInLayer leaf layers i t) → at.number ≡ n → IsLower at.layer.weights t
+
+-- a move t of layer i enables no move u, unless a move of a layer before i was enabled before it
+abbrev pub WakesNone : LeafModel → List Layer → ℕ → Move → Move → Type 0
+WakesNone leaf layers i t u = (k : ℕ) × (u' : Move) × (k < i) × IsInLayer leaf layers k u' × IsEnabledBefore u' t u
+
+-- the move with number n wakes not the move with number m, where m stands in an earlier layer
+abbrev pub SleepsAt : LeafModel → List Layer → ℕ → ℕ → Type 0
+SleepsAt leaf layers n m = (i j : ℕ) (t u : Move) → j < i → (at : IsInLayer leaf layers i t) → at.number ≡ n → (earlier : IsInLayer leaf layers j u) → earlier.number ≡ m → WakesNone leaf layers i t u
+
+abbrev pub Each : (ℕ → Type 0) → Type 0
+Each P = (k : ℕ) → P k
+
+-- n is the least number at which P fails
+abbrev pub IsFirstFailing : (ℕ → Type 0) → ℕ → Type 0
+IsFirstFailing P n = ¬ (P n) × ((k : ℕ) → k < n → P k)
+
+-- the first place at which the layers fail: all places of a kind come before those of the next kind
+abbrev pub IsLayerFault : LeafModel → List Layer → LayerFault → Type 0
+IsLayerFault leaf layers (Shape n) = IsFirstFailing (ShapedAt leaf layers) n
+IsLayerFault leaf layers (NoLayer n) = Each (ShapedAt leaf layers) × IsFirstFailing (ListedAt leaf layers) n
+IsLayerFault leaf layers (NotLower n) = Each (ShapedAt leaf layers) × Each (ListedAt leaf layers) × IsFirstFailing (LowerAt leaf layers) n
+IsLayerFault leaf layers (Wakes n m) =
+    Each (ShapedAt leaf layers) × Each (ListedAt leaf layers) × Each (LowerAt leaf layers) × IsFirstFailing (λ t. Each (SleepsAt leaf layers t)) n × IsFirstFailing (SleepsAt leaf layers n) m
+IsLayerFault leaf layers NoMemory = Unit {0}
+
+-- a weight is at most 2 ^ 40 in size
+abbrev pub IsWeight : ℤ → Type 0
+IsWeight w = nat_abs w ≤ 2 ^ 40
+
+-- from every crowd of at least two agents, a terminal crowd is reached within k steps for each agent
+abbrev pub EndsWithin : LeafModel → ℕ → Type 0
+EndsWithin leaf k = (crowd : List ℕ) → 2 ≤ length crowd → All (λ q. q < length leaf.states) crowd → (end : List ℕ) × IsTerminal (LeafStep leaf) end × ReachedWithin (LeafStep leaf) (k * length crowd) crowd end

@@ -1,0 +1,4 @@
+pub mod LayerFaults
+pub mod Places
+pub mod Search
+pub mod Waking

@@ -1,0 +1,87 @@
+-- Which moves wake moves of earlier layers, by a table of pairs of states.
+use Rattle.std.specs.Prelude.{◌≡◌, ℕ, ◌+◌, ◌*◌, ◌<◌, ◌≤◌, ◌⊎◌, ◌==◌, ◌&&◌, ◌||◌, not, Bool, true, false, nat_lt, List, length, Option, Some, None, slice_get, replicate, if◌then◌else◌}
+use Rattle.std.specs.List.{slice_index_or, list_any, range_with_len}
+use Rattle.pop_net.specs.declared.leaf.Move.{Move}
+use Rattle.pop_net.specs.LeafModel.{LeafModel, is_silent}
+use Rattle.cert_layers.specs.Places.{place_of}
+use Rattle.cert_layers.specs.Search.{some_move, some_place}
+
+-- the entry for the states x and y of a table with 256 rows of 256 entries
+abbrev pub first_at : List ℕ → ℕ → ℕ → ℕ
+first_at table x y = slice_index_or table (x * 256 + y) 0
+
+-- the table before any move is entered
+unfoldable pub empty_table : List ℕ
+empty_table = replicate 65536 65535
+
+-- x and y are the states that a move takes
+abbrev pub IsPair : ℕ → ℕ → Move → Type 0
+IsPair x y t = ((x ≡ t.p) × (y ≡ t.q)) ⊎ ((x ≡ t.q) × (y ≡ t.p))
+
+-- a non-silent move below number n, in a layer before i, takes x and y
+pub record IsEarly (leaf : LeafModel) (places : List (Option ℕ)) (n i x y : ℕ) : Type 0 where
+  pub number : ℕ
+  pub layer : ℕ
+  pub taken : Move
+  pub below : number < n
+  pub move_is : slice_get leaf.moves number ≡ Some taken
+  pub non_silent : is_silent taken ≡ false
+  pub place_is : place_of places number ≡ Some layer
+  pub before : layer < i
+  pub takes : IsPair x y taken
+
+-- the table has, for each two states, the least layer with a non-silent move below number n that takes them
+pub record IsTable (leaf : LeafModel) (places : List (Option ℕ)) (n : ℕ) (table : List ℕ) : Type 0 where
+  pub long : length table ≡ 65536
+  pub sound : (i x y : ℕ) → i < 65536 → x < 256 → y < 256 → first_at table x y < i → IsEarly leaf places n i x y
+  pub complete : (i x y : ℕ) → i < 65536 → x < 256 → y < 256 → IsEarly leaf places n i x y → first_at table x y < i
+
+-- whether a layer before i has a non-silent move that takes x and y
+abbrev pub is_early : List ℕ → ℕ → ℕ → ℕ → Bool
+is_early table i x y = nat_lt (first_at table x y) i
+
+-- whether a move brings the state x
+abbrev pub brings : Move → ℕ → Bool
+brings t x = x == t.r || x == t.s
+
+-- whether a move that brings m brings o beside it
+abbrev pub brings_both : Move → ℕ → ℕ → Bool
+brings_both t m o = if m == t.r then o == t.s else o == t.r
+
+-- t brings m; no early move takes two of the states of t and of o, where t doesn't bring that too
+abbrev pub wakes_with : (ℕ → ℕ → Bool) → Move → ℕ → ℕ → Bool
+wakes_with early t m o = not (early t.p t.q || (not (brings_both t m o) && (early t.p o || early t.q o)))
+
+-- whether t wakes a move that takes x and y
+abbrev pub wakes : (ℕ → ℕ → Bool) → Move → ℕ → ℕ → Bool
+wakes early t x y = if brings t x then wakes_with early t x y else (brings t y && wakes_with early t y x)
+
+-- whether t, in layer i, wakes the move with number m, of an earlier layer
+abbrev pub wakes_move : LeafModel → List (Option ℕ) → List ℕ → ℕ → Move → ℕ → Bool
+wakes_move leaf places table i t m = some_move (λ u. some_place (λ j. nat_lt j i && wakes (is_early table i) t u.p u.q) (place_of places m)) (slice_get leaf.moves m)
+
+-- whether the move with number n wakes the move with number m, of an earlier layer
+abbrev pub wakes_at : LeafModel → List (Option ℕ) → List ℕ → ℕ → ℕ → Bool
+wakes_at leaf places table n m = some_move (λ t. some_place (λ i. wakes_move leaf places table i t m) (place_of places n)) (slice_get leaf.moves n)
+
+-- whether t wakes an early move that takes x and y
+abbrev pub wakes_early : (ℕ → ℕ → Bool) → Move → ℕ → ℕ → Bool
+wakes_early early t x y = early x y && wakes early t x y
+
+-- whether t wakes an early move that takes y beside a state that t brings
+abbrev pub wakes_beside : (ℕ → ℕ → Bool) → Move → ℕ → Bool
+wakes_beside early t y = wakes_early early t t.r y || wakes_early early t t.s y
+
+-- whether t wakes an early move at all
+abbrev pub may_wake : (ℕ → ℕ → Bool) → Move → ℕ → Bool
+may_wake early t states = not (early t.p t.q) && list_any (wakes_beside early t) (range_with_len 0 states)
+
+-- the least number that passes a test, if one does
+abbrev pub FindsFirst : (ℕ → Bool) → Option ℕ → Type 0
+FindsFirst p None = (m : ℕ) → p m ≡ false
+FindsFirst p (Some u) = (p u ≡ true) × ((m : ℕ) → m < u → p m ≡ false)
+
+-- the least move that wakes one, and the least that it wakes, if there are such
+abbrev pub FindsWaking : LeafModel → List (Option ℕ) → List ℕ → Option (ℕ × ℕ) → Type 0
+FindsWaking leaf places table None = (n : ℕ) → FindsFirst (wakes_at leaf places table n) None
+FindsWaking leaf places table (Some found) = FindsFirst (wakes_at leaf places table found.0) (Some found.1) × ((n : ℕ) → n < found.0 → FindsFirst (wakes_at leaf places table n) None)

@@ -1,0 +1,73 @@
+//! The check of the layers of a leaf.
+
+ghost use Rattle.std.specs.Prelude.{◌≡◌, ◌≤◌, length, All, IfOk, IfErr, OnOk};
+ghost use Rattle.pop_net.specs.LeafModel.{IsLeaf};
+ghost use Rattle.cert_layers.specs.Places.{ArePlaces};
+ghost use Rattle.cert_base.specs.ValidLayers.{ValidLayers};
+ghost use Rattle.cert_base.specs.ProofBound.{layers_bound};
+ghost use Rattle.cert_layers.specs.LayerFaults.{IsLayerFault, IsWeight, EndsWithin};
+
+use crate::bound::bound_of;
+use crate::fault::LayerFault;
+use crate::lower::{first_heavy, first_unlisted};
+use crate::pairs::pair_table;
+use crate::places::places_of;
+use crate::waking::first_waking;
+use cert_base::Layer;
+use pop_io::List;
+use pop_net::Leaf;
+use std::alloc::Global;
+
+/// Whether the layers of a leaf are valid, and their bound for each agent (layered termination of Blondin,
+/// Esparza, Jaax, Meyer 2017). A move wakes another only where it brings one of its states, so pairs of
+/// moves are looked at by their states.
+pub fn check_layers(alloc: Global, leaf: &Leaf, layers: &List<Layer>) -> Result<u64, LayerFault>
+    requires few { length layers.now ≤ 256 }
+    requires small { All (λ layer. All IsWeight layer.weights) layers.now }
+    ensures valid { IfOk result (λ bound. ValidLayers leaf.now layers.now × (bound ≡ layers_bound layers.now)) }
+    ensures fault { IfErr result (IsLayerFault leaf.now layers.now) }
+    ensures accepts { ValidLayers leaf.now layers.now → IfErr result (λ fault. fault ≡ LayerFault.NoMemory) }
+    // Every crowd of the leaf can be brought to an end, within so many steps for each agent.
+    ensures ends { IfOk result (EndsWithin leaf.now) }
+{
+    checked(alloc, leaf, layers.as_slice())
+}
+
+fn checked(alloc: Global, leaf: &Leaf, layers: &[Layer]) -> Result<u64, LayerFault>
+    requires few { length layers.now ≤ 256 }
+    requires small { All (λ layer. All IsWeight layer.weights) layers.now }
+    ensures valid { IfOk result (λ bound. ValidLayers leaf.now layers.now × (bound ≡ layers_bound layers.now)) }
+    ensures fault { IfErr result (IsLayerFault leaf.now layers.now) }
+    ensures formed { IsLeaf leaf.now }
+{
+    let places = places_of(alloc, leaf, layers)?;
+    check_moves(alloc, leaf, layers, places.as_slice())?;
+    Ok(bound_of(layers))
+}
+
+/// Whether the moves stand in layers, lower their weights and wake none of earlier layers.
+fn check_moves(
+    alloc: Global,
+    leaf: &Leaf,
+    layers: &[Layer],
+    places: &[Option<u16>],
+) -> Result<(), LayerFault>
+    requires few { length layers.now ≤ 256 }
+    requires small { All (λ layer. All IsWeight layer.weights) layers.now }
+    requires formed { IsLeaf leaf.now }
+    requires placed { ArePlaces leaf.now layers.now places.now }
+    ensures valid { OnOk result (ValidLayers leaf.now layers.now) }
+    ensures fault { IfErr result (IsLayerFault leaf.now layers.now) }
+{
+    if let Some(t) = first_unlisted(leaf, places) {
+        return Err(LayerFault::NoLayer(t));
+    }
+    if let Some(t) = first_heavy(leaf, layers, places) {
+        return Err(LayerFault::NotLower(t));
+    }
+    let table = pair_table(alloc, leaf, places)?;
+    match first_waking(leaf, places, &table) {
+        Some((t, u)) => Err(LayerFault::Wakes(t, u)),
+        None => Ok(()),
+    }
+}

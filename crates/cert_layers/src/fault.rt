@@ -1,0 +1,39 @@
+//! Why layers are not valid.
+
+use std::alloc::{AllocError, AllocFailed};
+
+/// The first place at which layers fail; a shape before a missing layer, that before a weight, and that before a waking.
+#[derive(Clone, Copy, Debug, PartialEq, Eq)]
+pub enum LayerFault {
+    /// The first layer that hasn't one weight per state, or lists a number that no move has or that was listed before.
+    Shape(u32),
+    /// The least non-silent move in no layer.
+    NoLayer(u32),
+    /// The least non-silent move that doesn't weigh less after it than before, by the weights of its layer.
+    NotLower(u32),
+    /// The least non-silent move that wakes a move of an earlier layer, and the least such move.
+    Wakes(u32, u32),
+    NoMemory,
+}
+
+impl From<AllocError> for LayerFault {
+    ghost use Rattle.std.specs.Prelude.{◌≡◌};
+    ghost use Rattle.cert_layers.specs.declared.fault.LayerFault.TheVariants.{NoMemory};
+
+    ghost from_gives = { λ _ e. e ≡ NoMemory };
+
+    fn from(_e: AllocError) -> LayerFault {
+        LayerFault::NoMemory
+    }
+}
+
+impl<T: Drop> From<AllocFailed<T>> for LayerFault {
+    ghost use Rattle.std.specs.Prelude.{◌≡◌};
+    ghost use Rattle.cert_layers.specs.declared.fault.LayerFault.TheVariants.{NoMemory};
+
+    ghost from_gives = { λ _ e. e ≡ NoMemory };
+
+    fn from(_e: AllocFailed<T>) -> LayerFault {
+        LayerFault::NoMemory
+    }
+}

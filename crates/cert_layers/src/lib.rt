@@ -1,0 +1,18 @@
+//! The check of a leaf's ranking layers.
+//! It stands on `cert_base`.
+//! The layer above uses: `check_layers` accepts exactly valid layers, gives their bound, and says that every crowd ends within it.
+#![tactic(auto)]
+
+mod bound;
+mod check;
+mod fault;
+mod lower;
+mod pairs;
+mod places;
+mod waking;
+
+pub use check::check_layers;
+pub use fault::LayerFault;
+
+#[cfg(test)]
+mod tests;

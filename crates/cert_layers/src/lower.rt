@@ -1,0 +1,77 @@
+//! Whether every move stands in a layer, and lowers its weights.
+
+ghost use Rattle.std.specs.Prelude.{◌≡◌, ◌<◌, ◌≤◌, ◌+ℤ◌, length, All, IfSome};
+ghost use Rattle.cert_base.specs.ValidLayers.{weight_at};
+ghost use Rattle.pop_net.specs.FirstFault.{first_below};
+ghost use Rattle.pop_net.specs.LeafModel.{IsLeaf};
+ghost use Rattle.cert_layers.specs.LayerFaults.{IsWeight};
+ghost use Rattle.cert_layers.specs.Places.{ArePlaces};
+ghost use Rattle.cert_layers.specs.Search.{is_unlisted as unlisted, is_lower as lower, is_heavy as heavy};
+
+use cert_base::Layer;
+use pop_net::{Leaf, Move};
+
+/// The least non-silent move in no layer.
+pub(crate) fn first_unlisted(leaf: &Leaf, places: &[Option<u16>]) -> Option<u32>
+    requires { length places.now ≡ length leaf.now.moves }
+    ensures { result ≡ first_below (length leaf.now.moves) (unlisted leaf.now places.now) }
+{
+    (0..leaf.move_count()).find(|t| is_unlisted(leaf, places, *t))
+}
+
+fn is_unlisted(leaf: &Leaf, places: &[Option<u16>], t: u32) -> bool
+    requires long { length places.now ≡ length leaf.now.moves }
+    requires in_range { t < length leaf.now.moves }
+    ensures { result ≡ unlisted leaf.now places.now t }
+{
+    let taken = leaf.move_at(t);
+    !taken.is_silent() && places[t as usize].is_none()
+}
+
+/// The least non-silent move that doesn't lower the weights of its layer.
+pub(crate) fn first_heavy(leaf: &Leaf, layers: &[Layer], places: &[Option<u16>]) -> Option<u32>
+    requires formed { IsLeaf leaf.now }
+    requires placed { ArePlaces leaf.now layers.now places.now }
+    requires small { All (λ layer. All IsWeight layer.weights) layers.now }
+    ensures { result ≡ first_below (length leaf.now.moves) (heavy leaf.now layers.now places.now) }
+{
+    (0..leaf.move_count()).find(|t| is_heavy(leaf, layers, places, *t))
+}
+
+fn is_heavy(leaf: &Leaf, layers: &[Layer], places: &[Option<u16>], t: u32) -> bool
+    requires formed { IsLeaf leaf.now }
+    requires placed { ArePlaces leaf.now layers.now places.now }
+    requires small { All (λ layer. All IsWeight layer.weights) layers.now }
+    requires in_range { t < length leaf.now.moves }
+    ensures { result ≡ heavy leaf.now layers.now places.now t }
+{
+    let taken = leaf.move_at(t);
+    match places[t as usize] {
+        None => false,
+        Some(i) => { !taken.is_silent() && !is_lower(layers[i as usize].weights.as_slice(), taken) }
+    }
+}
+
+/// Whether a move weighs less after it than before.
+fn is_lower(weights: &[i64], taken: Move) -> bool
+    requires small { All IsWeight weights.now }
+    requires p_in { taken.p < length weights.now }
+    requires q_in { taken.q < length weights.now }
+    requires r_in { taken.r < length weights.now }
+    requires s_in { taken.s < length weights.now }
+    ensures { result ≡ lower weights.now taken }
+{
+    pair_weight(weights, taken.r, taken.s) < pair_weight(weights, taken.p, taken.q)
+}
+
+/// The weights of two states together.
+fn pair_weight(weights: &[i64], first: u16, second: u16) -> i64
+    requires small { All IsWeight weights.now }
+    requires first_in { first < length weights.now }
+    requires second_in { second < length weights.now }
+    ensures { result ≡ (weight_at weights.now first +ℤ weight_at weights.now second) }
+{
+    let first = weights[first as usize];
+    let second = weights[second as usize];
+    first + second
+}
