@@ -1,7 +1,5 @@
 -- How many lines there are, and what is missing or too many.
-use Rattle.std.proofs.Common.{◌≡◌, ℕ, ◌≤◌, ◌<◌, List, [], ◌∷◌, length, refl, arith}
-use Rattle.std.specs.Prelude.{All}
-use Rattle.std.proofs.lemmas.List.Elements.{All-head, All-tail}
+use Rattle.std.proofs.Common.{◌≡◌, ℕ, List, [], ◌∷◌, refl, arith}
 use Rattle.pop_lines.specs.Lines.{IsTooFew, IsLineFault}
 use Rattle.pop_lines.specs.declared.fault.LineFault.{LineFault}
 use Rattle.pop_lines.specs.declared.fault.LineFault.TheVariants.{Missing, Extra}

@@ -1,12 +1,12 @@
 -- Starting a crowd, and meetings line by line.
-use Rattle.std.proofs.Common.{◌≡◌, ℕ, ◌+◌, ◌≤◌, ◌<◌, List, [], ◌∷◌, length, map, Result, Ok, Err, refl, sym, ap, subst, ◌∙◌, arith}
+use Rattle.std.proofs.Common.{◌≡◌, ℕ, ◌+◌, ◌≤◌, List, ◌∷◌, length, Result, Ok, Err, refl, sym, ap, ◌∙◌, arith}
 use Rattle.std.specs.Prelude.{sum}
 use Rattle.std.proofs.lemmas.Bool.{le-leb}
 use Rattle.std.proofs.lemmas.List.{length-map}
 use Rattle.pop_net.specs.declared.net.Word.{Word}
 use Rattle.pop_net.specs.NetModel.{NetModel, CrowdModel}
 use Rattle.pop_net.specs.InputCrowd.{input_crowd, start_of}
-use Rattle.pop_net.specs.Lanes.{tuple_of, crowd_of}
+use Rattle.pop_net.specs.Lanes.{crowd_of}
 use Rattle.pop_net.specs.Reaction.{after_meeting}
 use Rattle.pop_net.proofs.Tuples.{length-starts_from}
 use Rattle.pop_crowd.specs.declared.crowd.Meeting.{Meeting}
@@ -18,7 +18,7 @@ use Rattle.pop_tool.specs.declared.stop.Stop.{Stop}
 use Rattle.pop_tool.specs.declared.stop.Stop.TheVariants.{Refused, NoMemory}
 use Rattle.pop_tool.specs.Steps.{◌>>=◌, Stops}
 use Rattle.pop_tool.specs.Eval.{counted}
-use Rattle.pop_tool.specs.Play.{crowd_in, between, paired, meetings_in, played}
+use Rattle.pop_tool.specs.Play.{crowd_in, between, paired, meetings_in}
 
 pub started : (net : NetModel) (line : List ℕ) (counts : List ℕ) (crowd : List Word) → counted (counts_of net.variables line) ≡ Ok counts → crowd_of net crowd ≡ input_crowd net counts → 2 ≤ length crowd → length crowd ≤ 65536
     → crowd_in net line ≡ Ok (crowd_of net crowd)

@@ -1,6 +1,6 @@
 -- The text and the status are those of an answer.
-use Rattle.std.proofs.Common.{◌≡◌, ℕ, ◌≤◌, ◌<◌, Bool, true, false, nat_lt, List, [], ◌∷◌, ◌++◌, length, Option, Some, None, Result, Ok, Err, refl, sym, ap, subst, arith}
-use Rattle.std.specs.Prelude.{IfOk, IfSome, MatchBool, codes}
+use Rattle.std.proofs.Common.{◌≡◌, ℕ, ◌≤◌, ◌<◌, List, [], length, Option, Some, None, Result, Ok, Err, refl, sym, subst}
+use Rattle.std.specs.Prelude.{IfOk, IfSome}
 use Rattle.std.proofs.lemmas.Bool.{le-ltb, lt-ltb}
 use Rattle.pop_lines.specs.Lines.{lines_of}
 use Rattle.pop_words.specs.declared.command.Command.{Command}
@@ -14,7 +14,7 @@ use Rattle.pop_tool.specs.declared.stop.Stop.{Stop}
 use Rattle.pop_tool.specs.declared.stop.Stop.TheVariants as stop
 use Rattle.pop_tool.specs.Refusals.{usage_text}
 use Rattle.pop_tool.specs.Answer.{ended, Told, OfCommand, OfInput, OfMeaning, Answer}
-use Rattle.pop_tool.specs.Outcome.{Tells as HasLeft, IsAllowed, IsReply}
+use Rattle.pop_tool.specs.Outcome.{Tells as HasLeft, IsReply}
 use Rattle.pop_tool.specs.Told.{Allows, Tells}
 
 pub IfOk-weaker : {T E : Type 0} (P Q : T → Type 0) → ((x : T) → P x → Q x) → (r : Result T E) → IfOk r P → IfOk r Q

@@ -1,10 +1,9 @@
 -- A line is no longer than its text.
-use Rattle.std.proofs.Common.{◌≡◌, ℕ, zero, suc, ◌+◌, ◌≤◌, ◌<◌, List, [], ◌∷◌, ◌++◌, length, get_or, ap, subst, arith, length-append}
-use Rattle.std.specs.List.{flat_map}
+use Rattle.std.proofs.Common.{◌≡◌, ℕ, ◌≤◌, List, [], ◌∷◌, ◌++◌, length, get_or, ap, subst, arith, length-append}
 use Rattle.std.specs.Prelude.{All}
 use Rattle.std.proofs.lemmas.List.Folds.{length-flat_map-take}
-use Rattle.pop_lines.specs.Lines.{lines_of, completed}
-use Rattle.pop_lines.proofs.Joined.{ended, lines-joined, length-completed, length-lines}
+use Rattle.pop_lines.specs.Lines.{lines_of}
+use Rattle.pop_lines.proofs.Joined.{lines-joined, length-completed, length-lines}
 
 pub lines_short : (bytes : List ℕ) → All (λ line. length line ≤ length bytes) (lines_of bytes)
 lines_short bytes = λ i d within.

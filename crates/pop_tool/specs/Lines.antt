@@ -1,5 +1,5 @@
 -- The lines of an input, as many as its command takes.
-use Rattle.std.specs.Prelude.{ℕ, ◌+◌, List, [], ◌∷◌, length, Result, Ok, Err}
+use Rattle.std.specs.Prelude.{ℕ, List, [], ◌∷◌, Result, Ok, Err}
 use Rattle.pop_tool.specs.declared.refusal.Refusal.{Refusal}
 use Rattle.pop_tool.specs.declared.refusal.Refusal.TheVariants.{Line}
 use Rattle.pop_tool.specs.declared.refusal.LineWhy.TheVariants.{Missing, Extra}

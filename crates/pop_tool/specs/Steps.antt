@@ -1,5 +1,5 @@
 -- The steps of a command: each gives a value, or the refusal of the input.
-use Rattle.std.specs.Prelude.{◌≡◌, ℕ, Result, Ok, Err}
+use Rattle.std.specs.Prelude.{◌≡◌, Result, Ok, Err}
 use Rattle.pop_tool.specs.declared.refusal.Refusal.{Refusal}
 use Rattle.pop_tool.specs.declared.stop.Stop.{Stop}
 use Rattle.pop_tool.specs.declared.stop.Stop.TheVariants.{Refused, NoMemory}

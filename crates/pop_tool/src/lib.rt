@@ -3,11 +3,11 @@
 //! The layer above uses: what the sink gains and the status are what `specs/Answer.antt` gives.
 #![tactic(auto)]
 
+mod command;
 mod eval;
 mod json;
 mod lines;
 mod play;
-mod command;
 mod refusal;
 mod reply;
 mod status;
