@@ -1,5 +1,5 @@
 -- The tuples of a crowd's words.
-use Rattle.std.proofs.Common.{◌≡◌, ◌≢◌, ℕ, Bool, true, false, not, ◌&&◌, ◌||◌, List, [], length, get_or, set, refl, ap, sym, subst, ◌∙◌}
+use Rattle.std.proofs.Common.{◌≡◌, ◌≢◌, ℕ, Bool, true, false, not, ◌&&◌, ◌||◌, List, [], get_or, set, refl, ap, sym, subst, ◌∙◌}
 use Rattle.std.specs.Prelude.{Some, All, Decides, slice_get, slice_index_or, nat_eq, ◌==◌}
 use Rattle.std.specs.Cmp.Lexicographic.{pointwise}
 use Rattle.std.proofs.lemmas.List.{map-set}
@@ -13,14 +13,13 @@ use Rattle.pop_net.specs.NetModel.{NetModel, Tuple, IsTuple}
 use Rattle.pop_net.specs.Step.{Step}
 use Rattle.pop_net.specs.Lanes.{tuple_of, crowd_of, IsValid}
 use Rattle.pop_net.specs.Reaction.{reaction, after_meeting}
-use Rattle.pop_net.proofs.Digits.{length-digits}
-use Rattle.pop_net.proofs.Packing.{same_word}
+use Rattle.pop_net.proofs.Packing.{same_word, is_tuple}
 use Rattle.pop_net.proofs.Reactions.{reaction_step}
 use Rattle.pop_crowd.specs.Replay.{reacts, changes}
 
 -- each tuple of a crowd of words has one state per leaf
 pub crowd_tuples : (net : NetModel) (words : List Word) → All (IsTuple net) (crowd_of net words)
-crowd_tuples net words = All-map (IsTuple net) (tuple_of net) words (λ k d l. length-digits 256 (length net.leaves) (get_or words k d).0)
+crowd_tuples net words = All-map (IsTuple net) (tuple_of net) words (λ k d l. is_tuple net (get_or words k d))
 
 pub tuple_at : (net : NetModel) (words : List Word) (a : ℕ) (x : Word) → slice_get words a ≡ Some x → slice_get (crowd_of net words) a ≡ Some (tuple_of net x)
 tuple_at net words a x h = slice_get-map (tuple_of net) words a ∙ ap (option_map (tuple_of net)) h
@@ -74,4 +73,4 @@ module _ (net : NetModel) (words : List Word) (a b : ℕ) (x y x' y' : Word) (ha
   pub write_step : a ≢ b → Step net (crowd_of net words) (crowd_of net (set (set words a x') b y'))
   write_step ne =
       subst (Step net (crowd_of net words)) (sym after_write)
-      (reaction_step net (crowd_of net words) a b (tuple_of net x) (tuple_of net y) ne (tuple_at net words a x ha) (tuple_at net words b y hb) (length-digits 256 (length net.leaves) x.0) (length-digits 256 (length net.leaves) y.0))
+      (reaction_step net (crowd_of net words) a b (tuple_of net x) (tuple_of net y) ne (tuple_at net words a x ha) (tuple_at net words b y hb) (is_tuple net x) (is_tuple net y))

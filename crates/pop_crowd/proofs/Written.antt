@@ -12,7 +12,7 @@ use Rattle.std.proofs.lemmas.List.Sums.{count_by-le-length}
 use Rattle.pop_net.specs.declared.net.Word.{Word}
 use Rattle.pop_net.specs.NetModel.{NetModel, Tuple, CrowdModel, IsTuple, HasStates}
 use Rattle.pop_net.specs.Lanes.{tuple_of, crowd_of, AreValid}
-use Rattle.pop_net.proofs.Digits.{length-digits}
+use Rattle.pop_net.proofs.Packing.{is_tuple}
 use Rattle.pop_crowd.specs.Tally.{tuple_cmp, tuples_of, agents_with, counts_of, crowd_line}
 use Rattle.pop_crowd.specs.Shown.{shown}
 use Rattle.pop_crowd.proofs.Counted.{shown-insert, shown-lookup, counts_more, count_found, tuples_of-crowd}
@@ -51,7 +51,7 @@ good_counts net words valid = All-map (IsGood net) (λ t. (t, agents_with crowd 
     GoodTuple t = IsTuple net t × HasStates net t
 
     good : All GoodTuple crowd
-    good = All-map GoodTuple (tuple_of net) words (λ k d l. (length-digits 256 (length net.leaves) (get_or words k d).0, (let v = valid k d l in v.states)))
+    good = All-map GoodTuple (tuple_of net) words (λ k d l. (is_tuple net (get_or words k d), (let v = valid k d l in v.states)))
 
 abbrev pub lines_left : NetModel → List (Tuple × ℕ) → List ℕ
 lines_left net es = concat (map (λ (e : Tuple × ℕ). crowd_line net e.0 e.1) es)

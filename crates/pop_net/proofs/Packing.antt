@@ -4,9 +4,9 @@ use Rattle.std.proofs.Math.Nat.{pow-zero, pow-suc, mul_assoc, add-mul-mod_self_r
 use Rattle.std.proofs.lemmas.Nat.{div_below, div-add-mod'}
 use Rattle.std.proofs.lemmas.List.{take_more, take_all}
 use Rattle.pop_net.specs.declared.net.Word.{Word}
-use Rattle.pop_net.specs.NetModel.{NetModel, state_of}
+use Rattle.pop_net.specs.NetModel.{NetModel, IsTuple, state_of}
 use Rattle.pop_net.specs.Lanes.{digits, tuple_of, IsValid}
-use Rattle.pop_net.proofs.Digits.{get_or-digits}
+use Rattle.pop_net.proofs.Digits.{length-digits, get_or-digits}
 
 low_part : (base word s p : ℕ) → (word + s * (p * base)) % base ≡ word % base
 low_part base word s p = ap (λ n. (word + n) % base) (sym (mul_assoc s p base)) ∙ add-mul-mod_self_right word (s * p) base
@@ -69,3 +69,7 @@ digits-same base (suc n) x y l hx hy e =
 pub same_word : (net : NetModel) (v w : Word) → IsValid net v → IsValid net w → tuple_of net v ≡ tuple_of net w → v ≡ w
 same_word net v w hv hw e =
     ap (λ (n : ℕ). record { 0 = n }) (digits-same 256 (length net.leaves) v.0 w.0 (omega arith) hv.rest hw.rest e)
+
+-- a word's tuple has one state per leaf
+pub is_tuple : (net : NetModel) (word : Word) → IsTuple net (tuple_of net word)
+is_tuple net word = length-digits 256 (length net.leaves) word.0

@@ -1,23 +1,17 @@
 -- Pairs of words whose reaction changes nothing.
-use Rattle.std.proofs.Common.{◌≡◌, ◌≢◌, ◌⊎◌, inl, inr, ℕ, zero, suc, pred, ◌+◌, ◌<◌, ◌≤◌, Bool, true, false, not, ◌&&◌, ◌||◌, List, [], ◌∷◌, length, map, get_or, refl, ap, sym, subst, ◌∙◌, arith}
-use Rattle.std.specs.Prelude.{Option, Some, None, All, Contains, Decides, find, is_none, slice_get, nat_eq, ◌==◌}
+use Rattle.std.proofs.Common.{◌≡◌, ℕ, pred, Bool, true, false, not, ◌&&◌, ◌||◌, List, [], ◌∷◌, length, map, refl, ap, sym, ◌∙◌}
+use Rattle.std.specs.Prelude.{Option, Some, None, find, is_none, nat_eq, ◌==◌}
 use Rattle.std.specs.Cmp.Lexicographic.{pointwise}
-use Rattle.std.proofs.lemmas.Bool.{and_parts, and_from, not-true, not-false, not_from_true, not_from_false, false≢true, cases_Bool, cases_order, eqb-true, eq-eqb}
+use Rattle.std.proofs.lemmas.Bool.{and_parts, and_from, not-true, not-false, not_from_true, false≢true, eqb-true, eq-eqb}
 use Rattle.std.proofs.lemmas.Bool.Decides.{Decides-eqb}
 use Rattle.std.proofs.lemmas.Slice.Eq.{slice_eq-Decides}
-use Rattle.std.proofs.lemmas.Option.{get_or_from_slice_get, slice_get-map, slice_get_within, slice_get-get_or}
-use Rattle.std.proofs.lemmas.List.{length-map}
 use Rattle.pop_net.specs.declared.leaf.Move.{Move}
-use Rattle.pop_net.specs.declared.net.Word.{Word}
 use Rattle.pop_net.specs.LeafModel.{LeafModel, is_silent, same_pair}
-use Rattle.pop_net.specs.NetModel.{NetModel, Tuple, CrowdModel, IsTuple}
-use Rattle.pop_net.specs.Step.{Step}
-use Rattle.pop_net.specs.Terminal.{IsTerminal}
-use Rattle.pop_net.specs.Reaction.{takes, after_move, by_move, leaf_reaction, reactions, reaction, after_meeting}
+use Rattle.pop_net.specs.NetModel.{NetModel, Tuple}
+use Rattle.pop_net.specs.Reaction.{takes, after_move, by_move, leaf_reaction, reactions, reaction}
 use Rattle.pop_net.proofs.Found.{find_some}
-use Rattle.pop_net.proofs.Quiet.{leaf_quiet, leaves_quiet, quiet_change, All-slice_get, set_same}
-use Rattle.pop_net.proofs.Reactions.{reaction_step}
-use Rattle.pop_crowd.specs.Replay.{reacts, changes}
+use Rattle.pop_net.proofs.Quiet.{leaf_quiet, leaves_quiet}
+use Rattle.pop_crowd.specs.Replay.{reacts}
 
 -- the reaction of two tuples leaves both as they are
 pub still : (net : NetModel) (x y : Tuple) → reacts net x y ≡ false → ((reaction net x y).0 ≡ x) × ((reaction net x y).1 ≡ y)

@@ -1,8 +1,7 @@
 use Rattle.std.proofs.Common.{◌≡◌, sym, ◌∙◌, arith, length, ap}
-use Rattle.std.specs.Prelude.{Option, None, Some}
+use Rattle.std.specs.Prelude.{None, Some}
 use Rattle.std.proofs.lemmas.Bool.{eq-eqb, ne_eqb, OnTrue_at}
 use Rattle.pop_net.specs.declared.net.Item.TheVariants.{Leaf}
-use Rattle.pop_net.specs.declared.fault.CombinationFault.{CombinationFault}
 use Rattle.pop_net.specs.declared.fault.CombinationFault.TheVariants as combination
 use Rattle.pop_net.specs.FirstFault.{unless}
 use Rattle.pop_net.specs.NetFaults.{fault_of_combination}

@@ -1,7 +1,6 @@
 use Rattle.std.proofs.Common.{◌≡◌, ◌<◌, ℕ, false, length, sym, subst, refl, ◌∙◌, arith}
-use Rattle.std.specs.Prelude.{Option, Some, None, All}
+use Rattle.std.specs.Prelude.{Some}
 use Rattle.std.proofs.lemmas.List.{length-map}
-use Rattle.pop_net.specs.NetModel.{IsTuple}
 use Rattle.pop_net.specs.Lanes.{tuple_of, crowd_of}
 use Rattle.pop_crowd.specs.Replay.{changes}
 use Rattle.pop_crowd.proofs.Words.{crowd_tuples}

@@ -1,4 +1,4 @@
-use Rattle.std.proofs.Common.{◌≡◌, ◌<◌, length, sym, ◌∙◌, arith}
+use Rattle.std.proofs.Common.{◌<◌, sym, ◌∙◌, arith}
 use Rattle.std.proofs.lemmas.List.{length-map}
 use Rattle.pop_net.specs.Lanes.{tuple_of, crowd_of, IsValid}
 use Rattle.pop_net.proofs.Quiet.{All-slice_get}
