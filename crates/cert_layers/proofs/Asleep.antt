@@ -1,8 +1,8 @@
 -- Which moves are not woken.
-use Rattle.std.proofs.Common.{◌≡◌, ◌⊎◌, inl, inr, ℕ, ◌<◌, ◌≤◌, Bool, true, false, not, ◌&&◌, ◌||◌, List, length, refl, ap, sym, subst, ◌∙◌, arith}
+use Rattle.std.proofs.Common.{◌≡◌, ◌⊎◌, inl, inr, ℕ, ◌<◌, ◌≤◌, Bool, true, false, not, ◌&&◌, List, length, refl, sym, subst, ◌∙◌}
 use Rattle.std.specs.Prelude.{Option, Some, None, slice_get, nat_lt, ◌==◌}
 use Rattle.std.specs.List.{list_any, range_with_len}
-use Rattle.std.proofs.lemmas.Bool.{and_parts, and_cases, and_left, and_right, or_parts, or_cases, not-true, not-false, ltb-true, lt-ltb, cases_Bool, cases_lt, eqb-true}
+use Rattle.std.proofs.lemmas.Bool.{and_cases, and_left, and_right, or_parts, or_cases, not-false, ltb-true, lt-ltb, cases_Bool, cases_lt, eqb-true}
 use Rattle.std.proofs.lemmas.Option.{slice_get_within, slice_get_past}
 use Rattle.pop_net.specs.declared.leaf.Move.{Move}
 use Rattle.pop_net.specs.LeafModel.{LeafModel, IsLeaf, IsMoveBelow, is_silent}
@@ -11,7 +11,7 @@ use Rattle.pop_net.specs.FirstFault.{first_below}
 use Rattle.pop_net.proofs.FirstFault.{none_below}
 use Rattle.cert_layers.specs.Places.{place_of}
 use Rattle.cert_layers.specs.Search.{some_move, some_place}
-use Rattle.cert_layers.specs.Waking.{first_at, is_early, IsEarly, IsTable, brings, brings_both, wakes_with, wakes, wakes_early, wakes_beside, may_wake, wakes_move, wakes_at, FindsFirst}
+use Rattle.cert_layers.specs.Waking.{first_at, is_early, IsEarly, IsTable, brings, wakes_with, wakes, wakes_early, wakes_beside, may_wake, wakes_move, wakes_at, FindsFirst}
 use Rattle.cert_layers.proofs.Firsts.{first_below-Some, list_any-none}
 use Rattle.cert_layers.proofs.Heavy.{move_small}
 

@@ -1,6 +1,6 @@
 -- The sizes of weights.
 use Rattle.std.proofs.Common.{◌≡◌, ◌⊎◌, inl, inr, ℕ, ◌^◌, ◌≤◌, List, ◌∷◌, refl, ap, sym, ◌∙◌, arith, w64, to_z, of_z, SFits}
-use Rattle.std.specs.Prelude.{ℤ, ◌-ℤ◌, ◌+ℤ◌, pos, negsuc, nat_abs, fold, All, Contains}
+use Rattle.std.specs.Prelude.{ℤ, ◌-ℤ◌, pos, negsuc, nat_abs, fold, All, Contains}
 use Rattle.std.specs.Int.{int_max, int_min}
 use Rattle.std.proofs.lemmas.Int.{ints, fold-int_min_reached, fold-int_max_reached, to_z-of_z}
 use Rattle.std.proofs.lemmas.List.Elements.{All-contains, All-head, All-tail, All-same}

@@ -1,17 +1,17 @@
 -- Layers without a failing place are valid, and the other way round.
-use Rattle.std.proofs.Common.{◌≡◌, ◌≢◌, ℕ, zero, suc, ◌+◌, ◌<◌, ◌≤◌, List, [], ◌∷◌, ◌++◌, length, take, drop, get_or, refl, ap, sym, subst, ◌∙◌, arith, length-append}
-use Rattle.std.specs.Prelude.{Result, Ok, Err, IfOk, IfErr, Some, All, AllPairs, Contains, slice_get, flat_map}
+use Rattle.std.proofs.Common.{◌≡◌, ◌≢◌, ℕ, suc, ◌+◌, ◌<◌, List, [], ◌∷◌, ◌++◌, length, take, drop, get_or, refl, ap, sym, subst, ◌∙◌, arith, length-append}
+use Rattle.std.specs.Prelude.{Result, Ok, Err, IfOk, IfErr, All, AllPairs, Contains}
 use Rattle.std.proofs.Math.Seq.{take-length}
 use Rattle.std.proofs.lemmas.List.{get_or_default, get_or_append_left, take-append-drop}
 use Rattle.std.proofs.lemmas.List.Elements.{All-contains}
 use Rattle.std.proofs.lemmas.Grind.{flat_map-append}
-use Rattle.std.proofs.lemmas.Option.{slice_get-get_or, slice_get_within}
+use Rattle.std.proofs.lemmas.Option.{slice_get-get_or}
 use Rattle.pop_net.specs.LeafModel.{LeafModel, IsLeaf}
 use Rattle.pop_net.proofs.Quiet.{All-slice_get}
 use Rattle.cert_base.specs.declared.layer.Layer.{Layer}
 use Rattle.cert_base.specs.ValidLayers.{listed, ValidLayers}
 use Rattle.cert_base.specs.ProofBound.{layers_bound}
-use Rattle.cert_layers.specs.LayerFaults.{IsShaped, ShapedAt, ListedAt, LowerAt, SleepsAt, Each, IsLayerFault, EndsWithin}
+use Rattle.cert_layers.specs.LayerFaults.{ShapedAt, ListedAt, LowerAt, SleepsAt, Each, IsLayerFault, EndsWithin}
 use Rattle.cert_layers.specs.declared.fault.LayerFault.{LayerFault}
 use Rattle.cert_layers.specs.declared.fault.LayerFault.TheVariants.{Shape, NoLayer, NotLower, Wakes, NoMemory}
 use Rattle.cert_layers.proofs.Heavy.{contains-listed}

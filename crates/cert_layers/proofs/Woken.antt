@@ -1,19 +1,19 @@
 -- What the test of waking says of the layers.
-use Rattle.std.proofs.Common.{◌≡◌, ◌⊎◌, inl, inr, ℕ, ◌+◌, ◌-◌, ◌<◌, ◌≤◌, ◌^◌, Bool, true, false, not, ◌&&◌, ◌||◌, List, length, refl, ap, sym, subst, ◌∙◌, arith}
+use Rattle.std.proofs.Common.{◌≡◌, ◌⊎◌, inl, inr, ℕ, ◌+◌, ◌-◌, ◌<◌, ◌≤◌, true, false, not, ◌&&◌, ◌||◌, List, length, refl, ap, sym, ◌∙◌, arith}
 use Rattle.std.specs.Prelude.{Option, Some, None, slice_get, nat_lt}
-use Rattle.std.proofs.lemmas.Bool.{and_parts, and_cases, or_parts, or_cases, not-true, not-false, ltb-true, lt-ltb, cases_Bool, false≢true, not_from_false, or_left, or_right}
+use Rattle.std.proofs.lemmas.Bool.{and_parts, and_cases, or_parts, or_cases, not-true, not-false, ltb-true, lt-ltb, cases_Bool, false≢true}
 use Rattle.std.proofs.lemmas.Option.{slice_get_within}
 use Rattle.pop_net.specs.declared.leaf.Move.{Move}
 use Rattle.pop_net.specs.LeafModel.{LeafModel, IsLeaf, IsMoveBelow, one_at, times_in, pre, post, is_silent}
 use Rattle.cert_base.specs.declared.layer.Layer.{Layer}
-use Rattle.cert_base.specs.ValidLayers.{IsInLayer, IsEnabledBefore}
+use Rattle.cert_base.specs.ValidLayers.{IsInLayer}
 use Rattle.cert_layers.specs.LayerFaults.{WakesNone, SleepsAt}
 use Rattle.cert_layers.specs.Places.{place_of, ArePlaces}
-use Rattle.cert_layers.specs.Search.{some_move, some_place}
-use Rattle.cert_layers.specs.Waking.{first_at, is_early, IsPair, IsEarly, IsTable, brings, brings_both, wakes_with, wakes, wakes_move, wakes_at}
+use Rattle.cert_layers.specs.Search.{some_place}
+use Rattle.cert_layers.specs.Waking.{first_at, is_early, IsPair, IsTable, brings, brings_both, wakes_with, wakes, wakes_move, wakes_at}
 use Rattle.cert_layers.proofs.Asleep.{wakes_at-placed, wakes-brought, wakes-other, right_false}
 use Rattle.cert_layers.proofs.Covers.{Like, times-like, within_two, within_three, left_none, left_one, left_both}
-use Rattle.cert_layers.proofs.Heavy.{in_layer, in_place, move_small, some_move-true, some_move-false}
+use Rattle.cert_layers.proofs.Heavy.{in_layer, in_place, move_small, some_move-true}
 
 -- a move of an earlier layer that takes x and y
 abbrev EarlyMove : LeafModel → List Layer → ℕ → ℕ → ℕ → Type 0

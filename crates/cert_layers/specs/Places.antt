@@ -1,11 +1,11 @@
 -- The layer of each move.
-use Rattle.std.specs.Prelude.{◌≡◌, ℕ, ◌+◌, ◌<◌, ◌==◌, ◌&&◌, ◌||◌, not, Bool, true, false, nat_lt, List, [], ◌∷◌, length, Contains, Option, Some, None, is_some, if◌then◌else◌, option_and_then, Result, Ok, Err, slice_get}
+use Rattle.std.specs.Prelude.{◌≡◌, ℕ, ◌==◌, ◌&&◌, not, nat_lt, List, [], ◌∷◌, length, Contains, Option, Some, None, is_some, if◌then◌else◌, option_and_then, Result, Ok, Err, slice_get}
 use Rattle.std.specs.List.{slice_index_or, slice_set}
 use Rattle.pop_net.specs.LeafModel.{LeafModel}
 use Rattle.cert_base.specs.declared.layer.Layer.{Layer}
 use Rattle.cert_layers.specs.LayerFaults.{Each, ShapedAt, IsFirstFailing}
 use Rattle.cert_layers.specs.declared.fault.LayerFault.{LayerFault}
-use Rattle.cert_layers.specs.declared.fault.LayerFault.TheVariants.{Shape, NoLayer, NotLower, Wakes, NoMemory}
+use Rattle.cert_layers.specs.declared.fault.LayerFault.TheVariants.{Shape, NoMemory}
 
 abbrev pub place_of : List (Option ℕ) → ℕ → Option ℕ
 place_of places n = slice_index_or places n None

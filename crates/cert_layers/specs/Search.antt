@@ -1,5 +1,5 @@
 -- Tests of the moves of a leaf with layers.
-use Rattle.std.specs.Prelude.{ℕ, Bool, false, true, not, ◌&&◌, List, [], ℤ, ◌+ℤ◌, int_lt, Option, Some, None, is_some, slice_get}
+use Rattle.std.specs.Prelude.{ℕ, Bool, false, not, ◌&&◌, List, [], ℤ, ◌+ℤ◌, int_lt, Option, Some, None, is_some, slice_get}
 use Rattle.std.specs.List.{slice_index_or}
 use Rattle.pop_net.specs.declared.leaf.Move.{Move}
 use Rattle.pop_net.specs.LeafModel.{LeafModel, is_silent}

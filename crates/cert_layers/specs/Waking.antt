@@ -1,5 +1,5 @@
 -- Which moves wake moves of earlier layers, by a table of pairs of states.
-use Rattle.std.specs.Prelude.{◌≡◌, ℕ, ◌+◌, ◌*◌, ◌<◌, ◌≤◌, ◌⊎◌, ◌==◌, ◌&&◌, ◌||◌, not, Bool, true, false, nat_lt, List, length, Option, Some, None, slice_get, replicate, if◌then◌else◌}
+use Rattle.std.specs.Prelude.{◌≡◌, ℕ, ◌+◌, ◌*◌, ◌<◌, ◌⊎◌, ◌==◌, ◌&&◌, ◌||◌, not, Bool, true, false, nat_lt, List, length, Option, Some, None, slice_get, replicate, if◌then◌else◌}
 use Rattle.std.specs.List.{slice_index_or, list_any, range_with_len}
 use Rattle.pop_net.specs.declared.leaf.Move.{Move}
 use Rattle.pop_net.specs.LeafModel.{LeafModel, is_silent}

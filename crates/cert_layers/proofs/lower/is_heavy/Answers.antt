@@ -1,6 +1,4 @@
 use Rattle.std.proofs.Common.{sym, ap, ◌∙◌, not}
-use Rattle.std.specs.Prelude.{List, ℤ}
-use Rattle.cert_layers.specs.Search.{is_lower}
 use Rattle.cert_layers.proofs.Heavy.{placed_below, heavy_at}
 use Rattle.cert_layers.proofs.lower.is_heavy.Goals as goal
 

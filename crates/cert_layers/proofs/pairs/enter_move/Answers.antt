@@ -1,5 +1,4 @@
-use Rattle.std.proofs.Common.{inl, inr, sym, ◌∙◌, ◌<◌, ℕ}
-use Rattle.pop_net.specs.declared.leaf.Move.{Move}
+use Rattle.std.proofs.Common.{inl, inr, sym, ◌∙◌}
 use Rattle.cert_layers.proofs.Heavy.{move_small}
 use Rattle.cert_layers.proofs.PairEntries.{table-skip, table-enter}
 use Rattle.cert_layers.proofs.pairs.enter_move.Goals as goal

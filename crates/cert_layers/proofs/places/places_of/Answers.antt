@@ -1,6 +1,6 @@
-use Rattle.std.proofs.Common.{length, refl, arith, List, Option, ℕ, subst, ◌≡◌, sym}
+use Rattle.std.proofs.Common.{length, refl, arith, ℕ, subst, ◌≡◌}
 use Rattle.std.proofs.lemmas.Option.{slice_get_read}
-use Rattle.cert_layers.proofs.Filled.{Filled, filled-none, filled-enter, filled-refused, filled-places}
+use Rattle.cert_layers.proofs.Filled.{Filled, filled-enter, filled-refused, filled-places}
 use Rattle.cert_layers.proofs.places.places_of.Goals as goal
 
 pub returns-then-not-enter_layer-clause-places : goal.returns-then-not-enter_layer-clause-places

@@ -1,4 +1,4 @@
-use Rattle.std.proofs.Common.{sym, ◌∙◌, arith}
+use Rattle.std.proofs.Common.{sym, ◌∙◌}
 use Rattle.cert_layers.proofs.Asleep.{asleep_move, finds-below}
 use Rattle.cert_layers.proofs.waking.woken_in_layer.Goals as goal
 
