@@ -12,3 +12,5 @@ pub mod Digits
 pub mod Lexing
 pub mod Printed
 pub mod PrintedTrees
+pub mod Kept
+pub mod KeptRuns

@@ -20,11 +20,11 @@ use Rattle.pres_read.proofs.Fronts.{front, step_follows, front-run, symbols-end}
 use Rattle.pres_read.proofs.Goes.{goes_on}
 use Rattle.pres_read.proofs.Shows.{IsShown, Agrees, EndAgrees, step_agrees, finish_agrees, start_shown}
 
-abbrev NoStep : Trace → List Placed → Type 0
+abbrev pub NoStep : Trace → List Placed → Type 0
 NoStep b [] = trace_end b ≡ None
 NoStep b (t ∷ ts) = trace_step b t.symbol ≡ None
 
-record StopsAt (a : Trace) (ts : List Placed) (end at : ℕ) : Type 0 where
+pub record StopsAt (a : Trace) (ts : List Placed) (end at : ℕ) : Type 0 where
   before : List Placed
   rest : List Placed
   tokens : ts ≡ before ++ rest
@@ -33,12 +33,12 @@ record StopsAt (a : Trace) (ts : List Placed) (end at : ℕ) : Type 0 where
   stuck : NoStep last rest
   place : place_of rest end ≡ at
 
-record ReadsTo (names : List (List ℕ)) (a : Trace) (ts : List Placed) (tree : PredTree) : Type 0 where
+pub record ReadsTo (names : List (List ℕ)) (a : Trace) (ts : List Placed) (tree : PredTree) : Type 0 where
   phrase : Phrase APred
   read : trace_read a (symbols_of ts) ≡ Some phrase
   means : meaning names phrase ≡ tree
 
-abbrev Comes : List (List ℕ) → Trace → List Placed → ℕ → Result PredTree ReadPred → Type 0
+abbrev pub Comes : List (List ℕ) → Trace → List Placed → ℕ → Result PredTree ReadPred → Type 0
 Comes names a ts end (Ok tree) = ReadsTo names a ts tree
 Comes names a ts end (Err (Syntax at)) = StopsAt a ts end at
 Comes names a ts end (Err (UnknownName at)) = Unit {0}
@@ -79,7 +79,7 @@ further_comes names a b t ts end (Err (TooDeep at)) e h = tt
 further_comes names a b t ts end (Err (LongText n)) e h = absurd h
 further_comes names a b t ts end (Err NoMemory) e h = absurd h
 
-abbrev going : List (List ℕ) → ℕ → List Placed → Result (Progress × Depth) ReadPred → Result PredTree ReadPred
+abbrev pub going : List (List ℕ) → ℕ → List Placed → Result (Progress × Depth) ReadPred → Result PredTree ReadPred
 going names end ts r = r >>= λ q. run names end q.0 q.1 ts
 
 deep_comes : (names : List (List ℕ)) (a b : Trace) (t : Placed) (ts : List Placed) (end : ℕ) (q : Progress) (d : Depth) (deep : Bool)
@@ -103,7 +103,7 @@ step_comes names a t ts end d o (Err (TooDeep at)) later e h = tt
 step_comes names a t ts end d o (Err (LongText n)) later e h = absurd h
 step_comes names a t ts end d o (Err NoMemory) later e h = absurd h
 
-run_comes : (names : List (List ℕ)) (end : ℕ) (ts : List Placed) (p : Progress) (a : Trace) (d : Depth) → IsShown names p a → Comes names a ts end (run names end p d ts)
+pub run_comes : (names : List (List ℕ)) (end : ℕ) (ts : List Placed) (p : Progress) (a : Trace) (d : Depth) → IsShown names p a → Comes names a ts end (run names end p d ts)
 run_comes names end [] p a d h = end_comes names a end (trace_end a) (finish p end) refl (finish_agrees names p a end h)
 run_comes names end (t ∷ ts) p a d h =
     step_comes names a t ts end d (trace_step a t.symbol) (step names p t) (λ q b e k. run_comes names end ts q b e k) refl (step_agrees names p a t h)
@@ -151,7 +151,7 @@ derived_law : (names : List (List ℕ)) (ts : List Placed) (tree : PredTree) →
 derived_law names ts tree h =
     record { phrase = h.phrase; spelled = symbols-read begun (symbols_of ts) h.phrase h.read; means = h.means }
 
-only_law : (names : List (List ℕ)) (ts : List Placed) (tree other : PredTree) → ReadsTo names begun ts tree → Derives names (symbols_of ts) other → tree ≡ other
+pub only_law : (names : List (List ℕ)) (ts : List Placed) (tree other : PredTree) → ReadsTo names begun ts tree → Derives names (symbols_of ts) other → tree ≡ other
 only_law names ts tree other h d =
     let whole = trace_read-symbols d.phrase in
     let here = ap (trace_read begun) d.spelled in
@@ -159,7 +159,7 @@ only_law names ts tree other h d =
     let same : h.phrase ≡ d.phrase = cc in
     sym h.means ∙ ap (meaning names) same ∙ d.means
 
-never_law : (names : List (List ℕ)) (ts : List Placed) (end at : ℕ) (tree : PredTree) → StopsAt begun ts end at → Derives names (symbols_of ts) tree → ⊥
+pub never_law : (names : List (List ℕ)) (ts : List Placed) (end at : ℕ) (tree : PredTree) → StopsAt begun ts end at → Derives names (symbols_of ts) tree → ⊥
 never_law names ts end at tree h d =
     never_read h.last (symbols_of h.before) (symbols_of h.rest) d.phrase h.went (not_read h.last h.rest h.stuck)
     (d.spelled ∙ ap symbols_of h.tokens ∙ map-append (λ (t : Placed). t.symbol) h.before h.rest)

@@ -6,6 +6,7 @@ pub mod Depth
 pub mod Reading
 pub mod Grammar
 pub mod Texts
+pub mod Rules
 pub mod Canonical
 pub mod Sound
 pub mod Views

@@ -49,3 +49,13 @@ IsReadAs tree (Err (TooLarge at)) = Unit {0}
 IsReadAs tree (Err (TooDeep at)) = Unit {0}
 IsReadAs tree (Err (LongText n)) = Unit {0}
 IsReadAs tree (Err NoMemory) = Unit {0}
+
+-- the tree is read, unless memory ran out
+abbrev pub IsReadTo : PredTree → Result PredModel ReadPred → Type 0
+IsReadTo tree (Ok pred) = pred.tree ≡ tree
+IsReadTo tree (Err (Syntax at)) = ⊥
+IsReadTo tree (Err (UnknownName at)) = ⊥
+IsReadTo tree (Err (TooLarge at)) = ⊥
+IsReadTo tree (Err (TooDeep at)) = ⊥
+IsReadTo tree (Err (LongText n)) = ⊥
+IsReadTo tree (Err NoMemory) = Unit {0}

@@ -11,8 +11,9 @@ ghost use Rattle.pres_read.specs.Outcome.{Gives};
 ghost use Rattle.pres_read.specs.Progress.{start};
 ghost use Rattle.pres_read.specs.Depth.{surface};
 ghost use Rattle.pres_read.specs.Reading.{run, read_on, pred_read};
-ghost use Rattle.pres_read.specs.Grammar.{Derives};
-ghost use Rattle.pres_read.specs.Texts.{text_symbols, IsReadAs, IsSyntaxFault};
+ghost use Rattle.pres_read.specs.Grammar.{APred, Phrase, symbols, meaning, Derives};
+ghost use Rattle.pres_read.specs.Texts.{text_symbols, IsReadAs, IsReadTo, IsSyntaxFault};
+ghost use Rattle.pres_read.specs.Rules.{Fits, IsShallow};
 ghost use Rattle.pres_read.specs.Sound.{IsSound};
 ghost use Rattle.pres_read.specs.Views.{progress_of, depth_of};
 
@@ -38,6 +39,9 @@ pub fn read_pred(alloc: Global, text: &[u8], names: &List<Text>) -> Result<Pred,
     ensures derived { IfOk result (λ pred. Derives names.now (text_symbols text.now) pred.tree) }
     // A text that the grammar relates to a tree is read to no other one, and is no fault of syntax.
     ensures only { (tree : PredTree) → Derives names.now (text_symbols text.now) tree → IsReadAs tree result }
+    // A text of the grammar is read where it is short, its names are known, and its numbers and depth are within the limits.
+    ensures kept { (phrase : Phrase APred) → symbols phrase ≡ text_symbols text.now → length text.now ≤ TEXT_LIMIT
+        → Fits names.now phrase → IsShallow surface (text_symbols text.now) → IsReadTo (meaning names.now phrase) result }
     // The tokens before the place begin a text of the grammar, and none goes on so.
     ensures syntax { (at : ℕ) → result ≡ Err (ReadPred.Syntax at) → IsSyntaxFault text.now at }
 {

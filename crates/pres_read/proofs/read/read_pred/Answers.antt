@@ -1,3 +1,5 @@
+use Rattle.pres_read.specs.Grammar.{meaning}
+use Rattle.pres_read.proofs.KeptRuns.{given_kept, kept_read}
 use Rattle.pres_read.proofs.Outcomes.{given_laws}
 use Rattle.pres_read.proofs.read.read_pred.Goals as goal
 
@@ -9,3 +11,8 @@ returns-clause-only c = (given_laws c.args.names.now c.args.text.now c.read_exac
 
 pub returns-clause-syntax : goal.returns-clause-syntax
 returns-clause-syntax c = (given_laws c.args.names.now c.args.text.now c.read_exactly.result c.read_exactly.ensures).syntax_at
+
+pub returns-clause-kept : goal.returns-clause-kept
+returns-clause-kept c = λ phrase spelled short fits shallow.
+    given_kept c.args.names.now c.args.text.now (meaning c.args.names.now phrase) c.read_exactly.result c.read_exactly.ensures
+    (kept_read c.args.names.now c.args.text.now phrase spelled short fits shallow)
