@@ -15,3 +15,4 @@ pub mod PrintedTrees
 pub mod Kept
 pub mod KeptRuns
 pub mod Again
+pub mod Heeded
