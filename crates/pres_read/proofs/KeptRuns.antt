@@ -1,13 +1,12 @@
 -- Where the rules are kept no fault but one of syntax comes, and so a text of the grammar is read.
-use Rattle.std.proofs.Common.{◌≡◌, ℕ, zero, suc, ◌+◌, ◌^◌, ◌<◌, ◌≤◌, Bool, true, false, List, [], ◌∷◌, ◌++◌, length, ltb, Option, Some, None, Result, Ok, Err, refl, sym, ap, subst, ◌∙◌, arith, ℤ, pos, ◌+ℤ◌, nat_abs, position, get_or, slice_set, codes}
+use Rattle.std.proofs.Common.{◌≡◌, ℕ, ◌^◌, ◌≤◌, Bool, true, false, List, [], ◌∷◌, length, ltb, Option, Some, None, Result, Ok, Err, refl, sym, ap, subst, arith, ℤ, pos, ◌+ℤ◌, nat_abs, position, get_or, slice_set}
 use Rattle.std.specs.Prelude.{if◌then◌else◌, ◌||◌}
 use Rattle.std.specs.Str.{bytes_eq}
-use Rattle.std.proofs.lemmas.Bool.{ltb-true, ltb-false, le-ltb}
+use Rattle.std.proofs.lemmas.Bool.{ltb-true}
 use Rattle.pres_ast.specs.PredTree.{PredTree}
 use Rattle.pres_ast.specs.PredModel.{PredModel}
 use Rattle.pres_tokens.specs.declared.token.Relation.{Relation}
-use Rattle.pres_tokens.specs.declared.token.Relation.TheVariants.{Less, AtMost, Greater, AtLeast, Equal, Unequal}
-use Rattle.pres_tokens.specs.Symbols.{Symbol, Name, Number, Plus, Minus, Star, Compare, And, Or, Not, Open, Close, Mod, Stray, Placed}
+use Rattle.pres_tokens.specs.Symbols.{Symbol, Name, Number, Plus, Minus, Star, Compare, And, Or, Not, Open, Close, Mod, Placed}
 use Rattle.pres_tokens.specs.Tokens.{tokens_of}
 use Rattle.pres_read.specs.declared.fault.ReadPred.{ReadPred}
 use Rattle.pres_read.specs.declared.fault.ReadPred.TheVariants.{Syntax, UnknownName, TooLarge, TooDeep, LongText, NoMemory}
@@ -16,12 +15,12 @@ use Rattle.pres_read.specs.Numbers.{value_of, value_within}
 use Rattle.pres_read.specs.Atoms.{signed, negated_if, equality, constant_limit, Factor, lone, with_coef, with_number, with_term, added}
 use Rattle.pres_read.specs.Progress.{Span, Around, Next, AUnit, ATerm, AStar, AName, ARelation, AConstant, ANumber, AModulo, AModulus, ASign, Progress, start}
 use Rattle.pres_read.specs.Depth.{Depth, surface, deeper, within_depth, sunk}
-use Rattle.pres_read.specs.Reading.{zeros, after_constant, after_sum, at_term, at_unit, at_star, at_name, at_relation, with_constant, at_number, at_constant, with_modulus, at_modulus, closed, at_sign, up_to_unit, after_equality, at_modulo, by_next, step, ended, finish_by, finish, with_progress, run, over, tree_read, pred_read}
-use Rattle.pres_read.specs.Grammar.{Term, bare, times, Sum, APred, Phrase, symbols, coefs_of, meaning, Derives}
+use Rattle.pres_read.specs.Reading.{after_sum, at_term, at_unit, at_star, at_name, at_relation, with_constant, at_number, at_constant, with_modulus, at_modulus, closed, at_sign, up_to_unit, at_modulo, by_next, step, ended, finish_by, finish, with_progress, run, over, pred_read}
+use Rattle.pres_read.specs.Grammar.{APred, Phrase, symbols, coefs_of, meaning}
 use Rattle.pres_read.specs.Texts.{symbols_of, text_symbols, IsReadTo}
-use Rattle.pres_read.specs.Rules.{CoefFits, TermFits, Fits, IsShallow}
-use Rattle.pres_read.proofs.Traces.{Lead, begin, after, Inner, IUnit, ITerm, IStar, IName, IRelation, IConstant, INumber, IModulo, IModulus, Side, Trace, Inside, Done, begun, trace_step}
-use Rattle.pres_read.proofs.Shows.{side_span, side_spans, around_side, lead_coefs, lead_negative, lead_factor, inner_next, shown, IsShown, Agrees, step_agrees, start_shown}
+use Rattle.pres_read.specs.Rules.{CoefFits, Fits, IsShallow}
+use Rattle.pres_read.proofs.Traces.{Lead, begin, Inner, IUnit, ITerm, IStar, IName, IRelation, IConstant, INumber, IModulo, IModulus, Trace, Inside, Done, begun, trace_step}
+use Rattle.pres_read.proofs.Shows.{side_spans, around_side, lead_coefs, lead_negative, lead_factor, inner_next, shown, IsShown, Agrees, step_agrees, start_shown}
 use Rattle.pres_read.proofs.Kept.{RuleUnit, RuleName, RuleConstant, RuleModulus, RuleInner, RuleAt, KeptAfter, Kept, kept_symbols}
 use Rattle.pres_read.proofs.Outcomes.{Comes, run_comes, only_law, never_law, going}
 
@@ -47,7 +46,7 @@ coef_went coefs i z place h = by_test (ltb (2 ^ 31) (nat_abs z)) refl
     by_test false e = tt
 
 number_went : (coefs : List ℤ) (i : ℕ) (factor : Factor) (limit v : ℕ) → v ≤ limit → nat_abs (get_or coefs i (pos 0) +ℤ signed factor.negative v) ≤ 2 ^ 31
-  → Went (with_number coefs i factor (value_within limit v))
+    → Went (with_number coefs i factor (value_within limit v))
 number_went coefs i factor limit v h g = by_test (ltb limit v) refl
   where
     by_test : (b : Bool) → ltb limit v ≡ b → Went (with_number coefs i factor (if b then None else Some v))
@@ -63,7 +62,7 @@ sum_fine a (Ok coefs) h = tt
 sum_fine a (Err e) h = absurd h
 
 unit_term_fine : (names : List (List ℕ)) (a : Around) (lead : Lead) (place : ℕ) (s : Symbol) → RuleUnit names lead s
-  → Fine (at_term names a (lead_coefs names lead) (lead_negative lead) place s)
+    → Fine (at_term names a (lead_coefs names lead) (lead_negative lead) place s)
 unit_term_fine names a lead place (Name word) h =
     sum_fine a (added names (lead_coefs names lead) (lone (lead_negative lead) place) place word)
     (term_went (lead_coefs names lead) (position (λ name. bytes_eq name word) names) (lone (lead_negative lead) place) place h.0 h.1)
@@ -80,7 +79,7 @@ star_fine a coefs factor place Star = tt
 star_fine a coefs factor place s = tt
 
 name_fine : (names : List (List ℕ)) (a : Around) (lead : Lead) (digits : List ℕ) (at place : ℕ) (s : Symbol) → RuleName names lead digits s
-  → Fine (at_name names a (lead_coefs names lead) (lead_factor lead digits at) place s)
+    → Fine (at_name names a (lead_coefs names lead) (lead_factor lead digits at) place s)
 name_fine names a lead digits at place (Name word) h =
     sum_fine a (added names (lead_coefs names lead) (lead_factor lead digits at) place word)
     (term_went (lead_coefs names lead) (position (λ name. bytes_eq name word) names) (lead_factor lead digits at) place h.0 h.1)
@@ -128,7 +127,7 @@ modulus_fine a coefs unequal c place (Number digits) h = by_test (ltb 200 (value
 modulus_fine a coefs unequal c place s h = tt
 
 inner_fine : (names : List (List ℕ)) (a : Around) (inner : Inner) (at place : ℕ) (s : Symbol) → RuleInner names inner s
-  → Fine (by_next names a (inner_next names at inner) place s)
+    → Fine (by_next names a (inner_next names at inner) place s)
 inner_fine names a IUnit at place s h = unit_fine names a place s h
 inner_fine names a (ITerm lead) at place s h = unit_term_fine names a lead place s h
 inner_fine names a (IStar lead digits) at place s h = star_fine a (lead_coefs names lead) (lead_factor lead digits at) place s
@@ -168,7 +167,7 @@ unfolding finish
 finish_fine p end = finish_by_fine p.around p.next end
 
 deep_fine : (names : List (List ℕ)) (end : ℕ) (t : Placed) (ts : List Placed) (q : Progress) (d : Depth) → d.charge ≤ 64 → d.parentheses ≤ 64
-  → Fine (run names end q d ts) → Fine (going names end ts (with_progress q (within_depth t d)))
+    → Fine (run names end q d ts) → Fine (going names end ts (with_progress q (within_depth t d)))
 deep_fine names end t ts q d c p h = by_tests (ltb 64 d.charge) refl (ltb 64 d.parentheses) refl
   where
     by_tests : (b : Bool) → ltb 64 d.charge ≡ b → (e : Bool) → ltb 64 d.parentheses ≡ e → Fine (going names end ts (with_progress q (if b || e then Err (TooDeep t.place) else Ok d)))
@@ -177,9 +176,9 @@ deep_fine names end t ts q d c p h = by_tests (ltb 64 d.charge) refl (ltb 64 d.p
     by_tests false x false y = h
 
 step_run_fine : (names : List (List ℕ)) (end : ℕ) (t : Placed) (ts : List Placed) (d : Depth) (o : Option Trace) (r : Result Progress ReadPred)
-  → Agrees names r o t.place → Fine r → KeptAfter o (λ b. Kept names b (symbols_of ts)) → (deeper d t.symbol).charge ≤ 64 → (deeper d t.symbol).parentheses ≤ 64
-  → ((q : Progress) (b : Trace) → IsShown names q b → Kept names b (symbols_of ts) → Fine (run names end q (deeper d t.symbol) ts))
-  → Fine (going names end ts (r >>= λ q. with_progress q (sunk d t)))
+    → Agrees names r o t.place → Fine r → KeptAfter o (λ b. Kept names b (symbols_of ts)) → (deeper d t.symbol).charge ≤ 64 → (deeper d t.symbol).parentheses ≤ 64
+    → ((q : Progress) (b : Trace) → IsShown names q b → Kept names b (symbols_of ts) → Fine (run names end q (deeper d t.symbol) ts))
+    → Fine (going names end ts (r >>= λ q. with_progress q (sunk d t)))
 step_run_fine names end t ts d None (Ok q) agrees fine kept c p later = absurd agrees
 step_run_fine names end t ts d (Some b) (Ok q) agrees fine kept c p later = deep_fine names end t ts q (deeper d t.symbol) c p (later q b agrees kept)
 step_run_fine names end t ts d o (Err (Syntax at)) agrees fine kept c p later = tt
@@ -190,14 +189,14 @@ step_run_fine names end t ts d o (Err (LongText n)) agrees fine kept c p later =
 step_run_fine names end t ts d o (Err NoMemory) agrees fine kept c p later = absurd fine
 
 run_fine : (names : List (List ℕ)) (end : ℕ) (ts : List Placed) (p : Progress) (a : Trace) (d : Depth) → IsShown names p a → Kept names a (symbols_of ts) → IsShallow d (symbols_of ts)
-  → Fine (run names end p d ts)
+    → Fine (run names end p d ts)
 run_fine names end [] p a d h k deep = finish_fine p end
 run_fine names end (t ∷ ts) p a d h k deep =
     step_run_fine names end t ts d (trace_step a t.symbol) (step names p t) (step_agrees names p a t h) (step_fine names p a t h k.0) k.1 deep.0 deep.1
     (λ q b s l. run_fine names end ts q b (deeper d t.symbol) s l deep.2)
 
 read_fine : (names : List (List ℕ)) (text : List ℕ) (p : Phrase APred) (r : Result PredTree ReadPred) → symbols p ≡ text_symbols text
-  → Comes names begun (tokens_of text) (length text) r → Fine r → r ≡ Ok (meaning names p)
+    → Comes names begun (tokens_of text) (length text) r → Fine r → r ≡ Ok (meaning names p)
 read_fine names text p (Ok tree) e comes fine = ap Ok (only_law names (tokens_of text) tree (meaning names p) comes (record { phrase = p; spelled = e; means = refl }))
 read_fine names text p (Err (Syntax at)) e comes fine =
     absurd (never_law names (tokens_of text) (length text) at (meaning names p) comes (record { phrase = p; spelled = e; means = refl }))
@@ -209,7 +208,7 @@ read_fine names text p (Err NoMemory) e comes fine = absurd fine
 
 -- a text of the grammar that keeps the rules is read to its tree
 pub kept_read : (names : List (List ℕ)) (text : List ℕ) (p : Phrase APred) → symbols p ≡ text_symbols text → length text ≤ 1048576 → Fits names p → IsShallow surface (text_symbols text)
-  → pred_read names text ≡ Ok (record { variables = length names; tree = meaning names p })
+    → pred_read names text ≡ Ok (record { variables = length names; tree = meaning names p })
 kept_read names text p e short fits shallow =
     let kept : Kept names begun (text_symbols text) = subst (Kept names begun) e (kept_symbols names p fits) in
     let fine : Fine (run names (length text) start surface (tokens_of text)) = run_fine names (length text) (tokens_of text) start begun surface (start_shown names) kept shallow in
@@ -217,13 +216,13 @@ kept_read names text p e short fits shallow =
     by_length (ltb 1048576 (length text)) refl read
   where
     by_length : (b : Bool) → ltb 1048576 (length text) ≡ b → run names (length text) start surface (tokens_of text) ≡ Ok (meaning names p)
-      → over (length names) (if b then Err (LongText (length text)) else run names (length text) start surface (tokens_of text)) ≡ Ok (record { variables = length names; tree = meaning names p })
+        → over (length names) (if b then Err (LongText (length text)) else run names (length text) start surface (tokens_of text)) ≡ Ok (record { variables = length names; tree = meaning names p })
     by_length true x read = let past = ltb-true 1048576 (length text) x in absurd (omega (arith, past, short))
     by_length false x read = ap (over (length names)) read
 
 -- the same of what a call gave, which may lack memory
 pub given_kept : (names : List (List ℕ)) (text : List ℕ) (tree : PredTree) (r : Result PredModel ReadPred) → Gives (λ pred. pred) r (pred_read names text)
-  → pred_read names text ≡ Ok (record { variables = length names; tree = tree }) → IsReadTo tree r
+    → pred_read names text ≡ Ok (record { variables = length names; tree = tree }) → IsReadTo tree r
 given_kept names text tree (Ok pred) h e =
     let same : pred ≡ record { variables = length names; tree = tree } = cc in ap (λ (p : PredModel). p.tree) same
 given_kept names text tree (Err (Syntax at)) h e = cc

@@ -14,3 +14,5 @@ pub mod Printed
 pub mod PrintedTrees
 pub mod Kept
 pub mod KeptRuns
+pub mod Again
+pub mod Heeded

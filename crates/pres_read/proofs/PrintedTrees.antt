@@ -107,22 +107,22 @@ canonical_symbols names t named some h =
 
 -- ---- the meaning of its tree of productions
 
-number-canonical : (k : ℕ) (name : List ℕ) → k < 2 ^ 64 → term_number (canonical_term k name) ≡ k
+pub number-canonical : (k : ℕ) (name : List ℕ) → k < 2 ^ 64 → term_number (canonical_term k name) ≡ k
 number-canonical k name small = by_one (k == 1) refl
   where
     by_one : (b : Bool) → (k == 1) ≡ b → term_number (term_by b k name) ≡ k
     by_one true e = sym (eqb-true k 1 e)
     by_one false e = (decimal_writes k small).value
 
-name-term_by : (b : Bool) (k : ℕ) (name : List ℕ) → term_name (term_by b k name) ≡ name
+pub name-term_by : (b : Bool) (k : ℕ) (name : List ℕ) → term_name (term_by b k name) ≡ name
 name-term_by true k name = refl
 name-term_by false k name = refl
 
-signed-abs : (z : ℤ) → signed (is_negative z) (nat_abs z) ≡ z
+pub signed-abs : (z : ℤ) → signed (is_negative z) (nat_abs z) ≡ z
 signed-abs (pos n) = refl
 signed-abs (negsuc n) = refl
 
-abbrev coefs_so_far : List (List ℕ) → Option Sum → List ℤ
+abbrev pub coefs_so_far : List (List ℕ) → Option Sum → List ℤ
 coefs_so_far names None = zeros names
 coefs_so_far names (Some sum) = coefs_of names sum
 
@@ -138,7 +138,7 @@ not_same x y h = by_test (bytes_eq x y) (bytes_eq-Decides x y).0
     by_test false e = refl
 
 -- the place of a name after others
-place_found : (all before names : List (List ℕ)) (name : List ℕ) → AllPairs ◌≢◌ all → all ≡ before ++ name ∷ names
+pub place_found : (all before names : List (List ℕ)) (name : List ℕ) → AllPairs ◌≢◌ all → all ≡ before ++ name ∷ names
     → position (λ other. bytes_eq other name) all ≡ Some (length before)
 place_found all before names name apart e =
     let long = ap length e in
@@ -165,7 +165,7 @@ raised_at before after n z e =
     ∙ ap (λ y. slice_set (before ++ pos 0 ∷ after) (length before) y) (ap (λ y. y +ℤ z) old ∙ new)
     ∙ set-append_seam before (pos 0) after z
 
-zero_of : (a : ℤ) → is_zero a ≡ true → a ≡ pos 0
+pub zero_of : (a : ℤ) → is_zero a ≡ true → a ≡ pos 0
 zero_of (pos n) e = ap pos (eqb-true n 0 e)
 zero_of (negsuc n) e = absurd (let no : suc n ≡ 0 = eqb-true (suc n) 0 e in omega arith)
 
@@ -177,11 +177,10 @@ filled_if : (all : List (List ℕ)) (c : Bool) (zero_sum later_sum : Option Sum)
 filled_if all true zero_sum later_sum coefs h g = h refl
 filled_if all false zero_sum later_sum coefs h g = g refl
 
-step_filled : (all before names : List (List ℕ)) (name : List ℕ) (o : Option Sum) (front : List ℤ) (a : ℤ) → AllPairs ◌≢◌ all → all ≡ before ++ name ∷ names
+pub step_filled : (all before names : List (List ℕ)) (name : List ℕ) (o : Option Sum) (front : List ℤ) (a : ℤ) → AllPairs ◌≢◌ all → all ≡ before ++ name ∷ names
     → length before ≡ length front → nat_abs a < 2 ^ 64 → coefs_so_far all o ≡ front ++ pos 0 ∷ replicate (length names) (pos 0)
     → coefs_so_far all (Some (extended o (is_negative a) (canonical_term (nat_abs a) name))) ≡ front ++ a ∷ replicate (length names) (pos 0)
 step_filled all before names name o front a apart e same small h =
-    let term = canonical_term (nat_abs a) name in
     coefs-extended all o (is_negative a) (canonical_term (nat_abs a) name)
     ∙ ap (λ coefs. with_a_term all coefs (is_negative a) (canonical_term (nat_abs a) name)) h
     ∙ ap (λ word. raised (front ++ pos 0 ∷ replicate (length names) (pos 0)) (position (λ other. bytes_eq other word) all) (signed (is_negative a) (term_number (canonical_term (nat_abs a) name)))) (name-term_by (nat_abs a == 1) (nat_abs a) name)
@@ -226,7 +225,7 @@ coefs-canonical : (names : List (List ℕ)) (coefs : List ℤ) → AllPairs ◌�
 coefs-canonical names coefs apart len small =
     coefs-sum_or_zero names (terms_sum None names coefs) ∙ terms_filled names [] names None [] coefs apart refl refl len small refl
 
-meaning-canonical : (names : List (List ℕ)) (t : PredTree) → AllPairs ◌≢◌ names → HasAtoms (length names) t → meaning names (canonical names t) ≡ t
+pub meaning-canonical : (names : List (List ℕ)) (t : PredTree) → AllPairs ◌≢◌ names → HasAtoms (length names) t → meaning names (canonical names t) ≡ t
 meaning-canonical names (LessThan coefs bound) apart h =
     let fits = h.1 in
     let coefs_are = coefs-canonical names coefs apart (sym h.0.0) (Small-AreCoefs coefs h.0.1) in
@@ -250,7 +249,7 @@ meaning-canonical names (Conjunction p q) apart h =
 meaning-canonical names (Disjunction p q) apart h =
     ap (λ t. Disjunction t (meaning names (canonical names q))) (meaning-canonical names p apart h.0) ∙ ap (Disjunction p) (meaning-canonical names q apart h.1)
 
-Named-All : (names : List (List ℕ)) → All (λ name. IsTrue (is_variable_name name)) names → Named names
+pub Named-All : (names : List (List ℕ)) → All (λ name. IsTrue (is_variable_name name)) names → Named names
 Named-All [] h = tt
 Named-All (name ∷ names) h =
     (All-head (λ word. IsTrue (is_variable_name word)) name names h, Named-All names (All-tail (λ word. IsTrue (is_variable_name word)) name names h))

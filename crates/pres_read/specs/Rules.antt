@@ -1,7 +1,7 @@
 -- The rules on names, numbers and depth, over trees of productions and their symbols.
-use Rattle.std.specs.Prelude.{◌≤◌, ◌^◌, ℕ, Bool, List, [], ◌∷◌, Option, Some, None, position, slice_index_or, ℤ, pos, ◌+ℤ◌, nat_abs}
+use Rattle.std.specs.Prelude.{◌≤◌, ◌^◌, ℕ, Bool, List, [], ◌∷◌, Option, Some, None, position, slice_index_or, IsSome, ℤ, pos, ◌+ℤ◌, nat_abs}
 use Rattle.std.specs.Str.{bytes_eq}
-use Rattle.pres_tokens.specs.Symbols.{Symbol}
+use Rattle.pres_tokens.specs.Symbols.{Symbol, Name, Number, Plus, Minus, Star, Compare, And, Or, Not, Open, Close, Mod, Stray}
 use Rattle.pres_read.specs.Numbers.{value_of}
 use Rattle.pres_read.specs.Atoms.{signed, constant_limit}
 use Rattle.pres_read.specs.Depth.{Depth, deeper}
@@ -40,3 +40,23 @@ Fits names (atom a) = AtomFits names a
 abbrev pub IsShallow : Depth → List Symbol → Type 0
 IsShallow d [] = Unit {0}
 IsShallow d (s ∷ ss) = ((deeper d s).charge ≤ 64) × ((deeper d s).parentheses ≤ 64) × IsShallow (deeper d s) ss
+
+-- a name is a variable's
+abbrev pub IsKnown : List (List ℕ) → Symbol → Type 0
+IsKnown names (Name word) = IsSome (position (λ name. bytes_eq name word) names)
+IsKnown names (Number digits) = Unit {0}
+IsKnown names Plus = Unit {0}
+IsKnown names Minus = Unit {0}
+IsKnown names Star = Unit {0}
+IsKnown names (Compare r) = Unit {0}
+IsKnown names And = Unit {0}
+IsKnown names Or = Unit {0}
+IsKnown names Not = Unit {0}
+IsKnown names Open = Unit {0}
+IsKnown names Close = Unit {0}
+IsKnown names Mod = Unit {0}
+IsKnown names Stray = Unit {0}
+
+abbrev pub AreKnown : List (List ℕ) → List Symbol → Type 0
+AreKnown names [] = Unit {0}
+AreKnown names (s ∷ ss) = IsKnown names s × AreKnown names ss

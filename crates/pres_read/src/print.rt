@@ -1,13 +1,14 @@
 //! Printing a predicate.
 
-ghost use Rattle.std.specs.Prelude.{◌≡◌, ◌≤◌, ◌<◌, ◌^◌, ◌++◌, IfOk, OnOk, length, nat_abs, decimal, string_bytes, codes, true};
+ghost use Rattle.std.specs.Prelude.{◌≡◌, ◌≤◌, ◌<◌, ◌^◌, ◌++◌, Ok, IfOk, OnOk, length, nat_abs, decimal, string_bytes, codes, true};
 ghost use Rattle.std.specs.List.{list_all};
 ghost use Rattle.std.specs.Fmt.{signed_decimal};
 ghost use Rattle.pop_io.specs.Names.{is_variable_name, AreNames};
-ghost use Rattle.pres_ast.specs.PredModel.{HasAtoms};
+ghost use Rattle.pres_ast.specs.PredModel.{HasAtoms, IsPred};
 ghost use Rattle.pres_ast.specs.TreeOf.{tree_of};
 ghost use Rattle.pres_read.specs.Grammar.{Derives};
 ghost use Rattle.pres_read.specs.Texts.{text_symbols};
+ghost use Rattle.pres_read.specs.Reading.{pred_read};
 ghost use Rattle.pres_read.specs.Canonical.{is_zero, term_text, sign_text, terms_text, zero_text, sum_text, tree_text};
 
 use itoa::Buffer;
@@ -22,16 +23,19 @@ pub fn print_pred(alloc: Global, pred: &Pred, names: &List<Text>) -> Result<Text
     ensures canonical { IfOk result (λ text. text ≡ tree_text names.now pred.now.tree) }
     // The grammar relates the text to the predicate's tree.
     ensures derived { IfOk result (λ text. Derives names.now (text_symbols text) pred.now.tree) }
+    // Reading it gives the predicate again.
+    ensures again { IfOk result (λ text. length text ≤ 1048576 → pred_read names.now text ≡ Ok pred.now) }
 {
     canonical_text(alloc, pred.tree(), names)
 }
 
 fn canonical_text(alloc: Global, tree: &Tree, names: &List<Text>) -> Result<Text, NoMemory>
-    requires some { 1 ≤ length names.now }
+    requires limits { IsPred (length names.now) (tree_of tree.now) }
     requires names { AreNames is_variable_name names.now }
-    requires atoms { HasAtoms (length names.now) (tree_of tree.now) }
     ensures canonical { IfOk result (λ text. text ≡ tree_text names.now (tree_of tree.now)) }
     ensures derived { IfOk result (λ text. Derives names.now (text_symbols text) (tree_of tree.now)) }
+    ensures again { IfOk result (λ text. length text ≤ 1048576
+        → pred_read names.now text ≡ Ok (record { variables = length names.now; tree = tree_of tree.now })) }
 {
     let mut out = String::new(alloc);
     push_tree(&mut out, tree, names)?;

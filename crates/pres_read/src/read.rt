@@ -13,7 +13,7 @@ ghost use Rattle.pres_read.specs.Depth.{surface};
 ghost use Rattle.pres_read.specs.Reading.{run, read_on, pred_read};
 ghost use Rattle.pres_read.specs.Grammar.{APred, Phrase, symbols, meaning, Derives};
 ghost use Rattle.pres_read.specs.Texts.{text_symbols, IsReadAs, IsReadTo, IsSyntaxFault};
-ghost use Rattle.pres_read.specs.Rules.{Fits, IsShallow};
+ghost use Rattle.pres_read.specs.Rules.{Fits, IsShallow, AreKnown};
 ghost use Rattle.pres_read.specs.Sound.{IsSound};
 ghost use Rattle.pres_read.specs.Views.{progress_of, depth_of};
 
@@ -37,6 +37,8 @@ pub fn read_pred(alloc: Global, text: &[u8], names: &List<Text>) -> Result<Pred,
     ensures exact { Gives (λ pred. pred) result (pred_read names.now text.now) }
     // The grammar relates the text to the tree that is read.
     ensures derived { IfOk result (λ pred. Derives names.now (text_symbols text.now) pred.tree) }
+    // Its names are the variables', and its signs and parentheses are within the limits.
+    ensures heeded { IfOk result (λ pred. AreKnown names.now (text_symbols text.now) × IsShallow surface (text_symbols text.now)) }
     // A text that the grammar relates to a tree is read to no other one, and is no fault of syntax.
     ensures only { (tree : PredTree) → Derives names.now (text_symbols text.now) tree → IsReadAs tree result }
     // A text of the grammar is read where it is short, its names are known, and its numbers and depth are within the limits.

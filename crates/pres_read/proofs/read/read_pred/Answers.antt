@@ -1,3 +1,4 @@
+use Rattle.pres_read.proofs.Heeded.{given_heeds}
 use Rattle.pres_read.specs.Grammar.{meaning}
 use Rattle.pres_read.proofs.KeptRuns.{given_kept, kept_read}
 use Rattle.pres_read.proofs.Outcomes.{given_laws}
@@ -16,3 +17,6 @@ pub returns-clause-kept : goal.returns-clause-kept
 returns-clause-kept c = λ phrase spelled short fits shallow.
     given_kept c.args.names.now c.args.text.now (meaning c.args.names.now phrase) c.read_exactly.result c.read_exactly.ensures
     (kept_read c.args.names.now c.args.text.now phrase spelled short fits shallow)
+
+pub returns-clause-heeded : goal.returns-clause-heeded
+returns-clause-heeded c = given_heeds c.args.names.now c.args.text.now c.read_exactly.result c.read_exactly.ensures
