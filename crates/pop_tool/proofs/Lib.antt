@@ -3,3 +3,5 @@ mod Lined
 mod Played
 mod Replies
 mod Ends
+mod PlayTuples
+mod One

@@ -9,3 +9,4 @@ pub mod Play
 pub mod Answer
 pub mod Outcome
 pub mod Told
+pub mod OneAnswer

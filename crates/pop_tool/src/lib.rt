@@ -6,6 +6,7 @@
 mod command;
 mod eval;
 mod json;
+mod law;
 mod lines;
 mod play;
 mod refusal;
@@ -14,4 +15,5 @@ mod status;
 mod stop;
 
 pub use command::{run_plain, run_tool};
+pub use law::one_answer;
 pub use status::Status;

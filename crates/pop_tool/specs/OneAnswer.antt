@@ -1,0 +1,9 @@
+-- That the words and the input have one answer.
+use Rattle.std.specs.Prelude.{◌≡◌, ℕ, List}
+use Rattle.pop_tool.specs.declared.status.Status.{Status}
+use Rattle.pop_tool.specs.Answer.{Answer}
+
+abbrev pub IsOneAnswer : Type 0
+IsOneAnswer =
+    (words : List (List ℕ)) (input text other : List ℕ) (status another : Status)
+    → Answer words input text status → Answer words input other another → (text ≡ other) × (status ≡ another)

@@ -1,0 +1,8 @@
+//! Laws of the definitions.
+
+ghost use Rattle.pop_tool.specs.OneAnswer.{IsOneAnswer};
+
+/// The text and the status are a function of the words and the input. The call does nothing: it is its contract.
+pub fn one_answer()
+    ensures { IsOneAnswer }
+{}
