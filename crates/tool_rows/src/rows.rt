@@ -35,20 +35,42 @@ pub(crate) fn crumbs(alloc: Global) -> Result<List<Trouble>, AllocError> {
     Ok(List::from_vec(troubles))
 }
 
-/// Whether the row gives its text and status.
-pub(crate) fn holds(alloc: Global, row: Row) -> Result<bool, Fail> {
-    let (word, input, text, status) = row;
+/// Whether a word and an input give this text and status.
+pub(crate) fn is_given(
+    alloc: Global,
+    word: &str,
+    input: &str,
+    text: &str,
+    status: Status,
+) -> Result<bool, Fail> {
     let mut source = CalmSource::new(bytes_of(alloc, input)?);
     let mut sink = sink_with(alloc, no_troubles(alloc))?;
     let got = run_plain(alloc, &[word], &mut source, &mut sink, &OpenGate);
     Ok(got == status && sink.held() == text.as_bytes())
 }
 
-/// Whether it does so where the source gives one byte at a time, and the sink takes one.
-pub(crate) fn holds_in_crumbs(alloc: Global, row: Row) -> Result<bool, Fail> {
-    let (word, input, text, status) = row;
+/// Whether they do so where the source gives one byte at a time, and the sink takes one.
+pub(crate) fn is_given_in_crumbs(
+    alloc: Global,
+    word: &str,
+    input: &str,
+    text: &str,
+    status: Status,
+) -> Result<bool, Fail> {
     let mut source = MemorySource::new(bytes_of(alloc, input)?, crumbs(alloc)?);
     let mut sink = sink_with(alloc, crumbs(alloc)?)?;
     let got = run_plain(alloc, &[word], &mut source, &mut sink, &OpenGate);
     Ok(got == status && sink.held() == text.as_bytes())
+}
+
+/// Whether a row holds.
+pub(crate) fn holds(alloc: Global, row: Row) -> Result<bool, Fail> {
+    let (word, input, text, status) = row;
+    is_given(alloc, word, input, text, status)
+}
+
+/// Whether a row holds in crumbs.
+pub(crate) fn holds_in_crumbs(alloc: Global, row: Row) -> Result<bool, Fail> {
+    let (word, input, text, status) = row;
+    is_given_in_crumbs(alloc, word, input, text, status)
 }

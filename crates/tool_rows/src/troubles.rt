@@ -1,5 +1,6 @@
 //! Reads and writes that fail.
 
+use crate::play_rows::MAJORITY;
 use crate::rows::{bytes_of, no_troubles, sink_with};
 use pop_io::{List, MemorySource, OpenGate, Trouble, TroubleKind};
 use pop_tool::{Status, run_plain};
@@ -8,10 +9,14 @@ use std::test::Fail;
 
 const WORD: &str = "play";
 
-const INPUT: &str =
-    "{\"format\":1,\"vars\":[\"x\",\"y\"],\"leaves\":[{\"states\":[\"A\",\"B\",\"a\",\"b\"],\"moves\":[[0,1,2,3],[0,3,0,2],[1,2,1,3],[3,2,3,3]],\"input\":[0,1],\"output\":[true,false,true,false]}],\"combine\":[0]}\ncrowd x=2 y=1\n0 2\n1 2\n";
+const LINES: &str = "\ncrowd x=2 y=1\n0 2\n1 2\n";
 
 const TEXT: &str = "A 1\na 2\nterminal\n";
+
+fn input(alloc: Global) -> Result<List<u8>, AllocError> {
+    let text = format!(in alloc; "{MAJORITY}{LINES}")?;
+    bytes_of(alloc, text.as_str())
+}
 
 fn trouble(alloc: Global, troubles: &[Trouble]) -> Result<List<Trouble>, AllocError> {
     Ok(List::from_vec(Vec::from_slice(alloc, troubles)?))
@@ -39,7 +44,7 @@ fn is_answered(
     text: &[u8],
     status: Status,
 ) -> Result<bool, Fail> {
-    let mut source = MemorySource::new(bytes_of(alloc, INPUT)?, trouble(alloc, source)?);
+    let mut source = MemorySource::new(input(alloc)?, trouble(alloc, source)?);
     let mut sink = sink_with(alloc, trouble(alloc, sink)?)?;
     let got = run_plain(alloc, &[WORD], &mut source, &mut sink, &OpenGate);
     Ok(got == status && sink.held() == text)
@@ -74,7 +79,7 @@ fn a_sink_that_fails(rt: HostRuntime) -> Result<(), Fail> {
 #[test]
 fn words_without_a_command_read_nothing(rt: HostRuntime) -> Result<(), Fail> {
     let alloc = rt.alloc();
-    let mut source = MemorySource::new(bytes_of(alloc, INPUT)?, trouble(alloc, &[fails(1)])?);
+    let mut source = MemorySource::new(input(alloc)?, trouble(alloc, &[fails(1)])?);
     let mut sink = sink_with(alloc, no_troubles(alloc))?;
     let status = run_plain(alloc, &["bogus"], &mut source, &mut sink, &OpenGate);
     assert!(rt; status == Status::Usage);
