@@ -1,0 +1,49 @@
+#!/usr/bin/env python3
+"""Times the check of three ranking layers over 16,560 moves of one leaf of 256 states.
+
+python3 bench/layers.py
+
+The program is bench/layers/main.rt, proved and built in a folder of its own over copies of the crates it calls.
+"""
+import os
+import shutil
+import subprocess
+import tempfile
+import time
+
+TOP = os.path.dirname(os.path.dirname(os.path.abspath(__file__)))
+CRATES = {'pop_io': [], 'pop_net': ['pop_io'], 'cert_base': ['pop_io', 'pop_net'],
+          'cert_layers': ['pop_io', 'pop_net', 'cert_base']}
+
+
+def built(folder):
+    crate = os.path.join(folder, 'crates', 'layers')
+    for name in CRATES:
+        shutil.copytree(os.path.join(TOP, 'crates', name), os.path.join(folder, 'crates', name),
+                        ignore=shutil.ignore_patterns('out', 'must-fail'))
+    with open(os.path.join(folder, 'crates.txt'), 'w') as file:
+        for name, needs in CRATES.items():
+            file.write(f'{name}: {" ".join(needs)}'.rstrip() + '\n')
+        file.write('layers: ' + ' '.join(CRATES) + '\n')
+    for source, place in [('main.rt', 'src/main.rt'), ('weights.antt', 'proofs/weights/Invariants.antt')]:
+        os.makedirs(os.path.dirname(os.path.join(crate, place)))
+        shutil.copy(os.path.join(TOP, 'bench', 'layers', source), os.path.join(crate, place))
+    subprocess.run(['git', 'init', '-q'], cwd=folder, check=True)
+    subprocess.run(['rt', 'run'], cwd=crate, stdin=subprocess.DEVNULL, stdout=subprocess.DEVNULL,
+                   stderr=subprocess.DEVNULL)
+    return os.path.join(crate, 'out', 'layers')
+
+
+def main():
+    with tempfile.TemporaryDirectory() as folder:
+        program = built(folder)
+        times = []
+        for _ in range(3):
+            start = time.monotonic()
+            subprocess.run([program], check=True)
+            times.append(time.monotonic() - start)
+        print(f'layers of 16,560 moves checked: {min(times):.3f} s')
+
+
+if __name__ == '__main__':
+    main()
