@@ -3,9 +3,11 @@
 //! The layer above uses: `Picker::pick` is Picks, and the rounds of `run_alone` are a run by `IsRun`.
 #![tactic(auto)]
 
+mod alone;
 mod examples;
 mod picker;
 
+pub use alone::{End, RunEnd, run_alone};
 pub use examples::{pick_examples, run_examples};
 pub use picker::Picker;
 
