@@ -9,7 +9,7 @@ use Rattle.pop_crowd.specs.declared.crowd.Meeting.{Meeting}
 use Rattle.pop_crowd.specs.Replay.{replay, AreMarked}
 use Rattle.pair_workers.specs.Picks.{picks_from}
 use Rattle.pair_workers.specs.Run.{pairs}
-use Rattle.pair_workers.specs.Alone.{IsPlayed}
+use Rattle.pair_workers.specs.Played.{IsPlayed}
 
 pub replay_append : (net : NetModel) (xs ys : List Meeting) (crowd : CrowdModel) → replay net (xs ++ ys) crowd ≡ replay net ys (replay net xs crowd)
 replay_append net [] ys crowd = refl

@@ -15,7 +15,7 @@ use Rattle.pop_crowd.specs.Replay.{replay}
 use Rattle.pop_words.specs.declared.spec.RunSpec.{RunSpec}
 use Rattle.pair_workers.specs.Picks.{picks, words_from, first_state}
 use Rattle.pair_workers.specs.Run.{IsRun, IsRound, joined, pairs, meetings_of, turns_in}
-use Rattle.pair_workers.specs.Alone.{IsPlayed}
+use Rattle.pair_workers.specs.Played.{IsPlayed}
 use Rattle.pair_workers.proofs.Played.{played_none, played_more}
 
 -- the rounds so far, the crowd after them, the words and the turns that are left

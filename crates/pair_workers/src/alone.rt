@@ -4,7 +4,8 @@ ghost use Rattle.std.specs.Prelude.{◌≡◌, ◌-◌, ◌^◌, ◌≤◌, [], 
 ghost use Rattle.pop_net.specs.Lanes.{crowd_of, AreValid};
 ghost use Rattle.pair_workers.specs.Picks.{words_from};
 ghost use Rattle.pair_workers.specs.Run.{IsRun};
-ghost use Rattle.pair_workers.specs.Alone.{IsPlayed, EndsBy};
+ghost use Rattle.pair_workers.specs.Played.{IsPlayed};
+ghost use Rattle.pair_workers.specs.Ends.{EndsBy};
 
 use crate::picker::Picker;
 use pop_crowd::{Crowd, Meeting};
@@ -35,6 +36,7 @@ pub struct RunEnd {
 }
 
 /// A run by the worker 0 alone. Before each round the crowd is looked at, and the round's log is reserved.
+/// `shards` plays no part.
 pub fn run_alone<G: Gate>(
     alloc: Global,
     net: &Net,

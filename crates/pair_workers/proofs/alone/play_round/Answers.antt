@@ -3,7 +3,7 @@ use Rattle.std.proofs.lemmas.List.{length-append}
 use Rattle.pop_net.specs.Lanes.{crowd_of}
 use Rattle.pop_crowd.specs.declared.crowd.Meeting.{Meeting}
 use Rattle.pair_workers.specs.Picks.{words_from}
-use Rattle.pair_workers.specs.Alone.{IsPlayed}
+use Rattle.pair_workers.specs.Played.{IsPlayed}
 use Rattle.pair_workers.proofs.Played.{played_more}
 use Rattle.pair_workers.proofs.alone.play_round.Goals as goal
 

@@ -1,7 +1,7 @@
 use Rattle.std.proofs.Common.{◌≡◌, length}
 use Rattle.pop_net.specs.Lanes.{crowd_of, AreValid}
 use Rattle.pair_workers.specs.Picks.{words_from}
-use Rattle.pair_workers.specs.Alone.{IsPlayed}
+use Rattle.pair_workers.specs.Played.{IsPlayed}
 use Rattle.pair_workers.proofs.alone.play_round.Given as goal
 
 abbrev pub invariant-turns : goal.invariant-turns
