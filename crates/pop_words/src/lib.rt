@@ -6,12 +6,14 @@
 mod command;
 mod counts;
 mod meeting;
+mod spec;
 mod vars;
 mod words;
 
 pub use command::{Command, Usage, UsageWhy};
 pub use counts::{CountFault, read_counts};
 pub use meeting::{MeetingFault, read_meeting};
+pub use spec::RunSpec;
 pub use vars::{VarsFault, read_vars};
 pub use words::read_words;
 

@@ -1,0 +1,13 @@
+use Rattle.std.proofs.Common.{◌≡◌, length}
+use Rattle.pop_net.specs.Lanes.{crowd_of, AreValid}
+use Rattle.pair_workers.specs.Picks.{words_from}
+use Rattle.pair_workers.specs.Played.{IsPlayed}
+use Rattle.pair_workers.proofs.alone.play_round.Given as goal
+
+abbrev pub invariant-turns : goal.invariant-turns
+invariant-turns g l = record {
+  played : IsPlayed l.net (crowd_of l.net l.fn.crowd) (words_from l.fn.picker) l.log.items (crowd_of l.net l.crowd) (words_from l.picker);
+  turns : length l.log.items ≡ l.turn;
+  valid : AreValid l.net l.crowd;
+  agents : length l.crowd ≡ length l.fn.crowd;
+}

@@ -1,0 +1,16 @@
+-- Meetings that the worker 0 makes by its picks.
+use Rattle.std.specs.Prelude.{◌≡◌, ℕ, ◌+◌, List, ◌++◌, length, All}
+use Rattle.rand_core.specs.Stream.{Stream}
+use Rattle.pop_net.specs.NetModel.{NetModel, CrowdModel}
+use Rattle.pop_crowd.specs.declared.crowd.Meeting.{Meeting}
+use Rattle.pop_crowd.specs.Replay.{replay, AreMarked}
+use Rattle.pair_workers.specs.Picks.{picks_from}
+use Rattle.pair_workers.specs.Run.{pairs}
+
+-- the meetings are the next picks of the worker 0, they lead from one crowd to another, and these words are left
+pub record IsPlayed (net : NetModel) (start : CrowdModel) (words : Stream) (meetings : List Meeting) (end : CrowdModel) (left : Stream) : Type 0 where
+  pub alone : All (λ m. m.worker ≡ 0) meetings
+  pub picked : (count : ℕ) → picks_from words (length start) (length meetings + count) ≡ pairs meetings ++ picks_from left (length start) count
+  pub marked : AreMarked net meetings start
+  pub replays : replay net meetings start ≡ end
+  pub agents : length end ≡ length start

@@ -1,0 +1,119 @@
+//! Runs by one worker, on the plain crowd.
+
+ghost use Rattle.std.specs.Prelude.{◌≡◌, ◌-◌, ◌^◌, ◌≤◌, [], ◌∷◌, length, IfOk};
+ghost use Rattle.pop_net.specs.Lanes.{crowd_of, AreValid};
+ghost use Rattle.pair_workers.specs.Picks.{words_from};
+ghost use Rattle.pair_workers.specs.Run.{IsRun};
+ghost use Rattle.pair_workers.specs.Played.{IsPlayed};
+ghost use Rattle.pair_workers.specs.Ends.{EndsBy};
+
+use crate::picker::Picker;
+use pop_crowd::{Crowd, Meeting};
+use pop_io::{Gate, List, NoMemory};
+use pop_net::Net;
+use pop_words::RunSpec;
+use std::alloc::Global;
+use terminal_test::enabled_pair;
+
+/// The greatest number of meetings of a worker in a round.
+const ROUND: u64 = 4096;
+
+/// Why a run ended.
+#[derive(Clone, Copy, Debug, PartialEq, Eq)]
+pub enum End {
+    /// No meeting changes the last crowd.
+    Terminal,
+    /// The turns are spent, and these two agents are the least that can change.
+    Open(u32, u32),
+}
+
+/// The meetings of a run round by round, its last crowd, and why it ended.
+#[derive(Debug, Drop)]
+pub struct RunEnd {
+    pub rounds: List<List<Meeting>>,
+    pub crowd: Crowd,
+    pub end: End,
+}
+
+/// A run by the worker 0 alone. Before each round the crowd is looked at, and the round's log is reserved.
+/// `shards` plays no part.
+pub fn run_alone<G: Gate>(
+    alloc: Global,
+    net: &Net,
+    crowd: Crowd,
+    spec: &RunSpec,
+    gate: &G,
+) -> Result<RunEnd, NoMemory>
+    requires alone { spec.now.workers ≡ 1 }
+    requires turns { spec.now.turns ≤ 1000000 }
+    requires seed { spec.now.seed ≤ 2 ^ 63 - 1 }
+    requires valid { AreValid net.now crowd }
+    ensures run { IfOk result (λ run. IsRun net.now (crowd_of net.now crowd) spec.now run.rounds (crowd_of net.now run.crowd)) }
+    ensures end { IfOk result (λ run. EndsBy net.now (crowd_of net.now run.crowd) spec.now (length run.rounds) run.end) }
+    ensures valid { IfOk result (λ run. AreValid net.now run.crowd) }
+    ensures agents { IfOk result (λ run. length run.crowd ≡ length crowd) }
+{
+    let mut crowd = crowd;
+    let mut picker = Picker::new(spec.seed, 0);
+    let mut rounds = Vec::new(alloc);
+    let mut left = spec.turns;
+    'rounds: while let Some((a, b)) = enabled_pair(alloc, net, &crowd)? {
+        if left == 0 {
+            return Ok(RunEnd {
+                rounds: List::from_vec(rounds),
+                crowd,
+                end: End::Open(a, b),
+            });
+        }
+        let turns = ROUND.min(left);
+        let meetings = play_round(alloc, net, &mut crowd, &mut picker, turns, gate)?;
+        rounds.push(List::from_vec(meetings))?;
+        left -= turns;
+    }
+    Ok(RunEnd {
+        rounds: List::from_vec(rounds),
+        crowd,
+        end: End::Terminal,
+    })
+}
+
+/// So many meetings, one after the other.
+fn play_round<G: Gate>(
+    alloc: Global,
+    net: &Net,
+    crowd: &mut Crowd,
+    picker: &mut Picker,
+    turns: u64,
+    gate: &G,
+) -> Result<Vec<Meeting>, NoMemory>
+    requires valid { AreValid net.now crowd.old }
+    requires few { turns ≤ 4096 }
+    ensures played { IfOk result (λ log. IsPlayed net.now (crowd_of net.now crowd.old) (words_from picker.old) log.items (crowd_of net.now crowd.new) (words_from picker.new)) }
+    ensures turns { IfOk result (λ log. length log.items ≡ turns) }
+    ensures valid { AreValid net.now crowd.new }
+    ensures agents { length crowd.new ≡ length crowd.old }
+{
+    let mut log = Vec::with_capacity(alloc, turns as usize)?;
+    'turns: for turn in 0..turns {
+        gate.pass(0, turn + 1);
+        log.push(meet_next(net, crowd, picker))?;
+    }
+    Ok(log)
+}
+
+/// The meeting of the next pick.
+fn meet_next(net: &Net, crowd: &mut Crowd, picker: &mut Picker) -> Meeting
+    requires { AreValid net.now crowd.old }
+    ensures played { IsPlayed net.now (crowd_of net.now crowd.old) (words_from picker.old) (result ∷ []) (crowd_of net.now crowd.new) (words_from picker.new) }
+    ensures valid { AreValid net.now crowd.new }
+    ensures agents { length crowd.new ≡ length crowd.old }
+{
+    let (a, b) = picker.pick(crowd.len());
+    let changed = crowd.meet(net, a, b);
+    Meeting {
+        worker: 0,
+        a,
+        b,
+        changed,
+    }
+}

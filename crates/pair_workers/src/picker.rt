@@ -1,0 +1,57 @@
+//! The pairs of agents that a worker lets meet.
+
+ghost use Rattle.std.specs.Prelude.{◌≡◌, ◌≢◌, ℕ, ◌+◌, ◌-◌, ◌^◌, ◌<◌, ◌≤◌, suc, ◌∷◌};
+ghost use Rattle.rand_core.specs.Stream.{next_u64};
+ghost use Rattle.rand_core.specs.Steps.{stream_of, steps_u64_high};
+ghost use Rattle.rand_xoshiro.specs.Xoshiro256.{plus_plus};
+ghost use Rattle.pair_workers.specs.Picks.{words_from, first_state, pick_of, picks_from, picks};
+
+use rand_core::{Rng, SeedableRng};
+use rand_xoshiro::Xoshiro256PlusPlus;
+use std::marker::Model;
+
+/// A worker's random words, of which contracts see the state. Xoshiro256++ is a generator of
+/// Blackman and Vigna.
+#[derive(Debug, Drop)]
+pub struct Picker {
+    words: Xoshiro256PlusPlus,
+}
+
+impl Model for Picker {
+    ghost use Rattle.std.specs.Prelude.{ℕ, List};
+
+    ghost Value = { List ℕ };
+
+    ghost view = { λ p. p.words };
+}
+
+impl Picker {
+    /// The picker of a worker that has made no pick. It takes no memory.
+    pub fn new(seed: u64, worker: u16) -> Picker
+        requires { seed ≤ 2 ^ 63 - 1 }
+        ensures state { result ≡ first_state seed worker }
+        ensures picks { (n count : ℕ) → picks_from (words_from result) n count ≡ picks seed worker n count }
+    {
+        Picker {
+            words: Xoshiro256PlusPlus::seed_from_u64(seed + u64::from(worker)),
+        }
+    }
+
+    /// Two different agents of `n`, from the next word. It takes no memory.
+    pub fn pick(&mut self, n: u32) -> (u32, u32)
+        requires two { 2 ≤ n }
+        requires few { n ≤ 65536 }
+        ensures pick { result ≡ pick_of n (next_u64 (words_from self.old)).0 }
+        ensures rest { words_from self.new ≡ (next_u64 (words_from self.old)).1 }
+        // Picks in a row are those of the definition.
+        ensures picks { (count : ℕ) → picks_from (words_from self.old) n (suc count) ≡ result ∷ picks_from (words_from self.new) n count }
+        ensures different { result.0 ≢ result.1 }
+        ensures first { result.0 < n }
+        ensures second { result.1 < n }
+    {
+        let word = self.words.next_u64();
+        let a = ((word >> 32) % u64::from(n)) as u32;
+        let b = (word % (1 << 32) % u64::from(n - 1)) as u32;
+        (a, if a <= b { b + 1 } else { b })
+    }
+}

@@ -1,0 +1,121 @@
+ghost use Rattle.std.specs.Prelude.{◌≤◌};
+
+use crate::*;
+use pop_crowd::{Crowd, Meeting};
+use pop_io::{List, OpenGate, Text};
+use pop_net::{Item, Leaf, Move, Net};
+use pop_words::RunSpec;
+use std::alloc::{AllocError, Global};
+use std::test::Fail;
+
+#[test]
+fn first_picks(rt: HostRuntime) {
+    let mut two = Picker::new(0, 0);
+    assert_eq!(rt; two.pick(2), (1, 0));
+    assert_eq!(rt; two.pick(2), (1, 0));
+    let mut three = Picker::new(0, 0);
+    assert_eq!(rt; three.pick(3), (2, 1));
+    assert_eq!(rt; three.pick(3), (1, 2));
+}
+
+fn texts(alloc: Global, names: &[&str]) -> Result<List<Text>, AllocError> {
+    let mut list = Vec::new(alloc);
+    for name in names {
+        list.push(Text::from_string(String::from_str(alloc, name)?))?;
+    }
+    Ok(List::from_vec(list))
+}
+
+fn list<T: Copy>(alloc: Global, items: &[T]) -> Result<List<T>, AllocError> {
+    Ok(List::from_vec(Vec::from_slice(alloc, items)?))
+}
+
+fn step(p: u16, q: u16, r: u16, s: u16) -> Move {
+    Move { p, q, r, s }
+}
+
+/// The majority protocol of four states, of which A and B are the strong ones.
+fn majority(alloc: Global) -> Result<Net, Fail> {
+    let moves = [
+        step(0, 1, 2, 3),
+        step(0, 3, 0, 2),
+        step(1, 2, 1, 3),
+        step(3, 2, 3, 3),
+    ];
+    let leaf = Leaf::new(
+        alloc,
+        texts(alloc, &["A", "B", "a", "b"])?,
+        list(alloc, &moves)?,
+        list(alloc, &[0, 1])?,
+        list(alloc, &[true, false, true, false])?,
+    );
+    let leaf = leaf.ok().ok_or("a leaf")?;
+    let net = Net::new(
+        alloc,
+        texts(alloc, &["x", "y"])?,
+        List::from_vec(vec![in alloc; leaf]?),
+        list(alloc, &[Item::Leaf(0)])?,
+    );
+    Ok(net.ok().ok_or("a net")?)
+}
+
+/// A run of majority with one worker and seed 0, by so many turns.
+fn run(alloc: Global, x: u64, y: u64, turns: u64) -> Result<Option<RunEnd>, Fail>
+    requires { turns ≤ 1000000 }
+{
+    let net = majority(alloc)?;
+    if net.var_count() != 2 {
+        return Ok(None);
+    }
+    let crowd = Crowd::of_counts(alloc, &net, &[x, y])
+        .ok()
+        .ok_or("a crowd")?;
+    let spec = RunSpec {
+        workers: 1,
+        shards: 16,
+        turns,
+        seed: 0,
+    };
+    Ok(run_alone(alloc, &net, crowd, &spec, &OpenGate).ok())
+}
+
+#[test]
+fn two_agents_come_to_an_end(rt: HostRuntime) -> Result<(), Fail> {
+    let run = run(rt.alloc(), 1, 1, 2)?.ok_or("a run")?;
+    let meeting = Meeting {
+        worker: 0,
+        a: 1,
+        b: 0,
+        changed: true,
+    };
+    let rounds = run.rounds.as_slice();
+    assert_eq!(rt; rounds.len(), 1);
+    assert_eq!(rt; rounds[0].as_slice(), [meeting, meeting].as_slice());
+    assert_eq!(rt; run.end, End::Terminal);
+    Ok(())
+}
+
+#[test]
+fn one_turn_leaves_a_pair(rt: HostRuntime) -> Result<(), Fail> {
+    let run = run(rt.alloc(), 1, 1, 1)?.ok_or("a run")?;
+    assert_eq!(rt; run.end, End::Open(0, 1));
+    Ok(())
+}
+
+#[test]
+fn a_terminal_crowd_makes_no_round(rt: HostRuntime) -> Result<(), Fail> {
+    let run = run(rt.alloc(), 2, 0, 10)?.ok_or("a run")?;
+    assert_eq!(rt; run.rounds.as_slice().len(), 0);
+    assert_eq!(rt; run.end, End::Terminal);
+    Ok(())
+}
+
+#[test]
+fn rounds_have_4096_meetings(rt: HostRuntime) -> Result<(), Fail> {
+    let run = run(rt.alloc(), 2000, 2000, 5000)?.ok_or("a run")?;
+    let rounds = run.rounds.as_slice();
+    assert_eq!(rt; rounds.len(), 2);
+    assert_eq!(rt; rounds[0].as_slice().len(), 4096);
+    assert_eq!(rt; rounds[1].as_slice().len(), 904);
+    Ok(())
+}
