@@ -4,6 +4,7 @@ ghost use Rattle.std.specs.Prelude.{◌≡◌, ◌-◌, ◌^◌, ◌≤◌, [], 
 ghost use Rattle.pop_net.specs.Lanes.{crowd_of, AreValid};
 ghost use Rattle.pair_workers.specs.Picks.{words_from};
 ghost use Rattle.pair_workers.specs.Run.{IsRun};
+ghost use Rattle.pair_workers.specs.OneRun.{IsOnlyRun};
 ghost use Rattle.pair_workers.specs.Played.{IsPlayed};
 ghost use Rattle.pair_workers.specs.Ends.{EndsBy};
 
@@ -52,6 +53,8 @@ pub fn run_alone<G: Gate>(
     ensures end { IfOk result (λ run. EndsBy net.now (crowd_of net.now run.crowd) spec.now (length run.rounds) run.end) }
     ensures valid { IfOk result (λ run. AreValid net.now run.crowd) }
     ensures agents { IfOk result (λ run. length run.crowd ≡ length crowd) }
+    // No other rounds and no other end are a run.
+    ensures only { IfOk result (λ run. IsOnlyRun net.now (crowd_of net.now crowd) spec.now run.rounds (crowd_of net.now run.crowd)) }
 {
     let mut crowd = crowd;
     let mut picker = Picker::new(spec.seed, 0);

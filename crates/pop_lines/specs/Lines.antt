@@ -1,8 +1,12 @@
 -- Pieces between bytes of one kind, and lines.
-use Rattle.std.specs.Prelude.{◌≡◌, ◌≢◌, ℕ, ◌+◌, ◌<◌, ◌==◌, List, [], ◌∷◌, ◌++◌, length, All, Option, Some, None, if◌then◌else◌}
+use Rattle.std.specs.Prelude.{◌≡◌, ◌≢◌, ℕ, ◌+◌, ◌<◌, ◌==◌, List, [], ◌∷◌, ◌++◌, length, codes, All, Option, Some, None, if◌then◌else◌}
 use Rattle.std.specs.List.{slice_split, flat_map}
 use Rattle.pop_lines.specs.declared.fault.LineFault.{LineFault}
 use Rattle.pop_lines.specs.declared.fault.LineFault.TheVariants.{Missing, Extra}
+
+-- a line with its line feed
+abbrev pub ended : List ℕ → List ℕ
+ended line = line ++ codes "\n"
 
 -- the pieces between the bytes c, at least one
 abbrev pub pieces : ℕ → List ℕ → List (List ℕ)

@@ -1,25 +1,38 @@
 -- The words and the input have one answer.
 use Rattle.std.proofs.Common.{◌≡◌, ℕ, ◌<◌, ◌≤◌, ◌⊎◌, inl, inr, Bool, true, false, nat_lt, List, ◌++◌, length, Option, Some, None, Result, Ok, Err, refl, sym, ap, subst, ◌∙◌, arith}
-use Rattle.std.specs.Prelude.{All, MatchBool}
+use Rattle.std.specs.Prelude.{All, MatchBool, IfOk}
 use Rattle.serde_json.specs.Data.{Data}
-use Rattle.pop_lines.specs.Lines.{lines_of}
+use Rattle.pop_lines.specs.Lines.{lines_of, ended}
 use Rattle.pop_net.specs.NetModel.{NetModel, CrowdModel, IsTuple}
 use Rattle.pop_crowd.specs.Tally.{crowd_lines}
 use Rattle.terminal_test.specs.Pairs.{IsLeastPair}
 use Rattle.terminal_test.proofs.Ends.{not_terminal}
 use Rattle.pop_words.specs.declared.command.Command.{Command}
-use Rattle.pop_words.specs.declared.command.Command.TheVariants.{Play, Eval}
+use Rattle.pop_words.specs.declared.command.Command.TheVariants.{Play, Eval, Run}
+use Rattle.pop_words.specs.declared.spec.RunSpec.{RunSpec}
+use Rattle.pop_crowd.specs.declared.crowd.Meeting.{Meeting}
+use Rattle.pair_workers.specs.Run.{IsRun, joined}
+use Rattle.pair_workers.proofs.OnlyRun.{only_run, run_meets}
+use Rattle.pop_crowd.specs.Replay.{replay}
+use Rattle.pop_crowd.proofs.Reached.{replay_leads}
+use Rattle.pop_net.proofs.Tuples.{reachable_tuples}
+use Rattle.pop_journal.specs.Journal.{journal_text}
+use Rattle.pop_words.proofs.Limits.{meaning_limits}
 use Rattle.pop_words.specs.declared.command.Usage.{Usage as BadWord}
-use Rattle.pop_words.specs.Words.{meaning_of}
+use Rattle.pop_words.specs.Words.{meaning_of, HasLimits}
 use Rattle.pop_tool.specs.declared.status.Status.{Status}
 use Rattle.pop_tool.specs.declared.refusal.Refusal.{Refusal}
 use Rattle.pop_tool.specs.declared.refusal.Refusal.TheVariants.{TooLong}
 use Rattle.pop_tool.specs.Json.{Reads}
-use Rattle.pop_tool.specs.Lines.{two_and_more}
+use Rattle.pop_tool.specs.declared.output.Ending.TheVariants.{Done}
+use Rattle.pop_tool.specs.Given.{Given}
+use Rattle.pop_tool.specs.Lines.{two_and_more, just_two}
+use Rattle.pop_tool.specs.Start.{start_in}
+use Rattle.pop_tool.specs.Run.{last_of, ending_of, RunTells, OfStart, OfBoth}
 use Rattle.pop_tool.specs.Play.{end_crowd, IsLast, last_line, OfEnd, OfLines}
 use Rattle.pop_tool.specs.Answer.{Told, OfCommand, OfInput, OfMeaning}
 use Rattle.pop_tool.specs.OneAnswer.{IsOneAnswer}
-use Rattle.pop_tool.proofs.PlayTuples.{end_tuples}
+use Rattle.pop_tool.proofs.PlayTuples.{in_tuples, in_long, end_tuples}
 
 one_value : (line : List ℕ) (v w : Option Data) → Reads line v → Reads line w → v ≡ w
 one_value line None None r s = refl
@@ -45,40 +58,70 @@ module _ (net : NetModel) (crowd : CrowdModel) (tuples : All (IsTuple net) crowd
   one_last (Some (a, b)) (Some (c, d)) p q =
       let both = one_pair net crowd a b c d p q in ap (λ (x : ℕ). Some (x, b)) both.0 ∙ ap (λ (y : ℕ). Some (c, y)) both.1
 
-one_end : (r : Result (NetModel × CrowdModel) Refusal) → ((net : NetModel) (crowd : CrowdModel) → r ≡ Ok (net, crowd) → All (IsTuple net) crowd) → (x y : Result (List ℕ) Refusal) → OfEnd r x → OfEnd r y → x ≡ y
+one_end : (r : Result (NetModel × CrowdModel) Refusal) → ((net : NetModel) (crowd : CrowdModel) → r ≡ Ok (net, crowd) → All (IsTuple net) crowd) → (x y : Result Given Refusal) → OfEnd r x → OfEnd r y → x ≡ y
 one_end (Err refusal) tuples x y p q = p ∙ sym q
 one_end (Ok (net, crowd)) tuples x y p q =
     let same = one_last net crowd (tuples net crowd refl) p.0 q.0 p.1 q.1 in
-    p.2 ∙ ap (λ (o : Option (ℕ × ℕ)). Ok (crowd_lines net crowd ++ last_line o)) same ∙ sym q.2
+    p.2 ∙ ap (λ (o : Option (ℕ × ℕ)). Ok (crowd_lines net crowd ++ last_line o, Done)) same ∙ sym q.2
 
-one_play : (r : Result (List ℕ × List ℕ × List (List ℕ)) Refusal) (x y : Result (List ℕ) Refusal) → OfLines r x → OfLines r y → x ≡ y
+one_play : (r : Result (List ℕ × List ℕ × List (List ℕ)) Refusal) (x y : Result Given Refusal) → OfLines r x → OfLines r y → x ≡ y
 one_play (Err refusal) x y p q = p ∙ sym q
 one_play (Ok (net, crowd, meetings)) x y p q =
     let same = one_value net p.0 q.0 p.1 q.1 in
     one_end (end_crowd q.0 crowd meetings) (λ n c e. end_tuples q.0 crowd meetings n c e) x y
     (subst (λ (v : Option Data). OfEnd (end_crowd v crowd meetings) x) same p.2) q.2
 
-one_given : (command : Command) (lines : List (List ℕ)) (x y : Result (List ℕ) Refusal) → OfCommand command lines x → OfCommand command lines y → x ≡ y
-one_given Play lines x y p q = one_play (two_and_more lines) x y p q
-one_given Eval lines x y p q = p ∙ sym q
+module _ (spec : RunSpec) (alone : spec.workers ≡ 1) (first second : List ℕ) (net : NetModel) (start : CrowdModel) (tuples : All (IsTuple net) start) (two : 2 ≤ length start) where
+  -- the tuples of a run's last crowd
+  last_tuples : (rounds : List (List Meeting)) (end : CrowdModel) → IsRun net start spec rounds end → All (IsTuple net) end
+  last_tuples rounds end is =
+      let r = replay_leads net (joined rounds) start tuples (run_meets net start spec rounds end alone two is) in
+      subst (All (IsTuple net)) is.replays (reachable_tuples net start (replay net (joined rounds) start) tuples (r.0, r.2))
 
-by_length : (P Q : Result (List ℕ) Refusal → Type 0) (b : Bool) → ((x y : Result (List ℕ) Refusal) → P x → P y → x ≡ y) → ((x y : Result (List ℕ) Refusal) → Q x → Q y → x ≡ y) → (x y : Result (List ℕ) Refusal) → MatchBool b (P x) (Q x) → MatchBool b (P y) (Q y) → x ≡ y
+  one_tale : (given other : Given) → RunTells spec first second net start given → RunTells spec first second net start other → given ≡ other
+  one_tale given other p q =
+      let only = only_run net start spec p.0 p.1 alone p.3 q.0 q.1 q.3 in
+      let pair = one_last net p.1 (last_tuples p.0 p.1 p.3) p.2 q.2 p.4 (subst (λ (c : CrowdModel). IsLast net c q.2) only.1 q.4) in
+      p.5
+      ∙ ap (λ (rounds : List (List Meeting)). (ended first ++ ended second ++ journal_text net spec rounds p.1 (last_of p.2), ending_of p.2)) (sym only.0)
+      ∙ ap (λ (end : CrowdModel). (ended first ++ ended second ++ journal_text net spec q.0 end (last_of p.2), ending_of p.2)) (sym only.1)
+      ∙ ap (λ (o : Option (ℕ × ℕ)). (ended first ++ ended second ++ journal_text net spec q.0 q.1 (last_of o), ending_of o)) pair
+      ∙ sym q.5
+
+one_start : (spec : RunSpec) (first second : List ℕ) → spec.workers ≡ 1 → (r : Result (NetModel × CrowdModel) Refusal) → ((net : NetModel) (crowd : CrowdModel) → r ≡ Ok (net, crowd) → All (IsTuple net) crowd × (2 ≤ length crowd)) → (x y : Result Given Refusal) → OfStart spec first second r x → OfStart spec first second r y → x ≡ y
+one_start spec first second alone (Err refusal) tuples x y p q = p ∙ sym q
+one_start spec first second alone (Ok (net, start)) tuples x y p q =
+    p.2 ∙ ap (λ (t : Given). Ok t) (one_tale spec alone first second net start (tuples net start refl).0 (tuples net start refl).1 p.0 q.0 p.1 q.1) ∙ sym q.2
+
+one_run : (spec : RunSpec) → spec.workers ≡ 1 → (r : Result (List ℕ × List ℕ) Refusal) (x y : Result Given Refusal) → OfBoth spec r x → OfBoth spec r y → x ≡ y
+one_run spec alone (Err refusal) x y p q = p ∙ sym q
+one_run spec alone (Ok (first, second)) x y p q =
+    let same = one_value first p.0 q.0 p.1 q.1 in
+    one_start spec first second alone (start_in q.0 second) (λ n c e. (in_tuples q.0 second n c e, in_long q.0 second n c e)) x y
+    (subst (λ (v : Option Data). OfStart spec first second (start_in v second) x) same p.2) q.2
+
+one_given : (command : Command) → HasLimits command → (lines : List (List ℕ)) (x y : Result Given Refusal) → OfCommand command lines x → OfCommand command lines y → x ≡ y
+one_given Play limits lines x y p q = one_play (two_and_more lines) x y p q
+one_given Eval limits lines x y p q = p ∙ sym q
+one_given (Run spec) limits lines x y p q = one_run spec (omega (arith, limits.workers.0, limits.workers.1)) (just_two lines) x y p q
+
+by_length : (P Q : Result Given Refusal → Type 0) (b : Bool) → ((x y : Result Given Refusal) → P x → P y → x ≡ y) → ((x y : Result Given Refusal) → Q x → Q y → x ≡ y) → (x y : Result Given Refusal) → MatchBool b (P x) (Q x) → MatchBool b (P y) (Q y) → x ≡ y
 by_length P Q true one other x y p q = one x y p q
 by_length P Q false one other x y p q = other x y p q
 
-one_input : (command : Command) (input : List ℕ) (x y : Result (List ℕ) Refusal) → OfInput command input x → OfInput command input y → x ≡ y
-one_input command input x y p q =
-    by_length (λ r. r ≡ Err TooLong) (OfCommand command (lines_of input)) (nat_lt 134217728 (length input)) (λ x y p q. p ∙ sym q) (one_given command (lines_of input)) x y p q
+one_input : (command : Command) → HasLimits command → (input : List ℕ) (x y : Result Given Refusal) → OfInput command input x → OfInput command input y → x ≡ y
+one_input command limits input x y p q =
+    by_length (λ r. r ≡ Err TooLong) (OfCommand command (lines_of input)) (nat_lt 134217728 (length input)) (λ x y p q. p ∙ sym q) (one_given command limits (lines_of input)) x y p q
 
-one_told : (given : Result (List ℕ) Refusal) (text other : List ℕ) (status another : Status) → Told given text status → Told given other another → (text ≡ other) × (status ≡ another)
+one_told : (given : Result Given Refusal) (text other : List ℕ) (status another : Status) → Told given text status → Told given other another → (text ≡ other) × (status ≡ another)
 one_told (Ok line) text other status another p q = (p.0 ∙ sym q.0, p.1 ∙ sym q.1)
 one_told (Err refusal) text other status another p q = (p.0 ∙ sym q.0, p.1 ∙ sym q.1)
 
-one_meaning : (m : Result Command BadWord) (input text other : List ℕ) (status another : Status) → OfMeaning m input text status → OfMeaning m input other another → (text ≡ other) × (status ≡ another)
-one_meaning (Err usage) input text other status another p q = (p.0 ∙ sym q.0, p.1 ∙ sym q.1)
-one_meaning (Ok command) input text other status another p q =
-    let same = one_input command input p.0 q.0 p.1 q.1 in
-    one_told q.0 text other status another (subst (λ (g : Result (List ℕ) Refusal). Told g text status) same p.2) q.2
+one_meaning : (m : Result Command BadWord) → IfOk m HasLimits → (input text other : List ℕ) (status another : Status) → OfMeaning m input text status → OfMeaning m input other another → (text ≡ other) × (status ≡ another)
+one_meaning (Err usage) limits input text other status another p q = (p.0 ∙ sym q.0, p.1 ∙ sym q.1)
+one_meaning (Ok command) limits input text other status another p q =
+    let same = one_input command limits input p.0 q.0 p.1 q.1 in
+    one_told q.0 text other status another (subst (λ (g : Result Given Refusal). Told g text status) same p.2) q.2
 
 pub one_answer : IsOneAnswer
-one_answer words input text other status another p q = one_meaning (meaning_of words) input text other status another p q
+one_answer words input text other status another p q = one_meaning (meaning_of words) (meaning_limits words) input text other status another p q

@@ -1,13 +1,13 @@
 -- The crowd at the end of a play has one state per leaf in each tuple.
-use Rattle.std.proofs.Common.{◌≡◌, ℕ, ◌+◌, ◌<◌, ◌&&◌, Bool, true, false, cond, not, nat_lt, List, [], ◌∷◌, length, Option, Some, None, Result, Ok, Err, refl, ap, subst}
-use Rattle.std.specs.Prelude.{◌≢◌, ◌==◌, All}
-use Rattle.std.proofs.lemmas.Bool.{eq-eqb, ltb-true}
+use Rattle.std.proofs.Common.{◌≡◌, ℕ, ◌+◌, ◌<◌, ◌&&◌, Bool, true, false, cond, not, nat_lt, List, [], ◌∷◌, length, Option, Some, None, Result, Ok, Err, refl, ap, subst, arith, ◌≤◌, nat_le}
+use Rattle.std.specs.Prelude.{◌≢◌, ◌==◌, All, sum}
+use Rattle.std.proofs.lemmas.Bool.{eq-eqb, ltb-true, leb-true}
 use Rattle.std.proofs.lemmas.List.Elements.{All-nil, All-cons}
 use Rattle.serde_json.specs.Data.{Data}
 use Rattle.pop_lines.specs.Lines.{pieces}
 use Rattle.pop_net.specs.NetModel.{NetModel, CrowdModel, IsTuple}
-use Rattle.pop_net.specs.InputCrowd.{input_crowd}
-use Rattle.pop_net.proofs.Tuples.{reachable_tuples, input_tuples}
+use Rattle.pop_net.specs.InputCrowd.{input_crowd, start_of}
+use Rattle.pop_net.proofs.Tuples.{reachable_tuples, input_tuples, length-starts_from}
 use Rattle.pop_crowd.specs.declared.crowd.Meeting.{Meeting}
 use Rattle.pop_crowd.specs.Replay.{replay, IsMeeting, AreMeetings}
 use Rattle.pop_crowd.proofs.Reached.{replay_leads}
@@ -16,9 +16,11 @@ use Rattle.pop_words.specs.Meetings.{pair_of, agents_of, meeting_of}
 use Rattle.pop_words.specs.declared.meeting.MeetingFault.{MeetingFault}
 use Rattle.pop_words.specs.declared.meeting.MeetingFault.TheVariants as meeting
 use Rattle.pop_tool.specs.declared.refusal.Refusal.{Refusal}
+use Rattle.pop_tool.specs.declared.refusal.Refusal.TheVariants.{Size}
 use Rattle.pop_tool.specs.Steps.{◌>>=◌}
 use Rattle.pop_tool.specs.Eval.{counted}
-use Rattle.pop_tool.specs.Play.{net_in, sized, crowd_in, between, paired, meetings_in, played, end_crowd}
+use Rattle.pop_tool.specs.Start.{net_in, sized, crowd_in, start_in}
+use Rattle.pop_tool.specs.Play.{between, paired, meetings_in, played, end_crowd}
 
 bind_ok : {A B : Type 0} (r : Result A Refusal) (f : A → Result B Refusal) (y : B) → (r >>= f) ≡ Ok y → (x : A) × (r ≡ Ok x) × (f x ≡ Ok y)
 bind_ok (Ok x) f y e = (x, refl, e)
@@ -79,11 +81,42 @@ played_tuples net start lines end tuples e =
     let r = replay_leads net m.0 start tuples (meetings_are (length start) 3 lines m.0 m.1) in
     subst (All (IsTuple net)) (same_ok (replay net m.0 start) end m.2) (reachable_tuples net start (replay net m.0 start) tuples (r.0, r.2))
 
+fits : (counts : List ℕ) (b : Bool) (fitting : List ℕ) → (nat_le 2 (sum counts) && nat_le (sum counts) 65536) ≡ b → cond b (let r : Result (List ℕ) Refusal = Ok counts in r) (Err (Size (sum counts))) ≡ Ok fitting → 2 ≤ sum fitting
+fits counts true fitting is e =
+    let two = leb-true 2 (sum counts) (parts (nat_le 2 (sum counts)) (nat_le (sum counts) 65536) is).0 in
+    subst (λ (c : List ℕ). 2 ≤ sum c) (same_ok counts fitting e) two
+fits counts false fitting is e = absurd cc
+
+start_long : (net : NetModel) (line : List ℕ) (crowd : CrowdModel) → crowd_in net line ≡ Ok crowd → 2 ≤ length crowd
+unfolding crowd_in
+start_long net line crowd e =
+    let c = bind_ok (counted (counts_of net.variables line)) (λ counts. sized counts >>= λ fitting. Ok (input_crowd net fitting)) crowd e in
+    let s = bind_ok (sized c.0) (λ fitting. Ok (input_crowd net fitting)) crowd c.2 in
+    let two = fits c.0 (nat_le 2 (sum c.0) && nat_le (sum c.0) 65536) s.0 refl s.1 in
+    let long = length-starts_from (start_of net) 0 s.0 in
+    subst (λ (c : CrowdModel). 2 ≤ length c) (same_ok (input_crowd net s.0) crowd s.2) (omega (arith, two, long))
+
+-- the start crowd of a net line and a crowd line has two agents at least
+pub in_long : (value : Option Data) (line : List ℕ) (net : NetModel) (crowd : CrowdModel) → start_in value line ≡ Ok (net, crowd) → 2 ≤ length crowd
+unfolding start_in
+in_long value line net crowd e =
+    let n = bind_ok (net_in value) (λ n. crowd_in n line >>= λ start. Ok (n, start)) (net, crowd) e in
+    let s = bind_ok (crowd_in n.0 line) (λ start. Ok (n.0, start)) (net, crowd) n.2 in
+    subst (λ (x : NetModel × CrowdModel). 2 ≤ length x.1) (same_ok (n.0, s.0) (net, crowd) s.2) (start_long n.0 line s.0 s.1)
+
+-- the start crowd of a net line and a crowd line has one state per leaf in each tuple
+pub in_tuples : (value : Option Data) (line : List ℕ) (net : NetModel) (crowd : CrowdModel) → start_in value line ≡ Ok (net, crowd) → All (IsTuple net) crowd
+unfolding start_in
+in_tuples value line net crowd e =
+    let n = bind_ok (net_in value) (λ n. crowd_in n line >>= λ start. Ok (n, start)) (net, crowd) e in
+    let s = bind_ok (crowd_in n.0 line) (λ start. Ok (n.0, start)) (net, crowd) n.2 in
+    let both = same_ok (n.0, s.0) (net, crowd) s.2 in
+    subst (λ (x : NetModel × CrowdModel). All (IsTuple x.0) x.1) both (start_tuples n.0 line s.0 s.1)
+
 pub end_tuples : (value : Option Data) (line : List ℕ) (lines : List (List ℕ)) (net : NetModel) (crowd : CrowdModel) → end_crowd value line lines ≡ Ok (net, crowd) → All (IsTuple net) crowd
 unfolding end_crowd
 end_tuples value line lines net crowd e =
-    let n = bind_ok (net_in value) (λ n. crowd_in n line >>= λ start. played n start lines >>= λ end. Ok (n, end)) (net, crowd) e in
-    let s = bind_ok (crowd_in n.0 line) (λ start. played n.0 start lines >>= λ end. Ok (n.0, end)) (net, crowd) n.2 in
-    let p = bind_ok (played n.0 s.0 lines) (λ end. Ok (n.0, end)) (net, crowd) s.2 in
-    let both = same_ok (n.0, p.0) (net, crowd) p.2 in
-    subst (λ (x : NetModel × CrowdModel). All (IsTuple x.0) x.1) both (played_tuples n.0 s.0 lines p.0 (start_tuples n.0 line s.0 s.1) p.1)
+    let s = bind_ok (start_in value line) (λ start. played start.0 start.1 lines >>= λ end. Ok (start.0, end)) (net, crowd) e in
+    let p = bind_ok (played s.0.0 s.0.1 lines) (λ end. Ok (s.0.0, end)) (net, crowd) s.2 in
+    let both = same_ok (s.0.0, p.0) (net, crowd) p.2 in
+    subst (λ (x : NetModel × CrowdModel). All (IsTuple x.0) x.1) both (played_tuples s.0.0 s.0.1 lines p.0 (in_tuples value line s.0.0 s.0.1 s.1) p.1)

@@ -18,7 +18,8 @@ use Rattle.pop_tool.specs.declared.stop.Stop.{Stop}
 use Rattle.pop_tool.specs.declared.stop.Stop.TheVariants.{Refused, NoMemory}
 use Rattle.pop_tool.specs.Steps.{◌>>=◌, Stops}
 use Rattle.pop_tool.specs.Eval.{counted}
-use Rattle.pop_tool.specs.Play.{crowd_in, between, paired, meetings_in}
+use Rattle.pop_tool.specs.Start.{crowd_in}
+use Rattle.pop_tool.specs.Play.{between, paired, meetings_in}
 
 pub started : (net : NetModel) (line : List ℕ) (counts : List ℕ) (crowd : List Word) → counted (counts_of net.variables line) ≡ Ok counts → crowd_of net crowd ≡ input_crowd net counts → 2 ≤ length crowd → length crowd ≤ 65536
     → crowd_in net line ≡ Ok (crowd_of net crowd)

@@ -2,18 +2,20 @@
 use Rattle.std.proofs.Common.{◌≡◌, ℕ, ◌≤◌, ◌<◌, List, [], length, Option, Some, None, Result, Ok, Err, refl, sym, subst}
 use Rattle.std.specs.Prelude.{IfOk, IfSome}
 use Rattle.std.proofs.lemmas.Bool.{le-ltb, lt-ltb}
-use Rattle.pop_lines.specs.Lines.{lines_of}
+use Rattle.pop_lines.specs.Lines.{lines_of, ended}
 use Rattle.pop_words.specs.declared.command.Command.{Command}
 use Rattle.pop_words.specs.declared.command.Usage.{Usage as BadWord}
 use Rattle.pop_words.specs.Words.{meaning_of}
 use Rattle.pop_tool.specs.declared.status.Status.{Status}
-use Rattle.pop_tool.specs.declared.status.Status.TheVariants.{Done, Usage, Refused}
+use Rattle.pop_tool.specs.declared.status.Status.TheVariants.{Done, Usage, Refused, Undecided}
+use Rattle.pop_tool.specs.declared.output.Ending.TheVariants as ending
+use Rattle.pop_tool.specs.Given.{Given}
 use Rattle.pop_tool.specs.declared.refusal.Refusal.{Refusal}
 use Rattle.pop_tool.specs.declared.refusal.Refusal.TheVariants.{TooLong}
 use Rattle.pop_tool.specs.declared.stop.Stop.{Stop}
 use Rattle.pop_tool.specs.declared.stop.Stop.TheVariants as stop
 use Rattle.pop_tool.specs.Refusals.{usage_text}
-use Rattle.pop_tool.specs.Answer.{ended, Told, OfCommand, OfInput, OfMeaning, Answer}
+use Rattle.pop_tool.specs.Answer.{Told, OfCommand, OfInput, OfMeaning, Answer}
 use Rattle.pop_tool.specs.Outcome.{Tells as HasLeft, IsReply}
 use Rattle.pop_tool.specs.Told.{Allows, Tells}
 
@@ -32,20 +34,22 @@ usage_reply words left usage text means is =
     (some.0, some.1, subst (λ (m : Result Command BadWord). OfMeaning m some.0 text Usage) (sym means) (is, refl))
 
 module _ (words : List (List ℕ)) (left : Option (List ℕ)) (command : Command) (means : meaning_of words ≡ Ok command) (input : List ℕ) (has : HasLeft left input) where
-  answers : (given : Result (List ℕ) Refusal) (text : List ℕ) (status : Status) → OfInput command input given → Told given text status → Answer words input text status
+  answers : (given : Result Given Refusal) (text : List ℕ) (status : Status) → OfInput command input given → Told given text status → Answer words input text status
   answers given text status may told = subst (λ (m : Result Command BadWord). OfMeaning m input text status) (sym means) (given, may, told)
 
-  told_reply : (given : Result (List ℕ) Refusal) (text : List ℕ) (status : Status) → OfInput command input given → Told given text status → IsReply words left text status
-  told_reply (Ok line) text status may told =
-      subst (λ (s : Status). IsReply words left text s) (sym told.1) (input, has, answers (Ok line) text Done may (told.0, refl))
+  told_reply : (given : Result Given Refusal) (text : List ℕ) (status : Status) → OfInput command input given → Told given text status → IsReply words left text status
+  told_reply (Ok (line, ending.Done)) text status may told =
+      subst (λ (s : Status). IsReply words left text s) (sym told.1) (input, has, answers (Ok (line, ending.Done)) text Done may (told.0, refl))
+  told_reply (Ok (line, ending.Undecided)) text status may told =
+      subst (λ (s : Status). IsReply words left text s) (sym told.1) (input, has, answers (Ok (line, ending.Undecided)) text Undecided may (told.0, refl))
   told_reply (Err refusal) text status may told =
       subst (λ (s : Status). IsReply words left text s) (sym told.1) (input, has, answers (Err refusal) text Refused may (told.0, refl))
 
-  of_short : length input ≤ 134217728 → (given : Result (List ℕ) Refusal) → OfCommand command (lines_of input) given → OfInput command input given
+  of_short : length input ≤ 134217728 → (given : Result Given Refusal) → OfCommand command (lines_of input) given → OfInput command input given
   of_short short given may = rw (le-ltb 134217728 (length input) short) may
 
   -- what a command gives for an input that isn't too long
-  pub given_reply : {A : Type 0} (view : A → List ℕ) (given : Result A Stop) (text : List ℕ) (status : Status) → length input ≤ 134217728 → Allows (OfCommand command (lines_of input)) view given → Tells view given text status → IsReply words left text status
+  pub given_reply : {A : Type 0} (view : A → Given) (given : Result A Stop) (text : List ℕ) (status : Status) → length input ≤ 134217728 → Allows (OfCommand command (lines_of input)) view given → Tells view given text status → IsReply words left text status
   given_reply view (Ok x) text status short may told = told_reply (Ok (view x)) text status (of_short short (Ok (view x)) may) told
   given_reply view (Err (stop.Refused refusal)) text status short may told = told_reply (Err refusal) text status (of_short short (Err refusal) may) told
   given_reply view (Err stop.NoMemory) text status short may told = absurd told

@@ -14,6 +14,8 @@ use Rattle.pop_tool.specs.declared.refusal.Refusal.TheVariants.{Line, Pred, Coun
 use Rattle.pop_tool.specs.declared.refusal.LineWhy.TheVariants.{Form}
 use Rattle.pop_tool.specs.Steps.{◌>>=◌}
 use Rattle.pop_tool.specs.Lines.{just_three}
+use Rattle.pop_tool.specs.Given.{Given}
+use Rattle.pop_tool.specs.declared.output.Ending.TheVariants.{Done}
 
 -- the names of the vars line, which is line 1
 abbrev pub named : Option (List (List ℕ)) → Result (List (List ℕ)) Refusal
@@ -41,10 +43,10 @@ abbrev pub truth_line : Bool → List ℕ
 truth_line true = codes "true\n"
 truth_line false = codes "false\n"
 
-unfoldable pub eval_answer : List (List ℕ) → Result (List ℕ) Refusal
+unfoldable pub eval_answer : List (List ℕ) → Result Given Refusal
 eval_answer lines = do
   three ← just_three lines
   names ← named (vars_of three.0)
   pred ← understood (pred_read names three.1)
   counts ← counted (counts_of names three.2)
-  Ok (truth_line (predicate_value pred.tree counts))
+  Ok (truth_line (predicate_value pred.tree counts), Done)

@@ -2,10 +2,13 @@ pub mod Codes
 pub mod Refusals
 pub mod Steps
 pub mod Lines
+pub mod Given
 pub mod Eval
 pub mod Refused
 pub mod Json
+pub mod Start
 pub mod Play
+pub mod Run
 pub mod Answer
 pub mod Outcome
 pub mod Told

@@ -16,6 +16,13 @@ two_and_more [] = missing 1
 two_and_more (first ∷ []) = missing 2
 two_and_more (first ∷ second ∷ more) = Ok (first, second, more)
 
+-- just two lines
+abbrev pub just_two : List (List ℕ) → Result (List ℕ × List ℕ) Refusal
+just_two [] = missing 1
+just_two (first ∷ []) = missing 2
+just_two (first ∷ second ∷ []) = Ok (first, second)
+just_two (first ∷ second ∷ third ∷ more) = extra 3
+
 -- just three lines
 abbrev pub just_three : List (List ℕ) → Result (List ℕ × List ℕ × List ℕ) Refusal
 just_three [] = missing 1

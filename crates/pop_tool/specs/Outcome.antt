@@ -4,7 +4,8 @@ use Rattle.std.specs.Io.KnownBytes.{Appends, Keeps}
 use Rattle.pop_io.specs.Causes.{AppendsFront}
 use Rattle.pop_tool.specs.declared.status.Status.{Status}
 use Rattle.pop_tool.specs.declared.status.Status.TheVariants.{Done, Usage, Refused, Rejected, Undecided, Differs, ReadFault, WriteFault, NoMemory}
-use Rattle.pop_tool.specs.Answer.{Answer, ended}
+use Rattle.pop_lines.specs.Lines.{ended}
+use Rattle.pop_tool.specs.Answer.{Answer}
 
 -- a source that tells what it has left has this left
 abbrev pub Tells : Option (List ℕ) → List ℕ → Type 0

@@ -1,47 +1,25 @@
 -- What `play` makes of the lines of its input: a net, a crowd line and meeting lines.
-use Rattle.std.specs.Prelude.{◌≡◌, ℕ, ◌+◌, ◌&&◌, nat_le, List, [], ◌∷◌, ◌++◌, length, sum, codes, decimal, false, Option, Some, None, Result, Ok, Err, if◌then◌else◌}
+use Rattle.std.specs.Prelude.{◌≡◌, ℕ, ◌+◌, List, [], ◌∷◌, ◌++◌, length, codes, decimal, false, Option, Some, None, Result, Ok, Err}
 use Rattle.serde_json.specs.Data.{Data}
-use Rattle.json_shape.specs.Faults.{Fault}
-use Rattle.net_json.specs.Examined.{net_at}
 use Rattle.pop_net.specs.NetModel.{NetModel, CrowdModel}
-use Rattle.pop_net.specs.InputCrowd.{input_crowd}
 use Rattle.pop_crowd.specs.declared.crowd.Meeting.{Meeting}
 use Rattle.pop_net.specs.Step.{Step}
 use Rattle.pop_net.specs.Terminal.{IsTerminal}
 use Rattle.pop_crowd.specs.Replay.{replay}
 use Rattle.pop_crowd.specs.Tally.{crowd_lines}
 use Rattle.terminal_test.specs.Pairs.{IsLeastPair}
-use Rattle.pop_words.specs.Counts.{counts_of}
 use Rattle.pop_words.specs.Meetings.{meeting_of}
 use Rattle.pop_words.specs.declared.meeting.MeetingFault.{MeetingFault}
 use Rattle.pop_words.specs.declared.meeting.MeetingFault.TheVariants as meeting
 use Rattle.pop_tool.specs.declared.refusal.Refusal.{Refusal}
-use Rattle.pop_tool.specs.declared.refusal.Refusal.TheVariants.{Line, NotJson, Format, Size}
+use Rattle.pop_tool.specs.declared.refusal.Refusal.TheVariants.{Line}
 use Rattle.pop_tool.specs.declared.refusal.LineWhy.TheVariants.{Form, Agents}
 use Rattle.pop_tool.specs.Steps.{◌>>=◌}
 use Rattle.pop_tool.specs.Lines.{two_and_more}
 use Rattle.pop_tool.specs.Json.{Reads}
-use Rattle.pop_tool.specs.Eval.{counted}
-
-abbrev pub formatted : {A : Type 0} → Result A Fault → Result A Refusal
-formatted (Ok value) = Ok value
-formatted (Err fault) = Err (Format fault.path fault.why)
-
--- the net of a line that is this value, or no JSON
-abbrev pub net_in : Option Data → Result NetModel Refusal
-net_in None = Err NotJson
-net_in (Some d) = formatted (net_at [] d)
-
--- a crowd that is run has 2 to 65,536 agents
-abbrev pub sized : List ℕ → Result (List ℕ) Refusal
-sized counts = if nat_le 2 (sum counts) && nat_le (sum counts) 65536 then Ok counts else Err (Size (sum counts))
-
--- the input crowd of a crowd line
-unfoldable pub crowd_in : NetModel → List ℕ → Result CrowdModel Refusal
-crowd_in net line = do
-  counts ← counted (counts_of net.variables line)
-  fitting ← sized counts
-  Ok (input_crowd net fitting)
+use Rattle.pop_tool.specs.Start.{start_in}
+use Rattle.pop_tool.specs.Given.{Given}
+use Rattle.pop_tool.specs.declared.output.Ending.TheVariants.{Done}
 
 -- the meeting of two agents
 abbrev pub between : ℕ × ℕ → Meeting
@@ -66,10 +44,9 @@ played net crowd lines = meetings_in (length crowd) 3 lines >>= λ meetings. Ok 
 -- the net, and the crowd at the end
 unfoldable pub end_crowd : Option Data → List ℕ → List (List ℕ) → Result (NetModel × CrowdModel) Refusal
 end_crowd value line lines = do
-  net ← net_in value
-  start ← crowd_in net line
-  end ← played net start lines
-  Ok (net, end)
+  start ← start_in value line
+  end ← played start.0 start.1 lines
+  Ok (start.0, end)
 
 -- no pair where the crowd is terminal, and else the least pair that changes a tuple
 abbrev pub IsLast : NetModel → CrowdModel → Option (ℕ × ℕ) → Type 0
@@ -81,14 +58,14 @@ last_line None = codes "terminal\n"
 last_line (Some (a, b)) = codes "enabled " ++ decimal a ++ codes " " ++ decimal b ++ codes "\n"
 
 -- the crowd lines, and the last line
-abbrev pub OfEnd : Result (NetModel × CrowdModel) Refusal → Result (List ℕ) Refusal → Type 0
+abbrev pub OfEnd : Result (NetModel × CrowdModel) Refusal → Result Given Refusal → Type 0
 OfEnd (Err refusal) given = given ≡ Err refusal
-OfEnd (Ok (net, crowd)) given = (last : Option (ℕ × ℕ)) × IsLast net crowd last × (given ≡ Ok (crowd_lines net crowd ++ last_line last))
+OfEnd (Ok (net, crowd)) given = (last : Option (ℕ × ℕ)) × IsLast net crowd last × (given ≡ Ok (crowd_lines net crowd ++ last_line last, Done))
 
-abbrev pub OfLines : Result (List ℕ × List ℕ × List (List ℕ)) Refusal → Result (List ℕ) Refusal → Type 0
+abbrev pub OfLines : Result (List ℕ × List ℕ × List (List ℕ)) Refusal → Result Given Refusal → Type 0
 OfLines (Err refusal) given = given ≡ Err refusal
 OfLines (Ok (net, crowd, meetings)) given = (value : Option Data) × Reads net value × OfEnd (end_crowd value crowd meetings) given
 
 -- what `play` gives for the lines of its input
-abbrev pub PlayGives : List (List ℕ) → Result (List ℕ) Refusal → Type 0
+abbrev pub PlayGives : List (List ℕ) → Result Given Refusal → Type 0
 PlayGives lines given = OfLines (two_and_more lines) given

@@ -4,6 +4,7 @@ use Rattle.pop_tool.specs.declared.status.Status.{Status}
 use Rattle.pop_tool.specs.declared.refusal.Refusal.{Refusal}
 use Rattle.pop_tool.specs.declared.stop.Stop.{Stop}
 use Rattle.pop_tool.specs.declared.stop.Stop.TheVariants.{Refused, NoMemory}
+use Rattle.pop_tool.specs.Given.{Given}
 use Rattle.pop_tool.specs.Answer.{Told}
 
 -- what a function returned, seen by `view`, may be given, unless memory ran out
@@ -13,7 +14,7 @@ Allows May view (Err (Refused refusal)) = May (Err refusal)
 Allows May view (Err NoMemory) = Unit {0}
 
 -- the text and the status tell what a function returned, which is not want of memory
-abbrev pub Tells : {A : Type 0} → (A → List ℕ) → Result A Stop → List ℕ → Status → Type 0
+abbrev pub Tells : {A : Type 0} → (A → Given) → Result A Stop → List ℕ → Status → Type 0
 Tells view (Ok x) text status = Told (Ok (view x)) text status
 Tells view (Err (Refused refusal)) text status = Told (Err refusal) text status
 Tells view (Err NoMemory) text status = ⊥

@@ -20,7 +20,7 @@ pub fn run_plain<S: Source, K: Sink, G: Gate>(
     words: &[&str],
     source: &mut S,
     sink: &mut K,
-    _gate: &G,
+    gate: &G,
 ) -> Status
     requires few { length words.now < 2 ^ 32 }
     // The sink accepts each text that might be written.
@@ -35,7 +35,7 @@ pub fn run_plain<S: Source, K: Sink, G: Gate>(
     ensures write { result ≡ Status.WriteFault → Rose (K.faults sink.old) (K.faults sink.new) }
     ensures unread { is_err (meaning_of (map (λ w. w.now) words.now)) ≡ true → result ≢ Status.ReadFault }
 {
-    match reply(alloc, words, source) {
+    match reply(alloc, words, source, gate) {
         Ok((text, status)) => match write_all(sink, &text) {
             Ok(()) => status,
             Err(_) => Status::WriteFault,

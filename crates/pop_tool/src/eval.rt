@@ -1,14 +1,16 @@
 //! The command `eval`.
 
-ghost use Rattle.std.specs.Prelude.{◌≡◌, ◌<◌, ◌-◌, ◌^◌, length, IfOk};
+ghost use Rattle.std.specs.Prelude.{◌≡◌, length, IfOk};
 ghost use Rattle.pop_lines.specs.Lines.{lines_of};
 ghost use Rattle.pop_words.specs.Vars.{vars_of, AreVariables};
 ghost use Rattle.pop_words.specs.Counts.{counts_of};
 ghost use Rattle.pres_read.specs.Reading.{pred_read};
 ghost use Rattle.pop_tool.specs.Steps.{Gives};
+ghost use Rattle.pop_tool.specs.Given.{output_of};
 ghost use Rattle.pop_tool.specs.Eval.{named, understood, counted, truth_line, eval_answer};
 
 use crate::lines::just_three_lines;
+use crate::output::Output;
 use crate::refusal::{LineWhy, Refusal};
 use crate::stop::Stop;
 use json_shape::PredWhy;
@@ -48,8 +50,7 @@ fn pred_of(alloc: Global, line: &[u8], names: &List<Text>) -> Result<Pred, Stop>
 
 /// The counts of a crowd line, one per variable.
 pub(crate) fn counts_in(alloc: Global, line: &[u8], names: &List<Text>) -> Result<List<u64>, Stop>
-    requires names { AreVariables names.now }
-    requires short { length line.now < 2 ^ 32 - 2 }
+    requires { AreVariables names.now }
     ensures counts { Gives (λ counts. counts) result (counted (counts_of names.now line.now)) }
     ensures len { IfOk result (λ counts. length counts ≡ length names.now) }
 {
@@ -67,15 +68,15 @@ fn truth_text(alloc: Global, truth: bool) -> Result<Vec<u8>, AllocError>
     Vec::from_slice(alloc, line.as_bytes())
 }
 
-/// The text for an input that isn't too long.
+/// What `eval` gives for an input.
 #[tactic(auto, unfolding(crate::specs::Eval::eval_answer))]
-pub(crate) fn eval(alloc: Global, input: &[u8]) -> Result<Vec<u8>, Stop>
-    requires { length input.now < 2 ^ 32 - 2 }
-    ensures { Gives (λ text. text.items) result (eval_answer (lines_of input.now)) }
+pub(crate) fn eval(alloc: Global, input: &[u8]) -> Result<Output, Stop>
+    ensures { Gives output_of result (eval_answer (lines_of input.now)) }
 {
     let (vars, pred, crowd) = just_three_lines(input)?;
     let names = names_of(alloc, vars)?;
     let pred = pred_of(alloc, pred, &names)?;
     let counts = counts_in(alloc, crowd, &names)?;
-    Ok(truth_text(alloc, pred.eval(counts.as_slice()))?)
+    let text = truth_text(alloc, pred.eval(counts.as_slice()))?;
+    Ok(Output::done(text))
 }

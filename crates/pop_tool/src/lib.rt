@@ -8,9 +8,12 @@ mod eval;
 mod json;
 mod law;
 mod lines;
+mod output;
 mod play;
 mod refusal;
 mod reply;
+mod run;
+mod start;
 mod status;
 mod stop;
 

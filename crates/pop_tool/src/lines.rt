@@ -3,13 +3,13 @@
 ghost use Rattle.std.specs.Prelude.{◌≡◌, ◌≤◌, length, IfOk};
 ghost use Rattle.pop_lines.specs.Lines.{lines_of};
 ghost use Rattle.pop_tool.specs.Steps.{Gives};
-ghost use Rattle.pop_tool.specs.Lines.{two_and_more, just_three};
+ghost use Rattle.pop_tool.specs.Lines.{two_and_more, just_two, just_three};
 ghost use Rattle.pop_tool.specs.Refused.{line_refusal};
 ghost use Rattle.pop_tool.specs.declared.stop.Stop.TheVariants.{Refused};
 
 use crate::refusal::{LineWhy, Refusal};
 use crate::stop::Stop;
-use pop_lines::{LineFault, three_lines, two_lines_and_more};
+use pop_lines::{LineFault, three_lines, two_lines, two_lines_and_more};
 
 fn refused(fault: LineFault) -> Stop
     ensures { result ≡ Refused (line_refusal fault) }
@@ -24,7 +24,6 @@ fn refused(fault: LineFault) -> Stop
 pub(crate) fn two_and_more_lines(input: &[u8]) -> Result<(&[u8], &[u8], &[u8]), Stop>
     ensures lines { Gives (λ found. (found.0.now, found.1.now, lines_of found.2.now)) result
         (two_and_more (lines_of input.now)) }
-    ensures short { IfOk result (λ found. length found.1.now ≤ length input.now) }
     ensures few { IfOk result (λ found. length (lines_of found.2.now) ≤ length input.now) }
 {
     match two_lines_and_more(input) {
@@ -33,11 +32,19 @@ pub(crate) fn two_and_more_lines(input: &[u8]) -> Result<(&[u8], &[u8], &[u8]), 
     }
 }
 
+/// The two lines of an input that has no more.
+pub(crate) fn just_two_lines(input: &[u8]) -> Result<(&[u8], &[u8]), Stop>
+    ensures { Gives (λ found. (found.0.now, found.1.now)) result (just_two (lines_of input.now)) }
+{
+    match two_lines(input) {
+        Ok(found) => Ok(found),
+        Err(fault) => Err(refused(fault)),
+    }
+}
+
 /// The three lines of an input that has no more.
 pub(crate) fn just_three_lines(input: &[u8]) -> Result<(&[u8], &[u8], &[u8]), Stop>
-    ensures lines { Gives (λ found. (found.0.now, found.1.now, found.2.now)) result
-        (just_three (lines_of input.now)) }
-    ensures short { IfOk result (λ found. length found.2.now ≤ length input.now) }
+    ensures { Gives (λ found. (found.0.now, found.1.now, found.2.now)) result (just_three (lines_of input.now)) }
 {
     match three_lines(input) {
         Ok(found) => Ok(found),

@@ -1,22 +1,23 @@
 //! The command `play`.
 
-ghost use Rattle.std.specs.Prelude.{◌≡◌, ◌≢◌, ◌<◌, ◌≤◌, ◌-◌, ◌^◌, ◌++◌, ℕ, Option, length, IfOk, OnOk, option_map};
+ghost use Rattle.std.specs.Prelude.{◌≡◌, ◌≢◌, ◌<◌, ◌^◌, ◌++◌, ℕ, Option, length, IfOk, OnOk, option_map};
 ghost use Rattle.serde_json.specs.View.{view};
 ghost use Rattle.pop_lines.specs.Lines.{lines_of};
 ghost use Rattle.pop_words.specs.Meetings.{meeting_of};
 ghost use Rattle.pop_net.specs.Lanes.{crowd_of, AreValid};
 ghost use Rattle.pop_tool.specs.Steps.{Gives};
-ghost use Rattle.pop_tool.specs.Play.{net_in, crowd_in, paired, played, end_crowd, IsLast, last_line, OfEnd, PlayGives};
+ghost use Rattle.pop_tool.specs.Given.{output_of};
+ghost use Rattle.pop_tool.specs.Play.{paired, played, end_crowd, IsLast, last_line, OfEnd, PlayGives};
 ghost use Rattle.pop_crowd.specs.Tally.{crowd_lines};
 ghost use Rattle.pop_tool.specs.Told.{Allows};
 
-use crate::eval::counts_in;
 use crate::json::value_of;
 use crate::lines::two_and_more_lines;
+use crate::output::Output;
 use crate::refusal::{LineWhy, Refusal};
+use crate::start::net_and_start;
 use crate::stop::Stop;
-use net_json::{FormatFault, read_net};
-use pop_crowd::{Crowd, CrowdFault};
+use pop_crowd::Crowd;
 use pop_io::NoMemory;
 use pop_lines::{next_line, push_number};
 use pop_net::Net;
@@ -24,35 +25,6 @@ use pop_words::{MeetingFault, read_meeting};
 use serde_json::Value;
 use std::alloc::{AllocError, Global};
 use terminal_test::enabled_pair;
-
-/// The net of a line that is this value.
-fn net_of(alloc: Global, value: &Option<Value>) -> Result<Net, Stop>
-    ensures { Gives (λ net. net) result (net_in (option_map view value.now)) }
-{
-    let Some(value) = value else {
-        return Err(Stop::Refused(Refusal::NotJson));
-    };
-    match read_net(alloc, value) {
-        Ok(net) => Ok(net),
-        Err(FormatFault::Broken { path, why }) => Err(Stop::Refused(Refusal::Format(path, why))),
-        Err(FormatFault::NoMemory) => Err(Stop::NoMemory),
-    }
-}
-
-/// The crowd in which a net starts at the counts of a crowd line.
-#[tactic(auto, unfolding(crate::specs::Play::crowd_in))]
-fn start_of(alloc: Global, net: &Net, line: &[u8]) -> Result<Crowd, Stop>
-    requires { length line.now < 2 ^ 32 - 2 }
-    ensures crowd { Gives (λ crowd. crowd_of net.now crowd) result (crowd_in net.now line.now) }
-    ensures valid { IfOk result (AreValid net.now) }
-{
-    let counts = counts_in(alloc, line, net.var_names())?;
-    match Crowd::of_counts(alloc, net, counts.as_slice()) {
-        Ok(crowd) => Ok(crowd),
-        Err(CrowdFault::Size(agents)) => Err(Stop::Refused(Refusal::Size(agents))),
-        Err(CrowdFault::NoMemory) => Err(Stop::NoMemory),
-    }
-}
 
 /// The agents that the line of this number names.
 fn pair_of(line: &[u8], agents: u32, number: u64) -> Result<(u32, u32), Stop>
@@ -121,42 +93,38 @@ fn net_and_end(
     crowd: &[u8],
     meetings: &[u8],
 ) -> Result<(Net, Crowd), Stop>
-    requires short { length crowd.now < 2 ^ 32 - 2 }
-    requires few { length (lines_of meetings.now) < 2 ^ 32 }
+    requires { length (lines_of meetings.now) < 2 ^ 32 }
     ensures end { Gives (λ end. (end.0, crowd_of end.0 end.1)) result
         (end_crowd (option_map view value.now) crowd.now (lines_of meetings.now)) }
     ensures valid { IfOk result (λ end. AreValid end.0 end.1) }
 {
-    let net = net_of(alloc, value)?;
-    let start = start_of(alloc, &net, crowd)?;
+    let (net, start) = net_and_start(alloc, value, crowd)?;
     let end = end_of(&net, start, meetings)?;
     Ok((net, end))
 }
 
-/// The text for a net line that is this value, a crowd line, and meeting lines.
-fn text_of(
+/// What is given for a net line that is this value, a crowd line, and meeting lines.
+fn output_for(
     alloc: Global,
     value: &Option<Value>,
     crowd: &[u8],
     meetings: &[u8],
-) -> Result<Vec<u8>, Stop>
-    requires short { length crowd.now < 2 ^ 32 - 2 }
-    requires few { length (lines_of meetings.now) < 2 ^ 32 }
-    ensures { Allows (OfEnd (end_crowd (option_map view value.now) crowd.now (lines_of meetings.now)))
-        (λ text. text.items) result }
+) -> Result<Output, Stop>
+    requires { length (lines_of meetings.now) < 2 ^ 32 }
+    ensures { Allows (OfEnd (end_crowd (option_map view value.now) crowd.now (lines_of meetings.now))) output_of result }
 {
     match net_and_end(alloc, value, crowd, meetings) {
-        Ok((net, end)) => Ok(end_text(alloc, &net, &end)?),
+        Ok((net, end)) => Ok(Output::done(end_text(alloc, &net, &end)?)),
         Err(stop) => Err(stop),
     }
 }
 
-/// The text for an input that isn't too long.
-pub(crate) fn play(alloc: Global, input: &[u8]) -> Result<Vec<u8>, Stop>
-    requires { length input.now < 2 ^ 32 - 2 }
-    ensures { Allows (PlayGives (lines_of input.now)) (λ text. text.items) result }
+/// What `play` gives for an input that isn't too long.
+pub(crate) fn play(alloc: Global, input: &[u8]) -> Result<Output, Stop>
+    requires { length input.now < 2 ^ 32 }
+    ensures { Allows (PlayGives (lines_of input.now)) output_of result }
 {
     let (net, crowd, meetings) = two_and_more_lines(input)?;
     let value = value_of(alloc, net)?;
-    text_of(alloc, &value, crowd, meetings)
+    output_for(alloc, &value, crowd, meetings)
 }

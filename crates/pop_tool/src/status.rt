@@ -3,6 +3,8 @@
 ghost use Rattle.std.specs.Prelude.{◌≡◌};
 ghost use Rattle.pop_tool.specs.Codes.{code_of};
 
+use crate::output::Ending;
+
 /// The statuses in the order of their codes.
 #[derive(Clone, Copy, Debug, PartialEq, Eq)]
 pub enum Status {
@@ -32,5 +34,19 @@ impl Status {
         ensures { result ≡ code_of self }
     {
         self as u8
+    }
+}
+
+impl From<Ending> for Status {
+    ghost use Rattle.std.specs.Prelude.{◌≡◌};
+    ghost use Rattle.pop_tool.specs.Given.{status_of};
+
+    ghost from_gives = { λ ending status. status ≡ status_of ending };
+
+    fn from(ending: Ending) -> Status {
+        match ending {
+            Ending::Done => Status::Done,
+            Ending::Undecided => Status::Undecided,
+        }
     }
 }

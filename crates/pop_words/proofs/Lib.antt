@@ -1,3 +1,5 @@
 pub mod Cuts
 pub mod NameLists
 pub mod Once
+pub mod Firsts
+pub mod Limits

@@ -3,7 +3,9 @@ use Rattle.std.proofs.Common.{◌≡◌, ◌≢◌, ℕ, zero, suc, ◌+◌, ◌
 use Rattle.std.proofs.lemmas.Bool.{eq-eqb, ne_eqb}
 use Rattle.pop_lines.specs.Lines.{pieces, IsCut}
 use Rattle.pop_words.specs.Counts.{split_once, with_word, with_words}
-use Rattle.pop_words.specs.Walk.{words_after}
+use Rattle.pop_words.specs.Walk.{words_after, without_count}
+use Rattle.std.specs.Prelude.{is_none, slice_set, map, if◌then◌else◌}
+use Rattle.std.proofs.lemmas.List.Sums.{sum_by-set, sum_by-cons}
 use Rattle.pop_words.proofs.Cuts.{words-cut}
 
 found : (c : ℕ) (xs : List ℕ) (i : ℕ) → i < length xs → ((k : ℕ) → k < i → get_or xs k 0 ≢ c) → get_or xs i 0 ≡ c → split_once c xs ≡ Some (take i xs, drop (suc i) xs)
@@ -23,3 +25,15 @@ pub goes_on : (names : List (List ℕ)) (found more : List (Option ℕ)) (at : �
 goes_on names found more at bytes word rest total cut is so_far =
     let one : with_words names found at (pieces 32 bytes) ≡ with_words names more (at + 1) (words_after rest) = rw (words-cut bytes word rest cut, is) refl in
     sym one ∙ so_far
+
+-- a first count for a variable
+pub one_fewer : (found : List (Option ℕ)) (i n : ℕ) → i < length found → get_or found i None ≡ None → without_count (slice_set found i (Some n)) + 1 ≡ without_count found
+one_fewer found i n within none =
+    let e = sum_by-set (λ o. if is_none o then 1 else 0) found i (Some n) None within in
+    omega (arith, rw none at e)
+
+pub all_without : (names : List (List ℕ)) → without_count (map (λ _. None) names) ≡ length names
+all_without [] = refl
+all_without (name ∷ names) =
+    let more = sum_by-cons (λ (o : Option ℕ). if is_none o then 1 else 0) None (map (λ _. None) names) in
+    omega (arith, more, all_without names)

@@ -1,5 +1,5 @@
 -- The words of a line, one after the other.
-use Rattle.std.specs.Prelude.{◌≡◌, ℕ, ◌+◌, ◌&&◌, not, Bool, nat_lt, List, [], length, Option, Some, None, Result, Ok, Err, true, false}
+use Rattle.std.specs.Prelude.{◌≡◌, ℕ, ◌+◌, ◌&&◌, not, Bool, nat_lt, List, [], length, count_by, is_none, Option, Some, None, Result, Ok, Err, true, false}
 use Rattle.std.specs.List.{list_any}
 use Rattle.std.specs.Str.{bytes_eq}
 use Rattle.pop_io.specs.Names.{is_variable_name}
@@ -17,6 +17,10 @@ words_after (Some rest) = pieces 32 rest
 abbrev pub left_of : Option (List ℕ) → ℕ
 left_of None = 0
 left_of (Some rest) = length rest + 1
+
+-- how many variables have no count yet
+abbrev pub without_count : List (Option ℕ) → ℕ
+without_count found = count_by is_none found
 
 -- a further name
 abbrev pub can_join : List (List ℕ) → List ℕ → Bool

@@ -1,5 +1,6 @@
 //! Commands, and why a list of words is none.
 
+use crate::spec::RunSpec;
 use std::fmt;
 
 /// What the program is asked to do.
@@ -7,6 +8,7 @@ use std::fmt;
 pub enum Command {
     Play,
     Eval,
+    Run(RunSpec),
 }
 
 /// The first bad word, counted from 0, and what is wrong there.

@@ -1,11 +1,11 @@
 //! The crowd line.
 
-ghost use Rattle.std.specs.Prelude.{◌≡◌, ◌<◌, ◌-◌, ◌^◌, ℕ, Option, None, Some, length, map, option_map, position, unwrap_or, IfOk, IfErr, MatchBool, false};
+ghost use Rattle.std.specs.Prelude.{◌≡◌, ◌≤◌, ◌+◌, ℕ, true, Option, None, Some, length, map, option_map, position, unwrap_or, IfOk, IfErr, MatchBool, false};
 ghost use Rattle.std.specs.Str.{bytes_eq};
 ghost use Rattle.std.specs.Option.{option_copied};
 ghost use Rattle.pop_words.specs.Vars.{AreVariables};
 ghost use Rattle.pop_words.specs.Counts.{split_once, entry_of, with_entry, with_word, with_words, counts_of, Counted};
-ghost use Rattle.pop_words.specs.Walk.{words_after, left_of};
+ghost use Rattle.pop_words.specs.Walk.{words_after, without_count};
 
 use pop_io::{List, Text};
 use pop_lines::{cut, small_number};
@@ -45,7 +45,6 @@ impl<T: Drop> From<AllocFailed<T>> for CountFault {
 #[tactic(auto, unfolding(crate::specs::Counts::counts_of))]
 pub fn read_counts(alloc: Global, line: &[u8], names: &List<Text>) -> Result<List<u64>, CountFault>
     requires names { AreVariables names.now }
-    requires short { length line.now < 2 ^ 32 - 2 }
     ensures counts { Counted result (counts_of names.now line.now) }
     ensures len { IfOk result (λ counts. length counts ≡ length names.now) }
 {
@@ -63,7 +62,7 @@ fn counts_behind(
     names: &[Text],
     words: Option<&[u8]>,
 ) -> Result<List<Option<u64>>, CountFault>
-    requires { left_of (option_copied words) < 2 ^ 32 - 2 }
+    requires few { length names.now ≤ 16 }
     ensures counts { Counted result (with_words names.now (map (λ _. None) names.now) 1 (words_after (option_copied words.entry))) }
     ensures len { IfOk result (λ found. length found ≡ length names.now) }
 {
@@ -82,12 +81,13 @@ fn counts_behind(
 }
 
 /// Enters a word's count. A bad word changes nothing.
-#[tactic(auto, unfolding(crate::specs::Counts::with_word))]
+#[tactic(auto, unfolding(crate::specs::Counts::with_word), using(crate::proofs::Once::one_fewer))]
 fn enter(names: &[Text], found: &mut Vec<Option<u64>>, word: &[u8]) -> bool
     requires { length found.old.items ≡ length names.now }
     ensures word { MatchBool result (with_word names.now found.old.items word.now ≡ Some found.new.items)
         (with_word names.now found.old.items word.now ≡ None) }
     ensures unchanged { result ≡ false → found.new.items ≡ found.old.items }
+    ensures fewer { result ≡ true → without_count found.new.items + 1 ≡ without_count found.old.items }
     ensures len { length found.new.items ≡ length found.old.items }
 {
     let Some((name, count)) = split_at_byte(word, b'=') else {

@@ -6,6 +6,7 @@
 mod command;
 mod counts;
 mod meeting;
+mod options;
 mod spec;
 mod vars;
 mod words;

@@ -19,9 +19,60 @@ fn words_of_commands(rt: HostRuntime) {
     assert!(rt; is_bad(&[], 0, UsageWhy::Missing));
     assert!(rt; is_bad(&["Play"], 0, UsageWhy::Unknown));
     assert!(rt; is_bad(&["play "], 0, UsageWhy::Unknown));
-    assert!(rt; is_bad(&["run"], 0, UsageWhy::Unknown));
+    assert!(rt; is_bad(&["replay"], 0, UsageWhy::Unknown));
     assert!(rt; is_bad(&["eval", "eval"], 1, UsageWhy::Unknown));
     assert!(rt; is_bad(&["", "play"], 0, UsageWhy::Unknown));
+}
+
+const PLAIN_RUN: RunSpec = RunSpec {
+    workers: 1,
+    shards: 16,
+    turns: 10_000,
+    seed: 0,
+};
+
+#[test]
+fn options_of_runs(rt: HostRuntime) {
+    assert_eq!(rt; read_words(&["run"]), Ok(Command::Run(PLAIN_RUN)));
+    let spec = RunSpec {
+        workers: 1,
+        shards: 1_024,
+        turns: 0,
+        seed: 9_223_372_036_854_775_807,
+    };
+    let seed = "9223372036854775807";
+    assert_eq!(rt;
+        read_words(&["run", "--seed", seed, "--turns", "00", "--shards", "1024"]),
+        Ok(Command::Run(spec))
+    );
+}
+
+#[test]
+fn bad_options_of_runs(rt: HostRuntime) {
+    assert!(rt; is_bad(&["run", "--turns"], 2, UsageWhy::Missing));
+    assert!(rt; is_bad(&["run", "--turns=5"], 1, UsageWhy::Unknown));
+    assert!(rt; is_bad(&["run", "--"], 1, UsageWhy::Unknown));
+    assert!(rt; is_bad(&["run", "5", "--turns"], 1, UsageWhy::Unknown));
+    assert!(rt; is_bad(&["run", "--turns", "--seed"], 2, UsageWhy::Value));
+    assert!(rt; is_bad(&["run", "--turns", "1", "--turns"], 3, UsageWhy::Twice));
+    assert!(rt; is_bad(&["run", "--seed", "q", "--seed", "1"], 2, UsageWhy::Value));
+}
+
+#[test]
+fn bad_numbers_of_runs(rt: HostRuntime) {
+    for (option, number) in [
+        ("--workers", "0"),
+        ("--workers", "2"),
+        ("--shards", "0"),
+        ("--shards", "1025"),
+        ("--turns", "1000001"),
+        ("--turns", "-1"),
+        ("--turns", "000000000000000000001"),
+        ("--seed", "9223372036854775808"),
+        ("--seed", ""),
+    ] {
+        assert!(rt; is_bad(&["run", option, number], 2, UsageWhy::Value));
+    }
 }
 
 #[test]

@@ -1,33 +1,58 @@
 //! The words of the command line.
 
-ghost use Rattle.std.specs.Prelude.{◌≡◌, ◌<◌, ◌^◌, length, map};
-ghost use Rattle.pop_words.specs.Words.{meaning_of, command_named};
+ghost use Rattle.std.specs.Prelude.{◌≡◌, ◌<◌, ◌^◌, ◌+◌, length, map, Some, IfSome, IfOk};
+ghost use Rattle.pop_words.specs.Words.{meaning_of, meaning_behind, form_named, HasLimits, FormHasLimits};
 
 use crate::command::{Command, Usage, UsageWhy};
+use crate::options::read_options;
+
+/// What stands behind a command's own word.
+#[derive(Clone, Copy, Debug, PartialEq, Eq)]
+pub(crate) enum Form {
+    /// Nothing.
+    Alone(Command),
+    /// The options of a run, each with its number.
+    WithOptions,
+}
 
 /// The command that the words ask for. It takes no memory.
 pub fn read_words(words: &[&str]) -> Result<Command, Usage>
     requires { length words.now < 2 ^ 32 }
-    ensures { result ≡ meaning_of (map (λ w. w.now) words.now) }
+    ensures meaning { result ≡ meaning_of (map (λ w. w.now) words.now) }
+    ensures limits { IfOk result HasLimits }
 {
     match words {
         [] => Err(bad(0, UsageWhy::Missing)),
-        [first, rest @ ..] => match named_command(first) {
+        [first, rest @ ..] => match form_of(first) {
+            Some(form) => read_behind(form, rest),
             None => Err(bad(0, UsageWhy::Unknown)),
-            Some(command) if rest.is_empty() => Ok(command),
-            Some(_) => Err(bad(1, UsageWhy::Unknown)),
         },
     }
 }
 
 /// The table of the commands: one row each.
-fn named_command(word: &str) -> Option<Command>
-    ensures { result ≡ command_named word.now }
+fn form_of(word: &str) -> Option<Form>
+    ensures form { result ≡ form_named word.now }
+    ensures limits { IfSome result FormHasLimits }
 {
     match word {
-        "play" => Some(Command::Play),
-        "eval" => Some(Command::Eval),
+        "play" => Some(Form::Alone(Command::Play)),
+        "eval" => Some(Form::Alone(Command::Eval)),
+        "run" => Some(Form::WithOptions),
         _ => None,
+    }
+}
+
+fn read_behind(form: Form, words: &[&str]) -> Result<Command, Usage>
+    requires few { length words.now + 1 < 2 ^ 32 }
+    requires limits { FormHasLimits form }
+    ensures meaning { result ≡ meaning_behind (Some form) (map (λ w. w.now) words.now) }
+    ensures limits { IfOk result HasLimits }
+{
+    match form {
+        Form::Alone(command) if words.is_empty() => Ok(command),
+        Form::Alone(_) => Err(bad(1, UsageWhy::Unknown)),
+        Form::WithOptions => Ok(Command::Run(read_options(words)?)),
     }
 }
 

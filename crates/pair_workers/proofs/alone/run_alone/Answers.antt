@@ -7,6 +7,7 @@ use Rattle.pop_crowd.specs.declared.crowd.Meeting.{Meeting}
 use Rattle.pair_workers.specs.Picks.{words_from}
 use Rattle.pair_workers.specs.Run.{IsRun}
 use Rattle.pair_workers.proofs.Rounds.{IsOnTheRun, more_rounds, run_over}
+use Rattle.pair_workers.proofs.OnlyRun.{only_run}
 use Rattle.pair_workers.proofs.alone.run_alone.Goals as goal
 
 pub returns-then-left-eq0-clause-run : goal.returns-then-left-eq0-clause-run
@@ -39,3 +40,11 @@ returns-clause-run g c =
 
 pub returns-clause-end : goal.returns-clause-end
 returns-clause-end g c = let e : c.in_ok-a.field-0 ≡ None = search rules in c.in_ok-a.ensures.none.0 e
+
+pub returns-then-left-eq0-clause-only : goal.returns-then-left-eq0-clause-only
+returns-then-left-eq0-clause-only g c =
+    only_run c.args.net.now _ c.args.spec.now _ _ c.requires.alone (returns-then-left-eq0-clause-run g c)
+
+pub returns-clause-only : goal.returns-clause-only
+returns-clause-only g c =
+    only_run c.args.net.now _ c.args.spec.now _ _ c.requires.alone (returns-clause-run g c)

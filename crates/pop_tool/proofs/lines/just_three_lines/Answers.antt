@@ -1,10 +1,6 @@
 use Rattle.pop_lines.specs.Lines.{lines_of}
-use Rattle.pop_tool.proofs.Short.{third_short}
 use Rattle.pop_tool.proofs.Lined.{not_three}
 use Rattle.pop_tool.proofs.lines.just_three_lines.Goals as goal
 
-pub returns-in-Err-clause-lines : goal.returns-in-Err-clause-lines
-returns-in-Err-clause-lines c = rw c.refused.ensures (not_three (lines_of c.args.input.now) c.in-Err.fault c.in-Err.ensures)
-
-pub returns-in-Ok-clause-short : goal.returns-in-Ok-clause-short
-returns-in-Ok-clause-short c = third_short c.args.input.now _ _ _ _ c.in-Ok.ensures
+pub returns-in-Err : goal.returns-in-Err
+returns-in-Err c = rw c.refused.ensures (not_three (lines_of c.args.input.now) c.in-Err.fault c.in-Err.ensures)

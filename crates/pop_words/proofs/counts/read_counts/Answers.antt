@@ -1,4 +1,4 @@
-use Rattle.std.proofs.Common.{◌≡◌, ◌∷◌, ℕ, List, true, Option, None, Result, Ok, Err, IfOk, IfErr, map, unwrap_or, codes, arith, ap, sym, ◌∙◌}
+use Rattle.std.proofs.Common.{◌≡◌, ◌∷◌, ℕ, List, true, Option, None, Result, Ok, Err, IfOk, IfErr, map, unwrap_or, codes, ap, sym, ◌∙◌}
 use Rattle.std.specs.Option.{option_copied}
 use Rattle.std.specs.Str.{bytes_eq}
 use Rattle.std.proofs.lemmas.Bool.{not-false}
@@ -7,11 +7,8 @@ use Rattle.pop_words.specs.Counts.{counts_of, with_words, Counted}
 use Rattle.pop_words.specs.Walk.{words_after}
 use Rattle.pop_words.specs.declared.counts.CountFault.{CountFault}
 use Rattle.pop_words.specs.declared.counts.CountFault.TheVariants.{Count, NoMemory}
-use Rattle.pop_words.proofs.Cuts.{shorter, words-cut}
+use Rattle.pop_words.proofs.Cuts.{words-cut}
 use Rattle.pop_words.proofs.counts.read_counts.Goals as goal
-
-pub counts_behind-requires : goal.counts_behind-requires
-counts_behind-requires c = omega (arith, shorter 32 c.args.line.now c.cut.result.0.now (option_copied c.cut.result.1) c.cut.ensures)
 
 -- the counts that were found, with zeros for the others
 totals : (names : List (List ℕ)) (line first : List ℕ) (rest : Option (List ℕ)) (found : List (Option ℕ)) (result : Result (List ℕ) CountFault) → pieces 32 line ≡ first ∷ words_after rest → bytes_eq first (codes "crowd") ≡ true

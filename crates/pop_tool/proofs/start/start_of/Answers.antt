@@ -1,5 +1,5 @@
 use Rattle.pop_tool.proofs.Played.{started}
-use Rattle.pop_tool.proofs.play.start_of.Goals as goal
+use Rattle.pop_tool.proofs.start.start_of.Goals as goal
 
 pub returns-in-Ok-clause-crowd : goal.returns-in-Ok-clause-crowd
 returns-in-Ok-clause-crowd c =

@@ -1,0 +1,186 @@
+//! The options of `run`: each is followed by its number.
+
+ghost use Rattle.std.specs.Prelude.{◌≡◌, ◌<◌, ◌≤◌, ◌^◌, ◌+◌, ◌*◌, length, map, Some, IfSome, IfOk, position};
+ghost use Rattle.std.specs.List.{list_any};
+ghost use Rattle.std.specs.Str.{bytes_eq};
+ghost use Rattle.pop_words.specs.Options.{IsWithin, IsWithinLimits, word_fault, name_fault, number_fault, first_fault, options_meaning, spec_of, value_of};
+
+use crate::command::{Usage, UsageWhy};
+use crate::spec::RunSpec;
+use pop_lines::number_within;
+
+/// Workers times turns of a run.
+const MEETING_LIMIT: u64 = 2_000_000;
+
+/// An option of `run`.
+#[derive(Clone, Copy, Debug, PartialEq, Eq)]
+pub(crate) enum RunOption {
+    Workers,
+    Shards,
+    Turns,
+    Seed,
+}
+
+impl RunOption {
+    ghost use Rattle.std.specs.Prelude.{◌≡◌, IfSome};
+    ghost use Rattle.pop_words.specs.Options.{option_named, name_of, least_of, most_of, default_of, number_behind, IsWithin};
+
+    fn named(word: &str) -> Option<RunOption>
+        ensures { result ≡ option_named word.now }
+    {
+        match word {
+            "--workers" => Some(RunOption::Workers),
+            "--shards" => Some(RunOption::Shards),
+            "--turns" => Some(RunOption::Turns),
+            "--seed" => Some(RunOption::Seed),
+            _ => None,
+        }
+    }
+
+    fn name(self) -> &'static str
+        ensures { result.now ≡ name_of self }
+    {
+        match self {
+            RunOption::Workers => "--workers",
+            RunOption::Shards => "--shards",
+            RunOption::Turns => "--turns",
+            RunOption::Seed => "--seed",
+        }
+    }
+
+    /// The least and the greatest number, and the one that stands where the option isn't given.
+    fn numbers(self) -> (u64, u64, u64)
+        ensures { result ≡ (least_of self, most_of self, default_of self) }
+    {
+        match self {
+            RunOption::Workers => (1, 1, 1),
+            RunOption::Shards => (1, 1_024, 16),
+            RunOption::Turns => (0, 1_000_000, 10_000),
+            RunOption::Seed => (0, 9_223_372_036_854_775_807, 0),
+        }
+    }
+
+    fn number_of(self, word: &str) -> Option<u64>
+        ensures number { result ≡ number_behind self word.now }
+        ensures within { IfSome result (IsWithin self) }
+    {
+        let (least, most, _default) = self.numbers();
+        number_within(word.as_bytes(), least, most)
+    }
+}
+
+/// The run that the words behind `run` ask for. `run` itself is word 0.
+pub(crate) fn read_options(words: &[&str]) -> Result<RunSpec, Usage>
+    requires { length words.now + 1 < 2 ^ 32 }
+    ensures meaning { result ≡ options_meaning (map (λ w. w.now) words.now) }
+    ensures limits { IfOk result IsWithinLimits }
+{
+    if let Some((at, why)) = first_fault_of(words) {
+        return Err(behind(at, why));
+    }
+    if words.len() % 2 == 1 {
+        return Err(behind(words.len(), UsageWhy::Missing));
+    }
+    let spec = spec_in(words);
+    if MEETING_LIMIT < u64::from(spec.workers) * spec.turns {
+        return Err(behind(words.len(), UsageWhy::Product));
+    }
+    Ok(spec)
+}
+
+fn behind(at: usize, why: UsageWhy) -> Usage
+    requires { at + 1 < 2 ^ 32 }
+    ensures { result ≡ record { word = at + 1; why = why } }
+{
+    Usage {
+        word: at as u32 + 1,
+        why,
+    }
+}
+
+fn first_fault_of(words: &[&str]) -> Option<(usize, UsageWhy)>
+    ensures first { result ≡ first_fault (map (λ w. w.now) words.now) }
+    ensures place { IfSome result (λ fault. fault.0 < length words.now) }
+{
+    for at in 0..words.len() {
+        if let Some(why) = fault_at(words, at) {
+            return Some((at, why));
+        }
+    }
+    None
+}
+
+/// Options and numbers take turns.
+fn fault_at(words: &[&str], at: usize) -> Option<UsageWhy>
+    requires { at < length words.now }
+    ensures { result ≡ word_fault (map (λ w. w.now) words.now) at }
+{
+    if at % 2 == 0 {
+        fault_of_name(&words[..at], words[at])
+    } else {
+        fault_of_number(RunOption::named(words[at - 1])?, words[at])
+    }
+}
+
+#[tactic(auto, using(crate::proofs::Firsts::list_any_map))]
+fn fault_of_name(before: &[&str], word: &str) -> Option<UsageWhy>
+    ensures { result ≡ name_fault (map (λ w. w.now) before.now) word.now }
+{
+    if RunOption::named(word).is_none() {
+        return Some(UsageWhy::Unknown);
+    }
+    if is_among(before, word) {
+        return Some(UsageWhy::Twice);
+    }
+    None
+}
+
+fn is_among(words: &[&str], word: &str) -> bool
+    ensures { result ≡ list_any (λ other. bytes_eq word.now other.now) words.now }
+{
+    words.iter().any(|other| word == *other)
+}
+
+fn place_of(words: &[&str], name: &str) -> Option<usize>
+    ensures { result ≡ position (λ word. bytes_eq word.now name.now) words.now }
+{
+    words.iter().position(|word| *word == name)
+}
+
+fn fault_of_number(option: RunOption, word: &str) -> Option<UsageWhy>
+    ensures { result ≡ number_fault (Some option) word.now }
+{
+    if option.number_of(word).is_some() {
+        None
+    } else {
+        Some(UsageWhy::Value)
+    }
+}
+
+/// The spec of options without a fault.
+fn spec_in(words: &[&str]) -> RunSpec
+    ensures spec { result ≡ spec_of (map (λ w. w.now) words.now) }
+    ensures limits { IsWithinLimits result }
+    ensures few { result.workers * result.turns ≤ 1000000 }
+{
+    RunSpec {
+        workers: value_in(words, RunOption::Workers) as u16,
+        shards: value_in(words, RunOption::Shards) as u32,
+        turns: value_in(words, RunOption::Turns),
+        seed: value_in(words, RunOption::Seed),
+    }
+}
+
+/// The number behind an option's name, or its default.
+#[tactic(auto, using(crate::proofs::Firsts::position_map))]
+fn value_in(words: &[&str], option: RunOption) -> u64
+    ensures value { result ≡ value_of (map (λ w. w.now) words.now) option }
+    ensures within { IsWithin option result }
+{
+    let name = option.name();
+    let (_least, _most, default) = option.numbers();
+    match place_of(words, name) {
+        Some(at) if at + 1 < words.len() => option.number_of(words[at + 1]).unwrap_or(default),
+        _ => default,
+    }
+}
