@@ -111,11 +111,55 @@ fn a_terminal_crowd_makes_no_round(rt: HostRuntime) -> Result<(), Fail> {
 }
 
 #[test]
-fn rounds_have_4096_meetings(rt: HostRuntime) -> Result<(), Fail> {
-    let run = run(rt.alloc(), 2000, 2000, 5000)?.ok_or("a run")?;
+fn no_turns_leave_a_pair(rt: HostRuntime) -> Result<(), Fail> {
+    let run = run(rt.alloc(), 1, 1, 0)?.ok_or("a run")?;
+    assert_eq!(rt; run.rounds.as_slice().len(), 0);
+    assert_eq!(rt; run.end, End::Open(0, 1));
+    Ok(())
+}
+
+/// Whether the rounds of a run of so many turns have so many meetings.
+fn has_rounds(alloc: Global, turns: u64, lengths: &[usize]) -> Result<bool, Fail>
+    requires { turns ≤ 1000000 }
+{
+    let run = run(alloc, 2000, 2000, turns)?.ok_or("a run")?;
     let rounds = run.rounds.as_slice();
-    assert_eq!(rt; rounds.len(), 2);
-    assert_eq!(rt; rounds[0].as_slice().len(), 4096);
-    assert_eq!(rt; rounds[1].as_slice().len(), 904);
+    if rounds.len() != lengths.len() {
+        return Ok(false);
+    }
+    for (round, length) in rounds.iter().zip(lengths) {
+        if round.as_slice().len() != *length {
+            return Ok(false);
+        }
+    }
+    Ok(true)
+}
+
+#[test]
+fn rounds_have_4096_meetings(rt: HostRuntime) -> Result<(), Fail> {
+    let alloc = rt.alloc();
+    assert!(rt; has_rounds(alloc, 4_096, &[4_096])?);
+    assert!(rt; has_rounds(alloc, 4_097, &[4_096, 1])?);
+    assert!(rt; has_rounds(alloc, 10_000, &[4_096, 4_096, 1_808])?);
+    Ok(())
+}
+
+/// Whether the meetings of a run of 10,000 turns are the picks of one stream, through all its rounds.
+fn goes_on(rounds: &[List<Meeting>], picker: &mut Picker) -> bool {
+    for round in rounds {
+        for meeting in round.as_slice() {
+            if picker.pick(4_000) != (meeting.a, meeting.b) {
+                return false;
+            }
+        }
+    }
+    true
+}
+
+#[test]
+fn the_stream_goes_on(rt: HostRuntime) -> Result<(), Fail> {
+    let run = run(rt.alloc(), 2000, 2000, 10_000)?.ok_or("a run")?;
+    let mut picker = Picker::new(0, 0);
+    assert!(rt; goes_on(run.rounds.as_slice(), &mut picker));
     Ok(())
 }

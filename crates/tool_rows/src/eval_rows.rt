@@ -1,6 +1,6 @@
 //! Rows of `eval`.
 
-use crate::rows::{Row, holds, holds_in_crumbs};
+use crate::rows::{Row, holds};
 use pop_tool::Status;
 use std::test::Fail;
 
@@ -122,7 +122,6 @@ fn eval_answers(rt: HostRuntime) -> Result<(), Fail> {
     let alloc = rt.alloc();
     for row in ROWS {
         assert!(rt; holds(alloc, row)?, "{}", row.1);
-        assert!(rt; holds_in_crumbs(alloc, row)?, "{}", row.1);
     }
     Ok(())
 }

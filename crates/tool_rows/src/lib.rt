@@ -10,4 +10,6 @@ mod play_rows;
 #[cfg(test)]
 mod rows;
 #[cfg(test)]
+mod run_rows;
+#[cfg(test)]
 mod troubles;

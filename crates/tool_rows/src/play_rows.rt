@@ -2,7 +2,7 @@
 
 ghost use Rattle.std.specs.Prelude.{◌≡◌, IfOk};
 
-use crate::rows::{ROOM, Row, bytes_of, holds, holds_in_crumbs, is_given, is_given_in_crumbs};
+use crate::rows::{ROOM, Row, bytes_of, holds, is_given_both_ways};
 use pop_io::{CalmSink, CalmSource, OpenGate};
 use pop_tool::{Status, run_plain};
 use std::alloc::{AllocError, Global};
@@ -118,7 +118,7 @@ const OTHERS: [Row; 6] = [
     ),
     ("bogus", "", "fault: usage 0 unknown\n", Status::Usage),
     ("Play", "", "fault: usage 0 unknown\n", Status::Usage),
-    ("run", "", "fault: usage 0 unknown\n", Status::Usage),
+    ("play play", "", "fault: usage 1 unknown\n", Status::Usage),
 ];
 
 #[test]
@@ -127,17 +127,13 @@ fn play_answers(rt: HostRuntime) -> Result<(), Fail> {
     for (lines, text, status) in PLAYS {
         let input = format!(in alloc; "{MAJORITY}{lines}")?;
         assert!(rt;
-            is_given(alloc, "play", input.as_str(), text, status)?,
-            "{lines}"
-        );
-        assert!(rt;
-            is_given_in_crumbs(alloc, "play", input.as_str(), text, status)?,
+            is_given_both_ways(alloc, "play", input.as_str(), text, status)?,
             "{lines}"
         );
     }
     let swap = format!(in alloc; "{SWAP}\ncrowd x=1 y=1\n0 1\n")?;
     assert!(rt;
-        is_given(
+        is_given_both_ways(
             alloc,
             "play",
             swap.as_str(),
@@ -154,17 +150,12 @@ fn play_refuses_lines(rt: HostRuntime) -> Result<(), Fail> {
     for (lines, text, status) in REFUSED {
         let input = format!(in alloc; "{MAJORITY}{lines}")?;
         assert!(rt;
-            is_given(alloc, "play", input.as_str(), text, status)?,
-            "{lines}"
-        );
-        assert!(rt;
-            is_given_in_crumbs(alloc, "play", input.as_str(), text, status)?,
+            is_given_both_ways(alloc, "play", input.as_str(), text, status)?,
             "{lines}"
         );
     }
     for row in OTHERS {
         assert!(rt; holds(alloc, row)?, "{}", row.1);
-        assert!(rt; holds_in_crumbs(alloc, row)?, "{}", row.1);
     }
     Ok(())
 }
@@ -178,7 +169,7 @@ fn play_refuses_nets(rt: HostRuntime) -> Result<(), Fail> {
             .ok_or("the part stands in the net")?;
         let input = format!(in alloc; "{before}{change}{after}\ncrowd x=2\n")?;
         assert!(rt;
-            is_given(alloc, "play", input.as_str(), text, Status::Refused)?,
+            is_given_both_ways(alloc, "play", input.as_str(), text, Status::Refused)?,
             "{change}"
         );
     }
@@ -206,7 +197,7 @@ fn eight_leaves_play(rt: HostRuntime) -> Result<(), Fail> {
     let alloc = rt.alloc();
     let input = eight(alloc)?;
     let text = "s/s/s/s/s/s/s/s 1\nt/t/t/t/t/t/t/t 1\nterminal\n";
-    assert!(rt; is_given(alloc, "play", input.as_str(), text, Status::Done)?);
+    assert!(rt; is_given_both_ways(alloc, "play", input.as_str(), text, Status::Done)?);
     Ok(())
 }
 

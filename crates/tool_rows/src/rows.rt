@@ -1,11 +1,13 @@
 //! What a row is, and how it is run.
 
-use pop_io::{CalmSource, List, MemorySink, MemorySource, OpenGate, Trouble, TroubleKind};
+ghost use Rattle.std.specs.Prelude.{◌≤◌, length, IfOk};
+
+use pop_io::{CalmSource, List, MemorySink, MemorySource, OpenGate, Source, Trouble, TroubleKind};
 use pop_tool::{Status, run_plain};
 use std::alloc::{AllocError, Global};
 use std::test::Fail;
 
-/// The word, the input, the text, and the status.
+/// The words between single spaces, the input, the text, and the status.
 pub(crate) type Row = (&'static str, &'static str, &'static str, Status);
 
 /// More bytes than any row writes.
@@ -23,54 +25,91 @@ pub(crate) fn no_troubles(alloc: Global) -> List<Trouble> {
     List::from_vec(Vec::new(alloc))
 }
 
-/// A trouble at each of the first thousand calls: at most one byte moves.
-pub(crate) fn crumbs(alloc: Global) -> Result<List<Trouble>, AllocError> {
+/// A trouble at each of the first calls: at most one byte moves. There are enough for a text of this length.
+pub(crate) fn crumbs(alloc: Global, length: usize) -> Result<List<Trouble>, AllocError> {
     let mut troubles = Vec::new(alloc);
-    for call in 1..1001 {
+    for call in 0..length {
         troubles.push(Trouble {
-            call,
+            call: call as u64 + 1,
             kind: TroubleKind::Part(1),
         })?;
     }
     Ok(List::from_vec(troubles))
 }
 
-/// Whether a word and an input give this text and status.
+/// The words of a row, which stand between single spaces.
+fn words_of(alloc: Global, text: &str) -> Result<Vec<&str>, Fail>
+    ensures { IfOk result (λ words. length words.items ≤ 100) }
+{
+    let mut words = Vec::new(alloc);
+    for word in text.split(' ') {
+        words.push(word)?;
+    }
+    if 100 < words.len() {
+        return Err(Fail::from("fewer words"));
+    }
+    Ok(words)
+}
+
+/// The status of the words over this source, and whether the sink took just this text.
+fn ends_with<S: Source>(
+    alloc: Global,
+    words: &str,
+    source: &mut S,
+    sink: &mut MemorySink,
+    text: &str,
+) -> Result<Option<Status>, Fail> {
+    let words = words_of(alloc, words)?;
+    let status = run_plain(alloc, &words, source, sink, &OpenGate);
+    Ok(if sink.held() == text.as_bytes() {
+        Some(status)
+    } else {
+        None
+    })
+}
+
+/// Whether words and an input give this text and status.
 pub(crate) fn is_given(
     alloc: Global,
-    word: &str,
+    words: &str,
     input: &str,
     text: &str,
     status: Status,
 ) -> Result<bool, Fail> {
     let mut source = CalmSource::new(bytes_of(alloc, input)?);
     let mut sink = sink_with(alloc, no_troubles(alloc))?;
-    let got = run_plain(alloc, &[word], &mut source, &mut sink, &OpenGate);
-    Ok(got == status && sink.held() == text.as_bytes())
+    Ok(ends_with(alloc, words, &mut source, &mut sink, text)? == Some(status))
 }
 
 /// Whether they do so where the source gives one byte at a time, and the sink takes one.
 pub(crate) fn is_given_in_crumbs(
     alloc: Global,
-    word: &str,
+    words: &str,
     input: &str,
     text: &str,
     status: Status,
 ) -> Result<bool, Fail> {
-    let mut source = MemorySource::new(bytes_of(alloc, input)?, crumbs(alloc)?);
-    let mut sink = sink_with(alloc, crumbs(alloc)?)?;
-    let got = run_plain(alloc, &[word], &mut source, &mut sink, &OpenGate);
-    Ok(got == status && sink.held() == text.as_bytes())
+    let mut source = MemorySource::new(bytes_of(alloc, input)?, crumbs(alloc, input.len())?);
+    let mut sink = sink_with(alloc, crumbs(alloc, text.len())?)?;
+    Ok(ends_with(alloc, words, &mut source, &mut sink, text)? == Some(status))
 }
 
-/// Whether a row holds.
+/// Whether they do so both at once and in crumbs.
+pub(crate) fn is_given_both_ways(
+    alloc: Global,
+    words: &str,
+    input: &str,
+    text: &str,
+    status: Status,
+) -> Result<bool, Fail> {
+    Ok(
+        is_given(alloc, words, input, text, status)?
+            && is_given_in_crumbs(alloc, words, input, text, status)?,
+    )
+}
+
+/// Whether a row holds, at once and in crumbs.
 pub(crate) fn holds(alloc: Global, row: Row) -> Result<bool, Fail> {
-    let (word, input, text, status) = row;
-    is_given(alloc, word, input, text, status)
-}
-
-/// Whether a row holds in crumbs.
-pub(crate) fn holds_in_crumbs(alloc: Global, row: Row) -> Result<bool, Fail> {
-    let (word, input, text, status) = row;
-    is_given_in_crumbs(alloc, word, input, text, status)
+    let (words, input, text, status) = row;
+    is_given_both_ways(alloc, words, input, text, status)
 }

@@ -2,7 +2,7 @@
 
 use crate::play_rows::MAJORITY;
 use crate::rows::{bytes_of, no_troubles, sink_with};
-use pop_io::{List, MemorySource, OpenGate, Trouble, TroubleKind};
+use pop_io::{CalmSource, List, MemorySource, OpenGate, Trouble, TroubleKind};
 use pop_tool::{Status, run_plain};
 use std::alloc::{AllocError, Global};
 use std::test::Fail;
@@ -84,5 +84,25 @@ fn words_without_a_command_read_nothing(rt: HostRuntime) -> Result<(), Fail> {
     let status = run_plain(alloc, &["bogus"], &mut source, &mut sink, &OpenGate);
     assert!(rt; status == Status::Usage);
     assert_eq!(rt; sink.held(), b"fault: usage 0 unknown\n".as_slice());
+    Ok(())
+}
+
+/// One byte more than an input may have.
+fn too_many(alloc: Global) -> Result<List<u8>, AllocError> {
+    let mut bytes = Vec::from_slice(alloc, b"0")?;
+    for _block in 0..32_768 {
+        bytes.extend_from_slice(&[b'0'; 4096])?;
+    }
+    Ok(List::from_vec(bytes))
+}
+
+#[test]
+fn an_input_that_is_too_long(rt: HostRuntime) -> Result<(), Fail> {
+    let alloc = rt.alloc();
+    let mut source = CalmSource::new(too_many(alloc)?);
+    let mut sink = sink_with(alloc, no_troubles(alloc))?;
+    let status = run_plain(alloc, &[WORD], &mut source, &mut sink, &OpenGate);
+    assert!(rt; status == Status::Refused);
+    assert_eq!(rt; sink.held(), b"fault: too long\n".as_slice());
     Ok(())
 }

@@ -1,0 +1,268 @@
+#!/usr/bin/env python3
+"""Times `run` of the built program beside a plain Rust program that does the same work.
+
+Run from the top of the repository: python3 bench/runs.py
+Both run 1,000,000 turns of one worker, on majority with 1,000 agents and on a threshold leaf of 255 states, and
+must print the same journal.
+"""
+
+import json
+import os
+import resource
+import subprocess
+import sys
+import tempfile
+import time
+
+TOP = os.path.dirname(os.path.dirname(os.path.abspath(__file__)))
+PROGRAM = os.path.join(TOP, "crates/pop_main/out/pop_main")
+TURNS = 1_000_000
+
+PLAIN = r"""
+use std::collections::{BTreeMap, BTreeSet};
+use std::io::Write;
+
+struct Words([u64; 4]);
+
+impl Words {
+    fn new(seed: u64) -> Words {
+        let mut at = seed;
+        let mut next = || {
+            at = at.wrapping_add(0x9e3779b97f4a7c15);
+            let z = (at ^ (at >> 30)).wrapping_mul(0xbf58476d1ce4e5b9);
+            let z = (z ^ (z >> 27)).wrapping_mul(0x94d049bb133111eb);
+            z ^ (z >> 31)
+        };
+        Words([next(), next(), next(), next()])
+    }
+
+    fn next(&mut self) -> u64 {
+        let s = &mut self.0;
+        let word = s[0].wrapping_add(s[3]).rotate_left(23).wrapping_add(s[0]);
+        let t = s[1] << 17;
+        s[2] ^= s[0];
+        s[3] ^= s[1];
+        s[1] ^= s[2];
+        s[0] ^= s[3];
+        s[2] ^= t;
+        s[3] = s[3].rotate_left(45);
+        word
+    }
+}
+
+fn react(moves: &[[u16; 4]], x: u16, y: u16) -> (u16, u16) {
+    for m in moves {
+        let silent = (m[0] == m[2] && m[1] == m[3]) || (m[0] == m[3] && m[1] == m[2]);
+        if silent {
+            continue;
+        }
+        if m[0] == x && m[1] == y {
+            return (m[2], m[3]);
+        }
+        if m[0] == y && m[1] == x {
+            return (m[3], m[2]);
+        }
+    }
+    (x, y)
+}
+
+fn enabled(moves: &[[u16; 4]], crowd: &[u16]) -> Option<(usize, usize)> {
+    let mut quiet = BTreeSet::new();
+    for a in 0..crowd.len() {
+        if quiet.contains(&crowd[a]) {
+            continue;
+        }
+        let mut dull = BTreeSet::new();
+        for b in a + 1..crowd.len() {
+            if dull.contains(&crowd[b]) {
+                continue;
+            }
+            if react(moves, crowd[a], crowd[b]) != (crowd[a], crowd[b]) {
+                return Some((a, b));
+            }
+            dull.insert(crowd[b]);
+        }
+        quiet.insert(crowd[a]);
+    }
+    None
+}
+
+fn number(out: &mut Vec<u8>, mut n: u64) {
+    let mut digits = [0u8; 20];
+    let mut at = 20;
+    loop {
+        at -= 1;
+        digits[at] = b'0' + (n % 10) as u8;
+        n /= 10;
+        if n == 0 {
+            break;
+        }
+    }
+    out.extend_from_slice(&digits[at..]);
+}
+
+fn main() {
+    let text = std::fs::read_to_string(std::env::args().nth(1).unwrap()).unwrap();
+    let mut lines = text.lines();
+    let names: Vec<&str> = lines.next().unwrap().split(' ').collect();
+    let moves: Vec<[u16; 4]> = lines.next().unwrap().split(' ').filter(|w| !w.is_empty()).map(|w| {
+        let p: Vec<u16> = w.split(',').map(|n| n.parse().unwrap()).collect();
+        [p[0], p[1], p[2], p[3]]
+    }).collect();
+    let mut crowd: Vec<u16> = Vec::new();
+    for word in lines.next().unwrap().split(' ') {
+        let (state, count) = word.split_once(',').unwrap();
+        crowd.resize(crowd.len() + count.parse::<usize>().unwrap(), state.parse().unwrap());
+    }
+    let turns: u64 = lines.next().unwrap().parse().unwrap();
+    let mut words = Words::new(0);
+    let mut rounds: Vec<Vec<(u16, u32, u32, bool)>> = Vec::new();
+    let mut left = turns;
+    let mut open = None;
+    loop {
+        open = enabled(&moves, &crowd).or(None);
+        if open.is_none() || left == 0 {
+            break;
+        }
+        let count = left.min(4096);
+        let n = crowd.len() as u64;
+        let mut log = Vec::with_capacity(count as usize);
+        for _ in 0..count {
+            let word = words.next();
+            let a = (word >> 32) % n;
+            let mut b = (word & 0xffff_ffff) % (n - 1);
+            if a <= b {
+                b += 1;
+            }
+            let (x, y) = (crowd[a as usize], crowd[b as usize]);
+            let (r, s) = react(&moves, x, y);
+            crowd[a as usize] = r;
+            crowd[b as usize] = s;
+            log.push((0u16, a as u32, b as u32, (x, y) != (r, s)));
+        }
+        rounds.push(log);
+        left -= count;
+    }
+    let mut out = Vec::new();
+    write!(out, "run workers 1 shards 16 turns {turns} seed 0\n").unwrap();
+    for (k, log) in rounds.iter().enumerate() {
+        write!(out, "round {}\n", k + 1).unwrap();
+        for (worker, a, b, changed) in log {
+            number(&mut out, u64::from(*worker));
+            out.push(b' ');
+            number(&mut out, u64::from(*a));
+            out.push(b' ');
+            number(&mut out, u64::from(*b));
+            out.extend_from_slice(if *changed { b" *\n" } else { b"\n" });
+        }
+    }
+    out.extend_from_slice(b"end\n");
+    let mut counts = BTreeMap::new();
+    for word in &crowd {
+        *counts.entry(*word).or_insert(0u64) += 1;
+    }
+    for (state, count) in counts {
+        write!(out, "{} {}\n", names[state as usize], count).unwrap();
+    }
+    match open {
+        None => out.extend_from_slice(b"terminal\n"),
+        Some((a, b)) => write!(out, "undecided {a} {b}\n").unwrap(),
+    }
+    std::io::stdout().write_all(&out).unwrap();
+}
+"""
+
+
+def majority():
+    leaf = {
+        "states": ["A", "B", "a", "b"],
+        "moves": [[0, 1, 2, 3], [0, 3, 0, 2], [1, 2, 1, 3], [3, 2, 3, 3]],
+        "input": [0, 1],
+        "output": [True, False, True, False],
+    }
+    return leaf, [510, 490]
+
+
+def threshold(coefs, bound):
+    """The threshold leaf of `coefs * x < bound`: leaders and followers of each value."""
+    s = max(max(abs(a) for a in coefs), abs(bound) + 1)
+    values = range(-s, s + 1)
+    leader = {u: i for i, u in enumerate(values)}
+    follower = {}
+    for bit in (False, True):
+        for v in values:
+            follower[bit, v] = len(leader) + len(follower)
+    moves = []
+
+    def after(u, v):
+        q = max(-s, min(s, u + v))
+        return leader[q], follower[q < bound, u + v - q]
+
+    for u in values:
+        for v in range(u, s + 1):
+            moves.append([leader[u], leader[v], *after(u, v)])
+    for u in values:
+        for bit in (False, True):
+            for v in values:
+                r, t = after(u, v)
+                if (r, t) != (leader[u], follower[bit, v]):
+                    moves.append([leader[u], follower[bit, v], r, t])
+    names = [f"L{u}" for u in values] + [f"f{v}" for v in values] + [f"t{v}" for v in values]
+    leaf = {
+        "states": names,
+        "moves": moves,
+        "input": [leader[a] for a in coefs],
+        "output": [u < bound for u in values] + [False] * len(values) + [True] * len(values),
+    }
+    return leaf, [510, 490]
+
+
+def timed(command, standard_input):
+    start = time.perf_counter()
+    child = subprocess.Popen(command, stdin=open(standard_input), stdout=subprocess.PIPE)
+    out = child.stdout.read()
+    _, _, usage = os.wait4(child.pid, 0)
+    return out, time.perf_counter() - start, usage.ru_maxrss * 1024
+
+
+def measure(name, leaf, counts, plain, folder):
+    names = ["x", "y"]
+    net = {"format": 1, "vars": names, "leaves": [leaf], "combine": [0]}
+    crowd = "crowd " + " ".join(f"{v}={n}" for v, n in zip(names, counts))
+    head = json.dumps(net, separators=(",", ":")) + "\n" + crowd + "\n"
+    line_input = os.path.join(folder, "input")
+    with open(line_input, "w") as f:
+        f.write(head)
+    plain_input = os.path.join(folder, "plain")
+    with open(plain_input, "w") as f:
+        f.write(" ".join(leaf["states"]) + "\n")
+        f.write(" ".join(",".join(map(str, m)) for m in leaf["moves"]) + "\n")
+        f.write(" ".join(f"{s},{n}" for s, n in zip(leaf["input"], counts)) + "\n")
+        f.write(f"{TURNS}\n")
+    ours, our_time, memory = timed([PROGRAM, "run", "--turns", str(TURNS)], line_input)
+    theirs, plain_time, plain_memory = timed([plain, plain_input], os.devnull)
+    journal = ours[len(head.encode()):]
+    if journal != theirs:
+        sys.exit(f"{name}: the journals differ")
+    meetings = sum(1 for line in journal.split(b"\n") if line[:1].isdigit())
+    print(
+        f"{name}: {meetings} meetings, pop {our_time:.2f} s, plain {plain_time:.2f} s, ratio {our_time / plain_time:.2f}; "
+        f"memory per meeting: pop {memory / max(meetings, 1):.0f} bytes, plain {plain_memory / max(meetings, 1):.0f} bytes"
+    )
+
+
+def main():
+    if not os.path.exists(PROGRAM):
+        sys.exit("build the program first: bin/pop play < examples/majority-play.txt")
+    resource.setrlimit(resource.RLIMIT_CORE, (0, 0))
+    with tempfile.TemporaryDirectory() as folder:
+        source = os.path.join(folder, "plain.rs")
+        plain = os.path.join(folder, "plain_program")
+        with open(source, "w") as f:
+            f.write(PLAIN)
+        subprocess.run(["rustc", "-O", "--edition", "2021", "-A", "warnings", "-o", plain, source], check=True)
+        measure("majority, 1,000 agents", *majority(), plain, folder)
+        measure("threshold leaf of 255 states, 1,000 agents", *threshold([1, -1], 41), plain, folder)
+
+
+main()
