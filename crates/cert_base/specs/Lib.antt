@@ -6,3 +6,4 @@ pub mod FactsAndCases
 pub mod ClosingTests
 pub mod Closes
 pub mod ValidProof
+pub mod Ends
