@@ -1,6 +1,6 @@
 pub mod Numbers
 pub mod Integers
-pub mod Tests
+pub mod ListTests
 pub mod Dead
 pub mod Agents
 pub mod Weights

@@ -21,7 +21,7 @@ use Rattle.cert_base.proofs.Dead.{IsEnabledIn}
 use Rattle.cert_base.proofs.Numbers.{number_in, slice_get-set_other}
 use Rattle.cert_base.proofs.Openings.{in_first, in_rest}
 use Rattle.cert_base.specs.Ends.{MeetsOne}
-use Rattle.cert_base.proofs.Tests.{list_any-contains}
+use Rattle.cert_base.proofs.ListTests.{list_any-contains}
 
 pub slice_get-set_same : {A : Type 0} (xs : List A) (a : ℕ) (x y : A) → slice_get xs a ≡ Some x → slice_get (slice_set xs a y) a ≡ Some y
 slice_get-set_same [] a x y h = cc
