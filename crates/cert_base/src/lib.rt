@@ -21,3 +21,6 @@ pub use node::Node;
 pub use open::open_cases;
 pub use proof::{LeafProof, Proof};
 pub use split::split_cases;
+
+#[cfg(test)]
+mod tests;
