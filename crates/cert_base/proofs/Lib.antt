@@ -1,7 +1,15 @@
 pub mod Numbers
 pub mod Integers
-pub mod Tests
+pub mod ListTests
 pub mod Dead
 pub mod Agents
 pub mod Weights
 pub mod Spread
+pub mod TermLists
+pub mod FlowRows
+pub mod Equations
+pub mod FlowFacts
+pub mod Indicators
+pub mod InRange
+pub mod WrongEnds
+pub mod Openings

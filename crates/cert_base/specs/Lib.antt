@@ -1,2 +1,10 @@
-pub mod ValidLayers
 pub mod ProofBound
+pub mod ValidLayers
+pub mod Rows
+pub mod Valuation
+pub mod FactsAndCases
+pub mod ClosingTests
+pub mod Closes
+pub mod ValidProof
+pub mod Ends
+pub mod Parts

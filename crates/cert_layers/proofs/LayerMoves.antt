@@ -8,7 +8,7 @@ use Rattle.pop_net.specs.LeafModel.{LeafModel, is_silent}
 use Rattle.pop_net.proofs.Reactions.{and_left, and_right, not_true}
 use Rattle.cert_base.specs.declared.layer.Layer.{Layer}
 use Rattle.cert_base.specs.ValidLayers.{IsInLayer}
-use Rattle.cert_base.proofs.Tests.{list_any-contains}
+use Rattle.cert_base.proofs.ListTests.{list_any-contains}
 use Rattle.cert_layers.specs.Search.{layer_at, no_layer, some_move}
 
 -- whether some non-silent move of layer i passes

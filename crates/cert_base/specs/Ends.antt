@@ -1,0 +1,64 @@
+-- Ends: the executions that a proof speaks of, and what it says of them.
+use Rattle.std.specs.Prelude.{◌≡◌, ◌≢◌, ℕ, Bool, false, List, Some, All, Contains, length, slice_get, slice_index_or}
+use Rattle.pres_ast.specs.PredTree.{PredTree}
+use Rattle.pres_ast.specs.PredModel.{PredModel}
+use Rattle.pres_ast.specs.PredicateValue.{predicate_value}
+use Rattle.pop_net.specs.LeafModel.{LeafModel}
+use Rattle.pop_net.specs.InputCrowd.{leaf_input_crowd, IsInput}
+use Rattle.pop_net.specs.Step.{LeafStep}
+use Rattle.pop_net.specs.Reachable.{Leads, Reachable}
+use Rattle.pop_net.specs.Terminal.{IsTerminal}
+use Rattle.cert_base.specs.declared.fact.Fact.{Fact}
+use Rattle.cert_base.specs.declared.fact.Fact.TheVariants.{Holds}
+use Rattle.cert_base.specs.Valuation.{Valuation, MeetsFact, IsOfExecution}
+
+-- the counts are those of an execution that starts at an input and ends in a terminal crowd
+pub record IsEnd (leaf : LeafModel) (count : Valuation) : Type 0 where
+  pub counts : List ℕ
+  pub path : List (List ℕ)
+  pub end : List ℕ
+  pub way : Leads (LeafStep leaf) (leaf_input_crowd leaf counts) path end
+  pub input : IsInput (length leaf.inputs) counts
+  pub terminal : IsTerminal (LeafStep leaf) end
+  pub execution : IsOfExecution leaf count counts path end way
+
+abbrev pub MeetsAll : Valuation → List Fact → Type 0
+MeetsAll count facts = All (MeetsFact count) facts
+
+-- the counts meet all facts of one of the cases
+abbrev pub MeetsOne : Valuation → List (List Fact) → Type 0
+MeetsOne count cases = (facts : List Fact) × Contains cases facts × MeetsAll count facts
+
+-- every end meets all facts of one of the cases
+abbrev pub Cover : LeafModel → List (List Fact) → Type 0
+Cover leaf cases = (count : Valuation) → IsEnd leaf count → MeetsOne count cases
+
+-- no counts meet all the facts
+abbrev pub AreRefuted : List Fact → Type 0
+AreRefuted facts = (count : Valuation) → MeetsAll count facts → ⊥
+
+-- wherever the predicate has this value at an input, every agent of each terminal crowd that is reachable from it outputs the value
+abbrev pub EndsRight : LeafModel → PredTree → Bool → Type 0
+EndsRight leaf tree value =
+    (counts end : List ℕ) → IsInput (length leaf.inputs) counts → predicate_value tree counts ≡ value → Reachable (LeafStep leaf) (leaf_input_crowd leaf counts) end → IsTerminal (LeafStep leaf) end → All (λ q. slice_index_or leaf.outputs q false ≡ value) end
+
+-- an execution that starts at an input at which the predicate has the value, and ends in a terminal crowd where an agent outputs another value
+pub record IsWrongEnd (leaf : LeafModel) (tree : PredTree) (value : Bool) (count : Valuation) : Type 0 where
+  pub reached : IsEnd leaf count
+  pub has_value : predicate_value tree reached.counts ≡ value
+  pub agent : ℕ
+  pub state : ℕ
+  pub there : slice_get reached.end agent ≡ Some state
+  pub wrong : slice_index_or leaf.outputs state false ≢ value
+
+-- every wrong end meets all the facts
+abbrev pub HoldAtWrongEnds : LeafModel → PredTree → Bool → List Fact → Type 0
+HoldAtWrongEnds leaf tree value facts = (count : Valuation) → IsWrongEnd leaf tree value count → MeetsAll count facts
+
+-- all counts at which the predicate has the value meet all facts of one of the cases
+abbrev pub CoverValue : PredModel → Bool → List (List Fact) → Type 0
+CoverValue p value cases = (count : Valuation) → MeetsFact count (Holds p value) → MeetsOne count cases
+
+-- all counts meet all facts of one of the cases
+abbrev pub CoverAll : List (List Fact) → Type 0
+CoverAll cases = (count : Valuation) → MeetsOne count cases
