@@ -7,3 +7,4 @@ pub mod ClosingTests
 pub mod Closes
 pub mod ValidProof
 pub mod Ends
+pub mod Parts

@@ -1,7 +1,10 @@
 //! Facts about the counts of an execution.
 
-use pop_io::List;
+ghost use Rattle.std.specs.Prelude.{◌≡◌, IfOk};
+
+use pop_io::{List, NoMemory};
 use pres_ast::Pred;
+use std::alloc::Global;
 
 /// A number of a variable or of a fact, and its coefficient or multiplier.
 #[derive(Clone, Copy, Debug, PartialEq, Eq)]
@@ -33,4 +36,19 @@ pub enum Fact {
     NotCong(Row, u32),
     /// The predicate has this value at the inputs.
     Holds(Pred, bool),
+}
+
+impl Fact {
+    /// A fact that is equal.
+    pub fn copy(&self, alloc: Global) -> Result<Fact, NoMemory>
+        ensures { IfOk result (λ fact. fact ≡ self.now) }
+    {
+        Ok(match self {
+            Fact::Ge(row) => Fact::Ge(row.copy(alloc)?),
+            Fact::Eq(row) => Fact::Eq(row.copy(alloc)?),
+            Fact::Cong(row, modulus) => Fact::Cong(row.copy(alloc)?, *modulus),
+            Fact::NotCong(row, modulus) => Fact::NotCong(row.copy(alloc)?, *modulus),
+            Fact::Holds(pred, value) => Fact::Holds(pred.copy(alloc)?, *value),
+        })
+    }
 }

@@ -3,12 +3,21 @@
 //! The layer above uses: the definitions of valid layers and proofs, of facts, cases and closing tests.
 #![tactic(auto)]
 
+mod base;
 mod fact;
+mod flow;
 mod layer;
 mod node;
+mod open;
 mod proof;
+mod row;
+mod split;
+mod terms;
 
+pub use base::base_facts;
 pub use fact::{Fact, Row, Term};
 pub use layer::Layer;
 pub use node::Node;
+pub use open::open_cases;
 pub use proof::{LeafProof, Proof};
+pub use split::split_cases;

@@ -1,0 +1,14 @@
+use Rattle.std.proofs.Common.{◌≡◌, ◌+◌, length, arith, rules, w64, to_z, of_z, SFits}
+use Rattle.std.proofs.lemmas.Result.{IfOk-weaker}
+use Rattle.cert_base.specs.Rows.{terms_from, move_row}
+use Rattle.cert_base.proofs.TermLists.{row_behind}
+use Rattle.cert_base.proofs.fact.Row.over_moves.Goals as goal
+
+pub returns : goal.returns
+returns c =
+    let fits : SFits w64 c.args.constant = search rules in
+    IfOk-weaker c.dense.result
+    (λ row. row ≡ record { terms = terms_from c.first_move.result c.args.coefs.now; constant = to_z w64 (of_z w64 c.args.constant) })
+    (λ row. row ≡ move_row c.args.leaf.now c.args.coefs.now c.args.constant)
+    (λ row e. row_behind (length c.args.leaf.now.inputs + length c.args.leaf.now.states) c.first_move.result c.args.coefs.now c.args.constant row fits (omega (arith, c.first_move.ensures.value)) e)
+    c.dense.ensures

@@ -1,0 +1,38 @@
+-- The parts of which rows are made.
+use Rattle.std.specs.Prelude.{ℕ, if◌then◌else◌, List, [], ◌∷◌, ◌++◌, ℤ, pos, negsuc, ◌-ℤ◌, map, take, slice_index_or, ◌==◌}
+use Rattle.std.specs.Ordering.{int_eq}
+use Rattle.pop_net.specs.declared.leaf.Move.{Move}
+use Rattle.pop_net.specs.LeafModel.{LeafModel, pre, post}
+use Rattle.cert_base.specs.declared.fact.Term.{Term}
+use Rattle.cert_base.specs.Rows.{terms_from, state_variable, move_variable}
+use Rattle.cert_base.specs.FactsAndCases.{indicator, states_of, is_in}
+use Rattle.std.specs.List.{slice_set}
+
+-- the term of a variable with this coefficient, or none where it is 0
+abbrev pub term_of : ℕ → ℤ → List Term
+term_of variable a = if int_eq a (pos 0) then [] else (record { at = variable; by = a } ∷ [])
+
+-- what a move brings to a state, less what it takes from it
+abbrev pub change_at : ℕ → Move → ℤ
+change_at q t = pos (post t q) -ℤ pos (pre t q)
+
+-- the terms of a state's flow fact for the inputs from number i on
+abbrev pub input_terms : LeafModel → ℕ → ℕ → List ℕ → List Term
+input_terms leaf q i starts = terms_from i (map (λ start. indicator (start == q)) starts)
+
+-- the terms of a state's flow fact, with its first k moves
+abbrev pub flow_terms : LeafModel → ℕ → ℕ → List Term
+flow_terms leaf k q =
+    input_terms leaf q 0 leaf.inputs
+    ++ (record { at = state_variable leaf q; by = negsuc 0 } ∷ terms_from (move_variable leaf 0) (map (change_at q) (take k leaf.moves)))
+
+-- the same for each state
+abbrev pub flow_rows : LeafModel → ℕ → List (List Term)
+flow_rows leaf k = map (flow_terms leaf k) (states_of leaf)
+
+-- the rows with what a move changes at a state, unless it was entered before
+abbrev pub entered : List (List Term) → ℕ → List ℕ → Move → ℕ → List (List Term)
+entered rows state before taken variable =
+    if is_in before state
+    then rows
+    else slice_set rows state (slice_index_or rows state [] ++ term_of variable (change_at state taken))

@@ -1,0 +1,60 @@
+//! The facts that every wrong end meets.
+
+ghost use Rattle.std.specs.Prelude.{◌≡◌, ◌<◌, length, map, slice_index_or, false, IfOk};
+ghost use Rattle.cert_base.specs.FactsAndCases.{indicator, states_of, differs, base_facts as base_list, two_agents as at_least_two, wrong_output as some_wrong};
+
+use crate::fact::{Fact, Row};
+use crate::flow::flow_facts;
+use pop_io::{List, NoMemory};
+use pop_net::Leaf;
+use pres_ast::Pred;
+use std::alloc::Global;
+
+/// First the flow fact of each state; then that there are two agents, that the predicate has the value, and that
+/// some agent has another output (the state equation of Blondin, Esparza, Jaax, Meyer 2017).
+pub fn base_facts(
+    alloc: Global,
+    leaf: &Leaf,
+    pred: &Pred,
+    value: bool,
+) -> Result<List<Fact>, NoMemory>
+    requires { pred.now.variables ≡ length leaf.now.inputs }
+    ensures facts { IfOk result (λ facts. facts ≡ base_list leaf.now pred.now value) }
+{
+    let mut facts = flow_facts(alloc, leaf)?;
+    facts.push(two_agents(alloc, leaf)?)?;
+    facts.push(Fact::Holds(pred.copy(alloc)?, value))?;
+    facts.push(wrong_output(alloc, leaf, value)?)?;
+    Ok(List::from_vec(facts))
+}
+
+fn two_agents(alloc: Global, leaf: &Leaf) -> Result<Fact, NoMemory>
+    ensures { IfOk result (λ fact. fact ≡ at_least_two leaf.now) }
+{
+    let ones = vec![in alloc; 1i64; usize::from(leaf.input_count())]?;
+    Ok(Fact::Ge(Row::dense(alloc, 0, ones.as_slice(), -2)?))
+}
+
+fn wrong_output(alloc: Global, leaf: &Leaf, value: bool) -> Result<Fact, NoMemory>
+    ensures { IfOk result (λ fact. fact ≡ some_wrong leaf.now value) }
+{
+    let coefs = wrong_states(alloc, leaf, value)?;
+    Ok(Fact::Ge(Row::over_states(alloc, leaf, coefs.as_slice(), -1)?))
+}
+
+/// 1 for each state that has another output than the value, and 0 for the others.
+fn wrong_states(alloc: Global, leaf: &Leaf, value: bool) -> Result<Vec<i64>, NoMemory>
+    ensures { IfOk result (λ coefs. coefs.items ≡ map (λ q. indicator (differs value (slice_index_or leaf.now.outputs q false))) (states_of leaf.now)) }
+{
+    let coefs = (0..leaf.state_count())
+        .map(|q| is_wrong(leaf, value, q))
+        .collect(alloc)?;
+    Ok(coefs)
+}
+
+fn is_wrong(leaf: &Leaf, value: bool, q: u16) -> i64
+    requires { q < length leaf.now.states }
+    ensures { result ≡ indicator (differs value (slice_index_or leaf.now.outputs q false)) }
+{
+    if leaf.output(q) == value { 0 } else { 1 }
+}

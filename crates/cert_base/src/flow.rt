@@ -1,0 +1,119 @@
+//! The flow facts of a leaf, in one walk over its moves.
+
+ghost use Rattle.std.specs.Prelude.{◌≡◌, ◌<◌, ◌+◌, ◌++◌, length, map, slice_index_or, IfOk, OnOk, pos, []};
+ghost use Rattle.pop_net.specs.LeafModel.{IsLeaf, times_in as times_in_pair};
+ghost use Rattle.cert_base.specs.FactsAndCases.{flow, states_of};
+ghost use Rattle.cert_base.specs.Parts.{term_of, change_at, input_terms as input_part, flow_terms, flow_rows as rows_after, entered};
+ghost use Rattle.cert_base.specs.declared.fact.Fact.TheVariants.{Eq};
+
+use crate::fact::Fact;
+use crate::row::first_move;
+use crate::terms::Terms;
+use pop_io::NoMemory;
+use pop_net::{Leaf, Move};
+use std::alloc::Global;
+
+/// The flow fact of each state, in their order.
+pub(crate) fn flow_facts(alloc: Global, leaf: &Leaf) -> Result<Vec<Fact>, NoMemory>
+    ensures { IfOk result (λ facts. facts.items ≡ map (flow leaf.now) (states_of leaf.now)) }
+{
+    facts_of(alloc, flow_rows(alloc, leaf)?)
+}
+
+fn facts_of(alloc: Global, rows: Vec<Terms>) -> Result<Vec<Fact>, NoMemory>
+    ensures { IfOk result (λ facts. facts.items ≡ map (λ terms. Eq (record { terms = terms; constant = pos 0 })) rows.items) }
+{
+    let facts = rows
+        .into_iter()
+        .map(|terms| Fact::Eq(terms.into_row(0)))
+        .collect(alloc)?;
+    Ok(facts)
+}
+
+/// The terms of each state's flow fact.
+fn flow_rows(alloc: Global, leaf: &Leaf) -> Result<Vec<Terms>, NoMemory>
+    ensures { IfOk result (λ rows. rows.items ≡ rows_after leaf.now (length leaf.now.moves)) }
+{
+    let mut rows = start_rows(alloc, leaf)?;
+    for t in 0..leaf.move_count() {
+        enter_move(&mut rows, leaf, t)?;
+    }
+    Ok(rows)
+}
+
+/// The same without the moves.
+fn start_rows(alloc: Global, leaf: &Leaf) -> Result<Vec<Terms>, NoMemory>
+    ensures { IfOk result (λ rows. rows.items ≡ rows_after leaf.now 0) }
+{
+    let mut rows = Vec::new(alloc);
+    for q in 0..leaf.state_count() {
+        rows.push(start_row(alloc, leaf, q)?)?;
+    }
+    Ok(rows)
+}
+
+fn start_row(alloc: Global, leaf: &Leaf, q: u16) -> Result<Terms, NoMemory>
+    requires { q < length leaf.now.states }
+    ensures { IfOk result (λ terms. terms ≡ flow_terms leaf.now 0 q) }
+{
+    let mut terms = input_terms(alloc, leaf, q)?;
+    terms.push(u32::from(leaf.input_count()) + u32::from(q), -1)?;
+    Ok(terms)
+}
+
+fn input_terms(alloc: Global, leaf: &Leaf, q: u16) -> Result<Terms, NoMemory>
+    ensures { IfOk result (λ terms. terms ≡ input_part leaf.now q 0 leaf.now.inputs) }
+{
+    let mut terms = Terms::new(alloc);
+    for i in 0..leaf.input_count() {
+        terms.push(u32::from(i), i64::from(leaf.input(i) == q))?;
+    }
+    Ok(terms)
+}
+
+/// Enters what a move changes into the rows of its states, each of them once.
+fn enter_move(rows: &mut Vec<Terms>, leaf: &Leaf, t: u32) -> Result<(), NoMemory>
+    requires in_range { t < length leaf.now.moves }
+    requires rows { rows.old.items ≡ rows_after leaf.now t }
+    ensures { OnOk result (rows.new.items ≡ rows_after leaf.now (t + 1)) }
+{
+    let taken = leaf.move_at(t);
+    let Move { p, q, r, s } = taken;
+    let variable = first_move(leaf) + t;
+    enter(rows, p, &[], taken, variable)?;
+    enter(rows, q, &[p], taken, variable)?;
+    enter(rows, r, &[q, p], taken, variable)?;
+    enter(rows, s, &[r, q, p], taken, variable)?;
+    Ok(())
+}
+
+/// Enters what a move changes into the row of a state, unless it was entered before.
+fn enter(
+    rows: &mut Vec<Terms>,
+    state: u16,
+    before: &[u16],
+    taken: Move,
+    variable: u32,
+) -> Result<(), NoMemory>
+    requires { state < length rows.old.items }
+    ensures entered { OnOk result (rows.new.items ≡ entered rows.old.items state before.now taken variable) }
+    ensures len { OnOk result (length rows.new.items ≡ length rows.old.items) }
+{
+    if before.contains(&state) {
+        return Ok(());
+    }
+    rows[usize::from(state)].push(variable, change(taken, state))
+}
+
+/// What a move brings to a state, less what it takes from it.
+fn change(taken: Move, state: u16) -> i64
+    ensures { result ≡ change_at state taken }
+{
+    times_in(taken.r, taken.s, state) - times_in(taken.p, taken.q, state)
+}
+
+fn times_in(x: u16, y: u16, z: u16) -> i64
+    ensures { result ≡ pos (times_in_pair x y z) }
+{
+    i64::from(x == z) + i64::from(y == z)
+}

@@ -1,0 +1,133 @@
+//! What it means that a predicate has a value.
+
+ghost use Rattle.std.specs.Prelude.{◌≡◌, ◌≤◌, ◌^◌, ◌∷◌, [], not, nat_abs, length, map, neg_ℤ, if◌then◌else◌, IfOk};
+ghost use Rattle.pres_ast.specs.PredModel.{AreCoefs, HasAtoms, IsPred};
+ghost use Rattle.pres_ast.specs.PredTree.{LessThan, Congruent};
+ghost use Rattle.pres_ast.specs.TreeOf.{tree_of};
+ghost use Rattle.cert_base.specs.declared.fact.Fact.TheVariants.{Holds};
+ghost use Rattle.cert_base.specs.FactsAndCases.{open_tree, open_cases as open_list, both_of, one_of, over};
+
+use crate::fact::{Fact, Row};
+use pop_io::{List, NoMemory};
+use pres_ast::{Pred, Tree};
+use std::alloc::Global;
+
+/// One case with a linear fact for an atom; else the values of the parts, in one case or in two.
+pub fn open_cases(alloc: Global, pred: &Pred, value: bool) -> Result<List<List<Fact>>, NoMemory>
+    ensures cases { IfOk result (λ cases. cases ≡ open_list pred.now value) }
+{
+    let vars = pred.vars();
+    match pred.tree() {
+        Tree::Less { coefs, bound } => one_case(
+            alloc,
+            less(alloc, coefs.as_slice(), *bound, value)?,
+        ),
+        Tree::Rest {
+            coefs,
+            modulus,
+            rest,
+        } => one_case(
+            alloc,
+            congruent(alloc, coefs.as_slice(), *modulus, *rest, value)?,
+        ),
+        Tree::Not(p) => one_case(alloc, holds(alloc, vars, p, !value)?),
+        Tree::And(p, q) => two(
+            alloc,
+            holds(alloc, vars, p, value)?,
+            holds(alloc, vars, q, value)?,
+            value,
+        ),
+        Tree::Or(p, q) => two(
+            alloc,
+            holds(alloc, vars, p, value)?,
+            holds(alloc, vars, q, value)?,
+            !value,
+        ),
+    }
+}
+
+fn holds(alloc: Global, vars: u16, tree: &Tree, value: bool) -> Result<Fact, NoMemory>
+    requires { IsPred vars (tree_of tree.now) }
+    ensures { IfOk result (λ fact. fact ≡ Holds (over vars (tree_of tree.now)) value) }
+{
+    let tree = tree.copy(alloc)?;
+    Ok(Fact::Holds(Pred::new(vars, tree), value))
+}
+
+fn less(alloc: Global, coefs: &[i64], bound: i64, value: bool) -> Result<Fact, NoMemory>
+    requires coefs { AreCoefs (length coefs.now) coefs.now }
+    requires few { length coefs.now ≤ 16 }
+    requires bound { nat_abs bound ≤ 2 ^ 40 }
+    ensures { IfOk result (λ fact. (fact ∷ []) ∷ [] ≡ open_tree (length coefs.now) (LessThan coefs.now bound) value) }
+{
+    if value {
+        let turned = turned(alloc, coefs)?;
+        Ok(Fact::Ge(Row::dense(alloc, 0, turned.as_slice(), bound - 1)?))
+    } else {
+        Ok(Fact::Ge(Row::dense(alloc, 0, coefs, -bound)?))
+    }
+}
+
+/// The coefficients with all signs turned.
+fn turned(alloc: Global, coefs: &[i64]) -> Result<Vec<i64>, NoMemory>
+    requires { AreCoefs (length coefs.now) coefs.now }
+    ensures { IfOk result (λ turned. turned.items ≡ map neg_ℤ coefs.now) }
+{
+    let mut turned = Vec::new(alloc);
+    for coef in coefs {
+        turned.push(-*coef)?;
+    }
+    Ok(turned)
+}
+
+fn congruent(
+    alloc: Global,
+    coefs: &[i64],
+    modulus: u32,
+    rest: u32,
+    value: bool,
+) -> Result<Fact, NoMemory>
+    requires few { length coefs.now ≤ 16 }
+    ensures { IfOk result (λ fact. (fact ∷ []) ∷ [] ≡ open_tree (length coefs.now) (Congruent coefs.now modulus rest) value) }
+{
+    let row = Row::dense(alloc, 0, coefs, -i64::from(rest))?;
+    Ok(if value {
+        Fact::Cong(row, modulus)
+    } else {
+        Fact::NotCong(row, modulus)
+    })
+}
+
+/// One case with both facts, or one case for each.
+fn two(alloc: Global, f: Fact, g: Fact, both: bool) -> Result<List<List<Fact>>, NoMemory>
+    ensures { IfOk result (λ cases. cases ≡ (if both then both_of f g else one_of f g)) }
+{
+    let mut cases = Vec::new(alloc);
+    let mut first = Vec::new(alloc);
+    first.push(f)?;
+    if both {
+        first.push(g)?;
+        cases.push(List::from_vec(first))?;
+    } else {
+        cases.push(List::from_vec(first))?;
+        cases.push(only(alloc, g)?)?;
+    }
+    Ok(List::from_vec(cases))
+}
+
+fn one_case(alloc: Global, fact: Fact) -> Result<List<List<Fact>>, NoMemory>
+    ensures { IfOk result (λ cases. cases ≡ (fact ∷ []) ∷ []) }
+{
+    let mut cases = Vec::new(alloc);
+    cases.push(only(alloc, fact)?)?;
+    Ok(List::from_vec(cases))
+}
+
+/// The list of one fact.
+pub(crate) fn only(alloc: Global, fact: Fact) -> Result<List<Fact>, NoMemory>
+    ensures { IfOk result (λ facts. facts ≡ fact ∷ []) }
+{
+    let mut facts = Vec::new(alloc);
+    facts.push(fact)?;
+    Ok(List::from_vec(facts))
+}

@@ -1,0 +1,54 @@
+//! A row is above 0, is 0, or is below 0.
+
+ghost use Rattle.std.specs.Prelude.{◌≡◌, ◌≤◌, ◌^◌, nat_abs, neg_ℤ, negsuc, map, All, IfOk};
+ghost use Rattle.cert_base.specs.FactsAndCases.{plus, negated as turned_row, split_cases as split_list};
+
+use crate::fact::{Fact, Row, Term};
+use crate::open::only;
+use pop_io::{List, NoMemory};
+use std::alloc::Global;
+
+/// The three cases, in this order.
+pub fn split_cases(alloc: Global, row: &Row) -> Result<List<List<Fact>>, NoMemory>
+    requires coefs { All (λ term. nat_abs term.by ≤ 2 ^ 40) row.now.terms }
+    requires constant { nat_abs row.now.constant ≤ 2 ^ 40 }
+    ensures cases { IfOk result (λ cases. cases ≡ split_list row.now) }
+{
+    let above = less_one(row.copy(alloc)?);
+    let below = less_one(negated(alloc, row)?);
+    let mut cases = Vec::new(alloc);
+    cases.push(only(alloc, Fact::Ge(above))?)?;
+    cases.push(only(alloc, Fact::Eq(row.copy(alloc)?))?)?;
+    cases.push(only(alloc, Fact::Ge(below))?)?;
+    Ok(List::from_vec(cases))
+}
+
+fn less_one(row: Row) -> Row
+    requires { nat_abs row.constant ≤ 2 ^ 40 }
+    ensures { result ≡ plus row (negsuc 0) }
+{
+    let Row { terms, constant } = row;
+    Row {
+        terms,
+        constant: constant - 1,
+    }
+}
+
+/// The row with all signs turned.
+fn negated(alloc: Global, row: &Row) -> Result<Row, NoMemory>
+    requires coefs { All (λ term. nat_abs term.by ≤ 2 ^ 40) row.now.terms }
+    requires constant { nat_abs row.now.constant ≤ 2 ^ 40 }
+    ensures { IfOk result (λ turned. turned ≡ turned_row row.now) }
+{
+    let mut terms = Vec::new(alloc);
+    for term in row.terms.as_slice() {
+        terms.push(Term {
+            at: term.at,
+            by: -term.by,
+        })?;
+    }
+    Ok(Row {
+        terms: List::from_vec(terms),
+        constant: -row.constant,
+    })
+}
