@@ -7,3 +7,9 @@ pub mod Weights
 pub mod Spread
 pub mod TermLists
 pub mod FlowRows
+pub mod Equations
+pub mod FlowFacts
+pub mod Indicators
+pub mod InRange
+pub mod WrongEnds
+pub mod Openings

@@ -1,6 +1,7 @@
 -- Ends: the executions that a proof speaks of, and what it says of them.
-use Rattle.std.specs.Prelude.{◌≡◌, ℕ, Bool, false, List, All, Contains, length, slice_index_or}
+use Rattle.std.specs.Prelude.{◌≡◌, ◌≢◌, ℕ, Bool, false, List, Some, All, Contains, length, slice_get, slice_index_or}
 use Rattle.pres_ast.specs.PredTree.{PredTree}
+use Rattle.pres_ast.specs.PredModel.{PredModel}
 use Rattle.pres_ast.specs.PredicateValue.{predicate_value}
 use Rattle.pop_net.specs.LeafModel.{LeafModel}
 use Rattle.pop_net.specs.InputCrowd.{leaf_input_crowd, IsInput}
@@ -8,6 +9,7 @@ use Rattle.pop_net.specs.Step.{LeafStep}
 use Rattle.pop_net.specs.Reachable.{Leads, Reachable}
 use Rattle.pop_net.specs.Terminal.{IsTerminal}
 use Rattle.cert_base.specs.declared.fact.Fact.{Fact}
+use Rattle.cert_base.specs.declared.fact.Fact.TheVariants.{Holds}
 use Rattle.cert_base.specs.Valuation.{Valuation, MeetsFact, IsOfExecution}
 
 -- the counts are those of an execution that starts at an input and ends in a terminal crowd
@@ -39,3 +41,24 @@ AreRefuted facts = (count : Valuation) → MeetsAll count facts → ⊥
 abbrev pub EndsRight : LeafModel → PredTree → Bool → Type 0
 EndsRight leaf tree value =
     (counts end : List ℕ) → IsInput (length leaf.inputs) counts → predicate_value tree counts ≡ value → Reachable (LeafStep leaf) (leaf_input_crowd leaf counts) end → IsTerminal (LeafStep leaf) end → All (λ q. slice_index_or leaf.outputs q false ≡ value) end
+
+-- an execution that starts at an input at which the predicate has the value, and ends in a terminal crowd where an agent outputs another value
+pub record IsWrongEnd (leaf : LeafModel) (tree : PredTree) (value : Bool) (count : Valuation) : Type 0 where
+  pub reached : IsEnd leaf count
+  pub has_value : predicate_value tree reached.counts ≡ value
+  pub agent : ℕ
+  pub state : ℕ
+  pub there : slice_get reached.end agent ≡ Some state
+  pub wrong : slice_index_or leaf.outputs state false ≢ value
+
+-- every wrong end meets all the facts
+abbrev pub HoldAtWrongEnds : LeafModel → PredTree → Bool → List Fact → Type 0
+HoldAtWrongEnds leaf tree value facts = (count : Valuation) → IsWrongEnd leaf tree value count → MeetsAll count facts
+
+-- all counts at which the predicate has the value meet all facts of one of the cases
+abbrev pub CoverValue : PredModel → Bool → List (List Fact) → Type 0
+CoverValue p value cases = (count : Valuation) → MeetsFact count (Holds p value) → MeetsOne count cases
+
+-- all counts meet all facts of one of the cases
+abbrev pub CoverAll : List (List Fact) → Type 0
+CoverAll cases = (count : Valuation) → MeetsOne count cases

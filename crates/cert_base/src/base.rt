@@ -2,6 +2,7 @@
 
 ghost use Rattle.std.specs.Prelude.{◌≡◌, ◌<◌, length, map, slice_index_or, false, IfOk};
 ghost use Rattle.cert_base.specs.FactsAndCases.{indicator, states_of, differs, base_facts as base_list, two_agents as at_least_two, wrong_output as some_wrong};
+ghost use Rattle.cert_base.specs.Ends.{HoldAtWrongEnds};
 
 use crate::fact::{Fact, Row};
 use crate::flow::flow_facts;
@@ -20,6 +21,8 @@ pub fn base_facts(
 ) -> Result<List<Fact>, NoMemory>
     requires { pred.now.variables ≡ length leaf.now.inputs }
     ensures facts { IfOk result (λ facts. facts ≡ base_list leaf.now pred.now value) }
+    // Every wrong end meets all of them.
+    ensures met { IfOk result (HoldAtWrongEnds leaf.now pred.now.tree value) }
 {
     let mut facts = flow_facts(alloc, leaf)?;
     facts.push(two_agents(alloc, leaf)?)?;

@@ -15,7 +15,8 @@ use std::alloc::Global;
 
 /// The flow fact of each state, in their order.
 pub(crate) fn flow_facts(alloc: Global, leaf: &Leaf) -> Result<Vec<Fact>, NoMemory>
-    ensures { IfOk result (λ facts. facts.items ≡ map (flow leaf.now) (states_of leaf.now)) }
+    ensures facts { IfOk result (λ facts. facts.items ≡ map (flow leaf.now) (states_of leaf.now)) }
+    ensures formed { IsLeaf leaf.now }
 {
     facts_of(alloc, flow_rows(alloc, leaf)?)
 }
@@ -32,7 +33,8 @@ fn facts_of(alloc: Global, rows: Vec<Terms>) -> Result<Vec<Fact>, NoMemory>
 
 /// The terms of each state's flow fact.
 fn flow_rows(alloc: Global, leaf: &Leaf) -> Result<Vec<Terms>, NoMemory>
-    ensures { IfOk result (λ rows. rows.items ≡ rows_after leaf.now (length leaf.now.moves)) }
+    ensures rows { IfOk result (λ rows. rows.items ≡ rows_after leaf.now (length leaf.now.moves)) }
+    ensures formed { IsLeaf leaf.now }
 {
     let mut rows = start_rows(alloc, leaf)?;
     for t in 0..leaf.move_count() {
@@ -43,7 +45,8 @@ fn flow_rows(alloc: Global, leaf: &Leaf) -> Result<Vec<Terms>, NoMemory>
 
 /// The same without the moves.
 fn start_rows(alloc: Global, leaf: &Leaf) -> Result<Vec<Terms>, NoMemory>
-    ensures { IfOk result (λ rows. rows.items ≡ rows_after leaf.now 0) }
+    ensures rows { IfOk result (λ rows. rows.items ≡ rows_after leaf.now 0) }
+    ensures formed { IsLeaf leaf.now }
 {
     let mut rows = Vec::new(alloc);
     for q in 0..leaf.state_count() {

@@ -6,6 +6,7 @@ ghost use Rattle.pres_ast.specs.PredTree.{LessThan, Congruent};
 ghost use Rattle.pres_ast.specs.TreeOf.{tree_of};
 ghost use Rattle.cert_base.specs.declared.fact.Fact.TheVariants.{Holds};
 ghost use Rattle.cert_base.specs.FactsAndCases.{open_tree, open_cases as open_list, both_of, one_of, over};
+ghost use Rattle.cert_base.specs.Ends.{CoverValue};
 
 use crate::fact::{Fact, Row};
 use pop_io::{List, NoMemory};
@@ -15,34 +16,44 @@ use std::alloc::Global;
 /// One case with a linear fact for an atom; else the values of the parts, in one case or in two.
 pub fn open_cases(alloc: Global, pred: &Pred, value: bool) -> Result<List<List<Fact>>, NoMemory>
     ensures cases { IfOk result (λ cases. cases ≡ open_list pred.now value) }
+    // Counts at which the predicate has the value meet all facts of one of the cases.
+    ensures cover { IfOk result (CoverValue pred.now value) }
 {
-    let vars = pred.vars();
-    match pred.tree() {
-        Tree::Less { coefs, bound } => one_case(
-            alloc,
-            less(alloc, coefs.as_slice(), *bound, value)?,
-        ),
+    tree_cases(alloc, pred.vars(), pred.tree(), value)
+}
+
+fn tree_cases(
+    alloc: Global,
+    vars: u16,
+    tree: &Tree,
+    value: bool,
+) -> Result<List<List<Fact>>, NoMemory>
+    requires { IsPred vars (tree_of tree.now) }
+    ensures { IfOk result (λ cases. cases ≡ open_tree vars (tree_of tree.now) value) }
+{
+    match tree {
+        Tree::Less { coefs, bound } => {
+            one_case(alloc, less(alloc, coefs.as_slice(), *bound, value)?)
+        }
         Tree::Rest {
             coefs,
             modulus,
             rest,
-        } => one_case(
-            alloc,
-            congruent(alloc, coefs.as_slice(), *modulus, *rest, value)?,
-        ),
+        } => {
+            one_case(
+                alloc,
+                congruent(alloc, coefs.as_slice(), *modulus, *rest, value)?,
+            )
+        }
         Tree::Not(p) => one_case(alloc, holds(alloc, vars, p, !value)?),
-        Tree::And(p, q) => two(
-            alloc,
-            holds(alloc, vars, p, value)?,
-            holds(alloc, vars, q, value)?,
-            value,
-        ),
-        Tree::Or(p, q) => two(
-            alloc,
-            holds(alloc, vars, p, value)?,
-            holds(alloc, vars, q, value)?,
-            !value,
-        ),
+        Tree::And(p, q) => {
+            let first = holds(alloc, vars, p, value)?;
+            two(alloc, first, holds(alloc, vars, q, value)?, value)
+        }
+        Tree::Or(p, q) => {
+            let first = holds(alloc, vars, p, value)?;
+            two(alloc, first, holds(alloc, vars, q, value)?, !value)
+        }
     }
 }
 

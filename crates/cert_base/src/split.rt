@@ -2,6 +2,7 @@
 
 ghost use Rattle.std.specs.Prelude.{◌≡◌, ◌≤◌, ◌^◌, nat_abs, neg_ℤ, negsuc, map, All, IfOk};
 ghost use Rattle.cert_base.specs.FactsAndCases.{plus, negated as turned_row, split_cases as split_list};
+ghost use Rattle.cert_base.specs.Ends.{CoverAll};
 
 use crate::fact::{Fact, Row, Term};
 use crate::open::only;
@@ -13,6 +14,8 @@ pub fn split_cases(alloc: Global, row: &Row) -> Result<List<List<Fact>>, NoMemor
     requires coefs { All (λ term. nat_abs term.by ≤ 2 ^ 40) row.now.terms }
     requires constant { nat_abs row.now.constant ≤ 2 ^ 40 }
     ensures cases { IfOk result (λ cases. cases ≡ split_list row.now) }
+    // All counts meet all facts of one of the cases.
+    ensures cover { IfOk result CoverAll }
 {
     let above = less_one(row.copy(alloc)?);
     let below = less_one(negated(alloc, row)?);

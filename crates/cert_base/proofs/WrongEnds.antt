@@ -1,0 +1,123 @@
+-- Every wrong end meets the base facts.
+use Rattle.std.proofs.Common.{◌≡◌, ◌≢◌, ◌⊎◌, inl, inr, ℕ, zero, suc, ◌+◌, ◌*◌, ◌<◌, ◌≤◌, Bool, true, false, List, [], ◌∷◌, length, map, replicate, refl, ap, sym, ◌∙◌, zero-add, arith}
+use Rattle.std.specs.Prelude.{pos, negsuc, ◌*ℤ◌, sum, Some, slice_get, slice_index, slice_index_or, All}
+use Rattle.std.specs.List.{range_with_len}
+use Rattle.std.proofs.Math.IntN.{pos-*ℤ-pos}
+use Rattle.std.proofs.lemmas.Int.{ints}
+use Rattle.std.proofs.lemmas.Bool.{eq-eqb, cases_lt}
+use Rattle.std.proofs.lemmas.List.Elements.{All-nil, All-cons, All-map, All-append}
+use Rattle.std.proofs.lemmas.List.Sums.{sum_by-cons}
+use Rattle.pres_ast.specs.PredModel.{PredModel}
+use Rattle.pres_ast.specs.PredicateValue.{predicate_value}
+use Rattle.pop_net.specs.LeafModel.{LeafModel, IsLeaf, one_at}
+use Rattle.pop_net.proofs.Quiet.{All-slice_get}
+use Rattle.cert_base.specs.declared.fact.Fact.TheVariants.{Holds}
+use Rattle.cert_base.specs.Valuation.{Valuation, MeetsFact, input_counts}
+use Rattle.cert_base.specs.FactsAndCases.{states_of, flow, two_agents, differs, wrong_output, base_facts}
+use Rattle.cert_base.specs.Ends.{IsWrongEnd, HoldAtWrongEnds}
+use Rattle.cert_base.proofs.Dead.{one_there}
+use Rattle.cert_base.proofs.FlowFacts.{dot, terms_value-terms_from, flow_met}
+use Rattle.cert_base.proofs.Indicators.{sum_if, row_value-behind, sum_if-none}
+use Rattle.cert_base.proofs.InRange.{end_in_range}
+use Rattle.cert_base.proofs.FlowRows.{get-range}
+
+-- what holds of each number of a range
+pub all_range : (P : ℕ → Type 0) (a n : ℕ) → ((z : ℕ) → a ≤ z → z < a + n → P z) → All P (range_with_len a n)
+all_range P a zero f = All-nil P
+all_range P a (suc n) f =
+    All-cons P a (range_with_len (a + 1) n) (f a (omega arith) (omega arith)) (all_range P (a + 1) n (λ z l m. f z (omega arith) (omega arith)))
+
+-- the state z of the range
+pub range_get : (n z : ℕ) → z < n → slice_get (range_with_len 0 n) z ≡ Some z
+range_get n z l = ap (λ zs. slice_get zs z) (sym (map-same_numbers 0 n)) ∙ get-range (λ z. z) n z l
+  where
+    map-same_numbers : (a n : ℕ) → map (λ z. z) (range_with_len a n) ≡ range_with_len a n
+    map-same_numbers a zero = refl
+    map-same_numbers a (suc n) = ap (λ zs. a ∷ zs) (map-same_numbers (a + 1) n)
+
+-- ---- the inputs
+
+counts_are : (count : Valuation) (k : ℕ) (counts : List ℕ) → ((j : ℕ) → j < length counts → count (k + j) ≡ slice_index counts j) → map count (range_with_len k (length counts)) ≡ counts
+counts_are count k [] e = refl
+counts_are count k (n ∷ counts) e =
+    let here : count k ≡ n = ap count (let f : k ≡ k + 0 = omega arith in f) ∙ e 0 (omega arith) in
+    let rest = counts_are count (k + 1) counts (λ j l. ap count (let f : k + 1 + j ≡ k + suc j = omega arith in f) ∙ e (suc j) (omega arith)) in
+    cc
+
+dot-ones : (count : Valuation) (k : ℕ) (counts : List ℕ) → ((j : ℕ) → j < length counts → count (k + j) ≡ slice_index counts j) → dot count k (replicate (length counts) (pos 1)) ≡ pos (sum counts)
+dot-ones count k [] e = refl
+dot-ones count k (n ∷ counts) e =
+    let here : count k ≡ n = ap count (let f : k ≡ k + 0 = omega arith in f) ∙ e 0 (omega arith) in
+    let rest = dot-ones count (k + 1) counts (λ j l. ap count (let f : k + 1 + j ≡ k + suc j = omega arith in f) ∙ e (suc j) (omega arith)) in
+    let product : (pos 1 *ℤ pos (count k)) ≡ pos (1 * count k) = pos-*ℤ-pos 1 (count k) in
+    let all : sum (n ∷ counts) ≡ n + sum counts = sum_by-cons (λ (x : ℕ). x) n counts in
+    omega (arith, ints, here, rest, product, all)
+
+-- ---- all facts
+
+module _ (leaf : LeafModel) (p : PredModel) (value : Bool) (count : Valuation) (is : IsLeaf leaf) (variables : p.variables ≡ length leaf.inputs) (end : IsWrongEnd leaf p.tree value count) where
+  abbrev counts : List ℕ
+  counts = end.reached.counts
+
+  inputs_are : (j : ℕ) → j < length end.reached.counts → count (0 + j) ≡ slice_index end.reached.counts j
+  inputs_are j l =
+      ap count (zero-add j) ∙ end.reached.execution.inputs j (let m : j < length leaf.inputs = omega (arith, end.reached.input.one_each, l) in m)
+
+  flows_met : All (MeetsFact count) (map (flow leaf) (states_of leaf))
+  flows_met =
+      All-map (MeetsFact count) (flow leaf) (states_of leaf)
+      (all_range (λ q. MeetsFact count (flow leaf q)) 0 (length leaf.states)
+      (λ q a l. flow_met leaf count end.reached.counts end.reached.path end.reached.end end.reached.way end.reached.input.one_each end.reached.execution q (let m : q < length leaf.states = omega arith in m)))
+
+  two_met : MeetsFact count (two_agents leaf)
+  two_met =
+      let terms = terms_value-terms_from count 0 (replicate (length leaf.inputs) (pos 1)) in
+      let ones = dot-ones count 0 end.reached.counts inputs_are in
+      let long : dot count 0 (replicate (length end.reached.counts) (pos 1)) ≡ dot count 0 (replicate (length leaf.inputs) (pos 1)) = ap (λ n. dot count 0 (replicate n (pos 1))) end.reached.input.one_each in
+      let two = end.reached.input.two_agents in
+      omega (arith, ints, terms, ones, long, two)
+
+  holds_met : MeetsFact count (Holds p value)
+  holds_met =
+      ap (predicate_value p.tree) (ap (input_counts count) (variables ∙ sym end.reached.input.one_each) ∙ counts_are count 0 end.reached.counts inputs_are)
+      ∙ end.has_value
+
+  abbrev is_wrong : ℕ → Bool
+  is_wrong q = differs value (slice_index_or leaf.outputs q false)
+
+  state_wrong : is_wrong end.state ≡ true
+  state_wrong = go value (slice_index_or leaf.outputs end.state false) end.wrong
+    where
+      go : (a b : Bool) → b ≢ a → differs a b ≡ true
+      go true true ne = absurd (ne refl)
+      go true false ne = refl
+      go false true ne = refl
+      go false false ne = absurd (ne refl)
+
+  below : end.state < length leaf.states
+  below =
+      All-slice_get (λ (q : ℕ). q < length leaf.states) end.reached.end end.agent end.state (end_in_range leaf is end.reached.counts end.reached.path end.reached.end end.reached.input.one_each end.reached.way) end.there
+
+  some_wrong : (0 < sum_if count is_wrong (length leaf.inputs) (states_of leaf)) ⊎ (sum_if count is_wrong (length leaf.inputs) (states_of leaf) ≤ 0) → 0 < sum_if count is_wrong (length leaf.inputs) (states_of leaf)
+  some_wrong (inl l) = l
+  some_wrong (inr none) =
+      let some = one_there end.state end.reached.end end.agent end.state end.there in
+      let one : one_at end.state end.state ≡ 1 = rw (eq-eqb end.state end.state refl) refl in
+      let counted = end.reached.execution.states end.state below in
+      let zero_sum : sum_if count is_wrong (length leaf.inputs) (states_of leaf) ≡ 0 = omega (arith, none) in
+      let no_one = sum_if-none count is_wrong (length leaf.inputs) (states_of leaf) zero_sum end.state end.state (range_get (length leaf.states) end.state below) state_wrong in
+      absurd (omega (arith, some, one, counted, no_one))
+
+  wrong_met : MeetsFact count (wrong_output leaf value)
+  wrong_met =
+      let row = row_value-behind count is_wrong (length leaf.inputs) (states_of leaf) (negsuc 0) in
+      let some = some_wrong (cases_lt 0 (sum_if count is_wrong (length leaf.inputs) (states_of leaf))) in
+      omega (arith, ints, row, some)
+
+  all_met : All (MeetsFact count) (base_facts leaf p value)
+  all_met =
+      All-append (MeetsFact count) (map (flow leaf) (states_of leaf)) (two_agents leaf ∷ Holds p value ∷ wrong_output leaf value ∷ []) flows_met
+      (All-cons (MeetsFact count) (two_agents leaf) (Holds p value ∷ wrong_output leaf value ∷ []) two_met (All-cons (MeetsFact count) (Holds p value) (wrong_output leaf value ∷ []) holds_met (All-cons (MeetsFact count) (wrong_output leaf value) [] wrong_met (All-nil (MeetsFact count)))))
+
+pub wrong_ends-met : (leaf : LeafModel) (p : PredModel) (value : Bool) → IsLeaf leaf → p.variables ≡ length leaf.inputs → HoldAtWrongEnds leaf p.tree value (base_facts leaf p value)
+wrong_ends-met leaf p value is variables count end = all_met leaf p value count is variables end
