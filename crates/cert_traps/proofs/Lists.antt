@@ -1,0 +1,189 @@
+-- Lists that grow by one item, and flags.
+use Rattle.std.proofs.Common.{◌≡◌, ℕ, zero, suc, ◌+◌, ◌<◌, ◌≤◌, min, Bool, true, false, cond, List, [], ◌∷◌, ◌++◌, length, map, take, get_or, append_assoc, refl, ap, sym, ◌∙◌, zero-add, arith}
+use Rattle.std.specs.Prelude.{ℤ, pos, Some, slice_get, filter, if◌then◌else◌, not, ◌&&◌, ◌||◌, ◌==◌}
+use Rattle.std.specs.List.{range_with_len, list_any}
+use Rattle.std.proofs.lemmas.List.{append-nil, take_all, take_more, length-map, length-take}
+use Rattle.std.proofs.lemmas.Option.{slice_get_within, get_or_from_slice_get, slice_get_read}
+use Rattle.std.proofs.lemmas.List.FromFn.{get_or-map-range_with_len}
+use Rattle.cert_base.specs.declared.fact.Fact.{Fact}
+use Rattle.cert_base.specs.declared.fact.Fact.TheVariants.{Eq}
+use Rattle.cert_base.specs.Rows.{single_row, move_variable, state_variable}
+use Rattle.cert_base.specs.FactsAndCases.{indicator, places_from, states_of, is_in, can_meet, absent, occurs, alone, none_taken, none_started}
+use Rattle.cert_base.proofs.FlowRows.{take_one_more}
+use Rattle.cert_traps.specs.Facts.{zero_if, alone_if}
+use Rattle.cert_traps.specs.Partners.{ArePartners}
+use Rattle.pop_net.specs.declared.leaf.Move.{Move}
+use Rattle.pop_net.specs.LeafModel.{LeafModel, IsLeaf, IsMoveBelow}
+use Rattle.pop_net.proofs.Quiet.{All-slice_get}
+use Rattle.pop_net.specs.Reaction.{takes}
+
+map-one : {A B : Type 0} (f : A → B) (xs : List A) (x : A) → map f (xs ++ x ∷ []) ≡ map f xs ++ f x ∷ []
+map-one f [] x = refl
+map-one f (y ∷ xs) x = ap (λ zs. f y ∷ zs) (map-one f xs x)
+
+map-append : {A B : Type 0} (f : A → B) (xs ys : List A) → map f (xs ++ ys) ≡ map f xs ++ map f ys
+map-append f [] ys = refl
+map-append f (x ∷ xs) ys = ap (λ zs. f x ∷ zs) (map-append f xs ys)
+
+-- one more item of a list that is mapped
+pub map-take_more : {A B : Type 0} (f : A → B) (xs : List A) (k : ℕ) (x : A) (before after : List B) → slice_get xs k ≡ Some x → before ≡ map f (take k xs) → after ≡ before ++ f x ∷ [] → after ≡ map f (take (k + 1) xs)
+map-take_more f xs k x before after h b e =
+    e ∙ ap (λ ys. ys ++ f x ∷ []) b ∙ sym (ap (map f) (take_one_more xs k x h) ∙ map-one f (take k xs) x)
+
+pub map-map_list : {A B C : Type 0} (f : B → C) (g : A → B) (xs : List A) → map f (map g xs) ≡ map (λ x. f (g x)) xs
+map-map_list f g [] = refl
+map-map_list f g (x ∷ xs) = ap (λ ys. f (g x) ∷ ys) (map-map_list f g xs)
+
+-- ---- places
+
+places_from-one : {A : Type 0} (k : ℕ) (test : A → Bool) (xs : List A) (x : A) → places_from k test (xs ++ x ∷ []) ≡ places_from k test xs ++ (if test x then ((k + length xs) ∷ []) else [])
+places_from-one k test [] x = ap (λ n. if test x then (n ∷ []) else []) (let e : k ≡ k + 0 = omega arith in e)
+places_from-one {A} k test (y ∷ xs) x = go (test y) (places_from-one (k + 1) test xs x)
+  where
+    go : (b : Bool) → places_from (k + 1) test (xs ++ x ∷ []) ≡ places_from (k + 1) test xs ++ (if test x then ((k + 1 + length xs) ∷ []) else []) → (if b then (k ∷ places_from (k + 1) test (xs ++ x ∷ [])) else places_from (k + 1) test (xs ++ x ∷ [])) ≡ (if b then (k ∷ places_from (k + 1) test xs) else places_from (k + 1) test xs) ++ (if test x then ((k + suc (length xs)) ∷ []) else [])
+    go true e = ap (λ ys. k ∷ ys) (e ∙ ap (λ n. places_from (k + 1) test xs ++ (if test x then (n ∷ []) else [])) (let f : k + 1 + length xs ≡ k + suc (length xs) = omega arith in f))
+    go false e = e ∙ ap (λ n. places_from (k + 1) test xs ++ (if test x then (n ∷ []) else [])) (let f : k + 1 + length xs ≡ k + suc (length xs) = omega arith in f)
+
+-- the places of the flags that are set are those of the items that pass
+pub places_from-flags : {A : Type 0} (k : ℕ) (test : A → Bool) (xs : List A) → places_from k (λ (flag : Bool). flag) (map test xs) ≡ places_from k test xs
+places_from-flags k test [] = refl
+places_from-flags {A} k test (x ∷ xs) = go (test x) (places_from-flags (k + 1) test xs)
+  where
+    go : (b : Bool) → places_from (k + 1) (λ (flag : Bool). flag) (map test xs) ≡ places_from (k + 1) test xs → (if b then (k ∷ places_from (k + 1) (λ (flag : Bool). flag) (map test xs)) else places_from (k + 1) (λ (flag : Bool). flag) (map test xs)) ≡ (if b then (k ∷ places_from (k + 1) test xs) else places_from (k + 1) test xs)
+    go true e = ap (λ ys. k ∷ ys) e
+    go false e = e
+
+length-take_short : {A : Type 0} (xs : List A) (k : ℕ) (x : A) → slice_get xs k ≡ Some x → length (take k xs) ≡ k
+length-take_short xs k x h = length-take k xs ∙ (let l = slice_get_within xs k x h in let e : min k (length xs) ≡ k = omega (arith, l) in e)
+
+-- one more flag
+pub zeros_more : (first t variable : ℕ) (flags : List Bool) (flag : Bool) (start before after : List Fact) → slice_get flags t ≡ Some flag → variable ≡ first + t → before ≡ start ++ map (λ t. Eq (single_row (first + t) (pos 1) (pos 0))) (places_from 0 (λ flag. flag) (take t flags)) → after ≡ before ++ zero_if variable flag → after ≡ start ++ map (λ t. Eq (single_row (first + t) (pos 1) (pos 0))) (places_from 0 (λ flag. flag) (take (t + 1) flags))
+zeros_more first t variable flags flag start before after h at b e =
+    let f : ℕ → Fact = λ t. Eq (single_row (first + t) (pos 1) (pos 0)) in
+    let more : places_from 0 (λ flag. flag) (take (t + 1) flags) ≡ places_from 0 (λ flag. flag) (take t flags) ++ (if flag then (t ∷ []) else []) =
+        ap (places_from 0 (λ flag. flag)) (take_one_more flags t flag h)
+        ∙ places_from-one 0 (λ flag. flag) (take t flags) flag
+        ∙ ap (λ n. places_from 0 (λ flag. flag) (take t flags) ++ (if flag then (n ∷ []) else [])) (ap (λ n. 0 + n) (length-take_short flags t flag h) ∙ zero-add t) in
+    let old = map f (places_from 0 (λ flag. flag) (take t flags)) in
+    e
+    ∙ ap (λ fs. fs ++ zero_if variable flag) b
+    ∙ append_assoc start old (zero_if variable flag)
+    ∙ ap (λ fs. start ++ (old ++ fs)) (ap (λ n. zero_if n flag) at ∙ last flag)
+    ∙ ap (λ fs. start ++ fs) (sym (ap (map f) more ∙ map-append f (places_from 0 (λ flag. flag) (take t flags)) (if flag then (t ∷ []) else [])))
+  where
+    last : (b : Bool) → zero_if (first + t) b ≡ map (λ t. Eq (single_row (first + t) (pos 1) (pos 0))) (if b then (t ∷ []) else [])
+    last true = refl
+    last false = refl
+
+pub zeros_all : (first t : ℕ) (flags : List Bool) (start facts : List Fact) → length flags ≤ t → facts ≡ start ++ map (λ t. Eq (single_row (first + t) (pos 1) (pos 0))) (places_from 0 (λ flag. flag) (take t flags)) → facts ≡ start ++ map (λ t. Eq (single_row (first + t) (pos 1) (pos 0))) (places_from 0 (λ flag. flag) flags)
+zeros_all first t flags start facts l e =
+    e ∙ ap (λ fs. start ++ map (λ t. Eq (single_row (first + t) (pos 1) (pos 0))) (places_from 0 (λ flag. flag) fs)) (take_all t flags l)
+
+-- ---- flags
+
+pub flags_coefs : {A : Type 0} (test : A → Bool) (xs : List A) (flags : List Bool) (coefs : List ℤ) → flags ≡ map test xs → coefs ≡ map indicator flags → coefs ≡ map (λ x. indicator (test x)) xs
+flags_coefs test xs flags coefs e f = f ∙ ap (map indicator) e ∙ map-map_list indicator test xs
+
+pub length-coefs : {A : Type 0} (test : A → Bool) (xs : List A) (flags : List Bool) (coefs : List ℤ) → flags ≡ map test xs → coefs ≡ map indicator flags → length coefs ≡ length xs
+length-coefs test xs flags coefs e f =
+    ap length (flags_coefs test xs flags coefs e f) ∙ length-map xs (λ x. indicator (test x))
+
+pub moves_zero : (leaf : LeafModel) (test : Move → Bool) (first : ℕ) (flags : List Bool) (start facts : List Fact) → first ≡ move_variable leaf 0 → flags ≡ map test leaf.moves → facts ≡ start ++ map (λ t. Eq (single_row (first + t) (pos 1) (pos 0))) (places_from 0 (λ flag. flag) flags) → facts ≡ start ++ none_taken leaf test
+moves_zero leaf test first flags start facts at e f =
+    f
+    ∙ ap (λ fs. start ++ fs) (ap (λ n. map (λ t. Eq (single_row (n + t) (pos 1) (pos 0))) (places_from 0 (λ flag. flag) flags)) (at ∙ (let k : move_variable leaf 0 ≡ length leaf.inputs + length leaf.states = omega arith in k))
+    ∙ ap (λ fs. map (λ t. Eq (single_row (move_variable leaf t) (pos 1) (pos 0))) (places_from 0 (λ flag. flag) fs)) e
+    ∙ ap (map (λ t. Eq (single_row (move_variable leaf t) (pos 1) (pos 0)))) (places_from-flags 0 test leaf.moves))
+
+pub inputs_zero : (leaf : LeafModel) (set : List ℕ) (flags : List Bool) (start facts : List Fact) → flags ≡ map (is_in set) leaf.inputs → facts ≡ start ++ map (λ t. Eq (single_row (0 + t) (pos 1) (pos 0))) (places_from 0 (λ flag. flag) flags) → facts ≡ start ++ none_started leaf set
+inputs_zero leaf set flags start facts e f =
+    let plain : ◌≡◌ {A = ℕ → Fact} (λ t. Eq (single_row (0 + t) (pos 1) (pos 0))) (λ t. Eq (single_row t (pos 1) (pos 0))) = λ i t. Eq (single_row (zero-add t i) (pos 1) (pos 0)) in
+    f
+    ∙ ap (λ fs. start ++ fs) (ap (λ g. map g (places_from 0 (λ flag. flag) flags)) plain
+    ∙ ap (λ fs. map (λ t. Eq (single_row t (pos 1) (pos 0))) (places_from 0 (λ flag. flag) fs)) e
+    ∙ ap (map (λ t. Eq (single_row t (pos 1) (pos 0)))) (places_from-flags 0 (is_in set) leaf.inputs))
+
+-- ---- partners
+
+any-one : {A : Type 0} (test : A → Bool) (xs : List A) (x : A) → list_any test (xs ++ x ∷ []) ≡ (list_any test xs || test x)
+any-one test [] x = or_no (test x)
+  where
+    or_no : (b : Bool) → b || false ≡ b
+    or_no true = refl
+    or_no false = refl
+any-one test (y ∷ xs) x = ap (λ b. test y || b) (any-one test xs x) ∙ or-or (test y) (list_any test xs) (test x)
+  where
+    or-or : (a b c : Bool) → a || (b || c) ≡ (a || b) || c
+    or-or true b c = refl
+    or-or false b c = refl
+
+pub partners_more : (leaf : LeafModel) (p t : ℕ) (taken : Move) (table after : List Bool) → slice_get leaf.moves t ≡ Some taken → ArePartners leaf p t table → length after ≡ length table → ((q : ℕ) → q < length table → get_or after q false ≡ (get_or table q false || takes p q taken)) → ArePartners leaf p (t + 1) after
+partners_more leaf p t taken table after h are long each = record {
+  long = long ∙ are.long;
+  each = λ q l. each q (let m : q < length table = omega (arith, are.long) in m) ∙ ap (λ b. b || takes p q taken) (are.each q l) ∙ sym (ap (list_any (takes p q)) (take_one_more leaf.moves t taken h) ∙ any-one (takes p q) (take t leaf.moves) taken);
+}
+
+-- what the whole table says
+pub partner_is : (leaf : LeafModel) (p q : ℕ) (table : List Bool) → ArePartners leaf p (length leaf.moves) table → q < length leaf.states → get_or table q false ≡ can_meet leaf p q
+partner_is leaf p q table are l =
+    are.each q l ∙ ap (list_any (takes p q)) (take_all (length leaf.moves) leaf.moves (let k : length leaf.moves ≤ length leaf.moves = omega arith in k))
+
+range-suc : (a n : ℕ) → range_with_len a (suc n) ≡ range_with_len a n ++ (a + n) ∷ []
+range-suc a zero = ap (λ z. z ∷ []) (let e : a ≡ a + 0 = omega arith in e)
+range-suc a (suc n) =
+    ap (λ zs. a ∷ zs) (range-suc (a + 1) n ∙ ap (λ z. range_with_len (a + 1) n ++ z ∷ []) (let e : a + 1 + n ≡ a + suc n = omega arith in e))
+
+range-one : (a n : ℕ) → range_with_len a (n + 1) ≡ range_with_len a n ++ (a + n) ∷ []
+range-one a n = ap (range_with_len a) (let e : n + 1 ≡ suc n = omega arith in e) ∙ range-suc a n
+
+filter-one : (test : ℕ → Bool) (xs : List ℕ) (x : ℕ) → filter test (xs ++ x ∷ []) ≡ filter test xs ++ (if test x then (x ∷ []) else [])
+filter-one test [] x = refl
+filter-one test (y ∷ xs) x = go (test y) (filter-one test xs x)
+  where
+    go : (b : Bool) → filter test (xs ++ x ∷ []) ≡ filter test xs ++ (if test x then (x ∷ []) else []) → cond b (y ∷ filter test (xs ++ x ∷ [])) (filter test (xs ++ x ∷ [])) ≡ cond b (y ∷ filter test xs) (filter test xs) ++ (if test x then (x ∷ []) else [])
+    go true e = ap (λ zs. y ∷ zs) e
+    go false e = e
+
+-- one more state that can't be there
+pub unmet_more : (leaf : LeafModel) (p q variable : ℕ) (flag : Bool) (table : List Bool) (before after : List Fact) → ArePartners leaf p (length leaf.moves) table → q < length leaf.states → variable ≡ state_variable leaf q → flag ≡ (not (q == p) && get_or table q false) → before ≡ occurs leaf p ∷ map (absent leaf) (filter (λ q. not (q == p) && can_meet leaf p q) (range_with_len 0 q)) → after ≡ before ++ zero_if variable flag → after ≡ occurs leaf p ∷ map (absent leaf) (filter (λ q. not (q == p) && can_meet leaf p q) (range_with_len 0 (q + 1)))
+unmet_more leaf p q variable flag table before after are l at is b e =
+    let test : ℕ → Bool = λ q. not (q == p) && can_meet leaf p q in
+    let flag_is : flag ≡ (not (q == p) && can_meet leaf p q) = is ∙ ap (λ b. not (q == p) && b) (partner_is leaf p q table are l) in
+    let more : filter test (range_with_len 0 (q + 1)) ≡ filter test (range_with_len 0 q) ++ (if test q then (q ∷ []) else []) =
+        ap (filter test) (range-one 0 q ∙ ap (λ z. range_with_len 0 q ++ z ∷ []) (zero-add q)) ∙ filter-one test (range_with_len 0 q) q in
+    e
+    ∙ ap (λ fs. fs ++ zero_if variable flag) b
+    ∙ ap (λ fs. occurs leaf p ∷ (map (absent leaf) (filter test (range_with_len 0 q)) ++ fs)) (ap (λ n. zero_if n flag) at ∙ ap (zero_if (state_variable leaf q)) flag_is ∙ last (test q))
+    ∙ ap (λ fs. occurs leaf p ∷ fs) (sym (ap (map (absent leaf)) more ∙ map-append (absent leaf) (filter test (range_with_len 0 q)) (if test q then (q ∷ []) else [])))
+  where
+    last : (b : Bool) → zero_if (state_variable leaf q) b ≡ map (absent leaf) (if b then (q ∷ []) else [])
+    last true = refl
+    last false = refl
+
+pub unmet_all : (leaf : LeafModel) (p q : ℕ) (flag : Bool) (table : List Bool) (before after : List Fact) → ArePartners leaf p (length leaf.moves) table → p < length leaf.states → q ≡ length leaf.states → flag ≡ get_or table p false → before ≡ occurs leaf p ∷ map (absent leaf) (filter (λ q. not (q == p) && can_meet leaf p q) (range_with_len 0 q)) → after ≡ before ++ alone_if leaf p flag → after ≡ occurs leaf p ∷ map (absent leaf) (filter (λ q. not (q == p) && can_meet leaf p q) (states_of leaf)) ++ (if can_meet leaf p p then (alone leaf p ∷ []) else [])
+unmet_all leaf p q flag table before after are l all is b e =
+    e
+    ∙ ap (λ fs. fs ++ alone_if leaf p flag) b
+    ∙ ap (λ n. (occurs leaf p ∷ map (absent leaf) (filter (λ q. not (q == p) && can_meet leaf p q) (range_with_len 0 n))) ++ alone_if leaf p flag) all
+    ∙ ap (λ b. (occurs leaf p ∷ map (absent leaf) (filter (λ q. not (q == p) && can_meet leaf p q) (states_of leaf))) ++ alone_if leaf p b) (is ∙ partner_is leaf p p table are l)
+
+-- the states of a move are below the greatest number that a leaf may have
+pub move_small : (leaf : LeafModel) (t : ℕ) (taken : Move) → IsLeaf leaf → slice_get leaf.moves t ≡ Some taken → IsMoveBelow 256 taken
+move_small leaf t taken is h =
+    let below = All-slice_get (IsMoveBelow (length leaf.states)) leaf.moves t taken is.moves h in
+    let few = is.states in
+    (omega (arith, few, below.0), omega (arith, few, below.1), omega (arith, few, below.2), omega (arith, few, below.3))
+
+-- what is read at an index that the code computes
+pub read_is : (xs : List Bool) (i j : ℕ) (b : Bool) → b ≡ get_or xs i b → i ≡ j → j < length xs → b ≡ get_or xs j false
+read_is xs i j b e at l =
+    let h = slice_get_read xs (length xs) j b refl l (e ∙ ap (λ n. get_or xs n b) at) in
+    sym (get_or_from_slice_get xs j b false h)
+
+pub contains_is : (listed set : List ℕ) (inside : List Bool) (i q : ℕ) (b : Bool) → b ≡ get_or inside i b → i ≡ q → q < 256 → inside ≡ map (is_in listed) (range_with_len 0 256) → listed ≡ set → b ≡ is_in set q
+contains_is listed set inside i q b e at l table same =
+    e
+    ∙ ap (λ n. get_or inside n b) at
+    ∙ ap (λ xs. get_or xs q b) table
+    ∙ get_or-map-range_with_len (is_in listed) 0 256 q q b l (zero-add q)
+    ∙ ap (λ s. is_in s q) same

@@ -1,0 +1,194 @@
+-- At a terminal end the counts meet all facts of one of the cases of a `Present` or a `Twin` node.
+use Rattle.std.proofs.Common.{◌≡◌, ◌≢◌, ◌⊎◌, inl, inr, ℕ, zero, suc, ◌+◌, ◌*◌, ◌<◌, ◌≤◌, Bool, true, false, cond, not, ◌&&◌, ◌||◌, List, [], ◌∷◌, ◌++◌, length, map, get_or, refl, ap, sym, ◌∙◌, arith}
+use Rattle.std.specs.Prelude.{Some, pos, negsuc, ◌+ℤ◌, ◌≤ℤ◌, ◌*ℤ◌, ◌==◌, if◌then◌else◌, slice_get, slice_set, filter, All}
+use Rattle.std.specs.List.{range_with_len}
+use Rattle.std.proofs.Math.IntN.{pos-*ℤ-pos, *ℤ-zero}
+use Rattle.std.proofs.lemmas.Int.{ints}
+use Rattle.std.proofs.lemmas.Bool.{eq-eqb, eqb-true, cases_lt}
+use Rattle.std.proofs.lemmas.Bool.Decides.{eqb_tells}
+use Rattle.std.proofs.lemmas.List.Elements.{All-nil, All-cons, All-map, All-append, All-head, All-tail}
+use Rattle.pop_net.specs.declared.leaf.Move.{Move}
+use Rattle.pop_net.specs.LeafModel.{LeafModel, one_at, pre, is_silent, same_pair}
+use Rattle.pop_net.specs.Step.{LeafStep}
+use Rattle.pop_net.specs.Terminal.{IsTerminal}
+use Rattle.pop_net.specs.Reaction.{takes}
+use Rattle.pop_net.proofs.Reactions.{and_left, and_right, not_true}
+use Rattle.cert_base.specs.declared.fact.Fact.{Fact}
+use Rattle.cert_base.specs.Rows.{state_variable}
+use Rattle.cert_base.specs.Valuation.{Valuation, MeetsFact}
+use Rattle.cert_base.specs.FactsAndCases.{states_of, can_meet, absent, occurs, alone, not_twice, present_cases}
+use Rattle.cert_base.proofs.Agents.{agents_of, enabled_test-true, move_step}
+use Rattle.cert_base.proofs.Dead.{IsEnabledIn}
+use Rattle.cert_base.proofs.Numbers.{number_in, slice_get-set_other}
+use Rattle.cert_base.proofs.Openings.{in_first, in_rest}
+use Rattle.cert_base.specs.Ends.{MeetsOne}
+use Rattle.cert_base.proofs.Tests.{list_any-contains}
+
+pub slice_get-set_same : {A : Type 0} (xs : List A) (a : ℕ) (x y : A) → slice_get xs a ≡ Some x → slice_get (slice_set xs a y) a ≡ Some y
+slice_get-set_same [] a x y h = cc
+slice_get-set_same (z ∷ xs) zero x y h = refl
+slice_get-set_same (z ∷ xs) (suc a) x y h = slice_get-set_same xs a x y h
+
+same_some : {A : Type 0} (x y : A) → Some x ≡ Some y → x ≡ y
+same_some x y e = cc
+
+unchanged_silent : (t : Move) → t.r ≡ t.p → t.s ≡ t.q → is_silent t ≡ true
+unchanged_silent t e f = rw (eq-eqb t.p t.r (sym e), eq-eqb t.q t.s (sym f)) refl
+
+-- at a terminal crowd no non-silent move is enabled
+pub terminal_dead : (leaf : LeafModel) (crowd : List ℕ) → IsTerminal (LeafStep leaf) crowd → (n : ℕ) (t : Move) → slice_get leaf.moves n ≡ Some t → is_silent t ≡ false → IsEnabledIn crowd t → ⊥
+terminal_dead leaf crowd terminal n t m s enabled =
+    let two = agents_of crowd t (enabled_test-true crowd t enabled) in
+    let a = two.0 in
+    let b = two.1 in
+    let after = slice_set (slice_set crowd a t.r) b t.s in
+    let stays : after ≡ crowd = terminal after (move_step leaf crowd n t a b m s two.2 two.3 two.4) in
+    let there : slice_get (slice_set crowd a t.r) b ≡ Some t.q = slice_get-set_other crowd a b t.r t.q two.2 two.4 in
+    let second : t.s ≡ t.q = same_some t.s t.q (sym (slice_get-set_same (slice_set crowd a t.r) b t.q t.s there) ∙ ap (λ c. slice_get c b) stays ∙ two.4) in
+    let here : slice_get after a ≡ Some t.r = slice_get-set_other (slice_set crowd a t.r) b a t.s t.r (λ e. two.2 (sym e)) (slice_get-set_same crowd a t.p t.r two.3) in
+    let first : t.r ≡ t.p = same_some t.r t.p (sym here ∙ ap (λ c. slice_get c a) stays ∙ two.3) in
+    let f : true ≡ false = sym (unchanged_silent t first second) ∙ s in
+    cc
+
+-- p and q are the states before the move, in one order or the other
+pair_cases : (p q u v : ℕ) → same_pair p q u v ≡ true → ((p ≡ u) × (q ≡ v)) ⊎ ((p ≡ v) × (q ≡ u))
+pair_cases p q u v e = go ((p == u) && (q == v)) refl e
+  where
+    go : (b : Bool) → (p == u) && (q == v) ≡ b → b || (p == v) && (q == u) ≡ true → ((p ≡ u) × (q ≡ v)) ⊎ ((p ≡ v) × (q ≡ u))
+    go true h e = inl (eqb-true p u (and_left _ _ h), eqb-true q v (and_right (p == u) _ h))
+    go false h e = inr (eqb-true p v (and_left _ _ e), eqb-true q u (and_right (p == v) _ e))
+
+pre_pair : (t : Move) (p q z : ℕ) → ((p ≡ t.p) × (q ≡ t.q)) ⊎ ((p ≡ t.q) × (q ≡ t.p)) → pre t z ≡ one_at p z + one_at q z
+pre_pair t p q z (inl e) = rw (e.0, e.1) refl
+pre_pair t p q z (inr e) = rw (e.0, e.1) (omega arith)
+
+-- two states that can meet are not both there at a terminal crowd
+pub cannot_meet : (leaf : LeafModel) (crowd : List ℕ) (p q : ℕ) → IsTerminal (LeafStep leaf) crowd → can_meet leaf p q ≡ true → ((z : ℕ) → one_at p z + one_at q z ≤ number_in z crowd) → ⊥
+cannot_meet leaf crowd p q terminal e there =
+    let found = list_any-contains (takes p q) leaf.moves e in
+    let t = found.0 in
+    let pair = pair_cases p q t.p t.q (and_right (not (is_silent t)) _ found.2) in
+    terminal_dead leaf crowd terminal found.1.0 t (listed leaf.moves found.1.0 t found.1.1 found.1.2) (not_true _ (and_left _ _ found.2)) (λ z. rw (pre_pair t p q z pair) (there z))
+  where
+    listed : (moves : List Move) (k : ℕ) (t : Move) → k < length moves → get_or moves k t ≡ t → slice_get moves k ≡ Some t
+    listed [] k t l e = absurd (omega arith)
+    listed (u ∷ moves) zero t l e = ap Some e
+    listed (u ∷ moves) (suc k) t l e = listed moves k t (omega arith) e
+
+pub one_times : (n : ℕ) → (pos 1 *ℤ pos n) ≡ pos n
+one_times n = pos-*ℤ-pos 1 n ∙ ap pos (let e : 1 * n ≡ n = omega arith in e)
+
+-- ---- what the facts on one state say
+
+absent_met : (leaf : LeafModel) (count : Valuation) (q : ℕ) → count (state_variable leaf q) ≡ 0 → MeetsFact count (absent leaf q)
+absent_met leaf count q e = let o = one_times (count (state_variable leaf q)) in omega (arith, ints, o, e)
+
+occurs_met : (leaf : LeafModel) (count : Valuation) (q : ℕ) → 1 ≤ count (state_variable leaf q) → MeetsFact count (occurs leaf q)
+occurs_met leaf count q l = let o = one_times (count (state_variable leaf q)) in omega (arith, ints, o, l)
+
+alone_met : (leaf : LeafModel) (count : Valuation) (q : ℕ) → count (state_variable leaf q) ≡ 1 → MeetsFact count (alone leaf q)
+alone_met leaf count q e = let o = one_times (count (state_variable leaf q)) in omega (arith, ints, o, e)
+
+minus_one_times : (n : ℕ) → n ≤ 1 → pos 0 ≤ℤ ((negsuc 0 *ℤ pos n) +ℤ pos 1)
+minus_one_times zero l = rw (*ℤ-zero (negsuc 0)) (omega (arith, ints))
+minus_one_times (suc zero) l = omega (arith, ints)
+minus_one_times (suc (suc n)) l = absurd (omega arith)
+
+not_twice_met : (leaf : LeafModel) (count : Valuation) (q : ℕ) → count (state_variable leaf q) ≤ 1 → MeetsFact count (not_twice leaf q)
+not_twice_met leaf count q l =
+    let one = minus_one_times (count (state_variable leaf q)) l in omega (arith, ints, one)
+
+-- what holds of the items that pass a test
+all_filtered : (P Q : ℕ → Type 0) (test : ℕ → Bool) (xs : List ℕ) → ((x : ℕ) → Q x → test x ≡ true → P x) → All Q xs → All P (filter test xs)
+all_filtered P Q test [] f all = All-nil P
+all_filtered P Q test (x ∷ xs) f all =
+    go (test x) refl (all_filtered P Q test xs f (All-tail Q x xs all))
+  where
+    go : (b : Bool) → test x ≡ b → All P (filter test xs) → All P (cond b (x ∷ filter test xs) (filter test xs))
+    go true e more = All-cons P x (filter test xs) (f x (All-head Q x xs all) e) more
+    go false e more = more
+
+in_range : (a n : ℕ) → All (λ q. q < a + n) (range_with_len a n)
+in_range a zero = All-nil (λ (q : ℕ). q < a + 0)
+in_range a (suc n) =
+    All-cons (λ (q : ℕ). q < a + suc n) a (range_with_len (a + 1) n) (omega arith)
+    (λ k d l. omega (arith, in_range (a + 1) n k d l))
+
+-- the counts of the states are those of a crowd
+abbrev pub CountsStates : LeafModel → Valuation → List ℕ → Type 0
+CountsStates leaf count end = (q : ℕ) → q < length leaf.states → count (state_variable leaf q) ≡ number_in q end
+
+one_self : (p : ℕ) → one_at p p ≡ 1
+one_self p = rw (eq-eqb p p refl) refl
+
+two_kinds : (crowd : List ℕ) (p q : ℕ) → p ≢ q → 1 ≤ number_in p crowd → 1 ≤ number_in q crowd → (z : ℕ) → one_at p z + one_at q z ≤ number_in z crowd
+two_kinds crowd p q ne lp lq z = go (eqb_tells p z) (eqb_tells q z)
+  where
+    go : ((p == z) ≡ true) × (p ≡ z) ⊎ ((p == z) ≡ false) × (p ≢ z) → ((q == z) ≡ true) × (q ≡ z) ⊎ ((q == z) ≡ false) × (q ≢ z) → one_at p z + one_at q z ≤ number_in z crowd
+    go (inl e) (inl f) = absurd (ne (e.1 ∙ sym f.1))
+    go (inl e) (inr f) = let l : 1 ≤ number_in z crowd = rw (← e.1) lp in rw (e.0, f.0) l
+    go (inr e) (inl f) = let l : 1 ≤ number_in z crowd = rw (← f.1) lq in rw (e.0, f.0) l
+    go (inr e) (inr f) = rw (e.0, f.0) (omega arith)
+
+twice : (crowd : List ℕ) (p : ℕ) → 2 ≤ number_in p crowd → (z : ℕ) → one_at p z + one_at p z ≤ number_in z crowd
+twice crowd p l z = go (eqb_tells p z)
+  where
+    go : ((p == z) ≡ true) × (p ≡ z) ⊎ ((p == z) ≡ false) × (p ≢ z) → one_at p z + one_at p z ≤ number_in z crowd
+    go (inl e) = let m : 2 ≤ number_in z crowd = rw (← e.1) l in rw e.0 m
+    go (inr e) = rw e.0 (omega arith)
+
+-- a state that can meet itself is there once at most
+pub once_at_most : (leaf : LeafModel) (crowd : List ℕ) (p : ℕ) → IsTerminal (LeafStep leaf) crowd → can_meet leaf p p ≡ true → number_in p crowd ≤ 1
+once_at_most leaf crowd p terminal e = go (cases_lt 1 (number_in p crowd))
+  where
+    go : (1 < number_in p crowd) ⊎ (number_in p crowd ≤ 1) → number_in p crowd ≤ 1
+    go (inl l) = absurd (cannot_meet leaf crowd p p terminal e (twice crowd p (let m : 2 ≤ number_in p crowd = omega (arith, l) in m)))
+    go (inr l) = l
+
+module _ (leaf : LeafModel) (count : Valuation) (end : List ℕ) (counts : CountsStates leaf count end) (terminal : IsTerminal (LeafStep leaf) end) (p : ℕ) (lp : p < length leaf.states) where
+  -- whether a state is another one, and could meet p
+  abbrev meets : ℕ → Bool
+  meets q = not (q == p) && can_meet leaf p q
+
+  other_absent : 1 ≤ number_in p end → (q : ℕ) → q < length leaf.states → meets q ≡ true → MeetsFact count (absent leaf q)
+  other_absent some q lq e = absent_met leaf count q (counts q lq ∙ zero_there (cases_lt 0 (number_in q end)))
+    where
+      zero_there : (0 < number_in q end) ⊎ (number_in q end ≤ 0) → number_in q end ≡ 0
+      zero_there (inr none) = omega (arith, none)
+      zero_there (inl l) =
+          absurd (cannot_meet leaf end p q terminal (and_right (not (q == p)) _ e) (two_kinds end p q (apart (and_left _ _ e)) some (let m : 1 ≤ number_in q end = omega (arith, l) in m)))
+        where
+          apart : not (q == p) ≡ true → p ≢ q
+          apart h same = let f : true ≡ false = sym (eq-eqb q p (sym same)) ∙ not_true _ h in cc
+
+  others_met : 1 ≤ number_in p end → All (MeetsFact count) (map (absent leaf) (filter meets (states_of leaf)))
+  others_met some =
+      All-map (MeetsFact count) (absent leaf) (filter meets (states_of leaf))
+      (all_filtered (λ q. MeetsFact count (absent leaf q)) (λ q. q < 0 + length leaf.states) meets (states_of leaf) (λ q l e. other_absent some q (omega (arith, l)) e) (in_range 0 (length leaf.states)))
+
+  alone_if : 1 ≤ number_in p end → (b : Bool) → can_meet leaf p p ≡ b → All (MeetsFact count) (if b then (alone leaf p ∷ []) else [])
+  alone_if some true e =
+      All-cons (MeetsFact count) (alone leaf p) [] (alone_met leaf count p (omega (arith, some, counts p lp, once_at_most leaf end p terminal e))) (All-nil (MeetsFact count))
+  alone_if some false e = All-nil (MeetsFact count)
+
+  -- the counts of a terminal end meet all facts of one of the cases
+  pub present_met : MeetsOne count (present_cases leaf p)
+  present_met = go (cases_lt 0 (number_in p end))
+    where
+      go : (0 < number_in p end) ⊎ (number_in p end ≤ 0) → MeetsOne count (present_cases leaf p)
+      go (inr none) =
+          in_first count (absent leaf p ∷ []) ((occurs leaf p ∷ map (absent leaf) (filter meets (states_of leaf)) ++ (if can_meet leaf p p then (alone leaf p ∷ []) else [])) ∷ [])
+          (All-cons (MeetsFact count) (absent leaf p) [] (absent_met leaf count p (omega (arith, none, counts p lp))) (All-nil (MeetsFact count)))
+      go (inl l) =
+          let some : 1 ≤ number_in p end = omega (arith, l) in
+          in_rest count (absent leaf p ∷ []) ((occurs leaf p ∷ map (absent leaf) (filter meets (states_of leaf)) ++ (if can_meet leaf p p then (alone leaf p ∷ []) else [])) ∷ [])
+          (in_first count (occurs leaf p ∷ map (absent leaf) (filter meets (states_of leaf)) ++ (if can_meet leaf p p then (alone leaf p ∷ []) else [])) []
+          (All-append (MeetsFact count) (occurs leaf p ∷ map (absent leaf) (filter meets (states_of leaf))) (if can_meet leaf p p then (alone leaf p ∷ []) else [])
+          (All-cons (MeetsFact count) (occurs leaf p) (map (absent leaf) (filter meets (states_of leaf))) (occurs_met leaf count p (omega (arith, some, counts p lp))) (others_met some))
+          (alone_if some (can_meet leaf p p) refl)))
+
+  -- where the state can meet itself, they meet its one fact
+  pub twin_met : can_meet leaf p p ≡ true → MeetsOne count ((not_twice leaf p ∷ []) ∷ [])
+  twin_met e =
+      in_first count (not_twice leaf p ∷ []) []
+      (All-cons (MeetsFact count) (not_twice leaf p) [] (not_twice_met leaf count p (omega (arith, counts p lp, once_at_most leaf end p terminal e))) (All-nil (MeetsFact count)))

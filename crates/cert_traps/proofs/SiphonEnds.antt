@@ -1,0 +1,186 @@
+-- At the end of an execution the counts meet all facts of one of the cases of a `Siphon` node.
+use Rattle.std.proofs.Common.{◌≡◌, ◌≢◌, ◌⊎◌, inl, inr, ℕ, zero, suc, ◌+◌, ◌<◌, ◌≤◌, Bool, true, false, not, ◌&&◌, ◌||◌, List, [], ◌∷◌, ◌++◌, length, map, replicate, refl, ap, sym, subst, ◌∙◌, zero-add, arith}
+use Rattle.std.specs.Prelude.{Some, ℤ, pos, negsuc, ◌+ℤ◌, ◌==◌, slice_get, slice_set, slice_index, All}
+use Rattle.std.proofs.lemmas.Int.{ints}
+use Rattle.std.proofs.lemmas.Bool.{eq-eqb, cases_lt}
+use Rattle.std.proofs.lemmas.Bool.Decides.{eqb_tells}
+use Rattle.std.proofs.lemmas.List.Elements.{All-nil, All-cons, All-map, All-append, All-replicate, All-set}
+use Rattle.std.proofs.lemmas.List.FromFn.{length-range_with_len}
+use Rattle.std.proofs.lemmas.Option.{slice_get_within, get_or_from_slice_get, slice_get-get_or}
+use Rattle.pop_net.specs.declared.leaf.Move.{Move}
+use Rattle.pop_net.specs.LeafModel.{LeafModel, one_at}
+use Rattle.pop_net.specs.InputCrowd.{starts_from, leaf_input_crowd}
+use Rattle.pop_net.specs.Reachable.{Leads}
+use Rattle.pop_net.specs.Step.{Follows, LeafChange, LeafStep}
+use Rattle.pop_net.proofs.Quiet.{All-slice_get}
+use Rattle.cert_base.specs.declared.fact.Fact.{Fact}
+use Rattle.cert_base.specs.declared.fact.Fact.TheVariants.{Ge, Eq}
+use Rattle.cert_base.specs.Rows.{single_row, move_variable, input_row}
+use Rattle.cert_base.specs.Valuation.{Valuation, MeetsFact, is_by, times_taken, IsOfExecution}
+use Rattle.cert_base.specs.FactsAndCases.{indicator, states_of, is_in, takes_from, puts_into, none_taken, some_taken, count_in, siphon_cases}
+use Rattle.cert_base.specs.Ends.{MeetsOne}
+use Rattle.cert_base.proofs.Dead.{number_in-cons}
+use Rattle.cert_base.proofs.Numbers.{number_in}
+use Rattle.cert_base.proofs.FlowFacts.{dot, terms_value-terms_from}
+use Rattle.cert_base.proofs.Indicators.{sum_if, dot-indicators, row_value-behind, sum_if-none, sum_if-zero, all_places}
+use Rattle.cert_base.proofs.WrongEnds.{range_get}
+use Rattle.cert_base.proofs.Openings.{in_first, in_rest}
+use Rattle.cert_traps.proofs.TrapEnds.{or_false, or_left_false, or_right_false, both_before, takes_none, sum_zero, single_none}
+
+-- no agent is in a state of the set
+abbrev NoneInside : List ℕ → List ℕ → Type 0
+NoneInside set crowd = All (λ q. is_in set q ≡ false) crowd
+
+-- a move that puts into the set and takes nothing from it
+abbrev pub enters_set : List ℕ → Move → Bool
+enters_set set t = puts_into set t && not (takes_from set t)
+
+takes_by : (set : List ℕ) (t : Move) (x y x' y' : ℕ) → Follows t x y x' y' ⊎ Follows t y x y' x' → is_in set x ≡ false → is_in set y ≡ false → takes_from set t ≡ false
+takes_by set t x y x' y' (inl f) e g = or_false _ _ (ap (is_in set) (sym f.0) ∙ e) (ap (is_in set) (sym f.1) ∙ g)
+takes_by set t x y x' y' (inr f) e g = or_false _ _ (ap (is_in set) (sym f.0) ∙ g) (ap (is_in set) (sym f.1) ∙ e)
+
+both_outside : (set : List ℕ) (t : Move) (x y x' y' : ℕ) → Follows t x y x' y' ⊎ Follows t y x y' x' → puts_into set t ≡ false → (is_in set x' ≡ false) × (is_in set y' ≡ false)
+both_outside set t x y x' y' (inl f) e = (ap (is_in set) f.2 ∙ or_left_false _ _ e, ap (is_in set) f.3 ∙ or_right_false (is_in set t.r) _ e)
+both_outside set t x y x' y' (inr f) e = (ap (is_in set) f.3 ∙ or_right_false (is_in set t.r) _ e, ap (is_in set) f.2 ∙ or_left_false _ _ e)
+
+module _ (leaf : LeafModel) (set : List ℕ) (before after : List ℕ) (s : LeafStep leaf before after) (none : NoneInside set before) where
+  x_outside : is_in set s.x ≡ false
+  x_outside = All-slice_get (λ (q : ℕ). is_in set q ≡ false) before s.a s.x none s.a_had
+
+  y_outside : is_in set s.y ≡ false
+  y_outside = All-slice_get (λ (q : ℕ). is_in set q ≡ false) before s.b s.y none s.b_had
+
+  -- where the two agents go to no state of the set, nobody is in it
+  nobody_after : (is_in set s.x' ≡ false) × (is_in set s.y' ≡ false) → NoneInside set after
+  nobody_after e =
+      subst (λ (c : List ℕ). NoneInside set c) (sym s.others_stay)
+      (All-set (λ (q : ℕ). is_in set q ≡ false) (slice_set before s.a s.x') s.b s.y' e.1 (All-set (λ (q : ℕ). is_in set q ≡ false) before s.a s.x' e.0 none))
+
+  -- a step from outside the set takes nothing from it, and stays outside unless it enters
+  step_on : (c : LeafChange leaf s.x s.y s.x' s.y') → ((n : ℕ) (t : Move) → slice_get leaf.moves n ≡ Some t → enters_set set t ≡ true → is_by n c ≡ 0) → NoneInside set after × ((n : ℕ) (t : Move) → slice_get leaf.moves n ≡ Some t → takes_from set t ≡ true → is_by n c ≡ 0)
+  step_on (inl stay) enters = (nobody_after (ap (is_in set) stay.0 ∙ x_outside, ap (is_in set) stay.1 ∙ y_outside), λ n t h e. refl)
+  step_on (inr m) enters =
+      let takes = takes_by set m.taken s.x s.y s.x' s.y' m.followed x_outside y_outside in
+      let stays = never (enters_set set m.taken) refl in
+      let puts = takes_none (puts_into set m.taken) (takes_from set m.taken) stays takes in
+      (nobody_after (both_outside set m.taken s.x s.y s.x' s.y' m.followed puts), λ n t h e. other n t h e takes (eqb_tells m.number n))
+    where
+      never : (b : Bool) → enters_set set m.taken ≡ b → b ≡ false
+      never false e = refl
+      never true e =
+          let zero_times = enters m.number m.taken m.listed e in
+          let once : one_at m.number m.number ≡ 1 = rw (eq-eqb m.number m.number refl) refl in
+          absurd (omega (arith, zero_times, once))
+
+      other : (n : ℕ) (t : Move) → slice_get leaf.moves n ≡ Some t → takes_from set t ≡ true → takes_from set m.taken ≡ false → ((m.number == n) ≡ true) × (m.number ≡ n) ⊎ ((m.number == n) ≡ false) × (m.number ≢ n) → one_at m.number n ≡ 0
+      other n t h e takes (inr k) = rw k.0 refl
+      other n t h e takes (inl k) =
+          let listed : slice_get leaf.moves n ≡ Some m.taken = ap (slice_get leaf.moves) (sym k.1) ∙ m.listed in
+          let same : t ≡ m.taken = cc in
+          let f : true ≡ false = sym e ∙ ap (takes_from set) same ∙ takes in
+          cc
+
+-- the same over a whole way
+way_on : (leaf : LeafModel) (set : List ℕ) (start : List ℕ) (path : List (List ℕ)) (end : List ℕ) (way : Leads (LeafStep leaf) start path end) → NoneInside set start → ((n : ℕ) (t : Move) → slice_get leaf.moves n ≡ Some t → enters_set set t ≡ true → times_taken leaf n start path end way ≡ 0) → NoneInside set end × ((n : ℕ) (t : Move) → slice_get leaf.moves n ≡ Some t → takes_from set t ≡ true → times_taken leaf n start path end way ≡ 0)
+way_on leaf set start [] end way none enters = (subst (λ (c : List ℕ). NoneInside set c) (sym way) none, λ n t h e. refl)
+way_on leaf set start (next ∷ path) end way none enters =
+    let first = step_on leaf set start next way.0 none way.0.change (λ n t h e. (sum_zero (is_by n way.0.change) (times_taken leaf n next path end way.1) (enters n t h e)).0) in
+    let later = way_on leaf set next path end way.1 first.0 (λ n t h e. (sum_zero (is_by n way.0.change) (times_taken leaf n next path end way.1) (enters n t h e)).1) in
+    (later.0, λ n t h e. (let a = first.1 n t h e in let b = later.1 n t h e in let f : is_by n way.0.change + times_taken leaf n next path end way.1 ≡ 0 = omega (arith, a, b) in f))
+
+-- where no input that starts in the set is given, nobody starts in it
+starts_outside : (set : List ℕ) (start : ℕ → ℕ) (k : ℕ) (counts : List ℕ) → ((i : ℕ) → i < length counts → is_in set (start (k + i)) ≡ true → slice_index counts i ≡ 0) → NoneInside set (starts_from start k counts)
+starts_outside set start k [] f = All-nil (λ (q : ℕ). is_in set q ≡ false)
+starts_outside set start k (n ∷ counts) f =
+    All-append (λ (q : ℕ). is_in set q ≡ false) (replicate n (start k)) (starts_from start (k + 1) counts)
+    (copies n (is_in set (start k)) refl (λ e. f 0 (omega arith) (ap (λ j. is_in set (start j)) (let g : k + 0 ≡ k = omega arith in g) ∙ e)))
+    (starts_outside set start (k + 1) counts (λ i l e. f (suc i) (omega arith) (ap (λ j. is_in set (start j)) (let g : k + suc i ≡ k + 1 + i = omega arith in g) ∙ e)))
+  where
+    copies : (n : ℕ) (b : Bool) → is_in set (start k) ≡ b → (is_in set (start k) ≡ true → n ≡ 0) → All (λ q. is_in set q ≡ false) (replicate n (start k))
+    copies n false e g = All-replicate (λ (q : ℕ). is_in set q ≡ false) n (start k) e
+    copies n true e g =
+        subst (λ (m : ℕ). All (λ q. is_in set q ≡ false) (replicate m (start k))) (sym (g e)) (All-nil (λ (q : ℕ). is_in set q ≡ false))
+
+-- nobody is in a state of the set
+number-outside : (set : List ℕ) (q : ℕ) (crowd : List ℕ) → is_in set q ≡ true → NoneInside set crowd → number_in q crowd ≡ 0
+number-outside set q [] e none = refl
+number-outside set q (x ∷ crowd) e none =
+    let rest = number-outside set q crowd e (λ k d l. none (suc k) d (omega (arith, l))) in
+    let first : is_in set x ≡ false = none 0 x (omega arith) in
+    number_in-cons q x crowd ∙ go first rest (eqb_tells x q)
+  where
+    go : is_in set x ≡ false → number_in q crowd ≡ 0 → ((x == q) ≡ true) × (x ≡ q) ⊎ ((x == q) ≡ false) × (x ≢ q) → one_at x q + number_in q crowd ≡ 0
+    go first rest (inl k) = let f : true ≡ false = sym e ∙ ap (is_in set) (sym k.1) ∙ first in cc
+    go first rest (inr k) = rw k.0 (omega (arith, rest))
+
+module _ (leaf : LeafModel) (set : List ℕ) (count : Valuation) (counts : List ℕ) (path : List (List ℕ)) (end : List ℕ) (way : Leads (LeafStep leaf) (leaf_input_crowd leaf counts) path end) (long : length counts ≡ length leaf.inputs) (is : IsOfExecution leaf count counts path end way) where
+  abbrev places : ℕ
+  places = length leaf.inputs + length leaf.states
+
+  -- where no move entered the set, no such move was taken
+  not_entered : sum_if count (enters_set set) places leaf.moves ≡ 0 → (n : ℕ) (t : Move) → slice_get leaf.moves n ≡ Some t → enters_set set t ≡ true → times_taken leaf n (leaf_input_crowd leaf counts) path end way ≡ 0
+  not_entered e n t h l =
+      sym (is.moves n (slice_get_within leaf.moves n t h)) ∙ sum_if-none count (enters_set set) places leaf.moves e n t h l
+
+  -- where no input of the set is counted, nobody starts in it
+  none_at_start : sum_if count (is_in set) 0 leaf.inputs ≡ 0 → NoneInside set (leaf_input_crowd leaf counts)
+  none_at_start e =
+      starts_outside set (λ variable. slice_index leaf.inputs variable) 0 counts
+      (λ i l h. let m : i < length leaf.inputs = omega (arith, l, long) in
+      let there : slice_get leaf.inputs i ≡ Some (slice_index leaf.inputs i) = slice_get-get_or leaf.inputs i 0 m in
+      sym (is.inputs i m) ∙ ap count (sym (zero-add i)) ∙ sum_if-none count (is_in set) 0 leaf.inputs e i (slice_index leaf.inputs i) there (ap (λ j. is_in set (slice_index leaf.inputs j)) (sym (zero-add i)) ∙ h) )
+
+  not_taken : ((n : ℕ) (t : Move) → slice_get leaf.moves n ≡ Some t → takes_from set t ≡ true → times_taken leaf n (leaf_input_crowd leaf counts) path end way ≡ 0) → All (MeetsFact count) (none_taken leaf (takes_from set))
+  not_taken f =
+      All-map (MeetsFact count) (λ t. Eq (single_row (move_variable leaf t) (pos 1) (pos 0))) _
+      (all_places (λ t. MeetsFact count (Eq (single_row (move_variable leaf t) (pos 1) (pos 0)))) (takes_from set) 0 leaf.moves
+      (λ j t h e. single_none count (move_variable leaf (0 + j)) (ap (λ n. count (move_variable leaf n)) (zero-add j) ∙ is.moves j (slice_get_within leaf.moves j t h) ∙ f j t h e)))
+
+  none_counted : NoneInside set end → sum_if count (is_in set) (length leaf.inputs) (states_of leaf) ≡ 0
+  none_counted none =
+      sum_if-zero count (is_in set) (length leaf.inputs) (states_of leaf)
+      (λ j q h e. let state = range_state j q h in
+      ap (λ z. count (length leaf.inputs + z)) (sym state.1) ∙ is.states q state.0 ∙ number-outside set q end e none)
+    where
+      range_state : (j q : ℕ) → slice_get (states_of leaf) j ≡ Some q → (q < length leaf.states) × (q ≡ j)
+      range_state j q h =
+          let within : j < length leaf.states = omega (arith, slice_get_within (states_of leaf) j q h, length-range_with_len 0 (length leaf.states)) in
+          let there = range_get (length leaf.states) j within in
+          let same : q ≡ j = cc in
+          (omega (arith, within, same), same)
+
+  abbrev first_case : List Fact
+  first_case = some_taken leaf (enters_set set) ∷ []
+
+  abbrev second_case : List Fact
+  second_case = Ge (input_row (map (λ start. indicator (is_in set start)) leaf.inputs) (negsuc 0)) ∷ []
+
+  abbrev third_case : List Fact
+  third_case = none_taken leaf (takes_from set) ++ Eq (count_in leaf set (pos 0)) ∷ []
+
+  third_met : sum_if count (enters_set set) places leaf.moves ≡ 0 → sum_if count (is_in set) 0 leaf.inputs ≡ 0 → All (MeetsFact count) third_case
+  third_met e f =
+      let on = way_on leaf set (leaf_input_crowd leaf counts) path end way (none_at_start f) (not_entered e) in
+      let row = row_value-behind count (is_in set) (length leaf.inputs) (states_of leaf) (pos 0) in
+      let zero_sum = none_counted on.0 in
+      All-append (MeetsFact count) (none_taken leaf (takes_from set)) (Eq (count_in leaf set (pos 0)) ∷ []) (not_taken on.1)
+      (All-cons (MeetsFact count) (Eq (count_in leaf set (pos 0))) [] (omega (arith, ints, row, zero_sum)) (All-nil (MeetsFact count)))
+
+  -- the counts of an execution meet all facts of one of the cases
+  pub siphon_met : MeetsOne count (siphon_cases leaf set)
+  siphon_met = first (cases_lt 0 (sum_if count (enters_set set) places leaf.moves))
+    where
+      second : sum_if count (enters_set set) places leaf.moves ≡ 0 → (0 < sum_if count (is_in set) 0 leaf.inputs) ⊎ (sum_if count (is_in set) 0 leaf.inputs ≤ 0) → MeetsOne count (siphon_cases leaf set)
+      second e (inl l) =
+          let terms = terms_value-terms_from count 0 (map (λ start. indicator (is_in set start)) leaf.inputs) in
+          let sum = dot-indicators count (is_in set) 0 leaf.inputs in
+          in_rest count first_case (second_case ∷ third_case ∷ []) (in_first count second_case (third_case ∷ []) (All-cons (MeetsFact count) (Ge (input_row (map (λ start. indicator (is_in set start)) leaf.inputs) (negsuc 0))) [] (omega (arith, ints, terms, sum, l)) (All-nil (MeetsFact count))))
+      second e (inr l) =
+          in_rest count first_case (second_case ∷ third_case ∷ []) (in_rest count second_case (third_case ∷ []) (in_first count third_case [] (third_met e (let f : sum_if count (is_in set) 0 leaf.inputs ≡ 0 = omega (arith, l) in f))))
+
+      first : (0 < sum_if count (enters_set set) places leaf.moves) ⊎ (sum_if count (enters_set set) places leaf.moves ≤ 0) → MeetsOne count (siphon_cases leaf set)
+      first (inl l) =
+          let value = row_value-behind count (enters_set set) places leaf.moves (negsuc 0) in
+          in_first count first_case (second_case ∷ third_case ∷ []) (All-cons (MeetsFact count) (some_taken leaf (enters_set set)) [] (omega (arith, ints, value, l)) (All-nil (MeetsFact count)))
+      first (inr l) =
+          second (let e : sum_if count (enters_set set) places leaf.moves ≡ 0 = omega (arith, l) in e) (cases_lt 0 (sum_if count (is_in set) 0 leaf.inputs))

@@ -1,0 +1,238 @@
+-- At the end of an execution the counts meet all facts of one of the cases of a `Trap` node.
+use Rattle.std.proofs.Common.{◌≡◌, ◌≢◌, ◌⊎◌, inl, inr, ℕ, zero, suc, ◌+◌, ◌<◌, ◌≤◌, Bool, true, false, not, ◌&&◌, ◌||◌, List, [], ◌∷◌, ◌++◌, length, replicate, refl, ap, sym, subst, ◌∙◌, zero-add, arith}
+use Rattle.std.specs.Prelude.{Some, pos, negsuc, ◌==◌, slice_get, slice_set, slice_index, All}
+use Rattle.std.specs.List.{range_with_len}
+use Rattle.std.proofs.lemmas.Int.{ints}
+use Rattle.std.proofs.lemmas.Bool.{eq-eqb, cases_lt}
+use Rattle.std.proofs.lemmas.Bool.Decides.{eqb_tells}
+use Rattle.std.proofs.lemmas.List.Elements.{All-nil, All-cons, All-map, All-append}
+use Rattle.std.proofs.lemmas.Option.{slice_get_within, get_or_from_slice_get}
+use Rattle.pop_net.specs.declared.leaf.Move.{Move}
+use Rattle.pop_net.specs.LeafModel.{LeafModel, one_at}
+use Rattle.pop_net.specs.InputCrowd.{starts_from, leaf_input_crowd}
+use Rattle.pop_net.specs.Reachable.{Leads}
+use Rattle.pop_net.specs.Step.{Follows, LeafChange, LeafStep}
+use Rattle.pop_net.proofs.Quiet.{All-slice_get}
+use Rattle.cert_base.specs.declared.fact.Fact.{Fact}
+use Rattle.cert_base.specs.declared.fact.Fact.TheVariants.{Ge, Eq}
+use Rattle.cert_base.specs.Rows.{single_row, input_variable, move_variable}
+use Rattle.cert_base.specs.Valuation.{Valuation, MeetsFact, is_by, times_taken, IsOfExecution}
+use Rattle.cert_base.specs.FactsAndCases.{states_of, is_in, takes_from, puts_into, none_taken, none_started, some_taken, count_in, trap_cases}
+use Rattle.cert_base.proofs.Agents.{InRange}
+use Rattle.cert_base.proofs.Dead.{one_there}
+use Rattle.cert_base.proofs.Indicators.{sum_if, row_value-behind, sum_if-none, all_places}
+use Rattle.cert_base.specs.Ends.{MeetsOne}
+use Rattle.cert_base.proofs.Numbers.{slice_get-set_other}
+use Rattle.cert_base.proofs.Openings.{in_first, in_rest}
+use Rattle.cert_traps.proofs.PresentEnds.{one_times, slice_get-set_same}
+
+-- no agent is in a state of the set
+abbrev pub NoneIn : List ℕ → List ℕ → Type 0
+NoneIn set crowd = (a x : ℕ) → slice_get crowd a ≡ Some x → is_in set x ≡ false
+
+-- a move that takes from the set and puts nothing into it
+abbrev pub leaves_set : List ℕ → Move → Bool
+leaves_set set t = takes_from set t && not (puts_into set t)
+
+pub or_false : (a b : Bool) → a ≡ false → b ≡ false → a || b ≡ false
+or_false a b e f = rw (e, f) refl
+
+pub or_left_false : (a b : Bool) → a || b ≡ false → a ≡ false
+or_left_false true b e = e
+or_left_false false b e = refl
+
+pub or_right_false : (a b : Bool) → a || b ≡ false → b ≡ false
+or_right_false true b e = cc
+or_right_false false b e = e
+
+pub takes_none : (a b : Bool) → a && not b ≡ false → b ≡ false → a ≡ false
+takes_none true b e f = let g : not b ≡ true = rw f refl in let h : true ≡ false = sym g ∙ e in cc
+takes_none false b e f = refl
+
+-- the states of a move, and those of the two agents that take it
+both_after : (set : List ℕ) (t : Move) (x y x' y' : ℕ) → Follows t x y x' y' ⊎ Follows t y x y' x' → is_in set x' ≡ false → is_in set y' ≡ false → puts_into set t ≡ false
+both_after set t x y x' y' (inl f) e g = or_false _ _ (ap (is_in set) (sym f.2) ∙ e) (ap (is_in set) (sym f.3) ∙ g)
+both_after set t x y x' y' (inr f) e g = or_false _ _ (ap (is_in set) (sym f.2) ∙ g) (ap (is_in set) (sym f.3) ∙ e)
+
+pub both_before : (set : List ℕ) (t : Move) (x y x' y' : ℕ) → Follows t x y x' y' ⊎ Follows t y x y' x' → takes_from set t ≡ false → (is_in set x ≡ false) × (is_in set y ≡ false)
+both_before set t x y x' y' (inl f) e = (ap (is_in set) f.0 ∙ or_left_false _ _ e, ap (is_in set) f.1 ∙ or_right_false (is_in set t.p) _ e)
+both_before set t x y x' y' (inr f) e = (ap (is_in set) f.1 ∙ or_right_false (is_in set t.p) _ e, ap (is_in set) f.0 ∙ or_left_false _ _ e)
+
+module _ (leaf : LeafModel) (set : List ℕ) (before after : List ℕ) (s : LeafStep leaf before after) (none : NoneIn set after) where
+  after_a : slice_get after s.a ≡ Some s.x'
+  after_a =
+      ap (λ c. slice_get c s.a) s.others_stay
+      ∙ slice_get-set_other (slice_set before s.a s.x') s.b s.a s.y' s.x' (λ e. s.different (sym e)) (slice_get-set_same before s.a s.x s.x' s.a_had)
+
+  after_b : slice_get after s.b ≡ Some s.y'
+  after_b =
+      ap (λ c. slice_get c s.b) s.others_stay
+      ∙ slice_get-set_same (slice_set before s.a s.x') s.b s.y s.y' (slice_get-set_other before s.a s.b s.x' s.y s.different s.b_had)
+
+  after_other : (c z : ℕ) → c ≢ s.a → c ≢ s.b → slice_get before c ≡ Some z → slice_get after c ≡ Some z
+  after_other c z ne me h =
+      ap (λ k. slice_get k c) s.others_stay
+      ∙ slice_get-set_other (slice_set before s.a s.x') s.b c s.y' z (λ e. me (sym e)) (slice_get-set_other before s.a c s.x' z (λ e. ne (sym e)) h)
+
+  -- where the two agents weren't in the set, nobody was
+  nobody : is_in set s.x ≡ false → is_in set s.y ≡ false → NoneIn set before
+  nobody e f c z h = at (eqb_tells c s.a) (eqb_tells c s.b)
+    where
+      same : (u v : ℕ) → Some u ≡ Some v → u ≡ v
+      same u v k = cc
+
+      at : ((c == s.a) ≡ true) × (c ≡ s.a) ⊎ ((c == s.a) ≡ false) × (c ≢ s.a) → ((c == s.b) ≡ true) × (c ≡ s.b) ⊎ ((c == s.b) ≡ false) × (c ≢ s.b) → is_in set z ≡ false
+      at (inl k) m = ap (is_in set) (same z s.x (sym h ∙ ap (slice_get before) k.1 ∙ s.a_had)) ∙ e
+      at (inr k) (inl m) = ap (is_in set) (same z s.y (sym h ∙ ap (slice_get before) m.1 ∙ s.b_had)) ∙ f
+      at (inr k) (inr m) = none c z (after_other c z k.1 m.1 h)
+
+  -- what was never in the set after a step wasn't in it before, unless the step left the set; and the step put nothing into it
+  step_back : (c : LeafChange leaf s.x s.y s.x' s.y') → ((n : ℕ) (t : Move) → slice_get leaf.moves n ≡ Some t → leaves_set set t ≡ true → is_by n c ≡ 0) → NoneIn set before × ((n : ℕ) (t : Move) → slice_get leaf.moves n ≡ Some t → puts_into set t ≡ true → is_by n c ≡ 0)
+  step_back (inl stay) leaves = (
+    nobody (ap (is_in set) (sym stay.0) ∙ none s.a s.x' after_a) (ap (is_in set) (sym stay.1) ∙ none s.b s.y' after_b),
+    λ n t h e. refl,
+  )
+  step_back (inr m) leaves =
+      let puts = both_after set m.taken s.x s.y s.x' s.y' m.followed (none s.a s.x' after_a) (none s.b s.y' after_b) in
+      let stays = never (leaves_set set m.taken) refl in
+      let were = both_before set m.taken s.x s.y s.x' s.y' m.followed (takes_none (takes_from set m.taken) (puts_into set m.taken) stays puts) in
+      (nobody were.0 were.1, λ n t h e. other n t h e puts (eqb_tells m.number n))
+    where
+      never : (b : Bool) → leaves_set set m.taken ≡ b → b ≡ false
+      never false e = refl
+      never true e =
+          let zero_times = leaves m.number m.taken m.listed e in
+          let once : one_at m.number m.number ≡ 1 = rw (eq-eqb m.number m.number refl) refl in
+          absurd (omega (arith, zero_times, once))
+
+      other : (n : ℕ) (t : Move) → slice_get leaf.moves n ≡ Some t → puts_into set t ≡ true → puts_into set m.taken ≡ false → ((m.number == n) ≡ true) × (m.number ≡ n) ⊎ ((m.number == n) ≡ false) × (m.number ≢ n) → one_at m.number n ≡ 0
+      other n t h e puts (inr k) = rw k.0 refl
+      other n t h e puts (inl k) =
+          let listed : slice_get leaf.moves n ≡ Some m.taken = ap (slice_get leaf.moves) (sym k.1) ∙ m.listed in
+          let same : t ≡ m.taken = cc in
+          let f : true ≡ false = sym e ∙ ap (puts_into set) same ∙ puts in
+          cc
+
+pub sum_zero : (a b : ℕ) → a + b ≡ 0 → (a ≡ 0) × (b ≡ 0)
+sum_zero a b e = ((let f : a ≡ 0 = omega (arith, e) in f), (let f : b ≡ 0 = omega (arith, e) in f))
+
+-- the same over a whole way
+way_back : (leaf : LeafModel) (set : List ℕ) (start : List ℕ) (path : List (List ℕ)) (end : List ℕ) (way : Leads (LeafStep leaf) start path end) → NoneIn set end → ((n : ℕ) (t : Move) → slice_get leaf.moves n ≡ Some t → leaves_set set t ≡ true → times_taken leaf n start path end way ≡ 0) → NoneIn set start × ((n : ℕ) (t : Move) → slice_get leaf.moves n ≡ Some t → puts_into set t ≡ true → times_taken leaf n start path end way ≡ 0)
+way_back leaf set start [] end way none leaves = (subst (λ (c : List ℕ). NoneIn set c) way none, λ n t h e. refl)
+way_back leaf set start (next ∷ path) end way none leaves =
+    let later = way_back leaf set next path end way.1 none (λ n t h e. (sum_zero (is_by n way.0.change) (times_taken leaf n next path end way.1) (leaves n t h e)).1) in
+    let first = step_back leaf set start next way.0 later.0 way.0.change (λ n t h e. (sum_zero (is_by n way.0.change) (times_taken leaf n next path end way.1) (leaves n t h e)).0) in
+    (first.0, λ n t h e. (let a = first.1 n t h e in let b = later.1 n t h e in let f : is_by n way.0.change + times_taken leaf n next path end way.1 ≡ 0 = omega (arith, a, b) in f))
+
+get-append_right : {A : Type 0} (xs ys : List A) (a : ℕ) → slice_get (xs ++ ys) (length xs + a) ≡ slice_get ys a
+get-append_right [] ys a = ap (slice_get ys) (zero-add a)
+get-append_right (x ∷ xs) ys a =
+    ap (slice_get (x ∷ (xs ++ ys))) (let e : suc (length xs) + a ≡ suc (length xs + a) = omega arith in e) ∙ get-append_right xs ys a
+
+-- an input that is there starts an agent
+abbrev Starts : (ℕ → ℕ) → ℕ → List ℕ → ℕ → Type 0
+Starts start k counts i = (a : ℕ) × (slice_get (starts_from start k counts) a ≡ Some (start (k + i)))
+
+start_has : (start : ℕ → ℕ) (k : ℕ) (counts : List ℕ) (i : ℕ) → 1 ≤ slice_index counts i → Starts start k counts i
+start_has start k [] i l = absurd (omega (arith, l))
+start_has start k (zero ∷ counts) zero l = absurd (omega (arith, l))
+start_has start k (suc n ∷ counts) zero l =
+    (0, ap (λ j. Some (start j)) (let e : k ≡ k + 0 = omega arith in e))
+start_has start k (n ∷ counts) (suc i) l =
+    let m = start_has start (k + 1) counts i l in (
+      length (replicate n (start k)) + m.0,
+      get-append_right (replicate n (start k)) (starts_from start (k + 1) counts) m.0 ∙ m.1 ∙ ap (λ j. Some (start j)) (let e : k + 1 + i ≡ k + suc i = omega arith in e),
+    )
+
+-- an agent of an input that is there
+start_state : (leaf : LeafModel) (counts : List ℕ) (j : ℕ) → 1 ≤ slice_index counts j → (a : ℕ) × (slice_get (leaf_input_crowd leaf counts) a ≡ Some (slice_index leaf.inputs (0 + j)))
+start_state leaf counts j l = start_has (λ variable. slice_index leaf.inputs variable) 0 counts j l
+
+pub range_get : (a n j : ℕ) → j < n → slice_get (range_with_len a n) j ≡ Some (a + j)
+range_get a zero j l = absurd (omega arith)
+range_get a (suc n) zero l = ap Some (let e : a ≡ a + 0 = omega arith in e)
+range_get a (suc n) (suc j) l =
+    range_get (a + 1) n j (omega arith) ∙ ap Some (let e : a + 1 + j ≡ a + suc j = omega arith in e)
+
+pub single_none : (count : Valuation) (v : ℕ) → count v ≡ 0 → MeetsFact count (Eq (single_row v (pos 1) (pos 0)))
+single_none count v e = let o = one_times (count v) in omega (arith, ints, o, e)
+
+module _ (leaf : LeafModel) (set : List ℕ) (count : Valuation) (counts : List ℕ) (path : List (List ℕ)) (end : List ℕ) (way : Leads (LeafStep leaf) (leaf_input_crowd leaf counts) path end) (is : IsOfExecution leaf count counts path end way) (range : InRange leaf end) where
+  abbrev places : ℕ
+  places = length leaf.inputs + length leaf.states
+
+  -- where no move left the set, no such move was taken
+  not_left : sum_if count (leaves_set set) places leaf.moves ≡ 0 → (n : ℕ) (t : Move) → slice_get leaf.moves n ≡ Some t → leaves_set set t ≡ true → times_taken leaf n (leaf_input_crowd leaf counts) path end way ≡ 0
+  not_left e n t h l =
+      sym (is.moves n (slice_get_within leaf.moves n t h)) ∙ sum_if-none count (leaves_set set) places leaf.moves e n t h l
+
+  -- where no state of the set is counted, no agent is in the set
+  none_at_end : sum_if count (is_in set) (length leaf.inputs) (states_of leaf) ≡ 0 → NoneIn set end
+  none_at_end e a x h = go (is_in set x) refl
+    where
+      below : x < length leaf.states
+      below = All-slice_get (λ (q : ℕ). q < length leaf.states) end a x range h
+
+      go : (b : Bool) → is_in set x ≡ b → b ≡ false
+      go false k = refl
+      go true k =
+          let state : slice_get (states_of leaf) x ≡ Some x = range_get 0 (length leaf.states) x below ∙ ap Some (zero-add x) in
+          let none = sum_if-none count (is_in set) (length leaf.inputs) (states_of leaf) e x x state k in
+          let there = one_there x end a x h in
+          let one : one_at x x ≡ 1 = rw (eq-eqb x x refl) refl in
+          let counted = is.states x below in
+          absurd (omega (arith, none, there, one, counted))
+
+  not_taken : ((n : ℕ) (t : Move) → slice_get leaf.moves n ≡ Some t → puts_into set t ≡ true → times_taken leaf n (leaf_input_crowd leaf counts) path end way ≡ 0) → All (MeetsFact count) (none_taken leaf (puts_into set))
+  not_taken f =
+      All-map (MeetsFact count) (λ t. Eq (single_row (move_variable leaf t) (pos 1) (pos 0))) _
+      (all_places (λ t. MeetsFact count (Eq (single_row (move_variable leaf t) (pos 1) (pos 0)))) (puts_into set) 0 leaf.moves
+      (λ j t h e. single_none count (move_variable leaf (0 + j)) (ap (λ n. count (move_variable leaf n)) (zero-add j) ∙ is.moves j (slice_get_within leaf.moves j t h) ∙ f j t h e)))
+
+  not_started : NoneIn set (leaf_input_crowd leaf counts) → All (MeetsFact count) (none_started leaf set)
+  not_started none =
+      All-map (MeetsFact count) (λ i. Eq (single_row (input_variable leaf i) (pos 1) (pos 0))) _
+      (all_places (λ i. MeetsFact count (Eq (single_row (input_variable leaf i) (pos 1) (pos 0)))) (is_in set) 0 leaf.inputs
+      (λ j q h e. single_none count (input_variable leaf (0 + j)) (ap (λ n. count (input_variable leaf n)) (zero-add j) ∙ is.inputs j (slice_get_within leaf.inputs j q h) ∙ zero_count j q h e (cases_lt 0 (slice_index counts j)))))
+    where
+      zero_count : (j q : ℕ) → slice_get leaf.inputs j ≡ Some q → is_in set q ≡ true → (0 < slice_index counts j) ⊎ (slice_index counts j ≤ 0) → slice_index counts j ≡ 0
+      zero_count j q h e (inr l) = omega (arith, l)
+      zero_count j q h e (inl l) =
+          let s = start_state leaf counts j (let m : 1 ≤ slice_index counts j = omega (arith, l) in m) in
+          let state : slice_index leaf.inputs (0 + j) ≡ q = ap (slice_index leaf.inputs) (zero-add j) ∙ get_or_from_slice_get leaf.inputs j q 0 h in
+          let f : true ≡ false = sym e ∙ ap (is_in set) (sym state) ∙ none s.0 (slice_index leaf.inputs (0 + j)) s.1 in
+          cc
+
+  abbrev first_case : List Fact
+  first_case = some_taken leaf (leaves_set set) ∷ []
+
+  abbrev second_case : List Fact
+  second_case = none_taken leaf (puts_into set) ++ none_started leaf set ++ Eq (count_in leaf set (pos 0)) ∷ []
+
+  abbrev third_case : List Fact
+  third_case = Ge (count_in leaf set (negsuc 0)) ∷ []
+
+  -- the counts of an execution meet all facts of one of the cases
+  pub trap_met : MeetsOne count (trap_cases leaf set)
+  trap_met = first (cases_lt 0 (sum_if count (leaves_set set) places leaf.moves))
+    where
+      third : sum_if count (leaves_set set) places leaf.moves ≡ 0 → (0 < sum_if count (is_in set) (length leaf.inputs) (states_of leaf)) ⊎ (sum_if count (is_in set) (length leaf.inputs) (states_of leaf) ≤ 0) → MeetsOne count (trap_cases leaf set)
+      third e (inl l) =
+          let value = row_value-behind count (is_in set) (length leaf.inputs) (states_of leaf) (negsuc 0) in
+          in_rest count first_case (second_case ∷ third_case ∷ []) (in_rest count second_case (third_case ∷ []) (in_first count third_case [] (All-cons (MeetsFact count) (Ge (count_in leaf set (negsuc 0))) [] (omega (arith, ints, value, l)) (All-nil (MeetsFact count)))))
+      third e (inr l) =
+          let zero_sum : sum_if count (is_in set) (length leaf.inputs) (states_of leaf) ≡ 0 = omega (arith, l) in
+          let back = way_back leaf set (leaf_input_crowd leaf counts) path end way (none_at_end zero_sum) (not_left e) in
+          let value = row_value-behind count (is_in set) (length leaf.inputs) (states_of leaf) (pos 0) in
+          in_rest count first_case (second_case ∷ third_case ∷ [])
+          (in_first count second_case (third_case ∷ [])
+          (All-append (MeetsFact count) (none_taken leaf (puts_into set) ++ none_started leaf set) (Eq (count_in leaf set (pos 0)) ∷ [])
+          (All-append (MeetsFact count) (none_taken leaf (puts_into set)) (none_started leaf set) (not_taken back.1) (not_started back.0))
+          (All-cons (MeetsFact count) (Eq (count_in leaf set (pos 0))) [] (omega (arith, ints, value, zero_sum)) (All-nil (MeetsFact count)))))
+
+      first : (0 < sum_if count (leaves_set set) places leaf.moves) ⊎ (sum_if count (leaves_set set) places leaf.moves ≤ 0) → MeetsOne count (trap_cases leaf set)
+      first (inl l) =
+          let value = row_value-behind count (leaves_set set) places leaf.moves (negsuc 0) in
+          in_first count first_case (second_case ∷ third_case ∷ []) (All-cons (MeetsFact count) (some_taken leaf (leaves_set set)) [] (omega (arith, ints, value, l)) (All-nil (MeetsFact count)))
+      first (inr l) =
+          third (let e : sum_if count (leaves_set set) places leaf.moves ≡ 0 = omega (arith, l) in e) (cases_lt 0 (sum_if count (is_in set) (length leaf.inputs) (states_of leaf)))

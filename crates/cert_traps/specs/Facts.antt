@@ -1,0 +1,15 @@
+-- Facts that stand only where a flag is set.
+use Rattle.std.specs.Prelude.{ℕ, Bool, if◌then◌else◌, List, [], ◌∷◌, pos}
+use Rattle.pop_net.specs.LeafModel.{LeafModel}
+use Rattle.cert_base.specs.declared.fact.Fact.{Fact}
+use Rattle.cert_base.specs.declared.fact.Fact.TheVariants.{Eq}
+use Rattle.cert_base.specs.Rows.{single_row}
+use Rattle.cert_base.specs.FactsAndCases.{alone}
+
+-- the variable is 0
+abbrev pub zero_if : ℕ → Bool → List Fact
+zero_if variable flag = if flag then (Eq (single_row variable (pos 1) (pos 0)) ∷ []) else []
+
+-- the state occurs once
+abbrev pub alone_if : LeafModel → ℕ → Bool → List Fact
+alone_if leaf q flag = if flag then (alone leaf q ∷ []) else []

@@ -1,0 +1,12 @@
+-- What a move does to a set of states.
+use Rattle.std.specs.Prelude.{ℕ, Bool, not, ◌&&◌, List}
+use Rattle.pop_net.specs.declared.leaf.Move.{Move}
+use Rattle.cert_base.specs.FactsAndCases.{takes_from, puts_into}
+use Rattle.cert_traps.specs.declared.role.Role.{Role}
+use Rattle.cert_traps.specs.declared.role.Role.TheVariants.{Takes, Puts, Leaves, Enters}
+
+abbrev pub passes : List ℕ → Role → Move → Bool
+passes set Takes t = takes_from set t
+passes set Puts t = puts_into set t
+passes set Leaves t = takes_from set t && not (puts_into set t)
+passes set Enters t = puts_into set t && not (takes_from set t)

@@ -1,0 +1,97 @@
+//! What a terminal end says of one state.
+
+ghost use Rattle.std.specs.Prelude.{◌≡◌, ◌<◌, ◌≤◌, ◌^◌, ◌∷◌, ◌++◌, ◌==◌, ◌&&◌, not, [], length, map, filter, if◌then◌else◌, slice_index_or, false, IfOk, OnOk, IfSome};
+ghost use Rattle.cert_base.specs.Rows.{state_variable as variable_of};
+ghost use Rattle.cert_base.specs.FactsAndCases.{states_of, can_meet, absent as absent_fact, occurs as occurs_fact, alone as alone_fact, present_cases as present_list, twin_case as twin_list};
+ghost use Rattle.cert_base.specs.Ends.{Cover};
+ghost use Rattle.cert_traps.specs.Facts.{alone_if};
+
+use crate::facts::{is_zero, only, push_zero};
+use crate::partners::partners;
+use cert_base::{Fact, Row};
+use pop_io::{List, NoMemory};
+use pop_net::Leaf;
+use std::alloc::Global;
+
+/// The state is absent; or it occurs, and nothing does that could meet it.
+pub fn present_cases(alloc: Global, leaf: &Leaf, state: u16) -> Result<List<List<Fact>>, NoMemory>
+    requires { state < length leaf.now.states }
+    ensures cases { IfOk result (λ cases. cases ≡ present_list leaf.now state) }
+{
+    let mut cases = Vec::new(alloc);
+    cases.push(only(alloc, absent(alloc, leaf, state)?)?)?;
+    cases.push(unmet(alloc, leaf, state)?)?;
+    Ok(List::from_vec(cases))
+}
+
+/// A state that can meet itself occurs once at most. For another state there is no case.
+pub fn twin_case(alloc: Global, leaf: &Leaf, state: u16) -> Result<Option<List<Fact>>, NoMemory>
+    requires { state < length leaf.now.states }
+    ensures case { IfOk result (λ case. case ≡ twin_list leaf.now state) }
+{
+    if !partners(alloc, leaf, state)?[usize::from(state)] {
+        return Ok(None);
+    }
+    let row = Row::single(alloc, state_variable(leaf, state), -1, 1)?;
+    Ok(Some(only(alloc, Fact::Ge(row))?))
+}
+
+fn unmet(alloc: Global, leaf: &Leaf, state: u16) -> Result<List<Fact>, NoMemory>
+    requires { state < length leaf.now.states }
+    ensures { IfOk result (λ facts. facts ≡ occurs_fact leaf.now state
+        ∷ map (absent_fact leaf.now) (filter (λ q. not (q == state) && can_meet leaf.now state q) (states_of leaf.now))
+        ++ (if can_meet leaf.now state state then (alone_fact leaf.now state ∷ []) else [])) }
+{
+    let partners = partners(alloc, leaf, state)?;
+    let mut facts = Vec::new(alloc);
+    facts.push(occurs(alloc, leaf, state)?)?;
+    for q in 0..leaf.state_count() {
+        let meets = meets_other(partners.as_slice(), state, q);
+        push_zero(alloc, &mut facts, state_variable(leaf, q), meets)?;
+    }
+    push_alone(alloc, &mut facts, leaf, state, partners[usize::from(state)])?;
+    Ok(List::from_vec(facts))
+}
+
+/// Whether a state is another one, and can be met.
+fn meets_other(partners: &[bool], state: u16, q: u16) -> bool
+    requires { q < length partners.now }
+    ensures { result ≡ (not (q == state) && slice_index_or partners.now q false) }
+{
+    q != state && partners[usize::from(q)]
+}
+
+fn absent(alloc: Global, leaf: &Leaf, q: u16) -> Result<Fact, NoMemory>
+    ensures { IfOk result (λ fact. fact ≡ absent_fact leaf.now q) }
+{
+    is_zero(alloc, state_variable(leaf, q))
+}
+
+fn occurs(alloc: Global, leaf: &Leaf, q: u16) -> Result<Fact, NoMemory>
+    ensures { IfOk result (λ fact. fact ≡ occurs_fact leaf.now q) }
+{
+    Ok(Fact::Ge(Row::single(alloc, state_variable(leaf, q), 1, -1)?))
+}
+
+/// Adds that the state occurs once, where the flag is set.
+fn push_alone(
+    alloc: Global,
+    facts: &mut Vec<Fact>,
+    leaf: &Leaf,
+    q: u16,
+    flag: bool,
+) -> Result<(), NoMemory>
+    ensures { OnOk result (facts.new.items ≡ facts.old.items ++ alone_if leaf.now q flag) }
+{
+    if flag {
+        let row = Row::single(alloc, state_variable(leaf, q), 1, -1)?;
+        facts.push(Fact::Eq(row))?;
+    }
+    Ok(())
+}
+
+fn state_variable(leaf: &Leaf, q: u16) -> u32
+    ensures { result ≡ variable_of leaf.now q }
+{
+    u32::from(leaf.input_count()) + u32::from(q)
+}

@@ -1,0 +1,100 @@
+//! A trap: a set of states that stays marked once it is.
+
+ghost use Rattle.std.specs.Prelude.{◌≡◌, ◌≤◌, ◌^◌, ◌++◌, ◌∷◌, [], pos, length, map, IfOk, OnOk};
+ghost use Rattle.pop_net.specs.LeafModel.{IsLeaf};
+ghost use Rattle.cert_base.specs.declared.fact.Fact.TheVariants.{Ge, Eq};
+ghost use Rattle.cert_base.specs.FactsAndCases.{none_taken as no_moves, none_started as no_inputs, some_taken as some_moves, count_in as count_row, puts_into, trap_cases as trap_list};
+ghost use Rattle.cert_traps.specs.Roles.{passes};
+
+use crate::facts::{coefs, only, push_zeros};
+use crate::role::{Role, move_flags};
+use crate::set::StateSet;
+use cert_base::{Fact, Row};
+use pop_io::{List, NoMemory};
+use pop_net::Leaf;
+use std::alloc::Global;
+
+/// The set is no trap; or it was never marked; or it is marked at the end.
+pub fn trap_cases(alloc: Global, leaf: &Leaf, set: &List<u16>) -> Result<List<List<Fact>>, NoMemory>
+    ensures cases { IfOk result (λ cases. cases ≡ trap_list leaf.now set.now) }
+{
+    let set = StateSet::new(alloc, set)?;
+    let marked = count_in(alloc, leaf, &set, -1)?;
+    let mut cases = Vec::new(alloc);
+    cases.push(only(alloc, some_taken(alloc, leaf, &set, Role::Leaves)?)?)?;
+    cases.push(never_marked(alloc, leaf, &set)?)?;
+    cases.push(only(alloc, Fact::Ge(marked))?)?;
+    Ok(List::from_vec(cases))
+}
+
+fn never_marked(alloc: Global, leaf: &Leaf, set: &StateSet) -> Result<List<Fact>, NoMemory>
+    requires { IsLeaf leaf.now }
+    ensures { IfOk result (λ facts. facts ≡ no_moves leaf.now (puts_into set.now) ++ no_inputs leaf.now set.now ++ Eq (count_row leaf.now set.now (pos 0)) ∷ []) }
+{
+    let mut facts = Vec::new(alloc);
+    none_taken(alloc, &mut facts, leaf, set, Role::Puts)?;
+    none_started(alloc, &mut facts, leaf, set)?;
+    facts.push(Fact::Eq(count_in(alloc, leaf, set, 0)?))?;
+    Ok(List::from_vec(facts))
+}
+
+/// A move with the role was taken.
+pub(crate) fn some_taken(
+    alloc: Global,
+    leaf: &Leaf,
+    set: &StateSet,
+    role: Role,
+) -> Result<Fact, NoMemory>
+    requires { IsLeaf leaf.now }
+    ensures { IfOk result (λ fact. fact ≡ some_moves leaf.now (passes set.now role)) }
+{
+    let flags = move_flags(alloc, leaf, set, role)?;
+    let coefs = coefs(alloc, flags.as_slice())?;
+    Ok(Fact::Ge(Row::over_moves(alloc, leaf, coefs.as_slice(), -1)?))
+}
+
+/// Adds that no move with the role was taken.
+pub(crate) fn none_taken(
+    alloc: Global,
+    facts: &mut Vec<Fact>,
+    leaf: &Leaf,
+    set: &StateSet,
+    role: Role,
+) -> Result<(), NoMemory>
+    requires { IsLeaf leaf.now }
+    ensures { OnOk result (facts.new.items ≡ facts.old.items ++ no_moves leaf.now (passes set.now role)) }
+{
+    let flags = move_flags(alloc, leaf, set, role)?;
+    let first = u32::from(leaf.input_count()) + u32::from(leaf.state_count());
+    push_zeros(alloc, facts, first, flags.as_slice())?;
+    Ok(())
+}
+
+/// Adds that no input starts in the set.
+fn none_started(
+    alloc: Global,
+    facts: &mut Vec<Fact>,
+    leaf: &Leaf,
+    set: &StateSet,
+) -> Result<(), NoMemory>
+    ensures { OnOk result (facts.new.items ≡ facts.old.items ++ no_inputs leaf.now set.now) }
+{
+    let flags = set.starts(alloc, leaf)?;
+    push_zeros(alloc, facts, 0, flags.as_slice())?;
+    Ok(())
+}
+
+/// The number of agents in the set at the end, plus a constant.
+pub(crate) fn count_in(
+    alloc: Global,
+    leaf: &Leaf,
+    set: &StateSet,
+    constant: i64,
+) -> Result<Row, NoMemory>
+    ensures row { IfOk result (λ row. row ≡ count_row leaf.now set.now constant) }
+    ensures formed { IsLeaf leaf.now }
+{
+    let flags = set.states(alloc, leaf)?;
+    let coefs = coefs(alloc, flags.as_slice())?;
+    Row::over_states(alloc, leaf, coefs.as_slice(), constant)
+}
