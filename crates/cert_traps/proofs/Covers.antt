@@ -1,10 +1,9 @@
 -- Every terminal end meets all facts of one of the cases.
 use Rattle.std.proofs.Common.{◌≡◌, ℕ, ◌<◌, Bool, true, false, List, [], ◌∷◌, length, refl}
-use Rattle.std.specs.Prelude.{Option, Some, None, IfSome, if◌then◌else◌}
+use Rattle.std.specs.Prelude.{Some, None, IfSome, if◌then◌else◌}
 use Rattle.pop_net.specs.LeafModel.{LeafModel, IsLeaf}
-use Rattle.cert_base.specs.declared.fact.Fact.{Fact}
 use Rattle.cert_base.specs.FactsAndCases.{can_meet, not_twice, present_cases, twin_case, trap_cases, siphon_cases}
-use Rattle.cert_base.specs.Ends.{Cover, MeetsOne}
+use Rattle.cert_base.specs.Ends.{Cover}
 use Rattle.cert_base.proofs.InRange.{end_in_range}
 use Rattle.cert_traps.proofs.PresentEnds.{present_met, twin_met}
 use Rattle.cert_traps.proofs.TrapEnds.{trap_met}

@@ -1,14 +1,14 @@
 -- Lists that grow by one item, and flags.
 use Rattle.std.proofs.Common.{◌≡◌, ℕ, zero, suc, ◌+◌, ◌<◌, ◌≤◌, min, Bool, true, false, cond, List, [], ◌∷◌, ◌++◌, length, map, take, get_or, append_assoc, refl, ap, sym, ◌∙◌, zero-add, arith}
-use Rattle.std.specs.Prelude.{ℤ, pos, Some, slice_get, filter, if◌then◌else◌, not, ◌&&◌, ◌||◌, ◌==◌}
+use Rattle.std.specs.Prelude.{ℤ, pos, Some, None, slice_get, filter, if◌then◌else◌, not, ◌&&◌, ◌||◌, ◌==◌}
 use Rattle.std.specs.List.{range_with_len, list_any}
-use Rattle.std.proofs.lemmas.List.{append-nil, take_all, take_more, length-map, length-take}
+use Rattle.std.proofs.lemmas.List.{take_all, length-map, length-take}
 use Rattle.std.proofs.lemmas.Option.{slice_get_within, get_or_from_slice_get, slice_get_read}
 use Rattle.std.proofs.lemmas.List.FromFn.{get_or-map-range_with_len}
 use Rattle.cert_base.specs.declared.fact.Fact.{Fact}
 use Rattle.cert_base.specs.declared.fact.Fact.TheVariants.{Eq}
 use Rattle.cert_base.specs.Rows.{single_row, move_variable, state_variable}
-use Rattle.cert_base.specs.FactsAndCases.{indicator, places_from, states_of, is_in, can_meet, absent, occurs, alone, none_taken, none_started}
+use Rattle.cert_base.specs.FactsAndCases.{indicator, places_from, states_of, is_in, can_meet, absent, occurs, alone, not_twice, twin_case, none_taken, none_started}
 use Rattle.cert_base.proofs.FlowRows.{take_one_more}
 use Rattle.cert_traps.specs.Facts.{zero_if, alone_if}
 use Rattle.cert_traps.specs.Partners.{ArePartners}
@@ -61,9 +61,9 @@ pub zeros_more : (first t variable : ℕ) (flags : List Bool) (flag : Bool) (sta
 zeros_more first t variable flags flag start before after h at b e =
     let f : ℕ → Fact = λ t. Eq (single_row (first + t) (pos 1) (pos 0)) in
     let more : places_from 0 (λ flag. flag) (take (t + 1) flags) ≡ places_from 0 (λ flag. flag) (take t flags) ++ (if flag then (t ∷ []) else []) =
-        ap (places_from 0 (λ flag. flag)) (take_one_more flags t flag h)
-        ∙ places_from-one 0 (λ flag. flag) (take t flags) flag
-        ∙ ap (λ n. places_from 0 (λ flag. flag) (take t flags) ++ (if flag then (n ∷ []) else [])) (ap (λ n. 0 + n) (length-take_short flags t flag h) ∙ zero-add t) in
+    ap (places_from 0 (λ flag. flag)) (take_one_more flags t flag h)
+    ∙ places_from-one 0 (λ flag. flag) (take t flags) flag
+    ∙ ap (λ n. places_from 0 (λ flag. flag) (take t flags) ++ (if flag then (n ∷ []) else [])) (ap (λ n. 0 + n) (length-take_short flags t flag h) ∙ zero-add t) in
     let old = map f (places_from 0 (λ flag. flag) (take t flags)) in
     e
     ∙ ap (λ fs. fs ++ zero_if variable flag) b
@@ -150,7 +150,7 @@ unmet_more leaf p q variable flag table before after are l at is b e =
     let test : ℕ → Bool = λ q. not (q == p) && can_meet leaf p q in
     let flag_is : flag ≡ (not (q == p) && can_meet leaf p q) = is ∙ ap (λ b. not (q == p) && b) (partner_is leaf p q table are l) in
     let more : filter test (range_with_len 0 (q + 1)) ≡ filter test (range_with_len 0 q) ++ (if test q then (q ∷ []) else []) =
-        ap (filter test) (range-one 0 q ∙ ap (λ z. range_with_len 0 q ++ z ∷ []) (zero-add q)) ∙ filter-one test (range_with_len 0 q) q in
+    ap (filter test) (range-one 0 q ∙ ap (λ z. range_with_len 0 q ++ z ∷ []) (zero-add q)) ∙ filter-one test (range_with_len 0 q) q in
     e
     ∙ ap (λ fs. fs ++ zero_if variable flag) b
     ∙ ap (λ fs. occurs leaf p ∷ (map (absent leaf) (filter test (range_with_len 0 q)) ++ fs)) (ap (λ n. zero_if n flag) at ∙ ap (zero_if (state_variable leaf q)) flag_is ∙ last (test q))
@@ -187,3 +187,14 @@ contains_is listed set inside i q b e at l table same =
     ∙ ap (λ xs. get_or xs q b) table
     ∙ get_or-map-range_with_len (is_in listed) 0 256 q q b l (zero-add q)
     ∙ ap (λ s. is_in s q) same
+
+pub three_cases : (empty one two three : List (List Fact)) (a b c a' b' c' : List Fact) → empty ≡ [] → one ≡ empty ++ a ∷ [] → two ≡ one ++ b ∷ [] → three ≡ two ++ c ∷ [] → a ≡ a' → b ≡ b' → c ≡ c' → three ≡ a' ∷ b' ∷ c' ∷ []
+three_cases empty one two three a b c a' b' c' e f g h i j k =
+    h
+    ∙ ap (λ cases. cases ++ c ∷ []) (g ∙ ap (λ cases. cases ++ b ∷ []) (f ∙ ap (λ cases. cases ++ a ∷ []) e))
+    ∙ ap (λ facts. facts ∷ b ∷ c ∷ []) i
+    ∙ ap (λ facts. a' ∷ facts ∷ c ∷ []) j
+    ∙ ap (λ facts. a' ∷ b' ∷ facts ∷ []) k
+
+pub twin_as : (leaf : LeafModel) (p : ℕ) (b : Bool) → b ≡ can_meet leaf p p → (if b then Some (not_twice leaf p ∷ []) else None) ≡ twin_case leaf p
+twin_as leaf p b e = ap (λ b. if b then Some (not_twice leaf p ∷ []) else None) e

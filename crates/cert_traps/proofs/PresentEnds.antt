@@ -13,7 +13,6 @@ use Rattle.pop_net.specs.Step.{LeafStep}
 use Rattle.pop_net.specs.Terminal.{IsTerminal}
 use Rattle.pop_net.specs.Reaction.{takes}
 use Rattle.pop_net.proofs.Reactions.{and_left, and_right, not_true}
-use Rattle.cert_base.specs.declared.fact.Fact.{Fact}
 use Rattle.cert_base.specs.Rows.{state_variable}
 use Rattle.cert_base.specs.Valuation.{Valuation, MeetsFact}
 use Rattle.cert_base.specs.FactsAndCases.{states_of, can_meet, absent, occurs, alone, not_twice, present_cases}

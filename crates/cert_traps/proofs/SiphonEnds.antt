@@ -1,12 +1,12 @@
 -- At the end of an execution the counts meet all facts of one of the cases of a `Siphon` node.
-use Rattle.std.proofs.Common.{◌≡◌, ◌≢◌, ◌⊎◌, inl, inr, ℕ, zero, suc, ◌+◌, ◌<◌, ◌≤◌, Bool, true, false, not, ◌&&◌, ◌||◌, List, [], ◌∷◌, ◌++◌, length, map, replicate, refl, ap, sym, subst, ◌∙◌, zero-add, arith}
-use Rattle.std.specs.Prelude.{Some, ℤ, pos, negsuc, ◌+ℤ◌, ◌==◌, slice_get, slice_set, slice_index, All}
+use Rattle.std.proofs.Common.{◌≡◌, ◌≢◌, ◌⊎◌, inl, inr, ℕ, suc, ◌+◌, ◌<◌, ◌≤◌, Bool, true, false, not, ◌&&◌, List, [], ◌∷◌, ◌++◌, length, map, replicate, refl, ap, sym, subst, ◌∙◌, zero-add, arith}
+use Rattle.std.specs.Prelude.{Some, pos, negsuc, ◌==◌, slice_get, slice_set, slice_index, All}
 use Rattle.std.proofs.lemmas.Int.{ints}
 use Rattle.std.proofs.lemmas.Bool.{eq-eqb, cases_lt}
 use Rattle.std.proofs.lemmas.Bool.Decides.{eqb_tells}
 use Rattle.std.proofs.lemmas.List.Elements.{All-nil, All-cons, All-map, All-append, All-replicate, All-set}
 use Rattle.std.proofs.lemmas.List.FromFn.{length-range_with_len}
-use Rattle.std.proofs.lemmas.Option.{slice_get_within, get_or_from_slice_get, slice_get-get_or}
+use Rattle.std.proofs.lemmas.Option.{slice_get_within, slice_get-get_or}
 use Rattle.pop_net.specs.declared.leaf.Move.{Move}
 use Rattle.pop_net.specs.LeafModel.{LeafModel, one_at}
 use Rattle.pop_net.specs.InputCrowd.{starts_from, leaf_input_crowd}
@@ -21,11 +21,11 @@ use Rattle.cert_base.specs.FactsAndCases.{indicator, states_of, is_in, takes_fro
 use Rattle.cert_base.specs.Ends.{MeetsOne}
 use Rattle.cert_base.proofs.Dead.{number_in-cons}
 use Rattle.cert_base.proofs.Numbers.{number_in}
-use Rattle.cert_base.proofs.FlowFacts.{dot, terms_value-terms_from}
+use Rattle.cert_base.proofs.FlowFacts.{terms_value-terms_from}
 use Rattle.cert_base.proofs.Indicators.{sum_if, dot-indicators, row_value-behind, sum_if-none, sum_if-zero, all_places}
 use Rattle.cert_base.proofs.WrongEnds.{range_get}
 use Rattle.cert_base.proofs.Openings.{in_first, in_rest}
-use Rattle.cert_traps.proofs.TrapEnds.{or_false, or_left_false, or_right_false, both_before, takes_none, sum_zero, single_none}
+use Rattle.cert_traps.proofs.TrapEnds.{or_false, or_left_false, or_right_false, takes_none, sum_zero, single_none}
 
 -- no agent is in a state of the set
 abbrev NoneInside : List ℕ → List ℕ → Type 0
@@ -128,7 +128,7 @@ module _ (leaf : LeafModel) (set : List ℕ) (count : Valuation) (counts : List 
       starts_outside set (λ variable. slice_index leaf.inputs variable) 0 counts
       (λ i l h. let m : i < length leaf.inputs = omega (arith, l, long) in
       let there : slice_get leaf.inputs i ≡ Some (slice_index leaf.inputs i) = slice_get-get_or leaf.inputs i 0 m in
-      sym (is.inputs i m) ∙ ap count (sym (zero-add i)) ∙ sum_if-none count (is_in set) 0 leaf.inputs e i (slice_index leaf.inputs i) there (ap (λ j. is_in set (slice_index leaf.inputs j)) (sym (zero-add i)) ∙ h) )
+      sym (is.inputs i m) ∙ ap count (sym (zero-add i)) ∙ sum_if-none count (is_in set) 0 leaf.inputs e i (slice_index leaf.inputs i) there (ap (λ j. is_in set (slice_index leaf.inputs j)) (sym (zero-add i)) ∙ h))
 
   not_taken : ((n : ℕ) (t : Move) → slice_get leaf.moves n ≡ Some t → takes_from set t ≡ true → times_taken leaf n (leaf_input_crowd leaf counts) path end way ≡ 0) → All (MeetsFact count) (none_taken leaf (takes_from set))
   not_taken f =

@@ -1,8 +1,8 @@
 //! What a terminal end says of one state.
 
-ghost use Rattle.std.specs.Prelude.{◌≡◌, ◌<◌, ◌≤◌, ◌^◌, ◌∷◌, ◌++◌, ◌==◌, ◌&&◌, not, [], length, map, filter, if◌then◌else◌, slice_index_or, false, IfOk, OnOk, IfSome};
+ghost use Rattle.std.specs.Prelude.{◌≡◌, ◌<◌, ◌≤◌, ◌^◌, ◌∷◌, ◌++◌, ◌==◌, ◌&&◌, not, [], length, map, filter, if◌then◌else◌, slice_index_or, false, Some, None, IfOk, OnOk, IfSome};
 ghost use Rattle.cert_base.specs.Rows.{state_variable as variable_of};
-ghost use Rattle.cert_base.specs.FactsAndCases.{states_of, can_meet, absent as absent_fact, occurs as occurs_fact, alone as alone_fact, present_cases as present_list, twin_case as twin_list};
+ghost use Rattle.cert_base.specs.FactsAndCases.{states_of, can_meet, absent as absent_fact, occurs as occurs_fact, alone as alone_fact, not_twice, present_cases as present_list, twin_case as twin_list};
 ghost use Rattle.cert_base.specs.Ends.{Cover};
 ghost use Rattle.cert_traps.specs.Facts.{alone_if};
 
@@ -17,6 +17,8 @@ use std::alloc::Global;
 pub fn present_cases(alloc: Global, leaf: &Leaf, state: u16) -> Result<List<List<Fact>>, NoMemory>
     requires { state < length leaf.now.states }
     ensures cases { IfOk result (λ cases. cases ≡ present_list leaf.now state) }
+    // Every terminal end meets all facts of one of the cases.
+    ensures cover { IfOk result (Cover leaf.now) }
 {
     let mut cases = Vec::new(alloc);
     cases.push(only(alloc, absent(alloc, leaf, state)?)?)?;
@@ -28,8 +30,17 @@ pub fn present_cases(alloc: Global, leaf: &Leaf, state: u16) -> Result<List<List
 pub fn twin_case(alloc: Global, leaf: &Leaf, state: u16) -> Result<Option<List<Fact>>, NoMemory>
     requires { state < length leaf.now.states }
     ensures case { IfOk result (λ case. case ≡ twin_list leaf.now state) }
+    // Every terminal end meets all its facts.
+    ensures cover { IfOk result (λ case. IfSome case (λ facts. Cover leaf.now (facts ∷ []))) }
 {
-    if !partners(alloc, leaf, state)?[usize::from(state)] {
+    let partners = partners(alloc, leaf, state)?;
+    twin(alloc, leaf, state, partners[usize::from(state)])
+}
+
+fn twin(alloc: Global, leaf: &Leaf, state: u16, meets: bool) -> Result<Option<List<Fact>>, NoMemory>
+    ensures { IfOk result (λ case. case ≡ (if meets then Some (not_twice leaf.now state ∷ []) else None)) }
+{
+    if !meets {
         return Ok(None);
     }
     let row = Row::single(alloc, state_variable(leaf, state), -1, 1)?;

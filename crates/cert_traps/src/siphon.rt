@@ -5,6 +5,7 @@ ghost use Rattle.pop_net.specs.LeafModel.{IsLeaf};
 ghost use Rattle.cert_base.specs.declared.fact.Fact.TheVariants.{Ge, Eq};
 ghost use Rattle.cert_base.specs.Rows.{input_row};
 ghost use Rattle.cert_base.specs.FactsAndCases.{indicator, is_in, takes_from, none_taken as no_moves, count_in as count_row, siphon_cases as siphon_list};
+ghost use Rattle.cert_base.specs.Ends.{Cover};
 
 use crate::facts::{coefs, only};
 use crate::role::Role;
@@ -22,6 +23,8 @@ pub fn siphon_cases(
     set: &List<u16>,
 ) -> Result<List<List<Fact>>, NoMemory>
     ensures cases { IfOk result (λ cases. cases ≡ siphon_list leaf.now set.now) }
+    // Every terminal end meets all facts of one of the cases.
+    ensures cover { IfOk result (Cover leaf.now) }
 {
     let set = StateSet::new(alloc, set)?;
     let started = some_started(alloc, leaf, &set)?;

@@ -4,6 +4,7 @@ ghost use Rattle.std.specs.Prelude.{◌≡◌, ◌≤◌, ◌^◌, ◌++◌, ◌
 ghost use Rattle.pop_net.specs.LeafModel.{IsLeaf};
 ghost use Rattle.cert_base.specs.declared.fact.Fact.TheVariants.{Ge, Eq};
 ghost use Rattle.cert_base.specs.FactsAndCases.{none_taken as no_moves, none_started as no_inputs, some_taken as some_moves, count_in as count_row, puts_into, trap_cases as trap_list};
+ghost use Rattle.cert_base.specs.Ends.{Cover};
 ghost use Rattle.cert_traps.specs.Roles.{passes};
 
 use crate::facts::{coefs, only, push_zeros};
@@ -17,6 +18,8 @@ use std::alloc::Global;
 /// The set is no trap; or it was never marked; or it is marked at the end.
 pub fn trap_cases(alloc: Global, leaf: &Leaf, set: &List<u16>) -> Result<List<List<Fact>>, NoMemory>
     ensures cases { IfOk result (λ cases. cases ≡ trap_list leaf.now set.now) }
+    // Every terminal end meets all facts of one of the cases.
+    ensures cover { IfOk result (Cover leaf.now) }
 {
     let set = StateSet::new(alloc, set)?;
     let marked = count_in(alloc, leaf, &set, -1)?;

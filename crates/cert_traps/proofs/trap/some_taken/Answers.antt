@@ -1,4 +1,4 @@
-use Rattle.std.proofs.Common.{◌≡◌, ◌∙◌, ap, arith}
+use Rattle.std.proofs.Common.{◌∙◌, ap}
 use Rattle.std.specs.Prelude.{negsuc}
 use Rattle.cert_base.specs.declared.fact.Fact.TheVariants.{Ge}
 use Rattle.cert_base.specs.Rows.{move_row}
