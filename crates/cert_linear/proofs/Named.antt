@@ -13,14 +13,8 @@ use Rattle.cert_base.specs.ClosingTests.{times, row_of, scaled, all_named, may_h
 use Rattle.cert_linear.specs.Sums.{IsPlus}
 use Rattle.cert_linear.specs.declared.sum.Sum.{Sum}
 
-below_test : (z : ℤ) → int_lt z (pos 0) ≡ true → int_le z (negsuc 0) ≡ true
-below_test (pos n) e = absurd (omega (arith, ltb-true n 0 e))
-below_test (negsuc n) e = le-leb 0 n (omega arith)
-
-pub with_constant : (r e : Bool) (w z : ℤ) → r ≡ e → w ≡ z → int_lt w (pos 0) ≡ true → r ≡ (e && int_le z (negsuc 0))
-with_constant r e w z same is l =
-    let low : int_le z (negsuc 0) ≡ true = rw (← is) (below_test w l) in
-    rw low (same ∙ sym (and_true e))
+pub and_passed : (r e b : Bool) → r ≡ e → b ≡ true → r ≡ (e && b)
+and_passed r e b same passes = same ∙ sym (rw passes (and_true e))
   where
     and_true : (e : Bool) → e && true ≡ e
     and_true true = refl

@@ -67,7 +67,13 @@ impl Sum {
     pub(crate) fn is_negative(&self) -> bool
         ensures { (row : Row) → IsSum row self.now → result ≡ (each_coefficient (λ a. int_le a (pos 0)) row && int_le row.constant (negsuc 0)) }
     {
-        self.constant < 0 && self.has_no_positive()
+        self.has_negative_constant() && self.has_no_positive()
+    }
+
+    fn has_negative_constant(&self) -> bool
+        ensures { result ≡ int_le self.now.constant (negsuc 0) }
+    {
+        self.constant < 0
     }
 
     fn has_no_positive(&self) -> bool

@@ -67,10 +67,11 @@ first_closes : (leaf : LeafModel) (above : ℕ) (facts : List Fact) (waiting : L
 first_closes leaf above facts waiting node nodes passes few h =
     let limits : IsWithinLimits above facts = record { depth = passes.depth; fact_count = few } in
     elim passes.ways [
-    inl r ↦ one_waits above facts waiting (node ∷ nodes) nodes (refuted above facts node nodes limits r.0) (let h' : ClosesAll leaf (below_of (above + 1) facts [] ++ waiting) nodes = rw r.1 at h in h')
-    | inr d ↦
-    let then = each_then leaf (above + 1) facts (cases_at leaf facts node) waiting nodes h in
-    one_waits above facts waiting (node ∷ nodes) then.between (by_cases above facts node nodes then.between (cases_at leaf facts node) limits d then.each) then.others ]
+      | inl r ↦ one_waits above facts waiting (node ∷ nodes) nodes (refuted above facts node nodes limits r.0) (let h' : ClosesAll leaf (below_of (above + 1) facts [] ++ waiting) nodes = rw r.1 at h in h')
+      | inr d ↦
+          let then = each_then leaf (above + 1) facts (cases_at leaf facts node) waiting nodes h in
+          one_waits above facts waiting (node ∷ nodes) then.between (by_cases above facts node nodes then.between (cases_at leaf facts node) limits d then.each) then.others
+    ]
 
 -- where no node is refused, the nodes close
 pub unrefused-closes : (leaf : LeafModel) (nodes : List Node) (waiting : List Waiting) (number : ℕ) → AllFew waiting → first_from leaf waiting number nodes ≡ None → ClosesAll leaf waiting nodes

@@ -73,9 +73,9 @@ first_entered trail frames f g own rest walk cases within nested facts pushed le
       above = length (reverse frames);
       depth = ap length pushed ∙ length-append frames (g ∷ []) ∙ ap (λ n. n + 1) (sym (length-reverse frames));
       first =
-      ap (λ cs. map {B = Waiting} (λ more. (length (reverse frames), take f.len trail ++ more)) cs ++ waiting_under trail (reverse frames)) cases
-      ∙ ap (λ t. (length (reverse frames), t) ∷ (map {B = Waiting} (λ more. (length (reverse frames), take f.len trail ++ more)) rest ++ waiting_under trail (reverse frames))) (sym facts)
-      ∙ ap (λ ws. (length (reverse frames), walk.trail) ∷ ws) (sym whole);
+          ap (λ cs. map {B = Waiting} (λ more. (length (reverse frames), take f.len trail ++ more)) cs ++ waiting_under trail (reverse frames)) cases
+          ∙ ap (λ t. (length (reverse frames), t) ∷ (map {B = Waiting} (λ more. (length (reverse frames), take f.len trail ++ more)) rest ++ waiting_under trail (reverse frames))) (sym facts)
+          ∙ ap (λ ws. (length (reverse frames), walk.trail) ∷ ws) (sym whole);
       nested = rw top (omega (arith, long, len), rw len nested);
     }
 

@@ -73,15 +73,15 @@ ends_right leaf tree value none counts end input has reached terminal k d l =
     (λ wrong. none (count_for leaf counts end (λ t. times_taken leaf t (leaf_input_crowd leaf counts) reached.0 end reached.1))
     (record {
       reached =
-      record {
-        counts = counts;
-        path = reached.0;
-        end = end;
-        way = reached.1;
-        input = input;
-        terminal = terminal;
-        execution = execution_has leaf counts reached.0 end reached.1;
-      };
+          record {
+            counts = counts;
+            path = reached.0;
+            end = end;
+            way = reached.1;
+            input = input;
+            terminal = terminal;
+            execution = execution_has leaf counts reached.0 end reached.1;
+          };
       has_value = has;
       agent = k;
       state = get_or end k d;

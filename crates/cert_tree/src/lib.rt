@@ -11,6 +11,3 @@ mod walk;
 
 pub use fault::{TreeFault, TreeWhy};
 pub use tree::check_tree;
-
-#[cfg(test)]
-mod tests;

@@ -46,11 +46,7 @@ pub(crate) fn node_cases(
 }
 
 /// A node that refutes the facts.
-fn linear_node(
-    alloc: Global,
-    trail: &Trail,
-    terms: &List<Term>,
-) -> Result<List<List<Fact>>, Halt>
+fn linear_node(alloc: Global, trail: &Trail, terms: &List<Term>) -> Result<List<List<Fact>>, Halt>
     requires multipliers { AreMultipliers terms.now }
     requires ordered { All IsOrdered trail.now }
     ensures passed { (leaf : LeafModel) → IfOk result (IsPassed leaf trail.now (Linear terms.now)) }
