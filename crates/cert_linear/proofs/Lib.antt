@@ -1,0 +1,6 @@
+pub mod RowValues
+pub mod Linear
+pub mod Coefficients
+pub mod Multiples
+pub mod Named
+pub mod Refuted

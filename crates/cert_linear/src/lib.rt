@@ -1,0 +1,11 @@
+//! Refutations of facts by sums of their rows, and the trail of facts of a case.
+//! It stands on `cert_base`.
+//! The layer above uses: `linear_closes` and `residue_closes` are exactly the closing tests, and what they close no counts meet.
+#![tactic(auto)]
+
+mod closing;
+mod sum;
+mod trail;
+
+pub use closing::{linear_closes, residue_closes};
+pub use trail::Trail;

@@ -1,0 +1,128 @@
+-- No node is refused exactly where the nodes close the cases that wait, one after the other.
+use Rattle.std.proofs.Common.{◌≡◌, ◌⊎◌, inl, inr, ℕ, zero, suc, ◌+◌, ◌<◌, ◌≤◌, Bool, true, false, ◌&&◌, List, [], ◌∷◌, ◌++◌, length, map, length-append, refl, ap, sym, ◌∙◌, arith}
+use Rattle.std.specs.Prelude.{Option, Some, None, nat_le}
+use Rattle.std.specs.List.{list_all}
+use Rattle.std.proofs.lemmas.Bool.{leb-true, le-leb}
+use Rattle.pop_net.proofs.Reactions.{and_left, and_right}
+use Rattle.pop_net.specs.LeafModel.{LeafModel}
+use Rattle.pres_ast.specs.PredModel.{PredModel}
+use Rattle.cert_base.specs.declared.fact.Fact.{Fact}
+use Rattle.cert_base.specs.declared.node.Node.{Node}
+use Rattle.cert_base.specs.FactsAndCases.{base_facts}
+use Rattle.cert_base.specs.Closes.{refutes, cases_of, IsWithinLimits, ClosesUnder, refuted, by_cases, ClosesEach, no_case, next_case, Closes}
+use Rattle.cert_tree.specs.declared.fault.TreeWhy.{TreeWhy}
+use Rattle.cert_tree.specs.Refusals.{cases_at, all_fit, refusal, Waiting, cases_below, go_on, first_from, first_refused}
+use Rattle.cert_tree.proofs.Inversion.{by_first, by_first_case, RefutesFirst, SplitsFirst, ClosesFirst}
+use Rattle.cert_tree.proofs.Passing.{Passes, unrefused-passes, refuting-unrefused, dividing-unrefused}
+
+-- the nodes close all cases that wait, and nothing is left
+pub data ClosesAll (leaf : LeafModel) : (waiting : List Waiting) (nodes : List Node) → Type 0 where
+  none_waits : ClosesAll leaf [] []
+  one_waits : (above : ℕ) (facts : List Fact) (waiting : List Waiting) (nodes rest : List Node) → ClosesUnder leaf above facts nodes rest → ClosesAll leaf waiting rest → ClosesAll leaf ((above, facts) ∷ waiting) nodes
+
+-- each case has few enough facts
+abbrev AllFew : List Waiting → Type 0
+AllFew [] = Unit {0}
+AllFew (at ∷ waiting) = (length at.1 ≤ 65536) × AllFew waiting
+
+abbrev below_of : ℕ → List Fact → List (List Fact) → List Waiting
+below_of above facts cases = map (λ own. (above, facts ++ own)) cases
+
+few_below : (above : ℕ) (facts : List Fact) (cases : List (List Fact)) (waiting : List Waiting) → all_fit facts cases ≡ true → AllFew waiting → AllFew (below_of above facts cases ++ waiting)
+few_below above facts [] waiting e few = few
+few_below above facts (own ∷ cases) waiting e few =
+    (rw (length-append facts own) (leb-true (length facts + length own) 65536 (and_left _ _ e)), few_below above facts cases waiting (and_right (nat_le (length facts + length own) 65536) _ e) few)
+
+-- the cases of a node close one after the other, and then those that waited before
+pub record ClosesThen (leaf : LeafModel) (above : ℕ) (facts : List Fact) (cases : List (List Fact)) (waiting : List Waiting) (nodes : List Node) : Type 0 where
+  pub between : List Node
+  pub each : ClosesEach leaf above facts cases nodes between
+  pub others : ClosesAll leaf waiting between
+
+abbrev AllInverse : LeafModel → List Waiting → List Node → Type 0
+AllInverse leaf [] nodes = nodes ≡ []
+AllInverse leaf (at ∷ waiting) nodes = (rest : List Node) × ClosesUnder leaf at.0 at.1 nodes rest × ClosesAll leaf waiting rest
+
+all_inverse : {leaf : LeafModel} {waiting : List Waiting} {nodes : List Node} → ClosesAll leaf waiting nodes → AllInverse leaf waiting nodes
+all_inverse none_waits = refl
+all_inverse (one_waits above facts waiting nodes rest first others) = (rest, first, others)
+
+each_then : (leaf : LeafModel) (above : ℕ) (facts : List Fact) (cases : List (List Fact)) (waiting : List Waiting) (nodes : List Node) → ClosesAll leaf (below_of above facts cases ++ waiting) nodes → ClosesThen leaf above facts cases waiting nodes
+each_then leaf above facts [] waiting nodes h =
+    record { between = nodes; each = no_case above facts nodes; others = h }
+each_then leaf above facts (own ∷ cases) waiting nodes h =
+    let first = all_inverse h in
+    let rest = each_then leaf above facts cases waiting first.0 first.2 in
+    record {
+      between = rest.between;
+      each = next_case above facts own cases nodes first.0 rest.between first.1 rest.each;
+      others = rest.others;
+    }
+
+go_on_none : (why : Option TreeWhy) (number : ℕ) (later : Option (ℕ × TreeWhy)) → go_on why number later ≡ None → (why ≡ None) × (later ≡ None)
+go_on_none None number later e = (refl, e)
+go_on_none (Some why) number later e = cc
+
+first_closes : (leaf : LeafModel) (above : ℕ) (facts : List Fact) (waiting : List Waiting) (node : Node) (nodes : List Node) → Passes leaf above facts node → length facts ≤ 65536 → ClosesAll leaf (cases_below leaf (above, facts) node ++ waiting) nodes → ClosesAll leaf ((above, facts) ∷ waiting) (node ∷ nodes)
+first_closes leaf above facts waiting node nodes passes few h =
+    let limits : IsWithinLimits above facts = record { depth = passes.depth; fact_count = few } in
+    elim passes.ways [
+      | inl r ↦ one_waits above facts waiting (node ∷ nodes) nodes (refuted above facts node nodes limits r.0) (let h' : ClosesAll leaf (below_of (above + 1) facts [] ++ waiting) nodes = rw r.1 at h in h')
+      | inr d ↦
+          let then = each_then leaf (above + 1) facts (cases_at leaf facts node) waiting nodes h in
+          one_waits above facts waiting (node ∷ nodes) then.between (by_cases above facts node nodes then.between (cases_at leaf facts node) limits d then.each) then.others
+    ]
+
+-- where no node is refused, the nodes close
+pub unrefused-closes : (leaf : LeafModel) (nodes : List Node) (waiting : List Waiting) (number : ℕ) → AllFew waiting → first_from leaf waiting number nodes ≡ None → ClosesAll leaf waiting nodes
+unrefused-closes leaf [] [] number few e = none_waits
+unrefused-closes leaf [] (at ∷ waiting) number few e = cc
+unrefused-closes leaf (node ∷ nodes) [] number few e = cc
+unrefused-closes leaf (node ∷ nodes) (at ∷ waiting) number few e =
+    let passes = go_on_none (refusal leaf at.0 at.1 node) number _ e in
+    let fit = (unrefused-passes leaf at.0 at.1 node passes.0).fit in
+    first_closes leaf at.0 at.1 waiting node nodes (unrefused-passes leaf at.0 at.1 node passes.0) few.0
+    (unrefused-closes leaf nodes (cases_below leaf at node ++ waiting) (number + 1) (few_below (at.0 + 1) at.1 (cases_at leaf at.1 node) waiting fit few.1) passes.1)
+
+-- ---- where the nodes close, no node is refused
+
+-- what comes first is what comes first in the rest
+abbrev Same : LeafModel → List Waiting → List Node → List Waiting → List Node → Type 0
+Same leaf before nodes after rest = (number : ℕ) → (later : ℕ) × (first_from leaf before number nodes ≡ first_from leaf after later rest)
+
+each_fits : {leaf : LeafModel} {above : ℕ} {facts : List Fact} {cases : List (List Fact)} {nodes rest : List Node} → ClosesEach leaf above facts cases nodes rest → all_fit facts cases ≡ true
+each_fits (no_case above facts rest) = refl
+each_fits (next_case above facts own cases nodes between rest first others) =
+    rw (le-leb (length facts + length own) 65536 (rw (length-append facts own) at (few_of first)), each_fits others) refl
+  where
+    few_of : {leaf : LeafModel} {above : ℕ} {facts : List Fact} {nodes rest : List Node} → ClosesUnder leaf above facts nodes rest → length facts ≤ 65536
+    few_of (refuted above facts node rest limits r) = limits.fact_count
+    few_of (by_cases above facts node nodes rest cases limits c each) = limits.fact_count
+
+mutual
+  closes-same : {leaf : LeafModel} {above : ℕ} {facts : List Fact} {nodes rest : List Node} → ClosesUnder leaf above facts nodes rest → (waiting : List Waiting) → Same leaf ((above, facts) ∷ waiting) nodes waiting rest
+  closes-same {leaf} (refuted above facts node rest limits r) waiting number =
+      let h = refuting-unrefused leaf above facts node limits r in
+      (number + 1, rw (h.0, h.1) refl)
+  closes-same {leaf} (by_cases above facts node nodes rest cases limits c each) waiting number =
+      let h = dividing-unrefused leaf above facts node cases limits c (each_fits each) in
+      let later = each-same each waiting (number + 1) in
+      (later.0, rw (h.0, h.1) later.1)
+
+  each-same : {leaf : LeafModel} {above : ℕ} {facts : List Fact} {cases : List (List Fact)} {nodes rest : List Node} → ClosesEach leaf above facts cases nodes rest → (waiting : List Waiting) → Same leaf (below_of above facts cases ++ waiting) nodes waiting rest
+  each-same (no_case above facts rest) waiting number = (number, refl)
+  each-same (next_case above facts own cases nodes between rest first others) waiting number =
+      let here = closes-same first (below_of above facts cases ++ waiting) number in
+      let later = each-same others waiting here.0 in
+      (later.0, here.1 ∙ later.1)
+
+-- ---- the whole tree
+
+pub unrefused-Closes : (leaf : LeafModel) (p : PredModel) (value : Bool) (nodes : List Node) → length (base_facts leaf p value) ≤ 65536 → first_refused leaf p value nodes ≡ None → Closes leaf (base_facts leaf p value) nodes []
+unrefused-Closes leaf p value nodes few e =
+    let h = all_inverse (unrefused-closes leaf nodes ((0, base_facts leaf p value) ∷ []) 0 (few, tt) e) in
+    let none : h.0 ≡ [] = all_inverse h.2 in
+    rw none at h.1
+
+pub Closes-unrefused : (leaf : LeafModel) (p : PredModel) (value : Bool) (nodes : List Node) → Closes leaf (base_facts leaf p value) nodes [] → first_refused leaf p value nodes ≡ None
+Closes-unrefused leaf p value nodes h = (closes-same h [] 0).1

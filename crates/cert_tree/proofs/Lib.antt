@@ -1,0 +1,10 @@
+pub mod Inversion
+pub mod Passing
+pub mod ClosedWalk
+pub mod Rooms
+pub mod Stacks
+pub mod Passed
+pub mod Ordered
+pub mod Visits
+pub mod Starts
+pub mod Verdicts

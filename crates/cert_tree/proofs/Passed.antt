@@ -1,0 +1,77 @@
+-- What nodes that pass are.
+use Rattle.std.proofs.Common.{◌≡◌, ℕ, ◌+◌, ◌<◌, ◌≤◌, Bool, true, false, not, List, [], ◌∷◌, ◌++◌, length, refl, ap, sym, ◌∙◌, arith}
+use Rattle.std.specs.Prelude.{Option, Some, None, nat_lt, slice_get, All, if◌then◌else◌}
+use Rattle.std.specs.List.{list_all}
+use Rattle.std.proofs.lemmas.Bool.{lt-ltb}
+use Rattle.pop_net.specs.LeafModel.{LeafModel}
+use Rattle.cert_base.specs.declared.fact.Term.{Term}
+use Rattle.cert_base.specs.declared.fact.Row.{Row}
+use Rattle.cert_base.specs.declared.fact.Fact.{Fact}
+use Rattle.cert_base.specs.declared.node.Node.{Node}
+use Rattle.cert_base.specs.declared.node.Node.TheVariants.{Linear, Residue, Split, Present, Twin, Trap, Siphon, Open}
+use Rattle.cert_base.specs.Rows.{variable_count}
+use Rattle.cert_base.specs.FactsAndCases.{can_meet, not_twice, twin_case, split_cases, present_cases, trap_cases, siphon_cases}
+use Rattle.cert_base.specs.ClosingTests.{linear_closes, residue_closes}
+use Rattle.cert_base.specs.Closes.{name_below, refutes, cases_of}
+use Rattle.cert_base.specs.Ends.{AreRefuted, Cover, CoverAll, MeetsAll, MeetsOne}
+use Rattle.cert_tree.specs.Refusals.{own_refusal, cases_at}
+use Rattle.cert_tree.specs.Frames.{IsPassed, CoverUnder}
+
+pub linear_passed : (facts : List Fact) (terms : List Term) (cases : List (List Fact)) → name_below (length facts) terms ≡ true → linear_closes facts terms ≡ true → AreRefuted facts → cases ≡ [] → (leaf : LeafModel) → IsPassed leaf facts (Linear terms) cases
+linear_passed facts terms cases named closes refuted none leaf = record {
+  cases_are = none;
+  unrefused = rw (named, closes) refl;
+  cover = λ count end meets. absurd (refuted count meets);
+}
+
+pub residue_passed : (facts : List Fact) (m : ℕ) (terms : List Term) (cases : List (List Fact)) → name_below (length facts) terms ≡ true → residue_closes facts m terms ≡ true → AreRefuted facts → cases ≡ [] → (leaf : LeafModel) → IsPassed leaf facts (Residue m terms) cases
+residue_passed facts m terms cases named closes refuted none leaf = record {
+  cases_are = none;
+  unrefused = rw (named, closes) refl;
+  cover = λ count end meets. absurd (refuted count meets);
+}
+
+pub split_passed : (leaf : LeafModel) (row : Row) (cases : List (List Fact)) → name_below (variable_count leaf) row.terms ≡ true → cases ≡ split_cases row → CoverAll cases → (facts : List Fact) → IsPassed leaf facts (Split row) cases
+split_passed leaf row cases named same cover facts = record {
+  cases_are = same ∙ sym (rw named refl);
+  unrefused = rw named refl;
+  cover = λ count end meets. cover count;
+}
+
+pub present_passed : (leaf : LeafModel) (p : ℕ) (cases : List (List Fact)) → p < length leaf.states → cases ≡ present_cases leaf p → Cover leaf cases → (facts : List Fact) → IsPassed leaf facts (Present p) cases
+present_passed leaf p cases l same cover facts =
+    let named = lt-ltb p (length leaf.states) l in
+    record {
+      cases_are = same ∙ sym (rw named refl);
+      unrefused = rw named refl;
+      cover = λ count end meets. cover count end;
+    }
+
+pub twin_passed : (leaf : LeafModel) (p : ℕ) (own : List Fact) (cases : List (List Fact)) → p < length leaf.states → Some own ≡ twin_case leaf p → Cover leaf (own ∷ []) → cases ≡ own ∷ [] → (facts : List Fact) → IsPassed leaf facts (Twin p) cases
+twin_passed leaf p own cases l same cover is facts = go (can_meet leaf p p) refl
+  where
+    go : (meets : Bool) → can_meet leaf p p ≡ meets → IsPassed leaf facts (Twin p) cases
+    go true e =
+        let named = lt-ltb p (length leaf.states) l in
+        let whole : Some own ≡ Some (not_twice leaf p ∷ []) = same ∙ rw e refl in
+        let own_is : own ≡ not_twice leaf p ∷ [] = cc in
+        record {
+          cases_are = is ∙ rw (named, e, own_is) refl;
+          unrefused = rw (named, e) refl;
+          cover = λ count end meets. rw is (cover count end);
+        }
+    go false e = let none : Some own ≡ None = same ∙ rw e refl in cc
+
+pub trap_passed : (leaf : LeafModel) (set : List ℕ) (cases : List (List Fact)) → list_all (λ q. nat_lt q (length leaf.states)) set ≡ true → cases ≡ trap_cases leaf set → Cover leaf cases → (facts : List Fact) → IsPassed leaf facts (Trap set) cases
+trap_passed leaf set cases named same cover facts = record {
+  cases_are = same ∙ sym (rw named refl);
+  unrefused = rw named refl;
+  cover = λ count end meets. cover count end;
+}
+
+pub siphon_passed : (leaf : LeafModel) (set : List ℕ) (cases : List (List Fact)) → list_all (λ q. nat_lt q (length leaf.states)) set ≡ true → cases ≡ siphon_cases leaf set → Cover leaf cases → (facts : List Fact) → IsPassed leaf facts (Siphon set) cases
+siphon_passed leaf set cases named same cover facts = record {
+  cases_are = same ∙ sym (rw named refl);
+  unrefused = rw named refl;
+  cover = λ count end meets. cover count end;
+}

@@ -1,0 +1,151 @@
+-- A node that isn't refused refutes its facts or distinguishes cases, and a node that does so isn't refused.
+use Rattle.std.proofs.Common.{◌≡◌, ◌⊎◌, inl, inr, ℕ, zero, suc, ◌+◌, ◌<◌, ◌≤◌, Bool, true, false, not, ◌&&◌, List, [], ◌∷◌, ◌++◌, length, map, refl, ap, sym, ◌∙◌, arith}
+use Rattle.std.specs.Prelude.{Option, Some, None, unwrap_or, nat_lt, nat_le, slice_get, if◌then◌else◌}
+use Rattle.std.specs.List.{list_all}
+use Rattle.std.proofs.lemmas.Bool.{ltb-true, leb-true, lt-ltb, le-leb}
+use Rattle.std.proofs.lemmas.Option.{slice_get_within}
+use Rattle.pop_net.proofs.Reactions.{and_left, and_right}
+use Rattle.pop_net.specs.LeafModel.{LeafModel}
+use Rattle.cert_base.specs.declared.fact.Term.{Term}
+use Rattle.cert_base.specs.declared.fact.Fact.{Fact}
+use Rattle.cert_base.specs.declared.fact.Fact.TheVariants.{Ge, Eq, Cong, NotCong, Holds}
+use Rattle.cert_base.specs.declared.node.Node.{Node}
+use Rattle.cert_base.specs.declared.node.Node.TheVariants.{Linear, Residue, Split, Present, Twin, Trap, Siphon, Open}
+use Rattle.cert_base.specs.Rows.{variable_count}
+use Rattle.cert_base.specs.FactsAndCases.{can_meet, twin_case, split_cases, present_cases, trap_cases, siphon_cases, open_cases}
+use Rattle.cert_base.specs.ClosingTests.{may_have, all_named, may_add, may_add_modulo, linear_closes, residue_closes, sum_of, each_coefficient}
+use Rattle.cert_base.specs.Closes.{name_below, refutes, cases_of, where_in_range, opened, only_case, IsWithinLimits}
+use Rattle.cert_tree.specs.declared.fault.TreeWhy.{TreeWhy}
+use Rattle.cert_tree.specs.declared.fault.TreeWhy.TheVariants.{Missing, TooDeep, BadIndex, NoTwin, NotOpen, NotClosed, TooManyFacts, Rest}
+use Rattle.cert_tree.specs.Refusals.{in_range, has_twin, is_holds, opens_holds, closes_leaf, cases_at, all_fit, own_refusal, or_else, refusal}
+
+-- the node refutes the facts and has no case, or it has these cases
+abbrev pub RefutesOrDivides : LeafModel → List Fact → Node → Type 0
+RefutesOrDivides leaf facts node = ((refutes facts node ≡ true) × (cases_at leaf facts node ≡ [])) ⊎ (cases_of leaf facts node ≡ Some (cases_at leaf facts node))
+
+-- ---- nested tests
+
+first_test : (a b c d : Bool) → (if not a then Some BadIndex else if not b then Some NoTwin else if not c then Some NotOpen else if not d then Some NotClosed else None) ≡ None → (a ≡ true) × (b ≡ true) × (c ≡ true) × (d ≡ true)
+first_test true true true true e = (refl, refl, refl, refl)
+first_test true true true false e = cc
+first_test true true false d e = cc
+first_test true false c d e = cc
+first_test false b c d e = cc
+
+whole_test : (a b : Bool) (own : Option TreeWhy) → (if not a then Some TooDeep else or_else own (if b then None else Some TooManyFacts)) ≡ None → (a ≡ true) × (b ≡ true) × (own ≡ None)
+whole_test true true None e = (refl, refl, refl)
+whole_test true true (Some why) e = cc
+whole_test true false None e = cc
+whole_test true false (Some why) e = cc
+whole_test false b own e = cc
+
+-- ---- a node that passes its own tests
+
+twin_at : (leaf : LeafModel) (facts : List Fact) (p : ℕ) → nat_lt p (length leaf.states) ≡ true → can_meet leaf p p ≡ true → RefutesOrDivides leaf facts (Twin p)
+twin_at leaf facts p e f = inr (rw (e, f) refl)
+
+open_at : (leaf : LeafModel) (facts : List Fact) (f : ℕ) (o : Option Fact) → slice_get facts f ≡ o → is_holds o ≡ true → opened o ≡ Some (unwrap_or (opened o) [])
+open_at leaf facts f None h e = cc
+open_at leaf facts f (Some (Ge row)) h e = cc
+open_at leaf facts f (Some (Eq row)) h e = cc
+open_at leaf facts f (Some (Cong row m)) h e = cc
+open_at leaf facts f (Some (NotCong row m)) h e = cc
+open_at leaf facts f (Some (Holds p b)) h e = refl
+
+pub passes-own : (leaf : LeafModel) (facts : List Fact) (node : Node) → (in_range leaf facts node ≡ true) × (has_twin leaf node ≡ true) × (opens_holds facts node ≡ true) × (closes_leaf facts node ≡ true) → RefutesOrDivides leaf facts node
+passes-own leaf facts (Linear terms) h = inl (h.3, refl)
+passes-own leaf facts (Residue m terms) h = inl (h.3, refl)
+passes-own leaf facts (Split row) h = inr (rw h.0 refl)
+passes-own leaf facts (Present p) h = inr (rw h.0 refl)
+passes-own leaf facts (Twin p) h = twin_at leaf facts p h.0 h.1
+passes-own leaf facts (Trap set) h = inr (rw h.0 refl)
+passes-own leaf facts (Siphon set) h = inr (rw h.0 refl)
+passes-own leaf facts (Open f) h = inr (open_at leaf facts f (slice_get facts f) refl h.2)
+
+-- what a node that isn't refused is
+pub record Passes (leaf : LeafModel) (above : ℕ) (facts : List Fact) (node : Node) : Type 0 where
+  pub depth : above < 4096
+  pub fit : all_fit facts (cases_at leaf facts node) ≡ true
+  pub ways : RefutesOrDivides leaf facts node
+
+pub unrefused-passes : (leaf : LeafModel) (above : ℕ) (facts : List Fact) (node : Node) → refusal leaf above facts node ≡ None → Passes leaf above facts node
+unrefused-passes leaf above facts node e =
+    let whole = whole_test (nat_lt above 4096) (all_fit facts (cases_at leaf facts node)) (own_refusal leaf facts node) e in
+    record {
+      depth = ltb-true above 4096 whole.0;
+      fit = whole.1;
+      ways = passes-own leaf facts node (first_test (in_range leaf facts node) (has_twin leaf node) (opens_holds facts node) (closes_leaf facts node) whole.2);
+    }
+
+-- ---- a node that refutes or divides is not refused by its own tests
+
+named_below_by : (may : _) (facts : List Fact) (terms : List Term) → all_named may facts terms ≡ true → name_below (length facts) terms ≡ true
+named_below_by may facts [] e = refl
+named_below_by may facts (t ∷ terms) e =
+    let here = there (slice_get facts t.at) refl (and_left _ _ e) in
+    rw (here, named_below_by may facts terms (and_right (may_have may t.by (slice_get facts t.at)) _ e)) refl
+  where
+    there : (o : Option Fact) → slice_get facts t.at ≡ o → may_have may t.by o ≡ true → nat_lt t.at (length facts) ≡ true
+    there None h f = cc
+    there (Some fact) h f = lt-ltb t.at (length facts) (slice_get_within facts t.at fact h)
+
+-- all four tests are passed
+abbrev PassesOwn : LeafModel → List Fact → Node → Type 0
+PassesOwn leaf facts node = (in_range leaf facts node ≡ true) × (has_twin leaf node ≡ true) × (opens_holds facts node ≡ true) × (closes_leaf facts node ≡ true)
+
+refutes-passes : (leaf : LeafModel) (facts : List Fact) (node : Node) → refutes facts node ≡ true → PassesOwn leaf facts node × (cases_at leaf facts node ≡ [])
+refutes-passes leaf facts (Linear terms) e =
+    ((named_below_by may_add facts terms (and_left (all_named may_add facts terms) _ (and_left (all_named may_add facts terms && _) _ e)), refl, refl, e), refl)
+refutes-passes leaf facts (Residue m terms) e =
+    ((named_below_by (may_add_modulo m) facts terms (and_left _ _ e), refl, refl, e), refl)
+refutes-passes leaf facts (Split row) e = cc
+refutes-passes leaf facts (Present p) e = cc
+refutes-passes leaf facts (Twin p) e = cc
+refutes-passes leaf facts (Trap set) e = cc
+refutes-passes leaf facts (Siphon set) e = cc
+refutes-passes leaf facts (Open f) e = cc
+
+in_range_by : (b : Bool) (all cases : List (List Fact)) → where_in_range b all ≡ Some cases → b ≡ true
+in_range_by true all cases e = refl
+in_range_by false all cases e = cc
+
+twin_by : (a b : Bool) (own : List Fact) (cases : List (List Fact)) → (if a then only_case (if b then Some own else None) else None) ≡ Some cases → (a ≡ true) × (b ≡ true)
+twin_by true true own cases e = (refl, refl)
+twin_by true false own cases e = cc
+twin_by false b own cases e = cc
+
+open_by : (facts : List Fact) (f : ℕ) (o : Option Fact) (cases : List (List Fact)) → slice_get facts f ≡ o → opened o ≡ Some cases → (nat_lt f (length facts) ≡ true) × (is_holds o ≡ true)
+open_by facts f None cases h e = cc
+open_by facts f (Some (Ge row)) cases h e = cc
+open_by facts f (Some (Eq row)) cases h e = cc
+open_by facts f (Some (Cong row m)) cases h e = cc
+open_by facts f (Some (NotCong row m)) cases h e = cc
+open_by facts f (Some (Holds p b)) cases h e = (lt-ltb f (length facts) (slice_get_within facts f (Holds p b) h), refl)
+
+divides-passes : (leaf : LeafModel) (facts : List Fact) (node : Node) (cases : List (List Fact)) → cases_of leaf facts node ≡ Some cases → PassesOwn leaf facts node
+divides-passes leaf facts (Linear terms) cases e = cc
+divides-passes leaf facts (Residue m terms) cases e = cc
+divides-passes leaf facts (Split row) cases e = (in_range_by _ _ cases e, refl, refl, refl)
+divides-passes leaf facts (Present p) cases e = (in_range_by _ _ cases e, refl, refl, refl)
+divides-passes leaf facts (Twin p) cases e =
+    let h = twin_by (nat_lt p (length leaf.states)) (can_meet leaf p p) _ cases e in (h.0, h.1, refl, refl)
+divides-passes leaf facts (Trap set) cases e = (in_range_by _ _ cases e, refl, refl, refl)
+divides-passes leaf facts (Siphon set) cases e = (in_range_by _ _ cases e, refl, refl, refl)
+divides-passes leaf facts (Open f) cases e =
+    let h = open_by facts f (slice_get facts f) cases refl e in (h.0, refl, h.1, refl)
+
+own_none : (leaf : LeafModel) (facts : List Fact) (node : Node) → PassesOwn leaf facts node → own_refusal leaf facts node ≡ None
+own_none leaf facts node h = rw (h.0, h.1, h.2, h.3) refl
+
+unrefused : (leaf : LeafModel) (above : ℕ) (facts : List Fact) (node : Node) → above < 4096 → own_refusal leaf facts node ≡ None → all_fit facts (cases_at leaf facts node) ≡ true → refusal leaf above facts node ≡ None
+unrefused leaf above facts node l own fit = rw (lt-ltb above 4096 l, own, fit) refl
+
+pub refuting-unrefused : (leaf : LeafModel) (above : ℕ) (facts : List Fact) (node : Node) → IsWithinLimits above facts → refutes facts node ≡ true → (refusal leaf above facts node ≡ None) × (cases_at leaf facts node ≡ [])
+refuting-unrefused leaf above facts node limits e =
+    let h = refutes-passes leaf facts node e in
+    (unrefused leaf above facts node limits.depth (own_none leaf facts node h.0) (rw h.1 refl), h.1)
+
+pub dividing-unrefused : (leaf : LeafModel) (above : ℕ) (facts : List Fact) (node : Node) (cases : List (List Fact)) → IsWithinLimits above facts → cases_of leaf facts node ≡ Some cases → all_fit facts cases ≡ true → (refusal leaf above facts node ≡ None) × (cases_at leaf facts node ≡ cases)
+dividing-unrefused leaf above facts node cases limits e fit =
+    let same : cases_at leaf facts node ≡ cases = rw e refl in
+    (unrefused leaf above facts node limits.depth (own_none leaf facts node (divides-passes leaf facts node cases e)) (rw same fit), same)

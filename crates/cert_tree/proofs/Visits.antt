@@ -1,0 +1,112 @@
+-- One step of the walk: the next node is passed or refused.
+use Rattle.std.proofs.Common.{◌≡◌, ◌⊎◌, inl, inr, ℕ, zero, suc, ◌+◌, ◌<◌, ◌≤◌, Bool, true, false, not, ◌&&◌, List, [], ◌∷◌, ◌++◌, length, map, take, reverse, refl, ap, sym, ◌∙◌, length-append, arith}
+use Rattle.std.specs.Prelude.{Option, Some, None, All, Contains, nat_lt, nat_le, slice_index_or}
+use Rattle.std.specs.List.{list_all}
+use Rattle.std.proofs.Math.Seq.{take-length}
+use Rattle.std.proofs.lemmas.Bool.{lt-ltb, le-ltb, leb-true}
+use Rattle.std.proofs.lemmas.List.{length-reverse}
+use Rattle.std.proofs.lemmas.List.Elements.{All-nil, All-cons, All-append, Contains-append_left, Contains-append_right}
+use Rattle.pop_net.proofs.Reactions.{and_left, and_right}
+use Rattle.pop_net.specs.LeafModel.{LeafModel}
+use Rattle.cert_base.specs.declared.fact.Fact.{Fact}
+use Rattle.cert_base.specs.declared.node.Node.{Node}
+use Rattle.cert_base.specs.Valuation.{Valuation, MeetsFact}
+use Rattle.cert_base.specs.Ends.{IsEnd, MeetsAll, MeetsOne}
+use Rattle.cert_linear.specs.Conditions.{IsOrdered}
+use Rattle.cert_tree.specs.declared.fault.TreeWhy.{TreeWhy}
+use Rattle.cert_tree.specs.declared.fault.TreeWhy.TheVariants.{Missing, TooDeep, TooManyFacts, Rest}
+use Rattle.cert_tree.specs.declared.halt.Halt.{Halt}
+use Rattle.cert_tree.specs.declared.halt.Halt.TheVariants.{Refused, NoMemory}
+use Rattle.cert_tree.specs.declared.walk.Frame.{Frame}
+use Rattle.cert_tree.specs.declared.walk.Walk.{Walk}
+use Rattle.cert_tree.specs.Format.{IsWithinFormat}
+use Rattle.cert_tree.specs.Refusals.{Waiting, first_from, cases_at, cases_below, all_fit, own_refusal, refusal}
+use Rattle.cert_tree.specs.Frames.{waits_at, waiting_under, AreNested, waiting, IsNested, IsFit, StandsAtFirst, MeetsWaiting, CoverUnder, StillCover, IsPassed, HaltsBy, GoesOn, HaltsAt}
+use Rattle.cert_tree.proofs.Stacks.{turned}
+use Rattle.cert_tree.proofs.Ordered.{CasesOrdered, AllOrdered, more_cases, no_case, all_of, cases_ordered, first_case}
+
+-- ---- refused
+
+pub rest_refused : (leaf : LeafModel) (before : List Waiting) (node : Node) → before ≡ [] → HaltsAt leaf before node (Refused Rest)
+rest_refused leaf before node e number nodes = rw e refl
+
+module _ (leaf : LeafModel) (before : List Waiting) (node : Node) (walk : Walk) (at : StandsAtFirst before walk) where
+  pub deep_refused : 4096 < length walk.frames.items → HaltsAt leaf before node (Refused TooDeep)
+  deep_refused deep number nodes =
+      let depth = at.depth in
+      let test = le-ltb at.above 4096 (omega (arith, depth, deep)) in
+      rw (at.first, test) refl
+
+  shallow : length walk.frames.items ≤ 4096 → nat_lt at.above 4096 ≡ true
+  shallow few = let depth = at.depth in lt-ltb at.above 4096 (omega (arith, depth, few))
+
+  pub own_refused : (halt : Halt) → length walk.frames.items ≤ 4096 → HaltsBy (own_refusal leaf walk.trail node) halt → HaltsAt leaf before node halt
+  own_refused (Refused why) few own = λ number nodes. rw (at.first, shallow few, own) refl
+  own_refused NoMemory few own = tt
+
+  pub many_refused : length walk.frames.items ≤ 4096 → own_refusal leaf walk.trail node ≡ None → all_fit walk.trail (cases_at leaf walk.trail node) ≡ false → HaltsAt leaf before node (Refused TooManyFacts)
+  many_refused few own many number nodes = rw (at.first, shallow few, own, many) refl
+
+-- ---- passed
+
+contains_map : {A B : Type 0} (f : A → B) (xs : List A) (x : A) → Contains xs x → Contains (map f xs) (f x)
+contains_map f [] x (k, l, e) = absurd (omega arith)
+contains_map f (y ∷ xs) x (zero, l, e) = (0, omega arith, ap f e)
+contains_map f (y ∷ xs) x (suc k, l, e) =
+    let rest = contains_map f xs x (k, omega arith, e) in (suc rest.0, omega arith, rest.2)
+
+below_fit : (above : ℕ) (facts : List Fact) (cases : List (List Fact)) → All IsOrdered facts → all_fit facts cases ≡ true → CasesOrdered cases → All IsFit (map {B = Waiting} (λ own. (above, facts ++ own)) cases)
+below_fit above facts [] ordered fit h = All-nil IsFit
+below_fit above facts (own ∷ cases) ordered fit h =
+    let split = first_case h in
+    let few = leb-true (length facts + length own) 65536 (and_left _ _ fit) in
+    All-cons IsFit (above, facts ++ own) (map {B = Waiting} (λ own. (above, facts ++ own)) cases)
+    (record { few = omega (arith, few, length-append facts own); ordered = All-append IsOrdered facts own ordered (all_of split.0) })
+    (below_fit above facts cases ordered (and_right (nat_le (length facts + length own) 65536) _ fit) split.1)
+
+module _ (leaf : LeafModel) (before : List Waiting) (node : Node) (walk more : Walk) (frame : Frame) (at : StandsAtFirst before walk) (passed : IsPassed leaf walk.trail node frame.cases.items) (trail : more.trail ≡ walk.trail) (frames : more.frames.items ≡ walk.frames.items ++ frame ∷ []) (len : frame.len ≡ length walk.trail) where
+  top : reverse more.frames.items ≡ frame ∷ reverse walk.frames.items
+  top = turned more.frames.items walk.frames.items frame frames
+
+  whole : take frame.len walk.trail ≡ walk.trail
+  whole = ap (λ n. take n walk.trail) len ∙ take-length walk.trail
+
+  -- what waits then
+  pub waits_then : waiting more ≡ cases_below leaf (at.above, walk.trail) node ++ waiting walk
+  waits_then =
+      ap (λ t. waiting_under t (reverse more.frames.items)) trail
+      ∙ ap (waiting_under walk.trail) top
+      ∙ ap (λ n. map {B = Waiting} (λ own. (n, take frame.len walk.trail ++ own)) frame.cases.items ++ waiting walk) (length-reverse walk.frames.items ∙ at.depth)
+      ∙ ap (λ facts. map {B = Waiting} (λ own. (at.above + 1, facts ++ own)) frame.cases.items ++ waiting walk) whole
+      ∙ ap (λ cases. map {B = Waiting} (λ own. (at.above + 1, walk.trail ++ own)) cases ++ waiting walk) passed.cases_are
+
+  pub passed_on : length walk.frames.items ≤ 4096 → all_fit walk.trail (cases_at leaf walk.trail node) ≡ true → GoesOn leaf before node (waiting more)
+  passed_on few fit number nodes =
+      let depth = at.depth in
+      let test = lt-ltb at.above 4096 (omega (arith, depth, few)) in
+      rw (at.first, waits_then, test, passed.unrefused, fit) refl
+
+  pub passed_nested : IsNested more
+  passed_nested = rw (trail, top) (omega (arith, len), rw len at.nested)
+
+  pub passed_fit : IsWithinFormat node → All IsFit before → all_fit walk.trail (cases_at leaf walk.trail node) ≡ true → All IsFit (waiting more)
+  passed_fit within all fit =
+      let all' = rw at.first at all in
+      rw waits_then
+      (All-append IsFit (cases_below leaf (at.above, walk.trail) node) (waiting walk)
+      (below_fit (at.above + 1) walk.trail (cases_at leaf walk.trail node) (all' 0 (0, []) (omega arith)).ordered fit (cases_ordered leaf walk.trail node within))
+      (λ k d l. all' (suc k) d (omega arith)))
+
+  pub passed_cover : StillCover leaf before (waiting more)
+  passed_cover count end (one, contains, meets) =
+      let contains' = rw at.first at contains in rw waits_then (covered contains')
+    where
+      covered : Contains ((at.above, walk.trail) ∷ waiting walk) one → MeetsWaiting count (cases_below leaf (at.above, walk.trail) node ++ waiting walk)
+      covered (zero, l, e) =
+          let all : MeetsAll count walk.trail = rw (← e) at meets in
+          let case = passed.cover count end all in
+          let below = contains_map {B = Waiting} (λ own. (at.above + 1, walk.trail ++ own)) frame.cases.items case.0 case.1 in
+          let below' = rw passed.cases_are at below in
+          ((at.above + 1, walk.trail ++ case.0), Contains-append_left (cases_below leaf (at.above, walk.trail) node) (waiting walk) (at.above + 1, walk.trail ++ case.0) below', All-append (MeetsFact count) walk.trail case.0 all case.2)
+      covered (suc k, l, e) =
+          (one, Contains-append_right (cases_below leaf (at.above, walk.trail) node) (waiting walk) one (k, omega arith, e), meets)

@@ -1,0 +1,17 @@
+-- Format: the limits of a node in a proof's text.
+use Rattle.std.specs.Prelude.{◌≤◌, ◌^◌, nat_abs, All}
+use Rattle.cert_base.specs.declared.node.Node.{Node}
+use Rattle.cert_base.specs.declared.node.Node.TheVariants.{Linear, Residue, Split, Present, Twin, Trap, Siphon, Open}
+use Rattle.cert_linear.specs.Conditions.{AreAscending, AreMultipliers}
+
+-- few and small multipliers, a modulus in 2..=200, ascending variables with small coefficients and a small constant
+abbrev pub IsWithinFormat : Node → Type 0
+IsWithinFormat (Linear terms) = AreMultipliers terms
+IsWithinFormat (Residue m terms) = (2 ≤ m) × (m ≤ 200) × AreMultipliers terms
+IsWithinFormat (Split row) =
+    AreAscending row.terms × All (λ t. nat_abs t.by ≤ 2 ^ 40) row.terms × (nat_abs row.constant ≤ 2 ^ 40)
+IsWithinFormat (Present p) = Unit {0}
+IsWithinFormat (Twin p) = Unit {0}
+IsWithinFormat (Trap set) = Unit {0}
+IsWithinFormat (Siphon set) = Unit {0}
+IsWithinFormat (Open f) = Unit {0}

@@ -1,0 +1,103 @@
+-- Refusals: which node of a tree is the first that is refused, and why.
+use Rattle.std.specs.Prelude.{◌≡◌, ℕ, ◌+◌, Bool, true, false, ◌&&◌, not, if◌then◌else◌, nat_lt, nat_le, List, [], ◌∷◌, ◌++◌, map, length, Option, Some, None, unwrap_or, slice_get}
+use Rattle.std.specs.List.{list_all}
+use Rattle.pres_ast.specs.PredModel.{PredModel}
+use Rattle.pop_net.specs.LeafModel.{LeafModel}
+use Rattle.cert_base.specs.declared.fact.Fact.{Fact}
+use Rattle.cert_base.specs.declared.fact.Fact.TheVariants.{Ge, Eq, Cong, NotCong, Holds}
+use Rattle.cert_base.specs.declared.node.Node.{Node}
+use Rattle.cert_base.specs.declared.node.Node.TheVariants.{Linear, Residue, Split, Present, Twin, Trap, Siphon, Open}
+use Rattle.cert_base.specs.Rows.{variable_count}
+use Rattle.cert_base.specs.FactsAndCases.{base_facts, can_meet}
+use Rattle.cert_base.specs.Closes.{name_below, refutes, cases_of}
+use Rattle.cert_tree.specs.declared.fault.TreeWhy.{TreeWhy}
+use Rattle.cert_tree.specs.declared.fault.TreeWhy.TheVariants.{Missing, TooDeep, BadIndex, NoTwin, NotOpen, NotClosed, TooManyFacts, Rest}
+use Rattle.cert_tree.specs.declared.fault.TreeFault.{TreeFault}
+use Rattle.cert_tree.specs.declared.fault.TreeFault.TheVariants.{Broken, NoMemory}
+
+-- whether all fact, state and variable numbers of a node are in range
+abbrev pub in_range : LeafModel → List Fact → Node → Bool
+in_range leaf facts (Linear terms) = name_below (length facts) terms
+in_range leaf facts (Residue m terms) = name_below (length facts) terms
+in_range leaf facts (Split row) = name_below (variable_count leaf) row.terms
+in_range leaf facts (Present p) = nat_lt p (length leaf.states)
+in_range leaf facts (Twin p) = nat_lt p (length leaf.states)
+in_range leaf facts (Trap set) = list_all (λ q. nat_lt q (length leaf.states)) set
+in_range leaf facts (Siphon set) = list_all (λ q. nat_lt q (length leaf.states)) set
+in_range leaf facts (Open f) = nat_lt f (length facts)
+
+-- a `Twin` names a state that can meet itself
+abbrev pub has_twin : LeafModel → Node → Bool
+has_twin leaf (Twin p) = can_meet leaf p p
+has_twin leaf _ = true
+
+abbrev pub is_holds : Option Fact → Bool
+is_holds (Some (Holds p b)) = true
+is_holds _ = false
+
+-- an `Open` names a `Holds`
+abbrev pub opens_holds : List Fact → Node → Bool
+opens_holds facts (Open f) = is_holds (slice_get facts f)
+opens_holds facts _ = true
+
+-- a `Linear` or `Residue` refutes the facts
+abbrev pub closes_leaf : List Fact → Node → Bool
+closes_leaf facts (Linear terms) = refutes facts (Linear terms)
+closes_leaf facts (Residue m terms) = refutes facts (Residue m terms)
+closes_leaf facts _ = true
+
+-- the cases of a node, one after the other; none at a node that refutes
+abbrev pub cases_at : LeafModel → List Fact → Node → List (List Fact)
+cases_at leaf facts node = unwrap_or (cases_of leaf facts node) []
+
+-- whether the facts with those of each case are at most 65,536
+abbrev pub all_fit : List Fact → List (List Fact) → Bool
+all_fit facts = list_all (λ own. nat_le (length facts + length own) 65536)
+
+-- why a node is refused by its numbers, its move, its fact or its test
+abbrev pub own_refusal : LeafModel → List Fact → Node → Option TreeWhy
+own_refusal leaf facts node =
+    if not (in_range leaf facts node) then Some BadIndex
+    else if not (has_twin leaf node) then Some NoTwin
+    else if not (opens_holds facts node) then Some NotOpen
+    else if not (closes_leaf facts node) then Some NotClosed
+    else None
+
+-- the first reason, unless there is none
+abbrev pub or_else : Option TreeWhy → Option TreeWhy → Option TreeWhy
+or_else None why = why
+or_else (Some why) other = Some why
+
+-- why a node is refused that has so many nodes above it, and these facts
+abbrev pub refusal : LeafModel → ℕ → List Fact → Node → Option TreeWhy
+refusal leaf above facts node =
+    if not (nat_lt above 4096) then Some TooDeep
+    else or_else (own_refusal leaf facts node) (if all_fit facts (cases_at leaf facts node) then None else Some TooManyFacts)
+
+-- a case that waits for its nodes: how many nodes are above it, and its facts
+abbrev pub Waiting : Type 0
+Waiting = ℕ × List Fact
+
+-- the cases of a node, each with one more node above it, and with its own facts at the end
+abbrev pub cases_below : LeafModel → Waiting → Node → List Waiting
+cases_below leaf at node = map (λ own. (at.0 + 1, at.1 ++ own)) (cases_at leaf at.1 node)
+
+abbrev pub go_on : Option TreeWhy → ℕ → Option (ℕ × TreeWhy) → Option (ℕ × TreeWhy)
+go_on None number later = later
+go_on (Some why) number later = Some (number, why)
+
+-- the first node that is refused, and why, where the first of the nodes has this number and the cases wait in order
+abbrev pub first_from : LeafModel → List Waiting → ℕ → List Node → Option (ℕ × TreeWhy)
+first_from leaf [] number [] = None
+first_from leaf [] number (node ∷ nodes) = Some (number, Rest)
+first_from leaf (at ∷ waiting) number [] = Some (number, Missing)
+first_from leaf (at ∷ waiting) number (node ∷ nodes) =
+    go_on (refusal leaf at.0 at.1 node) number (first_from leaf (cases_below leaf at node ++ waiting) (number + 1) nodes)
+
+abbrev pub first_refused : LeafModel → PredModel → Bool → List Node → Option (ℕ × TreeWhy)
+first_refused leaf p value nodes = first_from leaf ((0, base_facts leaf p value) ∷ []) 0 nodes
+
+-- the fault names the first node that is refused, and why
+abbrev pub IsTreeFault : LeafModel → PredModel → Bool → List Node → TreeFault → Type 0
+IsTreeFault leaf p value nodes (Broken number why) = first_refused leaf p value nodes ≡ Some (number, why)
+IsTreeFault leaf p value nodes NoMemory = Unit {0}

@@ -1,0 +1,46 @@
+//! Why a tree is refused.
+
+use pop_io::NoMemory as OutOfMemory;
+
+/// The first node that is refused.
+#[derive(Clone, Copy, Debug, PartialEq, Eq)]
+pub enum TreeFault {
+    Broken {
+        /// The number of the node, which is the number of nodes where one is missing.
+        node: u32,
+        why: TreeWhy,
+    },
+    NoMemory,
+}
+
+/// Why a node is refused. Of several reasons the first one counts.
+#[derive(Clone, Copy, Debug, PartialEq, Eq)]
+pub enum TreeWhy {
+    /// No node is left for a case.
+    Missing,
+    /// 4,096 nodes or more are above it.
+    TooDeep,
+    /// A number of a fact, a state or a variable is out of range.
+    BadIndex,
+    /// No non-silent move takes the state twice.
+    NoTwin,
+    /// The fact says nothing of a predicate.
+    NotOpen,
+    /// The facts aren't refuted.
+    NotClosed,
+    /// A case has more than 65,536 facts.
+    TooManyFacts,
+    /// The tree was closed before it.
+    Rest,
+}
+
+impl From<OutOfMemory> for TreeFault {
+    ghost use Rattle.std.specs.Prelude.{◌≡◌};
+    ghost use Rattle.cert_tree.specs.declared.fault.TreeFault.TheVariants.{NoMemory};
+
+    ghost from_gives = { λ _ e. e ≡ NoMemory };
+
+    fn from(_e: OutOfMemory) -> TreeFault {
+        TreeFault::NoMemory
+    }
+}

@@ -1,0 +1,173 @@
+//! The cases of a node.
+
+ghost use Rattle.std.specs.Prelude.{◌≡◌, ◌<◌, ◌≤◌, ◌^◌, nat_abs, nat_lt, length, All, IfOk, IfErr};
+ghost use Rattle.std.specs.List.{list_all};
+ghost use Rattle.pop_net.specs.LeafModel.{LeafModel};
+ghost use Rattle.cert_base.specs.declared.fact.Fact.{Fact};
+ghost use Rattle.cert_base.specs.declared.node.Node.TheVariants.{Linear, Residue, Split, Present, Twin, Trap, Siphon, Open};
+ghost use Rattle.cert_base.specs.Rows.{variable_count as variables_of};
+ghost use Rattle.cert_base.specs.Closes.{name_below};
+ghost use Rattle.cert_linear.specs.Conditions.{IsOrdered, AreMultipliers};
+ghost use Rattle.cert_tree.specs.Format.{IsWithinFormat};
+ghost use Rattle.cert_tree.specs.Refusals.{own_refusal};
+ghost use Rattle.cert_tree.specs.Frames.{IsPassed, HaltsBy};
+
+use crate::fault::TreeWhy;
+use crate::halt::Halt;
+use cert_base::{Fact, Node, Row, Term, open_cases, split_cases};
+use cert_linear::Trail;
+use cert_traps::{present_cases, siphon_cases, trap_cases, twin_case};
+use pop_io::List;
+use pop_net::Leaf;
+use std::alloc::Global;
+
+/// The cases of a node, in order; none at a node that refutes the facts.
+pub(crate) fn node_cases(
+    alloc: Global,
+    leaf: &Leaf,
+    trail: &Trail,
+    node: &Node,
+) -> Result<List<List<Fact>>, Halt>
+    requires within { IsWithinFormat node.now }
+    requires ordered { All IsOrdered trail.now }
+    ensures passed { IfOk result (IsPassed leaf.now trail.now node.now) }
+    ensures halts { IfErr result (HaltsBy (own_refusal leaf.now trail.now node.now)) }
+{
+    match node {
+        Node::Linear(terms) => linear_node(alloc, trail, terms),
+        Node::Residue(modulus, terms) => residue_node(alloc, trail, *modulus, terms),
+        Node::Split(row) => split_node(alloc, leaf, row),
+        Node::Present(state) => present_node(alloc, leaf, *state),
+        Node::Twin(state) => twin_node(alloc, leaf, *state),
+        Node::Trap(set) => trap_node(alloc, leaf, set),
+        Node::Siphon(set) => siphon_node(alloc, leaf, set),
+        Node::Open(number) => open_node(alloc, trail, *number),
+    }
+}
+
+/// A node that refutes the facts.
+fn linear_node(alloc: Global, trail: &Trail, terms: &List<Term>) -> Result<List<List<Fact>>, Halt>
+    requires multipliers { AreMultipliers terms.now }
+    requires ordered { All IsOrdered trail.now }
+    ensures passed { (leaf : LeafModel) → IfOk result (IsPassed leaf trail.now (Linear terms.now)) }
+    ensures halts { (leaf : LeafModel) → IfErr result (HaltsBy (own_refusal leaf trail.now (Linear terms.now))) }
+{
+    if !name_facts(terms.as_slice(), trail.len()) {
+        return Err(Halt::Refused(TreeWhy::BadIndex));
+    }
+    if !trail.linear(alloc, terms)? {
+        return Err(Halt::Refused(TreeWhy::NotClosed));
+    }
+    Ok(List::from_vec(Vec::new(alloc)))
+}
+
+fn residue_node(
+    alloc: Global,
+    trail: &Trail,
+    modulus: u32,
+    terms: &List<Term>,
+) -> Result<List<List<Fact>>, Halt>
+    requires modulus { 2 ≤ modulus }
+    requires multipliers { AreMultipliers terms.now }
+    requires ordered { All IsOrdered trail.now }
+    ensures passed { (leaf : LeafModel) → IfOk result (IsPassed leaf trail.now (Residue modulus terms.now)) }
+    ensures halts { (leaf : LeafModel) → IfErr result (HaltsBy (own_refusal leaf trail.now (Residue modulus terms.now))) }
+{
+    if !name_facts(terms.as_slice(), trail.len()) {
+        return Err(Halt::Refused(TreeWhy::BadIndex));
+    }
+    if !trail.residue(alloc, modulus, terms)? {
+        return Err(Halt::Refused(TreeWhy::NotClosed));
+    }
+    Ok(List::from_vec(Vec::new(alloc)))
+}
+
+fn split_node(alloc: Global, leaf: &Leaf, row: &Row) -> Result<List<List<Fact>>, Halt>
+    requires coefs { All (λ t. nat_abs t.by ≤ 2 ^ 40) row.now.terms }
+    requires constant { nat_abs row.now.constant ≤ 2 ^ 40 }
+    ensures passed { (facts : List Fact) → IfOk result (IsPassed leaf.now facts (Split row.now)) }
+    ensures halts { (facts : List Fact) → IfErr result (HaltsBy (own_refusal leaf.now facts (Split row.now))) }
+{
+    if !name_facts(row.terms.as_slice(), variable_count(leaf)) {
+        return Err(Halt::Refused(TreeWhy::BadIndex));
+    }
+    Ok(split_cases(alloc, row)?)
+}
+
+fn present_node(alloc: Global, leaf: &Leaf, state: u16) -> Result<List<List<Fact>>, Halt>
+    ensures passed { (facts : List Fact) → IfOk result (IsPassed leaf.now facts (Present state)) }
+    ensures halts { (facts : List Fact) → IfErr result (HaltsBy (own_refusal leaf.now facts (Present state))) }
+{
+    if leaf.state_count() <= state {
+        return Err(Halt::Refused(TreeWhy::BadIndex));
+    }
+    Ok(present_cases(alloc, leaf, state)?)
+}
+
+fn twin_node(alloc: Global, leaf: &Leaf, state: u16) -> Result<List<List<Fact>>, Halt>
+    ensures passed { (facts : List Fact) → IfOk result (IsPassed leaf.now facts (Twin state)) }
+    ensures halts { (facts : List Fact) → IfErr result (HaltsBy (own_refusal leaf.now facts (Twin state))) }
+{
+    if leaf.state_count() <= state {
+        return Err(Halt::Refused(TreeWhy::BadIndex));
+    }
+    let Some(own) = twin_case(alloc, leaf, state)? else {
+        return Err(Halt::Refused(TreeWhy::NoTwin));
+    };
+    let mut cases = Vec::new(alloc);
+    cases.push(own)?;
+    Ok(List::from_vec(cases))
+}
+
+fn trap_node(alloc: Global, leaf: &Leaf, set: &List<u16>) -> Result<List<List<Fact>>, Halt>
+    ensures passed { (facts : List Fact) → IfOk result (IsPassed leaf.now facts (Trap set.now)) }
+    ensures halts { (facts : List Fact) → IfErr result (HaltsBy (own_refusal leaf.now facts (Trap set.now))) }
+{
+    if !name_states(set.as_slice(), leaf.state_count()) {
+        return Err(Halt::Refused(TreeWhy::BadIndex));
+    }
+    Ok(trap_cases(alloc, leaf, set)?)
+}
+
+fn siphon_node(alloc: Global, leaf: &Leaf, set: &List<u16>) -> Result<List<List<Fact>>, Halt>
+    ensures passed { (facts : List Fact) → IfOk result (IsPassed leaf.now facts (Siphon set.now)) }
+    ensures halts { (facts : List Fact) → IfErr result (HaltsBy (own_refusal leaf.now facts (Siphon set.now))) }
+{
+    if !name_states(set.as_slice(), leaf.state_count()) {
+        return Err(Halt::Refused(TreeWhy::BadIndex));
+    }
+    Ok(siphon_cases(alloc, leaf, set)?)
+}
+
+fn open_node(alloc: Global, trail: &Trail, number: u32) -> Result<List<List<Fact>>, Halt>
+    ensures passed { (leaf : LeafModel) → IfOk result (IsPassed leaf trail.now (Open number)) }
+    ensures halts { (leaf : LeafModel) → IfErr result (HaltsBy (own_refusal leaf trail.now (Open number))) }
+{
+    if trail.len() <= number {
+        return Err(Halt::Refused(TreeWhy::BadIndex));
+    }
+    match trail.fact(number) {
+        Fact::Holds(pred, value) => Ok(open_cases(alloc, pred, *value)?),
+        _ => Err(Halt::Refused(TreeWhy::NotOpen)),
+    }
+}
+
+/// Whether all terms name a number below this one.
+fn name_facts(terms: &[Term], end: u32) -> bool
+    ensures { result ≡ name_below end terms.now }
+{
+    terms.iter().all(|term| term.at < end)
+}
+
+/// Whether all states have a number below this one.
+fn name_states(states: &[u16], end: u16) -> bool
+    ensures { result ≡ list_all (λ q. nat_lt q end) states.now }
+{
+    states.iter().all(|q| *q < end)
+}
+
+fn variable_count(leaf: &Leaf) -> u32
+    ensures { result ≡ variables_of leaf.now }
+{
+    u32::from(leaf.input_count()) + u32::from(leaf.state_count()) + leaf.move_count()
+}

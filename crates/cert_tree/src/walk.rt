@@ -1,0 +1,153 @@
+//! Where a walk over the nodes of a tree stands.
+
+ghost use Rattle.std.specs.Prelude.{◌≡◌, ◌≤◌, ◌<◌, ◌+◌, ◌++◌, ◌∷◌, [], true, length, reverse, take, All, IfOk, IfErr, OnOk, MatchOption, nat_le};
+ghost use Rattle.std.specs.List.{list_all};
+ghost use Rattle.cert_base.specs.declared.fact.Fact.{Fact};
+ghost use Rattle.cert_tree.specs.Format.{IsWithinFormat};
+ghost use Rattle.cert_tree.specs.Refusals.{all_fit};
+ghost use Rattle.cert_tree.specs.Frames.{waiting, waiting_with, AreNested, IsNested, IsFit, FindsCase, IsLatest, GoesOn, HaltsAt, StillCover};
+
+use crate::fault::TreeWhy;
+use crate::halt::Halt;
+use crate::nodes::node_cases;
+use cert_base::{Fact, Node};
+use cert_linear::Trail;
+use pop_io::{List, NoMemory};
+use pop_net::Leaf;
+use std::alloc::Global;
+
+/// The greatest number of nodes on a path.
+const DEPTH: usize = 4_096;
+
+/// The greatest number of facts of a case.
+const FACTS: usize = 65_536;
+
+/// A node whose cases are being closed.
+#[derive(Drop)]
+pub(crate) struct Frame {
+    /// The number of facts at the node.
+    len: u32,
+    /// The cases that wait, in order.
+    cases: Vec<List<Fact>>,
+}
+
+/// The facts at which a walk stands, and the nodes above it, each with the cases that wait.
+#[derive(Drop)]
+pub(crate) struct Walk {
+    trail: Trail,
+    frames: Vec<Frame>,
+}
+
+impl Walk {
+    /// The walk at the beginning: one case waits, with these facts and no node above it.
+    pub(crate) fn new(alloc: Global, facts: List<Fact>) -> Result<Walk, NoMemory>
+        requires { length facts ≤ 65536 }
+        ensures waits { IfOk result (λ walk. waiting walk ≡ (0, facts) ∷ []) }
+        ensures nested { IfOk result IsNested }
+    {
+        let trail = Trail::new(facts);
+        let mut cases = Vec::new(alloc);
+        cases.push(List::from_vec(Vec::new(alloc)))?;
+        let mut frames = Vec::new(alloc);
+        frames.push(Frame {
+            len: trail.len(),
+            cases,
+        })?;
+        Ok(Walk { trail, frames })
+    }
+
+    /// Passes the next node, if it isn't refused.
+    pub(crate) fn visit(&mut self, alloc: Global, leaf: &Leaf, node: &Node) -> Result<(), Halt>
+        requires within { IsWithinFormat node.now }
+        requires nested { IsNested self.old }
+        requires fit { All IsFit (waiting self.old) }
+        ensures goes_on { OnOk result (GoesOn leaf.now (waiting self.old) node.now (waiting self.new)) }
+        ensures nested { OnOk result (IsNested self.new) }
+        ensures fit { OnOk result (All IsFit (waiting self.new)) }
+        ensures cover { OnOk result (StillCover leaf.now (waiting self.old) (waiting self.new)) }
+        ensures halts { IfErr result (HaltsAt leaf.now (waiting self.old) node.now) }
+    {
+        if !self.next_case()? {
+            return Err(Halt::Refused(TreeWhy::Rest));
+        }
+        if self.frames.len() > DEPTH {
+            return Err(Halt::Refused(TreeWhy::TooDeep));
+        }
+        let cases = node_cases(alloc, leaf, &self.trail, node)?;
+        if !has_room(&self.trail, cases.as_slice()) {
+            return Err(Halt::Refused(TreeWhy::TooManyFacts));
+        }
+        self.frames.push(Frame {
+            len: self.trail.len(),
+            cases: cases.into_vec(),
+        })?;
+        Ok(())
+    }
+
+    /// Goes to the next case that waits, if there is one.
+    pub(crate) fn next_case(&mut self) -> Result<bool, NoMemory>
+        requires nested { IsNested self.old }
+        requires fit { All IsFit (waiting self.old) }
+        ensures { IfOk result (FindsCase (waiting self.old) self.new) }
+    {
+        let Some(frame) = self.next_frame() else {
+            return Ok(false);
+        };
+        self.enter_case(frame)?;
+        Ok(true)
+    }
+
+    /// Goes to the first case of the latest node.
+    fn enter_case(&mut self, frame: Frame) -> Result<(), NoMemory>
+        requires some_case { 0 < length frame.cases.items }
+        requires within { frame.len ≤ length self.old.trail }
+        requires nested { AreNested frame.len (reverse self.old.frames.items) }
+        requires fit { All IsFit (waiting_with self.old frame) }
+        ensures { OnOk result (FindsCase (waiting_with self.old frame) self.new true) }
+    {
+        let Frame { len, mut cases } = frame;
+        self.trail.cut(len);
+        let own = cases.remove(0);
+        self.frames.push(Frame { len, cases })?;
+        extend(&mut self.trail, own)
+    }
+
+    /// Takes the frames from the latest node with a case that waits.
+    fn next_frame(&mut self) -> Option<Frame>
+        requires { IsNested self.old }
+        ensures { MatchOption result (waiting self.old ≡ []) (IsLatest (waiting self.old) self.new) }
+    {
+        while let Some(frame) = self.frames.pop() {
+            if !frame.cases.is_empty() {
+                return Some(frame);
+            }
+        }
+        None
+    }
+}
+
+/// Adds the facts of a case.
+fn extend(trail: &mut Trail, own: List<Fact>) -> Result<(), NoMemory>
+    requires { length trail.old + length own ≤ 65536 }
+    ensures { OnOk result (trail.new ≡ trail.old ++ own) }
+{
+    for fact in own.into_vec() {
+        if let Err((_fact, memory)) = trail.add(fact) {
+            return Err(memory);
+        }
+    }
+    Ok(())
+}
+
+/// Whether the trail with the facts of each case is short enough.
+fn has_room(trail: &Trail, cases: &[List<Fact>]) -> bool
+    ensures { result ≡ all_fit trail.now cases.now }
+{
+    are_short(cases, FACTS - trail.len() as usize)
+}
+
+fn are_short(cases: &[List<Fact>], len: usize) -> bool
+    ensures { result ≡ list_all (λ own. nat_le (length own) len) cases.now }
+{
+    cases.iter().all(|own| own.as_slice().len() <= len)
+}
