@@ -5,3 +5,5 @@ pub mod Dead
 pub mod Agents
 pub mod Weights
 pub mod Spread
+pub mod Combined
+pub mod TreeKinds

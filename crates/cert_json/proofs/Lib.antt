@@ -1,0 +1,4 @@
+pub mod Sets
+pub mod PartLaws
+pub mod NodeLaws
+pub mod ProofLaws

@@ -1,0 +1,3 @@
+pub mod ProofFile
+pub mod Words
+pub mod Examined
