@@ -2,3 +2,5 @@ pub mod Sets
 pub mod PartLaws
 pub mod NodeLaws
 pub mod ProofLaws
+pub mod Short
+pub mod WrittenFiles

@@ -8,6 +8,9 @@ mod node;
 mod read;
 mod terms;
 mod word;
+mod write;
+mod write_node;
 
 pub use json_shape::{FormatFault, PredWhy, Why};
 pub use read::read_proof;
+pub use write::write_proof;
