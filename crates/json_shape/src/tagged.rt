@@ -52,10 +52,10 @@ pub fn word_of<'v>(
 ) -> Result<&'v str, FormatFault>
     ensures { Gives (λ s. s.now) result (word_at (path_text path.now) (map view items.now)) }
 {
-    let [word, ..] = items else {
-        return Err(broken(alloc, path, Why::Kind));
-    };
-    text_of(alloc, &Path::Item(path, 0), word)
+    match items {
+        [] => Err(broken(alloc, path, Why::Kind)),
+        [word, ..] => text_of(alloc, &Path::Item(path, 0), word),
+    }
 }
 
 /// The item after the word, where it is the only one.
