@@ -13,3 +13,5 @@ pub mod Indicators
 pub mod InRange
 pub mod WrongEnds
 pub mod Openings
+pub mod Combined
+pub mod TreeKinds

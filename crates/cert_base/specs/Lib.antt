@@ -6,5 +6,7 @@ pub mod FactsAndCases
 pub mod ClosingTests
 pub mod Closes
 pub mod ValidProof
+pub mod ProofLimits
+pub mod Combination
 pub mod Ends
 pub mod Parts

@@ -4,6 +4,7 @@
 #![tactic(auto)]
 
 mod base;
+mod combination;
 mod fact;
 mod flow;
 mod layer;
@@ -15,6 +16,7 @@ mod split;
 mod terms;
 
 pub use base::base_facts;
+pub use combination::net_pred_is;
 pub use fact::{Fact, Row, Term};
 pub use layer::Layer;
 pub use node::Node;

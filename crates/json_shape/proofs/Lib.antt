@@ -4,3 +4,5 @@ pub mod Lists
 pub mod Steps
 pub mod Readers
 pub mod Fresh
+pub mod Ascending
+pub mod TaggedReaders

@@ -1,11 +1,14 @@
 -- What a JSON value is: a number, a text, a list of such items, an object with such a member.
-use Rattle.std.specs.Prelude.{◌≡◌, ℕ, pos, Bool, List, [], ◌∷◌, Some, option_and_then}
+use Rattle.std.specs.Prelude.{◌≡◌, ℕ, ℤ, pos, Bool, List, [], ◌∷◌, Some, option_and_then}
 use Rattle.serde_json.specs.Data.{Data, Items}
 use Rattle.serde_json.specs.Find.{get, as_number, as_i64, as_str, as_array, as_bool}
 use Rattle.json_shape.specs.Shapes.{listed}
 
 abbrev pub IsNumber : ℕ → Data → Type 0
 IsNumber n d = option_and_then as_i64 (as_number d) ≡ Some (pos n)
+
+abbrev pub IsInteger : ℤ → Data → Type 0
+IsInteger z d = option_and_then as_i64 (as_number d) ≡ Some z
 
 abbrev pub IsText : List ℕ → Data → Type 0
 IsText s d = as_str d ≡ Some s
@@ -27,3 +30,25 @@ AreItems Is (x ∷ xs) (d ∷ ds) = Is x d × AreItems Is xs ds
 -- the value is a list of such items
 abbrev pub IsList : {A : Type 0} → (A → Data → Type 0) → List A → Data → Type 0
 IsList Is xs d = (items : Items) × (as_array d ≡ Some items) × AreItems Is xs (listed items)
+
+-- the value is a list of such items
+abbrev pub HasItems : (List Data → Type 0) → Data → Type 0
+HasItems Are d = (items : Items) × (as_array d ≡ Some items) × Are (listed items)
+
+-- one value, and it is such
+abbrev pub IsOnly : (Data → Type 0) → List Data → Type 0
+IsOnly Is [] = ⊥
+IsOnly Is (d ∷ []) = Is d
+IsOnly Is (d ∷ e ∷ ds) = ⊥
+
+-- two values, the first such and the second so
+abbrev pub AreBoth : (Data → Type 0) → (Data → Type 0) → List Data → Type 0
+AreBoth Is Are [] = ⊥
+AreBoth Is Are (d ∷ []) = ⊥
+AreBoth Is Are (d ∷ e ∷ []) = Is d × Are e
+AreBoth Is Are (d ∷ e ∷ f ∷ ds) = ⊥
+
+-- a word, and such values after it
+abbrev pub BeginsWith : List ℕ → (List Data → Type 0) → List Data → Type 0
+BeginsWith word Rest [] = ⊥
+BeginsWith word Rest (d ∷ ds) = IsText word d × Rest ds

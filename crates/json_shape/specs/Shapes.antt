@@ -1,10 +1,10 @@
 -- The parts of a JSON value: another kind is told before a length or a range, and a list's items go one by one.
-use Rattle.std.specs.Prelude.{ℕ, ◌+◌, ◌&&◌, nat_le, ℤ, pos, negsuc, Bool, List, [], ◌∷◌, ◌++◌, length, Option, Some, None, option_and_then, option_map, Result, Ok, if◌then◌else◌}
+use Rattle.std.specs.Prelude.{ℕ, ◌+◌, ◌&&◌, nat_le, nat_lt, nat_abs, true, ℤ, pos, negsuc, Bool, List, [], ◌∷◌, ◌++◌, length, Option, Some, None, option_and_then, option_map, Result, Ok, if◌then◌else◌}
 use Rattle.serde_json.specs.Data.{Data, Items, no_items, item}
 use Rattle.serde_json.specs.Find.{get, as_number, as_i64, as_str, as_array, as_object, as_bool}
 use Rattle.json_shape.specs.declared.fault.Why.TheVariants.{Kind, Range}
 use Rattle.json_shape.specs.Faults.{Fault, ◌>>=◌, broken}
-use Rattle.json_shape.specs.Paths.{member_path}
+use Rattle.json_shape.specs.Paths.{member_path, item_path}
 
 abbrev pub listed : Items → List Data
 listed no_items = []
@@ -45,6 +45,31 @@ number_at path least most d = do
   z ← of_kind path (option_and_then as_i64 (as_number d))
   in_range path least most z
 
+abbrev pub of_size : List ℕ → ℕ → ℤ → Result ℤ Fault
+of_size path most z = if nat_le (nat_abs z) most then Ok z else broken path Range
+
+-- a whole number of at most this size, whatever its sign
+unfoldable pub integer_at : List ℕ → ℕ → Data → Result ℤ Fault
+integer_at path most d = do
+  z ← of_kind path (option_and_then as_i64 (as_number d))
+  of_size path most z
+
+abbrev pub last_of : List ℕ → Option ℕ
+last_of [] = None
+last_of (x ∷ []) = Some x
+last_of (x ∷ y ∷ xs) = last_of (y ∷ xs)
+
+-- whether a number is greater than the one before it, where there is one
+abbrev pub comes_after : Option ℕ → ℕ → Bool
+comes_after None n = true
+comes_after (Some k) n = nat_lt k n
+
+-- a whole number up to most that is greater than the one before it
+unfoldable pub ascending_at : List ℕ → ℕ → Option ℕ → Data → Result ℕ Fault
+ascending_at path most before d = do
+  n ← number_at path 0 most d
+  if comes_after before n then Ok n else broken path Range
+
 unfoldable pub text_at : List ℕ → Data → Result (List ℕ) Fault
 text_at path d = of_kind path (as_str d)
 
@@ -55,3 +80,34 @@ truth_at path d = of_kind path (as_bool d)
 abbrev pub each : {A : Type 0} → (List A → ℕ → Data → Result A Fault) → List A → ℕ → List Data → Result (List A) Fault
 each at found i [] = Ok found
 each at found i (d ∷ ds) = at found i d >>= λ x. each at (found ++ x ∷ []) (i + 1) ds
+
+-- a list of any length
+unfoldable pub items_at : List ℕ → Data → Result (List Data) Fault
+items_at path d = do
+  ds ← of_kind path (as_array d)
+  Ok (listed ds)
+
+abbrev pub the_two : List ℕ → List Data → Result (Data × Data) Fault
+the_two path (d ∷ e ∷ []) = Ok (d, e)
+the_two path _ = broken path Kind
+
+-- a list of two items; another length is another kind
+unfoldable pub pair_at : List ℕ → Data → Result (Data × Data) Fault
+pair_at path d = do
+  ds ← items_at path d
+  the_two path ds
+
+-- the word that a list begins with; an empty list is of another kind
+unfoldable pub word_at : List ℕ → List Data → Result (List ℕ) Fault
+word_at path [] = broken path Kind
+word_at path (d ∷ ds) = text_at (item_path path 0) d
+
+-- the item after the word, where it is the only one
+unfoldable pub one_after : List ℕ → List Data → Result Data Fault
+one_after path (w ∷ d ∷ []) = Ok d
+one_after path _ = broken path Kind
+
+-- the two items after the word, where there are no others
+unfoldable pub two_after : List ℕ → List Data → Result (Data × Data) Fault
+two_after path (w ∷ d ∷ e ∷ []) = Ok (d, e)
+two_after path _ = broken path Kind

@@ -6,10 +6,14 @@
 mod fault;
 mod path;
 mod shape;
+mod tagged;
 
 pub use fault::{FormatFault, PredWhy, Why, broken};
 pub use path::Path;
-pub use shape::{list_of, member_of, number_of, object_of, text_of, truth_of};
+pub use shape::{
+    ascending_of, integer_of, list_of, member_of, number_of, object_of, text_of, truth_of,
+};
+pub use tagged::{both_items, items_of, only_item, pair_of, word_of};
 
 #[cfg(test)]
 mod tests;

@@ -1,10 +1,10 @@
 //! The parts of a JSON value, each with the path that a fault names.
 
-ghost use Rattle.std.specs.Prelude.{◌≡◌, ◌≤◌, length, map, IfOk};
+ghost use Rattle.std.specs.Prelude.{◌≡◌, ◌≤◌, length, map, nat_abs, IfOk};
 ghost use Rattle.serde_json.specs.View.{view};
 ghost use Rattle.json_shape.specs.Faults.{Gives};
 ghost use Rattle.json_shape.specs.Paths.{path_text};
-ghost use Rattle.json_shape.specs.Shapes.{object_at, member_at, list_at, number_at, text_at, truth_at};
+ghost use Rattle.json_shape.specs.Shapes.{object_at, member_at, list_at, number_at, integer_at, ascending_at, comes_after, text_at, truth_at};
 
 use crate::fault::{FormatFault, Why, broken};
 use crate::path::Path;
@@ -78,6 +78,54 @@ pub fn number_of(
         return Err(broken(alloc, path, Why::Range));
     }
     Ok(number as u32)
+}
+
+/// A whole number of at most this size, whatever its sign.
+#[tactic(auto, unfolding(crate::specs::Shapes::integer_at))]
+pub fn integer_of(
+    alloc: Global,
+    path: &Path<'_>,
+    most: u64,
+    value: &Value,
+) -> Result<i64, FormatFault>
+    ensures number { Gives (λ z. z) result (integer_at (path_text path.now) most (view value.now)) }
+    ensures size { IfOk result (λ z. nat_abs z ≤ most) }
+{
+    let Some(number) = value.as_i64() else {
+        return Err(broken(alloc, path, Why::Kind));
+    };
+    if most < number.unsigned_abs() {
+        return Err(broken(alloc, path, Why::Range));
+    }
+    Ok(number)
+}
+
+fn follows(before: Option<u32>, number: u32) -> bool
+    ensures { result ≡ comes_after before number }
+{
+    match before {
+        Some(before) => before < number,
+        None => true,
+    }
+}
+
+/// A whole number up to `most` that is greater than the one before it, where there is one.
+#[tactic(auto, unfolding(crate::specs::Shapes::ascending_at))]
+pub fn ascending_of(
+    alloc: Global,
+    path: &Path<'_>,
+    most: u32,
+    before: Option<u32>,
+    value: &Value,
+) -> Result<u32, FormatFault>
+    ensures number { Gives (λ n. n) result (ascending_at (path_text path.now) most before (view value.now)) }
+    ensures within { IfOk result (λ n. n ≤ most) }
+{
+    let number = number_of(alloc, path, 0, most, value)?;
+    if !follows(before, number) {
+        return Err(broken(alloc, path, Why::Range));
+    }
+    Ok(number)
 }
 
 /// A text.

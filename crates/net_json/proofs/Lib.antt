@@ -3,4 +3,4 @@ mod LeafLaws
 mod Postfix
 mod NetLaws
 mod Items
-mod Writes
+pub mod Writes

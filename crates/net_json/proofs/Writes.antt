@@ -53,7 +53,7 @@ written_items : {A : Type 0} (P : A → Type 0) (Is : A → Data → Type 0) (f 
 written_items P Is f one [] all = tt
 written_items P Is f one (x ∷ xs) all = (one x (All-head P x xs all), written_items P Is f one xs (All-tail P x xs all))
 
-written_list : {A : Type 0} (P : A → Type 0) (Is : A → Data → Type 0) (f : A → Data) → ((x : A) → P x → Is x (f x)) → (xs : List A) → All P xs → IsList Is xs (list_data (map f xs))
+pub written_list : {A : Type 0} (P : A → Type 0) (Is : A → Data → Type 0) (f : A → Data) → ((x : A) → P x → Is x (f x)) → (xs : List A) → All P xs → IsList Is xs (list_data (map f xs))
 written_list P Is f one xs all = (items_of (map f xs), refl, written_items P Is f one xs all)
 
 number_is : (n : ℕ) → n < 1024 → IsNumber n (number_data n)

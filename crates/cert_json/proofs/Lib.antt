@@ -1,0 +1,6 @@
+pub mod Sets
+pub mod PartLaws
+pub mod NodeLaws
+pub mod ProofLaws
+pub mod Short
+pub mod WrittenFiles

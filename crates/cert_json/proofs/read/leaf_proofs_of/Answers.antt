@@ -1,0 +1,17 @@
+use Rattle.std.proofs.lemmas.Result.{err_from_is_err_and}
+use Rattle.json_shape.specs.Paths.{path_text}
+use Rattle.cert_json.specs.Examined.{leaf_proof_item, leaf_proofs_at}
+use Rattle.json_shape.proofs.Each.{each-fails, each-goes}
+use Rattle.cert_json.proofs.read.leaf_proofs_of.Goals as goal
+
+pub returns-in_err-leaf_proof_of : goal.returns-in_err-leaf_proof_of
+unfolding leaf_proofs_at
+returns-in_err-leaf_proof_of c =
+    let p = err_from_is_err_and c.from_residual-in_err-leaf_proof_of.result c.from_residual-in_err-leaf_proof_of.ensures.1 in
+    rw (p.1, p.2, c.in_ok-list.ensures.list, ← c.deref-item-items.ensures.value)
+    (each-fails (leaf_proof_item c.args.names.now (path_text c.args.path.now)) c.loop-i.parts.items c.deref-item-items.result.now c.loop-i.i c.in_err-leaf_proof_of.field-0.0 c.item-item.result _ c.loop-i-test.true c.item-item.is c.in_err-leaf_proof_of.ensures c.loop-i.invariant)
+
+pub loop-i-preserved : goal.loop-i-preserved
+loop-i-preserved c =
+    rw c.in_ok-push.ensures.items
+    (each-goes (leaf_proof_item c.args.names.now (path_text c.args.path.now)) c.loop-i.parts.items c.deref-item-items.result.now c.loop-i.i c.in_ok-leaf_proof_of.field-0 c.item-item.result _ c.loop-i-test.true c.item-item.is c.in_ok-leaf_proof_of.ensures c.loop-i.invariant)

@@ -1,0 +1,196 @@
+-- The order in which a proof's value is examined: member by member, each whole before the next; a list for its kind, its
+-- length, and then item by item. The first rule that is broken is the fault.
+use Rattle.std.specs.Prelude.{ℕ, List, [], map, codes, ℤ, Option, Some, None, Result, Ok, Err}
+use Rattle.serde_json.specs.Data.{Data}
+use Rattle.json_shape.specs.declared.fault.Why.TheVariants.{Kind, Name, Pred}
+use Rattle.json_shape.specs.declared.fault.PredWhy.TheVariants as why
+use Rattle.json_shape.specs.Faults.{Fault, ◌>>=◌, broken}
+use Rattle.json_shape.specs.Paths.{item_path}
+use Rattle.json_shape.specs.Shapes.{object_at, member_by, list_at, number_at, integer_at, last_of, ascending_at, text_at, items_at, pair_at, word_at, one_after, two_after, each}
+use Rattle.pres_ast.specs.PredModel.{PredModel}
+use Rattle.pres_read.specs.declared.fault.ReadPred.{ReadPred}
+use Rattle.pres_read.specs.declared.fault.ReadPred.TheVariants.{Syntax, UnknownName, TooLarge, TooDeep, LongText, NoMemory}
+use Rattle.pres_read.specs.Reading.{pred_read}
+use Rattle.cert_base.specs.declared.fact.Term.{Term}
+use Rattle.cert_base.specs.declared.layer.Layer.{Layer}
+use Rattle.cert_base.specs.declared.node.Node.{Node}
+use Rattle.cert_base.specs.declared.node.Node.TheVariants.{Linear, Residue, Split, Present, Twin, Trap, Siphon, Open}
+use Rattle.cert_base.specs.declared.proof.Proof.{Proof}
+use Rattle.cert_base.specs.declared.proof.LeafProof.{LeafProof}
+use Rattle.cert_json.specs.declared.word.Word.{Word}
+use Rattle.cert_json.specs.declared.word.Word.TheVariants as word
+use Rattle.cert_json.specs.Words.{word_named}
+
+-- a predicate, or what is wrong with its text; no text is read to want of memory
+abbrev pub pred_or_why : List ℕ → Result PredModel ReadPred → Result PredModel Fault
+pred_or_why path (Ok p) = Ok p
+pred_or_why path (Err (Syntax at)) = broken path (Pred (why.Syntax at))
+pred_or_why path (Err (UnknownName at)) = broken path (Pred (why.UnknownName at))
+pred_or_why path (Err (TooLarge at)) = broken path (Pred (why.TooLarge at))
+pred_or_why path (Err (TooDeep at)) = broken path (Pred (why.TooDeep at))
+pred_or_why path (Err (LongText n)) = broken path (Pred (why.LongText n))
+pred_or_why path (Err NoMemory) = broken path Kind
+
+-- a predicate over these names
+unfoldable pub pred_at : List (List ℕ) → List ℕ → Data → Result PredModel Fault
+pred_at names path d = do
+  s ← text_at path d
+  pred_or_why path (pred_read names s)
+
+-- a number of a fact, a variable or a move
+abbrev pub index_at : List ℕ → Data → Result ℕ Fault
+index_at path d = number_at path 0 4294967295 d
+
+-- a number of a state
+abbrev pub state_at : List ℕ → Data → Result ℕ Fault
+state_at path d = number_at path 0 65535 d
+
+abbrev pub modulus_at : List ℕ → Data → Result ℕ Fault
+modulus_at path d = number_at path 2 200 d
+
+-- a weight, a multiplier, a coefficient or a constant: at most 2^40 in size
+abbrev pub small_at : List ℕ → Data → Result ℤ Fault
+small_at path d = integer_at path 1099511627776 d
+
+abbrev pub term_from : List ℕ → (List ℕ → Data → Result ℕ Fault) → Data × Data → Result Term Fault
+term_from path number p = do
+  n ← number (item_path path 0) p.0
+  z ← small_at (item_path path 1) p.1
+  Ok (record { at = n; by = z })
+
+-- a fact's number and its multiplier
+unfoldable pub term_at : List ℕ → Data → Result Term Fault
+term_at path d = pair_at path d >>= term_from path index_at
+
+abbrev pub term_item : List ℕ → List Term → ℕ → Data → Result Term Fault
+term_item path found i d = term_at (item_path path i) d
+
+unfoldable pub terms_at : List ℕ → Data → Result (List Term) Fault
+terms_at path d = do
+  ds ← list_at path 0 65536 d
+  each (term_item path) [] 0 ds
+
+-- a variable's number, greater than the one before it, and its coefficient
+unfoldable pub row_term_at : List ℕ → Option ℕ → Data → Result Term Fault
+row_term_at path before d = pair_at path d >>= term_from path (λ p e. ascending_at p 4294967295 before e)
+
+abbrev pub numbers_of : List Term → List ℕ
+numbers_of terms = map (λ t. t.at) terms
+
+abbrev pub row_term_item : List ℕ → List Term → ℕ → Data → Result Term Fault
+row_term_item path found i d = row_term_at (item_path path i) (last_of (numbers_of found)) d
+
+unfoldable pub row_terms_at : List ℕ → Data → Result (List Term) Fault
+row_terms_at path d = do
+  ds ← list_at path 0 65536 d
+  each (row_term_item path) [] 0 ds
+
+abbrev pub state_item : List ℕ → List ℕ → ℕ → Data → Result ℕ Fault
+state_item path found i d = ascending_at (item_path path i) 65535 (last_of found) d
+
+-- states, each with a greater number than the one before it
+unfoldable pub states_at : List ℕ → Data → Result (List ℕ) Fault
+states_at path d = do
+  ds ← list_at path 0 256 d
+  each (state_item path) [] 0 ds
+
+abbrev pub with_one : {A : Type 0} → (List ℕ → Data → Result A Fault) → (A → Node) → List ℕ → List Data → Result Node Fault
+with_one read make path ds = do
+  d ← one_after path ds
+  x ← read (item_path path 1) d
+  Ok (make x)
+
+abbrev pub with_two : {A B : Type 0} → (List ℕ → Data → Result A Fault) → (List ℕ → Data → Result B Fault) → (A → B → Node) → List ℕ → List Data → Result Node Fault
+with_two read other make path ds = do
+  p ← two_after path ds
+  x ← read (item_path path 1) p.0
+  y ← other (item_path path 2) p.1
+  Ok (make x y)
+
+abbrev pub split_by : List Term → ℤ → Node
+split_by terms constant = Split (record { terms = terms; constant = constant })
+
+-- what stands after the word, for each word
+abbrev pub after_word : List ℕ → Word → List Data → Result Node Fault
+after_word path word.Linear ds = with_one terms_at Linear path ds
+after_word path word.Residue ds = with_two modulus_at terms_at Residue path ds
+after_word path word.Split ds = with_two row_terms_at small_at split_by path ds
+after_word path word.Present ds = with_one state_at Present path ds
+after_word path word.Twin ds = with_one state_at Twin path ds
+after_word path word.Trap ds = with_one states_at Trap path ds
+after_word path word.Siphon ds = with_one states_at Siphon path ds
+after_word path word.Open ds = with_one index_at Open path ds
+
+-- a word that no node has is refused before the number of items is looked at
+abbrev pub by_word : List ℕ → Option Word → List Data → Result Node Fault
+by_word path None ds = broken (item_path path 0) Name
+by_word path (Some w) ds = after_word path w ds
+
+unfoldable pub node_at : List ℕ → Data → Result Node Fault
+node_at path d = do
+  ds ← items_at path d
+  s ← word_at path ds
+  by_word path (word_named s) ds
+
+abbrev pub node_item : List ℕ → List Node → ℕ → Data → Result Node Fault
+node_item path found i d = node_at (item_path path i) d
+
+unfoldable pub nodes_at : List ℕ → Data → Result (List Node) Fault
+nodes_at path d = do
+  ds ← list_at path 0 1000000 d
+  each (node_item path) [] 0 ds
+
+abbrev pub index_item : List ℕ → List ℕ → ℕ → Data → Result ℕ Fault
+index_item path found i d = index_at (item_path path i) d
+
+unfoldable pub moves_at : List ℕ → Data → Result (List ℕ) Fault
+moves_at path d = do
+  ds ← list_at path 0 32768 d
+  each (index_item path) [] 0 ds
+
+abbrev pub weight_item : List ℕ → List ℤ → ℕ → Data → Result ℤ Fault
+weight_item path found i d = small_at (item_path path i) d
+
+unfoldable pub weights_at : List ℕ → Data → Result (List ℤ) Fault
+weights_at path d = do
+  ds ← list_at path 0 256 d
+  each (weight_item path) [] 0 ds
+
+unfoldable pub layer_at : List ℕ → Data → Result Layer Fault
+layer_at path d = do
+  o ← object_at path d
+  ms ← member_by path (codes "moves") moves_at d
+  ws ← member_by path (codes "weights") weights_at d
+  Ok (record { moves = ms; weights = ws })
+
+abbrev pub layer_item : List ℕ → List Layer → ℕ → Data → Result Layer Fault
+layer_item path found i d = layer_at (item_path path i) d
+
+unfoldable pub layers_at : List ℕ → Data → Result (List Layer) Fault
+layers_at path d = do
+  ds ← list_at path 0 256 d
+  each (layer_item path) [] 0 ds
+
+unfoldable pub leaf_proof_at : List (List ℕ) → List ℕ → Data → Result LeafProof Fault
+leaf_proof_at names path d = do
+  o ← object_at path d
+  p ← member_by path (codes "pred") (pred_at names) d
+  ls ← member_by path (codes "layers") layers_at d
+  ts ← member_by path (codes "true") nodes_at d
+  fs ← member_by path (codes "false") nodes_at d
+  Ok (record { pred = p; layers = ls; on_true = ts; on_false = fs })
+
+abbrev pub leaf_proof_item : List (List ℕ) → List ℕ → List LeafProof → ℕ → Data → Result LeafProof Fault
+leaf_proof_item names path found i d = leaf_proof_at names (item_path path i) d
+
+-- one proof for each leaf; another number of them is refused before any is examined
+unfoldable pub leaf_proofs_at : List (List ℕ) → ℕ → List ℕ → Data → Result (List LeafProof) Fault
+leaf_proofs_at names leaves path d = do
+  ds ← list_at path leaves leaves d
+  each (leaf_proof_item names path) [] 0 ds
+
+-- the member `proof` of a bundle, over these names and for so many leaves
+unfoldable pub proof_at : List (List ℕ) → ℕ → Data → Result Proof Fault
+proof_at names leaves d = do
+  parts ← member_by [] (codes "proof") (leaf_proofs_at names leaves) d
+  Ok (record { leaves = parts })

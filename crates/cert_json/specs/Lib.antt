@@ -1,0 +1,4 @@
+pub mod ProofFile
+pub mod Words
+pub mod Examined
+pub mod Written

@@ -1,0 +1,131 @@
+//! Reading a proof from a bundle's JSON value.
+
+ghost use Rattle.std.specs.Prelude.{◌≡◌, ◌≢◌, ◌≤◌, length, IfOk, IfErr};
+ghost use Rattle.serde_json.specs.View.{view};
+ghost use Rattle.pop_io.specs.Names.{is_variable_name, AreNames};
+ghost use Rattle.json_shape.specs.Faults.{Gives};
+ghost use Rattle.json_shape.specs.Paths.{path_text};
+ghost use Rattle.cert_base.specs.declared.proof.Proof.{Proof};
+ghost use Rattle.cert_base.specs.ProofLimits.{IsProofWithin};
+ghost use Rattle.cert_json.specs.ProofFile.{IsProofFile};
+ghost use Rattle.cert_json.specs.Examined.{pred_at, leaf_proof_at, leaf_proofs_at, proof_at};
+
+use crate::layers::layers_of;
+use crate::node::nodes_of;
+use cert_base::{LeafProof, Proof};
+use json_shape::{FormatFault, Path, PredWhy, Why, broken, list_of, member_of, object_of, text_of};
+use pop_io::{List, Text};
+use pop_net::Net;
+use pres_ast::Pred;
+use pres_read::{ReadPred, read_pred};
+use serde_json::Value;
+use std::alloc::Global;
+
+#[tactic(auto, unfolding(crate::specs::Examined::pred_at))]
+fn pred_of(
+    alloc: Global,
+    path: &Path<'_>,
+    names: &List<Text>,
+    value: &Value,
+) -> Result<Pred, FormatFault>
+    requires some { 1 ≤ length names.now }
+    requires few { length names.now ≤ 16 }
+    requires names { AreNames is_variable_name names.now }
+    ensures { Gives (λ pred. pred) result (pred_at names.now (path_text path.now) (view value.now)) }
+{
+    let text = text_of(alloc, path, value)?;
+    let why = match read_pred(alloc, text.as_bytes(), names) {
+        Ok(pred) => return Ok(pred),
+        Err(ReadPred::Syntax(at)) => PredWhy::Syntax(at),
+        Err(ReadPred::UnknownName(at)) => PredWhy::UnknownName(at),
+        Err(ReadPred::TooLarge(at)) => PredWhy::TooLarge(at),
+        Err(ReadPred::TooDeep(at)) => PredWhy::TooDeep(at),
+        Err(ReadPred::LongText(length)) => PredWhy::LongText(length),
+        Err(ReadPred::NoMemory) => return Err(FormatFault::NoMemory),
+    };
+    Err(broken(alloc, path, Why::Pred(why)))
+}
+
+#[tactic(auto, unfolding(crate::specs::Examined::leaf_proof_at))]
+fn leaf_proof_of(
+    alloc: Global,
+    path: &Path<'_>,
+    names: &List<Text>,
+    value: &Value,
+) -> Result<LeafProof, FormatFault>
+    requires some { 1 ≤ length names.now }
+    requires few { length names.now ≤ 16 }
+    requires names { AreNames is_variable_name names.now }
+    ensures { Gives (λ part. part) result (leaf_proof_at names.now (path_text path.now) (view value.now)) }
+{
+    object_of(alloc, path, value)?;
+    let pred = member_of(alloc, path, "pred", value)?;
+    let pred = pred_of(alloc, &Path::Member(path, "pred"), names, pred)?;
+    let layers = member_of(alloc, path, "layers", value)?;
+    let layers = layers_of(alloc, &Path::Member(path, "layers"), layers)?;
+    let on_true = member_of(alloc, path, "true", value)?;
+    let on_true = nodes_of(alloc, &Path::Member(path, "true"), on_true)?;
+    let on_false = member_of(alloc, path, "false", value)?;
+    let on_false = nodes_of(alloc, &Path::Member(path, "false"), on_false)?;
+    Ok(LeafProof {
+        pred,
+        layers,
+        on_true,
+        on_false,
+    })
+}
+
+#[tactic(auto, unfolding(crate::specs::Examined::leaf_proofs_at))]
+fn leaf_proofs_of(
+    alloc: Global,
+    path: &Path<'_>,
+    names: &List<Text>,
+    leaves: usize,
+    value: &Value,
+) -> Result<List<LeafProof>, FormatFault>
+    requires some { 1 ≤ length names.now }
+    requires few { length names.now ≤ 16 }
+    requires names { AreNames is_variable_name names.now }
+    ensures { Gives (λ parts. parts) result
+        (leaf_proofs_at names.now leaves (path_text path.now) (view value.now)) }
+{
+    let list = list_of(alloc, path, leaves, leaves, value)?;
+    let mut parts = Vec::new(alloc);
+    for (i, item) in list.iter().enumerate() {
+        parts.push(leaf_proof_of(alloc, &Path::Item(&*path, i), names, item)?)?;
+    }
+    Ok(List::from_vec(parts))
+}
+
+#[tactic(auto, unfolding(crate::specs::Examined::proof_at))]
+fn proof_of(alloc: Global, value: &Value, net: &Net) -> Result<Proof, FormatFault>
+    ensures { Gives (λ proof. proof) result
+        (proof_at net.now.variables (length net.now.leaves) (view value.now)) }
+{
+    let root = Path::Root;
+    let proof = member_of(alloc, &root, "proof", value)?;
+    let names = net.var_names();
+    let leaves = net.leaf_count() as usize;
+    let leaves = leaf_proofs_of(alloc, &Path::Member(&root, "proof"), names, leaves, proof)?;
+    Ok(Proof { leaves })
+}
+
+/// The member `proof` of a bundle, or the first rule that it breaks, with its path from the bundle's root. `value` is
+/// the whole bundle: where it lacks the member, or is no object, the fault is `Kind` at `/proof`.
+///
+/// The proof has one object for each leaf, and of each the members are examined in the order `pred`, `layers`, `true`,
+/// `false`; of a layer `moves`, `weights`; of a node its word, then how many items it has, then each of them. Each is
+/// examined whole before the next is looked for. Other members are ignored.
+pub fn read_proof(alloc: Global, value: &Value, net: &Net) -> Result<Proof, FormatFault>
+    ensures exact { Gives (λ proof. proof) result
+        (proof_at net.now.variables (length net.now.leaves) (view value.now)) }
+    ensures within { IfOk result (λ proof. IsProofWithin (length net.now.variables) (length net.now.leaves) proof) }
+
+    // Just the files of proofs within the limits are read, and each to its proof.
+    ensures file { IfOk result (λ proof. IsProofFile net.now.variables proof (view value.now)) }
+    ensures no_file { IfErr result (λ fault. fault ≢ FormatFault.NoMemory → (proof : Proof)
+        → IsProofFile net.now.variables proof (view value.now)
+        → IsProofWithin (length net.now.variables) (length net.now.leaves) proof → ⊥) }
+{
+    proof_of(alloc, value, net)
+}

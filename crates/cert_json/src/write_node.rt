@@ -1,0 +1,90 @@
+//! Writing nodes as JSON values.
+
+ghost use Rattle.std.specs.Prelude.{◌≡◌, map, take, IfOk};
+ghost use Rattle.serde_json.specs.View.{view};
+ghost use Rattle.net_json.specs.Written.{numbers_data};
+ghost use Rattle.cert_json.specs.Words.{text_of};
+ghost use Rattle.cert_json.specs.Written.{term_data, terms_data, one_part, two_parts, node_data, nodes_data};
+
+use crate::word::Word;
+use cert_base::{Node, Term};
+use serde_json::{Value, json};
+use std::alloc::{AllocError, Global};
+
+fn term_value(alloc: Global, term: Term) -> Result<Value, AllocError>
+    ensures { IfOk result (λ v. view v ≡ term_data term) }
+{
+    json!(in alloc; [term.at, term.by])
+}
+
+fn terms_value(alloc: Global, terms: &[Term]) -> Result<Value, AllocError>
+    ensures { IfOk result (λ v. view v ≡ terms_data terms.now) }
+{
+    let mut list = Vec::new(alloc);
+    for term in terms {
+        list.push(term_value(alloc, *term)?)?;
+    }
+    Ok(Value::Array(list))
+}
+
+fn states_value(alloc: Global, states: &[u16]) -> Result<Value, AllocError>
+    ensures { IfOk result (λ v. view v ≡ numbers_data states.now) }
+{
+    let mut list = Vec::new(alloc);
+    for state in states {
+        list.push(Value::from(*state))?;
+    }
+    Ok(Value::Array(list))
+}
+
+fn one_value(alloc: Global, word: Word, part: Value) -> Result<Value, AllocError>
+    ensures { IfOk result (λ v. view v ≡ one_part (text_of word) (view part)) }
+{
+    json!(in alloc; [word.text(), part])
+}
+
+fn two_value(alloc: Global, word: Word, part: Value, rest: Value) -> Result<Value, AllocError>
+    ensures { IfOk result (λ v. view v ≡ two_parts (text_of word) (view part) (view rest)) }
+{
+    json!(in alloc; [word.text(), part, rest])
+}
+
+fn node_value(alloc: Global, node: &Node) -> Result<Value, AllocError>
+    ensures { IfOk result (λ v. view v ≡ node_data node.now) }
+{
+    match node {
+        Node::Linear(terms) => {
+            let terms = terms_value(alloc, terms.as_slice())?;
+            one_value(alloc, Word::Linear, terms)
+        }
+        Node::Residue(modulus, terms) => {
+            let terms = terms_value(alloc, terms.as_slice())?;
+            two_value(alloc, Word::Residue, Value::from(*modulus), terms)
+        }
+        Node::Split(row) => {
+            let terms = terms_value(alloc, row.terms.as_slice())?;
+            two_value(alloc, Word::Split, terms, Value::from(row.constant))
+        }
+        Node::Present(state) => one_value(alloc, Word::Present, Value::from(*state)),
+        Node::Twin(state) => one_value(alloc, Word::Twin, Value::from(*state)),
+        Node::Trap(set) => {
+            let set = states_value(alloc, set.as_slice())?;
+            one_value(alloc, Word::Trap, set)
+        }
+        Node::Siphon(set) => {
+            let set = states_value(alloc, set.as_slice())?;
+            one_value(alloc, Word::Siphon, set)
+        }
+        Node::Open(fact) => one_value(alloc, Word::Open, Value::from(*fact)),
+    }
+}
+
+pub(crate) fn nodes_value(alloc: Global, nodes: &[Node]) -> Result<Value, AllocError>
+    ensures { IfOk result (λ v. view v ≡ nodes_data nodes.now) }
+{
+    let mut list = Vec::new(alloc);
+    for node in nodes {
+        list.push(node_value(alloc, node)?)?;
+    }
+    Ok(Value::Array(list))
+}
