@@ -14,3 +14,6 @@ mod write_node;
 pub use json_shape::{FormatFault, PredWhy, Why};
 pub use read::read_proof;
 pub use write::write_proof;
+
+#[cfg(test)]
+mod tests;

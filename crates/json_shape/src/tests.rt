@@ -27,6 +27,26 @@ fn parts_of_a_value(rt: HostRuntime) -> Result<(), Fail> {
 }
 
 #[test]
+fn parts_of_a_tagged_list(rt: HostRuntime) -> Result<(), Fail> {
+    let alloc = rt.alloc();
+    let value = Value::from_str(alloc, "[\"two\",[3,-4],5]")?;
+    let root = Path::Root;
+    let items = items_of(alloc, &root, &value).ok().ok_or("a list")?;
+    assert_eq!(rt; word_of(alloc, &root, items).ok(), Some("two"));
+    assert!(rt; only_item(alloc, &root, items).is_err());
+    let both = both_items(alloc, &root, items).ok().ok_or("two items")?;
+    assert_eq!(rt; ascending_of(alloc, &root, 5, Some(4), both.1).ok(), Some(5));
+    assert!(rt; ascending_of(alloc, &root, 5, Some(5), both.1).is_err());
+    let pair = pair_of(alloc, &root, both.0).ok().ok_or("a pair")?;
+    assert_eq!(rt; integer_of(alloc, &root, 4, pair.1).ok(), Some(-4));
+    assert!(rt; integer_of(alloc, &root, 3, pair.1).is_err());
+    let tail = &items[1..];
+    let item = only_item(alloc, &root, tail).ok().ok_or("one item")?;
+    assert_eq!(rt; number_of(alloc, &root, 0, 5, item).ok(), Some(5));
+    Ok(())
+}
+
+#[test]
 fn reasons_are_told(rt: HostRuntime) -> Result<(), Fail> {
     let why = Why::Pred(PredWhy::TooLarge(17));
     let told = format!(in rt.alloc(); "{why} {}", Why::Shape)?;
