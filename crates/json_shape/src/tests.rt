@@ -35,7 +35,10 @@ fn parts_of_a_tagged_list(rt: HostRuntime) -> Result<(), Fail> {
     assert_eq!(rt; word_of(alloc, &root, items).ok(), Some("two"));
     assert!(rt; only_item(alloc, &root, items).is_err());
     let both = both_items(alloc, &root, items).ok().ok_or("two items")?;
-    assert_eq!(rt; ascending_of(alloc, &root, 5, Some(4), both.1).ok(), Some(5));
+    assert_eq!(rt;
+        ascending_of(alloc, &root, 5, Some(4), both.1).ok(),
+        Some(5)
+    );
     assert!(rt; ascending_of(alloc, &root, 5, Some(5), both.1).is_err());
     let pair = pair_of(alloc, &root, both.0).ok().ok_or("a pair")?;
     assert_eq!(rt; integer_of(alloc, &root, 4, pair.1).ok(), Some(-4));
