@@ -2,3 +2,4 @@ pub mod ProofFile
 pub mod Words
 pub mod Examined
 pub mod Written
+pub mod Bundles

@@ -1,8 +1,9 @@
-//! The proofs of bundle files: the JSON value of a proof, both ways.
+//! Bundle files and their proofs: the JSON value of a proof both ways, and the reading of a whole bundle.
 //! It stands on `cert_base`, `pres_read`, `pop_net` and `json_shape`.
-//! The layer above uses: `read_proof` gives the proof of the file or the first broken rule, and reads what `write_proof` gives to an equal proof.
+//! The layer above uses: `read_bundle` and `read_proof` give what the file has or the first broken rule, and reads what `write_proof` gives to an equal proof.
 #![tactic(auto)]
 
+mod bundle;
 mod layers;
 mod node;
 mod read;
@@ -11,6 +12,7 @@ mod word;
 mod write;
 mod write_node;
 
+pub use bundle::{Bundle, read_bundle};
 pub use json_shape::{FormatFault, PredWhy, Why};
 pub use read::read_proof;
 pub use write::write_proof;

@@ -21,8 +21,9 @@ use pres_read::{ReadPred, read_pred};
 use serde_json::Value;
 use std::alloc::Global;
 
+/// A predicate over these names.
 #[tactic(auto, unfolding(crate::specs::Examined::pred_at))]
-fn pred_of(
+pub(crate) fn pred_of(
     alloc: Global,
     path: &Path<'_>,
     names: &List<Text>,
@@ -31,7 +32,8 @@ fn pred_of(
     requires some { 1 ≤ length names.now }
     requires few { length names.now ≤ 16 }
     requires names { AreNames is_variable_name names.now }
-    ensures { Gives (λ pred. pred) result (pred_at names.now (path_text path.now) (view value.now)) }
+    ensures pred { Gives (λ pred. pred) result (pred_at names.now (path_text path.now) (view value.now)) }
+    ensures variables { IfOk result (λ pred. pred.variables ≡ length names.now) }
 {
     let text = text_of(alloc, path, value)?;
     let why = match read_pred(alloc, text.as_bytes(), names) {

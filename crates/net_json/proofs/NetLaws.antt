@@ -162,18 +162,18 @@ net_of path d one vars leaves items f v l c =
     }
 
 -- the lists that were read make a net
-pub net_read : (d e f g h : Data) (one m n : ℕ) (vars : List (List ℕ)) (leaves : List LeafModel) (items : List Item) → m ≡ length vars → n ≡ length leaves
-    → member_at [] (codes "format") d ≡ Ok e → number_at (member_path [] (codes "format")) 1 1 e ≡ Ok one
-    → member_at [] (codes "vars") d ≡ Ok f → names_at is_variable_name 16 (member_path [] (codes "vars")) f ≡ Ok vars
-    → member_at [] (codes "leaves") d ≡ Ok g → leaves_at m (member_path [] (codes "leaves")) g ≡ Ok leaves
-    → member_at [] (codes "combine") d ≡ Ok h → combine_at n (member_path [] (codes "combine")) h ≡ Ok items
+pub net_read : (path : List ℕ) (d e f g h : Data) (one m n : ℕ) (vars : List (List ℕ)) (leaves : List LeafModel) (items : List Item) → m ≡ length vars → n ≡ length leaves
+    → member_at path (codes "format") d ≡ Ok e → number_at (member_path path (codes "format")) 1 1 e ≡ Ok one
+    → member_at path (codes "vars") d ≡ Ok f → names_at is_variable_name 16 (member_path path (codes "vars")) f ≡ Ok vars
+    → member_at path (codes "leaves") d ≡ Ok g → leaves_at m (member_path path (codes "leaves")) g ≡ Ok leaves
+    → member_at path (codes "combine") d ≡ Ok h → combine_at n (member_path path (codes "combine")) h ≡ Ok items
     → IsNet (record { variables = vars; leaves = leaves; combine = items })
-net_read d e f g h one m n vars leaves items long wide o o' v v' l l' c c' =
-    (net_of [] d one vars leaves items
+net_read path d e f g h one m n vars leaves items long wide o o' v v' l l' c c' =
+    (net_of path d one vars leaves items
     (rw o o')
     (rw v v')
-    (rw l (subst (λ (k : ℕ). leaves_at k (member_path [] (codes "leaves")) g ≡ Ok leaves) long l'))
-    (rw c (subst (λ (k : ℕ). combine_at k (member_path [] (codes "combine")) h ≡ Ok items) wide c'))).fits
+    (rw l (subst (λ (k : ℕ). leaves_at k (member_path path (codes "leaves")) g ≡ Ok leaves) long l'))
+    (rw c (subst (λ (k : ℕ). combine_at k (member_path path (codes "combine")) h ≡ Ok items) wide c'))).fits
 
 pub net_at-takes : (path : List ℕ) (d : Data) (net : NetModel) → net_at path d ≡ Ok net → IsNetFile net d
 unfolding net_at

@@ -11,7 +11,7 @@ mod read;
 mod write;
 
 pub use json_shape::{FormatFault, PredWhy, Why};
-pub use read::read_net;
+pub use read::{read_net, read_net_at};
 pub use write::write_net;
 
 #[cfg(test)]

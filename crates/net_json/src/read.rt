@@ -30,28 +30,28 @@ fn formed(made: Result<Net, NetFault>) -> Result<Net, FormatFault>
     }
 }
 
+/// `read_net` for a file that stands inside another value: paths begin with this one.
 #[tactic(auto, unfolding(crate::specs::Examined::net_at))]
-fn net_of(alloc: Global, value: &Value) -> Result<Net, FormatFault>
-    ensures { Gives (λ net. net) result (net_at [] (view value.now)) }
+pub fn read_net_at(alloc: Global, path: &Path<'_>, value: &Value) -> Result<Net, FormatFault>
+    ensures { Gives (λ net. net) result (net_at (path_text path.now) (view value.now)) }
 {
-    let root = Path::Root;
-    object_of(alloc, &root, value)?;
-    let format = member_of(alloc, &root, "format", value)?;
-    number_of(alloc, &Path::Member(&root, "format"), 1, 1, format)?;
-    let vars = member_of(alloc, &root, "vars", value)?;
+    object_of(alloc, path, value)?;
+    let format = member_of(alloc, path, "format", value)?;
+    number_of(alloc, &Path::Member(path, "format"), 1, 1, format)?;
+    let vars = member_of(alloc, path, "vars", value)?;
     let vars = names_of(
         alloc,
-        &Path::Member(&root, "vars"),
+        &Path::Member(path, "vars"),
         NameForm::Variable,
         16,
         vars,
     )?;
     let variables = vars.as_slice().len();
-    let leaves = member_of(alloc, &root, "leaves", value)?;
-    let leaves = leaves_of(alloc, &Path::Member(&root, "leaves"), variables, leaves)?;
+    let leaves = member_of(alloc, path, "leaves", value)?;
+    let leaves = leaves_of(alloc, &Path::Member(path, "leaves"), variables, leaves)?;
     let count = leaves.as_slice().len();
-    let combine = member_of(alloc, &root, "combine", value)?;
-    let combine = combine_of(alloc, &Path::Member(&root, "combine"), count as u8, combine)?;
+    let combine = member_of(alloc, path, "combine", value)?;
+    let combine = combine_of(alloc, &Path::Member(path, "combine"), count as u8, combine)?;
     formed(Net::new(alloc, vars, leaves, combine))
 }
 
@@ -66,5 +66,5 @@ pub fn read_net(alloc: Global, value: &Value) -> Result<Net, FormatFault>
     ensures file { IfOk result (λ net. IsNetFile net (view value.now)) }
     ensures no_file { IfErr result (λ fault. IsBroken fault → (net : NetModel) → IsNetFile net (view value.now) → ⊥) }
 {
-    net_of(alloc, value)
+    read_net_at(alloc, &Path::Root, value)
 }

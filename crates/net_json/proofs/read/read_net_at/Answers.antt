@@ -1,12 +1,13 @@
 use Rattle.std.proofs.Common.{ap, length}
 use Rattle.serde_json.specs.View.{view}
+use Rattle.json_shape.specs.Paths.{path_text}
 use Rattle.net_json.proofs.NetLaws.{net_read}
-use Rattle.net_json.proofs.read.net_of.Goals as goal
+use Rattle.net_json.proofs.read.read_net_at.Goals as goal
 
 pub formed-requires : goal.formed-requires
 formed-requires c =
     c.new.ensures.accepts
-    (net_read (view c.args.value.now) _ _ _ _ _ (length c.as_slice-variables.result.now) (length c.as_slice-count.result.now) _ _ _
+    (net_read (path_text c.args.path.now) (view c.args.value.now) _ _ _ _ _ (length c.as_slice-variables.result.now) (length c.as_slice-count.result.now) _ _ _
     (ap length c.as_slice-variables.ensures)
     (ap length c.as_slice-count.ensures)
     c.in_ok-format.ensures c.in_ok-number_of.ensures.number
