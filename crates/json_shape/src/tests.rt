@@ -40,7 +40,7 @@ fn parts_of_a_tagged_list(rt: HostRuntime) -> Result<(), Fail> {
     let pair = pair_of(alloc, &root, both.0).ok().ok_or("a pair")?;
     assert_eq!(rt; integer_of(alloc, &root, 4, pair.1).ok(), Some(-4));
     assert!(rt; integer_of(alloc, &root, 3, pair.1).is_err());
-    let tail = &items[1..];
+    let (_, tail) = items.split_first().ok_or("a word")?;
     let item = only_item(alloc, &root, tail).ok().ok_or("one item")?;
     assert_eq!(rt; number_of(alloc, &root, 0, 5, item).ok(), Some(5));
     Ok(())
