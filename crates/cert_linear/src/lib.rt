@@ -9,3 +9,6 @@ mod trail;
 
 pub use closing::{linear_closes, residue_closes};
 pub use trail::Trail;
+
+#[cfg(test)]
+mod tests;

@@ -11,3 +11,6 @@ mod walk;
 
 pub use fault::{TreeFault, TreeWhy};
 pub use tree::check_tree;
+
+#[cfg(test)]
+mod tests;
