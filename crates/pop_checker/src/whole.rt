@@ -27,7 +27,8 @@ pub fn check(alloc: Global, net: Net, pred: Pred, proof: &Proof) -> Result<Check
     ensures kept { IfOk result (λ checked. checked ≡ record { net = net; pred = pred; bound = proof_bound proof.now }) }
 {
     let bound = check_parts(alloc, &net, proof)?;
-    if !net_pred_is(&net, proof, &pred) {
+    let same = net_pred_is(&net, proof, &pred);
+    if !same {
         return Err(CheckFault::Rejected(Rejected::Predicate));
     }
     Ok(Checked::new(net, pred, bound))
@@ -43,10 +44,12 @@ fn check_parts(alloc: Global, net: &Net, proof: &Proof) -> Result<u64, CheckFaul
     ensures accepts { AreValidBefore net.now proof.now (length net.now.leaves) → IfErr result (λ fault. fault ≡ CheckFault.NoMemory) }
 {
     let _leaves = net.leaf_count();
+    let parts = proof.leaves.as_slice();
     let mut bound = 0;
-    for (number, part) in proof.leaves.as_slice().iter().enumerate() {
+    for (number, part) in parts.iter().enumerate() {
         let number = number as u8;
-        bound += check_part(alloc, net.leaf(number), number, part)?;
+        let more = check_part(alloc, net.leaf(number), number, part)?;
+        bound += more;
     }
     Ok(bound)
 }
