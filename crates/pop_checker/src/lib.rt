@@ -11,3 +11,6 @@ mod whole;
 pub use checked::Checked;
 pub use fault::{CheckFault, Rejected};
 pub use whole::check;
+
+#[cfg(test)]
+mod tests;
