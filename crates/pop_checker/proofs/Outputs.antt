@@ -1,16 +1,15 @@
 -- At the end of a checked net every agent outputs the predicate's value.
-use Rattle.std.proofs.Common.{◌≡◌, ℕ, zero, suc, pred, ◌+◌, ◌<◌, ◌≤◌, Bool, true, false, not, ◌&&◌, ◌||◌, List, [], ◌∷◌, length, map, get_or, refl, ap, sym, subst, ◌∙◌, arith}
-use Rattle.std.specs.Prelude.{Option, Some, None, ℤ, pos, slice_get, slice_index, slice_index_or, option_and_then, unwrap_or, All}
-use Rattle.std.proofs.lemmas.List.{length-map}
-use Rattle.std.proofs.lemmas.List.Elements.{All-head, All-tail, All-get_or}
-use Rattle.std.proofs.lemmas.Option.{slice_get_within, slice_get-get_or, get_or_from_slice_get}
+use Rattle.std.proofs.Common.{◌≡◌, ℕ, zero, suc, pred, ◌<◌, Bool, true, false, List, [], ◌∷◌, length, map, get_or, refl, ap, sym, subst, ◌∙◌, arith}
+use Rattle.std.specs.Prelude.{Option, Some, None, pos, slice_get, slice_index_or, option_and_then, unwrap_or, All}
+use Rattle.std.proofs.lemmas.List.Elements.{All-head, All-tail}
+use Rattle.std.proofs.lemmas.Option.{slice_get_within, slice_get-get_or}
 use Rattle.pres_ast.specs.PredTree.{PredTree, LessThan, Negation, Conjunction, Disjunction}
 use Rattle.pres_ast.specs.PredModel.{PredModel}
 use Rattle.pres_ast.specs.PredicateValue.{predicate_value}
 use Rattle.pop_net.specs.declared.net.Item.{Item}
 use Rattle.pop_net.specs.declared.net.Item.TheVariants.{Leaf, Not, And, Or}
 use Rattle.pop_net.specs.LeafModel.{LeafModel}
-use Rattle.pop_net.specs.NetModel.{NetModel, Tuple, CrowdModel, IsTuple, IsNet, state_of, Operators, after_item, after_items, only_one, combined, leaf_outputs, truth, output_of, NamesBelow}
+use Rattle.pop_net.specs.NetModel.{NetModel, Tuple, CrowdModel, IsTuple, IsNet, state_of, after_item, after_items, only_one, combined, leaf_outputs, truth, output_of, NamesBelow}
 use Rattle.pop_net.specs.InputCrowd.{IsInput, input_crowd, leaf_input_crowd}
 use Rattle.pop_net.specs.Step.{Step, LeafStep}
 use Rattle.pop_net.specs.Reachable.{Reachable}
@@ -24,7 +23,7 @@ use Rattle.cert_base.specs.declared.proof.LeafProof.{LeafProof}
 use Rattle.cert_base.specs.ProofBound.{proof_bound}
 use Rattle.cert_base.specs.ValidProof.{ValidProof, trees, CombinesTo}
 use Rattle.cert_base.specs.Ends.{EndsRight}
-use Rattle.pop_checker.specs.Computes.{IsOnTheWay, Computes}
+use Rattle.pop_checker.specs.Computes.{Computes}
 use Rattle.pop_checker.specs.Parts.{IsRightPart, AreRightBefore}
 use Rattle.pop_checker.proofs.NetEnds.{valid_ends}
 

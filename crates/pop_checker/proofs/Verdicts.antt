@@ -1,5 +1,5 @@
 -- What the agents of a terminal crowd output that a checked net has reached.
-use Rattle.std.proofs.Common.{◌≡◌, Bool, List, [], ◌∷◌, ℕ, length, refl, ap, sym, ◌∙◌}
+use Rattle.std.proofs.Common.{◌≡◌, Bool, List, [], ◌∷◌, ℕ, length, ap, sym, ◌∙◌}
 use Rattle.std.specs.Prelude.{Some, slice_get, All}
 use Rattle.std.proofs.lemmas.List.Elements.{All-head}
 use Rattle.pres_ast.specs.PredModel.{PredModel}
