@@ -1,0 +1,19 @@
+-- CheckedModel: a net, the predicate that it computes, and the steps that each agent needs.
+use Rattle.std.specs.Prelude.{◌≡◌, ℕ, length}
+use Rattle.pres_ast.specs.PredModel.{PredModel}
+use Rattle.pop_net.specs.NetModel.{NetModel}
+use Rattle.pop_net.specs.Reaction.{IsSingle}
+use Rattle.pop_checker.specs.Computes.{Computes, EndsByMeetings}
+
+pub record CheckedModel : Type 0 where
+  pub net : NetModel
+  pub pred : PredModel
+  -- the bound per agent
+  pub bound : ℕ
+
+-- what a checked net keeps
+pub record IsChecked (checked : CheckedModel) : Type 0 where
+  pub variables : checked.pred.variables ≡ length checked.net.variables
+  pub computes : Computes checked.net checked.pred.tree checked.bound
+  -- a net in which no two moves of a leaf are for the same states can be led to its end by meetings alone
+  pub settles : IsSingle checked.net → EndsByMeetings checked.net checked.bound

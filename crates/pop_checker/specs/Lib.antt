@@ -1,0 +1,4 @@
+pub mod Computes
+pub mod CheckedModel
+pub mod Rejections
+pub mod Parts

@@ -1,0 +1,48 @@
+-- Parts: what the check of one leaf's proof says.
+use Rattle.std.specs.Prelude.{◌≡◌, ◌≢◌, ℕ, ◌<◌, Bool, true, false, List, Some, slice_get}
+use Rattle.pres_ast.specs.PredModel.{PredModel}
+use Rattle.pop_net.specs.LeafModel.{LeafModel}
+use Rattle.pop_net.specs.NetModel.{NetModel}
+use Rattle.cert_base.specs.declared.proof.LeafProof.{LeafProof}
+use Rattle.cert_base.specs.declared.node.Node.{Node}
+use Rattle.cert_base.specs.ValidProof.{ValidLeafProof}
+use Rattle.cert_base.specs.Ends.{EndsRight}
+use Rattle.cert_tree.specs.Refusals.{IsTreeFault}
+use Rattle.cert_tree.specs.declared.fault.TreeFault.TheVariants.{NoMemory as TreeMemory}
+use Rattle.pop_checker.specs.declared.fault.Rejected.TheVariants.{Layers, Tree, Predicate}
+use Rattle.pop_checker.specs.declared.fault.CheckFault.{CheckFault}
+use Rattle.pop_checker.specs.declared.fault.CheckFault.TheVariants.{Rejected as Rejects, NoMemory}
+use Rattle.pop_checker.specs.Rejections.{RejectsLayers, RejectsTree}
+
+-- a leaf's proof is valid, and its trees leave no wrong end
+pub record IsRightPart (leaf : LeafModel) (part : LeafProof) : Type 0 where
+  pub valid : ValidLeafProof leaf part
+  pub on_true : EndsRight leaf part.pred.tree true
+  pub on_false : EndsRight leaf part.pred.tree false
+
+-- each leaf before leaf n has a right proof
+abbrev pub AreRightBefore : NetModel → List LeafProof → ℕ → Type 0
+AreRightBefore net parts n =
+    (i : ℕ) (leaf : LeafModel) (part : LeafProof) → i < n → slice_get net.leaves i ≡ Some leaf → slice_get parts i ≡ Some part → IsRightPart leaf part
+
+-- the fault of the layers of the leaf with this number
+abbrev pub IsLayersFault : LeafModel → LeafProof → ℕ → CheckFault → Type 0
+IsLayersFault leaf part number (Rejects (Layers i fault)) = (i ≡ number) × RejectsLayers leaf part fault
+IsLayersFault leaf part number (Rejects (Tree i value fault)) = ⊥
+IsLayersFault leaf part number (Rejects Predicate) = ⊥
+IsLayersFault leaf part number NoMemory = Unit {0}
+
+-- the fault of the tree for a value
+abbrev pub IsValueFault : LeafModel → PredModel → Bool → List Node → ℕ → CheckFault → Type 0
+IsValueFault leaf p value nodes number (Rejects (Layers i fault)) = ⊥
+IsValueFault leaf p value nodes number (Rejects (Tree i v fault)) =
+    (i ≡ number) × (v ≡ value) × IsTreeFault leaf p value nodes fault × (fault ≢ TreeMemory)
+IsValueFault leaf p value nodes number (Rejects Predicate) = ⊥
+IsValueFault leaf p value nodes number NoMemory = Unit {0}
+
+-- the fault of a leaf's proof
+abbrev pub IsPartFault : LeafModel → LeafProof → ℕ → CheckFault → Type 0
+IsPartFault leaf part number (Rejects (Layers i fault)) = (i ≡ number) × RejectsLayers leaf part fault
+IsPartFault leaf part number (Rejects (Tree i value fault)) = (i ≡ number) × RejectsTree leaf part value fault
+IsPartFault leaf part number (Rejects Predicate) = ⊥
+IsPartFault leaf part number NoMemory = Unit {0}

@@ -1,0 +1,55 @@
+-- Rejections: the first part of a proof that is not valid.
+use Rattle.std.specs.Prelude.{◌≡◌, ◌≢◌, ℕ, ◌<◌, Bool, true, false, [], length, Some, slice_get}
+use Rattle.pres_ast.specs.PredModel.{PredModel}
+use Rattle.pop_net.specs.LeafModel.{LeafModel}
+use Rattle.pop_net.specs.NetModel.{NetModel}
+use Rattle.cert_base.specs.declared.proof.Proof.{Proof}
+use Rattle.cert_base.specs.declared.proof.LeafProof.{LeafProof}
+use Rattle.cert_base.specs.FactsAndCases.{base_facts}
+use Rattle.cert_base.specs.ValidLayers.{ValidLayers}
+use Rattle.cert_base.specs.Closes.{Closes}
+use Rattle.cert_base.specs.ValidProof.{ValidLeafProof, CombinesTo}
+use Rattle.cert_layers.specs.declared.fault.LayerFault.{LayerFault}
+use Rattle.cert_layers.specs.declared.fault.LayerFault.TheVariants.{NoMemory as LayerMemory}
+use Rattle.cert_layers.specs.LayerFaults.{IsLayerFault}
+use Rattle.cert_tree.specs.declared.fault.TreeFault.{TreeFault}
+use Rattle.cert_tree.specs.declared.fault.TreeFault.TheVariants.{NoMemory as TreeMemory}
+use Rattle.cert_tree.specs.Refusals.{IsTreeFault}
+use Rattle.pop_checker.specs.declared.fault.Rejected.{Rejected}
+use Rattle.pop_checker.specs.declared.fault.Rejected.TheVariants.{Layers, Tree, Predicate}
+use Rattle.pop_checker.specs.declared.fault.CheckFault.{CheckFault}
+use Rattle.pop_checker.specs.declared.fault.CheckFault.TheVariants.{Rejected as Rejects, NoMemory}
+
+-- each leaf before leaf n has a valid proof
+abbrev pub AreValidBefore : NetModel → Proof → ℕ → Type 0
+AreValidBefore net proof n =
+    (i : ℕ) (leaf : LeafModel) (part : LeafProof) → i < n → slice_get net.leaves i ≡ Some leaf → slice_get proof.leaves i ≡ Some part → ValidLeafProof leaf part
+
+-- the fault is the first of a leaf's proof: the layers come before the tree for true, and that before the tree for false
+abbrev pub RejectsLayers : LeafModel → LeafProof → LayerFault → Type 0
+RejectsLayers leaf part fault = IsLayerFault leaf part.layers fault × (fault ≢ LayerMemory)
+
+abbrev pub RejectsTree : LeafModel → LeafProof → Bool → TreeFault → Type 0
+RejectsTree leaf part true fault =
+    ValidLayers leaf part.layers × IsTreeFault leaf part.pred true part.on_true fault × (fault ≢ TreeMemory)
+RejectsTree leaf part false fault =
+    ValidLayers leaf part.layers × Closes leaf (base_facts leaf part.pred true) part.on_true [] × IsTreeFault leaf part.pred false part.on_false fault × (fault ≢ TreeMemory)
+
+-- leaf i and its proof are the first that are rejected
+pub record IsFirstRejected (net : NetModel) (proof : Proof) (i : ℕ) (Rejects : LeafModel → LeafProof → Type 0) : Type 0 where
+  pub before : AreValidBefore net proof i
+  pub leaf : LeafModel
+  pub part : LeafProof
+  pub leaf_is : slice_get net.leaves i ≡ Some leaf
+  pub part_is : slice_get proof.leaves i ≡ Some part
+  pub rejected : Rejects leaf part
+
+abbrev pub IsRejected : NetModel → PredModel → Proof → Rejected → Type 0
+IsRejected net p proof (Layers i fault) = IsFirstRejected net proof i (λ leaf part. RejectsLayers leaf part fault)
+IsRejected net p proof (Tree i value fault) = IsFirstRejected net proof i (λ leaf part. RejectsTree leaf part value fault)
+IsRejected net p proof Predicate = AreValidBefore net proof (length net.leaves) × ¬ (CombinesTo net proof p)
+
+-- the fault names the first part that is not valid: leaf by leaf its layers and its two trees, and last the predicate
+abbrev pub IsCheckFault : NetModel → PredModel → Proof → CheckFault → Type 0
+IsCheckFault net p proof (Rejects rejected) = IsRejected net p proof rejected
+IsCheckFault net p proof NoMemory = Unit {0}

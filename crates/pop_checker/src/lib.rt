@@ -1,0 +1,16 @@
+//! The whole check of a proof.
+//! It stands on `cert_layers`, `cert_tree` and `pop_crowd`.
+//! The layer above uses: `check` accepts exactly valid proofs, and a checked net computes its predicate within its bound.
+#![tactic(auto)]
+
+mod checked;
+mod fault;
+mod part;
+mod whole;
+
+pub use checked::Checked;
+pub use fault::{CheckFault, Rejected};
+pub use whole::check;
+
+#[cfg(test)]
+mod tests;

@@ -1,0 +1,84 @@
+//! The check of one leaf's part of a proof.
+
+ghost use Rattle.std.specs.Prelude.{◌≡◌, ◌≤◌, ◌^◌, [], length, All, IfOk, IfErr, OnOk};
+ghost use Rattle.cert_base.specs.FactsAndCases.{base_facts as base_list};
+ghost use Rattle.cert_base.specs.Closes.{Closes};
+ghost use Rattle.cert_base.specs.Ends.{EndsRight};
+ghost use Rattle.cert_base.specs.ProofBound.{layers_bound};
+ghost use Rattle.cert_base.specs.ProofLimits.{IsLayerWithin, AreNodesWithin, IsLeafProofWithin};
+ghost use Rattle.cert_base.specs.ValidLayers.{ValidLayers};
+ghost use Rattle.cert_base.specs.ValidProof.{ValidLeafProof};
+ghost use Rattle.pop_checker.specs.Parts.{IsRightPart, IsLayersFault, IsValueFault, IsPartFault};
+
+use crate::fault::{CheckFault, Rejected};
+use cert_base::{LeafProof, Node};
+use cert_layers::{LayerFault, check_layers};
+use cert_tree::{TreeFault, check_tree};
+use pop_io::List;
+use pop_net::Leaf;
+use pres_ast::Pred;
+use std::alloc::Global;
+
+/// Whether the layers and both trees of the leaf with this number are right, and the bound for each agent.
+pub(crate) fn check_part(
+    alloc: Global,
+    leaf: &Leaf,
+    number: u8,
+    part: &LeafProof,
+) -> Result<u64, CheckFault>
+    requires variables { part.now.pred.variables ≡ length leaf.now.inputs }
+    requires within { IsLeafProofWithin part.now.pred.variables part.now }
+    ensures right { IfOk result (λ bound. IsRightPart leaf.now part.now) }
+    ensures bound { IfOk result (λ bound. (bound ≡ layers_bound part.now.layers) × (bound ≤ 2 ^ 49)) }
+    ensures fault { IfErr result (IsPartFault leaf.now part.now number) }
+    ensures accepts { ValidLeafProof leaf.now part.now → IfErr result (λ fault. fault ≡ CheckFault.NoMemory) }
+{
+    let bound = check_order(alloc, leaf, number, part)?;
+    check_value(alloc, leaf, number, &part.pred, true, &part.on_true)?;
+    check_value(alloc, leaf, number, &part.pred, false, &part.on_false)?;
+    Ok(bound)
+}
+
+fn check_order(alloc: Global, leaf: &Leaf, number: u8, part: &LeafProof) -> Result<u64, CheckFault>
+    requires few { length part.now.layers ≤ 256 }
+    requires within { All IsLayerWithin part.now.layers }
+    ensures valid { IfOk result (λ bound. ValidLayers leaf.now part.now.layers) }
+    ensures bound { IfOk result (λ bound. (bound ≡ layers_bound part.now.layers) × (bound ≤ 2 ^ 49)) }
+    ensures fault { IfErr result (IsLayersFault leaf.now part.now number) }
+    ensures accepts { ValidLayers leaf.now part.now.layers → IfErr result (λ fault. fault ≡ CheckFault.NoMemory) }
+{
+    match check_layers(alloc, leaf, &part.layers) {
+        Ok(bound) => Ok(bound),
+        Err(LayerFault::NoMemory) => Err(CheckFault::NoMemory),
+        Err(fault) => Err(CheckFault::Rejected(Rejected::Layers {
+            leaf: number,
+            fault,
+        })),
+    }
+}
+
+fn check_value(
+    alloc: Global,
+    leaf: &Leaf,
+    number: u8,
+    pred: &Pred,
+    value: bool,
+    nodes: &List<Node>,
+) -> Result<(), CheckFault>
+    requires variables { pred.now.variables ≡ length leaf.now.inputs }
+    requires within { AreNodesWithin nodes.now }
+    ensures closes { OnOk result (Closes leaf.now (base_list leaf.now pred.now value) nodes.now []) }
+    ensures right { OnOk result (EndsRight leaf.now pred.now.tree value) }
+    ensures fault { IfErr result (IsValueFault leaf.now pred.now value nodes.now number) }
+    ensures accepts { Closes leaf.now (base_list leaf.now pred.now value) nodes.now [] → IfErr result (λ fault. fault ≡ CheckFault.NoMemory) }
+{
+    match check_tree(alloc, leaf, pred, value, nodes) {
+        Ok(()) => Ok(()),
+        Err(TreeFault::NoMemory) => Err(CheckFault::NoMemory),
+        Err(fault) => Err(CheckFault::Rejected(Rejected::Tree {
+            leaf: number,
+            value,
+            fault,
+        })),
+    }
+}
