@@ -31,13 +31,7 @@ fn row(alloc: Global, coefs: [i8; 5], constant: i64) -> Result<Row, AllocError>
     ensures { IfOk result (λ row. IsOrdered (Ge row)) }
 {
     let [a, b, c, d, e] = coefs;
-    let terms = [
-        term(0, a),
-        term(1, b),
-        term(2, c),
-        term(3, d),
-        term(4, e),
-    ];
+    let terms = [term(0, a), term(1, b), term(2, c), term(3, d), term(4, e)];
     Ok(Row {
         terms: List::from_vec(Vec::from_slice(alloc, &terms)?),
         constant,

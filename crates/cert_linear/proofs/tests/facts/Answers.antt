@@ -5,6 +5,6 @@ use Rattle.cert_linear.proofs.tests.facts.Goals as goal
 pub loop-kind-preserved : goal.loop-kind-preserved
 loop-kind-preserved c = record {
   ordered =
-    rw c.in_ok-push.ensures.items
-    (All-push IsOrdered c.loop-kind.facts.items c.in_ok-fact.field-0 c.loop-kind.invariant.ordered c.in_ok-fact.ensures);
+      rw c.in_ok-push.ensures.items
+      (All-push IsOrdered c.loop-kind.facts.items c.in_ok-fact.field-0 c.loop-kind.invariant.ordered c.in_ok-fact.ensures);
 }
