@@ -9,6 +9,7 @@ use Rattle.pop_crowd.specs.declared.crowd.Meeting.{Meeting}
 use Rattle.pop_crowd.specs.Replay.{IsMeeting, AreMeetings}
 use Rattle.pair_workers.specs.Picks.{pick_of, picks_from}
 use Rattle.pair_workers.specs.Run.{pairs}
+use Rattle.pair_workers.proofs.Fronts.{same_head, same_tail}
 
 abbrev IsPair : ℕ → ℕ × ℕ → Type 0
 IsPair n p = (p.0 ≢ p.1) × (p.0 < n) × (p.1 < n)
@@ -20,12 +21,6 @@ other_agent n a b false is la lb = let lt = leb-false a b is in ((λ e. absurd (
 pick_in : (n word : ℕ) → 2 ≤ n → IsPair n (pick_of n word)
 pick_in n word two =
     other_agent n (word / 2 ^ 32 % n) (word % 2 ^ 32 % (n - 1)) (nat_le (word / 2 ^ 32 % n) (word % 2 ^ 32 % (n - 1))) refl (mod-lt (word / 2 ^ 32) (omega (arith, two))) (mod-lt (word % 2 ^ 32) (omega (arith, two)))
-
-same_head : {A : Type 0} (x y : A) (xs ys : List A) → x ∷ xs ≡ y ∷ ys → x ≡ y
-same_head x y xs ys e = cc
-
-same_tail : {A : Type 0} (x y : A) (xs ys : List A) → x ∷ xs ≡ y ∷ ys → xs ≡ ys
-same_tail x y xs ys e = cc
 
 pub picked_meet : (words : Stream) (n : ℕ) (meetings : List Meeting) → 2 ≤ n → pairs meetings ≡ picks_from words n (length meetings) → AreMeetings n meetings
 picked_meet words n [] two is = All-nil (IsMeeting n)

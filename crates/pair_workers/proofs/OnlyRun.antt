@@ -18,15 +18,10 @@ use Rattle.pair_workers.specs.Run.{IsRun, IsRound, joined, pairs, meetings_of, t
 use Rattle.pair_workers.specs.OneRun.{IsOnlyRun}
 use Rattle.pair_workers.proofs.Rounds.{all_mine}
 use Rattle.pair_workers.proofs.Meets.{picked_meet}
+use Rattle.pair_workers.proofs.Fronts.{same_head, same_tail}
 
 same_meeting : (m n : Meeting) → m.worker ≡ n.worker → m.a ≡ n.a → m.b ≡ n.b → m.changed ≡ n.changed → m ≡ n
 same_meeting m n w a b c = λ i. record { worker = w i; a = a i; b = b i; changed = c i }
-
-same_head : {A : Type 0} (x y : A) (xs ys : List A) → x ∷ xs ≡ y ∷ ys → x ≡ y
-same_head x y xs ys e = cc
-
-same_tail : {A : Type 0} (x y : A) (xs ys : List A) → x ∷ xs ≡ y ∷ ys → xs ≡ ys
-same_tail x y xs ys e = cc
 
 take_none : {A : Type 0} (xs : List A) → take 0 xs ≡ []
 take_none [] = refl

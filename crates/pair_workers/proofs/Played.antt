@@ -7,13 +7,10 @@ use Rattle.rand_core.specs.Stream.{Stream}
 use Rattle.pop_net.specs.NetModel.{NetModel, CrowdModel}
 use Rattle.pop_crowd.specs.declared.crowd.Meeting.{Meeting}
 use Rattle.pop_crowd.specs.Replay.{replay, AreMarked}
+use Rattle.pop_crowd.proofs.InARow.{replay_append}
 use Rattle.pair_workers.specs.Picks.{picks_from}
 use Rattle.pair_workers.specs.Run.{pairs}
 use Rattle.pair_workers.specs.Played.{IsPlayed}
-
-pub replay_append : (net : NetModel) (xs ys : List Meeting) (crowd : CrowdModel) → replay net (xs ++ ys) crowd ≡ replay net ys (replay net xs crowd)
-replay_append net [] ys crowd = refl
-replay_append net (x ∷ xs) ys crowd = replay_append net xs ys _
 
 pub marked_append : (net : NetModel) (xs ys : List Meeting) (crowd : CrowdModel) → AreMarked net xs crowd → AreMarked net ys (replay net xs crowd) → AreMarked net (xs ++ ys) crowd
 marked_append net [] ys crowd h k = k

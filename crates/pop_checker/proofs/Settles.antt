@@ -20,6 +20,7 @@ use Rattle.pop_net.proofs.Quiet.{All-slice_get}
 use Rattle.pop_net.proofs.Tuples.{leads_terminal, reachable_tuples}
 use Rattle.pop_crowd.specs.declared.crowd.Meeting.{Meeting}
 use Rattle.pop_crowd.specs.Replay.{replay, IsMeeting, AreMeetings}
+use Rattle.pop_crowd.proofs.InARow.{replay_append}
 use Rattle.pop_crowd.proofs.Reached.{length-after_meeting, replay_leads}
 use Rattle.cert_base.specs.declared.proof.Proof.{Proof}
 use Rattle.cert_base.specs.declared.proof.LeafProof.{LeafProof}
@@ -31,10 +32,6 @@ use Rattle.cert_base.proofs.InRange.{leads_in_range}
 use Rattle.cert_layers.proofs.Termination.{valid_layers-end}
 use Rattle.pop_checker.specs.Computes.{EndsByMeetings}
 use Rattle.pop_checker.proofs.Meetings.{IsSingleLeaf, meet_way}
-
-replay-append : (net : NetModel) (first more : List Meeting) (crowd : CrowdModel) → replay net (first ++ more) crowd ≡ replay net more (replay net first crowd)
-replay-append net [] more crowd = refl
-replay-append net (m ∷ first) more crowd = replay-append net first more (after_meeting net m.a m.b crowd)
 
 length-replay : (net : NetModel) (meetings : List Meeting) (crowd : CrowdModel) → length (replay net meetings crowd) ≡ length crowd
 length-replay net [] crowd = refl
@@ -111,7 +108,7 @@ joined net i crowd k l first pairs short size more =
       meetings = first ++ more.meetings;
       pairs = All-append (IsMeeting (length crowd)) first more.meetings pairs (subst (λ (n : ℕ). AreMeetings n more.meetings) size more.pairs);
       short = (let m : length (first ++ more.meetings) ≤ k + l = omega (arith, length-append first more.meetings, more.short) in m);
-      settled = subst (λ (c : CrowdModel). SettledBefore net i c) (sym (replay-append net first more.meetings crowd)) more.settled;
+      settled = subst (λ (c : CrowdModel). SettledBefore net i c) (sym (replay_append net first more.meetings crowd)) more.settled;
     }
 
 relaxed : (net : NetModel) (i j : ℕ) (crowd : CrowdModel) (k l : ℕ) → i ≡ j → k ≤ l → Brought net i crowd k → Brought net j crowd l

@@ -1,4 +1,5 @@
 pub mod Reached
+pub mod InARow
 pub mod Words
 mod Inputs
 mod Counted

@@ -35,7 +35,7 @@ impl Move {
     pub fn takes(&self, x: u16, y: u16) -> bool
         ensures { result ≡ takes_states x y self.now }
     {
-        !self.is_silent() && ((x == self.p && y == self.q) || (x == self.q && y == self.p))
+        ((x == self.p && y == self.q) || (x == self.q && y == self.p)) && !self.is_silent()
     }
 
     /// Whether each of its states is below a number.

@@ -1,0 +1,10 @@
+-- Meetings in a row are one replay.
+use Rattle.std.proofs.Common.{◌≡◌, List, [], ◌∷◌, ◌++◌, refl}
+use Rattle.pop_net.specs.NetModel.{NetModel, CrowdModel}
+use Rattle.pop_net.specs.Reaction.{after_meeting}
+use Rattle.pop_crowd.specs.declared.crowd.Meeting.{Meeting}
+use Rattle.pop_crowd.specs.Replay.{replay}
+
+pub replay_append : (net : NetModel) (first more : List Meeting) (crowd : CrowdModel) → replay net (first ++ more) crowd ≡ replay net more (replay net first crowd)
+replay_append net [] more crowd = refl
+replay_append net (m ∷ first) more crowd = replay_append net first more (after_meeting net m.a m.b crowd)
