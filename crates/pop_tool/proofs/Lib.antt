@@ -1,3 +1,7 @@
+mod Goes
+mod OneValue
+mod Begun
+mod Ran
 mod Short
 mod Lined
 mod Played
@@ -5,3 +9,4 @@ mod Replies
 mod Ends
 mod PlayTuples
 mod One
+mod Headlines
