@@ -20,7 +20,9 @@ use Rattle.pop_words.proofs.Limits.{meaning_limits}
 use Rattle.pop_journal.specs.declared.last.Last.{Last}
 use Rattle.pop_journal.specs.declared.last.Last.TheVariants.{Verdict}
 use Rattle.cert_json.specs.declared.bundle.Bundle.{Bundle}
+use Rattle.cert_base.specs.ValidProof.{ValidProof}
 use Rattle.pop_checker.specs.declared.fault.Rejected.{Rejected}
+use Rattle.pop_checker.proofs.OneFault.{none_rejected}
 use Rattle.pop_tool.specs.declared.refusal.Refusal.{Refusal}
 use Rattle.pop_tool.specs.declared.refusal.Refusal.TheVariants.{TooLong}
 use Rattle.pop_tool.specs.declared.status.Status.{Status}
@@ -44,7 +46,8 @@ judged_says : (bundle : Bundle) (judged : Option Rejected) (text : List ℕ) (st
 judged_says bundle None text status is told =
     record { certified = ((λ printed. is.0), (λ valid. told)); computes = λ valid. is.1.computes }
 judged_says bundle (Some rejected) text status is told =
-    record { certified = ((λ printed. absurd (cc (told.1, printed.1))), (λ valid. absurd (is.0 valid))); computes = λ valid. absurd (is.0 valid) }
+    let never : ValidProof bundle.net bundle.pred bundle.proof → ⊥ = λ valid. none_rejected bundle.net bundle.pred bundle.proof rejected valid is in
+    record { certified = ((λ printed. absurd (cc (told.1, printed.1))), (λ valid. absurd (never valid))); computes = λ valid. absurd (never valid) }
 
 bundle_says : (r : Result Bundle Refusal) (bundle : Bundle) (given : Result Given Refusal) (text : List ℕ) (status : Status) → r ≡ Ok bundle → OfBundle r given → Told given text status → CheckSays bundle text status
 bundle_says (Err refusal) bundle given text status is may told = absurd cc

@@ -7,6 +7,7 @@ mod Lined
 mod Played
 mod Replies
 mod Ends
+mod Certified
 mod PlayTuples
 mod One
 mod Headlines

@@ -17,7 +17,7 @@ use Rattle.pres_ast.specs.PredModel.{PredModel}
 use Rattle.pres_ast.specs.PredicateValue.{predicate_value}
 use Rattle.cert_json.specs.declared.bundle.Bundle.{Bundle}
 use Rattle.pop_checker.specs.declared.fault.Rejected.{Rejected}
-use Rattle.pop_checker.proofs.OneFault.{one_rejection}
+use Rattle.pop_checker.proofs.OneFault.{one_rejected, none_rejected}
 use Rattle.pop_journal.specs.Journal.{journal_text}
 use Rattle.pop_words.proofs.Limits.{meaning_limits}
 use Rattle.pop_words.specs.declared.command.Usage.{Usage as BadWord}
@@ -73,10 +73,10 @@ one_play (Ok (net, crowd, meetings)) x y p q =
 
 one_judged : (bundle : Bundle) (v w : Option Rejected) → IsJudged bundle v → IsJudged bundle w → v ≡ w
 one_judged bundle None None p q = refl
-one_judged bundle None (Some rejected) p q = absurd (q.0 p.0)
-one_judged bundle (Some rejected) None p q = absurd (p.0 q.0)
+one_judged bundle None (Some rejected) p q = absurd (none_rejected bundle.net bundle.pred bundle.proof rejected p.0 q)
+one_judged bundle (Some rejected) None p q = absurd (none_rejected bundle.net bundle.pred bundle.proof rejected q.0 p)
 one_judged bundle (Some v) (Some w) p q =
-    ap (λ (r : Rejected). Some r) (one_rejection bundle.net bundle.pred bundle.proof v w p.1 q.1)
+    ap (λ (r : Rejected). Some r) (one_rejected bundle.net bundle.pred bundle.proof v w p q)
 
 one_bundle : (r : Result Bundle Refusal) (x y : Result Given Refusal) → OfBundle r x → OfBundle r y → x ≡ y
 one_bundle (Err refusal) x y p q = p ∙ sym q

@@ -42,7 +42,8 @@ pub record CheckSays (bundle : Bundle) (text : List ℕ) (status : Status) : Typ
 
 -- the printed journal is a run of the bundle's net from the input crowd; a verdict stands exactly where the last crowd is terminal, and is the predicate's value
 pub record RunSays (spec : RunSpec) (input text : List ℕ) : Type 0 where
-  pub first second : List ℕ
+  pub first : List ℕ
+  pub second : List ℕ
   pub lines : lines_of input ≡ first ∷ second ∷ []
   pub value : Option Data
   pub reads : Reads first value

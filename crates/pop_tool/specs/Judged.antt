@@ -28,8 +28,7 @@ bounded bundle = record { net = bundle.net; pred = bundle.pred; bound = proof_bo
 -- The proof is valid, and then the net computes the predicate; or this is the first part that is not valid.
 abbrev pub IsJudged : Bundle → Option Rejected → Type 0
 IsJudged bundle None = ValidProof bundle.net bundle.pred bundle.proof × IsChecked (bounded bundle)
-IsJudged bundle (Some rejected) =
-    ¬ (ValidProof bundle.net bundle.pred bundle.proof) × IsRejected bundle.net bundle.pred bundle.proof rejected
+IsJudged bundle (Some rejected) = IsRejected bundle.net bundle.pred bundle.proof rejected
 
 -- what is given for a rejected proof
 abbrev pub rejection : Rejected → Given

@@ -30,7 +30,7 @@ struct TreeWords(TreeFault);
 struct Rejection(Rejected);
 
 impl fmt::Display for LayerWords {
-    ghost output = { λ words. Some (layer_words words.field-0) };
+    ghost output = { λ words. Some (layer_words words.0) };
 
     fn fmt<W: fmt::Write>(&self, f: &mut fmt::Formatter<W>) -> fmt::Result {
         match self.0 {
@@ -44,7 +44,7 @@ impl fmt::Display for LayerWords {
 }
 
 impl fmt::Display for NodeWords {
-    ghost output = { λ words. Some (tree_reason words.field-0) };
+    ghost output = { λ words. Some (tree_reason words.0) };
 
     fn fmt<W: fmt::Write>(&self, f: &mut fmt::Formatter<W>) -> fmt::Result {
         match self.0 {
@@ -61,7 +61,7 @@ impl fmt::Display for NodeWords {
 }
 
 impl fmt::Display for TreeWords {
-    ghost output = { λ words. Some (tree_words words.field-0) };
+    ghost output = { λ words. Some (tree_words words.0) };
 
     fn fmt<W: fmt::Write>(&self, f: &mut fmt::Formatter<W>) -> fmt::Result {
         match self.0 {
@@ -75,7 +75,7 @@ impl fmt::Display for TreeWords {
 }
 
 impl fmt::Display for Rejection {
-    ghost output = { λ words. Some (rejected_text words.field-0) };
+    ghost output = { λ words. Some (rejected_text words.0) };
 
     fn fmt<W: fmt::Write>(&self, f: &mut fmt::Formatter<W>) -> fmt::Result {
         match self.0 {
