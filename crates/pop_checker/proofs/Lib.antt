@@ -2,6 +2,7 @@ pub mod Formats
 pub mod Bounds
 pub mod Firsts
 pub mod OneFault
+pub mod RightEnds
 pub mod NetEnds
 pub mod Outputs
 pub mod Meetings
