@@ -21,7 +21,6 @@ use Rattle.cert_base.specs.Valuation.{Valuation, MeetsFact}
 use Rattle.cert_base.specs.FactsAndCases.{states_of, flow, two_agents, wrong_output, base_facts, can_meet, absent, alone, not_twice, present_cases, is_in, takes_from, puts_into, places_from, none_taken, none_started, count_in, trap_cases, siphon_cases, split_cases, open_tree, open_cases}
 use Rattle.cert_base.specs.Closes.{name_below, refutes, where_in_range, opened, only_case, cases_of, ClosesUnder, refuted, by_cases, ClosesEach, no_case, next_case, Closes}
 use Rattle.cert_base.specs.Ends.{IsEnd, MeetsAll, MeetsOne, EndsRight}
-use Rattle.cert_base.specs.ProofBound.{proof_bound}
 use Rattle.cert_base.specs.ValidProof.{ValidProof}
 use Rattle.cert_base.proofs.Openings.{open_cases-cover, split_cases-cover}
 use Rattle.cert_base.proofs.WrongEnds.{wrong_ends-met}
@@ -31,9 +30,10 @@ use Rattle.cert_traps.proofs.PresentEnds.{twin_met}
 use Rattle.cert_traps.proofs.Covers.{present-cover, trap-cover, siphon-cover}
 use Rattle.cert_tree.specs.Frames.{CoverUnder}
 use Rattle.cert_tree.proofs.Verdicts.{ends_right}
-use Rattle.pop_checker.specs.Computes.{Computes}
+use Rattle.pop_checker.specs.Sound.{ArePreds, IsSound}
 use Rattle.pop_checker.specs.Parts.{AreRightBefore}
 use Rattle.pop_checker.proofs.Outputs.{computes}
+use Rattle.pop_checker.proofs.Settles.{valid_settles}
 
 -- ---- facts of predicates within the limits
 
@@ -203,12 +203,7 @@ closes_right leaf p value nodes is over has closes =
     ends_right leaf p.tree value
     (λ count wrong. closes_none closes is (base_formed leaf p value has) count wrong.reached (wrong_ends-met leaf p value is over count wrong))
 
--- the predicates of the leaves are over the net's variables, and within their limits
-abbrev pub ArePreds : NetModel → Proof → Type 0
-ArePreds net proof =
-    (i : ℕ) (part : LeafProof) → slice_get proof.leaves i ≡ Some part → (part.pred.variables ≡ length net.variables) × HasAtoms part.pred.variables part.pred.tree
-
-pub valid_right : (net : NetModel) (p : PredModel) (proof : Proof) → IsNet net → ArePreds net proof → ValidProof net p proof → AreRightBefore net proof.leaves (length net.leaves)
+valid_right : (net : NetModel) (p : PredModel) (proof : Proof) → IsNet net → ArePreds net proof → ValidProof net p proof → AreRightBefore net proof.leaves (length net.leaves)
 valid_right net p proof is preds valid i leaf part l h k =
     let leaf_is = All-slice_get IsLeaf net.leaves i leaf is.leaves h in
     let inputs = All-slice_get (λ (l : LeafModel). length l.inputs ≡ length net.variables) net.leaves i leaf is.inputs h in
@@ -221,6 +216,6 @@ valid_right net p proof is preds valid i leaf part l h k =
       on_false = closes_right leaf part.pred false part.on_false leaf_is over pred.1 part_is.on_false;
     }
 
--- a net with a valid proof computes the predicate, within the proof's bound for each agent
-pub valid_computes : (net : NetModel) (p : PredModel) (proof : Proof) → IsNet net → ArePreds net proof → ValidProof net p proof → Computes net p.tree (proof_bound proof)
-valid_computes net p proof is preds valid = computes net p proof is valid (valid_right net p proof is preds valid)
+pub sound : IsSound
+sound net p proof is preds valid =
+    record { computes = computes net p proof is valid (valid_right net p proof is preds valid); settles = valid_settles net p proof is valid }

@@ -2,3 +2,4 @@ pub mod Computes
 pub mod CheckedModel
 pub mod Rejections
 pub mod Parts
+pub mod Sound

@@ -5,11 +5,13 @@
 
 mod checked;
 mod fault;
+mod law;
 mod part;
 mod whole;
 
 pub use checked::Checked;
 pub use fault::{CheckFault, Rejected};
+pub use law::valid_is_right;
 pub use whole::check;
 
 #[cfg(test)]

@@ -1,0 +1,23 @@
+-- Sound: a valid proof shows that its net computes the predicate, by the definitions alone.
+use Rattle.std.specs.Prelude.{◌≡◌, ℕ, length, Some, slice_get}
+use Rattle.pres_ast.specs.PredModel.{PredModel, HasAtoms}
+use Rattle.pop_net.specs.NetModel.{NetModel, IsNet}
+use Rattle.pop_net.specs.Reaction.{IsSingle}
+use Rattle.cert_base.specs.declared.proof.Proof.{Proof}
+use Rattle.cert_base.specs.declared.proof.LeafProof.{LeafProof}
+use Rattle.cert_base.specs.ProofBound.{proof_bound}
+use Rattle.cert_base.specs.ValidProof.{ValidProof}
+use Rattle.pop_checker.specs.Computes.{Computes, EndsByMeetings}
+
+-- the predicates of the leaves are over the net's variables, with coefficients for these alone
+abbrev pub ArePreds : NetModel → Proof → Type 0
+ArePreds net proof =
+    (i : ℕ) (part : LeafProof) → slice_get proof.leaves i ≡ Some part → (part.pred.variables ≡ length net.variables) × HasAtoms part.pred.variables part.pred.tree
+
+-- The net computes the predicate within the proof's bound, and where no two moves of a leaf are for the same states, meetings alone lead to its end.
+pub record IsRight (net : NetModel) (p : PredModel) (proof : Proof) : Type 0 where
+  pub computes : Computes net p.tree (proof_bound proof)
+  pub settles : IsSingle net → EndsByMeetings net (proof_bound proof)
+
+abbrev pub IsSound : Type 0
+IsSound = (net : NetModel) (p : PredModel) (proof : Proof) → IsNet net → ArePreds net proof → ValidProof net p proof → IsRight net p proof
