@@ -24,7 +24,7 @@ least_of Turns = 0
 least_of Seed = 0
 
 abbrev pub most_of : RunOption → ℕ
-most_of Workers = 1
+most_of Workers = 64
 most_of Shards = 1024
 most_of Turns = 1000000
 most_of Seed = 9223372036854775807

@@ -53,7 +53,7 @@ impl RunOption {
         ensures { result ≡ (least_of self, most_of self, default_of self) }
     {
         match self {
-            RunOption::Workers => (1, 1, 1),
+            RunOption::Workers => (1, 64, 1),
             RunOption::Shards => (1, 1_024, 16),
             RunOption::Turns => (0, 1_000_000, 10_000),
             RunOption::Seed => (0, 9_223_372_036_854_775_807, 0),
@@ -161,7 +161,7 @@ fn fault_of_number(option: RunOption, word: &str) -> Option<UsageWhy>
 fn spec_in(words: &[&str]) -> RunSpec
     ensures spec { result ≡ spec_of (map (λ w. w.now) words.now) }
     ensures limits { IsWithinLimits result }
-    ensures few { result.workers * result.turns ≤ 1000000 }
+    ensures few { result.workers * result.turns ≤ 64000000 }
 {
     RunSpec {
         workers: value_in(words, RunOption::Workers) as u16,

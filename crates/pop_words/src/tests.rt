@@ -63,7 +63,7 @@ fn bad_options_of_runs(rt: HostRuntime) {
 fn bad_numbers_of_runs(rt: HostRuntime) {
     for (option, number) in [
         ("--workers", "0"),
-        ("--workers", "2"),
+        ("--workers", "65"),
         ("--shards", "0"),
         ("--shards", "1025"),
         ("--turns", "1000001"),
@@ -74,6 +74,26 @@ fn bad_numbers_of_runs(rt: HostRuntime) {
     ] {
         assert!(rt; is_bad(&["run", option, number], 2, UsageWhy::Value));
     }
+}
+
+#[test]
+fn workers_of_runs(rt: HostRuntime) {
+    let spec = RunSpec {
+        workers: 64,
+        turns: 31_250,
+        ..PLAIN_RUN
+    };
+    assert_eq!(rt;
+        read_words(&["run", "--workers", "64", "--turns", "31250"]),
+        Ok(Command::Run(spec))
+    );
+    assert!(rt;
+        is_bad(
+            &["run", "--workers", "64", "--turns", "31251"],
+            5,
+            UsageWhy::Product
+        )
+    );
 }
 
 #[test]
