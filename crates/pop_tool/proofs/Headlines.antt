@@ -1,6 +1,6 @@
 -- What an answer says of a protocol.
 use Rattle.std.proofs.Common.{◌≡◌, ◌⊎◌, inl, inr, ℕ, ◌≤◌, Bool, true, false, nat_lt, List, [], ◌∷◌, ◌++◌, length, Option, Some, None, Result, Ok, Err, refl, sym, ap, subst, ◌∙◌, arith}
-use Rattle.std.specs.Prelude.{All, MatchBool, IfOk, sum}
+use Rattle.std.specs.Prelude.{All, MatchBool}
 use Rattle.std.specs.Io.KnownBytes.{Appends}
 use Rattle.std.proofs.lemmas.Bool.{le-ltb}
 use Rattle.std.proofs.lemmas.List.{append_cancel_left}
@@ -15,8 +15,7 @@ use Rattle.pop_words.specs.declared.command.Command.{Command}
 use Rattle.pop_words.specs.declared.command.Command.TheVariants.{Check, Run}
 use Rattle.pop_words.specs.declared.command.Usage.{Usage as BadWord}
 use Rattle.pop_words.specs.declared.spec.RunSpec.{RunSpec}
-use Rattle.pop_words.specs.Words.{meaning_of, HasLimits}
-use Rattle.pop_words.proofs.Limits.{meaning_limits}
+use Rattle.pop_words.specs.Words.{meaning_of}
 use Rattle.pop_journal.specs.declared.last.Last.{Last}
 use Rattle.pop_journal.specs.declared.last.Last.TheVariants.{Verdict}
 use Rattle.cert_json.specs.declared.bundle.Bundle.{Bundle}
@@ -88,11 +87,11 @@ module _ (net : NetModel) (end : CrowdModel) (tuples : All (IsTuple net) end) (v
   verdict_ends None v is e = is
   verdict_ends (Some (a, b)) v is e = absurd cc
 
-module _ (spec : RunSpec) (alone : spec.workers ≡ 1) (input text : List ℕ) (status : Status) (run : WasRun status) (first second : List ℕ) (lines : lines_of input ≡ first ∷ second ∷ []) (value : Option Data) (reads : Reads first value) where
+module _ (spec : RunSpec) (input text : List ℕ) (status : Status) (run : WasRun status) (first second : List ℕ) (lines : lines_of input ≡ first ∷ second ∷ []) (value : Option Data) (reads : Reads first value) where
   tale_says : (bundle : Bundle) (counts : List ℕ) → begun value second ≡ Ok (bundle, counts) → IsJudged bundle None → (told : Given) → RunTells spec first second bundle.net bundle.pred counts told → text ≡ told.0 → RunSays spec input text
   tale_says bundle counts begins judged told tells is =
       let end = tells.1 in
-      let tuples = run_tuples bundle.net counts (begun_two value second bundle counts begins) spec alone tells.0 end tells.3 in
+      let tuples = run_tuples bundle.net counts (begun_two value second bundle counts begins) spec tells.0 end tells.3 in
       let truth = predicate_value bundle.pred.tree counts in
       record {
         first = first;
@@ -124,17 +123,17 @@ module _ (spec : RunSpec) (alone : spec.workers ≡ 1) (input text : List ℕ) (
   begun_says (Ok (bundle, counts)) is given may told =
       judged_run bundle counts is may.0 may.2 may.1 may.3 (subst (λ (g : Result Given Refusal). Told g text status) may.4 told)
 
-both_says : (spec : RunSpec) → spec.workers ≡ 1 → (input text : List ℕ) (status : Status) → WasRun status → (r : Result (List ℕ × List ℕ) Refusal) → just_two (lines_of input) ≡ r → (given : Result Given Refusal) → OfBoth spec r given → Told given text status → RunSays spec input text
-both_says spec alone input text status run (Err refusal) is given may told =
+both_says : (spec : RunSpec) (input text : List ℕ) (status : Status) → WasRun status → (r : Result (List ℕ × List ℕ) Refusal) → just_two (lines_of input) ≡ r → (given : Result Given Refusal) → OfBoth spec r given → Told given text status → RunSays spec input text
+both_says spec input text status run (Err refusal) is given may told =
     absurd (not_refused refusal text status (subst (λ (g : Result Given Refusal). Told g text status) may told) run)
-both_says spec alone input text status run (Ok (first, second)) is given may told =
-    begun_says spec alone input text status run first second (two_lines (lines_of input) first second is) may.0 may.1 (begun may.0 second) refl given may.2 told
+both_says spec input text status run (Ok (first, second)) is given may told =
+    begun_says spec input text status run first second (two_lines (lines_of input) first second is) may.0 may.1 (begun may.0 second) refl given may.2 told
 
-run_says : (spec : RunSpec) → spec.workers ≡ 1 → (input text : List ℕ) (status : Status) → WasRun status → (given : Result Given Refusal) (long : Bool) → MatchBool long (given ≡ Err TooLong) (RunGives spec (lines_of input) given) → Told given text status → RunSays spec input text
-run_says spec alone input text status run given true may told =
+run_says : (spec : RunSpec) (input text : List ℕ) (status : Status) → WasRun status → (given : Result Given Refusal) (long : Bool) → MatchBool long (given ≡ Err TooLong) (RunGives spec (lines_of input) given) → Told given text status → RunSays spec input text
+run_says spec input text status run given true may told =
     absurd (not_refused TooLong text status (subst (λ (g : Result Given Refusal). Told g text status) may told) run)
-run_says spec alone input text status run given false may told =
-    both_says spec alone input text status run (just_two (lines_of input)) refl given may told
+run_says spec input text status run given false may told =
+    both_says spec input text status run (just_two (lines_of input)) refl given may told
 
 module _ (words : List (List ℕ)) (input text : List ℕ) (status : Status) where
   check_headline : (m : Result Command BadWord) → m ≡ Ok Check → OfMeaning m input text status → (bundle : Bundle) → IsBundleLine input bundle → CheckSays bundle text status
@@ -142,15 +141,14 @@ module _ (words : List (List ℕ)) (input text : List ℕ) (status : Status) whe
       let a = subst (λ (m : Result Command BadWord). OfMeaning m input text status) is answer in
       check_says input bundle a.0 text status line a.1 a.2
 
-  run_headline : (m : Result Command BadWord) → IfOk m HasLimits → (spec : RunSpec) → m ≡ Ok (Run spec) → OfMeaning m input text status → WasRun status → RunSays spec input text
-  run_headline m limits spec is answer run =
+  run_headline : (m : Result Command BadWord) (spec : RunSpec) → m ≡ Ok (Run spec) → OfMeaning m input text status → WasRun status → RunSays spec input text
+  run_headline m spec is answer run =
       let a = subst (λ (m : Result Command BadWord). OfMeaning m input text status) is answer in
-      let l = subst (λ (m : Result Command BadWord). IfOk m HasLimits) is limits in
-      run_says spec (omega (arith, l.workers.0, l.workers.1)) input text status run a.0 (nat_lt 134217728 (length input)) a.1 a.2
+      run_says spec input text status run a.0 (nat_lt 134217728 (length input)) a.1 a.2
 
   pub answer_says : Answer words input text status → Headline words input text status
   answer_says answer =
-      ((λ bundle is line. check_headline (meaning_of words) is answer bundle line), (λ spec is run. run_headline (meaning_of words) (meaning_limits words) spec is answer run))
+      ((λ bundle is line. check_headline (meaning_of words) is answer bundle line), (λ spec is run. run_headline (meaning_of words) spec is answer run))
 
 -- a text that answers what was left, and that the sink took
 module _ (words : List (List ℕ)) (left old new : Option (List ℕ)) (input before text : List ℕ) (left_is : left ≡ Some input) (old_is : old ≡ Some before) (new_is : new ≡ Some (before ++ text)) (status : Status) where

@@ -1,6 +1,6 @@
 -- The words and the input have one answer.
 use Rattle.std.proofs.Common.{◌≡◌, ℕ, ◌<◌, ◌≤◌, ◌⊎◌, inl, inr, Bool, true, false, nat_lt, List, ◌++◌, length, Option, Some, None, Result, Ok, Err, refl, sym, ap, subst, ◌∙◌, arith}
-use Rattle.std.specs.Prelude.{All, MatchBool, IfOk, sum}
+use Rattle.std.specs.Prelude.{All, MatchBool, sum}
 use Rattle.serde_json.specs.Data.{Data}
 use Rattle.pop_lines.specs.Lines.{lines_of, ended}
 use Rattle.pop_net.specs.NetModel.{NetModel, CrowdModel, IsTuple}
@@ -19,9 +19,9 @@ use Rattle.cert_json.specs.declared.bundle.Bundle.{Bundle}
 use Rattle.pop_checker.specs.declared.fault.Rejected.{Rejected}
 use Rattle.pop_checker.proofs.OneFault.{one_rejected, none_rejected}
 use Rattle.pop_journal.specs.Journal.{journal_text}
-use Rattle.pop_words.proofs.Limits.{meaning_limits}
 use Rattle.pop_words.specs.declared.command.Usage.{Usage as BadWord}
-use Rattle.pop_words.specs.Words.{meaning_of, HasLimits}
+use Rattle.pop_words.specs.Words.{meaning_of}
+use Rattle.pop_tool.specs.Plain.{IsPlain}
 use Rattle.pop_tool.specs.declared.status.Status.{Status}
 use Rattle.pop_tool.specs.declared.refusal.Refusal.{Refusal}
 use Rattle.pop_tool.specs.declared.refusal.Refusal.TheVariants.{TooLong}
@@ -96,7 +96,7 @@ module _ (spec : RunSpec) (alone : spec.workers ≡ 1) (first second : List ℕ)
         let start = input_crowd net counts in
         let truth = predicate_value pred.tree counts in
         let only = only_run net start spec p.0 p.1 alone p.3 q.0 q.1 q.3 in
-        let tuples = run_tuples net counts two spec alone p.0 p.1 p.3 in
+        let tuples = run_tuples net counts two spec p.0 p.1 p.3 in
         let pair = one_last net p.1 tuples p.2 q.2 p.4 (subst (λ (c : CrowdModel). IsLast net c q.2) only.1 q.4) in
         p.5
         ∙ ap (λ (rounds : List (List Meeting)). (ended first ++ ended second ++ journal_text net spec rounds p.1 (last_of truth p.2), ending_of p.2)) (sym only.0)
@@ -122,29 +122,29 @@ one_run spec alone (Ok (first, second)) x y p q =
     one_begun spec alone first second (begun q.0 second) (λ b c e. begun_two q.0 second b c e) x y
     (subst (λ (v : Option Data). OfBegun spec first second (begun v second) x) same p.2) q.2
 
-one_given : (command : Command) → HasLimits command → (lines : List (List ℕ)) (x y : Result Given Refusal) → OfCommand command lines x → OfCommand command lines y → x ≡ y
-one_given Play limits lines x y p q = one_play (two_and_more lines) x y p q
-one_given Eval limits lines x y p q = p ∙ sym q
-one_given Check limits lines x y p q = one_check (just_one lines) x y p q
-one_given (Run spec) limits lines x y p q = one_run spec (omega (arith, limits.workers.0, limits.workers.1)) (just_two lines) x y p q
+one_given : (command : Command) → IsPlain (Ok command) → (lines : List (List ℕ)) (x y : Result Given Refusal) → OfCommand command lines x → OfCommand command lines y → x ≡ y
+one_given Play plain lines x y p q = one_play (two_and_more lines) x y p q
+one_given Eval plain lines x y p q = p ∙ sym q
+one_given Check plain lines x y p q = one_check (just_one lines) x y p q
+one_given (Run spec) plain lines x y p q = one_run spec plain (just_two lines) x y p q
 
 by_length : (P Q : Result Given Refusal → Type 0) (b : Bool) → ((x y : Result Given Refusal) → P x → P y → x ≡ y) → ((x y : Result Given Refusal) → Q x → Q y → x ≡ y) → (x y : Result Given Refusal) → MatchBool b (P x) (Q x) → MatchBool b (P y) (Q y) → x ≡ y
 by_length P Q true one other x y p q = one x y p q
 by_length P Q false one other x y p q = other x y p q
 
-one_input : (command : Command) → HasLimits command → (input : List ℕ) (x y : Result Given Refusal) → OfInput command input x → OfInput command input y → x ≡ y
-one_input command limits input x y p q =
-    by_length (λ r. r ≡ Err TooLong) (OfCommand command (lines_of input)) (nat_lt 134217728 (length input)) (λ x y p q. p ∙ sym q) (one_given command limits (lines_of input)) x y p q
+one_input : (command : Command) → IsPlain (Ok command) → (input : List ℕ) (x y : Result Given Refusal) → OfInput command input x → OfInput command input y → x ≡ y
+one_input command plain input x y p q =
+    by_length (λ r. r ≡ Err TooLong) (OfCommand command (lines_of input)) (nat_lt 134217728 (length input)) (λ x y p q. p ∙ sym q) (one_given command plain (lines_of input)) x y p q
 
 one_told : (given : Result Given Refusal) (text other : List ℕ) (status another : Status) → Told given text status → Told given other another → (text ≡ other) × (status ≡ another)
 one_told (Ok line) text other status another p q = (p.0 ∙ sym q.0, p.1 ∙ sym q.1)
 one_told (Err refusal) text other status another p q = (p.0 ∙ sym q.0, p.1 ∙ sym q.1)
 
-one_meaning : (m : Result Command BadWord) → IfOk m HasLimits → (input text other : List ℕ) (status another : Status) → OfMeaning m input text status → OfMeaning m input other another → (text ≡ other) × (status ≡ another)
-one_meaning (Err usage) limits input text other status another p q = (p.0 ∙ sym q.0, p.1 ∙ sym q.1)
-one_meaning (Ok command) limits input text other status another p q =
-    let same = one_input command limits input p.0 q.0 p.1 q.1 in
+one_meaning : (m : Result Command BadWord) → IsPlain m → (input text other : List ℕ) (status another : Status) → OfMeaning m input text status → OfMeaning m input other another → (text ≡ other) × (status ≡ another)
+one_meaning (Err usage) plain input text other status another p q = (p.0 ∙ sym q.0, p.1 ∙ sym q.1)
+one_meaning (Ok command) plain input text other status another p q =
+    let same = one_input command plain input p.0 q.0 p.1 q.1 in
     one_told q.0 text other status another (subst (λ (g : Result Given Refusal). Told g text status) same p.2) q.2
 
 pub one_answer : IsOneAnswer
-one_answer words input text other status another p q = one_meaning (meaning_of words) (meaning_limits words) input text other status another p q
+one_answer words plain input text other status another p q = one_meaning (meaning_of words) plain input text other status another p q

@@ -1,4 +1,4 @@
--- Where a run by one worker leads.
+-- Where a run leads.
 use Rattle.std.proofs.Common.{◌≡◌, ℕ, ◌≤◌, List, length, subst, arith}
 use Rattle.std.specs.Prelude.{All, sum}
 use Rattle.pop_net.specs.NetModel.{NetModel, CrowdModel, IsTuple}
@@ -10,15 +10,15 @@ use Rattle.pop_crowd.specs.declared.crowd.Meeting.{Meeting}
 use Rattle.pop_crowd.proofs.Reached.{replay_leads}
 use Rattle.pop_words.specs.declared.spec.RunSpec.{RunSpec}
 use Rattle.pair_workers.specs.Run.{IsRun, joined}
-use Rattle.pair_workers.proofs.OnlyRun.{run_meets}
+use Rattle.pair_workers.proofs.AllMeet.{all_run_meets}
 
-module _ (net : NetModel) (counts : List ℕ) (two : 2 ≤ sum counts) (spec : RunSpec) (alone : spec.workers ≡ 1) (rounds : List (List Meeting)) (end : CrowdModel) (is : IsRun net (input_crowd net counts) spec rounds end) where
+module _ (net : NetModel) (counts : List ℕ) (two : 2 ≤ sum counts) (spec : RunSpec) (rounds : List (List Meeting)) (end : CrowdModel) (is : IsRun net (input_crowd net counts) spec rounds end) where
   -- the last crowd is reached from the input crowd
   pub run_reaches : Reachable (Step net) (input_crowd net counts) end
   run_reaches =
       let start = input_crowd net counts in
       let long : 2 ≤ length start = omega (arith, two, length-starts_from (start_of net) 0 counts) in
-      let r = replay_leads net (joined rounds) start (input_tuples net counts) (run_meets net start spec rounds end alone long is) in
+      let r = replay_leads net (joined rounds) start (input_tuples net counts) (all_run_meets net start spec rounds end long is) in
       subst (λ (c : CrowdModel). Reachable (Step net) start c) is.replays (r.0, r.2)
 
   pub run_tuples : All (IsTuple net) end

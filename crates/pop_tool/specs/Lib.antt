@@ -13,6 +13,7 @@ pub mod Check
 pub mod Play
 pub mod Run
 pub mod Answer
+pub mod Plain
 pub mod Outcome
 pub mod Told
 pub mod OneAnswer

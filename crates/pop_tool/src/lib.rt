@@ -6,6 +6,7 @@
 mod bundle;
 mod check;
 mod command;
+mod crew;
 mod eval;
 mod json;
 mod law;

@@ -1,6 +1,6 @@
 //! The text and the status that go with what a command gives.
 
-ghost use Rattle.std.specs.Prelude.{◌≡◌, ◌≢◌, ◌<◌, ◌^◌, length, map, is_err, true, IfOk};
+ghost use Rattle.std.specs.Prelude.{◌≡◌, ◌≢◌, ◌<◌, ◌^◌, length, map, is_err, true, Ok, IfOk};
 ghost use Rattle.pop_lines.specs.Lines.{lines_of, ended};
 ghost use Rattle.pop_tool.specs.Refusals.{usage_text, refusal_text};
 ghost use Rattle.pop_tool.specs.Told.{Allows, Tells};
@@ -9,8 +9,11 @@ ghost use Rattle.pop_tool.specs.Answer.{OfCommand};
 ghost use Rattle.pop_tool.specs.Outcome.{IsReply};
 ghost use Rattle.pop_io.specs.Causes.{Rose};
 ghost use Rattle.pop_words.specs.Words.{meaning_of, HasLimits};
+ghost use Rattle.pop_words.specs.declared.command.Command.TheVariants as of_command;
+ghost use Rattle.pop_words.specs.declared.spec.RunSpec.{RunSpec as Spec};
 
 use crate::check::check;
+use crate::crew::Crew;
 use crate::eval::eval;
 use crate::output::Output;
 use crate::play::play;
@@ -40,16 +43,23 @@ fn refusal_line(alloc: Global, refusal: &Refusal) -> Result<Vec<u8>, AllocError>
 }
 
 /// What a command gives for an input that isn't too long.
-fn given<G: Gate>(alloc: Global, command: Command, input: &[u8], gate: &G) -> Result<Output, Stop>
+fn given<C: Crew, G: Gate>(
+    alloc: Global,
+    crew: &C,
+    command: Command,
+    input: &[u8],
+    gate: &G,
+) -> Result<Output, Stop>
     requires short { length input.now < 2 ^ 32 }
     requires limits { HasLimits command }
+    requires makes { (spec : Spec) → command ≡ of_command.Run spec → C.makes crew.now spec }
     ensures { Allows (OfCommand command (lines_of input.now)) output_of result }
 {
     match command {
         Command::Play => play(alloc, input),
         Command::Eval => eval(alloc, input),
         Command::Check => check(alloc, input),
-        Command::Run(spec) => run(alloc, &spec, input, gate),
+        Command::Run(spec) => run(alloc, crew, &spec, input, gate),
     }
 }
 
@@ -64,13 +74,15 @@ fn told(alloc: Global, given: Result<Output, Stop>) -> Result<Reply, AllocError>
 }
 
 /// The text and the status that answer the words and what the source has left.
-pub(crate) fn reply<S: Source, G: Gate>(
+pub(crate) fn reply<C: Crew, S: Source, G: Gate>(
     alloc: Global,
+    crew: &C,
     words: &[&str],
     source: &mut S,
     gate: &G,
 ) -> Result<Reply, AllocError>
-    requires { length words.now < 2 ^ 32 }
+    requires few { length words.now < 2 ^ 32 }
+    requires makes { (spec : Spec) → meaning_of (map (λ w. w.now) words.now) ≡ Ok (of_command.Run spec) → C.makes crew.now spec }
     ensures reply { IfOk result (λ r. IsReply (map (λ w. w.now) words.now) (S.left source.old) r.0.items r.1) }
     ensures read { IfOk result (λ r. r.1 ≡ Status.ReadFault → Rose (S.faults source.old) (S.faults source.new)) }
     ensures unread { IfOk result (λ r. is_err (meaning_of (map (λ w. w.now) words.now)) ≡ true → r.1 ≢ Status.ReadFault) }
@@ -80,7 +92,7 @@ pub(crate) fn reply<S: Source, G: Gate>(
         Err(usage) => return Ok((usage_line(alloc, &usage)?, Status::Usage)),
     };
     match read_all(alloc, source) {
-        Ok(input) => told(alloc, given(alloc, command, input.as_slice(), gate)),
+        Ok(input) => told(alloc, given(alloc, crew, command, input.as_slice(), gate)),
         Err(ReadAll::TooLong) => told(alloc, Err(Stop::Refused(Refusal::TooLong))),
         Err(ReadAll::ReadFault) => Ok((
             Vec::from_slice(alloc, b"fault: read\n")?,

@@ -15,6 +15,7 @@ ghost use Rattle.pop_tool.specs.Run.{begun, last_of, ending_of, pair_in, RunTell
 ghost use Rattle.pop_tool.specs.Told.{Allows};
 
 use crate::bundle::bundle_and_start;
+use crate::crew::Crew;
 use crate::json::value_of;
 use crate::lines::just_two_lines;
 use crate::output::{Ending, Output};
@@ -22,7 +23,7 @@ use crate::rejection::rejection_of;
 use crate::start::Start;
 use crate::stop::Stop;
 use cert_json::Bundle;
-use pair_workers::{End, RunEnd, run_alone};
+use pair_workers::{End, RunEnd};
 use pop_checker::{CheckFault, Checked, check};
 use pop_io::{Gate, NoMemory};
 use pop_journal::{Last, write_journal};
@@ -33,7 +34,6 @@ use std::alloc::{AllocError, Global};
 /// The journal's last line for the end of a run from these counts, and how the command ends.
 fn told(checked: &Checked, counts: &[u64], spec: &RunSpec, run: &RunEnd) -> (Last, Ending)
     requires input { IsInput (length checked.now.net.variables) counts.now }
-    requires limits { IsWithinLimits spec.now }
     requires valid { AreValid checked.now.net run.now.crowd }
     requires run { IsRun checked.now.net (input_crowd checked.now.net counts.now) spec.now run.now.rounds (crowd_of checked.now.net run.now.crowd) }
     requires end { EndsBy checked.now.net (crowd_of checked.now.net run.now.crowd) spec.now (length run.now.rounds) run.now.end }
@@ -60,8 +60,9 @@ fn both_lines(alloc: Global, first: &[u8], second: &[u8]) -> Result<Vec<u8>, All
 }
 
 /// The two input lines, and the journal of the run from this start.
-fn journal_behind<G: Gate>(
+fn journal_behind<C: Crew, G: Gate>(
     alloc: Global,
+    crew: &C,
     spec: &RunSpec,
     lines: (&[u8], &[u8]),
     checked: &Checked,
@@ -69,13 +70,14 @@ fn journal_behind<G: Gate>(
     gate: &G,
 ) -> Result<Output, NoMemory>
     requires limits { IsWithinLimits spec.now }
+    requires makes { C.makes crew.now spec.now }
     requires input { IsInput (length checked.now.net.variables) start.counts }
     requires start { crowd_of checked.now.net start.crowd ≡ input_crowd checked.now.net start.counts }
     requires valid { AreValid checked.now.net start.crowd }
     ensures { IfOk result (λ output. RunTells spec.now lines.entry.0.now lines.entry.1.now checked.now.net checked.now.pred start.counts (output_of output)) }
 {
     let net = checked.net();
-    let run = run_alone(alloc, net, start.crowd, spec, gate)?;
+    let run = crew.run(alloc, net, start.crowd, spec, gate)?;
     let (last, ending) = told(checked, start.counts.as_slice(), spec, &run);
     let mut text = both_lines(alloc, lines.0, lines.1)?;
     let journal = write_journal(alloc, net, spec, &run, last)?;
@@ -84,8 +86,9 @@ fn journal_behind<G: Gate>(
 }
 
 /// What the run of a bundle's net gives, if its proof is valid.
-fn run_from<G: Gate>(
+fn run_from<C: Crew, G: Gate>(
     alloc: Global,
+    crew: &C,
     spec: &RunSpec,
     lines: (&[u8], &[u8]),
     bundle: Bundle,
@@ -93,6 +96,7 @@ fn run_from<G: Gate>(
     gate: &G,
 ) -> Result<Output, Stop>
     requires limits { IsWithinLimits spec.now }
+    requires makes { C.makes crew.now spec.now }
     requires variables { bundle.pred.variables ≡ length bundle.net.variables }
     requires within { IsProofWithin (length bundle.net.variables) (length bundle.net.leaves) bundle.proof }
     requires input { IsInput (length bundle.net.variables) start.counts }
@@ -102,40 +106,44 @@ fn run_from<G: Gate>(
 {
     let Bundle { net, pred, proof } = bundle;
     match check(alloc, net, pred, &proof) {
-        Ok(checked) => Ok(journal_behind(alloc, spec, lines, &checked, start, gate)?),
+        Ok(checked) => Ok(journal_behind(alloc, crew, spec, lines, &checked, start, gate)?),
         Err(CheckFault::Rejected(rejected)) => Ok(rejection_of(alloc, rejected)?),
         Err(CheckFault::NoMemory) => Err(Stop::NoMemory),
     }
 }
 
 /// What the run gives for a bundle line that is this value.
-fn output_for<G: Gate>(
+fn output_for<C: Crew, G: Gate>(
     alloc: Global,
+    crew: &C,
     spec: &RunSpec,
     lines: (&[u8], &[u8]),
     value: &Option<Value>,
     gate: &G,
 ) -> Result<Output, Stop>
-    requires { IsWithinLimits spec.now }
+    requires limits { IsWithinLimits spec.now }
+    requires makes { C.makes crew.now spec.now }
     ensures { Allows (OfBegun spec.now lines.entry.0.now lines.entry.1.now (begun (option_map view value.now) lines.entry.1.now)) output_of result }
 {
     match bundle_and_start(alloc, value, lines.1) {
-        Ok((bundle, start)) => run_from(alloc, spec, lines, bundle, start, gate),
+        Ok((bundle, start)) => run_from(alloc, crew, spec, lines, bundle, start, gate),
         Err(stop) => Err(stop),
     }
 }
 
-/// What `run` gives for an input that isn't too long. It waits for no thread.
-pub(crate) fn run<G: Gate>(
+/// What `run` gives for an input that isn't too long.
+pub(crate) fn run<C: Crew, G: Gate>(
     alloc: Global,
+    crew: &C,
     spec: &RunSpec,
     input: &[u8],
     gate: &G,
 ) -> Result<Output, Stop>
-    requires { IsWithinLimits spec.now }
+    requires limits { IsWithinLimits spec.now }
+    requires makes { C.makes crew.now spec.now }
     ensures { Allows (RunGives spec.now (lines_of input.now)) output_of result }
 {
     let lines = just_two_lines(input)?;
     let value = value_of(alloc, lines.0)?;
-    output_for(alloc, spec, lines, &value, gate)
+    output_for(alloc, crew, spec, lines, &value, gate)
 }
