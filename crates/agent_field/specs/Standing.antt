@@ -112,9 +112,9 @@ AreAscending [] = Unit {0}
 AreAscending (look ∷ looks) = ((later : Look) → In later looks → look.ticket ≤ later.ticket) × AreAscending looks
 
 -- LooksPart
-pub record LooksPart (k : About) (history : List Meeting) (v : View) : Type 0 where
-  pub each : (look : Look) → In look v.looks → IsLook k.net.value k.opening.value history look
-  pub ascending : AreAscending v.looks
+pub record LooksPart (k : About) (history : List Meeting) (looks : List Look) : Type 0 where
+  pub each : (look : Look) → In look looks → IsLook k.net.value k.opening.value history look
+  pub ascending : AreAscending looks
 
 -- what stands of the view of the seat `id`
 pub record Agrees (k : About) (words : List ℕ) (history : List Meeting) (seat : ℕ → Option ℕ) (id : ℕ) (v : View) : Type 0 where
@@ -129,7 +129,7 @@ pub record Agrees (k : About) (words : List ℕ) (history : List Meeting) (seat 
   pub knows : KnownPart k words v
   pub owes : DuePart k history v
   pub tight : TightPart k v
-  pub looked : LooksPart k history v
+  pub looked : LooksPart k history v.looks
 
 -- no seat owes the agent's word
 abbrev pub IsOwedByNone : List View → ℕ → Type 0
