@@ -113,7 +113,7 @@ module _ (k : About) (words : List ℕ) (views : List View) (history : List Meet
       }
 
   -- a step that changes this view alone, and neither its locks nor what it owes
-  views_keep : (w : View) → w.live ≡ true → w.number ≡ v.number → w.held ≡ v.held → w.due ≡ v.due → Agrees k words history seat id w → StandsAt k words (set views id w) history seat
+  pub views_keep : (w : View) → w.live ≡ true → w.number ≡ v.number → w.held ≡ v.held → w.due ≡ v.due → Agrees k words history seat id w → StandsAt k words (set views id w) history seat
   views_keep w alive number held due new = record {
     wide = st.wide;
     some_shard = st.some_shard;
