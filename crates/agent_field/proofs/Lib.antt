@@ -3,3 +3,5 @@ pub mod Views
 pub mod Keeps
 pub mod Draws
 pub mod Watching
+pub mod Seating
+pub mod Founding
