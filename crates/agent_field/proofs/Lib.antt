@@ -5,3 +5,5 @@ pub mod Draws
 pub mod Watching
 pub mod Seating
 pub mod Founding
+pub mod Moves
+pub mod Moments
