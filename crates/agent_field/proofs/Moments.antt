@@ -63,9 +63,9 @@ module _ (k : About) where
       let t = is_founded words views history id v h is in inr (splits_keep k words views history t.0 t.1 id v is.at is.live zeroth room)
   quiet _ _ _ _ history (joins words views id other v w is zeroth away there none_due none_held) h =
       let t = is_founded words views history id v h is in inr (joins_keep k words views history t.0 t.1 id v is.at is.live zeroth other w away there.at there.live none_due none_held)
-  quiet _ _ _ _ history (looks words views id v is zeroth locked whole all none_due) h =
+  quiet _ _ _ _ history (looks words views id v is saw) h =
       let t = is_founded words views history id v h is in
-      inr (t.0, subst (λ (n : ℕ). StandsAt k words (set views id (looking n v)) history t.0) (sym t.1.clock) (looks_keep k words views history t.0 t.1 id v is.at is.live whole all none_due))
+      inr (t.0, subst (λ (n : ℕ). StandsAt k words (set views id (looking n v)) history t.0) (sym t.1.clock) (looks_keep k words views history t.0 t.1 id v is.at is.live saw.whole saw.all saw.due))
 
   -- a meeting of two agents whose words are known is a step of the model
   drawn_step : (words : List ℕ) (views : List View) (history : List Meeting) (seat : ℕ → Option ℕ) (st : StandsAt k words views history seat) (id : ℕ) (v : View) → Sits views id v
@@ -87,14 +87,14 @@ module _ (k : About) where
 
   draw : (words : List ℕ) (views : List View) (m : Meeting) (words' : List ℕ) (views' : List View) (history : List Meeting) → DrawStep k words views m words' views' → HasHistory k words views history
       → HasHistory k words' views' (history ++ m ∷ []) × Step k.net.value (crowd_after k history) (crowd_after k (history ++ m ∷ []))
-  draw _ _ _ _ _ history (draws words views id v a b x y x' y' is known reacted none_due apart room exactly) h =
+  draw _ _ _ _ _ history (draws words views id v a b x y x' y' is may) h =
       let t = is_founded words views history id v h is in
       let same : v.about.net.value ≡ k.net.value = ap (λ (z : About). z.net.value) (t.1.each id v is.at is.live).about in
       let met : NetModel → Meeting = λ net. made v.number a b (reacts net (tuple_of net x) (tuple_of net y)) in
-      let kept = draws_keep k words views history t.0 t.1 id v is.at is.live a b x y x' y' known (subst (λ (net : NetModel). IsReaction net x y x' y') (sym same) reacted) none_due apart room exactly in
+      let kept = draws_keep k words views history t.0 t.1 id v is.at is.live a b x y x' y' may.known (subst (λ (net : NetModel). IsReaction net x y x' y') (sym same) may.reacted) may.due may.apart may.room may.exactly in
       let at_ticket = subst (λ (n : ℕ). StandsAt k (set words 0 (n + 1)) (set views id (meeting n a b x y x' y' v)) (history ++ met v.about.net.value ∷ []) t.0) (sym t.1.clock) kept in (
         inr (t.0, subst (λ (net : NetModel). StandsAt k (set words 0 (get_or words 0 0 + 1)) (set views id (meeting (get_or words 0 0) a b x y x' y' v)) (history ++ met net ∷ []) t.0) same at_ticket),
-        drawn_step words views history t.0 t.1 id v is a b x y known none_due apart (met k.net.value) refl refl,
+        drawn_step words views history t.0 t.1 id v is a b x y may.known may.due may.apart (met k.net.value) refl refl,
       )
 
   runs : (words : List ℕ) (views : List View) (meetings : List Meeting) (words' : List ℕ) (views' : List View) (history : List Meeting)

@@ -1,5 +1,5 @@
 -- Each step of a seat on the table is allowed, and what it tells.
-use Rattle.std.proofs.Common.{◌≡◌, ◌≢◌, ℕ, ◌+◌, ◌%◌, ◌^◌, ◌<◌, Bool, true, true≢false, eqb, List, [], ◌∷◌, ◌++◌, length, get_or, set, refl, sym, ap, ◌∙◌, subst, inr, ⊎_elim, arith, eq-eqb, ne_eqb}
+use Rattle.std.proofs.Common.{◌≡◌, ℕ, ◌+◌, ◌%◌, ◌^◌, ◌<◌, Bool, true, true≢false, eqb, List, [], ◌∷◌, ◌++◌, length, get_or, set, refl, sym, ap, ◌∙◌, subst, inr, ⊎_elim, arith, eq-eqb, ne_eqb}
 use Rattle.std.proofs.lemmas.List.{set-get_or}
 use mathlib.Core.Logic.{dite}
 use mathlib.Core.Option.{Option, none, some}
@@ -15,11 +15,11 @@ use Rattle.pop_crowd.specs.Replay.{reacts}
 use Rattle.agent_field.specs.declared.view.About.{About}
 use Rattle.agent_field.specs.declared.view.View.{View}
 use Rattle.agent_field.specs.History.{made}
-use Rattle.agent_field.specs.Standing.{agents_of, lock_at, agent_at, agent_word, packed, shard_of, In, locks_of, founder, spent, StandsAt, IsUnfounded, FieldStands}
-use Rattle.agent_field.specs.Steps.{Mine, first_seat, holding, releasing, knowing, IsReaction, meeting, writing, kept_back, newcomer, taking_in, seen, looking, IsNewest, IsDrawnAt, Founds, Locks, Unlocks, Reads, Draws, Writes, Watches}
+use Rattle.agent_field.specs.Standing.{agents_of, lock_at, agent_at, agent_word, packed, shard_of, In, founder, spent, StandsAt, IsUnfounded, FieldStands}
+use Rattle.agent_field.specs.Steps.{Mine, first_seat, holding, releasing, knowing, IsReaction, MayDraw, HasSeenAll, meeting, writing, kept_back, newcomer, taking_in, looking, IsNewest, IsDrawnAt, IsSeenAt, Founds, Locks, Unlocks, Reads, Draws, Writes, Watches}
 use Rattle.agent_field.proofs.Keeps.{locks_keep, releases_keep, reads_keep, writes_keep}
 use Rattle.agent_field.proofs.Draws.{draws_keep, is_newest, is_drawn_at, history_fits}
-use Rattle.agent_field.proofs.Watching.{looks_keep}
+use Rattle.agent_field.proofs.Watching.{looks_keep, is_seen_at}
 use Rattle.agent_field.proofs.Seating.{splits_keep, joins_keep}
 use Rattle.agent_field.proofs.Founding.{founds_keep, founder_word}
 
@@ -86,20 +86,21 @@ module _ (k : About) where
         (ap (λ (z : ℕ). (knowing z x me.0, me.1)) (let same : me.0.about.shards ≡ k.shards = ap (λ (z : About). z.shards) about in omega arith), subst (λ (z : About). IsValid z.net.value x) (sym about) (t.2.valid a in_range)),
       )
 
-  pub draws : (slots id : ℕ) (me : Mine) (a b : ℕ) (x y x' y' : Word) → me.0.live ≡ true → me.0.known ≡ (b, y) ∷ (a, x) ∷ [] → IsReaction me.0.about.net.value x y x' y' → me.0.due ≡ [] → a ≢ b → length me.0.log < 2 ^ 40 → me.0.held ≡ locks_of k a b
+  pub draws : (slots id : ℕ) (me : Mine) (a b : ℕ) (x y x' y' : Word) → me.0.live ≡ true → me.0.about ≡ k → MayDraw k me.0 a b x y x' y'
       → Allows (FieldStands k) slots id me 0 (λ r. (r + 1) % 2 ^ 64) (Draws (step slots 0 1 0 none) me)
-  draws slots id me a b x y x' y' live known reacted none_due apart room exactly state h _ at _ =
+  draws slots id me a b x y x' y' live about may state h _ at _ =
       let t = founded state h id me.0 at live in
       let st = t.2 in
       let n : ℕ = get_or state.words 0 0 in
       let w = meeting (length t.0) a b x y x' y' me.0 in
       let net = me.0.about.net.value in
+      let reacted = subst (λ (z : About). IsReaction z.net.value x y x' y') (sym about) may.reacted in
       let later = t.0 ++ made me.0.number a b (reacts net (tuple_of net x) (tuple_of net y)) ∷ [] in
       let next : length t.0 + 1 ≡ (n + 1) % 2 ^ 64 = let few = history_fits k state.words state.views t.0 t.1 st id me.0 at live in let is = st.clock in omega arith in (
         w,
         keeps,
         tt,
-        inr (later, t.1, subst (λ (m : ℕ). StandsAt k (set state.words 0 m) (set state.views id w) later t.1) next (draws_keep k state.words state.views t.0 t.1 st id me.0 at live a b x y x' y' known reacted none_due apart room exactly)),
+        inr (later, t.1, subst (λ (m : ℕ). StandsAt k (set state.words 0 m) (set state.views id w) later t.1) next (draws_keep k state.words state.views t.0 t.1 st id me.0 at live a b x y x' y' may.known reacted may.due may.apart may.room may.exactly)),
         (
           record {
             a = a;
@@ -108,28 +109,28 @@ module _ (k : About) where
             y = y;
             x' = x';
             y' = y';
-            known = known;
+            known = may.known;
             reacted = reacted;
             met = ap (λ (m : ℕ). (meeting m a b x y x' y' me.0, me.1)) (sym st.clock);
           },
           subst (λ (m : ℕ). IsNewest m me.0) (sym st.clock) (is_newest k state.words state.views t.0 t.1 st id me.0 at live),
-          subst (λ (m : ℕ). IsDrawnAt m me.0) (sym st.clock) (is_drawn_at k state.words state.views t.0 t.1 st id me.0 at live none_due),
+          subst (λ (m : ℕ). IsDrawnAt m me.0) (sym st.clock) (is_drawn_at k state.words state.views t.0 t.1 st id me.0 at live may.due),
         ),
       )
 
-  pub watches : (slots id : ℕ) (me : Mine) → me.0.live ≡ true → length (seen me.0.known) ≡ agents_of k → ((a : ℕ) (d : Word) → a < agents_of k → In (a, get_or (seen me.0.known) a d) me.0.known) → me.0.due ≡ []
-      → Allows (FieldStands k) slots id me 0 (λ r. r) (Watches (step slots 0 0 0 none) me)
-  watches slots id me live whole all none_due state h _ at _ =
+  pub watches : (slots id : ℕ) (me : Mine) → me.0.live ≡ true → HasSeenAll k me.0 → Allows (FieldStands k) slots id me 0 (λ r. r) (Watches (step slots 0 0 0 none) me)
+  watches slots id me live saw state h _ at _ =
       let t = founded state h id me.0 at live in
       let st = t.2 in
       let w = looking (length t.0) me.0 in (
         w,
         keeps,
         tt,
-        inr (t.0, t.1, subst (λ (ws : List ℕ). StandsAt k ws (set state.views id w) t.0 t.1) (sym (set-get_or state.words 0 0)) (looks_keep k state.words state.views t.0 t.1 st id me.0 at live whole all none_due)),
+        inr (t.0, t.1, subst (λ (ws : List ℕ). StandsAt k ws (set state.views id w) t.0 t.1) (sym (set-get_or state.words 0 0)) (looks_keep k state.words state.views t.0 t.1 st id me.0 at live saw.whole saw.all saw.due)),
         (
           ap (λ (m : ℕ). (looking m me.0, me.1)) (sym st.clock),
           subst (λ (m : ℕ). IsNewest m me.0) (sym st.clock) (is_newest k state.words state.views t.0 t.1 st id me.0 at live),
+          subst (λ (m : ℕ). IsSeenAt m me.0) (sym st.clock) (is_seen_at k state.words state.views t.0 t.1 st id me.0 at live saw.whole saw.all saw.due),
         ),
       )
 

@@ -11,7 +11,8 @@ use Rattle.agent_field.specs.declared.view.Look.{Look}
 use Rattle.agent_field.specs.declared.view.About.{About}
 use Rattle.agent_field.specs.declared.view.View.{View}
 use Rattle.agent_field.specs.Standing.{agents_of, packed, crowd_after, In, IsLook, AreAscending, LooksPart, Agrees, StandsAt}
-use Rattle.agent_field.specs.Steps.{seen, look_of, looking}
+use Rattle.agent_field.specs.History.{IsHistory}
+use Rattle.agent_field.specs.Steps.{seen, look_of, looking, IsSeenAt}
 use Rattle.agent_field.proofs.Histories.{length-replay}
 use Rattle.agent_field.proofs.Keeps.{views_keep}
 use Rattle.agent_field.proofs.Draws.{known_after}
@@ -68,3 +69,13 @@ module _ (k : About) (words : List ℕ) (views : List View) (history : List Meet
           ascending = ascending-push v.looks new f.looked.ascending (λ look i. (f.looked.each look i).0);
         };
       })
+
+  pub is_seen_at : length (seen v.known) ≡ agents_of k → ((a : ℕ) (d : Word) → a < agents_of k → In (a, get_or (seen v.known) a d) v.known) → v.due ≡ [] → IsSeenAt (length history) v
+  is_seen_at whole all none_due =
+      let f = st.each id v at live in record {
+        history = history;
+        long = refl;
+        right = subst (λ (z : About). IsHistory z.net.value z.seats z.opening.value history) (sym f.about) st.right;
+        logs = f.logs;
+        look = subst (λ (z : About). IsLook z.net.value z.opening.value history (look_of (length history) (seen v.known))) (sym f.about) (is_look whole all none_due);
+      }

@@ -10,8 +10,8 @@ use Rattle.pop_crowd.specs.Replay.{reacts}
 use Rattle.agent_field.specs.declared.view.About.{About}
 use Rattle.agent_field.specs.declared.view.View.{View}
 use Rattle.agent_field.specs.History.{made}
-use Rattle.agent_field.specs.Standing.{In, agents_of, lock_at, agent_at, agent_word, shard_of, locks_of, crowd_after, founder, spent, IsUnfounded, StandsAt, Stands}
-use Rattle.agent_field.specs.Steps.{first_seat, holding, releasing, knowing, IsReaction, meeting, writing, kept_back, newcomer, taking_in, seen, looking}
+use Rattle.agent_field.specs.Standing.{In, agents_of, lock_at, agent_at, agent_word, shard_of, crowd_after, founder, spent, IsUnfounded, StandsAt, Stands}
+use Rattle.agent_field.specs.Steps.{first_seat, holding, releasing, knowing, MayDraw, HasSeenAll, meeting, writing, kept_back, newcomer, taking_in, looking}
 
 -- the seat `id` is live and has this view
 pub record Sits (views : List View) (id : ℕ) (v : View) : Type 0 where
@@ -34,13 +34,12 @@ pub data QuietStep (k : About) : List ℕ → List View → List ℕ → List Vi
       → QuietStep k words views words (slice_set views id (kept_back v) ++ newcomer v ∷ [])
   joins : (words : List ℕ) (views : List View) (id other : ℕ) (v w : View) → Sits views id v → v.number ≡ 0 → other ≢ id → Sits views other w → w.due ≡ [] → w.held ≡ []
       → QuietStep k words views words (slice_set (slice_set views id (taking_in v w)) other spent)
-  looks : (words : List ℕ) (views : List View) (id : ℕ) (v : View) → Sits views id v → v.number ≡ 0 → ((s : ℕ) → s < k.shards → In s v.held)
-      → length (seen v.known) ≡ agents_of k → ((a : ℕ) (d : Word) → a < agents_of k → In (a, slice_index_or (seen v.known) a d) v.known) → v.due ≡ []
+  looks : (words : List ℕ) (views : List View) (id : ℕ) (v : View) → Sits views id v → HasSeenAll k v
       → QuietStep k words views words (slice_set views id (looking (slice_index words 0) v))
 
 -- the draw, and the meeting that it makes
 pub data DrawStep (k : About) : List ℕ → List View → Meeting → List ℕ → List View → Type 0 where
-  draws : (words : List ℕ) (views : List View) (id : ℕ) (v : View) (a b : ℕ) (x y x' y' : Word) → Sits views id v → v.known ≡ (b, y) ∷ (a, x) ∷ [] → IsReaction k.net.value x y x' y' → v.due ≡ [] → a ≢ b → length v.log < 2 ^ 40 → v.held ≡ locks_of k a b
+  draws : (words : List ℕ) (views : List View) (id : ℕ) (v : View) (a b : ℕ) (x y x' y' : Word) → Sits views id v → MayDraw k v a b x y x' y'
       → DrawStep k words views (made v.number a b (reacts k.net.value (tuple_of k.net.value x) (tuple_of k.net.value y))) (slice_set words 0 (slice_index words 0 + 1)) (slice_set views id (meeting (slice_index words 0) a b x y x' y' v))
 
 -- any number of steps, with the meetings that they make

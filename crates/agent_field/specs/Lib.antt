@@ -2,3 +2,4 @@ pub mod History
 pub mod Standing
 pub mod Steps
 pub mod Kinds
+pub mod Seats

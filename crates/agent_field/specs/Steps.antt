@@ -1,5 +1,5 @@
 -- What each step of a seat tells.
-use Rattle.std.specs.Prelude.{zero, suc, ◌≡◌, ◌≢◌, ℕ, ◌+◌, ◌-◌, ◌<◌, ◌≤◌, List, [], ◌∷◌, ◌++◌, length, slice_index_or, slice_set, replicate, Option as Maybe, Some as Given, None as Missing}
+use Rattle.std.specs.Prelude.{zero, suc, ◌≡◌, ◌≢◌, ℕ, ◌+◌, ◌-◌, ◌<◌, ◌≤◌, ◌^◌, List, [], ◌∷◌, ◌++◌, length, slice_index_or, slice_set, replicate, Option as Maybe, Some as Given, None as Missing}
 use Rattle.atomic_table.specs.Table.{Me, Step}
 use Rattle.atomic_table.specs.declared.shared.Seat.{Seat}
 use Rattle.pop_net.specs.declared.net.Word.{Word}
@@ -13,7 +13,7 @@ use Rattle.agent_field.specs.declared.view.Look.{Look}
 use Rattle.agent_field.specs.declared.view.About.{About}
 use Rattle.agent_field.specs.declared.view.View.{View}
 use Rattle.agent_field.specs.History.{logged, calls, IsHistory}
-use Rattle.agent_field.specs.Standing.{In, idle, packed, tuple_after}
+use Rattle.agent_field.specs.Standing.{In, agents_of, locks_of, idle, packed, tuple_after, IsLook}
 
 abbrev pub Mine : Type 0
 Mine = Me (Unit {0}) View
@@ -64,6 +64,14 @@ meeting ticket a b x y x' y' v = record {
 abbrev pub writing : View → View
 writing v = record { about = v.about; founding = v.founding; live = v.live; number = v.number; held = v.held; known = v.known; due = rest_of v.due; log = v.log; next = v.next; taken = v.taken; looks = v.looks }
 
+-- the known words, in the order in which they were read
+abbrev pub seen : List (ℕ × Word) → List Word
+seen [] = []
+seen (p ∷ ps) = seen ps ++ p.1 ∷ []
+
+abbrev pub look_of : ℕ → List Word → Look
+look_of ticket words = record { ticket = ticket; words = words }
+
 -- all tickets that the seat knows of meetings are below this one, and those of its looks at most this one
 pub record IsNewest (ticket : ℕ) (v : View) : Type 0 where
   pub own : (e : Logged) → In e v.log → e.ticket < ticket
@@ -77,6 +85,23 @@ pub record IsDrawnAt (ticket : ℕ) (v : View) : Type 0 where
   pub right : IsHistory v.about.net.value v.about.seats v.about.opening.value history
   pub logs : v.log ≡ calls v.number history
   pub known : (a : ℕ) (x : Word) → In (a, x) v.known → tuple_after v.about history a ≡ tuple_of v.about.net.value x
+
+-- what a draw needs: the words of two agents were read, under the locks of their shards and no other
+pub record MayDraw (k : About) (v : View) (a b : ℕ) (x y x' y' : Word) : Type 0 where
+  pub known : v.known ≡ (b, y) ∷ (a, x) ∷ []
+  pub reacted : IsReaction k.net.value x y x' y'
+  pub due : v.due ≡ []
+  pub apart : a ≢ b
+  pub room : length v.log < 2 ^ 40
+  pub exactly : v.held ≡ locks_of k a b
+
+-- all words, read under all locks
+pub record HasSeenAll (k : About) (v : View) : Type 0 where
+  pub first : v.number ≡ 0
+  pub locked : (s : ℕ) → s < k.shards → In s v.held
+  pub whole : length (seen v.known) ≡ agents_of k
+  pub all : (a : ℕ) (d : Word) → a < agents_of k → In (a, slice_index_or (seen v.known) a d) v.known
+  pub due : v.due ≡ []
 
 abbrev pub Founds : Step (Unit {0}) → Mine → ℕ → Mine → Type 0
 Founds st m r m' = (r ≡ 0) × (m' ≡ (first_seat m.0.about, m.1))
@@ -108,20 +133,20 @@ Draws st m r m' = HasDrawn r m m' × IsNewest r m.0 × IsDrawnAt r m.0
 abbrev pub Writes : Step (Unit {0}) → Mine → ℕ → Mine → Type 0
 Writes st m r m' = m' ≡ (writing m.0, m.1)
 
--- the known words, in the order in which they were read
-abbrev pub seen : List (ℕ × Word) → List Word
-seen [] = []
-seen (p ∷ ps) = seen ps ++ p.1 ∷ []
-
-abbrev pub look_of : ℕ → List Word → Look
-look_of ticket words = record { ticket = ticket; words = words }
-
 -- a look: the clock, and all words
 abbrev pub looking : ℕ → View → View
 looking ticket v = record { about = v.about; founding = v.founding; live = v.live; number = v.number; held = v.held; known = v.known; due = v.due; log = v.log; next = v.next; taken = v.taken; looks = v.looks ++ look_of ticket (seen v.known) ∷ [] }
 
+-- at the ticket there is a history, with just this log for the seat's number, after which the known words stand
+pub record IsSeenAt (ticket : ℕ) (v : View) : Type 0 where
+  pub history : List Meeting
+  pub long : length history ≡ ticket
+  pub right : IsHistory v.about.net.value v.about.seats v.about.opening.value history
+  pub logs : v.log ≡ calls v.number history
+  pub look : IsLook v.about.net.value v.about.opening.value history (look_of ticket (seen v.known))
+
 abbrev pub Watches : Step (Unit {0}) → Mine → ℕ → Mine → Type 0
-Watches st m r m' = (m' ≡ (looking r m.0, m.1)) × IsNewest r m.0
+Watches st m r m' = (m' ≡ (looking r m.0, m.1)) × IsNewest r m.0 × IsSeenAt r m.0
 
 -- number 0 gives its least fresh number away
 abbrev pub kept_back : View → View

@@ -3,6 +3,8 @@
 //! The layer above uses: each meeting is logged with its ticket, and closing gives the history and its replay.
 #![tactic(auto)]
 
+mod field;
 mod view;
 
+pub use field::{Field, FieldSeat, Met};
 pub use view::{Logged, Look};
