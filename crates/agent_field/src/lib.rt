@@ -4,6 +4,7 @@
 #![tactic(auto)]
 
 mod field;
+mod steps;
 mod view;
 
 pub use field::{Field, FieldSeat, Met};
