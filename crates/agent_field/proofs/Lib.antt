@@ -7,3 +7,4 @@ pub mod Seating
 pub mod Founding
 pub mod Moves
 pub mod Moments
+pub mod Drawn

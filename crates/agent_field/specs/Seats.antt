@@ -1,5 +1,5 @@
 -- Which field a seat is of, what it keeps, and what its calls say.
-use Rattle.std.specs.Prelude.{◌≡◌, ℕ, ◌+◌, ◌<◌, ◌≤◌, List, [], length, IsSome, None, Some, Option, slice_index_or, vec_len}
+use Rattle.std.specs.Prelude.{◌≡◌, ℕ, ◌+◌, ◌<◌, ◌≤◌, Bool, List, [], length, IsSome, None, Some, Option, slice_index_or, vec_len}
 use Rattle.pop_net.specs.declared.net.Word.{Word}
 use Rattle.pop_net.specs.NetModel.{NetModel, CrowdModel}
 use Rattle.pop_net.specs.Lanes.{crowd_of}
@@ -93,19 +93,22 @@ pub record IsNewestOf (ticket : ℕ) (s : FieldSeat) : Type 0 where
   pub taken_in : number_of s ≡ 0 → (w : ℕ) (l : List Logged) (e : Logged) → slice_index_or (taken_of s) w None ≡ Some l → In e l → e.ticket < ticket
   pub looks : (look : Look) → In look (looks_of s) → look.ticket ≤ ticket
 
--- a history of the field so far, with just this seat's log for its number
-pub record IsSoFar (f : Field) (s : FieldSeat) (ticket : ℕ) (history : List Meeting) : Type 0 where
+-- a history of the field so far, with just this log for the number
+pub record IsSoFar (f : Field) (number : ℕ) (log : List Logged) (ticket : ℕ) (history : List Meeting) : Type 0 where
   pub long : length history ≡ ticket
   pub right : IsHistory (net_of f) (seats_of f) (opening_of f) history
-  pub logs : log_of s ≡ calls (number_of s) history
+  pub own : log ≡ calls number history
 
--- at the ticket there was such a history, and `changed` says whether in the crowd after it the pair's meeting changes a tuple
+-- at the ticket there was such a history, and `changed` says whether in the crowd after it the meeting of a and b changes a tuple
+abbrev pub IsMetAt : Field → ℕ → List Logged → ℕ → ℕ → ℕ → Bool → Type 0
+IsMetAt f number log a b ticket changed =
+    (history : List Meeting) × IsSoFar f number log ticket history
+    × (changed ≡ changes (net_of f) a b (replay (net_of f) history (start_of f)))
+
 abbrev pub IsMoment : Field → FieldSeat → ℕ → ℕ → Met → Type 0
-IsMoment f s a b met =
-    (history : List Meeting) × IsSoFar f s met.ticket history
-    × (met.changed ≡ changes (net_of f) a b (replay (net_of f) history (start_of f)))
+IsMoment f s a b met = IsMetAt f (number_of s) (log_of s) a b met.ticket met.changed
 
 -- at the ticket there was such a history, and the look shows the crowd after it
 abbrev pub IsGlance : Field → FieldSeat → Look → Type 0
 IsGlance f s look =
-    (history : List Meeting) × IsSoFar f s look.ticket history × IsLook (net_of f) (opening_of f) history look
+    (history : List Meeting) × IsSoFar f (number_of s) (log_of s) look.ticket history × IsLook (net_of f) (opening_of f) history look

@@ -4,6 +4,7 @@
 #![tactic(auto)]
 
 mod field;
+mod meet;
 mod steps;
 mod view;
 
