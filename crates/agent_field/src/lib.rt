@@ -4,6 +4,7 @@
 #![tactic(auto)]
 
 mod field;
+mod life;
 mod meet;
 mod steps;
 mod view;
