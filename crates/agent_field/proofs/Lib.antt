@@ -8,3 +8,5 @@ pub mod Founding
 pub mod Moves
 pub mod Moments
 pub mod Drawn
+pub mod Arranged
+pub mod Closing
