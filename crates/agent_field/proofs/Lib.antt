@@ -6,7 +6,7 @@ pub mod Watching
 pub mod Seating
 pub mod Founding
 pub mod Moves
-pub mod Moments
+pub mod EachMoment
 pub mod Drawn
 pub mod Arranged
 pub mod Closing

@@ -3,11 +3,15 @@
 //! The layer above uses: each meeting is logged with its ticket, and closing gives the history and its replay.
 #![tactic(auto)]
 
+mod close;
 mod field;
 mod life;
 mod meet;
+mod moments;
 mod steps;
 mod view;
 
+pub use close::Round;
 pub use field::{Field, FieldSeat, Met};
+pub use moments::each_moment_stands;
 pub use view::{Logged, Look};
