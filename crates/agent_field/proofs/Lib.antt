@@ -10,3 +10,4 @@ pub mod EachMoment
 pub mod Drawn
 pub mod Arranged
 pub mod Closing
+pub mod Below

@@ -173,3 +173,10 @@ below (suc n) = n ∷ below n
 
 abbrev pub with_known : List (ℕ × Word) → View → View
 with_known known v = record { about = v.about; founding = v.founding; live = v.live; number = v.number; held = v.held; known = known; due = v.due; log = v.log; next = v.next; taken = v.taken; looks = v.looks }
+
+-- these are the known words, of all agents below so many
+pub record HasReadAll (agents : ℕ) (words : List Word) (m m' : Mine) : Type 0 where
+  pub known : List (ℕ × Word)
+  pub read : m' ≡ (with_known known m.0, m.1)
+  pub these : seen known ≡ words
+  pub each : (a : ℕ) (d : Word) → a < agents → In (a, slice_index_or words a d) known

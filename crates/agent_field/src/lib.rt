@@ -6,6 +6,7 @@
 mod close;
 mod field;
 mod life;
+mod looks;
 mod meet;
 mod moments;
 mod steps;
