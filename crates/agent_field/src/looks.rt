@@ -97,4 +97,32 @@ impl<'n> Field<'n> {
         }
         Ok(())
     }
+
+    /// Looks at all agents, under the locks of all shards, and answers the ticket of the next meeting.
+    /// It may wait for a lock, and takes no memory.
+    pub fn look<R: Wait>(&self, rt: &R, seat: &mut FieldSeat) -> u64
+        requires ours { IsSeatOf self.now seat.old }
+        requires first { number_of seat.old ≡ 0 }
+        requires room { 1 ≤ spare_looks_of seat.old }
+        ensures ours { IsSeatOf self.now seat.new }
+        ensures looked { (words : Items WordModel) × (looks_of seat.new ≡ looks_of seat.old ++ look_of result words ∷ [])
+            × (length words ≡ length (opening_of self.now)) × IsGlance self.now seat.old (look_of result words) }
+        ensures spare { spare_looks_of seat.new + 1 ≡ spare_looks_of seat.old }
+        ensures newest { IsNewestOf result seat.old }
+        ensures rest { KeepsLogs seat.old seat.new }
+    {
+        let Some(room) = seat.rooms.pop() else {
+            unreachable!()
+        };
+        let token = &mut seat.seat;
+        self.lock_all(rt, token, seat.number);
+        let words = self.read_all(token, room);
+        let ticket = self.watch(token);
+        self.unlock_all(token);
+        seat.looks.push_reserved(Look {
+            ticket,
+            words: List::from_vec(words),
+        });
+        ticket
+    }
 }
