@@ -16,3 +16,6 @@ pub use close::Round;
 pub use field::{Field, FieldSeat, Met};
 pub use moments::each_moment_stands;
 pub use view::{Logged, Look};
+
+#[cfg(test)]
+mod tests;

@@ -122,11 +122,7 @@ impl<'n> Field<'n> {
     }
 
     /// Takes in another seat's log, under its number. It takes no memory today.
-    pub fn join(
-        &self,
-        seat: &mut FieldSeat,
-        other: FieldSeat,
-    ) -> Result<(), (FieldSeat, NoMemory)>
+    pub fn join(&self, seat: &mut FieldSeat, other: FieldSeat) -> Result<(), (FieldSeat, NoMemory)>
         requires ours { IsSeatOf self.now seat.old }
         requires theirs { IsSeatOf self.now other }
         requires first { number_of seat.old ≡ 0 }
