@@ -10,7 +10,6 @@ use Rattle.atomic_table.specs.Table.{Final, Seen}
 use Rattle.pop_net.specs.declared.net.Word.{Word}
 use Rattle.pop_net.specs.Lanes.{tuple_of, crowd_of, IsValid, AreValid}
 use Rattle.pop_crowd.specs.declared.crowd.Meeting.{Meeting}
-use Rattle.pop_crowd.specs.Replay.{replay}
 use Rattle.agent_field.specs.declared.view.Logged.{Logged}
 use Rattle.agent_field.specs.declared.view.Look.{Look}
 use Rattle.agent_field.specs.declared.view.About.{About}
@@ -18,7 +17,7 @@ use Rattle.agent_field.specs.declared.view.View.{View}
 use Rattle.agent_field.specs.declared.field.Field.{Field}
 use Rattle.agent_field.specs.declared.field.FieldSeat.{FieldSeat}
 use Rattle.agent_field.specs.History.{IsHistory, calls, placed, placed_logs}
-use Rattle.agent_field.specs.Standing.{In, agents_of, agent_at, packed, crowd_after, IsLook, IsOwedByNone, StandsAt, FieldStands, idle}
+use Rattle.agent_field.specs.Standing.{In, agents_of, packed, crowd_after, IsLook, IsOwedByNone, StandsAt, FieldStands, idle}
 use Rattle.agent_field.specs.Seats.{IsWhole}
 use Rattle.agent_field.specs.Steps.{Mine}
 use Rattle.agent_field.proofs.Histories.{length-replay, calls_from-below}

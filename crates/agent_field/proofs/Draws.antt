@@ -1,5 +1,5 @@
 -- The draw of a ticket keeps the field's rule, with a history that is one meeting longer.
-use Rattle.std.proofs.Common.{◌≡◌, ◌≢◌, ◌⊎◌, ℕ, ◌+◌, ◌*◌, ◌^◌, ◌<◌, ◌≤◌, Bool, true, false, List, [], ◌∷◌, ◌++◌, length, get_or, set, take, refl, sym, ap, ◌∙◌, subst, inl, inr, ⊎_elim, arith, length-append, length-set, get_or-set_same, get_or-set_other}
+use Rattle.std.proofs.Common.{◌≡◌, ◌≢◌, ℕ, ◌+◌, ◌^◌, ◌<◌, ◌≤◌, true, false, List, [], ◌∷◌, ◌++◌, length, get_or, set, refl, sym, ap, ◌∙◌, subst, inl, inr, ⊎_elim, arith, length-append, length-set, get_or-set_same, get_or-set_other}
 use Rattle.std.proofs.lemmas.Bool.{cases_eq}
 use Rattle.std.proofs.lemmas.List.{length-map, take-append-le}
 use Rattle.std.proofs.Math.Nat.{mul-le-mul_right}
@@ -17,7 +17,7 @@ use Rattle.agent_field.specs.declared.view.Look.{Look}
 use Rattle.agent_field.specs.declared.view.About.{About}
 use Rattle.agent_field.specs.declared.view.View.{View}
 use Rattle.agent_field.specs.History.{IsHistory, logged, calls, made}
-use Rattle.agent_field.specs.Standing.{agents_of, lock_at, agent_at, shard_of, packed, agent_word, crowd_after, tuple_after, In, locks_of, spent, IsFirst, IsLook, LooksPart, Agrees, IsHeldBySome, StandsAt}
+use Rattle.agent_field.specs.Standing.{agents_of, lock_at, agent_at, shard_of, packed, crowd_after, tuple_after, In, locks_of, spent, IsFirst, IsLook, LooksPart, Agrees, IsHeldBySome, StandsAt}
 use Rattle.agent_field.specs.Steps.{IsReaction, meeting, IsNewest, IsDrawnAt}
 use Rattle.agent_field.proofs.Histories.{length-replay, replay-push, history-push, calls-push_mine, calls-push_other, calls_from-below, length-most, after_meeting-first, after_meeting-second, after_meeting-other}
 use Rattle.agent_field.proofs.Views.{at_length, set_each, one_seat, one_holder, owed_back, held_after, sits_set, not_dead}

@@ -1,10 +1,10 @@
 -- The field stands at every moment of every run, and its history is what the draws made.
-use Rattle.std.proofs.Common.{◌≡◌, ◌≢◌, ◌⊎◌, ℕ, get_or, zero, suc, ◌+◌, ◌<◌, ◌≤◌, ◌++◌, true, true≢false, List, [], ◌∷◌, length, set, refl, sym, ap, ◌∙◌, subst, inl, inr, ⊎_elim, append_assoc}
+use Rattle.std.proofs.Common.{◌≡◌, ◌≢◌, ◌⊎◌, ℕ, get_or, zero, suc, ◌+◌, ◌<◌, ◌≤◌, ◌++◌, true≢false, List, [], ◌∷◌, length, set, refl, sym, ap, ◌∙◌, subst, inl, inr, ⊎_elim, append_assoc}
 use mathlib.Core.List.{append-nil}
 use mathlib.Core.Option.{Option, some, some-injective, some-ne-none}
 use lib.ListN.{get_elem?}
 use Rattle.std.proofs.lemmas.List.{length-map}
-use Rattle.pop_net.specs.NetModel.{NetModel, CrowdModel}
+use Rattle.pop_net.specs.NetModel.{NetModel}
 use Rattle.pop_net.specs.Lanes.{tuple_of, crowd_of, AreValid}
 use Rattle.pop_net.specs.Step.{Step}
 use Rattle.pop_net.specs.declared.net.Word.{Word}
@@ -14,13 +14,13 @@ use Rattle.pop_net.proofs.Reactions.{reaction_step}
 use Rattle.std.specs.Prelude.{Some}
 use Rattle.std.proofs.lemmas.Option.{slice_get-get_or}
 use Rattle.pop_crowd.specs.declared.crowd.Meeting.{Meeting}
-use Rattle.pop_crowd.specs.Replay.{replay, reacts}
+use Rattle.pop_crowd.specs.Replay.{reacts}
 use Rattle.agent_field.specs.declared.view.About.{About}
 use Rattle.agent_field.specs.declared.view.View.{View}
 use Rattle.agent_field.specs.History.{made}
-use Rattle.agent_field.specs.Standing.{agents_of, crowd_after, tuple_after, In, Stands, StandsAt, IsUnfounded, founder, spent}
+use Rattle.agent_field.specs.Standing.{agents_of, crowd_after, In, StandsAt, IsUnfounded, founder, spent}
 use Rattle.agent_field.specs.Steps.{IsReaction, first_seat, meeting, looking}
-use Rattle.agent_field.specs.Kinds.{Sits, QuietStep, makes, locks, finds_locked, reads, writes, unlocks, splits, joins, looks, DrawStep, draws, FieldRun, stays, goes, meets, HasHistory, opening_words, MomentsStand, EachMomentStands}
+use Rattle.agent_field.specs.Kinds.{Sits, QuietStep, makes, locks, finds_locked, reads, writes, unlocks, splits, joins, looks, DrawStep, draws, FieldRun, stays, goes, meets, HasHistory, opening_words, EachMomentStands}
 use Rattle.agent_field.proofs.Keeps.{locks_keep, releases_keep, reads_keep, writes_keep}
 use Rattle.agent_field.proofs.Histories.{length-replay, replay-push}
 use Rattle.agent_field.proofs.Draws.{known_after, draws_keep}

@@ -15,7 +15,7 @@ use Rattle.pop_crowd.specs.Replay.{reacts}
 use Rattle.agent_field.specs.declared.view.About.{About}
 use Rattle.agent_field.specs.declared.view.View.{View}
 use Rattle.agent_field.specs.History.{made}
-use Rattle.agent_field.specs.Standing.{agents_of, lock_at, agent_at, agent_word, packed, shard_of, In, founder, spent, StandsAt, IsUnfounded, FieldStands}
+use Rattle.agent_field.specs.Standing.{agents_of, lock_at, agent_at, agent_word, shard_of, In, founder, spent, StandsAt, IsUnfounded, FieldStands}
 use Rattle.agent_field.specs.Steps.{Mine, first_seat, holding, releasing, knowing, IsReaction, MayDraw, HasSeenAll, meeting, writing, kept_back, newcomer, taking_in, looking, IsNewest, IsDrawnAt, IsSeenAt, Founds, Locks, Unlocks, Reads, Draws, Writes, Watches}
 use Rattle.agent_field.proofs.Keeps.{locks_keep, releases_keep, reads_keep, writes_keep}
 use Rattle.agent_field.proofs.Draws.{draws_keep, is_newest, is_drawn_at, history_fits}

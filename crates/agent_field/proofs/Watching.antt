@@ -1,16 +1,16 @@
 -- A look at all agents, under all locks, keeps the field's rule.
-use Rattle.std.proofs.Common.{◌≡◌, ◌⊎◌, ℕ, ◌<◌, ◌≤◌, true, List, [], ◌∷◌, ◌++◌, length, get_or, set, take, refl, sym, ap, ◌∙◌, subst, inl, inr, ⊎_elim, arith}
+use Rattle.std.proofs.Common.{◌≡◌, ◌⊎◌, ℕ, ◌<◌, ◌≤◌, true, List, [], ◌∷◌, ◌++◌, length, get_or, set, refl, sym, ap, ◌∙◌, subst, inl, inr, ⊎_elim, arith}
 use Rattle.std.proofs.lemmas.List.{length-map, take_all, get_or-map, ext_get_or}
 use mathlib.Core.Option.{Option, some}
 use lib.ListN.{get_elem?}
 use Rattle.pop_net.specs.declared.net.Word.{Word}
-use Rattle.pop_net.specs.Lanes.{tuple_of, crowd_of, IsValid, AreValid}
+use Rattle.pop_net.specs.Lanes.{tuple_of, crowd_of, IsValid}
 use Rattle.pop_crowd.specs.declared.crowd.Meeting.{Meeting}
 use Rattle.pop_crowd.specs.Replay.{replay}
 use Rattle.agent_field.specs.declared.view.Look.{Look}
 use Rattle.agent_field.specs.declared.view.About.{About}
 use Rattle.agent_field.specs.declared.view.View.{View}
-use Rattle.agent_field.specs.Standing.{agents_of, packed, crowd_after, In, IsLook, AreAscending, LooksPart, Agrees, StandsAt}
+use Rattle.agent_field.specs.Standing.{agents_of, packed, crowd_after, In, IsLook, AreAscending, StandsAt}
 use Rattle.agent_field.specs.History.{IsHistory}
 use Rattle.agent_field.specs.Steps.{seen, look_of, looking, IsSeenAt}
 use Rattle.agent_field.proofs.Histories.{length-replay}

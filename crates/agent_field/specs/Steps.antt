@@ -1,7 +1,6 @@
 -- What each step of a seat tells.
 use Rattle.std.specs.Prelude.{zero, suc, ◌≡◌, ◌≢◌, ℕ, ◌+◌, ◌-◌, ◌<◌, ◌≤◌, ◌^◌, List, [], ◌∷◌, ◌++◌, length, slice_index_or, slice_set, replicate, Option as Maybe, Some as Given, None as Missing}
 use Rattle.atomic_table.specs.Table.{Me, Step}
-use Rattle.atomic_table.specs.declared.shared.Seat.{Seat}
 use Rattle.pop_net.specs.declared.net.Word.{Word}
 use Rattle.pop_net.specs.NetModel.{NetModel}
 use Rattle.pop_net.specs.Lanes.{tuple_of, IsValid}

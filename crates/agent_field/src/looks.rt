@@ -28,7 +28,7 @@ impl<'n> Field<'n> {
     ghost use Rattle.agent_field.specs.Seats.{opening_of, IsSeatOf, number_of, looks_of, spare_looks_of, KeepsLogs, IsNewestOf, IsGlance};
 
     /// Takes the locks of all shards, in ascending order.
-    fn lock_all<R: Wait>(&self, rt: &R, token: &mut Seat<(), View>, number: u16)
+    pub(crate) fn lock_all<R: Wait>(&self, rt: &R, token: &mut Seat<(), View>, number: u16)
         requires table { token.old.table_id ≡ self.now.table.shared.table_id }
         requires live { token.old.me.0.live ≡ true }
         requires number { token.old.me.0.number ≡ number }
