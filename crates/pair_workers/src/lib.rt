@@ -1,12 +1,14 @@
 //! Workers that let agents meet by their picks, round by round.
 //! It stands on `pop_crowd`, `terminal_test`, `rand_xoshiro` and `rand_core`.
-//! The layer above uses: `Picker::pick` is Picks, and the rounds of `run_alone` are a run by `IsRun`.
+//! The layer above uses: `Picker::pick` is Picks, and the rounds of `run_alone` and `run_all` are a run by `IsRun`.
 #![tactic(auto)]
 
+mod all;
 mod alone;
 mod examples;
 mod picker;
 
+pub use all::run_all;
 pub use alone::{End, RunEnd, run_alone};
 pub use examples::{pick_examples, run_examples};
 pub use picker::Picker;

@@ -96,6 +96,29 @@ fn two_agents_come_to_an_end(rt: HostRuntime) -> Result<(), Fail> {
 }
 
 #[test]
+fn all_workers_are_one(rt: HostRuntime) -> Result<(), Fail> {
+    let alloc = rt.alloc();
+    let net = majority(alloc)?;
+    if net.var_count() != 2 {
+        return Err(Fail::from("two variables"));
+    }
+    let crowd = Crowd::of_counts(alloc, &net, &[1, 1])
+        .ok()
+        .ok_or("a crowd")?;
+    let spec = RunSpec {
+        workers: 1,
+        shards: 16,
+        turns: 2,
+        seed: 0,
+    };
+    let run = run_all(&rt, alloc, &net, crowd, &spec, &OpenGate)
+        .ok()
+        .ok_or("a run")?;
+    assert_eq!(rt; run.end, End::Terminal);
+    Ok(())
+}
+
+#[test]
 fn one_turn_leaves_a_pair(rt: HostRuntime) -> Result<(), Fail> {
     let run = run(rt.alloc(), 1, 1, 1)?.ok_or("a run")?;
     assert_eq!(rt; run.end, End::Open(0, 1));

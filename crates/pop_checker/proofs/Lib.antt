@@ -1,6 +1,7 @@
 pub mod Formats
 pub mod Bounds
 pub mod Firsts
+pub mod OneFault
 pub mod NetEnds
 pub mod Outputs
 pub mod Meetings

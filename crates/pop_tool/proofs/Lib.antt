@@ -1,7 +1,13 @@
+mod Goes
+mod OneValue
+mod Begun
+mod Ran
 mod Short
 mod Lined
 mod Played
 mod Replies
 mod Ends
+mod Certified
 mod PlayTuples
 mod One
+mod Headlines

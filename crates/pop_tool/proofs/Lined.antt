@@ -4,7 +4,7 @@ use Rattle.pop_lines.specs.Lines.{IsTooFew, IsLineFault}
 use Rattle.pop_lines.specs.declared.fault.LineFault.{LineFault}
 use Rattle.pop_lines.specs.declared.fault.LineFault.TheVariants.{Missing, Extra}
 use Rattle.pop_tool.specs.Steps.{Stops}
-use Rattle.pop_tool.specs.Lines.{two_and_more, just_two, just_three}
+use Rattle.pop_tool.specs.Lines.{two_and_more, just_one, just_two, just_three}
 use Rattle.pop_tool.specs.Refused.{line_refusal}
 use Rattle.pop_tool.specs.declared.stop.Stop.TheVariants.{Refused}
 
@@ -12,6 +12,13 @@ pub two_missing : (lines : List (List ℕ)) (fault : LineFault) → IsTooFew 2 l
 two_missing [] fault few = rw few.1 refl
 two_missing (first ∷ []) fault few = rw few.1 refl
 two_missing (first ∷ second ∷ more) fault few = absurd (omega (arith, few.0))
+
+pub not_one : (lines : List (List ℕ)) (fault : LineFault) → IsLineFault 1 lines fault → Stops (Refused (line_refusal fault)) (just_one lines)
+not_one [] (Missing n) bad = let same : n ≡ 1 = cc in rw same refl
+not_one (first ∷ more) (Missing n) bad = absurd (omega (arith, bad.0))
+not_one [] (Extra n) bad = absurd (omega (arith, bad.0))
+not_one (first ∷ []) (Extra n) bad = absurd (omega (arith, bad.0))
+not_one (first ∷ second ∷ more) (Extra n) bad = rw bad.1 refl
 
 pub not_two : (lines : List (List ℕ)) (fault : LineFault) → IsLineFault 2 lines fault → Stops (Refused (line_refusal fault)) (just_two lines)
 not_two [] (Missing n) bad = let same : n ≡ 1 = cc in rw same refl

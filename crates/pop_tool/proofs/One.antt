@@ -1,6 +1,6 @@
 -- The words and the input have one answer.
 use Rattle.std.proofs.Common.{◌≡◌, ℕ, ◌<◌, ◌≤◌, ◌⊎◌, inl, inr, Bool, true, false, nat_lt, List, ◌++◌, length, Option, Some, None, Result, Ok, Err, refl, sym, ap, subst, ◌∙◌, arith}
-use Rattle.std.specs.Prelude.{All, MatchBool, IfOk}
+use Rattle.std.specs.Prelude.{All, MatchBool, IfOk, sum}
 use Rattle.serde_json.specs.Data.{Data}
 use Rattle.pop_lines.specs.Lines.{lines_of, ended}
 use Rattle.pop_net.specs.NetModel.{NetModel, CrowdModel, IsTuple}
@@ -8,14 +8,16 @@ use Rattle.pop_crowd.specs.Tally.{crowd_lines}
 use Rattle.terminal_test.specs.Pairs.{IsLeastPair}
 use Rattle.terminal_test.proofs.Ends.{not_terminal}
 use Rattle.pop_words.specs.declared.command.Command.{Command}
-use Rattle.pop_words.specs.declared.command.Command.TheVariants.{Play, Eval, Run}
+use Rattle.pop_words.specs.declared.command.Command.TheVariants.{Play, Eval, Check, Run}
 use Rattle.pop_words.specs.declared.spec.RunSpec.{RunSpec}
 use Rattle.pop_crowd.specs.declared.crowd.Meeting.{Meeting}
-use Rattle.pair_workers.specs.Run.{IsRun, joined}
-use Rattle.pair_workers.proofs.OnlyRun.{only_run, run_meets}
-use Rattle.pop_crowd.specs.Replay.{replay}
-use Rattle.pop_crowd.proofs.Reached.{replay_leads}
-use Rattle.pop_net.proofs.Tuples.{reachable_tuples}
+use Rattle.pair_workers.proofs.OnlyRun.{only_run}
+use Rattle.pop_net.specs.InputCrowd.{input_crowd}
+use Rattle.pres_ast.specs.PredModel.{PredModel}
+use Rattle.pres_ast.specs.PredicateValue.{predicate_value}
+use Rattle.cert_json.specs.declared.bundle.Bundle.{Bundle}
+use Rattle.pop_checker.specs.declared.fault.Rejected.{Rejected}
+use Rattle.pop_checker.proofs.OneFault.{one_rejected, none_rejected}
 use Rattle.pop_journal.specs.Journal.{journal_text}
 use Rattle.pop_words.proofs.Limits.{meaning_limits}
 use Rattle.pop_words.specs.declared.command.Usage.{Usage as BadWord}
@@ -26,19 +28,17 @@ use Rattle.pop_tool.specs.declared.refusal.Refusal.TheVariants.{TooLong}
 use Rattle.pop_tool.specs.Json.{Reads}
 use Rattle.pop_tool.specs.declared.output.Ending.TheVariants.{Done}
 use Rattle.pop_tool.specs.Given.{Given}
-use Rattle.pop_tool.specs.Lines.{two_and_more, just_two}
-use Rattle.pop_tool.specs.Start.{start_in}
-use Rattle.pop_tool.specs.Run.{last_of, ending_of, RunTells, OfStart, OfBoth}
+use Rattle.pop_tool.specs.Lines.{two_and_more, just_one, just_two}
+use Rattle.pop_tool.specs.Judged.{bundle_in, IsJudged}
+use Rattle.pop_tool.specs.Check.{verdict_on, OfBundle, OfLine}
+use Rattle.pop_tool.specs.Run.{begun, last_of, ending_of, RunTells, OfJudged, OfBegun, OfBoth}
 use Rattle.pop_tool.specs.Play.{end_crowd, IsLast, last_line, OfEnd, OfLines}
 use Rattle.pop_tool.specs.Answer.{Told, OfCommand, OfInput, OfMeaning}
 use Rattle.pop_tool.specs.OneAnswer.{IsOneAnswer}
-use Rattle.pop_tool.proofs.PlayTuples.{in_tuples, in_long, end_tuples}
-
-one_value : (line : List ℕ) (v w : Option Data) → Reads line v → Reads line w → v ≡ w
-one_value line None None r s = refl
-one_value line (Some d) (Some e) r s = sym r.1 ∙ s.1
-one_value line None (Some e) r s = absurd (cc (r s.0, s.1))
-one_value line (Some d) None r s = absurd (cc (s r.0, r.1))
+use Rattle.pop_tool.proofs.OneValue.{one_value}
+use Rattle.pop_tool.proofs.Begun.{begun_two}
+use Rattle.pop_tool.proofs.Ran.{run_tuples}
+use Rattle.pop_tool.proofs.PlayTuples.{end_tuples}
 
 same_pair : (a b c d : ℕ) → (a < c) ⊎ ((c ≡ a) × (b ≤ d)) → (c < a) ⊎ ((a ≡ c) × (d ≤ b)) → (a ≡ c) × (b ≡ d)
 same_pair a b c d (inl l) (inl m) = absurd (omega arith)
@@ -71,38 +71,61 @@ one_play (Ok (net, crowd, meetings)) x y p q =
     one_end (end_crowd q.0 crowd meetings) (λ n c e. end_tuples q.0 crowd meetings n c e) x y
     (subst (λ (v : Option Data). OfEnd (end_crowd v crowd meetings) x) same p.2) q.2
 
-module _ (spec : RunSpec) (alone : spec.workers ≡ 1) (first second : List ℕ) (net : NetModel) (start : CrowdModel) (tuples : All (IsTuple net) start) (two : 2 ≤ length start) where
-  -- the tuples of a run's last crowd
-  last_tuples : (rounds : List (List Meeting)) (end : CrowdModel) → IsRun net start spec rounds end → All (IsTuple net) end
-  last_tuples rounds end is =
-      let r = replay_leads net (joined rounds) start tuples (run_meets net start spec rounds end alone two is) in
-      subst (All (IsTuple net)) is.replays (reachable_tuples net start (replay net (joined rounds) start) tuples (r.0, r.2))
+one_judged : (bundle : Bundle) (v w : Option Rejected) → IsJudged bundle v → IsJudged bundle w → v ≡ w
+one_judged bundle None None p q = refl
+one_judged bundle None (Some rejected) p q = absurd (none_rejected bundle.net bundle.pred bundle.proof rejected p.0 q)
+one_judged bundle (Some rejected) None p q = absurd (none_rejected bundle.net bundle.pred bundle.proof rejected q.0 p)
+one_judged bundle (Some v) (Some w) p q =
+    ap (λ (r : Rejected). Some r) (one_rejected bundle.net bundle.pred bundle.proof v w p q)
 
-  one_tale : (given other : Given) → RunTells spec first second net start given → RunTells spec first second net start other → given ≡ other
-  one_tale given other p q =
-      let only = only_run net start spec p.0 p.1 alone p.3 q.0 q.1 q.3 in
-      let pair = one_last net p.1 (last_tuples p.0 p.1 p.3) p.2 q.2 p.4 (subst (λ (c : CrowdModel). IsLast net c q.2) only.1 q.4) in
-      p.5
-      ∙ ap (λ (rounds : List (List Meeting)). (ended first ++ ended second ++ journal_text net spec rounds p.1 (last_of p.2), ending_of p.2)) (sym only.0)
-      ∙ ap (λ (end : CrowdModel). (ended first ++ ended second ++ journal_text net spec q.0 end (last_of p.2), ending_of p.2)) (sym only.1)
-      ∙ ap (λ (o : Option (ℕ × ℕ)). (ended first ++ ended second ++ journal_text net spec q.0 q.1 (last_of o), ending_of o)) pair
-      ∙ sym q.5
+one_bundle : (r : Result Bundle Refusal) (x y : Result Given Refusal) → OfBundle r x → OfBundle r y → x ≡ y
+one_bundle (Err refusal) x y p q = p ∙ sym q
+one_bundle (Ok bundle) x y p q =
+    p.2 ∙ ap (λ (o : Option Rejected). Ok (verdict_on bundle o)) (one_judged bundle p.0 q.0 p.1 q.1) ∙ sym q.2
 
-one_start : (spec : RunSpec) (first second : List ℕ) → spec.workers ≡ 1 → (r : Result (NetModel × CrowdModel) Refusal) → ((net : NetModel) (crowd : CrowdModel) → r ≡ Ok (net, crowd) → All (IsTuple net) crowd × (2 ≤ length crowd)) → (x y : Result Given Refusal) → OfStart spec first second r x → OfStart spec first second r y → x ≡ y
-one_start spec first second alone (Err refusal) tuples x y p q = p ∙ sym q
-one_start spec first second alone (Ok (net, start)) tuples x y p q =
-    p.2 ∙ ap (λ (t : Given). Ok t) (one_tale spec alone first second net start (tuples net start refl).0 (tuples net start refl).1 p.0 q.0 p.1 q.1) ∙ sym q.2
+one_check : (r : Result (List ℕ) Refusal) (x y : Result Given Refusal) → OfLine r x → OfLine r y → x ≡ y
+one_check (Err refusal) x y p q = p ∙ sym q
+one_check (Ok line) x y p q =
+    let same = one_value line p.0 q.0 p.1 q.1 in
+    one_bundle (bundle_in q.0) x y (subst (λ (v : Option Data). OfBundle (bundle_in v) x) same p.2) q.2
+
+module _ (spec : RunSpec) (alone : spec.workers ≡ 1) (first second : List ℕ) where
+  module _ (net : NetModel) (pred : PredModel) (counts : List ℕ) (two : 2 ≤ sum counts) where
+    one_tale : (given other : Given) → RunTells spec first second net pred counts given → RunTells spec first second net pred counts other → given ≡ other
+    one_tale given other p q =
+        let start = input_crowd net counts in
+        let truth = predicate_value pred.tree counts in
+        let only = only_run net start spec p.0 p.1 alone p.3 q.0 q.1 q.3 in
+        let tuples = run_tuples net counts two spec alone p.0 p.1 p.3 in
+        let pair = one_last net p.1 tuples p.2 q.2 p.4 (subst (λ (c : CrowdModel). IsLast net c q.2) only.1 q.4) in
+        p.5
+        ∙ ap (λ (rounds : List (List Meeting)). (ended first ++ ended second ++ journal_text net spec rounds p.1 (last_of truth p.2), ending_of p.2)) (sym only.0)
+        ∙ ap (λ (end : CrowdModel). (ended first ++ ended second ++ journal_text net spec q.0 end (last_of truth p.2), ending_of p.2)) (sym only.1)
+        ∙ ap (λ (o : Option (ℕ × ℕ)). (ended first ++ ended second ++ journal_text net spec q.0 q.1 (last_of truth o), ending_of o)) pair
+        ∙ sym q.5
+
+  one_told_run : (bundle : Bundle) (counts : List ℕ) → 2 ≤ sum counts → (judged : Option Rejected) (given other : Given) → OfJudged spec first second bundle counts judged given → OfJudged spec first second bundle counts judged other → given ≡ other
+  one_told_run bundle counts two None given other p q = one_tale bundle.net bundle.pred counts two given other p q
+  one_told_run bundle counts two (Some rejected) given other p q = p ∙ sym q
+
+  one_begun : (r : Result (Bundle × List ℕ) Refusal) → ((bundle : Bundle) (counts : List ℕ) → r ≡ Ok (bundle, counts) → 2 ≤ sum counts) → (x y : Result Given Refusal) → OfBegun spec first second r x → OfBegun spec first second r y → x ≡ y
+  one_begun (Err refusal) two x y p q = p ∙ sym q
+  one_begun (Ok (bundle, counts)) two x y p q =
+      let judged = one_judged bundle p.0 q.0 p.2 q.2 in
+      let tale = one_told_run bundle counts (two bundle counts refl) q.0 p.1 q.1 (subst (λ (o : Option Rejected). OfJudged spec first second bundle counts o p.1) judged p.3) q.3 in
+      p.4 ∙ ap (λ (t : Given). Ok t) tale ∙ sym q.4
 
 one_run : (spec : RunSpec) → spec.workers ≡ 1 → (r : Result (List ℕ × List ℕ) Refusal) (x y : Result Given Refusal) → OfBoth spec r x → OfBoth spec r y → x ≡ y
 one_run spec alone (Err refusal) x y p q = p ∙ sym q
 one_run spec alone (Ok (first, second)) x y p q =
     let same = one_value first p.0 q.0 p.1 q.1 in
-    one_start spec first second alone (start_in q.0 second) (λ n c e. (in_tuples q.0 second n c e, in_long q.0 second n c e)) x y
-    (subst (λ (v : Option Data). OfStart spec first second (start_in v second) x) same p.2) q.2
+    one_begun spec alone first second (begun q.0 second) (λ b c e. begun_two q.0 second b c e) x y
+    (subst (λ (v : Option Data). OfBegun spec first second (begun v second) x) same p.2) q.2
 
 one_given : (command : Command) → HasLimits command → (lines : List (List ℕ)) (x y : Result Given Refusal) → OfCommand command lines x → OfCommand command lines y → x ≡ y
 one_given Play limits lines x y p q = one_play (two_and_more lines) x y p q
 one_given Eval limits lines x y p q = p ∙ sym q
+one_given Check limits lines x y p q = one_check (just_one lines) x y p q
 one_given (Run spec) limits lines x y p q = one_run spec (omega (arith, limits.workers.0, limits.workers.1)) (just_two lines) x y p q
 
 by_length : (P Q : Result Given Refusal → Type 0) (b : Bool) → ((x y : Result Given Refusal) → P x → P y → x ≡ y) → ((x y : Result Given Refusal) → Q x → Q y → x ≡ y) → (x y : Result Given Refusal) → MatchBool b (P x) (Q x) → MatchBool b (P y) (Q y) → x ≡ y

@@ -16,18 +16,10 @@ use Rattle.pop_words.specs.Meetings.{pair_of, agents_of, meeting_of}
 use Rattle.pop_words.specs.declared.meeting.MeetingFault.{MeetingFault}
 use Rattle.pop_words.specs.declared.meeting.MeetingFault.TheVariants as meeting
 use Rattle.pop_tool.specs.declared.refusal.Refusal.{Refusal}
-use Rattle.pop_tool.specs.declared.refusal.Refusal.TheVariants.{Size}
 use Rattle.pop_tool.specs.Steps.{◌>>=◌}
-use Rattle.pop_tool.specs.Eval.{counted}
-use Rattle.pop_tool.specs.Start.{net_in, sized, crowd_in, start_in}
+use Rattle.pop_tool.proofs.Goes.{bind_ok, same_ok}
+use Rattle.pop_tool.specs.Start.{net_in, fitting_in, crowd_in, start_in}
 use Rattle.pop_tool.specs.Play.{between, paired, meetings_in, played, end_crowd}
-
-bind_ok : {A B : Type 0} (r : Result A Refusal) (f : A → Result B Refusal) (y : B) → (r >>= f) ≡ Ok y → (x : A) × (r ≡ Ok x) × (f x ≡ Ok y)
-bind_ok (Ok x) f y e = (x, refl, e)
-bind_ok (Err r) f y e = absurd cc
-
-same_ok : {A : Type 0} (x y : A) → (let r : Result A Refusal = Ok x in r ≡ Ok y) → x ≡ y
-same_ok x y e = cc
 
 chosen : {A : Type 0} (b : Bool) (x y : A) (fault : MeetingFault) → cond b (let r : Result A MeetingFault = Ok x in r) (Err fault) ≡ Ok y → (b ≡ true) × (x ≡ y)
 chosen true x y fault e = (refl, cc)
@@ -68,11 +60,9 @@ meetings_are agents number (line ∷ lines) meetings e =
     subst (AreMeetings agents) (same_ok (between p.0 ∷ m.0) meetings m.2) (All-cons (IsMeeting agents) (between p.0) m.0 (pair_is agents number line p.0 p.1) (meetings_are agents (number + 1) lines m.0 m.1))
 
 start_tuples : (net : NetModel) (line : List ℕ) (crowd : CrowdModel) → crowd_in net line ≡ Ok crowd → All (IsTuple net) crowd
-unfolding crowd_in
 start_tuples net line crowd e =
-    let c = bind_ok (counted (counts_of net.variables line)) (λ counts. sized counts >>= λ fitting. Ok (input_crowd net fitting)) crowd e in
-    let s = bind_ok (sized c.0) (λ fitting. Ok (input_crowd net fitting)) crowd c.2 in
-    subst (All (IsTuple net)) (same_ok (input_crowd net s.0) crowd s.2) (input_tuples net s.0)
+    let c = bind_ok (fitting_in net line) (λ counts. Ok (input_crowd net counts)) crowd e in
+    subst (All (IsTuple net)) (same_ok (input_crowd net c.0) crowd c.2) (input_tuples net c.0)
 
 played_tuples : (net : NetModel) (start : CrowdModel) (lines : List (List ℕ)) (end : CrowdModel) → All (IsTuple net) start → played net start lines ≡ Ok end → All (IsTuple net) end
 unfolding played
@@ -80,29 +70,6 @@ played_tuples net start lines end tuples e =
     let m = bind_ok (meetings_in (length start) 3 lines) (λ meetings. Ok (replay net meetings start)) end e in
     let r = replay_leads net m.0 start tuples (meetings_are (length start) 3 lines m.0 m.1) in
     subst (All (IsTuple net)) (same_ok (replay net m.0 start) end m.2) (reachable_tuples net start (replay net m.0 start) tuples (r.0, r.2))
-
-fits : (counts : List ℕ) (b : Bool) (fitting : List ℕ) → (nat_le 2 (sum counts) && nat_le (sum counts) 65536) ≡ b → cond b (let r : Result (List ℕ) Refusal = Ok counts in r) (Err (Size (sum counts))) ≡ Ok fitting → 2 ≤ sum fitting
-fits counts true fitting is e =
-    let two = leb-true 2 (sum counts) (parts (nat_le 2 (sum counts)) (nat_le (sum counts) 65536) is).0 in
-    subst (λ (c : List ℕ). 2 ≤ sum c) (same_ok counts fitting e) two
-fits counts false fitting is e = absurd cc
-
-start_long : (net : NetModel) (line : List ℕ) (crowd : CrowdModel) → crowd_in net line ≡ Ok crowd → 2 ≤ length crowd
-unfolding crowd_in
-start_long net line crowd e =
-    let c = bind_ok (counted (counts_of net.variables line)) (λ counts. sized counts >>= λ fitting. Ok (input_crowd net fitting)) crowd e in
-    let s = bind_ok (sized c.0) (λ fitting. Ok (input_crowd net fitting)) crowd c.2 in
-    let two = fits c.0 (nat_le 2 (sum c.0) && nat_le (sum c.0) 65536) s.0 refl s.1 in
-    let long = length-starts_from (start_of net) 0 s.0 in
-    subst (λ (c : CrowdModel). 2 ≤ length c) (same_ok (input_crowd net s.0) crowd s.2) (omega (arith, two, long))
-
--- the start crowd of a net line and a crowd line has two agents at least
-pub in_long : (value : Option Data) (line : List ℕ) (net : NetModel) (crowd : CrowdModel) → start_in value line ≡ Ok (net, crowd) → 2 ≤ length crowd
-unfolding start_in
-in_long value line net crowd e =
-    let n = bind_ok (net_in value) (λ n. crowd_in n line >>= λ start. Ok (n, start)) (net, crowd) e in
-    let s = bind_ok (crowd_in n.0 line) (λ start. Ok (n.0, start)) (net, crowd) n.2 in
-    subst (λ (x : NetModel × CrowdModel). 2 ≤ length x.1) (same_ok (n.0, s.0) (net, crowd) s.2) (start_long n.0 line s.0 s.1)
 
 -- the start crowd of a net line and a crowd line has one state per leaf in each tuple
 pub in_tuples : (value : Option Data) (line : List ℕ) (net : NetModel) (crowd : CrowdModel) → start_in value line ≡ Ok (net, crowd) → All (IsTuple net) crowd

@@ -18,15 +18,16 @@ use Rattle.pop_tool.specs.declared.stop.Stop.{Stop}
 use Rattle.pop_tool.specs.declared.stop.Stop.TheVariants.{Refused, NoMemory}
 use Rattle.pop_tool.specs.Steps.{◌>>=◌, Stops}
 use Rattle.pop_tool.specs.Eval.{counted}
-use Rattle.pop_tool.specs.Start.{crowd_in}
+use Rattle.pop_tool.specs.Start.{fitting_in}
 use Rattle.pop_tool.specs.Play.{between, paired, meetings_in}
 
-pub started : (net : NetModel) (line : List ℕ) (counts : List ℕ) (crowd : List Word) → counted (counts_of net.variables line) ≡ Ok counts → crowd_of net crowd ≡ input_crowd net counts → 2 ≤ length crowd → length crowd ≤ 65536
-    → crowd_in net line ≡ Ok (crowd_of net crowd)
-unfolding crowd_in
-started net line counts crowd read start lo hi =
-    let n : sum counts ≡ length crowd = sym (length-starts_from (start_of net) 0 counts) ∙ sym (ap length start) ∙ rw length-map refl in
-    rw (read, le-leb 2 (sum counts) (omega arith), le-leb (sum counts) 65536 (omega arith)) (ap (λ c. Ok c) (sym start))
+-- the crowd of some counts has as many agents
+pub agents_counted : (net : NetModel) (counts : List ℕ) (crowd : List Word) → crowd_of net crowd ≡ input_crowd net counts → sum counts ≡ length crowd
+agents_counted net counts crowd start = sym (length-starts_from (start_of net) 0 counts) ∙ sym (ap length start) ∙ rw length-map refl
+
+pub fits : (net : NetModel) (line : List ℕ) (counts : List ℕ) → counted (counts_of net.variables line) ≡ Ok counts → 2 ≤ sum counts → sum counts ≤ 65536 → fitting_in net line ≡ Ok counts
+unfolding fitting_in
+fits net line counts read lo hi = rw (read, le-leb 2 (sum counts) lo, le-leb (sum counts) 65536 hi) refl
 
 -- the crowd after the meetings of the lines from a number on
 abbrev pub on_from : NetModel → ℕ → ℕ → CrowdModel → List (List ℕ) → Result CrowdModel Refusal

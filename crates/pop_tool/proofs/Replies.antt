@@ -7,7 +7,7 @@ use Rattle.pop_words.specs.declared.command.Command.{Command}
 use Rattle.pop_words.specs.declared.command.Usage.{Usage as BadWord}
 use Rattle.pop_words.specs.Words.{meaning_of}
 use Rattle.pop_tool.specs.declared.status.Status.{Status}
-use Rattle.pop_tool.specs.declared.status.Status.TheVariants.{Done, Usage, Refused, Undecided}
+use Rattle.pop_tool.specs.declared.status.Status.TheVariants.{Done, Usage, Refused, Rejected, Undecided}
 use Rattle.pop_tool.specs.declared.output.Ending.TheVariants as ending
 use Rattle.pop_tool.specs.Given.{Given}
 use Rattle.pop_tool.specs.declared.refusal.Refusal.{Refusal}
@@ -40,6 +40,8 @@ module _ (words : List (List ℕ)) (left : Option (List ℕ)) (command : Command
   told_reply : (given : Result Given Refusal) (text : List ℕ) (status : Status) → OfInput command input given → Told given text status → IsReply words left text status
   told_reply (Ok (line, ending.Done)) text status may told =
       subst (λ (s : Status). IsReply words left text s) (sym told.1) (input, has, answers (Ok (line, ending.Done)) text Done may (told.0, refl))
+  told_reply (Ok (line, ending.Rejected)) text status may told =
+      subst (λ (s : Status). IsReply words left text s) (sym told.1) (input, has, answers (Ok (line, ending.Rejected)) text Rejected may (told.0, refl))
   told_reply (Ok (line, ending.Undecided)) text status may told =
       subst (λ (s : Status). IsReply words left text s) (sym told.1) (input, has, answers (Ok (line, ending.Undecided)) text Undecided may (told.0, refl))
   told_reply (Err refusal) text status may told =

@@ -2,7 +2,7 @@
 use Rattle.std.specs.Prelude.{◌≡◌, ℕ, nat_lt, List, length, MatchBool, Result, Ok, Err}
 use Rattle.pop_lines.specs.Lines.{lines_of, ended}
 use Rattle.pop_words.specs.declared.command.Command.{Command}
-use Rattle.pop_words.specs.declared.command.Command.TheVariants.{Play, Eval, Run}
+use Rattle.pop_words.specs.declared.command.Command.TheVariants.{Play, Eval, Check, Run}
 use Rattle.pop_words.specs.declared.command.Usage.{Usage as BadWord}
 use Rattle.pop_words.specs.Words.{meaning_of}
 use Rattle.pop_tool.specs.declared.status.Status.{Status}
@@ -12,6 +12,7 @@ use Rattle.pop_tool.specs.declared.refusal.Refusal.TheVariants.{TooLong}
 use Rattle.pop_tool.specs.Refusals.{usage_text, refusal_text}
 use Rattle.pop_tool.specs.Eval.{eval_answer}
 use Rattle.pop_tool.specs.Play.{PlayGives}
+use Rattle.pop_tool.specs.Check.{CheckGives}
 use Rattle.pop_tool.specs.Run.{RunGives}
 use Rattle.pop_tool.specs.Given.{Given, status_of}
 
@@ -24,6 +25,7 @@ Told (Err refusal) text status = (text ≡ ended (refusal_text refusal)) × (sta
 abbrev pub OfCommand : Command → List (List ℕ) → Result Given Refusal → Type 0
 OfCommand Play lines given = PlayGives lines given
 OfCommand Eval lines given = given ≡ eval_answer lines
+OfCommand Check lines given = CheckGives lines given
 OfCommand (Run spec) lines given = RunGives spec lines given
 
 -- an input has at most 134,217,728 bytes

@@ -7,9 +7,13 @@ pub mod Eval
 pub mod Refused
 pub mod Json
 pub mod Start
+pub mod Rejections
+pub mod Judged
+pub mod Check
 pub mod Play
 pub mod Run
 pub mod Answer
 pub mod Outcome
 pub mod Told
 pub mod OneAnswer
+pub mod Headline

@@ -10,6 +10,12 @@ missing n = Err (Line n Missing)
 abbrev pub extra : {A : Type 0} → ℕ → Result A Refusal
 extra n = Err (Line n Extra)
 
+-- just one line
+abbrev pub just_one : List (List ℕ) → Result (List ℕ) Refusal
+just_one [] = missing 1
+just_one (line ∷ []) = Ok line
+just_one (line ∷ second ∷ more) = extra 2
+
 -- at least two lines
 abbrev pub two_and_more : List (List ℕ) → Result (List ℕ × List ℕ × List (List ℕ)) Refusal
 two_and_more [] = missing 1

@@ -24,12 +24,13 @@ net_in (Some d) = formatted (net_at [] d)
 abbrev pub sized : List ℕ → Result (List ℕ) Refusal
 sized counts = if nat_le 2 (sum counts) && nat_le (sum counts) 65536 then Ok counts else Err (Size (sum counts))
 
+-- the counts of a crowd line, for a crowd that is run
+unfoldable pub fitting_in : NetModel → List ℕ → Result (List ℕ) Refusal
+fitting_in net line = counted (counts_of net.variables line) >>= sized
+
 -- the input crowd of a crowd line
-unfoldable pub crowd_in : NetModel → List ℕ → Result CrowdModel Refusal
-crowd_in net line = do
-  counts ← counted (counts_of net.variables line)
-  fitting ← sized counts
-  Ok (input_crowd net fitting)
+abbrev pub crowd_in : NetModel → List ℕ → Result CrowdModel Refusal
+crowd_in net line = fitting_in net line >>= λ counts. Ok (input_crowd net counts)
 
 -- the net, and the crowd in which it starts
 unfoldable pub start_in : Option Data → List ℕ → Result (NetModel × CrowdModel) Refusal

@@ -3,6 +3,8 @@
 //! The layer above uses: what the sink gains and the status are what `specs/Answer.antt` gives.
 #![tactic(auto)]
 
+mod bundle;
+mod check;
 mod command;
 mod eval;
 mod json;
@@ -11,6 +13,7 @@ mod lines;
 mod output;
 mod play;
 mod refusal;
+mod rejection;
 mod reply;
 mod run;
 mod start;

@@ -3,13 +3,13 @@
 ghost use Rattle.std.specs.Prelude.{◌≡◌, ◌≤◌, length, IfOk};
 ghost use Rattle.pop_lines.specs.Lines.{lines_of};
 ghost use Rattle.pop_tool.specs.Steps.{Gives};
-ghost use Rattle.pop_tool.specs.Lines.{two_and_more, just_two, just_three};
+ghost use Rattle.pop_tool.specs.Lines.{two_and_more, just_one, just_two, just_three};
 ghost use Rattle.pop_tool.specs.Refused.{line_refusal};
 ghost use Rattle.pop_tool.specs.declared.stop.Stop.TheVariants.{Refused};
 
 use crate::refusal::{LineWhy, Refusal};
 use crate::stop::Stop;
-use pop_lines::{LineFault, three_lines, two_lines, two_lines_and_more};
+use pop_lines::{LineFault, one_line, three_lines, two_lines, two_lines_and_more};
 
 fn refused(fault: LineFault) -> Stop
     ensures { result ≡ Refused (line_refusal fault) }
@@ -17,6 +17,16 @@ fn refused(fault: LineFault) -> Stop
     match fault {
         LineFault::Missing(number) => Stop::Refused(Refusal::Line(number, LineWhy::Missing)),
         LineFault::Extra(number) => Stop::Refused(Refusal::Line(number, LineWhy::Extra)),
+    }
+}
+
+/// The line of an input that has no more.
+pub(crate) fn just_one_line(input: &[u8]) -> Result<&[u8], Stop>
+    ensures { Gives (λ line. line.now) result (just_one (lines_of input.now)) }
+{
+    match one_line(input) {
+        Ok(line) => Ok(line),
+        Err(fault) => Err(refused(fault)),
     }
 }
 

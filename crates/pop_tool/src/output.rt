@@ -4,6 +4,8 @@
 #[derive(Clone, Copy, Debug, PartialEq, Eq)]
 pub enum Ending {
     Done,
+    /// A proof is not valid.
+    Rejected,
     /// The turns of a run are spent, and its crowd is not terminal.
     Undecided,
 }

@@ -10,6 +10,7 @@ ghost use Rattle.pop_tool.specs.Outcome.{IsReply};
 ghost use Rattle.pop_io.specs.Causes.{Rose};
 ghost use Rattle.pop_words.specs.Words.{meaning_of, HasLimits};
 
+use crate::check::check;
 use crate::eval::eval;
 use crate::output::Output;
 use crate::play::play;
@@ -47,6 +48,7 @@ fn given<G: Gate>(alloc: Global, command: Command, input: &[u8], gate: &G) -> Re
     match command {
         Command::Play => play(alloc, input),
         Command::Eval => eval(alloc, input),
+        Command::Check => check(alloc, input),
         Command::Run(spec) => run(alloc, &spec, input, gate),
     }
 }

@@ -1,16 +1,18 @@
-//! The net of a net line, and the crowd in which it starts.
+//! The net of a net line, and the crowd in which a net starts.
 
-ghost use Rattle.std.specs.Prelude.{◌≡◌, option_map, IfOk};
+ghost use Rattle.std.specs.Prelude.{◌≡◌, length, option_map, IfOk};
 ghost use Rattle.serde_json.specs.View.{view};
+ghost use Rattle.pop_net.specs.InputCrowd.{IsInput, input_crowd};
 ghost use Rattle.pop_net.specs.Lanes.{crowd_of, AreValid};
 ghost use Rattle.pop_tool.specs.Steps.{Gives};
-ghost use Rattle.pop_tool.specs.Start.{net_in, crowd_in, start_in};
+ghost use Rattle.pop_tool.specs.Start.{net_in, fitting_in, start_in};
 
 use crate::eval::counts_in;
 use crate::refusal::Refusal;
 use crate::stop::Stop;
 use net_json::{FormatFault, read_net};
 use pop_crowd::{Crowd, CrowdFault};
+use pop_io::List;
 use pop_net::Net;
 use serde_json::Value;
 use std::alloc::Global;
@@ -29,15 +31,24 @@ fn net_of(alloc: Global, value: &Option<Value>) -> Result<Net, Stop>
     }
 }
 
-/// The crowd in which a net starts at the counts of a crowd line.
-#[tactic(auto, unfolding(crate::specs::Start::crowd_in))]
-fn start_of(alloc: Global, net: &Net, line: &[u8]) -> Result<Crowd, Stop>
-    ensures crowd { Gives (λ crowd. crowd_of net.now crowd) result (crowd_in net.now line.now) }
-    ensures valid { IfOk result (AreValid net.now) }
+/// How a net starts: the counts of a crowd line, and the crowd that has them.
+#[derive(Drop)]
+pub(crate) struct Start {
+    pub counts: List<u64>,
+    pub crowd: Crowd,
+}
+
+/// How a net starts at a crowd line.
+#[tactic(auto, unfolding(crate::specs::Start::fitting_in))]
+pub(crate) fn start_of(alloc: Global, net: &Net, line: &[u8]) -> Result<Start, Stop>
+    ensures counts { Gives (λ start. start.counts) result (fitting_in net.now line.now) }
+    ensures crowd { IfOk result (λ start. crowd_of net.now start.crowd ≡ input_crowd net.now start.counts) }
+    ensures input { IfOk result (λ start. IsInput (length net.now.variables) start.counts) }
+    ensures valid { IfOk result (λ start. AreValid net.now start.crowd) }
 {
     let counts = counts_in(alloc, line, net.var_names())?;
     match Crowd::of_counts(alloc, net, counts.as_slice()) {
-        Ok(crowd) => Ok(crowd),
+        Ok(crowd) => Ok(Start { counts, crowd }),
         Err(CrowdFault::Size(agents)) => Err(Stop::Refused(Refusal::Size(agents))),
         Err(CrowdFault::NoMemory) => Err(Stop::NoMemory),
     }
@@ -56,5 +67,5 @@ pub(crate) fn net_and_start(
 {
     let net = net_of(alloc, value)?;
     let start = start_of(alloc, &net, crowd)?;
-    Ok((net, start))
+    Ok((net, start.crowd))
 }

@@ -46,6 +46,7 @@ impl From<Ending> for Status {
     fn from(ending: Ending) -> Status {
         match ending {
             Ending::Done => Status::Done,
+            Ending::Rejected => Status::Rejected,
             Ending::Undecided => Status::Undecided,
         }
     }

@@ -8,6 +8,7 @@ use std::fmt;
 pub enum Command {
     Play,
     Eval,
+    Check,
     Run(RunSpec),
 }
 

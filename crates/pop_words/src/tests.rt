@@ -16,6 +16,7 @@ fn is_bad(words: &[&str], word: u32, why: UsageWhy) -> bool
 fn words_of_commands(rt: HostRuntime) {
     assert_eq!(rt; read_words(&["play"]), Ok(Command::Play));
     assert_eq!(rt; read_words(&["eval"]), Ok(Command::Eval));
+    assert_eq!(rt; read_words(&["check"]), Ok(Command::Check));
     assert!(rt; is_bad(&[], 0, UsageWhy::Missing));
     assert!(rt; is_bad(&["Play"], 0, UsageWhy::Unknown));
     assert!(rt; is_bad(&["play "], 0, UsageWhy::Unknown));

@@ -38,6 +38,7 @@ fn form_of(word: &str) -> Option<Form>
     match word {
         "play" => Some(Form::Alone(Command::Play)),
         "eval" => Some(Form::Alone(Command::Eval)),
+        "check" => Some(Form::Alone(Command::Check)),
         "run" => Some(Form::WithOptions),
         _ => None,
     }

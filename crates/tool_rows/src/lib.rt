@@ -4,6 +4,8 @@
 #![tactic(auto)]
 
 #[cfg(test)]
+mod check_rows;
+#[cfg(test)]
 mod eval_rows;
 #[cfg(test)]
 mod play_rows;

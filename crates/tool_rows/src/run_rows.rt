@@ -1,6 +1,6 @@
 //! Rows of `run`.
 
-use crate::play_rows::MAJORITY;
+use crate::check_rows::{MAJORITY, Parts, line_of};
 use crate::rows::{Row, holds, is_given_both_ways};
 use pop_tool::Status;
 use std::test::Fail;
@@ -12,7 +12,7 @@ const RUNS: [Run; 7] = [
     (
         "run --turns 2",
         "crowd x=1 y=1",
-        "run workers 1 shards 16 turns 2 seed 0\nround 1\n0 1 0 *\n0 1 0 *\nend\nb 2\nterminal\n",
+        "run workers 1 shards 16 turns 2 seed 0\nround 1\n0 1 0 *\n0 1 0 *\nend\nb 2\nverdict false\n",
         Status::Done,
     ),
     (
@@ -30,13 +30,13 @@ const RUNS: [Run; 7] = [
     (
         "run --turns 0",
         "crowd x=2",
-        "run workers 1 shards 16 turns 0 seed 0\nend\nA 2\nterminal\n",
+        "run workers 1 shards 16 turns 0 seed 0\nend\nA 2\nverdict true\n",
         Status::Done,
     ),
     (
         "run",
         "crowd y=65536",
-        "run workers 1 shards 16 turns 10000 seed 0\nend\nB 65536\nterminal\n",
+        "run workers 1 shards 16 turns 10000 seed 0\nend\nB 65536\nverdict false\n",
         Status::Done,
     ),
     (
@@ -99,7 +99,7 @@ const REFUSED: [Row; 13] = [
     (
         "run",
         "{}\ncrowd\n",
-        "fault: format /format kind\n",
+        "fault: format /net kind\n",
         Status::Refused,
     ),
 ];
@@ -108,7 +108,8 @@ const REFUSED: [Row; 13] = [
 fn runs_are_told(rt: HostRuntime) -> Result<(), Fail> {
     let alloc = rt.alloc();
     for (words, crowd, journal, status) in RUNS {
-        let input = format!(in alloc; "{MAJORITY}\n{crowd}\n")?;
+        let bundle = line_of(alloc, &MAJORITY)?;
+        let input = format!(in alloc; "{bundle}\n{crowd}\n")?;
         let text = format!(in alloc; "{input}{journal}")?;
         assert!(rt;
             is_given_both_ways(alloc, words, input.as_str(), text.as_str(), status)?,
@@ -136,9 +137,33 @@ fn crowds_of_runs_are_refused(rt: HostRuntime) -> Result<(), Fail> {
         ("crowd x=1 x=2", "fault: count 2\n"),
         ("crowd z=3", "fault: count 1\n"),
     ] {
-        let input = format!(in alloc; "{MAJORITY}\n{crowd}\n")?;
+        let bundle = line_of(alloc, &MAJORITY)?;
+        let input = format!(in alloc; "{bundle}\n{crowd}\n")?;
         assert!(rt;
             is_given_both_ways(alloc, "run", input.as_str(), text, Status::Refused)?,
+            "{crowd}"
+        );
+    }
+    Ok(())
+}
+
+/// A bundle whose predicate is another one.
+const WRONG: Parts = Parts {
+    own: "y - x < 1",
+    ..MAJORITY
+};
+
+#[test]
+fn wrong_proofs_are_not_run(rt: HostRuntime) -> Result<(), Fail> {
+    let alloc = rt.alloc();
+    for (crowd, text, status) in [
+        ("crowd x=2", "rejected predicate\n", Status::Rejected),
+        ("crowd x=1", "fault: size 1\n", Status::Refused),
+    ] {
+        let bundle = line_of(alloc, &WRONG)?;
+        let input = format!(in alloc; "{bundle}\n{crowd}\n")?;
+        assert!(rt;
+            is_given_both_ways(alloc, "run", input.as_str(), text, status)?,
             "{crowd}"
         );
     }

@@ -1,6 +1,16 @@
-use Rattle.pop_tool.proofs.Played.{started}
+use Rattle.std.proofs.Common.{arith}
+use Rattle.pop_tool.proofs.Played.{agents_counted, fits}
 use Rattle.pop_tool.proofs.start.start_of.Goals as goal
 
-pub returns-in-Ok-clause-crowd : goal.returns-in-Ok-clause-crowd
-returns-in-Ok-clause-crowd c =
-    started c.args.net.now c.args.line.now _ c.in-Ok.crowd (rw c.var_names.ensures.names at c.in_ok-counts.ensures.counts) (rw c.as_slice.ensures at c.in-Ok.ensures.start) c.in-Ok.ensures.size.0 c.in-Ok.ensures.size.1
+pub returns-in-Ok-clause-counts : goal.returns-in-Ok-clause-counts
+returns-in-Ok-clause-counts c =
+    let n = agents_counted c.args.net.now c.in_ok-counts.counts c.in-Ok.crowd (rw c.as_slice.ensures at c.in-Ok.ensures.start) in
+    fits c.args.net.now c.args.line.now c.in_ok-counts.counts (rw c.var_names.ensures.names at c.in_ok-counts.ensures.counts) (omega (arith, n, c.in-Ok.ensures.size.0)) (omega (arith, n, c.in-Ok.ensures.size.1))
+
+pub returns-in-Ok-clause-input : goal.returns-in-Ok-clause-input
+returns-in-Ok-clause-input c =
+    let n = agents_counted c.args.net.now c.in_ok-counts.counts c.in-Ok.crowd (rw c.as_slice.ensures at c.in-Ok.ensures.start) in
+    record {
+      one_each = rw c.var_names.ensures.names at c.in_ok-counts.ensures.len;
+      two_agents = omega (arith, n, c.in-Ok.ensures.size.0);
+    }
