@@ -1,5 +1,5 @@
 -- A run by one worker is the only one: its meetings are picks, and its rounds have so many meetings as their turns say.
-use Rattle.std.proofs.Common.{◌≡◌, ◌⊎◌, inl, inr, ℕ, zero, suc, ◌+◌, ◌-◌, ◌*◌, ◌<◌, ◌≤◌, min, Bool, List, [], ◌∷◌, ◌++◌, length, take, refl, ap, sym, subst, ◌∙◌, arith}
+use Rattle.std.proofs.Common.{◌≡◌, ◌⊎◌, inl, inr, ℕ, suc, ◌+◌, ◌*◌, ◌<◌, ◌≤◌, List, [], ◌∷◌, ◌++◌, length, take, refl, ap, sym, subst, ◌∙◌, arith}
 use Rattle.std.specs.Prelude.{All, Some, slice_get}
 use Rattle.std.proofs.lemmas.Bool.{cases_lt}
 use Rattle.std.proofs.lemmas.List.{length-append, take_all}
@@ -13,8 +13,8 @@ use Rattle.pop_net.specs.Reaction.{after_meeting}
 use Rattle.pop_crowd.specs.declared.crowd.Meeting.{Meeting}
 use Rattle.pop_crowd.specs.Replay.{replay, changes, AreMarked, AreMeetings}
 use Rattle.pop_words.specs.declared.spec.RunSpec.{RunSpec}
-use Rattle.pair_workers.specs.Picks.{pick_of, picks_from, picks, words_from, first_state}
-use Rattle.pair_workers.specs.Run.{IsRun, IsRound, joined, pairs, meetings_of, turns_in}
+use Rattle.pair_workers.specs.Picks.{pick_of, picks_from, words_from, first_state}
+use Rattle.pair_workers.specs.Run.{IsRun, IsRound, joined, pairs, turns_in}
 use Rattle.pair_workers.specs.OneRun.{IsOnlyRun}
 use Rattle.pair_workers.proofs.Rounds.{all_mine}
 use Rattle.pair_workers.proofs.Meets.{picked_meet}

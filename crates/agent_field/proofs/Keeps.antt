@@ -1,0 +1,217 @@
+-- The steps that leave the history as it is keep the field's rule: a lock, an unlock, a read, a write and a look.
+use Rattle.std.proofs.Common.{◌≡◌, ◌≢◌, ℕ, ◌+◌, ◌<◌, true, false, List, [], ◌∷◌, length, get_or, set, refl, sym, ap, ◌∙◌, subst, inl, inr, ⊎_elim, arith, length-set, get_or-set_same, get_or-set_other}
+use Rattle.std.proofs.lemmas.Bool.{cases_eq}
+use mathlib.Core.Option.{Option, some, some-injective}
+use lib.ListN.{get_elem?}
+use Rattle.atomic_table.proofs.Lists.{set_here}
+use Rattle.pop_net.specs.declared.net.Word.{Word}
+use Rattle.pop_net.specs.Lanes.{tuple_of, IsValid}
+use Rattle.pop_crowd.specs.declared.crowd.Meeting.{Meeting}
+use Rattle.agent_field.specs.declared.view.About.{About}
+use Rattle.agent_field.specs.declared.view.View.{View}
+use Rattle.agent_field.specs.Standing.{agents_of, lock_at, agent_at, shard_of, packed, agent_word, tuple_after, In, spent, Agrees, IsOwedByNone, IsHeldBySome, StandsAt}
+use Rattle.agent_field.specs.Steps.{holding, rest_of, releasing, knowing, writing}
+use Rattle.agent_field.proofs.Views.{at_length, set_each, agrees_word, one_holder, lock_is_no_agent, owed_back, held_after, sits_set, not_dead}
+
+module _ (k : About) (words : List ℕ) (views : List View) (history : List Meeting) (seat : ℕ → Option ℕ) (st : StandsAt k words views history seat) (id : ℕ) (v : View) (at : get_elem? views id ≡ some v) (live : v.live ≡ true) where
+  mine : Agrees k words history seat id v
+  mine = st.each id v at live
+
+  pub locks_keep : (s : ℕ) → s < k.shards → get_or words (lock_at s) 0 ≡ 0 → v.due ≡ [] → StandsAt k (set words (lock_at s) (v.number + 1)) (set views id (holding s v)) history seat
+  locks_keep s inside free none_due =
+      let n = v.number + 1 in
+      let w = holding s v in
+      let f = mine in
+      let fits : lock_at s < length words = let l = st.wide in omega arith in
+      let words' = set words (lock_at s) n in
+      let no_agent : (a : ℕ) → get_or words' (agent_at k a) 0 ≡ get_or words (agent_at k a) 0 = λ a. get_or-set_other words (lock_at s) (agent_at k a) n 0 (λ e. lock_is_no_agent k s a inside (sym e)) in
+      let new : Agrees k words' history seat id w = record {
+        about = f.about;
+        seated = f.seated;
+        numbered = f.numbered;
+        first = f.first;
+        logs = f.logs;
+        locks = λ t h. ⊎_elim
+            (λ (same : t ≡ s). (subst (λ (z : ℕ). z < k.shards) (sym same) inside, ap (λ (z : ℕ). get_or words' (lock_at z) 0) same ∙ get_or-set_same words (lock_at s) n 0 fits))
+            (λ (i : In t v.held). ((f.locks t i).0, get_or-set_other words (lock_at s) (lock_at t) n 0 (λ e. let p = (f.locks t i).1 in let q : get_or words (lock_at t) 0 ≡ get_or words (lock_at s) 0 = ap (λ (z : ℕ). get_or words z 0) e in omega arith) ∙ (f.locks t i).1))
+            h;
+        knows = λ a x h. let was = f.knows a x h in (was.0, inr was.1, ap packed (no_agent a) ∙ was.2, was.3);
+        owes = λ a x h. let was = f.owes a x h in (was.0, inr was.1, was.2, was.3);
+        tight = λ c x h. absurd (subst (In (c, x)) none_due h);
+        looked = f.looked;
+      } in record {
+        wide = length-set words (lock_at s) n ∙ st.wide;
+        some_shard = st.some_shard;
+        few_seats = st.few_seats;
+        founded = get_or-set_other words (lock_at s) 1 n 0 (λ e. absurd (omega arith)) ∙ st.founded;
+        clock = get_or-set_other words (lock_at s) 0 n 0 (λ e. absurd (omega arith)) ∙ st.clock;
+        right = st.right;
+        short = st.short;
+        grounded = st.grounded;
+        sits = sits_set seat views id v w at live refl st.sits;
+        locked = λ t within. ⊎_elim
+            (λ (same : t ≡ s). inr (id, w, set_here views id w (at_length views id v at), live, inl same))
+            (λ (apart : t ≢ s). ⊎_elim
+            (λ (zero_word : get_or words (lock_at t) 0 ≡ 0). inl (get_or-set_other words (lock_at s) (lock_at t) n 0 (λ e. apart (omega arith)) ∙ zero_word))
+            (λ (by : IsHeldBySome views t). inr (held_after views id v w t at (λ h. (live, inr h)) by))
+            (st.locked t within))
+            (cases_eq t s);
+        settled = λ a in_range free_now. ap (λ (z : ℕ). tuple_of k.net.value (packed z)) (no_agent a) ∙ st.settled a in_range (owed_back views id v w a at live (λ x h. (x, h)) free_now);
+        valid = λ a in_range. subst (λ (z : ℕ). IsValid k.net.value (packed z)) (sym (no_agent a)) (st.valid a in_range);
+        each = set_each views id w (λ j u. u.live ≡ true → Agrees k words' history seat j u) (λ _. new)
+            (λ j u apart e alive. agrees_word k words history seat j u (lock_at s) n (st.each j u e alive)
+            (λ t h same. let p = ((st.each j u e alive).locks t h).1 in let q : get_or words (lock_at t) 0 ≡ get_or words (lock_at s) 0 = ap (λ (z : ℕ). get_or words z 0) same in omega arith)
+            (λ a x h same. lock_is_no_agent k s a inside (sym same)));
+        others = set_each views id w (λ j u. u.live ≡ false → u ≡ spent) (not_dead v live (w ≡ spent)) (λ j u apart e. st.others j u e);
+      }
+
+  -- the last lock that was taken, where nothing is due
+  pub releases_keep : (s : ℕ) (held : List ℕ) → v.held ≡ s ∷ held → (In s held → ⊥) → v.due ≡ [] → StandsAt k (set words (lock_at s) 0) (set views id (releasing v)) history seat
+  releases_keep s held is once none_due =
+      let w = releasing v in
+      let f = mine in
+      let inside : s < k.shards = (f.locks s (subst (In s) (sym is) (inl refl))).0 in
+      let words' = set words (lock_at s) 0 in
+      let left : (t : ℕ) → In t (rest_of v.held) → In t held = λ t h. subst (In t) (ap rest_of is) h in
+      let no_agent : (a : ℕ) → get_or words' (agent_at k a) 0 ≡ get_or words (agent_at k a) 0 = λ a. get_or-set_other words (lock_at s) (agent_at k a) 0 0 (λ e. lock_is_no_agent k s a inside (sym e)) in
+      let new : Agrees k words' history seat id w = record {
+        about = f.about;
+        seated = f.seated;
+        numbered = f.numbered;
+        first = f.first;
+        logs = f.logs;
+        locks = λ t h. let was = f.locks t (subst (In t) (sym is) (inr (left t h))) in
+            (was.0, get_or-set_other words (lock_at s) (lock_at t) 0 0 (λ e. once (subst (λ (z : ℕ). In z held) (let same : t ≡ s = omega arith in same) (left t h))) ∙ was.1);
+        knows = λ a x h. absurd h;
+        owes = λ a x h. absurd (subst (In (a, x)) none_due h);
+        tight = λ c x h. absurd (subst (In (c, x)) none_due h);
+        looked = f.looked;
+      } in record {
+        wide = length-set words (lock_at s) 0 ∙ st.wide;
+        some_shard = st.some_shard;
+        few_seats = st.few_seats;
+        founded = get_or-set_other words (lock_at s) 1 0 0 (λ e. absurd (omega arith)) ∙ st.founded;
+        clock = get_or-set_other words (lock_at s) 0 0 0 (λ e. absurd (omega arith)) ∙ st.clock;
+        right = st.right;
+        short = st.short;
+        grounded = st.grounded;
+        sits = sits_set seat views id v w at live refl st.sits;
+        locked = λ t within. ⊎_elim
+            (λ (same : t ≡ s). inl (ap (λ (z : ℕ). get_or words' (lock_at z) 0) same ∙ get_or-set_same words (lock_at s) 0 0 (let l = st.wide in omega arith)))
+            (λ (apart : t ≢ s). ⊎_elim
+            (λ (zero_word : get_or words (lock_at t) 0 ≡ 0). inl (get_or-set_other words (lock_at s) (lock_at t) 0 0 (λ e. apart (omega arith)) ∙ zero_word))
+            (λ (by : IsHeldBySome views t). inr (held_after views id v w t at (λ h. (live, subst (In t) (sym (ap rest_of is)) (⊎_elim (λ (e : t ≡ s). absurd (apart e)) (λ (i : In t held). i) (subst (In t) is h)))) by))
+            (st.locked t within))
+            (cases_eq t s);
+        settled = λ a in_range free_now. ap (λ (z : ℕ). tuple_of k.net.value (packed z)) (no_agent a) ∙ st.settled a in_range (owed_back views id v w a at live (λ x h. (x, h)) free_now);
+        valid = λ a in_range. subst (λ (z : ℕ). IsValid k.net.value (packed z)) (sym (no_agent a)) (st.valid a in_range);
+        each = set_each views id w (λ j u. u.live ≡ true → Agrees k words' history seat j u) (λ _. new)
+            (λ j u apart e alive. let g = st.each j u e alive in agrees_word k words history seat j u (lock_at s) 0 g
+            (λ t h same. apart (one_holder k words history seat id j v u f g s (subst (In s) (sym is) (inl refl)) (subst (λ (z : ℕ). In z u.held) (let q : t ≡ s = omega arith in q) h)))
+            (λ a x h same. lock_is_no_agent k s a inside (sym same)));
+        others = set_each views id w (λ j u. u.live ≡ false → u ≡ spent) (not_dead v live (w ≡ spent)) (λ j u apart e. st.others j u e);
+      }
+
+  -- a step that changes this view alone, and neither its locks nor what it owes
+  pub views_keep : (w : View) → w.live ≡ true → w.number ≡ v.number → w.held ≡ v.held → w.due ≡ v.due → Agrees k words history seat id w → StandsAt k words (set views id w) history seat
+  views_keep w alive number held due new = record {
+    wide = st.wide;
+    some_shard = st.some_shard;
+    few_seats = st.few_seats;
+    founded = st.founded;
+    clock = st.clock;
+    right = st.right;
+    short = st.short;
+    grounded = st.grounded;
+    sits = sits_set seat views id v w at alive number st.sits;
+    locked = λ t within. ⊎_elim
+        (λ (zero_word : get_or words (lock_at t) 0 ≡ 0). inl zero_word)
+        (λ (by : IsHeldBySome views t). inr (held_after views id v w t at (λ h. (alive, subst (In t) (sym held) h)) by))
+        (st.locked t within);
+    settled = λ b inside free_now. st.settled b inside (owed_back views id v w b at alive (λ y h. (y, subst (In (b, y)) (sym due) h)) free_now);
+    valid = st.valid;
+    each = set_each views id w (λ j u. u.live ≡ true → Agrees k words history seat j u) (λ _. new) (λ j u apart e alive. st.each j u e alive);
+    others = set_each views id w (λ j u. u.live ≡ false → u ≡ spent) (not_dead w alive (w ≡ spent)) (λ j u apart e. st.others j u e);
+  }
+
+  pub reads_keep : (a : ℕ) → a < agents_of k → In (shard_of k a) v.held → ((y : Word) → In (a, y) v.due → ⊥) → StandsAt k words (set views id (knowing a (agent_word k words a) v)) history seat
+  reads_keep a in_range held not_due =
+      let f = mine in
+      views_keep (knowing a (agent_word k words a) v) live refl refl refl
+      (record {
+        about = f.about;
+        seated = f.seated;
+        numbered = f.numbered;
+        first = f.first;
+        logs = f.logs;
+        locks = f.locks;
+        knows = λ b y h. ⊎_elim
+            (λ (same : (b, y) ≡ (a, agent_word k words a)).
+            subst (λ (p : ℕ × Word). (p.0 < agents_of k) × In (shard_of k p.0) v.held × (agent_word k words p.0 ≡ p.1) × ((z : Word) → In (p.0, z) v.due → ⊥)) (sym same) (in_range, held, refl, not_due))
+            (λ (i : In (b, y) v.known). f.knows b y i)
+            h;
+        owes = f.owes;
+        tight = f.tight;
+        looked = f.looked;
+      })
+
+  pub writes_keep : (a : ℕ) (y : Word) (due : List (ℕ × Word)) → v.due ≡ (a, y) ∷ due → ((x : Word) → In (a, x) due → ⊥) → StandsAt k (set words (agent_at k a) y.0) (set views id (writing v)) history seat
+  writes_keep a y due is once =
+      let w = writing v in
+      let f = mine in
+      let here : In (a, y) v.due = subst (In (a, y)) (sym is) (inl refl) in
+      let owed = f.owes a y here in
+      let fits : agent_at k a < length words = let l = st.wide in let o = owed.0 in omega arith in
+      let words' = set words (agent_at k a) y.0 in
+      let left : (p : ℕ × Word) → In p (rest_of v.due) → In p v.due = λ p h. subst (In p) (sym is) (inr (subst (In p) (ap rest_of is) h)) in
+      let written : (b : ℕ) → b ≡ a → agent_word k words' b ≡ y = λ b same. ap (λ (z : ℕ). agent_word k words' z) same ∙ ap packed (get_or-set_same words (agent_at k a) y.0 0 fits) in
+      let other : (b : ℕ) → b ≢ a → agent_word k words' b ≡ agent_word k words b = λ b apart. ap packed (get_or-set_other words (agent_at k a) (agent_at k b) y.0 0 (λ e. let q : b ≡ a = omega arith in apart q)) in
+      let new : Agrees k words' history seat id w = record {
+        about = f.about;
+        seated = f.seated;
+        numbered = f.numbered;
+        first = f.first;
+        logs = f.logs;
+        locks = λ s h. ((f.locks s h).0, get_or-set_other words (agent_at k a) (lock_at s) y.0 0 (lock_is_no_agent k s a (f.locks s h).0) ∙ (f.locks s h).1);
+        knows = λ b x h. let was = f.knows b x h in
+            (was.0, was.1, other b (λ same. was.3 y (subst (λ (z : ℕ). In (z, y) v.due) (sym same) here)) ∙ was.2, λ z i. was.3 z (left (b, z) i));
+        owes = λ b x h. f.owes b x (left (b, x) h);
+        tight = λ b x h. f.tight b x (left (b, x) h);
+        looked = f.looked;
+      } in record {
+        wide = length-set words (agent_at k a) y.0 ∙ st.wide;
+        some_shard = st.some_shard;
+        few_seats = st.few_seats;
+        founded = get_or-set_other words (agent_at k a) 1 y.0 0 (λ e. absurd (omega arith)) ∙ st.founded;
+        clock = get_or-set_other words (agent_at k a) 0 y.0 0 (λ e. absurd (omega arith)) ∙ st.clock;
+        right = st.right;
+        short = st.short;
+        grounded = st.grounded;
+        sits = sits_set seat views id v w at live refl st.sits;
+        locked = λ t within. ⊎_elim
+            (λ (zero_word : get_or words (lock_at t) 0 ≡ 0). inl (get_or-set_other words (agent_at k a) (lock_at t) y.0 0 (lock_is_no_agent k t a within) ∙ zero_word))
+            (λ (by : IsHeldBySome views t). inr (held_after views id v w t at (λ h. (live, h)) by))
+            (st.locked t within);
+        settled = λ b inside free_now. ⊎_elim
+            (λ (same : b ≡ a). ap (tuple_of k.net.value) (written b same) ∙ owed.2 ∙ ap (tuple_after k history) (sym same))
+            (λ (apart : b ≢ a). ap (tuple_of k.net.value) (other b apart)
+            ∙ st.settled b inside (owed_back views id v w b at live
+            (λ x h. (x, subst (In (b, x)) (sym (ap rest_of is)) (⊎_elim (λ (e : (b, x) ≡ (a, y)). absurd (apart (ap (λ (p : ℕ × Word). p.0) e))) (λ (i : In (b, x) due). i) (subst (In (b, x)) is h))))
+            free_now))
+            (cases_eq b a);
+        valid = λ b inside. ⊎_elim
+            (λ (same : b ≡ a). subst (IsValid k.net.value) (sym (written b same)) owed.3)
+            (λ (apart : b ≢ a). subst (IsValid k.net.value) (sym (other b apart)) (st.valid b inside))
+            (cases_eq b a);
+        each = set_each views id w (λ j u. u.live ≡ true → Agrees k words' history seat j u) (λ _. new)
+            (λ j u apart e alive. let g = st.each j u e alive in agrees_word k words history seat j u (agent_at k a) y.0 g
+            (λ t h same. lock_is_no_agent k t a (g.locks t h).0 same)
+            (λ b x h same. let q : b ≡ a = omega arith in apart (one_holder k words history seat id j v u f g (shard_of k a) owed.1 (subst (λ (z : ℕ). In (shard_of k z) u.held) q (g.knows b x h).1))));
+        others = set_each views id w (λ j u. u.live ≡ false → u ≡ spent) (not_dead v live (w ≡ spent)) (λ j u apart e. st.others j u e);
+      }
+
+  pub owed_by_none : (a : ℕ) → In (shard_of k a) v.held → v.due ≡ [] → IsOwedByNone views a
+  owed_by_none a held none_due j u x e alive h =
+      let same : j ≡ id = one_holder k words history seat id j v u mine (st.each j u e alive) (shard_of k a) held ((st.each j u e alive).owes a x h).1 in
+      let is : u ≡ v = some-injective u v (sym e ∙ ap (get_elem? views) same ∙ at) in
+      subst (In (a, x)) none_due (subst (λ (z : View). In (a, x) z.due) is h)

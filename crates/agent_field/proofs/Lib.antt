@@ -1,0 +1,13 @@
+pub mod Histories
+pub mod Views
+pub mod Keeps
+pub mod Draws
+pub mod Watching
+pub mod Seating
+pub mod Founding
+pub mod Moves
+pub mod EachMoment
+pub mod Drawn
+pub mod Arranged
+pub mod Closing
+pub mod Below

@@ -1,0 +1,181 @@
+-- Each step of a seat on the table is allowed, and what it tells.
+use Rattle.std.proofs.Common.{◌≡◌, ℕ, ◌+◌, ◌%◌, ◌^◌, ◌<◌, Bool, true, true≢false, eqb, List, [], ◌∷◌, ◌++◌, length, get_or, set, refl, sym, ap, ◌∙◌, subst, inr, ⊎_elim, arith, eq-eqb, ne_eqb}
+use Rattle.std.proofs.lemmas.List.{set-get_or}
+use mathlib.Core.Logic.{dite}
+use mathlib.Core.Option.{Option, none, some}
+use native.Mathlib.Decide.{ℕ_discrete}
+use lib.ListN.{get_elem?}
+use prog.Atomic.{either}
+use Rattle.atomic_table.specs.Table.{State, step, keeps, stepped, Allows, Splits, Joins}
+use Rattle.atomic_table.proofs.Lists.{set_again, set_else}
+use Rattle.pop_net.specs.declared.net.Word.{Word}
+use Rattle.pop_net.specs.Lanes.{tuple_of, IsValid}
+use Rattle.pop_crowd.specs.declared.crowd.Meeting.{Meeting}
+use Rattle.pop_crowd.specs.Replay.{reacts}
+use Rattle.agent_field.specs.declared.view.About.{About}
+use Rattle.agent_field.specs.declared.view.View.{View}
+use Rattle.agent_field.specs.History.{made}
+use Rattle.agent_field.specs.Standing.{agents_of, lock_at, agent_at, agent_word, shard_of, In, founder, spent, StandsAt, IsUnfounded, FieldStands}
+use Rattle.agent_field.specs.Steps.{Mine, first_seat, holding, releasing, knowing, IsReaction, MayDraw, HasSeenAll, meeting, writing, kept_back, newcomer, taking_in, looking, IsNewest, IsDrawnAt, IsSeenAt, Founds, Locks, Unlocks, Reads, Draws, Writes, Watches}
+use Rattle.agent_field.proofs.Keeps.{locks_keep, releases_keep, reads_keep, writes_keep}
+use Rattle.agent_field.proofs.Draws.{draws_keep, is_newest, is_drawn_at, history_fits}
+use Rattle.agent_field.proofs.Watching.{looks_keep, is_seen_at}
+use Rattle.agent_field.proofs.Seating.{splits_keep, joins_keep}
+use Rattle.agent_field.proofs.Founding.{founds_keep, founder_word}
+
+abbrev pub St : Type 0
+St = State (Unit {0}) View
+
+abbrev pub Standing : About → List ℕ → List View → Type 0
+Standing k words views = (history : List Meeting) × (seat : ℕ → Option ℕ) × StandsAt k words views history seat
+
+module _ (k : About) where
+  -- where a seat is live, the field is founded
+  pub founded : (s : St) → FieldStands k s → (id : ℕ) (v : View) → get_elem? s.views id ≡ some v → v.live ≡ true → Standing k s.words s.views
+  founded s h id v at live =
+      ⊎_elim
+      (λ (un : IsUnfounded k s.words s.views).
+      ⊎_elim
+      (λ (t : (id ≡ 0) × (v ≡ founder k)). absurd (true≢false (sym live ∙ ap (λ (u : View). u.live) t.1)))
+      (λ (e : v ≡ spent). absurd (true≢false (sym live ∙ ap (λ (u : View). u.live) e)))
+      (un.each id v at))
+      (λ (t : Standing k s.words s.views). t)
+      h
+
+  unmoved : (s : St) (i id : ℕ) (me : Mine) → FieldStands k s → get_elem? s.views id ≡ some me.0 → FieldStands k (stepped s i (get_or s.words i 0) id me.1 me.0 keeps)
+  unmoved s i id me h at =
+      subst (λ (t : List ℕ × List View). FieldStands k (record { words = t.0; homes = s.homes; views = t.1 })) (λ j. (sym (set-get_or s.words i 0) j, sym (set_again s.views id me.0 at) j)) h
+
+  pub locks : (slots id : ℕ) (me : Mine) (s n : ℕ) → me.0.live ≡ true → me.0.number + 1 ≡ n → s < k.shards → me.0.due ≡ []
+      → Allows (FieldStands k) slots id me (lock_at s) (λ r. either (eqb r 0) n r) (Locks (step slots (lock_at s) 0 n none) me)
+  locks slots id me s n live is inside none_due state h _ at _ =
+      let x : ℕ = get_or state.words (lock_at s) 0 in
+      let w = holding s me.0 in
+      dite (ℕ_discrete x 0)
+      (λ hit. let t = founded state h id me.0 at live in (
+        w,
+        keeps,
+        tt,
+        subst (λ (b : Bool). FieldStands k (stepped state (lock_at s) (either b n x) id me.1 w keeps)) (sym (eq-eqb x 0 hit))
+            (inr (t.0, t.1, subst (λ (m : ℕ). StandsAt k (set state.words (lock_at s) m) (set state.views id w) t.0 t.1) is (locks_keep k state.words state.views t.0 t.1 t.2 id me.0 at live s inside hit none_due))),
+        ((λ _. ap (λ (z : ℕ). (holding z me.0, me.1)) (omega arith)), λ not. absurd (not hit)),
+      ))
+      (λ miss. (
+        me.0,
+        keeps,
+        tt,
+        subst (λ (b : Bool). FieldStands k (stepped state (lock_at s) (either b n x) id me.1 me.0 keeps)) (sym (ne_eqb x 0 miss)) (unmoved state (lock_at s) id me h at),
+        ((λ hit. absurd (miss hit)), λ _. refl),
+      ))
+
+  pub unlocks : (slots id : ℕ) (me : Mine) (s : ℕ) (held : List ℕ) → me.0.live ≡ true → me.0.held ≡ s ∷ held → (In s held → ⊥) → me.0.due ≡ []
+      → Allows (FieldStands k) slots id me (lock_at s) (λ _. 0) (λ _. Unlocks (step slots (lock_at s) 0 0 none) me 0)
+  unlocks slots id me s held live is once none_due state h _ at _ =
+      let t = founded state h id me.0 at live in
+      (releasing me.0, keeps, tt, inr (t.0, t.1, releases_keep k state.words state.views t.0 t.1 t.2 id me.0 at live s held is once none_due), refl)
+
+  reads : (slots id : ℕ) (me : Mine) (a : ℕ) → me.0.live ≡ true → me.0.about ≡ k → a < agents_of k → In (shard_of k a) me.0.held → ((y : Word) → In (a, y) me.0.due → ⊥)
+      → Allows (FieldStands k) slots id me (agent_at k a) (λ r. r) (Reads (step slots (agent_at k a) 0 0 none) me)
+  reads slots id me a live about in_range held not_due state h _ at _ =
+      let t = founded state h id me.0 at live in
+      let x : Word = agent_word k state.words a in (
+        knowing a x me.0,
+        keeps,
+        tt,
+        inr (t.0, t.1, subst (λ (ws : List ℕ). StandsAt k ws (set state.views id (knowing a x me.0)) t.0 t.1) (sym (set-get_or state.words (agent_at k a) 0)) (reads_keep k state.words state.views t.0 t.1 t.2 id me.0 at live a in_range held not_due)),
+        (ap (λ (z : ℕ). (knowing z x me.0, me.1)) (let same : me.0.about.shards ≡ k.shards = ap (λ (z : About). z.shards) about in omega arith), subst (λ (z : About). IsValid z.net.value x) (sym about) (t.2.valid a in_range)),
+      )
+
+  pub draws : (slots id : ℕ) (me : Mine) (a b : ℕ) (x y x' y' : Word) → me.0.live ≡ true → me.0.about ≡ k → MayDraw k me.0 a b x y x' y'
+      → Allows (FieldStands k) slots id me 0 (λ r. (r + 1) % 2 ^ 64) (Draws (step slots 0 1 0 none) me)
+  draws slots id me a b x y x' y' live about may state h _ at _ =
+      let t = founded state h id me.0 at live in
+      let st = t.2 in
+      let n : ℕ = get_or state.words 0 0 in
+      let w = meeting (length t.0) a b x y x' y' me.0 in
+      let net = me.0.about.net.value in
+      let reacted = subst (λ (z : About). IsReaction z.net.value x y x' y') (sym about) may.reacted in
+      let later = t.0 ++ made me.0.number a b (reacts net (tuple_of net x) (tuple_of net y)) ∷ [] in
+      let next : length t.0 + 1 ≡ (n + 1) % 2 ^ 64 = let few = history_fits k state.words state.views t.0 t.1 st id me.0 at live in let is = st.clock in omega arith in (
+        w,
+        keeps,
+        tt,
+        inr (later, t.1, subst (λ (m : ℕ). StandsAt k (set state.words 0 m) (set state.views id w) later t.1) next (draws_keep k state.words state.views t.0 t.1 st id me.0 at live a b x y x' y' may.known reacted may.due may.apart may.room may.exactly)),
+        (
+          record {
+            a = a;
+            b = b;
+            x = x;
+            y = y;
+            x' = x';
+            y' = y';
+            known = may.known;
+            reacted = reacted;
+            met = ap (λ (m : ℕ). (meeting m a b x y x' y' me.0, me.1)) (sym st.clock);
+          },
+          subst (λ (m : ℕ). IsNewest m me.0) (sym st.clock) (is_newest k state.words state.views t.0 t.1 st id me.0 at live),
+          subst (λ (m : ℕ). IsDrawnAt m me.0) (sym st.clock) (is_drawn_at k state.words state.views t.0 t.1 st id me.0 at live may.due),
+        ),
+      )
+
+  pub watches : (slots id : ℕ) (me : Mine) → me.0.live ≡ true → HasSeenAll k me.0 → Allows (FieldStands k) slots id me 0 (λ r. r) (Watches (step slots 0 0 0 none) me)
+  watches slots id me live saw state h _ at _ =
+      let t = founded state h id me.0 at live in
+      let st = t.2 in
+      let w = looking (length t.0) me.0 in (
+        w,
+        keeps,
+        tt,
+        inr (t.0, t.1, subst (λ (ws : List ℕ). StandsAt k ws (set state.views id w) t.0 t.1) (sym (set-get_or state.words 0 0)) (looks_keep k state.words state.views t.0 t.1 st id me.0 at live saw.whole saw.all saw.due)),
+        (
+          ap (λ (m : ℕ). (looking m me.0, me.1)) (sym st.clock),
+          subst (λ (m : ℕ). IsNewest m me.0) (sym st.clock) (is_newest k state.words state.views t.0 t.1 st id me.0 at live),
+          subst (λ (m : ℕ). IsSeenAt m me.0) (sym st.clock) (is_seen_at k state.words state.views t.0 t.1 st id me.0 at live saw.whole saw.all saw.due),
+        ),
+      )
+
+  writes : (slots id : ℕ) (me : Mine) (a : ℕ) (y : Word) (due : List (ℕ × Word)) → me.0.live ≡ true → me.0.due ≡ (a, y) ∷ due → ((x : Word) → In (a, x) due → ⊥)
+      → Allows (FieldStands k) slots id me (agent_at k a) (λ _. y.0) (λ _. Writes (step slots (agent_at k a) y.0 0 none) me y.0)
+  writes slots id me a y due live is once state h _ at _ =
+      let t = founded state h id me.0 at live in
+      (writing me.0, keeps, tt, inr (t.0, t.1, writes_keep k state.words state.views t.0 t.1 t.2 id me.0 at live a y due is once), refl)
+
+  pub splits : (id : ℕ) (v : View) → v.live ≡ true → v.number ≡ 0 → v.next < k.seats → Splits (FieldStands k) id v (kept_back v) (newcomer v)
+  splits id v live zeroth room state h at =
+      let t = founded state h id v at live in
+      let t' = splits_keep k state.words state.views t.0 t.1 t.2 id v at live zeroth room in
+      inr (t.0, t'.0, t'.1)
+
+  pub joins : (id : ℕ) (v : View) (other : ℕ) (z : View) → v.live ≡ true → v.number ≡ 0 → z.live ≡ true → z.due ≡ [] → z.held ≡ [] → Joins (FieldStands k) id v other z (taking_in v z) spent
+  joins id v other z live zeroth alive none_due none_held state h at away there =
+      let t = founded state h id v at live in
+      let t' = joins_keep k state.words state.views t.0 t.1 t.2 id v at live zeroth other z away (sym (set_else state.views id other (taking_in v z) away) ∙ there) alive none_due none_held in
+      inr (t.0, t'.0, t'.1)
+
+  -- the founder's seat finds the founder word at 0
+  pub founds : (slots id : ℕ) (me : Mine) → me.0 ≡ founder k → Allows (FieldStands k) slots id me 1 (λ _. 1) (Founds (step slots 1 1 0 none) me)
+  founds slots id me is state h _ at _ =
+      ⊎_elim
+      (λ (un : IsUnfounded k state.words state.views).
+      let at' : get_elem? state.views id ≡ some (founder k) = at ∙ ap (λ (v : View). some v) is in
+      let t = founds_keep k state.words state.views un id at' in (
+        first_seat k,
+        keeps,
+        tt,
+        inr ([], t.0, t.1),
+        (founder_word k state.words state.views un, ap (λ (v : View). (first_seat v.about, me.1)) (sym is)),
+      ))
+      (λ (t : Standing k state.words state.views).
+      absurd (true≢false (ap (λ (v : View). v.founding) (sym is) ∙ ap (λ (v : View). v.founding) (t.2.others id me.0 at (ap (λ (v : View). v.live) is)))))
+      h
+
+  -- the same, where the word's place is written in another way
+  pub reads_at : (slots id : ℕ) (me : Mine) (a i : ℕ) → i ≡ agent_at k a → me.0.live ≡ true → me.0.about ≡ k → a < agents_of k → In (shard_of k a) me.0.held → ((y : Word) → In (a, y) me.0.due → ⊥)
+      → Allows (FieldStands k) slots id me i (λ r. r) (Reads (step slots i 0 0 none) me)
+  reads_at slots id me a i is live about in_range held not_due =
+      subst (λ (j : ℕ). Allows (FieldStands k) slots id me j (λ r. r) (Reads (step slots j 0 0 none) me)) (sym is) (reads slots id me a live about in_range held not_due)
+
+  pub writes_at : (slots id : ℕ) (me : Mine) (a : ℕ) (y : Word) (i : ℕ) (due : List (ℕ × Word)) → i ≡ agent_at k a → me.0.live ≡ true → me.0.due ≡ (a, y) ∷ due → ((x : Word) → In (a, x) due → ⊥)
+      → Allows (FieldStands k) slots id me i (λ _. y.0) (λ _. Writes (step slots i y.0 0 none) me y.0)
+  writes_at slots id me a y i due is live owed once =
+      subst (λ (j : ℕ). Allows (FieldStands k) slots id me j (λ _. y.0) (λ _. Writes (step slots j y.0 0 none) me y.0)) (sym is) (writes slots id me a y due live owed once)

@@ -1,0 +1,51 @@
+use Rattle.std.specs.Mem.Slots.{slots_items}
+use Rattle.std.proofs.Common.{ℕ, drop, map, ◌+◌, ◌∙◌, ap, sym, List, get_or, None}
+use Rattle.std.proofs.Math.ListN.{replicate}
+use Rattle.agent_field.specs.History.{placed, placed_logs}
+use Rattle.agent_field.specs.Standing.{packed}
+use Rattle.agent_field.proofs.Arranged.{nobody}
+use Rattle.agent_field.proofs.Closing.{IsRoundOf, the_end, rounds, at_value, tickets_below}
+use Rattle.agent_field.proofs.field.Field.close.Goals.{After-drop-seat-3}
+use Rattle.agent_field.proofs.field.Field.close.Goals as goal
+
+pub arrange-requires-clause-own : goal.arrange-requires-clause-own
+arrange-requires-clause-own c =
+    let e = the_end c.args.self c.args.seat _ _ c.close_with-closed.ensures.values.2 c.requires.whole in
+    let count = sym e.count ∙ at_value _ 0 _ c.word-count.ensures in
+    tickets_below 0 c.word-count.result e.history _ (c.as_slice.ensures.value ∙ e.logs.own_log) count
+
+pub arrange-requires-clause-taken : goal.arrange-requires-clause-taken
+arrange-requires-clause-taken c = λ w l is.
+    let e = the_end c.args.self c.args.seat _ _ c.close_with-closed.ensures.values.2 c.requires.whole in
+    let count = sym e.count ∙ at_value _ 0 _ c.word-count.ensures in
+    tickets_below w c.word-count.result e.history l (e.logs.taken_logs w l (ap (λ (ls : List _). get_or ls w None) (sym c.as_slice-2.ensures.value) ∙ is)) count
+
+-- what the words and the meetings are
+round_of : (c : After-drop-seat-3) → IsRoundOf c.args.self.table.shared.key c.args.seat.log.items c.args.seat.taken.items c.args.seat.looks.items c.from_vec.result c.from_vec-2.result
+round_of c =
+    let s = c.args.seat in
+    let e = the_end c.args.self s _ _ c.close_with-closed.ensures.values.2 c.requires.whole in
+    let put = c.from_vec-2.ensures ∙ c.in_ok-meetings.ensures ∙ (λ i. placed_logs (0, placed 0 (replicate c.word-count.result nobody) (c.as_slice.ensures.value i)) (c.as_slice-2.ensures.value i)) in
+    let read = c.from_vec.ensures ∙ c.agent_words-words.ensures ∙ ap (λ (n : ℕ). map packed (drop (2 + n) (slots_items c.close_with-closed.result.words))) (sym c.args.self.shards_are) in
+    rounds c.args.self.table.shared.key _ s.log.items s.taken.items s.looks.items c.word-count.result c.from_vec.result c.from_vec-2.result e c.word-count.ensures read put
+
+pub returns-clause-words : goal.returns-clause-words
+returns-clause-words c = (round_of c).replayed
+
+pub returns-clause-valid : goal.returns-clause-valid
+returns-clause-valid c = (round_of c).valid
+
+pub returns-clause-history : goal.returns-clause-history
+returns-clause-history c = (round_of c).right
+
+pub returns-clause-own : goal.returns-clause-own
+returns-clause-own c = (round_of c).own_log
+
+pub returns-clause-taken : goal.returns-clause-taken
+returns-clause-taken c = (round_of c).taken_logs
+
+pub returns-clause-others : goal.returns-clause-others
+returns-clause-others c = (round_of c).no_others
+
+pub returns-clause-looks : goal.returns-clause-looks
+returns-clause-looks c = (round_of c).looked

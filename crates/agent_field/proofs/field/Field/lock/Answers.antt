@@ -1,0 +1,16 @@
+use Rattle.std.proofs.Common.{ℕ, ◌+◌, ◌<◌, rules, sym, ap, ◌∙◌, subst}
+use Rattle.agent_field.specs.Steps.{Mine}
+use Rattle.agent_field.proofs.Moves.{locks}
+use Rattle.agent_field.proofs.field.Field.lock.Goals as goal
+
+pub compare_exchange-found-requires : goal.compare_exchange-found-requires
+compare_exchange-found-requires g c =
+    let same = c.loop.invariant.1 in (
+      search rules,
+      search rules,
+      locks c.args.self.now.table.shared.key _ _ c.loop.token.me c.args.s (c.args.number + 1)
+          (ap (λ (m : Mine). m.0.live) same ∙ c.requires.live)
+          (ap (λ (m : Mine). m.0.number + 1) same ∙ ap (λ (n : ℕ). n + 1) c.requires.number)
+          (subst (λ (n : ℕ). c.args.s < n) (sym c.args.self.now.shards_are) c.requires.shard)
+          (ap (λ (m : Mine). m.0.due) same ∙ c.requires.due),
+    )

@@ -1,0 +1,77 @@
+-- The kinds of atomic step of a seat, each with where it is allowed and what it changes; and runs of steps, by any seats in any order.
+use Rattle.std.specs.Prelude.{◌≡◌, ◌≢◌, ◌⊎◌, ℕ, ◌+◌, ◌<◌, ◌≤◌, ◌++◌, true, List, [], ◌∷◌, map, replicate, slice_index, slice_set}
+use mathlib.Core.Option.{Option, some}
+use lib.ListN.{get_elem?}
+use Rattle.pop_net.specs.declared.net.Word.{Word}
+use Rattle.pop_net.specs.Lanes.{tuple_of, AreValid}
+use Rattle.pop_net.specs.Step.{Step}
+use Rattle.pop_crowd.specs.declared.crowd.Meeting.{Meeting}
+use Rattle.pop_crowd.specs.Replay.{reacts}
+use Rattle.agent_field.specs.declared.view.About.{About}
+use Rattle.agent_field.specs.declared.view.View.{View}
+use Rattle.agent_field.specs.History.{made}
+use Rattle.agent_field.specs.Standing.{In, agents_of, lock_at, agent_at, agent_word, shard_of, crowd_after, founder, spent, IsUnfounded, StandsAt, Stands}
+use Rattle.agent_field.specs.Steps.{first_seat, holding, releasing, knowing, MayDraw, HasSeenAll, meeting, writing, kept_back, newcomer, taking_in, looking}
+
+-- the seat `id` is live and has this view
+pub record Sits (views : List View) (id : ℕ) (v : View) : Type 0 where
+  pub at : get_elem? views id ≡ some v
+  pub live : v.live ≡ true
+
+-- every kind of step but the draw
+pub data QuietStep (k : About) : List ℕ → List View → List ℕ → List View → Type 0 where
+  makes : (words : List ℕ) (views : List View) (id : ℕ) → get_elem? views id ≡ some (founder k) → QuietStep k words views (slice_set words 1 1) (slice_set views id (first_seat k))
+  locks : (words : List ℕ) (views : List View) (id : ℕ) (v : View) (s : ℕ) → Sits views id v → s < k.shards → v.due ≡ [] → slice_index words (lock_at s) ≡ 0
+      → QuietStep k words views (slice_set words (lock_at s) (v.number + 1)) (slice_set views id (holding s v))
+  finds_locked : (words : List ℕ) (views : List View) (id : ℕ) (v : View) (s : ℕ) → Sits views id v → s < k.shards → slice_index words (lock_at s) ≢ 0 → QuietStep k words views words views
+  reads : (words : List ℕ) (views : List View) (id : ℕ) (v : View) (a : ℕ) → Sits views id v → a < agents_of k → In (shard_of k a) v.held → ((y : Word) → In (a, y) v.due → ⊥)
+      → QuietStep k words views words (slice_set views id (knowing a (agent_word k words a) v))
+  writes : (words : List ℕ) (views : List View) (id : ℕ) (v : View) (a : ℕ) (y : Word) (due : List (ℕ × Word)) → Sits views id v → v.due ≡ (a, y) ∷ due → ((x : Word) → In (a, x) due → ⊥)
+      → QuietStep k words views (slice_set words (agent_at k a) y.0) (slice_set views id (writing v))
+  unlocks : (words : List ℕ) (views : List View) (id : ℕ) (v : View) (s : ℕ) (held : List ℕ) → Sits views id v → v.held ≡ s ∷ held → (In s held → ⊥) → v.due ≡ []
+      → QuietStep k words views (slice_set words (lock_at s) 0) (slice_set views id (releasing v))
+  splits : (words : List ℕ) (views : List View) (id : ℕ) (v : View) → Sits views id v → v.number ≡ 0 → v.next < k.seats
+      → QuietStep k words views words (slice_set views id (kept_back v) ++ newcomer v ∷ [])
+  joins : (words : List ℕ) (views : List View) (id other : ℕ) (v w : View) → Sits views id v → v.number ≡ 0 → other ≢ id → Sits views other w → w.due ≡ [] → w.held ≡ []
+      → QuietStep k words views words (slice_set (slice_set views id (taking_in v w)) other spent)
+  looks : (words : List ℕ) (views : List View) (id : ℕ) (v : View) → Sits views id v → HasSeenAll k v
+      → QuietStep k words views words (slice_set views id (looking (slice_index words 0) v))
+
+-- the draw, and the meeting that it makes
+pub data DrawStep (k : About) : List ℕ → List View → Meeting → List ℕ → List View → Type 0 where
+  draws : (words : List ℕ) (views : List View) (id : ℕ) (v : View) (a b : ℕ) (x y x' y' : Word) → Sits views id v → MayDraw k v a b x y x' y'
+      → DrawStep k words views (made v.number a b (reacts k.net.value (tuple_of k.net.value x) (tuple_of k.net.value y))) (slice_set words 0 (slice_index words 0 + 1)) (slice_set views id (meeting (slice_index words 0) a b x y x' y' v))
+
+-- any number of steps, with the meetings that they make
+pub data FieldRun (k : About) : List ℕ → List View → List Meeting → List ℕ → List View → Type 0 where
+  stays : (words : List ℕ) (views : List View) → FieldRun k words views [] words views
+  goes : (words : List ℕ) (views : List View) (words' : List ℕ) (views' : List View) (meetings : List Meeting) (words'' : List ℕ) (views'' : List View)
+      → QuietStep k words views words' views' → FieldRun k words' views' meetings words'' views'' → FieldRun k words views meetings words'' views''
+  meets : (words : List ℕ) (views : List View) (m : Meeting) (words' : List ℕ) (views' : List View) (meetings : List Meeting) (words'' : List ℕ) (views'' : List View)
+      → DrawStep k words views m words' views' → FieldRun k words' views' meetings words'' views'' → FieldRun k words views (m ∷ meetings) words'' views''
+
+-- the field stands at this history: none before it is founded
+abbrev pub HasHistory : About → List ℕ → List View → List Meeting → Type 0
+HasHistory k words views history =
+    (IsUnfounded k words views × (history ≡ [])) ⊎ ((seat : ℕ → Option ℕ) × StandsAt k words views history seat)
+
+-- the words and views with which a field is opened
+abbrev pub opening_words : About → List ℕ
+opening_words k = replicate (2 + k.shards) 0 ++ map (λ w. w.0) k.opening.value
+
+-- the field stands at every moment, and its history is what the draws made
+pub record MomentsStand (k : About) : Type 0 where
+  pub opened : (0 < k.shards) → (0 < k.seats) → k.seats ≤ 64 → AreValid k.net.value k.opening.value → HasHistory k (opening_words k) (founder k ∷ []) []
+  pub stands : (words : List ℕ) (views : List View) (history : List Meeting) → HasHistory k words views history → Stands k words views
+  -- no step but the draw changes the history, and so what it gives for any agent
+  pub quiet : (words : List ℕ) (views : List View) (words' : List ℕ) (views' : List View) (history : List Meeting)
+      → QuietStep k words views words' views' → HasHistory k words views history → HasHistory k words' views' history
+  -- the draw adds its meeting, which is a step of the model
+  pub draw : (words : List ℕ) (views : List View) (m : Meeting) (words' : List ℕ) (views' : List View) (history : List Meeting)
+      → DrawStep k words views m words' views' → HasHistory k words views history
+      → HasHistory k words' views' (history ++ m ∷ []) × Step k.net.value (crowd_after k history) (crowd_after k (history ++ m ∷ []))
+  pub runs : (words : List ℕ) (views : List View) (meetings : List Meeting) (words' : List ℕ) (views' : List View) (history : List Meeting)
+      → FieldRun k words views meetings words' views' → HasHistory k words views history → HasHistory k words' views' (history ++ meetings)
+
+abbrev pub EachMomentStands : Type 0
+EachMomentStands = (k : About) → MomentsStand k

@@ -1,0 +1,5 @@
+pub mod History
+pub mod Standing
+pub mod Steps
+pub mod Kinds
+pub mod Seats

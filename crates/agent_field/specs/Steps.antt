@@ -1,0 +1,181 @@
+-- What each step of a seat tells.
+use Rattle.std.specs.Prelude.{zero, suc, ◌≡◌, ◌≢◌, ℕ, ◌+◌, ◌-◌, ◌<◌, ◌≤◌, ◌^◌, List, [], ◌∷◌, ◌++◌, length, slice_index_or, slice_set, replicate, Option as Maybe, Some as Given, None as Missing}
+use Rattle.atomic_table.specs.Table.{Me, Step}
+use Rattle.pop_net.specs.declared.net.Word.{Word}
+use Rattle.pop_net.specs.NetModel.{NetModel}
+use Rattle.pop_net.specs.Lanes.{tuple_of, IsValid}
+use Rattle.pop_net.specs.Reaction.{reaction}
+use Rattle.pop_crowd.specs.declared.crowd.Meeting.{Meeting}
+use Rattle.pop_crowd.specs.Replay.{reacts}
+use Rattle.agent_field.specs.declared.view.Logged.{Logged}
+use Rattle.agent_field.specs.declared.view.Look.{Look}
+use Rattle.agent_field.specs.declared.view.About.{About}
+use Rattle.agent_field.specs.declared.view.View.{View}
+use Rattle.agent_field.specs.History.{logged, calls, IsHistory}
+use Rattle.agent_field.specs.Standing.{In, agents_of, locks_of, idle, packed, tuple_after, IsLook}
+
+abbrev pub Mine : Type 0
+Mine = Me (Unit {0}) View
+
+abbrev pub nothing_taken : About → List (Maybe (List Logged))
+nothing_taken k = replicate k.seats Missing
+
+-- number 0, when the field is founded
+abbrev pub first_seat : About → View
+first_seat k = idle k 0 [] 1 (nothing_taken k) []
+
+abbrev pub holding : ℕ → View → View
+holding s v = record { about = v.about; founding = v.founding; live = v.live; number = v.number; held = s ∷ v.held; known = v.known; due = v.due; log = v.log; next = v.next; taken = v.taken; looks = v.looks }
+
+abbrev pub rest_of : {X : Type 0} → List X → List X
+rest_of [] = []
+rest_of (x ∷ xs) = xs
+
+-- the lock that was taken last is given back, and the seat forgets the words that it read
+abbrev pub releasing : View → View
+releasing v = record { about = v.about; founding = v.founding; live = v.live; number = v.number; held = rest_of v.held; known = []; due = v.due; log = v.log; next = v.next; taken = v.taken; looks = v.looks }
+
+abbrev pub knowing : ℕ → Word → View → View
+knowing a x v = record { about = v.about; founding = v.founding; live = v.live; number = v.number; held = v.held; known = (a, x) ∷ v.known; due = v.due; log = v.log; next = v.next; taken = v.taken; looks = v.looks }
+
+-- x' and y' are valid words of what the tuples of x and y react to
+pub record IsReaction (net : NetModel) (x y x' y' : Word) : Type 0 where
+  pub tuples : (tuple_of net x', tuple_of net y') ≡ reaction net (tuple_of net x) (tuple_of net y)
+  pub first : IsValid net x'
+  pub second : IsValid net y'
+
+-- the agents a and b, with the words x and y, meet, and x' and y' are due
+abbrev pub meeting : ℕ → ℕ → ℕ → Word → Word → Word → Word → View → View
+meeting ticket a b x y x' y' v = record {
+  about = v.about;
+  founding = v.founding;
+  live = v.live;
+  number = v.number;
+  held = v.held;
+  known = [];
+  due = (a, x') ∷ (b, y') ∷ [];
+  log = v.log ++ logged ticket a b (reacts v.about.net.value (tuple_of v.about.net.value x) (tuple_of v.about.net.value y)) ∷ [];
+  next = v.next;
+  taken = v.taken;
+  looks = v.looks;
+}
+
+abbrev pub writing : View → View
+writing v = record { about = v.about; founding = v.founding; live = v.live; number = v.number; held = v.held; known = v.known; due = rest_of v.due; log = v.log; next = v.next; taken = v.taken; looks = v.looks }
+
+-- the known words, in the order in which they were read
+abbrev pub seen : List (ℕ × Word) → List Word
+seen [] = []
+seen (p ∷ ps) = seen ps ++ p.1 ∷ []
+
+abbrev pub look_of : ℕ → List Word → Look
+look_of ticket words = record { ticket = ticket; words = words }
+
+-- all tickets that the seat knows of meetings are below this one, and those of its looks at most this one
+pub record IsNewest (ticket : ℕ) (v : View) : Type 0 where
+  pub own : (e : Logged) → In e v.log → e.ticket < ticket
+  pub taken_in : v.number ≡ 0 → (w : ℕ) (l : List Logged) (e : Logged) → slice_index_or v.taken w Missing ≡ Given l → In e l → e.ticket < ticket
+  pub looks : (look : Look) → In look v.looks → look.ticket ≤ ticket
+
+-- at the ticket there is a history, with just this log for the seat's number, after which the known words stand
+pub record IsDrawnAt (ticket : ℕ) (v : View) : Type 0 where
+  pub history : List Meeting
+  pub long : length history ≡ ticket
+  pub right : IsHistory v.about.net.value v.about.seats v.about.opening.value history
+  pub logs : v.log ≡ calls v.number history
+  pub known : (a : ℕ) (x : Word) → In (a, x) v.known → tuple_after v.about history a ≡ tuple_of v.about.net.value x
+
+-- what a draw needs: the words of two agents were read, under the locks of their shards and no other
+pub record MayDraw (k : About) (v : View) (a b : ℕ) (x y x' y' : Word) : Type 0 where
+  pub known : v.known ≡ (b, y) ∷ (a, x) ∷ []
+  pub reacted : IsReaction k.net.value x y x' y'
+  pub due : v.due ≡ []
+  pub apart : a ≢ b
+  pub room : length v.log < 2 ^ 40
+  pub exactly : v.held ≡ locks_of k a b
+
+-- all words, read under all locks
+pub record HasSeenAll (k : About) (v : View) : Type 0 where
+  pub first : v.number ≡ 0
+  pub locked : (s : ℕ) → s < k.shards → In s v.held
+  pub whole : length (seen v.known) ≡ agents_of k
+  pub all : (a : ℕ) (d : Word) → a < agents_of k → In (a, slice_index_or (seen v.known) a d) v.known
+  pub due : v.due ≡ []
+
+abbrev pub Founds : Step (Unit {0}) → Mine → ℕ → Mine → Type 0
+Founds st m r m' = (r ≡ 0) × (m' ≡ (first_seat m.0.about, m.1))
+
+abbrev pub Locks : Step (Unit {0}) → Mine → ℕ → Mine → Type 0
+Locks st m r m' = (r ≡ 0 → m' ≡ (holding (st.word - 2) m.0, m.1)) × (r ≢ 0 → m' ≡ m)
+
+abbrev pub Unlocks : Step (Unit {0}) → Mine → ℕ → Mine → Type 0
+Unlocks st m r m' = m' ≡ (releasing m.0, m.1)
+
+abbrev pub Reads : Step (Unit {0}) → Mine → ℕ → Mine → Type 0
+Reads st m r m' = (m' ≡ (knowing (st.word - (2 + m.0.about.shards)) (packed r) m.0, m.1)) × IsValid m.0.about.net.value (packed r)
+
+-- the pair whose words were read meets, and its new words are due
+pub record HasDrawn (ticket : ℕ) (m m' : Mine) : Type 0 where
+  pub a : ℕ
+  pub b : ℕ
+  pub x : Word
+  pub y : Word
+  pub x' : Word
+  pub y' : Word
+  pub known : m.0.known ≡ (b, y) ∷ (a, x) ∷ []
+  pub reacted : IsReaction m.0.about.net.value x y x' y'
+  pub met : m' ≡ (meeting ticket a b x y x' y' m.0, m.1)
+
+abbrev pub Draws : Step (Unit {0}) → Mine → ℕ → Mine → Type 0
+Draws st m r m' = HasDrawn r m m' × IsNewest r m.0 × IsDrawnAt r m.0
+
+abbrev pub Writes : Step (Unit {0}) → Mine → ℕ → Mine → Type 0
+Writes st m r m' = m' ≡ (writing m.0, m.1)
+
+-- a look: the clock, and all words
+abbrev pub looking : ℕ → View → View
+looking ticket v = record { about = v.about; founding = v.founding; live = v.live; number = v.number; held = v.held; known = v.known; due = v.due; log = v.log; next = v.next; taken = v.taken; looks = v.looks ++ look_of ticket (seen v.known) ∷ [] }
+
+-- at the ticket there is a history, with just this log for the seat's number, after which the known words stand
+pub record IsSeenAt (ticket : ℕ) (v : View) : Type 0 where
+  pub history : List Meeting
+  pub long : length history ≡ ticket
+  pub right : IsHistory v.about.net.value v.about.seats v.about.opening.value history
+  pub logs : v.log ≡ calls v.number history
+  pub look : IsLook v.about.net.value v.about.opening.value history (look_of ticket (seen v.known))
+
+abbrev pub Watches : Step (Unit {0}) → Mine → ℕ → Mine → Type 0
+Watches st m r m' = (m' ≡ (looking r m.0, m.1)) × IsNewest r m.0 × IsSeenAt r m.0
+
+-- number 0 gives its least fresh number away
+abbrev pub kept_back : View → View
+kept_back v = record { about = v.about; founding = v.founding; live = v.live; number = v.number; held = v.held; known = v.known; due = v.due; log = v.log; next = v.next + 1; taken = v.taken; looks = v.looks }
+
+abbrev pub newcomer : View → View
+newcomer v = idle v.about v.next [] 0 [] []
+
+-- number 0 takes in another seat's log
+abbrev pub taking_in : View → View → View
+taking_in v w = record { about = v.about; founding = v.founding; live = v.live; number = v.number; held = v.held; known = v.known; due = v.due; log = v.log; next = v.next; taken = slice_set v.taken w.number (Given w.log); looks = v.looks }
+
+-- one more meeting stands in the seat's log
+abbrev pub recorded : Logged → View → View
+recorded e v = record { about = v.about; founding = v.founding; live = v.live; number = v.number; held = v.held; known = []; due = []; log = v.log ++ e ∷ []; next = v.next; taken = v.taken; looks = v.looks }
+
+abbrev pub with_locks : List ℕ → View → View
+with_locks held v = record { about = v.about; founding = v.founding; live = v.live; number = v.number; held = held; known = []; due = []; log = v.log; next = v.next; taken = v.taken; looks = v.looks }
+
+-- all shards below n, the last one first
+abbrev pub below : ℕ → List ℕ
+below zero = []
+below (suc n) = n ∷ below n
+
+abbrev pub with_known : List (ℕ × Word) → View → View
+with_known known v = record { about = v.about; founding = v.founding; live = v.live; number = v.number; held = v.held; known = known; due = v.due; log = v.log; next = v.next; taken = v.taken; looks = v.looks }
+
+-- these are the known words, of all agents below so many
+pub record HasReadAll (agents : ℕ) (words : List Word) (m m' : Mine) : Type 0 where
+  pub known : List (ℕ × Word)
+  pub read : m' ≡ (with_known known m.0, m.1)
+  pub these : seen known ≡ words
+  pub each : (a : ℕ) (d : Word) → a < agents → In (a, slice_index_or words a d) known

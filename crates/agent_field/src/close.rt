@@ -1,0 +1,167 @@
+//! The end of a field: its words and its history.
+
+ghost use Rattle.std.specs.Prelude.{◌≡◌, ◌≢◌, ℕ, ◌+◌, ◌<◌, ◌≤◌, false, List as Items, length, map, [], ◌∷◌, IfOk, IsTrue, ◌↔◌, All, None, Some, drop, replicate, slice_index_or, vec_capacity};
+ghost use Rattle.std.specs.Mem.Slots.{slots_items, slots_len, IsFull};
+ghost use Rattle.agent_field.specs.History.{calls, placed, placed_some, placed_logs, made, IsHistory};
+ghost use Rattle.agent_field.specs.Standing.{packed, IsLook};
+
+use crate::field::{Field, FieldSeat};
+use crate::view::Logged;
+use atomic_table::Closed;
+use pop_crowd::Meeting;
+use pop_io::{List, NoMemory};
+use pop_net::Word;
+use std::alloc::Global;
+
+/// The words at the end, and all meetings in the order of their tickets, each with the number of the seat that made it.
+#[derive(Debug, Drop)]
+pub struct Round {
+    pub words: List<Word>,
+    pub meetings: List<Meeting>,
+}
+
+/// Puts a log's meetings at their tickets.
+fn place(out: &mut [Meeting], worker: u16, log: &[Logged])
+    requires { All (λ e. e.ticket < length out.old) log.now }
+    ensures { out.new ≡ placed worker out.old log.now }
+{
+    for e in log {
+        out[e.ticket as usize] = Meeting {
+            worker,
+            a: e.a,
+            b: e.b,
+            changed: e.changed,
+        };
+    }
+}
+
+fn place_some(out: &mut [Meeting], worker: u16, log: &Option<List<Logged>>)
+    requires { (l : Items Logged) → log.now ≡ Some l → All (λ e. e.ticket < length out.old) l }
+    ensures { out.new ≡ placed_some worker out.old log.now }
+{
+    if let Some(log) = log {
+        place(out, worker, log.as_slice());
+    }
+}
+
+/// What stands at a ticket before its meeting is put there.
+fn nobody() -> Meeting
+    ensures { result ≡ made 0 0 0 false }
+{
+    Meeting {
+        worker: 0,
+        a: 0,
+        b: 0,
+        changed: false,
+    }
+}
+
+/// The meetings of number 0 and of those that it took in, in the order of their tickets.
+fn arrange(
+    alloc: Global,
+    count: usize,
+    own: &[Logged],
+    taken: &[Option<List<Logged>>],
+) -> Result<Vec<Meeting>, NoMemory>
+    requires few { length taken.now ≤ 64 }
+    requires own { All (λ e. e.ticket < count) own.now }
+    requires taken { (w : ℕ) (l : Items Logged) → slice_index_or taken.now w None ≡ Some l → All (λ e. e.ticket < count) l }
+    ensures { IfOk result (λ v. v.items ≡ placed_logs (0, placed 0 (replicate count (made 0 0 0 false)) own.now) taken.now) }
+{
+    let mut out = vec![in alloc; nobody(); count]?;
+    place(out.as_mut_slice(), 0, own);
+    for (w, log) in taken.iter().enumerate() {
+        place_some(out.as_mut_slice(), w as u16, log);
+    }
+    Ok(out)
+}
+
+/// The agents' words of a table.
+fn agent_words(
+    closed: &Closed<(), Global>,
+    from: usize,
+    agents: usize,
+    mut out: Vec<Word>,
+) -> Vec<Word>
+    requires full { IsFull closed.now.words }
+    requires count { slots_len closed.now.words ≡ from + agents }
+    requires room { (out.items ≡ []) × (agents ≤ vec_capacity out) }
+    ensures { result.items ≡ map packed (drop from (slots_items closed.now.words)) }
+{
+    for a in 0..agents {
+        out.push_reserved(Word(closed.word(from + a)));
+    }
+    out
+}
+
+impl FieldSeat {
+    ghost use Rattle.agent_field.specs.Seats.{IsWhole};
+
+    /// Whether it is number 0, and has taken in every seat that was split from it.
+    pub fn whole(&self) -> bool
+        ensures { IsTrue result ↔ IsWhole self.now }
+    {
+        if self.number != 0 {
+            return false;
+        }
+        for w in 1..self.next as usize {
+            if self.taken[w].is_none() {
+                return false;
+            }
+        }
+        true
+    }
+}
+
+impl<'n> Field<'n> {
+    ghost use Rattle.pop_net.specs.Lanes.{crowd_of, AreValid};
+    ghost use Rattle.pop_crowd.specs.Replay.{replay};
+    ghost use Rattle.agent_field.specs.Seats.{net_of, opening_of, seats_of, start_of, IsSeatOf, IsWhole, log_of, taken_of, looks_of};
+
+    /// The words, and the history that they are the replay of.
+    pub fn close(self, alloc: Global, seat: FieldSeat) -> Result<Round, NoMemory>
+        requires ours { IsSeatOf self seat }
+        requires whole { IsWhole seat }
+        ensures words { IfOk result (λ r. crowd_of (net_of self.entry) r.words ≡ replay (net_of self.entry) r.meetings (start_of self.entry)) }
+        ensures valid { IfOk result (λ r. AreValid (net_of self.entry) r.words) }
+        // The meetings are of different agents, by seats of the field, and each says rightly whether it changed a tuple.
+        ensures history { IfOk result (λ r. IsHistory (net_of self.entry) (seats_of self.entry) (opening_of self.entry) r.meetings) }
+        // Each number's meetings are its log, with the places as tickets; a number without a log has none.
+        ensures own { IfOk result (λ r. calls 0 r.meetings ≡ log_of seat) }
+        ensures taken { IfOk result (λ r. (w : ℕ) (l : Items Logged) → slice_index_or (taken_of seat) w None ≡ Some l → calls w r.meetings ≡ l) }
+        ensures others { IfOk result (λ r. (w : ℕ) → w ≢ 0 → slice_index_or (taken_of seat) w None ≡ None → calls w r.meetings ≡ []) }
+        // Each look shows the replay of the meetings before its ticket.
+        ensures looks { IfOk result (λ r. All (IsLook (net_of self.entry) (opening_of self.entry) r.meetings) (looks_of seat)) }
+    {
+        let agents = self.agents as usize;
+        let from = 2 + self.shards as usize;
+        let room = Vec::with_capacity(alloc, agents)?;
+        let Field {
+            table,
+            net: _,
+            shards: _,
+            seats: _,
+            agents: _,
+        } = self;
+        let FieldSeat {
+            seat: token,
+            number: _,
+            log,
+            spare: _,
+            next: _,
+            left: _,
+            taken,
+            looks: _,
+            rooms: _,
+        } = seat;
+        let closed = table.close_with(token);
+        let count = closed.word(0) as usize;
+        let words = agent_words(&closed, from, agents, room);
+        closed.free();
+        let meetings = arrange(alloc, count, log.as_slice(), taken.as_slice())?;
+        Ok(Round {
+            words: List::from_vec(words),
+            meetings: List::from_vec(meetings),
+        })
+    }
+}

@@ -1,0 +1,134 @@
+//! The field and its seats.
+
+ghost use Rattle.std.specs.Prelude.{◌≡◌, ◌≢◌, ℕ, ◌+◌, ◌<◌, ◌≤◌, ◌^◌, length, [], ◌∷◌, All, Some, OnOk, OnErr, vec_len, vec_capacity, slice_get};
+ghost use Rattle.agent_field.specs.Standing.{idle};
+
+use crate::view::{About, Logged, Look, Rule, View};
+use atomic_table::{Seat, Table};
+use pop_io::{List, NoMemory};
+use pop_net::{Net, Word};
+use std::alloc::Global;
+
+/// The words of a crowd, which threads share.
+#[derive(Drop)]
+pub struct Field<'n> {
+    pub(crate) table: Table<(), View, About, Rule, Global>,
+    pub(crate) net: &'n Net,
+    pub(crate) shards: u32,
+    pub(crate) seats: u16,
+    pub(crate) agents: u32,
+    ghost net_is: { table.shared.key.net.value ≡ net.now },
+    ghost shards_are: { table.shared.key.shards ≡ shards },
+    ghost seats_are: { table.shared.key.seats ≡ seats },
+    ghost agents_are: { length table.shared.key.opening.value ≡ agents },
+    ghost words_are: { table.shared.table_id.words ≡ 2 + shards + agents },
+    ghost no_slots: { table.shared.table_id.slots ≡ 0 },
+    ghost limits: { (0 < shards) × (0 < seats) × (seats ≤ 64) },
+}
+
+/// A seat of the field, between its calls.
+#[derive(Drop)]
+pub struct FieldSeat {
+    pub(crate) seat: Seat<(), View>,
+    pub(crate) number: u16,
+    pub(crate) log: Vec<Logged>,
+    pub(crate) spare: u64,
+    pub(crate) next: u16,
+    pub(crate) left: u16,
+    pub(crate) taken: Vec<Option<List<Logged>>>,
+    pub(crate) looks: Vec<Look>,
+    /// Empty, and each with room for all agents: one for each look to come.
+    pub(crate) rooms: Vec<Vec<Word>>,
+    ghost room: { (vec_len log + spare ≤ vec_capacity log) × (vec_len log + spare ≤ 2 ^ 40) },
+    ghost known: { number < seat.me.0.about.seats },
+    ghost places: { number ≡ 0 → (0 < next) × (next + left ≡ seat.me.0.about.seats) × (vec_len taken ≡ seat.me.0.about.seats) },
+    ghost looks_fit: { (vec_len looks + vec_len rooms ≤ vec_capacity looks) × (vec_len looks + vec_len rooms ≤ 64) },
+    ghost rooms_fit: { All (λ room. (room.items ≡ []) × (length seat.me.0.about.opening.value ≤ vec_capacity room)) rooms.items },
+    ghost is_idle: { seat.me ≡ (idle seat.me.0.about number log.items next taken.items looks.items, []) },
+}
+
+/// What a meeting answers.
+#[derive(Clone, Copy, Debug, PartialEq, Eq)]
+pub struct Met {
+    pub ticket: u64,
+    pub changed: bool,
+}
+
+impl<'n> Field<'n> {
+    ghost use Rattle.agent_field.specs.Seats.{opening_of};
+
+    /// The number of agents.
+    pub fn agents(&self) -> u32
+        ensures { result ≡ length (opening_of self.now) }
+    {
+        self.agents
+    }
+}
+
+impl FieldSeat {
+    ghost use Rattle.agent_field.specs.Seats.{number_of, log_of, made_of, spare_of, left_of, looks_of, spare_looks_of, KeepsRest};
+
+    pub fn number(&self) -> u16
+        ensures { result ≡ number_of self.now }
+    {
+        self.number
+    }
+
+    /// How many meetings it has made.
+    pub fn made(&self) -> u64
+        ensures { result ≡ made_of self.now }
+    {
+        self.log.len() as u64
+    }
+
+    /// How many more it has room for.
+    pub fn spare(&self) -> u64
+        ensures { result ≡ spare_of self.now }
+    {
+        self.spare
+    }
+
+    /// How many seats can still be split from it.
+    pub fn left(&self) -> u16
+        ensures { result ≡ left_of self.now }
+    {
+        self.left
+    }
+
+    /// How many looks it has made.
+    pub fn looks(&self) -> u16
+        ensures { result ≡ length (looks_of self.now) }
+    {
+        self.looks.len() as u16
+    }
+
+    /// How many more it has room for.
+    pub fn spare_looks(&self) -> u16
+        ensures { result ≡ spare_looks_of self.now }
+    {
+        self.rooms.len() as u16
+    }
+
+    pub fn look_at(&self, i: u16) -> &Look
+        requires { i < length (looks_of self.now) }
+        ensures { slice_get (looks_of self.now) i ≡ Some result.now }
+    {
+        &self.looks[i as usize]
+    }
+
+    /// Room for so many more meetings.
+    pub fn reserve(&mut self, turns: u64) -> Result<(), NoMemory>
+        requires { made_of self.old + turns ≤ 2 ^ 40 }
+        ensures room { OnOk result (turns ≤ spare_of self.new) }
+        ensures none { OnErr result (spare_of self.new ≡ spare_of self.old) }
+        ensures own { log_of self.new ≡ log_of self.old }
+        ensures rest { KeepsRest self.old self.new }
+        ensures seat { self.new.seat ≡ self.old.seat }
+    {
+        if self.spare < turns {
+            self.log.reserve(turns as usize)?;
+            self.spare = turns;
+        }
+        Ok(())
+    }
+}

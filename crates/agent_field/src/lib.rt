@@ -1,0 +1,21 @@
+//! A crowd whose agents threads share: seats that make meetings beside each other, and look at all agents.
+//! It stands on `pop_crowd` and `atomic_table`.
+//! The layer above uses: each meeting is logged with its ticket, and closing gives the history and its replay.
+#![tactic(auto)]
+
+mod close;
+mod field;
+mod life;
+mod looks;
+mod meet;
+mod moments;
+mod steps;
+mod view;
+
+pub use close::Round;
+pub use field::{Field, FieldSeat, Met};
+pub use moments::each_moment_stands;
+pub use view::{Logged, Look};
+
+#[cfg(test)]
+mod tests;

@@ -1,0 +1,149 @@
+//! How a field begins, and how its seats are dealt and taken in.
+
+ghost use Rattle.std.specs.Prelude.{◌≡◌, ◌+◌, ◌<◌, ◌≤◌, length, map, [], ◌++◌, IfOk, IfErr, OnOk, OnErr, replicate, slice_set, None, Some};
+
+use crate::field::{Field, FieldSeat};
+use crate::view::{About, Deal, Found, Logged, Rule, View};
+use atomic_table::Table;
+use pop_io::{List, NoMemory};
+use pop_net::{Net, Word};
+use std::alloc::Global;
+use std::snapshot::Snapshot;
+use std::sync::Wait;
+
+/// The words of a table before its field is founded.
+fn layout(alloc: Global, words: &[Word], shards: u32) -> Result<Vec<u64>, NoMemory>
+    ensures { IfOk result (λ all. all.items ≡ replicate (2 + shards) 0 ++ map (λ w. w.0) words.now) }
+{
+    let mut all = vec![in alloc; 0u64; 2 + shards as usize]?;
+    for word in words {
+        all.push(word.0)?;
+    }
+    Ok(all)
+}
+
+fn no_logs(alloc: Global, seats: u16) -> Result<Vec<Option<List<Logged>>>, NoMemory>
+    ensures { IfOk result (λ logs. logs.items ≡ replicate seats None) }
+{
+    let mut logs = Vec::new(alloc);
+    for _ in 0..seats {
+        logs.push(None)?;
+    }
+    Ok(logs)
+}
+
+impl<'n> Field<'n> {
+    ghost use Rattle.pop_net.specs.Lanes.{AreValid};
+    ghost use Rattle.agent_field.specs.Seats.{net_of, opening_of, seats_of, IsSeatOf, number_of, log_of, next_of, left_of, taken_of, IsFresh, KeepsOwn};
+
+    /// A field with these words, and its seat with the number 0.
+    pub fn open<R: Wait>(
+        rt: &R,
+        alloc: Global,
+        net: &'n Net,
+        words: List<Word>,
+        shards: u32,
+        seats: u16,
+    ) -> Result<(Field<'n>, FieldSeat), NoMemory>
+        requires valid { AreValid net.now words }
+        requires agents { (2 ≤ length words) × (length words ≤ 65536) }
+        requires shards { (1 ≤ shards) × (shards ≤ 1024) }
+        requires seats { (1 ≤ seats) × (seats ≤ 64) }
+        ensures field { IfOk result (λ r. (net_of r.0 ≡ net.now) × (opening_of r.0 ≡ words) × (seats_of r.0 ≡ seats)) }
+        ensures ours { IfOk result (λ r. IsSeatOf r.0 r.1) }
+        ensures first { IfOk result (λ r. (number_of r.1 ≡ 0) × (next_of r.1 ≡ 1) × (left_of r.1 + 1 ≡ seats)) }
+        ensures fresh { IfOk result (λ r. IsFresh r.1 × (taken_of r.1 ≡ replicate seats None)) }
+    {
+        // No other seat can have founded the field, so there is nobody to wait for.
+        let _ = rt;
+        let agents = words.as_slice().len() as u32;
+        let all = layout(alloc, words.as_slice(), shards)?;
+        let taken = no_logs(alloc, seats)?;
+        let about = About {
+            net: Snapshot::of(net),
+            opening: Snapshot::of(&words),
+            shards,
+            seats,
+        };
+        let (table, mut seat) = Table::<(), View, About, Rule, Global>::of_words(
+            alloc,
+            all.as_slice(),
+            &about,
+        )?;
+        table.shared.swap::<Found>(&mut seat, 1, 1);
+        let field = Field {
+            table,
+            net,
+            shards,
+            seats,
+            agents,
+        };
+        let first = FieldSeat {
+            seat,
+            number: 0,
+            log: Vec::new(alloc),
+            spare: 0,
+            next: 1,
+            left: seats - 1,
+            taken,
+            looks: Vec::new(alloc),
+            rooms: Vec::new(alloc),
+        };
+        Ok((field, first))
+    }
+
+    /// A new seat, with the least number that is left. It takes no memory today.
+    pub fn split(&self, alloc: Global, seat: &mut FieldSeat) -> Result<FieldSeat, NoMemory>
+        requires ours { IsSeatOf self.now seat.old }
+        requires first { number_of seat.old ≡ 0 }
+        requires left { 1 ≤ left_of seat.old }
+        ensures ours { IsSeatOf self.now seat.new }
+        ensures theirs { IfOk result (IsSeatOf self.now) }
+        ensures new { IfOk result (λ r. (number_of r ≡ next_of seat.old) × (left_of r ≡ 0) × IsFresh r) }
+        ensures dealt { OnOk result ((next_of seat.new ≡ next_of seat.old + 1) × (left_of seat.new + 1 ≡ left_of seat.old)) }
+        ensures rest { KeepsOwn seat.old seat.new × (taken_of seat.new ≡ taken_of seat.old) }
+        ensures refused { OnErr result ((next_of seat.new ≡ next_of seat.old) × (left_of seat.new ≡ left_of seat.old)) }
+    {
+        let token = self.table.shared.split_seat::<Deal>(&mut seat.seat);
+        let number = seat.next;
+        seat.next += 1;
+        seat.left -= 1;
+        Ok(FieldSeat {
+            seat: token,
+            number,
+            log: Vec::new(alloc),
+            spare: 0,
+            next: 0,
+            left: 0,
+            taken: Vec::new(alloc),
+            looks: Vec::new(alloc),
+            rooms: Vec::new(alloc),
+        })
+    }
+
+    /// Takes in another seat's log, under its number. It takes no memory today.
+    pub fn join(&self, seat: &mut FieldSeat, other: FieldSeat) -> Result<(), (FieldSeat, NoMemory)>
+        requires ours { IsSeatOf self.now seat.old }
+        requires theirs { IsSeatOf self.now other }
+        requires first { number_of seat.old ≡ 0 }
+        ensures ours { IsSeatOf self.now seat.new }
+        ensures taken { OnOk result (taken_of seat.new ≡ slice_set (taken_of seat.old) (number_of other) (Some (log_of other))) }
+        ensures rest { KeepsOwn seat.old seat.new × (next_of seat.new ≡ next_of seat.old) × (left_of seat.new ≡ left_of seat.old) }
+        ensures refused { IfErr result (λ r. (r.0 ≡ other) × (taken_of seat.new ≡ taken_of seat.old)) }
+    {
+        let FieldSeat {
+            seat: token,
+            number,
+            log,
+            spare: _,
+            next: _,
+            left: _,
+            taken: _,
+            looks: _,
+            rooms: _,
+        } = other;
+        self.table.shared.join_seat::<Deal>(&mut seat.seat, token);
+        seat.taken[number as usize] = Some(List::from_vec(log));
+        Ok(())
+    }
+}

@@ -1,0 +1,128 @@
+//! Looks at all agents at once.
+
+ghost use Rattle.std.specs.Prelude.{◌≡◌, ℕ, ◌+◌, ◌<◌, ◌≤◌, List as Items, length, [], ◌∷◌, ◌++◌, true, vec_capacity, All, IfOk, OnOk, OnErr};
+ghost use Rattle.pop_net.specs.declared.net.Word.{Word as WordModel};
+ghost use Rattle.agent_field.specs.Steps.{below, with_locks, look_of, HasReadAll};
+
+use crate::field::{Field, FieldSeat};
+use crate::view::{Look, View};
+use atomic_table::Seat;
+use pop_io::{List, NoMemory};
+use pop_net::Word;
+use std::alloc::Global;
+use std::sync::Wait;
+
+/// Room for so many looks at so many agents.
+fn look_rooms(alloc: Global, looks: u16, agents: u32) -> Result<Vec<Vec<Word>>, NoMemory>
+    ensures count { IfOk result (λ rooms. length rooms.items ≡ looks) }
+    ensures rooms { IfOk result (λ rooms. All (λ room. (room.items ≡ []) × (agents ≤ vec_capacity room)) rooms.items) }
+{
+    let mut rooms = Vec::new(alloc);
+    for _ in 0..looks {
+        rooms.push(Vec::with_capacity(alloc, agents as usize)?)?;
+    }
+    Ok(rooms)
+}
+
+impl<'n> Field<'n> {
+    ghost use Rattle.agent_field.specs.Seats.{opening_of, IsSeatOf, number_of, looks_of, spare_looks_of, KeepsLogs, IsNewestOf, IsGlance};
+
+    /// Takes the locks of all shards, in ascending order.
+    pub(crate) fn lock_all<R: Wait>(&self, rt: &R, token: &mut Seat<(), View>, number: u16)
+        requires table { token.old.table_id ≡ self.now.table.shared.table_id }
+        requires live { token.old.me.0.live ≡ true }
+        requires number { token.old.me.0.number ≡ number }
+        requires clear { (token.old.me.0.held ≡ []) × (token.old.me.0.known ≡ []) × (token.old.me.0.due ≡ []) }
+        ensures table { token.new.table_id ≡ token.old.table_id }
+        ensures locked { token.new.me ≡ (with_locks (below self.now.shards) token.old.me.0, token.old.me.1) }
+    {
+        for s in 0..self.shards {
+            self.lock(rt, token, number, s);
+        }
+    }
+
+    /// Reads all words, under the locks of all shards, into a list that has the room.
+    fn read_all(&self, token: &mut Seat<(), View>, mut out: Vec<Word>) -> Vec<Word>
+        requires table { token.old.table_id ≡ self.now.table.shared.table_id }
+        requires live { token.old.me.0.live ≡ true }
+        requires ours { token.old.me.0.about ≡ self.now.table.shared.key }
+        requires held { token.old.me.0.held ≡ below self.now.shards }
+        requires clear { (token.old.me.0.known ≡ []) × (token.old.me.0.due ≡ []) }
+        requires room { (out.items ≡ []) × (self.now.agents ≤ vec_capacity out) }
+        ensures table { token.new.table_id ≡ token.old.table_id }
+        ensures known { HasReadAll self.now.agents result.items token.old.me token.new.me }
+        ensures all { length result.items ≡ self.now.agents }
+    {
+        for a in 0..self.agents {
+            out.push_reserved(self.read(token, a));
+        }
+        out
+    }
+
+    /// Gives the locks of all shards back, in descending order.
+    fn unlock_all(&self, token: &mut Seat<(), View>)
+        requires table { token.old.table_id ≡ self.now.table.shared.table_id }
+        requires live { token.old.me.0.live ≡ true }
+        requires held { token.old.me.0.held ≡ below self.now.shards }
+        requires due { token.old.me.0.due ≡ [] }
+        requires some { 0 < self.now.shards }
+        ensures table { token.new.table_id ≡ token.old.table_id }
+        ensures freed { token.new.me ≡ (with_locks [] token.old.me.0, token.old.me.1) }
+    {
+        for s in (0..self.shards).rev() {
+            self.unlock(token, s);
+        }
+    }
+
+    /// Room for so many more looks.
+    pub fn reserve_looks(
+        &self,
+        alloc: Global,
+        seat: &mut FieldSeat,
+        looks: u16,
+    ) -> Result<(), NoMemory>
+        requires ours { IsSeatOf self.now seat.old }
+        requires first { number_of seat.old ≡ 0 }
+        requires limit { length (looks_of seat.old) + looks ≤ 64 }
+        ensures ours { IsSeatOf self.now seat.new }
+        ensures room { OnOk result (looks ≤ spare_looks_of seat.new) }
+        ensures refused { OnErr result (spare_looks_of seat.new ≡ spare_looks_of seat.old) }
+        ensures looks { looks_of seat.new ≡ looks_of seat.old }
+        ensures rest { KeepsLogs seat.old seat.new }
+    {
+        if seat.rooms.len() < looks as usize {
+            let rooms = look_rooms(alloc, looks, self.agents)?;
+            seat.looks.reserve(looks as usize)?;
+            seat.rooms = rooms;
+        }
+        Ok(())
+    }
+
+    /// Looks at all agents, under the locks of all shards, and answers the ticket of the next meeting.
+    /// It may wait for a lock, and takes no memory.
+    pub fn look<R: Wait>(&self, rt: &R, seat: &mut FieldSeat) -> u64
+        requires ours { IsSeatOf self.now seat.old }
+        requires first { number_of seat.old ≡ 0 }
+        requires room { 1 ≤ spare_looks_of seat.old }
+        ensures ours { IsSeatOf self.now seat.new }
+        ensures looked { (words : Items WordModel) × (looks_of seat.new ≡ looks_of seat.old ++ look_of result words ∷ [])
+            × (length words ≡ length (opening_of self.now)) × IsGlance self.now seat.old (look_of result words) }
+        ensures spare { spare_looks_of seat.new + 1 ≡ spare_looks_of seat.old }
+        ensures newest { IsNewestOf result seat.old }
+        ensures rest { KeepsLogs seat.old seat.new }
+    {
+        let Some(room) = seat.rooms.pop() else {
+            unreachable!()
+        };
+        let token = &mut seat.seat;
+        self.lock_all(rt, token, seat.number);
+        let words = self.read_all(token, room);
+        let ticket = self.watch(token);
+        self.unlock_all(token);
+        seat.looks.push_reserved(Look {
+            ticket,
+            words: List::from_vec(words),
+        });
+        ticket
+    }
+}

@@ -1,0 +1,143 @@
+//! A meeting: two agents react under the locks of their shards.
+
+ghost use Rattle.std.specs.Prelude.{◌≡◌, ◌≢◌, ℕ, ◌+◌, ◌<◌, ◌≤◌, ◌^◌, ◌==◌, ◌||◌, not, List, length, [], ◌∷◌, ◌++◌, true};
+ghost use Rattle.pop_net.specs.Lanes.{tuple_of, IsValid};
+ghost use Rattle.pop_crowd.specs.Replay.{reacts};
+ghost use Rattle.agent_field.specs.History.{logged};
+ghost use Rattle.agent_field.specs.Standing.{locks_of, pair_locks};
+ghost use Rattle.agent_field.specs.Steps.{recorded, with_locks, IsReaction, IsNewest};
+
+use crate::field::{Field, FieldSeat, Met};
+use crate::view::{Logged, View};
+use atomic_table::Seat;
+use pop_io::Gate;
+use pop_net::{Net, Word};
+use std::sync::Wait;
+
+/// Whether one of two words is another than before.
+fn differ(old: (Word, Word), new: (Word, Word)) -> bool
+    ensures { result ≡ (not (new.0.0 == old.0.0) || not (new.1.0 == old.1.0)) }
+{
+    new.0 != old.0 || new.1 != old.1
+}
+
+/// What two words become, and whether that changes one.
+fn reacted(net: &Net, x: Word, y: Word) -> (Word, Word, bool)
+    requires first { IsValid net.now x }
+    requires second { IsValid net.now y }
+    ensures reacted { IsReaction net.now x y result.0 result.1 }
+    ensures changed { result.2 ≡ reacts net.now (tuple_of net.now x) (tuple_of net.now y) }
+{
+    let (first, second) = net.react(x, y);
+    (first, second, differ((x, y), (first, second)))
+}
+
+impl<'n> Field<'n> {
+    ghost use Rattle.agent_field.specs.Seats.{net_of, opening_of, IsSeatOf, log_of, spare_of, KeepsRest, IsMoment, IsNewestOf, IsMetAt};
+
+    /// Takes the locks of a pair's shards, the lower one first.
+    fn lock_pair<R: Wait>(
+        &self,
+        rt: &R,
+        token: &mut Seat<(), View>,
+        number: u16,
+        low: u32,
+        high: u32,
+    )
+        requires table { token.old.table_id ≡ self.now.table.shared.table_id }
+        requires live { token.old.me.0.live ≡ true }
+        requires number { token.old.me.0.number ≡ number }
+        requires shards { (low ≤ high) × (high < self.now.shards) }
+        requires clear { (token.old.me.0.held ≡ []) × (token.old.me.0.known ≡ []) × (token.old.me.0.due ≡ []) }
+        ensures table { token.new.table_id ≡ token.old.table_id }
+        ensures locked { token.new.me ≡ (with_locks (pair_locks low high (low == high)) token.old.me.0, token.old.me.1) }
+    {
+        if low == high {
+            self.lock(rt, token, number, low);
+            return;
+        }
+        self.lock(rt, token, number, low);
+        self.lock(rt, token, number, high);
+    }
+
+    /// Gives the locks back, the higher one first.
+    fn unlock_pair(&self, token: &mut Seat<(), View>, low: u32, high: u32)
+        requires table { token.old.table_id ≡ self.now.table.shared.table_id }
+        requires live { token.old.me.0.live ≡ true }
+        requires shards { (low ≤ high) × (high < self.now.shards) }
+        requires locked { token.old.me.0.held ≡ pair_locks low high (low == high) }
+        requires due { token.old.me.0.due ≡ [] }
+        ensures table { token.new.table_id ≡ token.old.table_id }
+        ensures freed { token.new.me ≡ (with_locks [] token.old.me.0, token.old.me.1) }
+    {
+        if low == high {
+            self.unlock(token, low);
+            return;
+        }
+        self.unlock(token, high);
+        self.unlock(token, low);
+    }
+
+    /// Under the locks of both agents: reads both words, draws a ticket, and writes both words.
+    fn react_pair(&self, token: &mut Seat<(), View>, a: u32, b: u32) -> (u64, bool)
+        requires table { token.old.table_id ≡ self.now.table.shared.table_id }
+        requires live { token.old.me.0.live ≡ true }
+        requires ours { token.old.me.0.about ≡ self.now.table.shared.key }
+        requires agents { (a < self.now.agents) × (b < self.now.agents) × (a ≢ b) }
+        requires held { token.old.me.0.held ≡ locks_of self.now.table.shared.key a b }
+        requires clear { (token.old.me.0.known ≡ []) × (token.old.me.0.due ≡ []) }
+        requires room { length token.old.me.0.log < 2 ^ 40 }
+        ensures table { token.new.table_id ≡ token.old.table_id }
+        ensures logged { token.new.me ≡ (recorded (logged result.0 a b result.1) token.old.me.0, token.old.me.1) }
+        ensures newest { IsNewest result.0 token.old.me.0 }
+        ensures moment { IsMetAt self.now token.old.me.0.number token.old.me.0.log a b result.0 result.1 }
+    {
+        let x = self.read(token, a);
+        let y = self.read(token, b);
+        let (first, second, changed) = reacted(self.net, x, y);
+        let ticket = self.draw(token);
+        self.write(token, a, first);
+        self.write(token, b, second);
+        (ticket, changed)
+    }
+
+    /// The agents a and b meet. It may wait for a lock, and takes no memory.
+    pub fn meet<R: Wait, G: Gate>(
+        &self,
+        rt: &R,
+        seat: &mut FieldSeat,
+        a: u32,
+        b: u32,
+        gate: &G,
+    ) -> Met
+        requires ours { IsSeatOf self.now seat.old }
+        requires different { a ≢ b }
+        requires a_in { a < length (opening_of self.now) }
+        requires b_in { b < length (opening_of self.now) }
+        requires room { 1 ≤ spare_of seat.old }
+        ensures ours { IsSeatOf self.now seat.new }
+        ensures logged { log_of seat.new ≡ log_of seat.old ++ logged result.ticket a b result.changed ∷ [] }
+        ensures spare { spare_of seat.new + 1 ≡ spare_of seat.old }
+        ensures newest { IsNewestOf result.ticket seat.old }
+        ensures moment { IsMoment self.now seat.old a b result }
+        ensures rest { KeepsRest seat.old seat.new }
+    {
+        let shards = self.shards;
+        let low = (a % shards).min(b % shards);
+        let high = (a % shards).max(b % shards);
+        let call = seat.log.len() as u64 + 1;
+        let token = &mut seat.seat;
+        self.lock_pair(rt, token, seat.number, low, high);
+        gate.held(seat.number, call);
+        let (ticket, changed) = self.react_pair(token, a, b);
+        self.unlock_pair(token, low, high);
+        seat.log.push_reserved(Logged {
+            ticket,
+            a,
+            b,
+            changed,
+        });
+        seat.spare -= 1;
+        Met { ticket, changed }
+    }
+}
