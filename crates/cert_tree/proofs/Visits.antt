@@ -53,7 +53,7 @@ contains_map f (y ∷ xs) x (zero, l, e) = (0, omega arith, ap f e)
 contains_map f (y ∷ xs) x (suc k, l, e) =
     let rest = contains_map f xs x (k, omega arith, e) in (suc rest.0, omega arith, rest.2)
 
-below_fit : (above : ℕ) (facts : List Fact) (cases : List (List Fact)) → All IsOrdered facts → all_fit facts cases ≡ true → CasesOrdered cases → All IsFit (map {B = Waiting} (λ own. (above, facts ++ own)) cases)
+pub below_fit : (above : ℕ) (facts : List Fact) (cases : List (List Fact)) → All IsOrdered facts → all_fit facts cases ≡ true → CasesOrdered cases → All IsFit (map {B = Waiting} (λ own. (above, facts ++ own)) cases)
 below_fit above facts [] ordered fit h = All-nil IsFit
 below_fit above facts (own ∷ cases) ordered fit h =
     let split = first_case h in
