@@ -1,7 +1,6 @@
 -- Steps of the closing tests.
 use Rattle.std.proofs.Common.{◌≡◌, ℕ, ◌+◌, ◌<◌, ◌≤◌, ◌^◌, Bool, true, false, ◌&&◌, List, length, get_or, take, refl, sym, ◌∙◌, arith}
-use Rattle.std.specs.Prelude.{ℤ, pos, negsuc, int_lt, int_le, nat_abs, slice_get, Some}
-use Rattle.std.proofs.lemmas.Bool.{ltb-true, le-leb}
+use Rattle.std.specs.Prelude.{ℤ, pos, negsuc, nat_abs, slice_get, Some}
 use mir.Val.{SFits}
 use mir.Syntax.{w64}
 use Rattle.std.proofs.lemmas.List.Folds.{list_all_more, list_all_at}

@@ -1,7 +1,6 @@
 -- No node is refused exactly where the nodes close the cases that wait, one after the other.
-use Rattle.std.proofs.Common.{◌≡◌, ◌⊎◌, inl, inr, ℕ, zero, suc, ◌+◌, ◌<◌, ◌≤◌, Bool, true, false, ◌&&◌, List, [], ◌∷◌, ◌++◌, length, map, length-append, refl, ap, sym, ◌∙◌, arith}
+use Rattle.std.proofs.Common.{◌≡◌, inl, inr, ℕ, ◌+◌, ◌≤◌, Bool, true, List, [], ◌∷◌, ◌++◌, length, map, length-append, refl, ◌∙◌}
 use Rattle.std.specs.Prelude.{Option, Some, None, nat_le}
-use Rattle.std.specs.List.{list_all}
 use Rattle.std.proofs.lemmas.Bool.{leb-true, le-leb}
 use Rattle.pop_net.proofs.Reactions.{and_left, and_right}
 use Rattle.pop_net.specs.LeafModel.{LeafModel}
@@ -9,10 +8,9 @@ use Rattle.pres_ast.specs.PredModel.{PredModel}
 use Rattle.cert_base.specs.declared.fact.Fact.{Fact}
 use Rattle.cert_base.specs.declared.node.Node.{Node}
 use Rattle.cert_base.specs.FactsAndCases.{base_facts}
-use Rattle.cert_base.specs.Closes.{refutes, cases_of, IsWithinLimits, ClosesUnder, refuted, by_cases, ClosesEach, no_case, next_case, Closes}
+use Rattle.cert_base.specs.Closes.{IsWithinLimits, ClosesUnder, refuted, by_cases, ClosesEach, no_case, next_case, Closes}
 use Rattle.cert_tree.specs.declared.fault.TreeWhy.{TreeWhy}
 use Rattle.cert_tree.specs.Refusals.{cases_at, all_fit, refusal, Waiting, cases_below, go_on, first_from, first_refused}
-use Rattle.cert_tree.proofs.Inversion.{by_first, by_first_case, RefutesFirst, SplitsFirst, ClosesFirst}
 use Rattle.cert_tree.proofs.Passing.{Passes, unrefused-passes, refuting-unrefused, dividing-unrefused}
 
 -- the nodes close all cases that wait, and nothing is left

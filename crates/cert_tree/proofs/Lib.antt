@@ -8,3 +8,4 @@ pub mod Ordered
 pub mod Visits
 pub mod Starts
 pub mod Verdicts
+pub mod PlainWalk

@@ -1,21 +1,19 @@
 -- What nodes that pass are.
-use Rattle.std.proofs.Common.{◌≡◌, ℕ, ◌+◌, ◌<◌, ◌≤◌, Bool, true, false, not, List, [], ◌∷◌, ◌++◌, length, refl, ap, sym, ◌∙◌, arith}
-use Rattle.std.specs.Prelude.{Option, Some, None, nat_lt, slice_get, All, if◌then◌else◌}
+use Rattle.std.proofs.Common.{◌≡◌, ℕ, ◌<◌, Bool, true, false, List, [], ◌∷◌, length, refl, sym, ◌∙◌}
+use Rattle.std.specs.Prelude.{Some, None, nat_lt}
 use Rattle.std.specs.List.{list_all}
 use Rattle.std.proofs.lemmas.Bool.{lt-ltb}
 use Rattle.pop_net.specs.LeafModel.{LeafModel}
 use Rattle.cert_base.specs.declared.fact.Term.{Term}
 use Rattle.cert_base.specs.declared.fact.Row.{Row}
 use Rattle.cert_base.specs.declared.fact.Fact.{Fact}
-use Rattle.cert_base.specs.declared.node.Node.{Node}
-use Rattle.cert_base.specs.declared.node.Node.TheVariants.{Linear, Residue, Split, Present, Twin, Trap, Siphon, Open}
+use Rattle.cert_base.specs.declared.node.Node.TheVariants.{Linear, Residue, Split, Present, Twin, Trap, Siphon}
 use Rattle.cert_base.specs.Rows.{variable_count}
 use Rattle.cert_base.specs.FactsAndCases.{can_meet, not_twice, twin_case, split_cases, present_cases, trap_cases, siphon_cases}
 use Rattle.cert_base.specs.ClosingTests.{linear_closes, residue_closes}
-use Rattle.cert_base.specs.Closes.{name_below, refutes, cases_of}
-use Rattle.cert_base.specs.Ends.{AreRefuted, Cover, CoverAll, MeetsAll, MeetsOne}
-use Rattle.cert_tree.specs.Refusals.{own_refusal, cases_at}
-use Rattle.cert_tree.specs.Frames.{IsPassed, CoverUnder}
+use Rattle.cert_base.specs.Closes.{name_below}
+use Rattle.cert_base.specs.Ends.{AreRefuted, Cover, CoverAll}
+use Rattle.cert_tree.specs.Frames.{IsPassed}
 
 pub linear_passed : (facts : List Fact) (terms : List Term) (cases : List (List Fact)) → name_below (length facts) terms ≡ true → linear_closes facts terms ≡ true → AreRefuted facts → cases ≡ [] → (leaf : LeafModel) → IsPassed leaf facts (Linear terms) cases
 linear_passed facts terms cases named closes refuted none leaf = record {

@@ -1,8 +1,7 @@
 -- A node that isn't refused refutes its facts or distinguishes cases, and a node that does so isn't refused.
-use Rattle.std.proofs.Common.{◌≡◌, ◌⊎◌, inl, inr, ℕ, zero, suc, ◌+◌, ◌<◌, ◌≤◌, Bool, true, false, not, ◌&&◌, List, [], ◌∷◌, ◌++◌, length, map, refl, ap, sym, ◌∙◌, arith}
-use Rattle.std.specs.Prelude.{Option, Some, None, unwrap_or, nat_lt, nat_le, slice_get, if◌then◌else◌}
-use Rattle.std.specs.List.{list_all}
-use Rattle.std.proofs.lemmas.Bool.{ltb-true, leb-true, lt-ltb, le-leb}
+use Rattle.std.proofs.Common.{◌≡◌, ◌⊎◌, inl, inr, ℕ, ◌<◌, Bool, true, false, not, ◌&&◌, List, [], ◌∷◌, length, refl}
+use Rattle.std.specs.Prelude.{Option, Some, None, unwrap_or, nat_lt, slice_get, if◌then◌else◌}
+use Rattle.std.proofs.lemmas.Bool.{ltb-true, lt-ltb}
 use Rattle.std.proofs.lemmas.Option.{slice_get_within}
 use Rattle.pop_net.proofs.Reactions.{and_left, and_right}
 use Rattle.pop_net.specs.LeafModel.{LeafModel}
@@ -11,12 +10,11 @@ use Rattle.cert_base.specs.declared.fact.Fact.{Fact}
 use Rattle.cert_base.specs.declared.fact.Fact.TheVariants.{Ge, Eq, Cong, NotCong, Holds}
 use Rattle.cert_base.specs.declared.node.Node.{Node}
 use Rattle.cert_base.specs.declared.node.Node.TheVariants.{Linear, Residue, Split, Present, Twin, Trap, Siphon, Open}
-use Rattle.cert_base.specs.Rows.{variable_count}
-use Rattle.cert_base.specs.FactsAndCases.{can_meet, twin_case, split_cases, present_cases, trap_cases, siphon_cases, open_cases}
-use Rattle.cert_base.specs.ClosingTests.{may_have, all_named, may_add, may_add_modulo, linear_closes, residue_closes, sum_of, each_coefficient}
+use Rattle.cert_base.specs.FactsAndCases.{can_meet}
+use Rattle.cert_base.specs.ClosingTests.{may_have, all_named, may_add, may_add_modulo}
 use Rattle.cert_base.specs.Closes.{name_below, refutes, cases_of, where_in_range, opened, only_case, IsWithinLimits}
 use Rattle.cert_tree.specs.declared.fault.TreeWhy.{TreeWhy}
-use Rattle.cert_tree.specs.declared.fault.TreeWhy.TheVariants.{Missing, TooDeep, BadIndex, NoTwin, NotOpen, NotClosed, TooManyFacts, Rest}
+use Rattle.cert_tree.specs.declared.fault.TreeWhy.TheVariants.{TooDeep, BadIndex, NoTwin, NotOpen, NotClosed, TooManyFacts}
 use Rattle.cert_tree.specs.Refusals.{in_range, has_twin, is_holds, opens_holds, closes_leaf, cases_at, all_fit, own_refusal, or_else, refusal}
 
 -- the node refutes the facts and has no case, or it has these cases

@@ -1,14 +1,13 @@
 -- The stack of nodes whose cases are being closed, while the facts are cut and grow.
-use Rattle.std.proofs.Common.{◌≡◌, ◌≢◌, ℕ, zero, suc, ◌+◌, ◌<◌, ◌≤◌, min, List, [], ◌∷◌, ◌++◌, length, map, take, reverse, refl, ap, sym, ◌∙◌, length-append, arith}
-use Rattle.std.specs.Prelude.{All, Contains, Some, None, Option, Result, Ok, Err, OnOk, remove, slice_index_or}
+use Rattle.std.proofs.Common.{◌≡◌, ℕ, zero, suc, ◌+◌, ◌<◌, ◌≤◌, List, [], ◌∷◌, ◌++◌, length, map, take, reverse, refl, ap, sym, ◌∙◌, length-append, arith}
+use Rattle.std.specs.Prelude.{All, Result, Ok, Err, OnOk, remove, slice_index_or}
 use Rattle.pop_io.specs.declared.fault.NoMemory.{NoMemory}
-use Rattle.std.proofs.Math.Seq.{take-length}
 use Rattle.std.proofs.lemmas.List.{reverse-append, length-reverse, take-append-le, length-take-le}
 use Rattle.cert_base.specs.declared.fact.Fact.{Fact}
 use Rattle.cert_tree.specs.declared.walk.Frame.{Frame}
 use Rattle.cert_tree.specs.declared.walk.Walk.{Walk}
 use Rattle.cert_tree.specs.Refusals.{Waiting}
-use Rattle.cert_tree.specs.Frames.{waits_at, waiting_under, AreNested, waiting, IsNested, IsFit, IsLatest, StandsAtFirst}
+use Rattle.cert_tree.specs.Frames.{waits_at, waiting_under, AreNested, waiting, IsFit, StandsAtFirst}
 
 pub nested_more : (m n : ℕ) (frames : List Frame) → m ≤ n → AreNested m frames → AreNested n frames
 nested_more m n [] l h = tt

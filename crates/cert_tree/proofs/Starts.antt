@@ -1,7 +1,6 @@
 -- The beginning and the end of a walk over the nodes of a tree.
-use Rattle.std.proofs.Common.{◌≡◌, ◌≢◌, ◌⊎◌, inl, inr, ℕ, zero, suc, ◌+◌, ◌<◌, ◌≤◌, Bool, true, false, List, [], ◌∷◌, ◌++◌, length, map, drop, get_or, length-append, refl, ap, sym, ◌∙◌, arith}
-use Rattle.std.specs.Prelude.{All, Contains, Some, None, Option, Result, Ok, Err, IfOk, IfErr, OnOk, slice_get, slice_index_or}
-use Rattle.std.specs.List.{range_with_len}
+use Rattle.std.proofs.Common.{◌≡◌, ◌≤◌, Bool, List, [], ◌∷◌, length, map, length-append, ap, ◌∙◌, arith}
+use Rattle.std.specs.Prelude.{Result, Ok, Err, IfOk}
 use Rattle.std.proofs.lemmas.List.FromFn.{length-map-range_with_len}
 use Rattle.std.proofs.lemmas.List.Elements.{All-nil, All-cons}
 use Rattle.pop_io.specs.declared.fault.NoMemory.{NoMemory}
@@ -9,11 +8,9 @@ use Rattle.pres_ast.specs.PredModel.{PredModel}
 use Rattle.pop_net.specs.LeafModel.{LeafModel, IsLeaf}
 use Rattle.cert_base.specs.declared.fact.Fact.{Fact}
 use Rattle.cert_base.specs.declared.fact.Fact.TheVariants.{Holds}
-use Rattle.cert_base.specs.declared.node.Node.{Node}
 use Rattle.cert_base.specs.FactsAndCases.{states_of, flow, two_agents, wrong_output, base_facts}
 use Rattle.cert_base.specs.Ends.{HoldAtWrongEnds}
 use Rattle.cert_tree.specs.declared.walk.Walk.{Walk}
-use Rattle.cert_tree.specs.Refusals.{Waiting}
 use Rattle.cert_tree.specs.Frames.{waiting, IsNested, IsFit, IsStart}
 use Rattle.cert_tree.proofs.Ordered.{base_ordered, all_of}
 

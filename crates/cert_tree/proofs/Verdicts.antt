@@ -1,23 +1,20 @@
 -- What the walk's end says of the tree.
-use Rattle.std.proofs.Common.{◌≡◌, ◌≢◌, ◌⊎◌, inl, inr, ℕ, zero, suc, ◌+◌, ◌-◌, ◌<◌, ◌≤◌, Bool, true, false, List, [], ◌∷◌, length, drop, get_or, refl, ap, sym, ◌∙◌, arith}
-use Rattle.std.specs.Prelude.{All, Contains, Some, None, Option, count_by, slice_get, slice_index, slice_index_or, nat_lt, if◌then◌else◌, ◌==◌}
+use Rattle.std.proofs.Common.{◌≡◌, ◌≢◌, ℕ, zero, suc, ◌+◌, ◌-◌, ◌<◌, ◌≤◌, Bool, true, false, List, [], ◌∷◌, length, drop, get_or, refl, ap, sym, ◌∙◌, arith}
+use Rattle.std.specs.Prelude.{Contains, Some, None, count_by, slice_index, slice_index_or, nat_lt, if◌then◌else◌, ◌==◌}
 use Rattle.std.proofs.lemmas.Bool.{lt-ltb, le-ltb}
 use Rattle.std.proofs.lemmas.Option.{slice_get-get_or}
 use Rattle.std.proofs.lemmas.List.{drop_more}
 use Rattle.pres_ast.specs.PredTree.{PredTree}
 use Rattle.pres_ast.specs.PredModel.{PredModel}
-use Rattle.pres_ast.specs.PredicateValue.{predicate_value}
 use Rattle.pop_net.specs.LeafModel.{LeafModel}
-use Rattle.pop_net.specs.InputCrowd.{leaf_input_crowd, IsInput}
+use Rattle.pop_net.specs.InputCrowd.{leaf_input_crowd}
 use Rattle.pop_net.specs.Step.{LeafStep}
-use Rattle.pop_net.specs.Reachable.{Leads, Reachable}
-use Rattle.pop_net.specs.Terminal.{IsTerminal}
-use Rattle.cert_base.specs.declared.fact.Fact.{Fact}
+use Rattle.pop_net.specs.Reachable.{Leads}
 use Rattle.cert_base.specs.declared.node.Node.{Node}
 use Rattle.cert_base.specs.FactsAndCases.{base_facts}
 use Rattle.cert_base.specs.Closes.{Closes}
 use Rattle.cert_base.specs.Valuation.{Valuation, times_taken, IsOfExecution}
-use Rattle.cert_base.specs.Ends.{IsEnd, IsWrongEnd, EndsRight, HoldAtWrongEnds}
+use Rattle.cert_base.specs.Ends.{IsWrongEnd, EndsRight, HoldAtWrongEnds}
 use Rattle.cert_tree.specs.declared.fault.TreeWhy.TheVariants.{Missing}
 use Rattle.cert_tree.specs.declared.fault.TreeFault.{TreeFault}
 use Rattle.cert_tree.specs.declared.fault.TreeFault.TheVariants.{Broken, NoMemory as OutOfMemory}
@@ -25,7 +22,7 @@ use Rattle.cert_tree.specs.declared.halt.Halt.{Halt}
 use Rattle.cert_tree.specs.declared.halt.Halt.TheVariants.{Refused, NoMemory}
 use Rattle.cert_tree.specs.Refusals.{Waiting, first_from, first_refused, IsTreeFault}
 use Rattle.cert_tree.specs.Frames.{HaltsAt, fault_at, StillCover}
-use Rattle.cert_tree.proofs.ClosedWalk.{Closes-unrefused, unrefused-Closes}
+use Rattle.cert_tree.proofs.ClosedWalk.{Closes-unrefused}
 
 -- a node at which the walk halts is the first that is refused
 pub broken_at : (leaf : LeafModel) (p : PredModel) (value : Bool) (nodes rest : List Node) (before : List Waiting) (number : ℕ) (node : Node) (halt : Halt) → first_refused leaf p value nodes ≡ first_from leaf before number (drop number nodes) → drop number nodes ≡ node ∷ rest → HaltsAt leaf before node halt → IsTreeFault leaf p value nodes (fault_at number halt)

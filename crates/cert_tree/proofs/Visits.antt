@@ -1,7 +1,6 @@
 -- One step of the walk: the next node is passed or refused.
-use Rattle.std.proofs.Common.{◌≡◌, ◌⊎◌, inl, inr, ℕ, zero, suc, ◌+◌, ◌<◌, ◌≤◌, Bool, true, false, not, ◌&&◌, List, [], ◌∷◌, ◌++◌, length, map, take, reverse, refl, ap, sym, ◌∙◌, length-append, arith}
-use Rattle.std.specs.Prelude.{Option, Some, None, All, Contains, nat_lt, nat_le, slice_index_or}
-use Rattle.std.specs.List.{list_all}
+use Rattle.std.proofs.Common.{◌≡◌, ℕ, zero, suc, ◌+◌, ◌<◌, ◌≤◌, true, false, List, [], ◌∷◌, ◌++◌, length, map, take, reverse, refl, ap, ◌∙◌, length-append, arith}
+use Rattle.std.specs.Prelude.{None, All, Contains, nat_lt, nat_le}
 use Rattle.std.proofs.Math.Seq.{take-length}
 use Rattle.std.proofs.lemmas.Bool.{lt-ltb, le-ltb, leb-true}
 use Rattle.std.proofs.lemmas.List.{length-reverse}
@@ -10,20 +9,19 @@ use Rattle.pop_net.proofs.Reactions.{and_left, and_right}
 use Rattle.pop_net.specs.LeafModel.{LeafModel}
 use Rattle.cert_base.specs.declared.fact.Fact.{Fact}
 use Rattle.cert_base.specs.declared.node.Node.{Node}
-use Rattle.cert_base.specs.Valuation.{Valuation, MeetsFact}
-use Rattle.cert_base.specs.Ends.{IsEnd, MeetsAll, MeetsOne}
+use Rattle.cert_base.specs.Valuation.{MeetsFact}
+use Rattle.cert_base.specs.Ends.{MeetsAll}
 use Rattle.cert_linear.specs.Conditions.{IsOrdered}
-use Rattle.cert_tree.specs.declared.fault.TreeWhy.{TreeWhy}
-use Rattle.cert_tree.specs.declared.fault.TreeWhy.TheVariants.{Missing, TooDeep, TooManyFacts, Rest}
+use Rattle.cert_tree.specs.declared.fault.TreeWhy.TheVariants.{TooDeep, TooManyFacts, Rest}
 use Rattle.cert_tree.specs.declared.halt.Halt.{Halt}
 use Rattle.cert_tree.specs.declared.halt.Halt.TheVariants.{Refused, NoMemory}
 use Rattle.cert_tree.specs.declared.walk.Frame.{Frame}
 use Rattle.cert_tree.specs.declared.walk.Walk.{Walk}
 use Rattle.cert_tree.specs.Format.{IsWithinFormat}
-use Rattle.cert_tree.specs.Refusals.{Waiting, first_from, cases_at, cases_below, all_fit, own_refusal, refusal}
-use Rattle.cert_tree.specs.Frames.{waits_at, waiting_under, AreNested, waiting, IsNested, IsFit, StandsAtFirst, MeetsWaiting, CoverUnder, StillCover, IsPassed, HaltsBy, GoesOn, HaltsAt}
+use Rattle.cert_tree.specs.Refusals.{Waiting, cases_at, cases_below, all_fit, own_refusal}
+use Rattle.cert_tree.specs.Frames.{waiting_under, waiting, IsNested, IsFit, StandsAtFirst, MeetsWaiting, StillCover, IsPassed, HaltsBy, GoesOn, HaltsAt}
 use Rattle.cert_tree.proofs.Stacks.{turned}
-use Rattle.cert_tree.proofs.Ordered.{CasesOrdered, AllOrdered, more_cases, no_case, all_of, cases_ordered, first_case}
+use Rattle.cert_tree.proofs.Ordered.{CasesOrdered, all_of, cases_ordered, first_case}
 
 -- ---- refused
 
@@ -55,7 +53,7 @@ contains_map f (y ∷ xs) x (zero, l, e) = (0, omega arith, ap f e)
 contains_map f (y ∷ xs) x (suc k, l, e) =
     let rest = contains_map f xs x (k, omega arith, e) in (suc rest.0, omega arith, rest.2)
 
-below_fit : (above : ℕ) (facts : List Fact) (cases : List (List Fact)) → All IsOrdered facts → all_fit facts cases ≡ true → CasesOrdered cases → All IsFit (map {B = Waiting} (λ own. (above, facts ++ own)) cases)
+pub below_fit : (above : ℕ) (facts : List Fact) (cases : List (List Fact)) → All IsOrdered facts → all_fit facts cases ≡ true → CasesOrdered cases → All IsFit (map {B = Waiting} (λ own. (above, facts ++ own)) cases)
 below_fit above facts [] ordered fit h = All-nil IsFit
 below_fit above facts (own ∷ cases) ordered fit h =
     let split = first_case h in

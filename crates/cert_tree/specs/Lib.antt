@@ -1,3 +1,4 @@
 pub mod Format
 pub mod Refusals
 pub mod Frames
+pub mod Plain

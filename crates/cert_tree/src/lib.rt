@@ -13,4 +13,6 @@ pub use fault::{TreeFault, TreeWhy};
 pub use tree::check_tree;
 
 #[cfg(test)]
+mod plain;
+#[cfg(test)]
 mod tests;

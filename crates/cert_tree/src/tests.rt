@@ -3,6 +3,7 @@ ghost use Rattle.cert_linear.specs.Conditions.{AreMultipliers};
 ghost use Rattle.cert_base.specs.declared.node.Node.TheVariants.{Split};
 ghost use Rattle.cert_tree.specs.Format.{IsWithinFormat};
 
+use crate::plain::closes;
 use crate::{TreeFault, TreeWhy, check_tree};
 use cert_base::{Node, Row, Term};
 use pop_io::{List, Text};
@@ -157,6 +158,7 @@ fn odd(alloc: Global) -> Result<Pred, AllocError> {
     ))
 }
 
+/// The verdict, which is that of the plain check.
 fn verdict(
     alloc: Global,
     leaf: &Leaf,
@@ -168,7 +170,12 @@ fn verdict(
         return Err("there is an input for each variable".into());
     }
     let nodes = tree(alloc, table)?;
-    Ok(check_tree(alloc, leaf, pred, value, &nodes))
+    let verdict = check_tree(alloc, leaf, pred, value, &nodes);
+    let plain = closes(alloc, leaf, pred, value, nodes.as_slice());
+    if plain.ok() != Some(verdict.is_ok()) {
+        return Err("the plain check says otherwise".into());
+    }
+    Ok(verdict)
 }
 
 fn broken(node: u32, why: TreeWhy) -> Result<(), TreeFault> {

@@ -127,7 +127,7 @@ impl Walk {
 }
 
 /// Adds the facts of a case.
-fn extend(trail: &mut Trail, own: List<Fact>) -> Result<(), NoMemory>
+pub(crate) fn extend(trail: &mut Trail, own: List<Fact>) -> Result<(), NoMemory>
     requires { length trail.old + length own ≤ 65536 }
     ensures { OnOk result (trail.new ≡ trail.old ++ own) }
 {
@@ -140,7 +140,7 @@ fn extend(trail: &mut Trail, own: List<Fact>) -> Result<(), NoMemory>
 }
 
 /// Whether the trail with the facts of each case is short enough.
-fn has_room(trail: &Trail, cases: &[List<Fact>]) -> bool
+pub(crate) fn has_room(trail: &Trail, cases: &[List<Fact>]) -> bool
     ensures { result ≡ all_fit trail.now cases.now }
 {
     are_short(cases, FACTS - trail.len() as usize)

@@ -1,4 +1,4 @@
-use Rattle.std.proofs.Common.{◌≡◌, ◌<◌, length, arith}
+use Rattle.std.proofs.Common.{◌<◌, length, arith}
 use Rattle.cert_tree.proofs.Passed.{present_passed}
 use Rattle.cert_tree.proofs.nodes.present_node.Goals as goal
 

@@ -1,5 +1,4 @@
-use Rattle.std.proofs.Common.{◌≡◌, ◌∙◌, sym, true, length}
-use Rattle.cert_base.specs.Closes.{name_below}
+use Rattle.std.proofs.Common.{◌∙◌, sym}
 use Rattle.cert_tree.proofs.Passed.{residue_passed}
 use Rattle.cert_tree.proofs.nodes.residue_node.Goals as goal
 

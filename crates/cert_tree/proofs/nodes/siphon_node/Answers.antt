@@ -1,4 +1,4 @@
-use Rattle.std.proofs.Common.{◌≡◌, ◌∙◌, sym, true}
+use Rattle.std.proofs.Common.{◌∙◌, sym}
 use Rattle.cert_tree.proofs.Passed.{siphon_passed}
 use Rattle.cert_tree.proofs.nodes.siphon_node.Goals as goal
 

@@ -1,4 +1,4 @@
-use Rattle.std.proofs.Common.{◌≡◌, ◌∙◌, sym, true}
+use Rattle.std.proofs.Common.{◌∙◌, sym}
 use Rattle.cert_tree.proofs.Passed.{trap_passed}
 use Rattle.cert_tree.proofs.nodes.trap_node.Goals as goal
 

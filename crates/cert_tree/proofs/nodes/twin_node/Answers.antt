@@ -1,4 +1,4 @@
-use Rattle.std.proofs.Common.{◌≡◌, ◌<◌, ◌∙◌, ◌∷◌, [], sym, ap, length, arith}
+use Rattle.std.proofs.Common.{◌<◌, ◌∙◌, length, arith}
 use Rattle.cert_tree.proofs.Passed.{twin_passed}
 use Rattle.cert_tree.proofs.nodes.twin_node.Goals as goal
 

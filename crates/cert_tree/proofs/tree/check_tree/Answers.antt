@@ -1,12 +1,10 @@
-use Rattle.std.proofs.Common.{◌≡◌, ◌<◌, ◌≤◌, ◌+◌, ◌∙◌, ◌∷◌, List, [], refl, sym, ap, drop, length, arith}
+use Rattle.std.proofs.Common.{◌≡◌, ◌≤◌, ◌+◌, ◌∙◌, ◌∷◌, [], ap, drop, length, arith}
 use Rattle.std.specs.Prelude.{Some}
-use Rattle.std.proofs.lemmas.List.{drop_more}
 use Rattle.cert_base.specs.FactsAndCases.{base_facts}
-use Rattle.cert_base.specs.declared.node.Node.{Node}
 use Rattle.cert_tree.specs.declared.fault.TreeWhy.TheVariants.{Missing}
 use Rattle.cert_tree.specs.declared.fault.TreeFault.TheVariants.{Broken}
 use Rattle.cert_tree.specs.Refusals.{first_from}
-use Rattle.cert_tree.specs.Frames.{waiting, StandsAtFirst, fault_at}
+use Rattle.cert_tree.specs.Frames.{waiting, StandsAtFirst}
 use Rattle.cert_tree.proofs.ClosedWalk.{unrefused-Closes}
 use Rattle.cert_tree.proofs.Verdicts.{broken_at, missing_at, none_at, only_memory, closed_right, cover_on, drop_all, item_at}
 use Rattle.cert_tree.proofs.tree.check_tree.Goals as goal

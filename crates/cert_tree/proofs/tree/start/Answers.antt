@@ -1,4 +1,3 @@
-use Rattle.std.proofs.Common.{◌≡◌, ◌≤◌, length, arith}
 use Rattle.cert_tree.proofs.Starts.{base_few, starts_at}
 use Rattle.cert_tree.proofs.tree.start.Goals as goal
 

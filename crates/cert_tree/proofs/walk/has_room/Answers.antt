@@ -1,7 +1,6 @@
 use Rattle.std.proofs.Common.{◌≡◌, ◌∙◌, ◌≤◌, ◌-◌, ap, length, arith}
 use Rattle.std.specs.Prelude.{nat_le}
 use Rattle.std.specs.List.{list_all}
-use Rattle.cert_base.specs.declared.fact.Fact.{Fact}
 use Rattle.cert_tree.proofs.Rooms.{short-fit}
 use Rattle.cert_tree.proofs.walk.has_room.Goals as goal
 

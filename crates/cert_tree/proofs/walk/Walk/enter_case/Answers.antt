@@ -1,6 +1,5 @@
-use Rattle.std.proofs.Common.{◌≡◌, ◌∷◌, ◌∙◌, refl, sym, ap, length, List, [], ◌+◌, ◌≤◌}
-use Rattle.std.specs.Prelude.{slice_index_or, remove}
-use Rattle.cert_base.specs.declared.fact.Fact.{Fact}
+use Rattle.std.proofs.Common.{refl}
+use Rattle.std.specs.Prelude.{remove}
 use Rattle.cert_tree.proofs.Stacks.{first_and_rest, entered_when, room_for}
 use Rattle.cert_tree.proofs.walk.Walk.enter_case.Goals as goal
 

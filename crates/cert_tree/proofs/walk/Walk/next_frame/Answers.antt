@@ -1,4 +1,4 @@
-use Rattle.std.proofs.Common.{◌≡◌, ◌∙◌, refl, sym, ap, length, vec_len, arith, rules}
+use Rattle.std.proofs.Common.{◌≡◌, ◌∙◌, sym, length, vec_len, rules}
 use Rattle.std.proofs.lemmas.Bool.{eqb-true}
 use Rattle.cert_tree.proofs.Stacks.{nested_more, popped_empty, popped_nested}
 use Rattle.cert_tree.proofs.walk.Walk.next_frame.Goals as goal

@@ -1,8 +1,8 @@
-use Rattle.std.proofs.Common.{◌≡◌, ◌∙◌, refl, sym, ap, true, [], arith, rules}
+use Rattle.std.proofs.Common.{◌≡◌, refl, true, [], arith, rules}
 use Rattle.cert_tree.specs.declared.walk.Frame.{Frame}
 use Rattle.cert_tree.specs.declared.walk.Walk.{Walk}
 use Rattle.cert_tree.specs.Refusals.{cases_at, all_fit}
-use Rattle.cert_tree.specs.Frames.{waiting, StandsAtFirst, IsPassed}
+use Rattle.cert_tree.specs.Frames.{waiting, StandsAtFirst}
 use Rattle.cert_tree.proofs.Visits.{passed_fit, passed_cover}
 use Rattle.cert_tree.proofs.walk.Walk.visit.Goals as goal
 
