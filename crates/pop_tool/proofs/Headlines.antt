@@ -88,7 +88,7 @@ module _ (net : NetModel) (end : CrowdModel) (tuples : All (IsTuple net) end) (v
   verdict_ends (Some (a, b)) v is e = absurd cc
 
 module _ (spec : RunSpec) (input text : List ℕ) (status : Status) (run : WasRun status) (first second : List ℕ) (lines : lines_of input ≡ first ∷ second ∷ []) (value : Option Data) (reads : Reads first value) where
-  tale_says : (bundle : Bundle) (counts : List ℕ) → begun value second ≡ Ok (bundle, counts) → IsJudged bundle None → (told : Given) → RunTells spec first second bundle.net bundle.pred counts told → text ≡ told.0 → RunSays spec input text
+  tale_says : (bundle : Bundle) (counts : List ℕ) → begun value second ≡ Ok (bundle, counts) → IsJudged bundle None → (told : Given) → RunTells spec (ended first ++ ended second) bundle.net bundle.pred counts told → text ≡ told.0 → RunSays spec input text
   tale_says bundle counts begins judged told tells is =
       let end = tells.1 in
       let tuples = run_tuples bundle.net counts (begun_two value second bundle counts begins) spec tells.0 end tells.3 in

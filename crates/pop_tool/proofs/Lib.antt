@@ -11,3 +11,4 @@ mod Certified
 mod PlayTuples
 mod One
 mod Headlines
+mod Puts

@@ -91,7 +91,7 @@ one_check (Ok line) x y p q =
 
 module _ (spec : RunSpec) (alone : spec.workers ≡ 1) (first second : List ℕ) where
   module _ (net : NetModel) (pred : PredModel) (counts : List ℕ) (two : 2 ≤ sum counts) where
-    one_tale : (given other : Given) → RunTells spec first second net pred counts given → RunTells spec first second net pred counts other → given ≡ other
+    one_tale : (given other : Given) → RunTells spec (ended first ++ ended second) net pred counts given → RunTells spec (ended first ++ ended second) net pred counts other → given ≡ other
     one_tale given other p q =
         let start = input_crowd net counts in
         let truth = predicate_value pred.tree counts in

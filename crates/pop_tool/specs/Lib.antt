@@ -12,9 +12,11 @@ pub mod Judged
 pub mod Check
 pub mod Play
 pub mod Run
+pub mod Told
+pub mod Asked
 pub mod Answer
 pub mod Plain
 pub mod Outcome
-pub mod Told
+pub mod Replies
 pub mod OneAnswer
 pub mod Headline

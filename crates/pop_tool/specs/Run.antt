@@ -48,14 +48,14 @@ abbrev pub pair_in : End → Option (ℕ × ℕ)
 pair_in Terminal = None
 pair_in (Open a b) = Some (a, b)
 
--- the two input lines, and the journal of a run of the net from the input crowd
-abbrev pub RunTells : RunSpec → List ℕ → List ℕ → NetModel → PredModel → List ℕ → Given → Type 0
-RunTells spec first second net pred counts given =
-    (rounds : List (List Meeting)) × (end : CrowdModel) × (pair : Option (ℕ × ℕ)) × IsRun net (input_crowd net counts) spec rounds end × IsLast net end pair × (given ≡ (ended first ++ ended second ++ journal_text net spec rounds end (last_of (predicate_value pred.tree counts) pair), ending_of pair))
+-- the input lines, and the journal of a run of the net from the input crowd
+abbrev pub RunTells : RunSpec → List ℕ → NetModel → PredModel → List ℕ → Given → Type 0
+RunTells spec lines net pred counts given =
+    (rounds : List (List Meeting)) × (end : CrowdModel) × (pair : Option (ℕ × ℕ)) × IsRun net (input_crowd net counts) spec rounds end × IsLast net end pair × (given ≡ (lines ++ journal_text net spec rounds end (last_of (predicate_value pred.tree counts) pair), ending_of pair))
 
 -- a valid proof lets its net run
 abbrev pub OfJudged : RunSpec → List ℕ → List ℕ → Bundle → List ℕ → Option Rejected → Given → Type 0
-OfJudged spec first second bundle counts None given = RunTells spec first second bundle.net bundle.pred counts given
+OfJudged spec first second bundle counts None given = RunTells spec (ended first ++ ended second) bundle.net bundle.pred counts given
 OfJudged spec first second bundle counts (Some rejected) given = given ≡ rejection rejected
 
 abbrev pub OfBegun : RunSpec → List ℕ → List ℕ → Result (Bundle × List ℕ) Refusal → Result Given Refusal → Type 0

@@ -3,10 +3,10 @@
 //! The layer above uses: what the sink gains and the status are what `specs/Answer.antt` gives.
 #![tactic(auto)]
 
+mod asked;
 mod bundle;
 mod check;
 mod command;
-mod crew;
 mod eval;
 mod json;
 mod law;
