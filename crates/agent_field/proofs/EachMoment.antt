@@ -27,6 +27,7 @@ use Rattle.agent_field.proofs.Draws.{known_after, draws_keep}
 use Rattle.agent_field.proofs.Watching.{looks_keep}
 use Rattle.agent_field.proofs.Seating.{splits_keep, joins_keep}
 use Rattle.agent_field.proofs.Founding.{founds_keep}
+use Rattle.agent_field.proofs.OneHistory.{one_history}
 
 abbrev At : About → List ℕ → List View → List Meeting → Type 0
 At k words views history = (seat : ℕ → Option ℕ) × StandsAt k words views history seat
@@ -116,6 +117,7 @@ pub each_moment : EachMomentStands
 each_moment k = record {
   opened = opened k;
   stands = λ words views history h. ⊎_elim (λ (un : IsUnfounded k words views × (history ≡ [])). inl un.0) (λ (t : At k words views history). inr (history, t.0, t.1)) h;
+  one = one_history k;
   quiet = quiet k;
   draw = draw k;
   runs = runs k;

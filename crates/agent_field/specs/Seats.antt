@@ -31,6 +31,10 @@ start_of f = crowd_of (net_of f) (opening_of f)
 abbrev pub IsSeatOf : Field → FieldSeat → Type 0
 IsSeatOf f s = (s.seat.table_id ≡ f.table.shared.table_id) × (s.seat.me.0.about ≡ f.table.shared.key)
 
+-- a seat of any field is still one of it
+abbrev pub KeepsField : FieldSeat → FieldSeat → Type 0
+KeepsField s t = (f : Field) → IsSeatOf f s → IsSeatOf f t
+
 abbrev pub number_of : FieldSeat → ℕ
 number_of s = s.number
 
