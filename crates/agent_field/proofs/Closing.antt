@@ -24,7 +24,7 @@ use Rattle.agent_field.proofs.Histories.{length-replay, calls_from-below}
 use Rattle.agent_field.proofs.Moves.{founded}
 use Rattle.agent_field.proofs.Arranged.{nobody, AreLogsOf, calls_from-has, arranged}
 
-some_value : {A : Type 0} (o : Option A) → IsSome o → (a : A) × (o ≡ Some a)
+pub some_value : {A : Type 0} (o : Option A) → IsSome o → (a : A) × (o ≡ Some a)
 some_value None h = absurd (true≢false (sym h))
 some_value (Some a) h = (a, refl)
 

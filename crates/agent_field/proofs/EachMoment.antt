@@ -18,7 +18,7 @@ use Rattle.pop_crowd.specs.Replay.{reacts}
 use Rattle.agent_field.specs.declared.view.About.{About}
 use Rattle.agent_field.specs.declared.view.View.{View}
 use Rattle.agent_field.specs.History.{made}
-use Rattle.agent_field.specs.Standing.{agents_of, crowd_after, In, StandsAt, IsUnfounded, founder, spent}
+use Rattle.agent_field.specs.Standing.{agents_of, crowd_after, Stands, In, StandsAt, IsUnfounded, founder, spent}
 use Rattle.agent_field.specs.Steps.{IsReaction, first_seat, meeting, looking}
 use Rattle.agent_field.specs.Kinds.{Sits, QuietStep, makes, locks, finds_locked, reads, writes, unlocks, splits, joins, looks, DrawStep, draws, FieldRun, stays, goes, meets, HasHistory, opening_words, EachMomentStands}
 use Rattle.agent_field.proofs.Keeps.{locks_keep, releases_keep, reads_keep, writes_keep}
@@ -27,6 +27,7 @@ use Rattle.agent_field.proofs.Draws.{known_after, draws_keep}
 use Rattle.agent_field.proofs.Watching.{looks_keep}
 use Rattle.agent_field.proofs.Seating.{splits_keep, joins_keep}
 use Rattle.agent_field.proofs.Founding.{founds_keep}
+use Rattle.agent_field.proofs.OneHistory.{one_history}
 
 abbrev At : About → List ℕ → List View → List Meeting → Type 0
 At k words views history = (seat : ℕ → Option ℕ) × StandsAt k words views history seat
@@ -112,10 +113,20 @@ module _ (k : About) where
       each zero v e = inl (refl, sym (some-injective (founder k) v e))
       each (suc id) v e = absurd (some-ne-none v (sym e))
 
+found : (k : About) (words : List ℕ) (views : List View) → Stands k words views → (history : List Meeting) × HasHistory k words views history
+found k words views h =
+    ⊎_elim
+    {C = (history : List Meeting) × HasHistory k words views history}
+    (λ (un : IsUnfounded k words views). ([], inl (un, refl)))
+    (λ (t : (history : List Meeting) × (seat : ℕ → Option ℕ) × StandsAt k words views history seat). (t.0, inr (t.1, t.2)))
+    h
+
 pub each_moment : EachMomentStands
 each_moment k = record {
   opened = opened k;
   stands = λ words views history h. ⊎_elim (λ (un : IsUnfounded k words views × (history ≡ [])). inl un.0) (λ (t : At k words views history). inr (history, t.0, t.1)) h;
+  has_history = found k;
+  one = one_history k;
   quiet = quiet k;
   draw = draw k;
   runs = runs k;

@@ -11,3 +11,5 @@ pub mod Drawn
 pub mod Arranged
 pub mod Closing
 pub mod Below
+pub mod OneHistory
+pub mod Called

@@ -63,6 +63,9 @@ opening_words k = replicate (2 + k.shards) 0 ++ map (λ w. w.0) k.opening.value
 pub record MomentsStand (k : About) : Type 0 where
   pub opened : (0 < k.shards) → (0 < k.seats) → k.seats ≤ 64 → AreValid k.net.value k.opening.value → HasHistory k (opening_words k) (founder k ∷ []) []
   pub stands : (words : List ℕ) (views : List View) (history : List Meeting) → HasHistory k words views history → Stands k words views
+  pub has_history : (words : List ℕ) (views : List View) → Stands k words views → (history : List Meeting) × HasHistory k words views history
+  -- there is just one such history
+  pub one : (words : List ℕ) (views : List View) (first second : List Meeting) → HasHistory k words views first → HasHistory k words views second → first ≡ second
   -- no step but the draw changes the history, and so what it gives for any agent
   pub quiet : (words : List ℕ) (views : List View) (words' : List ℕ) (views' : List View) (history : List Meeting)
       → QuietStep k words views words' views' → HasHistory k words views history → HasHistory k words' views' history

@@ -31,6 +31,10 @@ start_of f = crowd_of (net_of f) (opening_of f)
 abbrev pub IsSeatOf : Field → FieldSeat → Type 0
 IsSeatOf f s = (s.seat.table_id ≡ f.table.shared.table_id) × (s.seat.me.0.about ≡ f.table.shared.key)
 
+-- the seat is still of the same field
+abbrev pub KeepsField : FieldSeat → FieldSeat → Type 0
+KeepsField s t = (t.seat.table_id ≡ s.seat.table_id) × (t.seat.me.0.about ≡ s.seat.me.0.about)
+
 abbrev pub number_of : FieldSeat → ℕ
 number_of s = s.number
 

@@ -66,7 +66,7 @@ impl<'n> Field<'n> {
 }
 
 impl FieldSeat {
-    ghost use Rattle.agent_field.specs.Seats.{number_of, log_of, made_of, spare_of, left_of, looks_of, spare_looks_of, KeepsRest};
+    ghost use Rattle.agent_field.specs.Seats.{number_of, log_of, made_of, spare_of, left_of, looks_of, spare_looks_of, KeepsField, KeepsRest};
 
     pub fn number(&self) -> u16
         ensures { result ≡ number_of self.now }
@@ -123,7 +123,7 @@ impl FieldSeat {
         ensures none { OnErr result (spare_of self.new ≡ spare_of self.old) }
         ensures own { log_of self.new ≡ log_of self.old }
         ensures rest { KeepsRest self.old self.new }
-        ensures seat { self.new.seat ≡ self.old.seat }
+        ensures field { KeepsField self.old self.new }
     {
         if self.spare < turns {
             self.log.reserve(turns as usize)?;

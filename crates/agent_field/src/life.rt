@@ -1,6 +1,6 @@
 //! How a field begins, and how its seats are dealt and taken in.
 
-ghost use Rattle.std.specs.Prelude.{◌≡◌, ◌+◌, ◌<◌, ◌≤◌, length, map, [], ◌++◌, IfOk, IfErr, OnOk, OnErr, replicate, slice_set, None, Some};
+ghost use Rattle.std.specs.Prelude.{◌≡◌, ◌+◌, ◌<◌, ◌≤◌, length, map, [], ◌++◌, IfOk, IfErr, OnOk, OnErr, replicate, slice_set, slice_index_or, None, Some};
 
 use crate::field::{Field, FieldSeat};
 use crate::view::{About, Deal, Found, Logged, Rule, View};
@@ -128,6 +128,7 @@ impl<'n> Field<'n> {
         requires first { number_of seat.old ≡ 0 }
         ensures ours { IsSeatOf self.now seat.new }
         ensures taken { OnOk result (taken_of seat.new ≡ slice_set (taken_of seat.old) (number_of other) (Some (log_of other))) }
+        ensures there { OnOk result (slice_index_or (taken_of seat.new) (number_of other) None ≡ Some (log_of other)) }
         ensures rest { KeepsOwn seat.old seat.new × (next_of seat.new ≡ next_of seat.old) × (left_of seat.new ≡ left_of seat.old) }
         ensures refused { IfErr result (λ r. (r.0 ≡ other) × (taken_of seat.new ≡ taken_of seat.old)) }
     {
