@@ -35,7 +35,7 @@ no_rounds net start spec =
     }
 
 -- an item of a list with one more at its end is an item of the list, or the one
-get_pushed : {A : Type 0} (xs : List A) (x y : A) (k : ℕ) → slice_get (xs ++ x ∷ []) k ≡ Some y → (slice_get xs k ≡ Some y) ⊎ ((k ≡ length xs) × (x ≡ y))
+pub get_pushed : {A : Type 0} (xs : List A) (x y : A) (k : ℕ) → slice_get (xs ++ x ∷ []) k ≡ Some y → (slice_get xs k ≡ Some y) ⊎ ((k ≡ length xs) × (x ≡ y))
 get_pushed [] x y zero h = inr (refl, cc)
 get_pushed [] x y (suc k) h = cc
 get_pushed (z ∷ xs) x y zero h = inl h

@@ -1,30 +1,59 @@
 //! Runs by all workers.
 
-ghost use Rattle.std.specs.Prelude.{◌≡◌, ◌-◌, ◌^◌, ◌≤◌, length, IfOk};
+ghost use Rattle.std.specs.Prelude.{◌≡◌, ℕ, ◌-◌, ◌*◌, ◌^◌, ◌<◌, ◌≤◌, length, IfOk, slice_index_or};
 ghost use Rattle.pop_net.specs.Lanes.{crowd_of, AreValid};
+ghost use Rattle.pair_workers.specs.Picks.{first_state};
 ghost use Rattle.pair_workers.specs.Run.{IsRun};
 ghost use Rattle.pair_workers.specs.OneRun.{IsOnlyRun};
 ghost use Rattle.pair_workers.specs.Ends.{EndsBy};
 
-use crate::alone::{RunEnd, run_alone};
+use crate::alone::{End, ROUND, RunEnd, run_alone};
+use crate::picker::Picker;
+use crate::round::run_round;
+use agent_field::Round;
 use pop_crowd::Crowd;
-use pop_io::{Gate, NoMemory};
-use pop_net::Net;
+use pop_io::{Gate, List, NoMemory};
+use pop_net::{Net, Word};
 use pop_words::RunSpec;
 use std::alloc::Global;
 use std::sync::Wait;
 use std::thread::Threads;
+use terminal_test::enabled_pair;
 
-/// A run by all workers that the numbers of the run name, which today is one: it meets on the plain crowd.
-pub fn run_all<R: Threads + Wait + Sync, G: Gate>(
-    _rt: &R,
+/// The pickers of all workers, of which none has made a pick.
+fn first_pickers(alloc: Global, spec: &RunSpec) -> Result<Vec<Picker>, NoMemory>
+    requires seed { spec.now.seed ≤ 2 ^ 63 - 1 }
+    ensures long { IfOk result (λ pickers. length pickers.items ≡ spec.now.workers) }
+    ensures first { IfOk result (λ pickers. (w : ℕ) (d : _) → w < spec.now.workers → slice_index_or pickers.items w d ≡ first_state spec.now.seed w) }
+{
+    let mut pickers = Vec::new(alloc);
+    'workers: for worker in 0..spec.workers {
+        pickers.push(Picker::new(spec.seed, worker))?;
+    }
+    Ok(pickers)
+}
+
+/// The crowd of a round's words, which are as many as before.
+fn next_crowd(net: &Net, before: Crowd, words: List<Word>) -> Crowd
+    requires valid { AreValid net.now words }
+    requires agents { length words ≡ length before }
+    ensures { result ≡ words }
+{
+    let _ = before.len();
+    Crowd::of_words(net, words)
+}
+
+/// A run by any number of workers, round by round. Before each round the crowd is looked at.
+fn run_many<R: Threads + Wait + Sync, G: Gate>(
+    rt: &R,
     alloc: Global,
     net: &Net,
     crowd: Crowd,
     spec: &RunSpec,
     gate: &G,
 ) -> Result<RunEnd, NoMemory>
-    requires alone { spec.now.workers ≡ 1 }
+    requires workers { (1 ≤ spec.now.workers) × (spec.now.workers ≤ 64) }
+    requires shards { (1 ≤ spec.now.shards) × (spec.now.shards ≤ 1024) }
     requires turns { spec.now.turns ≤ 1000000 }
     requires seed { spec.now.seed ≤ 2 ^ 63 - 1 }
     requires valid { AreValid net.now crowd }
@@ -32,7 +61,57 @@ pub fn run_all<R: Threads + Wait + Sync, G: Gate>(
     ensures end { IfOk result (λ run. EndsBy net.now (crowd_of net.now run.crowd) spec.now (length run.rounds) run.end) }
     ensures valid { IfOk result (λ run. AreValid net.now run.crowd) }
     ensures agents { IfOk result (λ run. length run.crowd ≡ length crowd) }
-    ensures only { IfOk result (λ run. IsOnlyRun net.now (crowd_of net.now crowd) spec.now run.rounds (crowd_of net.now run.crowd)) }
 {
-    run_alone(alloc, net, crowd, spec, gate)
+    let mut crowd = crowd;
+    let mut pickers = first_pickers(alloc, spec)?;
+    let mut rounds = Vec::new(alloc);
+    let mut left = spec.turns;
+    'rounds: while let Some((a, b)) = enabled_pair(alloc, net, &crowd)? {
+        if left == 0 {
+            return Ok(RunEnd {
+                rounds: List::from_vec(rounds),
+                crowd,
+                end: End::Open(a, b),
+            });
+        }
+        let turns = ROUND.min(left);
+        let lent = pickers.as_mut_slice();
+        let Round { words, meetings } = run_round(rt, alloc, net, &crowd, spec, lent, turns, gate)?;
+        crowd = next_crowd(net, crowd, words);
+        rounds.push(meetings)?;
+        left -= turns;
+    }
+    Ok(RunEnd {
+        rounds: List::from_vec(rounds),
+        crowd,
+        end: End::Terminal,
+    })
+}
+
+/// A run by all workers that the numbers of the run name: one worker meets on the plain crowd, and more on fields.
+pub fn run_all<R: Threads + Wait + Sync, G: Gate>(
+    rt: &R,
+    alloc: Global,
+    net: &Net,
+    crowd: Crowd,
+    spec: &RunSpec,
+    gate: &G,
+) -> Result<RunEnd, NoMemory>
+    requires workers { (1 ≤ spec.now.workers) × (spec.now.workers ≤ 64) }
+    requires shards { (1 ≤ spec.now.shards) × (spec.now.shards ≤ 1024) }
+    requires turns { spec.now.turns ≤ 1000000 }
+    requires product { spec.now.workers * spec.now.turns ≤ 2000000 }
+    requires seed { spec.now.seed ≤ 2 ^ 63 - 1 }
+    requires valid { AreValid net.now crowd }
+    ensures run { IfOk result (λ run. IsRun net.now (crowd_of net.now crowd) spec.now run.rounds (crowd_of net.now run.crowd)) }
+    ensures end { IfOk result (λ run. EndsBy net.now (crowd_of net.now run.crowd) spec.now (length run.rounds) run.end) }
+    ensures valid { IfOk result (λ run. AreValid net.now run.crowd) }
+    ensures agents { IfOk result (λ run. length run.crowd ≡ length crowd) }
+    // No other rounds and no other end are a run by one worker.
+    ensures only { spec.now.workers ≡ 1 → IfOk result (λ run. IsOnlyRun net.now (crowd_of net.now crowd) spec.now run.rounds (crowd_of net.now run.crowd)) }
+{
+    if spec.workers == 1 {
+        return run_alone(alloc, net, crowd, spec, gate);
+    }
+    run_many(rt, alloc, net, crowd, spec, gate)
 }

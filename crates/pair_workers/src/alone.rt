@@ -17,7 +17,7 @@ use std::alloc::Global;
 use terminal_test::enabled_pair;
 
 /// The greatest number of meetings of a worker in a round.
-const ROUND: u64 = 4096;
+pub(crate) const ROUND: u64 = 4096;
 
 /// Why a run ended.
 #[derive(Clone, Copy, Debug, PartialEq, Eq)]
@@ -81,7 +81,7 @@ pub fn run_alone<G: Gate>(
 }
 
 /// So many meetings, one after the other.
-fn play_round<G: Gate>(
+pub(crate) fn play_round<G: Gate>(
     alloc: Global,
     net: &Net,
     crowd: &mut Crowd,

@@ -1,5 +1,5 @@
 //! Workers that let agents meet by their picks, round by round.
-//! It stands on `pop_crowd`, `terminal_test`, `rand_xoshiro` and `rand_core`.
+//! It stands on `pop_crowd`, `agent_field`, `terminal_test`, `rand_xoshiro` and `rand_core`.
 //! The layer above uses: `Picker::pick` is Picks, and the rounds of `run_alone` and `run_all` are a run by `IsRun`.
 #![tactic(auto)]
 
@@ -7,11 +7,14 @@ mod all;
 mod alone;
 mod examples;
 mod picker;
+mod round;
+mod work;
 
 pub use all::run_all;
 pub use alone::{End, RunEnd, run_alone};
 pub use examples::{pick_examples, run_examples};
 pub use picker::Picker;
+pub use round::run_round;
 
 #[cfg(test)]
 mod tests;

@@ -1,11 +1,12 @@
 //! The pairs of agents that a worker lets meet.
 
-ghost use Rattle.std.specs.Prelude.{◌≡◌, ◌≢◌, ℕ, ◌+◌, ◌-◌, ◌^◌, ◌<◌, ◌≤◌, suc, ◌∷◌};
+ghost use Rattle.std.specs.Prelude.{◌≡◌, ◌≢◌, ℕ, ◌+◌, ◌-◌, ◌^◌, ◌<◌, ◌≤◌, suc, ◌∷◌, IfOk};
 ghost use Rattle.rand_core.specs.Stream.{next_u64};
 ghost use Rattle.rand_core.specs.Steps.{stream_of, steps_u64_high};
 ghost use Rattle.rand_xoshiro.specs.Xoshiro256.{plus_plus};
 ghost use Rattle.pair_workers.specs.Picks.{words_from, first_state, pick_of, picks_from, picks};
 
+use pop_io::NoMemory;
 use rand_core::{Rng, SeedableRng};
 use rand_xoshiro::Xoshiro256PlusPlus;
 use std::marker::Model;
@@ -35,6 +36,15 @@ impl Picker {
         Picker {
             words: Xoshiro256PlusPlus::seed_from_u64(seed + u64::from(worker)),
         }
+    }
+
+    /// A picker that makes the same picks.
+    pub(crate) fn copy(&self) -> Result<Picker, NoMemory>
+        ensures { IfOk result (λ picker. picker ≡ self.now) }
+    {
+        Ok(Picker {
+            words: self.words.clone()?,
+        })
     }
 
     /// Two different agents of `n`, from the next word. It takes no memory.

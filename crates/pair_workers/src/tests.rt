@@ -1,4 +1,5 @@
-ghost use Rattle.std.specs.Prelude.{◌≤◌};
+ghost use Rattle.std.specs.Prelude.{◌≤◌, ◌*◌, ◌^◌, ◌-◌};
+ghost use Rattle.pop_net.specs.Lanes.{AreValid};
 
 use crate::*;
 use pop_crowd::{Crowd, Meeting};
@@ -6,7 +7,9 @@ use pop_io::{List, OpenGate, Text};
 use pop_net::{Item, Leaf, Move, Net};
 use pop_words::RunSpec;
 use std::alloc::{AllocError, Global};
+use std::sync::Wait;
 use std::test::Fail;
+use std::thread::Threads;
 
 #[test]
 fn first_picks(rt: HostRuntime) {
@@ -184,5 +187,89 @@ fn the_stream_goes_on(rt: HostRuntime) -> Result<(), Fail> {
     let run = run(rt.alloc(), 2000, 2000, 10_000)?.ok_or("a run")?;
     let mut picker = Picker::new(0, 0);
     assert!(rt; goes_on(run.rounds.as_slice(), &mut picker));
+    Ok(())
+}
+
+/// Whether each meeting of the list changes what it says, one after the other.
+fn replays(net: &Net, crowd: &mut Crowd, meetings: &[Meeting]) -> bool
+    requires { AreValid net.now crowd.old }
+    ensures { AreValid net.now crowd.new }
+{
+    for meeting in meetings {
+        if meeting.a == meeting.b || crowd.len() <= meeting.a || crowd.len() <= meeting.b {
+            return false;
+        }
+        if crowd.meet(net, meeting.a, meeting.b) != meeting.changed {
+            return false;
+        }
+    }
+    true
+}
+
+fn same_words(one: &Crowd, other: &Crowd) -> bool {
+    if one.len() != other.len() {
+        return false;
+    }
+    for agent in 0..one.len() {
+        if one.word(agent) != other.word(agent) {
+            return false;
+        }
+    }
+    true
+}
+
+/// Whether the rounds of a run lead from one crowd to the other.
+fn leads(net: &Net, start: Crowd, rounds: &[List<Meeting>], end: &Crowd) -> bool
+    requires { AreValid net.now start }
+{
+    let mut crowd = start;
+    for round in rounds {
+        if !replays(net, &mut crowd, round.as_slice()) {
+            return false;
+        }
+    }
+    same_words(&crowd, end)
+}
+
+/// Whether a run of majority by many workers over two shards is what the plain crowd gives.
+fn many_are_as_one<R: Threads + Wait + Sync>(
+    rt: &R,
+    alloc: Global,
+    workers: u16,
+    turns: u64,
+) -> Result<bool, Fail>
+    requires workers { (1 ≤ workers) × (workers ≤ 64) }
+    requires turns { turns ≤ 1000000 }
+    requires product { workers * turns ≤ 2000000 }
+{
+    let net = majority(alloc)?;
+    if net.var_count() != 2 {
+        return Ok(false);
+    }
+    let crowd = Crowd::of_counts(alloc, &net, &[120, 80])
+        .ok()
+        .ok_or("a crowd")?;
+    let start = crowd.copy(alloc)?;
+    let spec = RunSpec {
+        workers,
+        shards: 2,
+        turns,
+        seed: 7,
+    };
+    let run = run_all(rt, alloc, &net, crowd, &spec, &OpenGate)
+        .ok()
+        .ok_or("a run")?;
+    Ok(leads(&net, start, run.rounds.as_slice(), &run.crowd))
+}
+
+#[test]
+fn four_workers_are_as_one(rt: HostRuntime) -> Result<(), Fail> {
+    assert!(rt; many_are_as_one(&rt, rt.alloc(), 4, 6_000)?);
+    Ok(())
+}
+
+#[test]
+fn sixty_four_workers_are_as_one(rt: HostRuntime) -> Result<(), Fail> {
+    assert!(rt; many_are_as_one(&rt, rt.alloc(), 64, 60)?);
     Ok(())
 }

@@ -1,0 +1,151 @@
+-- Rounds of many workers, one after the other.
+use Rattle.std.proofs.Common.{◌≡◌, ◌⊎◌, inl, inr, ℕ, zero, suc, ◌+◌, ◌-◌, ◌*◌, ◌<◌, ◌≤◌, ◌==◌, min, List, [], ◌∷◌, ◌++◌, length, get_or, set, take, refl, ap, sym, subst, ◌∙◌, arith, get_or-set_same}
+use Rattle.std.specs.Prelude.{Some, slice_get}
+use Rattle.std.proofs.lemmas.Bool.{cases_lt}
+use Rattle.std.proofs.Math.Nat.{min-eq_left, le-min}
+use Rattle.std.proofs.lemmas.List.{append-nil, length-append, length-map, map-append, take_all, take-append-le}
+use Rattle.std.proofs.lemmas.List.Elements.{All-weaker, filter-append}
+use Rattle.pop_net.specs.NetModel.{NetModel, CrowdModel}
+use Rattle.pop_net.specs.Step.{Step}
+use Rattle.pop_net.specs.Terminal.{IsTerminal}
+use Rattle.pop_crowd.specs.declared.crowd.Meeting.{Meeting}
+use Rattle.pop_crowd.specs.Replay.{replay, AreMarked}
+use Rattle.pop_crowd.proofs.InARow.{replay_append}
+use Rattle.agent_field.proofs.Histories.{length-replay}
+use Rattle.pop_words.specs.declared.spec.RunSpec.{RunSpec}
+use Rattle.pair_workers.specs.Picks.{picks, picks_from, words_from, first_state}
+use Rattle.pair_workers.specs.Run.{IsRun, IsRound, joined, pairs, meetings_of, turns_in}
+use Rattle.pair_workers.specs.Played.{IsPlayed}
+use Rattle.pair_workers.specs.Turns.{HasPicked, ArePlayed}
+use Rattle.pair_workers.proofs.Played.{marked_append}
+use Rattle.pair_workers.proofs.Rounds.{get_pushed, joined_push, all_mine}
+use Rattle.pair_workers.proofs.Turns.{picked_none, picked_on}
+
+-- what one worker plays alone is a round of one worker
+pub alone_played : (net : NetModel) (start : CrowdModel) (turns : ℕ) (pickers : List (List ℕ)) (before after : List ℕ) (ms : List Meeting) (end : CrowdModel) → IsPlayed net start (words_from before) ms end (words_from after)
+    → length ms ≡ turns → length pickers ≡ 1 → ((d : List ℕ) → before ≡ get_or pickers 0 d) → ArePlayed net start 1 turns pickers (set pickers 0 after) ms end
+alone_played net start turns pickers before after ms end h size one found =
+    record {
+      marked = h.marked;
+      replays = h.replays;
+      picked = picked;
+      nobody_else = All-weaker (λ (m : Meeting). m.worker ≡ 0) (λ (m : Meeting). m.worker < 1) (λ m z. omega (arith, z)) ms h.alone;
+    }
+  where
+    mine : HasPicked (length start) turns before after (pairs ms)
+    mine = record {
+      long = length-map ms (λ (m : Meeting). (m.a, m.b)) ∙ size;
+      picked = λ count. ap (λ (k : ℕ). picks_from (words_from before) (length start) (k + count)) (sym size) ∙ h.picked count;
+    }
+
+    picked : (w : ℕ) (d : List ℕ) → w < 1 → HasPicked (length start) turns (get_or pickers w d) (get_or (set pickers 0 after) w d) (pairs (meetings_of w ms))
+    picked zero d l =
+        let stands : after ≡ get_or (set pickers 0 after) 0 d = sym (get_or-set_same pickers 0 after d (omega (arith, one))) in
+        let all : pairs ms ≡ pairs (meetings_of 0 ms) = ap pairs (sym (all_mine ms h.alone)) in
+        subst (λ (t : List ℕ × List ℕ × List (ℕ × ℕ)). HasPicked (length start) turns t.0 t.1 t.2) (λ i. (found d i, stands i, all i)) mine
+    picked (suc w) d l = absurd (omega (arith, l))
+
+-- the rounds so far, the crowd after them, where the pickers stand, and the turns that are left
+pub record AreOnTheRun (net : NetModel) (start : CrowdModel) (spec : RunSpec) (rounds : List (List Meeting)) (crowd : CrowdModel) (pickers : List (List ℕ)) (left : ℕ) : Type 0 where
+  pub each : (k : ℕ) (meetings : List Meeting) → slice_get rounds k ≡ Some meetings → IsRound spec (k + 1) meetings
+  pub picked : (w : ℕ) (d : List ℕ) → w < spec.workers → HasPicked (length start) (length (meetings_of w (joined rounds))) (first_state spec.seed w) (get_or pickers w d) (pairs (meetings_of w (joined rounds)))
+  pub marked : AreMarked net (joined rounds) start
+  pub replays : replay net (joined rounds) start ≡ crowd
+  pub goes_on : (k : ℕ) → k < length rounds → IsTerminal (Step net) (replay net (joined (take k rounds)) start) → ⊥
+  pub unspent : left ≡ spec.turns - 4096 * length rounds
+
+pub all_no_rounds : (net : NetModel) (start : CrowdModel) (spec : RunSpec) (pickers : List (List ℕ)) → ((w : ℕ) (d : List ℕ) → w < spec.workers → get_or pickers w d ≡ first_state spec.seed w) → AreOnTheRun net start spec [] start pickers spec.turns
+all_no_rounds net start spec pickers first =
+    record {
+      each = λ k meetings h. cc;
+      picked = λ w d l. subst (λ (p : List ℕ). HasPicked (length start) 0 (first_state spec.seed w) p []) (sym (first w d l)) (picked_none (length start) (first_state spec.seed w));
+      marked = tt;
+      replays = refl;
+      goes_on = λ k l. absurd (omega (arith, l));
+      unspent = omega arith;
+    }
+
+module _ (net : NetModel) (start : CrowdModel) (spec : RunSpec) (rounds : List (List Meeting)) (crowd : CrowdModel) (pickers : List (List ℕ)) (left : ℕ) (h : AreOnTheRun net start spec rounds crowd pickers left) where
+  -- the turns of the next round
+  next_turns : turns_in spec (length rounds + 1) ≡ min 4096 left
+  next_turns = ap (λ n. min 4096 n) (let e : spec.turns - 4096 * (length rounds + 1 - 1) ≡ left = omega (arith, h.unspent) in e)
+
+  some : 1 ≤ left → 1 ≤ min 4096 left
+  some l = let four : 1 ≤ 4096 = omega arith in le-min four l
+
+  fewer : left - min 4096 left ≡ spec.turns - 4096 * (length rounds + 1)
+  fewer = by_size (cases_lt left 4096)
+    where
+      by_size : (left < 4096) ⊎ (4096 ≤ left) → left - min 4096 left ≡ spec.turns - 4096 * (length rounds + 1)
+      by_size (inl l) = let all : left ≤ min 4096 left = (let m : left ≤ 4096 = omega (arith, l) in let n : left ≤ left = omega arith in le-min m n) in omega (arith, l, all, h.unspent)
+      by_size (inr l) = omega (arith, l, h.unspent, min-eq_left l)
+
+  as_many : length crowd ≡ length start
+  as_many = ap length (sym h.replays) ∙ length-replay net (joined rounds) start
+
+  module _ (end : CrowdModel) (after : List (List ℕ)) (round : List Meeting) (p : ArePlayed net crowd spec.workers (min 4096 left) pickers after round end) where
+    made : (w : ℕ) → w < spec.workers → length (meetings_of w round) ≡ min 4096 left
+    made w l = sym (length-map (meetings_of w round) (λ (m : Meeting). (m.a, m.b))) ∙ (p.picked w [] l).long
+
+    all_of : (w : ℕ) → meetings_of w (joined (rounds ++ round ∷ [])) ≡ meetings_of w (joined rounds) ++ meetings_of w round
+    all_of w = ap (meetings_of w) (joined_push rounds round) ∙ filter-append (λ (m : Meeting). m.worker == w) (joined rounds) round
+
+    more_picked : (w : ℕ) (d : List ℕ) → w < spec.workers → HasPicked (length start) (length (meetings_of w (joined rounds) ++ meetings_of w round)) (first_state spec.seed w) (get_or after w d) (pairs (meetings_of w (joined rounds) ++ meetings_of w round))
+    more_picked w d l =
+        let xs = meetings_of w (joined rounds) in
+        let ys = meetings_of w round in
+        let size : length xs + min 4096 left ≡ length (xs ++ ys) = omega (arith, length-append xs ys, made w l) in
+        let both : pairs xs ++ pairs ys ≡ pairs (xs ++ ys) = sym (map-append (λ (m : Meeting). (m.a, m.b)) xs ys) in
+        let next = subst (λ (n : ℕ). HasPicked n (min 4096 left) (get_or pickers w d) (get_or after w d) (pairs ys)) as_many (p.picked w d l) in
+        subst (λ (t : ℕ × List (ℕ × ℕ)). HasPicked (length start) t.0 (first_state spec.seed w) (get_or after w d) t.1) (λ i. (size i, both i))
+        (picked_on (length start) (length xs) (min 4096 left) (first_state spec.seed w) (get_or pickers w d) (get_or after w d) (pairs xs) (pairs ys) (h.picked w d l) next)
+
+    -- one more round
+    pub all_more_rounds : 1 ≤ left → (IsTerminal (Step net) crowd → ⊥) → AreOnTheRun net start spec (rounds ++ round ∷ []) end after (left - min 4096 left)
+    all_more_rounds l goes =
+        record {
+          each = λ k meetings e. each_case k meetings (get_pushed rounds round meetings k e);
+          picked = λ w d b. subst (λ (ms : List Meeting). HasPicked (length start) (length ms) (first_state spec.seed w) (get_or after w d) (pairs ms)) (sym (all_of w)) (more_picked w d b);
+          marked = subst (λ (ms : List Meeting). AreMarked net ms start) (sym (joined_push rounds round)) (marked_append net (joined rounds) round start h.marked (subst (AreMarked net round) (sym h.replays) p.marked));
+          replays = ap (λ (ms : List Meeting). replay net ms start) (joined_push rounds round) ∙ replay_append net (joined rounds) round start ∙ ap (replay net round) h.replays ∙ p.replays;
+          goes_on = λ k b t. goes_case k (cases_lt k (length rounds)) (let c : k < length rounds + 1 = rw (← length-append rounds (round ∷ [])) b in c) t;
+          unspent = fewer ∙ ap (λ n. spec.turns - 4096 * n) (sym (length-append rounds (round ∷ [])));
+        }
+      where
+        each_case : (k : ℕ) (meetings : List Meeting) → (slice_get rounds k ≡ Some meetings) ⊎ ((k ≡ length rounds) × (round ≡ meetings)) → IsRound spec (k + 1) meetings
+        each_case k meetings (inl e) = h.each k meetings e
+        each_case k meetings (inr e) =
+            rw (e.0, ← e.1) (record {
+              some_turn = subst (λ n. 1 ≤ n) (sym next_turns) (some l);
+              each_worker = λ w b. made w b ∙ sym next_turns;
+              nobody_else = p.nobody_else;
+            })
+
+        goes_case : (k : ℕ) → (k < length rounds) ⊎ (length rounds ≤ k) → k < length rounds + 1 → IsTerminal (Step net) (replay net (joined (take k (rounds ++ round ∷ []))) start) → ⊥
+        goes_case k (inl b) c t = h.goes_on k b (subst (λ (rs : List (List Meeting)). IsTerminal (Step net) (replay net (joined rs) start)) (take-append-le k rounds (round ∷ []) (omega (arith, b))) t)
+        goes_case k (inr b) c t =
+            let all : take k (rounds ++ round ∷ []) ≡ rounds = take-append-le k rounds (round ∷ []) (omega (arith, c)) ∙ take_all k rounds b in
+            goes (subst (IsTerminal (Step net)) (ap (λ (rs : List (List Meeting)). replay net (joined rs) start) all ∙ h.replays) t)
+
+  -- a run that is over
+  pub all_run_over : IsTerminal (Step net) crowd ⊎ (left ≡ 0) → IsRun net start spec rounds crowd
+  all_run_over end =
+      record {
+        each_round = h.each;
+        picked = picked;
+        marked = h.marked;
+        replays = h.replays;
+        goes_on = h.goes_on;
+        over = over end;
+      }
+    where
+      picked : (w : ℕ) → w < spec.workers → pairs (meetings_of w (joined rounds)) ≡ picks spec.seed w (length start) (length (meetings_of w (joined rounds)))
+      picked w l =
+          let ms = meetings_of w (joined rounds) in
+          sym (append-nil (pairs ms))
+          ∙ sym ((h.picked w [] l).picked 0)
+          ∙ ap (λ n. picks spec.seed w (length start) n) (let e : length ms + 0 ≡ length ms = omega arith in e)
+
+      over : IsTerminal (Step net) crowd ⊎ (left ≡ 0) → IsTerminal (Step net) crowd ⊎ (spec.turns ≤ 4096 * length rounds)
+      over (inl t) = inl t
+      over (inr e) = inr (omega (arith, e, h.unspent))

@@ -1,0 +1,77 @@
+-- Turns in a row.
+use Rattle.std.proofs.Common.{◌≡◌, ℕ, suc, ◌+◌, ◌<◌, ◌≤◌, Bool, List, [], ◌∷◌, ◌++◌, length, get_or, refl, ap, sym, subst, ◌∙◌, ⊎_elim, zero-add, append_assoc, length-append, arith}
+use Rattle.std.proofs.lemmas.Bool.{cases_lt}
+use Rattle.std.proofs.lemmas.List.{map-append, get_or_append_left, get_or-append-add}
+use Rattle.agent_field.specs.declared.view.Logged.{Logged}
+use Rattle.agent_field.specs.History.{logged}
+use Rattle.pair_workers.specs.Picks.{picks_from, words_from}
+use Rattle.pair_workers.specs.Turns.{HasPicked}
+use Rattle.pair_workers.specs.Work.{pairs_of}
+
+pub picked_none : (n : ℕ) (s : List ℕ) → HasPicked n 0 s s []
+picked_none n s = record { long = refl; picked = λ count. ap (λ k. picks_from (words_from s) n k) (zero-add count) }
+
+picked_more : (n turns : ℕ) (before now after : List ℕ) (made : List (ℕ × ℕ)) (pick : ℕ × ℕ) → HasPicked n turns before now made
+    → ((count : ℕ) → picks_from (words_from now) n (suc count) ≡ pick ∷ picks_from (words_from after) n count) → HasPicked n (turns + 1) before after (made ++ pick ∷ [])
+picked_more n turns before now after made pick h next =
+    record {
+      long = length-append made (pick ∷ []) ∙ ap (λ k. k + 1) h.long;
+      picked = λ count.
+          ap (λ k. picks_from (words_from before) n k) (let e : turns + 1 + count ≡ turns + suc count = omega arith in e)
+          ∙ h.picked (suc count)
+          ∙ ap (λ (ps : List (ℕ × ℕ)). made ++ ps) (next count)
+          ∙ sym (append_assoc made (pick ∷ []) (picks_from (words_from after) n count));
+    }
+
+-- the turns of one round and those of the next
+pub picked_on : (n a b : ℕ) (first between last : List ℕ) (xs ys : List (ℕ × ℕ)) → HasPicked n a first between xs → HasPicked n b between last ys → HasPicked n (a + b) first last (xs ++ ys)
+picked_on n a b first between last xs ys h k =
+    record {
+      long = length-append xs ys ∙ ap (λ i. i + length ys) h.long ∙ ap (λ i. a + i) k.long;
+      picked = λ count.
+          ap (λ i. picks_from (words_from first) n i) (let e : a + b + count ≡ a + (b + count) = omega arith in e)
+          ∙ h.picked (b + count)
+          ∙ ap (λ (ps : List (ℕ × ℕ)). xs ++ ps) (k.picked count)
+          ∙ sym (append_assoc xs ys (picks_from (words_from last) n count));
+    }
+
+-- one turn more
+pub turn_more : (n m turns : ℕ) (before now after : List ℕ) (log next : List Logged) (ticket : ℕ) (pair : ℕ × ℕ) (changed : Bool) → HasPicked n turns before now (pairs_of log)
+    → next ≡ log ++ logged ticket pair.0 pair.1 changed ∷ [] → m ≡ n → ((count : ℕ) → picks_from (words_from now) m (suc count) ≡ pair ∷ picks_from (words_from after) m count)
+    → HasPicked n (turns + 1) before after (pairs_of next)
+turn_more n m turns before now after log next ticket pair changed h longer same picks =
+    subst (HasPicked n (turns + 1) before after) (sym (ap pairs_of longer ∙ map-append (λ (e : Logged). (e.a, e.b)) log (logged ticket pair.0 pair.1 changed ∷ [])))
+    (picked_more n turns before now after (pairs_of log) pair h (subst (λ (k : ℕ). (count : ℕ) → picks_from (words_from now) k (suc count) ≡ pair ∷ picks_from (words_from after) k count) same picks))
+
+-- what holds of each holds with one more
+each-push : {A : Type 0} (P : ℕ → A → Type 0) (xs : List A) (x : A) → ((i : ℕ) (d : A) → i < length xs → P i (get_or xs i d)) → P (length xs) x → (i : ℕ) (d : A) → i < length (xs ++ x ∷ []) → P i (get_or (xs ++ x ∷ []) i d)
+each-push {A = A} P xs x each last i d h =
+    ⊎_elim
+    (λ (early : i < length xs). subst (P i) (sym (get_or_append_left xs (x ∷ []) d i early)) (each i d early))
+    (λ (late : length xs ≤ i).
+    let here : i ≡ length xs = omega (arith, length-append xs (x ∷ [])) in
+    let found : get_or (xs ++ x ∷ []) i d ≡ x = ap (λ (k : ℕ). get_or (xs ++ x ∷ []) k d) (here ∙ omega arith) ∙ get_or-append-add xs (x ∷ []) 0 d in
+    subst (λ (t : ℕ × A). P t.0 t.1) (λ k. (sym here k, sym found k)) last)
+    (cases_lt i (length xs))
+
+pub each-front : {A : Type 0} (P : ℕ → A → Type 0) (xs ys : List A) (x : A) → ys ≡ xs ++ x ∷ [] → ((i : ℕ) (d : A) → i < length ys → P i (get_or ys i d)) → (i : ℕ) (d : A) → i < length xs → P i (get_or xs i d)
+each-front {A = A} P xs ys x is each i d h =
+    let within : i < length ys = subst (λ (l : List A). i < length l) (sym is) (omega (arith, length-append xs (x ∷ []))) in
+    subst (P i) (ap (λ (l : List A). get_or l i d) is ∙ get_or_append_left xs (x ∷ []) d i h) (each i d within)
+
+pub each-last : {A : Type 0} (P : ℕ → A → Type 0) (xs ys : List A) (x : A) → ys ≡ xs ++ x ∷ [] → ((i : ℕ) (d : A) → i < length ys → P i (get_or ys i d)) → P (length xs) x
+each-last {A = A} P xs ys x is each =
+    let within : length xs < length ys = subst (λ (l : List A). length xs < length l) (sym is) (omega (arith, length-append xs (x ∷ []))) in
+    subst (P (length xs)) (ap (λ (l : List A). get_or l (length xs) x) is ∙ ap (λ (k : ℕ). get_or (xs ++ x ∷ []) k x) (omega arith) ∙ get_or-append-add xs (x ∷ []) 0 x) (each (length xs) x within)
+
+pub each-push_is : {A : Type 0} (P : ℕ → A → Type 0) (xs ys : List A) (x : A) → ys ≡ xs ++ x ∷ [] → ((i : ℕ) (d : A) → i < length xs → P i (get_or xs i d)) → P (length xs) x → (i : ℕ) (d : A) → i < length ys → P i (get_or ys i d)
+each-push_is {A = A} P xs ys x is each last = subst (λ (l : List A). (i : ℕ) (d : A) → i < length l → P i (get_or l i d)) (sym is) (each-push P xs x each last)
+
+-- a list of which the last one was taken is still a front of another
+pub popped : {A : Type 0} (xs ys rest : List A) (x : A) → ys ≡ rest ++ x ∷ [] → ((i : ℕ) (d : A) → i < length ys → get_or ys i d ≡ get_or xs i d)
+    → ((i : ℕ) (d : A) → i < length rest → get_or rest i d ≡ get_or xs i d) × ((d : A) → get_or xs (length rest) d ≡ x)
+popped {A = A} xs ys rest x is same =
+    let long : length ys ≡ length rest + 1 = ap (length {A = A}) is ∙ length-append rest (x ∷ []) in (
+      (λ i d h. sym (ap (λ (l : List A). get_or l i d) is ∙ get_or_append_left rest (x ∷ []) d i h) ∙ same i d (omega (arith, long, h))),
+      (λ d. sym (same (length rest) d (omega (arith, long))) ∙ ap (λ (l : List A). get_or l (length rest) d) is ∙ ap (λ (k : ℕ). get_or (rest ++ x ∷ []) k d) (omega arith) ∙ get_or-append-add rest (x ∷ []) 0 d),
+    )

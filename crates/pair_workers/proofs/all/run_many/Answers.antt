@@ -1,0 +1,58 @@
+use Rattle.std.proofs.Common.{◌≡◌, ℕ, inl, inr, ◌-◌, ◌≤◌, min, List, [], ◌∷◌, ◌++◌, length, take, drop, ap, sym, subst, ◌∙◌, arith, rules}
+use Rattle.std.specs.Prelude.{None}
+use Rattle.pop_net.specs.Step.{Step}
+use Rattle.pop_net.specs.Terminal.{IsTerminal}
+use Rattle.pop_net.specs.declared.net.Word.{Word}
+use Rattle.pop_net.specs.Lanes.{crowd_of, AreValid}
+use Rattle.pop_crowd.specs.declared.crowd.Meeting.{Meeting}
+use Rattle.pair_workers.specs.Run.{IsRun}
+use Rattle.pair_workers.specs.Turns.{ArePlayed}
+use Rattle.pair_workers.proofs.FieldRounds.{whole_written}
+use Rattle.pair_workers.proofs.ManyRounds.{AreOnTheRun, all_more_rounds, all_run_over}
+use Rattle.pair_workers.proofs.all.run_many.Goals as goal
+
+pub returns-then-left-eq0-clause-run : goal.returns-then-left-eq0-clause-run
+returns-then-left-eq0-clause-run g c =
+    let net = c.args.net.now in
+    subst (λ (rounds : List (List Meeting)). IsRun net (crowd_of net c.args.crowd) c.args.spec.now rounds (crowd_of net c.rounds.crowd)) (sym c.from_vec.ensures)
+    (all_run_over net _ c.args.spec.now c.rounds.rounds.items _ _ c.rounds.left c.rounds.invariant.run (inr (search rules)))
+
+pub rounds-preserved : goal.rounds-preserved
+rounds-preserved g c =
+    let net = c.args.net.now in
+    let spec = c.args.spec.now in
+    let was = c.rounds.invariant in
+    let start = crowd_of net c.args.crowd in
+    let old = c.rounds.pickers.items in
+    let new = c.run_round.new.pickers in
+    let value = c.as_mut_slice-lent.ensures.value in
+    let long : length new ≡ length old = c.run_round.ensures.pickers ∙ ap length value in
+    let written : take c.rounds.pickers.len (new ++ drop (length new) old) ≡ new = whole_written c.rounds.pickers.len new old long (omega arith) in
+    let least : c.min-turns.result ≡ min 4096 c.rounds.left = c.min-turns.ensures in
+    let round = c.in_ok-words.field-0.meetings in
+    let pushed : c.push.new.self.items ≡ c.rounds.rounds.items ++ round ∷ [] = c.in_ok-push.ensures.items in
+    let goes : IsTerminal (Step net) (crowd_of net c.rounds.crowd) → ⊥ = (λ t. let e : c.in_ok-a.field-0 ≡ None = c.in_ok-a.ensures.none.1 t in cc) in
+    let some : 1 ≤ c.rounds.left = search rules in
+    let after = c.next_crowd-crowd.result in
+    let words : c.in_ok-words.field-0.words ≡ after = sym c.next_crowd-crowd.ensures in
+    let played : ArePlayed net (crowd_of net c.rounds.crowd) spec.workers (min 4096 c.rounds.left) old new round (crowd_of net after) =
+    subst (λ (t : ℕ × List (List ℕ) × List Word). ArePlayed net (crowd_of net c.rounds.crowd) spec.workers t.0 t.1 new round (crowd_of net t.2)) (λ i. (least i, value i, words i)) c.in_ok-words.ensures.played in
+    let left : c.rounds.left - min 4096 c.rounds.left ≡ c.rounds.left - c.min-turns.result = ap (λ n. c.rounds.left - n) (sym least) in
+    let more = all_more_rounds net start spec c.rounds.rounds.items _ old c.rounds.left was.run (crowd_of net after) new round played some goes in
+    record {
+      run = subst (λ (t : List (List Meeting) × List (List ℕ) × ℕ). AreOnTheRun net start spec t.0 (crowd_of net after) t.1 t.2) (λ i. (sym pushed i, sym written i, left i)) more;
+      valid = subst (AreValid net) words c.in_ok-words.ensures.valid;
+      agents = ap (length {A = Word}) (sym words) ∙ c.in_ok-words.ensures.agents ∙ was.agents;
+      pickers = ap length written ∙ long ∙ was.pickers;
+      few = omega (arith, was.few);
+    }
+
+pub returns-clause-run : goal.returns-clause-run
+returns-clause-run g c =
+    let net = c.args.net.now in
+    let e : c.in_ok-a.field-0 ≡ None = search rules in
+    subst (λ (rounds : List (List Meeting)). IsRun net (crowd_of net c.args.crowd) c.args.spec.now rounds (crowd_of net c.rounds.crowd)) (sym c.from_vec-2.ensures)
+    (all_run_over net _ c.args.spec.now c.rounds.rounds.items _ _ c.rounds.left c.rounds.invariant.run (inl (c.in_ok-a.ensures.none.0 e)))
+
+pub returns-clause-end : goal.returns-clause-end
+returns-clause-end g c = let e : c.in_ok-a.field-0 ≡ None = search rules in c.in_ok-a.ensures.none.0 e

@@ -1,0 +1,56 @@
+-- What workers do on the field.
+use Rattle.std.specs.Prelude.{◌≡◌, ◌≤◌, ◌<◌, ◌+◌, ℕ, List, [], map, length, slice_index_or, Some, None}
+use Rattle.agent_field.specs.declared.field.Field.{Field}
+use Rattle.agent_field.specs.declared.field.FieldSeat.{FieldSeat}
+use Rattle.agent_field.specs.declared.view.Logged.{Logged}
+use Rattle.agent_field.specs.Seats.{IsSeatOf, IsWhole, KeepsRest, opening_of, number_of, log_of, spare_of, taken_of}
+use Rattle.pair_workers.specs.declared.work.Worker.{Worker}
+use Rattle.pair_workers.specs.Turns.{HasPicked}
+
+abbrev pub pairs_of : List Logged → List (ℕ × ℕ)
+pairs_of log = map (λ e. (e.a, e.b)) log
+
+abbrev pub agents_of : Field → ℕ
+agents_of f = length (opening_of f)
+
+-- the worker has made nothing, and has room for so many meetings
+pub record MayWork (f : Field) (turns : ℕ) (w : Worker) : Type 0 where
+  pub ours : IsSeatOf f w.seat
+  pub room : turns ≤ spare_of w.seat
+  pub log : log_of w.seat ≡ []
+
+-- the worker has made its next picks
+pub record HasWorked (f : Field) (turns : ℕ) (before after : Worker) : Type 0 where
+  pub ours : IsSeatOf f after.seat
+  pub kept : KeepsRest before.seat after.seat
+  pub picked : HasPicked (agents_of f) turns before.picker after.picker (pairs_of (log_of after.seat))
+
+-- a worker with this number and this picker
+pub record IsReady (f : Field) (turns number : ℕ) (picker : List ℕ) (w : Worker) : Type 0 where
+  pub may : MayWork f turns w
+  pub numbered : number_of w.seat ≡ number
+  pub picker_is : w.picker ≡ picker
+
+-- the worker with this number has made its turns from this picker on
+pub record IsDone (f : Field) (turns number : ℕ) (picker : List ℕ) (w : Worker) : Type 0 where
+  pub ours : IsSeatOf f w.seat
+  pub numbered : number_of w.seat ≡ number
+  pub picked : HasPicked (agents_of f) turns picker w.picker (pairs_of (log_of w.seat))
+
+-- the workers but the first are ready, one for each picker
+abbrev pub AreReady : Field → ℕ → List (List ℕ) → List Worker → Type 0
+AreReady f turns pickers workers =
+    (length workers + 1 ≡ length pickers)
+    × ((i : ℕ) (d : Worker) (e : List ℕ) → i < length workers → IsReady f turns (i + 1) (slice_index_or pickers (i + 1) e) (slice_index_or workers i d))
+
+abbrev pub AreDone : Field → ℕ → List (List ℕ) → List Worker → Type 0
+AreDone f turns pickers workers =
+    (length workers + 1 ≡ length pickers)
+    × ((i : ℕ) (d : Worker) (e : List ℕ) → i < length workers → IsDone f turns (i + 1) (slice_index_or pickers (i + 1) e) (slice_index_or workers i d))
+
+-- number 0 has the logs of all these workers, each under its number, and keeps its own
+pub record HasAll (f : Field) (workers : List Worker) (before after : FieldSeat) : Type 0 where
+  pub ours : IsSeatOf f after
+  pub whole : IsWhole after
+  pub own : log_of after ≡ log_of before
+  pub taken : (i : ℕ) (d : Worker) → i < length workers → slice_index_or (taken_of after) (i + 1) None ≡ Some (log_of (slice_index_or workers i d).seat)

@@ -1,0 +1,61 @@
+//! One worker's turns on the field, and those of all.
+
+ghost use Rattle.std.specs.Prelude.{◌≡◌, ℕ, ◌<◌, ◌≤◌, length, All, slice_index_or};
+ghost use Rattle.pair_workers.specs.Work.{MayWork, HasWorked, agents_of};
+
+use crate::picker::Picker;
+use agent_field::{Field, FieldSeat};
+use pop_io::Gate;
+use std::sync::Wait;
+use std::thread;
+use std::thread::Threads;
+
+/// A seat of the field, and who picks its meetings.
+#[derive(Drop)]
+pub(crate) struct Worker {
+    pub(crate) seat: FieldSeat,
+    pub(crate) picker: Picker,
+}
+
+/// The worker makes its next picks and meetings.
+pub(crate) fn work<R: Wait, G: Gate>(
+    rt: &R,
+    field: &Field,
+    worker: &mut Worker,
+    turns: u64,
+    gate: &G,
+)
+    requires agents { (2 ≤ agents_of field.now) × (agents_of field.now ≤ 65536) }
+    requires may { MayWork field.now turns worker.old }
+    ensures { HasWorked field.now turns worker.old worker.new }
+{
+    'turns: for turn in 0..turns {
+        gate.pass(worker.seat.number(), turn + 1);
+        let (a, b) = worker.picker.pick(field.agents());
+        field.meet(rt, &mut worker.seat, a, b, gate);
+    }
+}
+
+/// All workers, beside each other.
+pub(crate) fn work_all<R: Threads + Wait + Sync, G: Gate>(
+    rt: &R,
+    field: &Field,
+    workers: &mut [Worker],
+    turns: u64,
+    gate: &G,
+)
+    requires agents { (2 ≤ agents_of field.now) × (agents_of field.now ≤ 65536) }
+    requires may { All (MayWork field.now turns) workers.old }
+    ensures { (i : ℕ) (d : Worker) → i < length workers.old → HasWorked field.now turns (slice_index_or workers.old i d) (slice_index_or workers.new i d) }
+{
+    let threads = workers.len().max(1);
+    thread::for_each_mut(
+        rt,
+        workers,
+        threads,
+        &|_i: usize, worker: &mut Worker|
+            requires { (2 ≤ agents_of field.now) × (agents_of field.now ≤ 65536) × MayWork field.now turns worker.now }
+            ensures { HasWorked field.entry.now turns worker.entry.now worker.exit.now }
+        { work(rt, field, worker, turns, gate) },
+    );
+}
