@@ -12,3 +12,4 @@ mod PlayTuples
 mod One
 mod Headlines
 mod Puts
+mod Permitted
