@@ -100,7 +100,6 @@ pub fn run_all<R: Threads + Wait + Sync, G: Gate>(
     requires workers { (1 ≤ spec.now.workers) × (spec.now.workers ≤ 64) }
     requires shards { (1 ≤ spec.now.shards) × (spec.now.shards ≤ 1024) }
     requires turns { spec.now.turns ≤ 1000000 }
-    requires product { spec.now.workers * spec.now.turns ≤ 2000000 }
     requires seed { spec.now.seed ≤ 2 ^ 63 - 1 }
     requires valid { AreValid net.now crowd }
     ensures run { IfOk result (λ run. IsRun net.now (crowd_of net.now crowd) spec.now run.rounds (crowd_of net.now run.crowd)) }

@@ -28,7 +28,7 @@ workers-preserved c =
           let found : c.in_ok-copy.field-0 ≡ get_or pickers c.workers.w p = c.in_ok-copy.ensures ∙ c.index-pickers-w.is ∙ get_or_default pickers c.workers.w _ p within in
           record {
             may = record {
-              ours = (ap (λ (t : _). t.table_id) r.seat ∙ s.theirs.0, ap (λ (t : _). t.me.0.about) r.seat ∙ s.theirs.1);
+              ours = (r.field.0 ∙ s.theirs.0, r.field.1 ∙ s.theirs.1);
               room = r.room;
               log = r.own ∙ s.new.2.0;
             };
