@@ -1,6 +1,6 @@
 //! The top call.
 
-ghost use Rattle.std.specs.Prelude.{◌≡◌, ◌≢◌, ◌<◌, ◌^◌, ℕ, List as Items, length, map, is_err, true, IfOk, IsTrue, MatchResult};
+ghost use Rattle.std.specs.Prelude.{◌≡◌, ◌≢◌, ◌↔◌, ◌<◌, ◌^◌, ℕ, List as Items, length, map, is_err, true, IfOk, IsTrue, MatchResult};
 ghost use Rattle.std.specs.Io.KnownBytes.{Keeps};
 ghost use Rattle.pop_io.specs.Causes.{Rose};
 ghost use Rattle.pop_words.specs.Words.{meaning_of};
@@ -82,10 +82,10 @@ pub fn run_tool<R: Threads + Wait + Sync, S: Source, K: Sink, G: Gate>(
     }
 }
 
-/// Whether the words don't ask for a run with two or more workers.
-fn is_plain(words: &[&str]) -> bool
+/// Whether `run_plain` answers the words: they don't ask for a run with two or more workers.
+pub fn is_plain(words: &[&str]) -> bool
     requires { length words.now < 2 ^ 32 }
-    ensures { IsTrue result → IsPlain (meaning_of (map (λ w. w.now) words.now)) }
+    ensures { IsTrue result ↔ IsPlain (meaning_of (map (λ w. w.now) words.now)) }
 {
     match read_words(words) {
         Ok(Command::Run(spec)) => spec.workers == 1,

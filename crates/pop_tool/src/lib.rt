@@ -21,6 +21,6 @@ mod start;
 mod status;
 mod stop;
 
-pub use command::{run_plain, run_tool};
+pub use command::{is_plain, run_plain, run_tool};
 pub use law::one_answer;
 pub use status::Status;

@@ -54,7 +54,7 @@ pub(crate) fn line_of(alloc: Global, parts: &Parts) -> Result<String, AllocError
 
 const CERTIFIED: [(Parts, &str); 2] = [(MAJORITY, "certified 2\n"), (SOME, "certified 1\n")];
 
-const REJECTED: [(Parts, &str); 14] = [
+const REJECTED: [(Parts, &str); 15] = [
     (
         Parts {
             on_false: r#"[["open",5],["present",0],["present",2],["lin",[[6,1],[8,-1],[9,-1]]],["trap",[1,3]],["lin",[[12,1]]],["lin",[[2,1],[9,1],[12,-1],[13,-1]]],["lin",[[8,-1],[11,-1],[12,1]]],["lin",[[0,1],[1,-1],[7,1],[8,1],[9,-1]]]]"#,
@@ -145,6 +145,13 @@ const REJECTED: [(Parts, &str); 14] = [
             ..SOME
         },
         "leaf 0 true 2 missing",
+    ),
+    (
+        Parts {
+            on_true: r#"[["twin",1]]"#,
+            ..SOME
+        },
+        "leaf 0 true 0 no-twin",
     ),
     (
         Parts {
@@ -264,6 +271,23 @@ fn bundles_out_of_form_are_refused(rt: HostRuntime) -> Result<(), Fail> {
                 Status::Refused
             )?,
             "{what}"
+        );
+    }
+    Ok(())
+}
+
+/// Each front of a bundle that is not the whole.
+#[test]
+fn fronts_of_a_bundle_are_no_json(rt: HostRuntime) -> Result<(), Fail> {
+    let alloc = rt.alloc();
+    let line = line_of(alloc, &MAJORITY)?;
+    for length in 1..line.as_str().len() {
+        let Some(front) = line.as_str().get(..length) else {
+            return Err(Fail::from("a front"));
+        };
+        assert!(rt;
+            is_given(alloc, "check", front, "fault: not json\n", Status::Refused)?,
+            "{length}"
         );
     }
     Ok(())

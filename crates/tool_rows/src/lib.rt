@@ -14,4 +14,6 @@ mod rows;
 #[cfg(test)]
 mod run_rows;
 #[cfg(test)]
+mod thread_rows;
+#[cfg(test)]
 mod troubles;

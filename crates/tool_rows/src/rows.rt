@@ -3,7 +3,7 @@
 ghost use Rattle.std.specs.Prelude.{◌≤◌, length, IfOk};
 
 use pop_io::{CalmSource, List, MemorySink, MemorySource, OpenGate, Source, Trouble, TroubleKind};
-use pop_tool::{Status, run_plain};
+use pop_tool::{Status, is_plain, run_plain};
 use std::alloc::{AllocError, Global};
 use std::test::Fail;
 
@@ -38,7 +38,7 @@ pub(crate) fn crumbs(alloc: Global, length: usize) -> Result<List<Trouble>, Allo
 }
 
 /// The words of a row, which stand between single spaces.
-fn words_of(alloc: Global, text: &str) -> Result<Vec<&str>, Fail>
+pub(crate) fn words_of(alloc: Global, text: &str) -> Result<Vec<&str>, Fail>
     ensures { IfOk result (λ words. length words.items ≤ 100) }
 {
     let mut words = Vec::new(alloc);
@@ -51,6 +51,21 @@ fn words_of(alloc: Global, text: &str) -> Result<Vec<&str>, Fail>
     Ok(words)
 }
 
+/// The status of words that need no threads.
+pub(crate) fn plain_status<S: Source>(
+    alloc: Global,
+    words: &[&str],
+    source: &mut S,
+    sink: &mut MemorySink,
+) -> Result<Status, Fail>
+    requires { length words.now ≤ 100 }
+{
+    if !is_plain(words) {
+        return Err(Fail::from("plain words"));
+    }
+    Ok(run_plain(alloc, words, source, sink, &OpenGate))
+}
+
 /// The status of the words over this source, and whether the sink took just this text.
 fn ends_with<S: Source>(
     alloc: Global,
@@ -60,7 +75,7 @@ fn ends_with<S: Source>(
     text: &str,
 ) -> Result<Option<Status>, Fail> {
     let words = words_of(alloc, words)?;
-    let status = run_plain(alloc, &words, source, sink, &OpenGate);
+    let status = plain_status(alloc, &words, source, sink)?;
     Ok(if sink.held() == text.as_bytes() {
         Some(status)
     } else {

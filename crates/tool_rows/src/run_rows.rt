@@ -61,7 +61,7 @@ const REFUSED: [Row; 13] = [
         Status::Usage,
     ),
     (
-        "run --workers 2",
+        "run --workers 65",
         "",
         "fault: usage 2 value\n",
         Status::Usage,

@@ -1,9 +1,9 @@
 //! Reads and writes that fail.
 
 use crate::play_rows::MAJORITY;
-use crate::rows::{bytes_of, no_troubles, sink_with};
-use pop_io::{CalmSource, List, MemorySource, OpenGate, Trouble, TroubleKind};
-use pop_tool::{Status, run_plain};
+use crate::rows::{bytes_of, no_troubles, plain_status, sink_with};
+use pop_io::{CalmSource, List, MemorySource, Trouble, TroubleKind};
+use pop_tool::Status;
 use std::alloc::{AllocError, Global};
 use std::test::Fail;
 
@@ -46,7 +46,7 @@ fn is_answered(
 ) -> Result<bool, Fail> {
     let mut source = MemorySource::new(input(alloc)?, trouble(alloc, source)?);
     let mut sink = sink_with(alloc, trouble(alloc, sink)?)?;
-    let got = run_plain(alloc, &[WORD], &mut source, &mut sink, &OpenGate);
+    let got = plain_status(alloc, &[WORD], &mut source, &mut sink)?;
     Ok(got == status && sink.held() == text)
 }
 
@@ -81,7 +81,7 @@ fn words_without_a_command_read_nothing(rt: HostRuntime) -> Result<(), Fail> {
     let alloc = rt.alloc();
     let mut source = MemorySource::new(input(alloc)?, trouble(alloc, &[fails(1)])?);
     let mut sink = sink_with(alloc, no_troubles(alloc))?;
-    let status = run_plain(alloc, &["bogus"], &mut source, &mut sink, &OpenGate);
+    let status = plain_status(alloc, &["bogus"], &mut source, &mut sink)?;
     assert!(rt; status == Status::Usage);
     assert_eq!(rt; sink.held(), b"fault: usage 0 unknown\n".as_slice());
     Ok(())
@@ -101,7 +101,7 @@ fn an_input_that_is_too_long(rt: HostRuntime) -> Result<(), Fail> {
     let alloc = rt.alloc();
     let mut source = CalmSource::new(too_many(alloc)?);
     let mut sink = sink_with(alloc, no_troubles(alloc))?;
-    let status = run_plain(alloc, &[WORD], &mut source, &mut sink, &OpenGate);
+    let status = plain_status(alloc, &[WORD], &mut source, &mut sink)?;
     assert!(rt; status == Status::Refused);
     assert_eq!(rt; sink.held(), b"fault: too long\n".as_slice());
     Ok(())

@@ -19,4 +19,4 @@ returns-in-Ok-clause-may c =
 
 pub returns-in-Err-Rejected-clause-may : goal.returns-in-Err-Rejected-clause-may
 returns-in-Err-Rejected-clause-may c =
-    (Some c.in-Err-Rejected.rejected, output_of c.in_ok-rejection_of-in-Err-Rejected.field-0, rw c.in-Err-Rejected.field-0-is at c.in-Err-Rejected.ensures.fault, (rw sym c.in-Err-Rejected.rejected-is at c.in_ok-rejection_of-in-Err-Rejected.ensures), refl)
+    (Some c.in-Err-Rejected.rejected, output_of c.in_ok-rejection_of-in-Err-Rejected.field-0, rw c.in-Err-Rejected.field-0-is at c.in-Err-Rejected.ensures.fault, (rw c.in-Err-Rejected.rejected-is at c.in_ok-rejection_of-in-Err-Rejected.ensures), refl)
