@@ -3,7 +3,7 @@
 
 Run from the top of the repository: python3 bench/runs.py
 Both run 1,000,000 turns of one worker, on majority with 1,000 agents and on a threshold leaf of 255 states, and
-must print the same journal.
+must print the same journal. The built program reads a bundle and checks its proof first, which the plain one does not.
 """
 
 import json
@@ -13,6 +13,8 @@ import subprocess
 import sys
 import tempfile
 import time
+
+import tree
 
 TOP = os.path.dirname(os.path.dirname(os.path.abspath(__file__)))
 PROGRAM = os.path.join(TOP, "crates/pop_main/out/pop_main")
@@ -115,6 +117,7 @@ fn main() {
         crowd.resize(crowd.len() + count.parse::<usize>().unwrap(), state.parse().unwrap());
     }
     let turns: u64 = lines.next().unwrap().parse().unwrap();
+    let outputs: Vec<&str> = lines.next().unwrap().split(' ').collect();
     let mut words = Words::new(0);
     let mut rounds: Vec<Vec<(u16, u32, u32, bool)>> = Vec::new();
     let mut left = turns;
@@ -165,7 +168,7 @@ fn main() {
         write!(out, "{} {}\n", names[state as usize], count).unwrap();
     }
     match open {
-        None => out.extend_from_slice(b"terminal\n"),
+        None => write!(out, "verdict {}\n", outputs[crowd[0] as usize]).unwrap(),
         Some((a, b)) => write!(out, "undecided {a} {b}\n").unwrap(),
     }
     std::io::stdout().write_all(&out).unwrap();
@@ -174,47 +177,13 @@ fn main() {
 
 
 def majority():
-    leaf = {
-        "states": ["A", "B", "a", "b"],
-        "moves": [[0, 1, 2, 3], [0, 3, 0, 2], [1, 2, 1, 3], [3, 2, 3, 3]],
-        "input": [0, 1],
-        "output": [True, False, True, False],
-    }
-    return leaf, [510, 490]
+    with open(os.path.join(TOP, "examples/majority-bundle.json")) as f:
+        return json.load(f)
 
 
-def threshold(coefs, bound):
-    """The threshold leaf of `coefs * x < bound`: leaders and followers of each value."""
-    s = max(max(abs(a) for a in coefs), abs(bound) + 1)
-    values = range(-s, s + 1)
-    leader = {u: i for i, u in enumerate(values)}
-    follower = {}
-    for bit in (False, True):
-        for v in values:
-            follower[bit, v] = len(leader) + len(follower)
-    moves = []
-
-    def after(u, v):
-        q = max(-s, min(s, u + v))
-        return leader[q], follower[q < bound, u + v - q]
-
-    for u in values:
-        for v in range(u, s + 1):
-            moves.append([leader[u], leader[v], *after(u, v)])
-    for u in values:
-        for bit in (False, True):
-            for v in values:
-                r, t = after(u, v)
-                if (r, t) != (leader[u], follower[bit, v]):
-                    moves.append([leader[u], follower[bit, v], r, t])
-    names = [f"L{u}" for u in values] + [f"f{v}" for v in values] + [f"t{v}" for v in values]
-    leaf = {
-        "states": names,
-        "moves": moves,
-        "input": [leader[a] for a in coefs],
-        "output": [u < bound for u in values] + [False] * len(values) + [True] * len(values),
-    }
-    return leaf, [510, 490]
+def threshold():
+    """The bundle of the widest leaf that is built."""
+    return json.loads(list(tree.bundles())[-1][1])
 
 
 def timed(command, standard_input):
@@ -225,11 +194,10 @@ def timed(command, standard_input):
     return out, time.perf_counter() - start, usage.ru_maxrss * 1024
 
 
-def measure(name, leaf, counts, plain, folder):
-    names = ["x", "y"]
-    net = {"format": 1, "vars": names, "leaves": [leaf], "combine": [0]}
-    crowd = "crowd " + " ".join(f"{v}={n}" for v, n in zip(names, counts))
-    head = json.dumps(net, separators=(",", ":")) + "\n" + crowd + "\n"
+def measure(name, bundle, counts, plain, folder):
+    leaf = bundle["net"]["leaves"][0]
+    crowd = "crowd " + " ".join(f"{v}={n}" for v, n in zip(bundle["net"]["vars"], counts))
+    head = json.dumps(bundle, separators=(",", ":")) + "\n" + crowd + "\n"
     line_input = os.path.join(folder, "input")
     with open(line_input, "w") as f:
         f.write(head)
@@ -239,6 +207,7 @@ def measure(name, leaf, counts, plain, folder):
         f.write(" ".join(",".join(map(str, m)) for m in leaf["moves"]) + "\n")
         f.write(" ".join(f"{s},{n}" for s, n in zip(leaf["input"], counts)) + "\n")
         f.write(f"{TURNS}\n")
+        f.write(" ".join("true" if b else "false" for b in leaf["output"]) + "\n")
     ours, our_time, memory = timed([PROGRAM, "run", "--turns", str(TURNS)], line_input)
     theirs, plain_time, plain_memory = timed([plain, plain_input], os.devnull)
     journal = ours[len(head.encode()):]
@@ -261,8 +230,8 @@ def main():
         with open(source, "w") as f:
             f.write(PLAIN)
         subprocess.run(["rustc", "-O", "--edition", "2021", "-A", "warnings", "-o", plain, source], check=True)
-        measure("majority, 1,000 agents", *majority(), plain, folder)
-        measure("threshold leaf of 255 states, 1,000 agents", *threshold([1, -1], 41), plain, folder)
+        measure("majority, 1,000 agents", majority(), [501, 499], plain, folder)
+        measure("threshold leaf of 255 states, 1,000 agents", threshold(), [510, 490], plain, folder)
 
 
 main()
