@@ -293,6 +293,34 @@ fn fronts_of_a_bundle_are_no_json(rt: HostRuntime) -> Result<(), Fail> {
     Ok(())
 }
 
+/// So many lists, each in the one before it.
+fn nested(alloc: Global, depth: usize) -> Result<String, AllocError> {
+    let mut text = String::new(alloc);
+    for _ in 0..depth {
+        text.push_str("[")?;
+    }
+    for _ in 0..depth {
+        text.push_str("]")?;
+    }
+    Ok(text)
+}
+
+#[test]
+fn deep_lists_are_no_json(rt: HostRuntime) -> Result<(), Fail> {
+    let alloc = rt.alloc();
+    let line = nested(alloc, 200)?;
+    assert!(rt;
+        is_given(
+            alloc,
+            "check",
+            line.as_str(),
+            "fault: not json\n",
+            Status::Refused
+        )?
+    );
+    Ok(())
+}
+
 #[test]
 fn other_lines_are_refused(rt: HostRuntime) -> Result<(), Fail> {
     let alloc = rt.alloc();

@@ -15,7 +15,7 @@ use std::test::Fail;
 use std::thread::Threads;
 
 /// More bytes than these runs write.
-const ROOM: usize = 4_194_304;
+const ROOM: usize = 8_388_608;
 
 /// The journal that these words give for the majority bundle and a crowd line, and the status.
 fn journal_of<R: Threads + Wait + Sync, G: Gate>(
@@ -102,13 +102,16 @@ fn is_replayed<R: Threads + Wait + Sync>(rt: &R, alloc: Global, words: &str) -> 
     Ok(end == want.as_str() && status == wanted)
 }
 
+// No clause speaks of deadlock: a meeting that locked the higher shard first would be proved too. Many workers over two
+// shards are the test of it.
 #[test]
 fn runs_on_threads_are_replayed(rt: HostRuntime) -> Result<(), Fail> {
     for words in [
         "run --workers 4 --shards 2",
         "run --workers 4 --shards 1 --turns 2000",
         "run --workers 4 --shards 1024 --turns 2000",
-        "run --workers 64 --turns 500",
+        "run --workers 64 --turns 5000",
+        "run --workers 64 --shards 2 --turns 500",
     ] {
         assert!(rt; is_replayed(&rt, rt.alloc(), words)?, "{words}");
     }
