@@ -55,13 +55,10 @@ impl Words {
 fn react(moves: &[[u16; 4]], x: u16, y: u16) -> (u16, u16) {
     for m in moves {
         let silent = (m[0] == m[2] && m[1] == m[3]) || (m[0] == m[3] && m[1] == m[2]);
-        if silent {
-            continue;
-        }
-        if m[0] == x && m[1] == y {
+        if m[0] == x && m[1] == y && !silent {
             return (m[2], m[3]);
         }
-        if m[0] == y && m[1] == x {
+        if m[0] == y && m[1] == x && !silent {
             return (m[3], m[2]);
         }
     }
