@@ -11,6 +11,8 @@ import subprocess
 import tempfile
 import time
 
+import generator
+
 TOP = os.path.dirname(os.path.dirname(os.path.abspath(__file__)))
 PROGRAM = os.path.join(TOP, "crates/pop_main/out/pop_main")
 MEETINGS = 1_000_000
@@ -19,34 +21,6 @@ PLAIN = r"""
 use std::io::Write;
 use std::sync::atomic::{AtomicU64, Ordering};
 use std::sync::Mutex;
-
-struct Words([u64; 4]);
-
-impl Words {
-    fn new(seed: u64) -> Words {
-        let mut at = seed;
-        let mut next = || {
-            at = at.wrapping_add(0x9e3779b97f4a7c15);
-            let z = (at ^ (at >> 30)).wrapping_mul(0xbf58476d1ce4e5b9);
-            let z = (z ^ (z >> 27)).wrapping_mul(0x94d049bb133111eb);
-            z ^ (z >> 31)
-        };
-        Words([next(), next(), next(), next()])
-    }
-
-    fn next(&mut self) -> u64 {
-        let s = &mut self.0;
-        let word = s[0].wrapping_add(s[3]).rotate_left(23).wrapping_add(s[0]);
-        let t = s[1] << 17;
-        s[2] ^= s[0];
-        s[3] ^= s[1];
-        s[1] ^= s[2];
-        s[0] ^= s[3];
-        s[2] ^= t;
-        s[3] = s[3].rotate_left(45);
-        word
-    }
-}
 
 const MOVES: [[u8; 4]; 4] = [[0, 1, 2, 3], [0, 3, 0, 2], [1, 2, 1, 3], [3, 2, 3, 3]];
 
@@ -158,7 +132,7 @@ def main():
         source = os.path.join(folder, "plain.rs")
         plain = os.path.join(folder, "plain")
         with open(source, "w") as f:
-            f.write(PLAIN)
+            f.write(PLAIN + generator.WORDS)
         subprocess.run(["rustc", "-O", "--edition", "2021", "-o", plain, source], check=True)
         given = os.path.join(folder, "input")
         with open(os.path.join(TOP, "examples/majority-bundle.json")) as f, open(given, "w") as to:

@@ -14,6 +14,7 @@ import sys
 import tempfile
 import time
 
+import generator
 import tree
 
 TOP = os.path.dirname(os.path.dirname(os.path.abspath(__file__)))
@@ -23,34 +24,6 @@ TURNS = 1_000_000
 PLAIN = r"""
 use std::collections::{BTreeMap, BTreeSet};
 use std::io::Write;
-
-struct Words([u64; 4]);
-
-impl Words {
-    fn new(seed: u64) -> Words {
-        let mut at = seed;
-        let mut next = || {
-            at = at.wrapping_add(0x9e3779b97f4a7c15);
-            let z = (at ^ (at >> 30)).wrapping_mul(0xbf58476d1ce4e5b9);
-            let z = (z ^ (z >> 27)).wrapping_mul(0x94d049bb133111eb);
-            z ^ (z >> 31)
-        };
-        Words([next(), next(), next(), next()])
-    }
-
-    fn next(&mut self) -> u64 {
-        let s = &mut self.0;
-        let word = s[0].wrapping_add(s[3]).rotate_left(23).wrapping_add(s[0]);
-        let t = s[1] << 17;
-        s[2] ^= s[0];
-        s[3] ^= s[1];
-        s[1] ^= s[2];
-        s[0] ^= s[3];
-        s[2] ^= t;
-        s[3] = s[3].rotate_left(45);
-        word
-    }
-}
 
 fn react(moves: &[[u16; 4]], x: u16, y: u16) -> (u16, u16) {
     for m in moves {
@@ -225,7 +198,7 @@ def main():
         source = os.path.join(folder, "plain.rs")
         plain = os.path.join(folder, "plain_program")
         with open(source, "w") as f:
-            f.write(PLAIN)
+            f.write(PLAIN + generator.WORDS)
         subprocess.run(["rustc", "-O", "--edition", "2021", "-A", "warnings", "-o", plain, source], check=True)
         measure("majority, 1,000 agents", majority(), [501, 499], plain, folder)
         measure("threshold leaf of 255 states, 1,000 agents", threshold(), [510, 490], plain, folder)
