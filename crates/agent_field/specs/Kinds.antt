@@ -7,6 +7,7 @@ use Rattle.pop_net.specs.Lanes.{tuple_of, AreValid}
 use Rattle.pop_net.specs.Step.{Step}
 use Rattle.pop_crowd.specs.declared.crowd.Meeting.{Meeting}
 use Rattle.pop_crowd.specs.Replay.{reacts}
+use Rattle.agent_field.specs.declared.limits.TheConstants.{SEAT_LIMIT}
 use Rattle.agent_field.specs.declared.view.About.{About}
 use Rattle.agent_field.specs.declared.view.View.{View}
 use Rattle.agent_field.specs.History.{made}
@@ -61,7 +62,7 @@ opening_words k = replicate (2 + k.shards) 0 ++ map (λ w. w.0) k.opening.value
 
 -- the field stands at every moment, and its history is what the draws made
 pub record MomentsStand (k : About) : Type 0 where
-  pub opened : (0 < k.shards) → (0 < k.seats) → k.seats ≤ 64 → AreValid k.net.value k.opening.value → HasHistory k (opening_words k) (founder k ∷ []) []
+  pub opened : (0 < k.shards) → (0 < k.seats) → k.seats ≤ SEAT_LIMIT → AreValid k.net.value k.opening.value → HasHistory k (opening_words k) (founder k ∷ []) []
   pub stands : (words : List ℕ) (views : List View) (history : List Meeting) → HasHistory k words views history → Stands k words views
   pub has_history : (words : List ℕ) (views : List View) → Stands k words views → (history : List Meeting) × HasHistory k words views history
   -- there is just one such history

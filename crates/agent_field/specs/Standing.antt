@@ -9,6 +9,7 @@ use Rattle.pop_net.specs.NetModel.{NetModel, Tuple, CrowdModel}
 use Rattle.pop_net.specs.Lanes.{tuple_of, crowd_of, IsValid, AreValid}
 use Rattle.pop_crowd.specs.declared.crowd.Meeting.{Meeting}
 use Rattle.pop_crowd.specs.Replay.{replay}
+use Rattle.agent_field.specs.declared.limits.TheConstants.{SEAT_LIMIT, LOG_LIMIT}
 use Rattle.agent_field.specs.declared.view.Logged.{Logged}
 use Rattle.agent_field.specs.declared.view.Look.{Look}
 use Rattle.agent_field.specs.declared.view.About.{About}
@@ -152,13 +153,13 @@ SettledPart k words views history =
 pub record StandsAt (k : About) (words : List ℕ) (views : List View) (history : List Meeting) (seat : ℕ → Option ℕ) : Type 0 where
   pub wide : length words ≡ 2 + k.shards + agents_of k
   pub some_shard : 0 < k.shards
-  pub few_seats : k.seats ≤ 64
+  pub few_seats : k.seats ≤ SEAT_LIMIT
   -- FounderPart
   pub founded : slice_index words 1 ≡ 1
-  -- TicketsPart: the clock is the number of meetings, and no number has made more than 2^40
+  -- TicketsPart: the clock is the number of meetings, and no number has made too many
   pub clock : slice_index words 0 ≡ length history
   pub right : IsHistory k.net.value k.seats k.opening.value history
-  pub short : (w : ℕ) → length (calls w history) ≤ 2 ^ 40
+  pub short : (w : ℕ) → length (calls w history) ≤ LOG_LIMIT
   -- NumbersPart
   pub grounded : (id : ℕ) × (seat 0 ≡ some id)
   pub sits : (n id : ℕ) → seat n ≡ some id → (v : View) × (get_elem? views id ≡ some v) × (v.live ≡ true) × (v.number ≡ n)
@@ -171,7 +172,7 @@ pub record StandsAt (k : About) (words : List ℕ) (views : List View) (history 
 
 -- FounderPart, where the founder word is 0: nothing has happened
 pub record IsUnfounded (k : About) (words : List ℕ) (views : List View) : Type 0 where
-  pub limits : (0 < k.shards) × (0 < k.seats) × (k.seats ≤ 64)
+  pub limits : (0 < k.shards) × (0 < k.seats) × (k.seats ≤ SEAT_LIMIT)
   pub valid : AreValid k.net.value k.opening.value
   pub fresh : words ≡ replicate (2 + k.shards) 0 ++ map (λ w. w.0) k.opening.value
   pub each : (id : ℕ) (v : View) → get_elem? views id ≡ some v → ((id ≡ 0) × (v ≡ founder k)) ⊎ (v ≡ spent)

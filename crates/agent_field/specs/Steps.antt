@@ -7,6 +7,7 @@ use Rattle.pop_net.specs.Lanes.{tuple_of, IsValid}
 use Rattle.pop_net.specs.Reaction.{reaction}
 use Rattle.pop_crowd.specs.declared.crowd.Meeting.{Meeting}
 use Rattle.pop_crowd.specs.Replay.{reacts}
+use Rattle.agent_field.specs.declared.limits.TheConstants.{LOG_LIMIT}
 use Rattle.agent_field.specs.declared.view.Logged.{Logged}
 use Rattle.agent_field.specs.declared.view.Look.{Look}
 use Rattle.agent_field.specs.declared.view.About.{About}
@@ -91,7 +92,7 @@ pub record MayDraw (k : About) (v : View) (a b : ℕ) (x y x' y' : Word) : Type 
   pub reacted : IsReaction k.net.value x y x' y'
   pub due : v.due ≡ []
   pub apart : a ≢ b
-  pub room : length v.log < 2 ^ 40
+  pub room : length v.log < LOG_LIMIT
   pub exactly : v.held ≡ locks_of k a b
 
 -- all words, read under all locks

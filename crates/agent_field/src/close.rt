@@ -6,6 +6,7 @@ ghost use Rattle.agent_field.specs.History.{calls, placed, placed_some, placed_l
 ghost use Rattle.agent_field.specs.Standing.{packed, IsLook};
 
 use crate::field::{Field, FieldSeat};
+use crate::limits::SEAT_LIMIT;
 use crate::view::Logged;
 use atomic_table::Closed;
 use pop_crowd::Meeting;
@@ -63,7 +64,7 @@ fn arrange(
     own: &[Logged],
     taken: &[Option<List<Logged>>],
 ) -> Result<Vec<Meeting>, NoMemory>
-    requires few { length taken.now ≤ 64 }
+    requires few { length taken.now ≤ SEAT_LIMIT }
     requires own { All (λ e. e.ticket < count) own.now }
     requires taken { (w : ℕ) (l : Items Logged) → slice_index_or taken.now w None ≡ Some l → All (λ e. e.ticket < count) l }
     ensures { IfOk result (λ v. v.items ≡ placed_logs (0, placed 0 (replicate count (made 0 0 0 false)) own.now) taken.now) }

@@ -1,6 +1,7 @@
 //! The field and its seats.
 
 ghost use Rattle.std.specs.Prelude.{◌≡◌, ◌≢◌, ℕ, ◌+◌, ◌<◌, ◌≤◌, ◌^◌, length, [], ◌∷◌, All, Some, OnOk, OnErr, vec_len, vec_capacity, slice_get};
+ghost use Rattle.agent_field.specs.declared.limits.TheConstants.{LOG_LIMIT, LOOK_LIMIT, SEAT_LIMIT};
 ghost use Rattle.agent_field.specs.Standing.{idle};
 
 use crate::view::{About, Logged, Look, Rule, View};
@@ -23,7 +24,7 @@ pub struct Field<'n> {
     ghost agents_are: { length table.shared.key.opening.value ≡ agents },
     ghost words_are: { table.shared.table_id.words ≡ 2 + shards + agents },
     ghost no_slots: { table.shared.table_id.slots ≡ 0 },
-    ghost limits: { (0 < shards) × (0 < seats) × (seats ≤ 64) },
+    ghost limits: { (0 < shards) × (0 < seats) × (seats ≤ SEAT_LIMIT) },
 }
 
 /// A seat of the field, between its calls.
@@ -39,10 +40,10 @@ pub struct FieldSeat {
     pub(crate) looks: Vec<Look>,
     /// Empty, and each with room for all agents: one for each look to come.
     pub(crate) rooms: Vec<Vec<Word>>,
-    ghost room: { (vec_len log + spare ≤ vec_capacity log) × (vec_len log + spare ≤ 2 ^ 40) },
+    ghost room: { (vec_len log + spare ≤ vec_capacity log) × (vec_len log + spare ≤ LOG_LIMIT) },
     ghost known: { number < seat.me.0.about.seats },
     ghost places: { number ≡ 0 → (0 < next) × (next + left ≡ seat.me.0.about.seats) × (vec_len taken ≡ seat.me.0.about.seats) },
-    ghost looks_fit: { (vec_len looks + vec_len rooms ≤ vec_capacity looks) × (vec_len looks + vec_len rooms ≤ 64) },
+    ghost looks_fit: { (vec_len looks + vec_len rooms ≤ vec_capacity looks) × (vec_len looks + vec_len rooms ≤ LOOK_LIMIT) },
     ghost rooms_fit: { All (λ room. (room.items ≡ []) × (length seat.me.0.about.opening.value ≤ vec_capacity room)) rooms.items },
     ghost is_idle: { seat.me ≡ (idle seat.me.0.about number log.items next taken.items looks.items, []) },
 }
@@ -118,7 +119,7 @@ impl FieldSeat {
 
     /// Room for so many more meetings.
     pub fn reserve(&mut self, turns: u64) -> Result<(), NoMemory>
-        requires { made_of self.old + turns ≤ 2 ^ 40 }
+        requires { made_of self.old + turns ≤ LOG_LIMIT }
         ensures room { OnOk result (turns ≤ spare_of self.new) }
         ensures none { OnErr result (spare_of self.new ≡ spare_of self.old) }
         ensures own { log_of self.new ≡ log_of self.old }

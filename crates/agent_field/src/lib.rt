@@ -6,6 +6,7 @@
 mod close;
 mod field;
 mod life;
+mod limits;
 mod looks;
 mod meet;
 mod moments;
@@ -14,8 +15,6 @@ mod view;
 
 pub use close::Round;
 pub use field::{Field, FieldSeat, Met};
+pub use limits::{LOG_LIMIT, LOOK_LIMIT, SEAT_LIMIT};
 pub use moments::each_moment_stands;
 pub use view::{Logged, Look};
-
-#[cfg(test)]
-mod tests;

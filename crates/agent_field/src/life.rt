@@ -3,9 +3,11 @@
 ghost use Rattle.std.specs.Prelude.{◌≡◌, ◌+◌, ◌<◌, ◌≤◌, length, map, [], ◌++◌, IfOk, IfErr, OnOk, OnErr, replicate, slice_set, slice_index_or, None, Some};
 
 use crate::field::{Field, FieldSeat};
+use crate::limits::SEAT_LIMIT;
 use crate::view::{About, Deal, Found, Logged, Rule, View};
 use atomic_table::Table;
-use pop_io::{List, NoMemory};
+use pop_crowd::{AGENT_LEAST, AGENT_LIMIT};
+use pop_io::{List, NoMemory, SHARD_LIMIT};
 use pop_net::{Net, Word};
 use std::alloc::Global;
 use std::snapshot::Snapshot;
@@ -46,9 +48,9 @@ impl<'n> Field<'n> {
         seats: u16,
     ) -> Result<(Field<'n>, FieldSeat), NoMemory>
         requires valid { AreValid net.now words }
-        requires agents { (2 ≤ length words) × (length words ≤ 65536) }
-        requires shards { (1 ≤ shards) × (shards ≤ 1024) }
-        requires seats { (1 ≤ seats) × (seats ≤ 64) }
+        requires agents { (AGENT_LEAST ≤ length words) × (length words ≤ AGENT_LIMIT) }
+        requires shards { (1 ≤ shards) × (shards ≤ SHARD_LIMIT) }
+        requires seats { (1 ≤ seats) × (seats ≤ SEAT_LIMIT) }
         ensures field { IfOk result (λ r. (net_of r.0 ≡ net.now) × (opening_of r.0 ≡ words) × (seats_of r.0 ≡ seats)) }
         ensures ours { IfOk result (λ r. IsSeatOf r.0 r.1) }
         ensures first { IfOk result (λ r. (number_of r.1 ≡ 0) × (next_of r.1 ≡ 1) × (left_of r.1 + 1 ≡ seats)) }
@@ -92,7 +94,7 @@ impl<'n> Field<'n> {
         Ok((field, first))
     }
 
-    /// A new seat, with the least number that is left. It takes no memory today.
+    /// A new seat, with the least number that is left. It allocates nothing today.
     pub fn split(&self, alloc: Global, seat: &mut FieldSeat) -> Result<FieldSeat, NoMemory>
         requires ours { IsSeatOf self.now seat.old }
         requires first { number_of seat.old ≡ 0 }
@@ -121,7 +123,7 @@ impl<'n> Field<'n> {
         })
     }
 
-    /// Takes in another seat's log, under its number. It takes no memory today.
+    /// Takes in another seat's log, under its number. It allocates nothing today.
     pub fn join(&self, seat: &mut FieldSeat, other: FieldSeat) -> Result<(), (FieldSeat, NoMemory)>
         requires ours { IsSeatOf self.now seat.old }
         requires theirs { IsSeatOf self.now other }

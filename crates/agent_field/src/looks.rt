@@ -5,6 +5,7 @@ ghost use Rattle.pop_net.specs.declared.net.Word.{Word as WordModel};
 ghost use Rattle.agent_field.specs.Steps.{below, with_locks, look_of, HasReadAll};
 
 use crate::field::{Field, FieldSeat};
+use crate::limits::LOOK_LIMIT;
 use crate::view::{Look, View};
 use atomic_table::Seat;
 use pop_io::{List, NoMemory};
@@ -83,7 +84,7 @@ impl<'n> Field<'n> {
     ) -> Result<(), NoMemory>
         requires ours { IsSeatOf self.now seat.old }
         requires first { number_of seat.old ≡ 0 }
-        requires limit { length (looks_of seat.old) + looks ≤ 64 }
+        requires limit { length (looks_of seat.old) + looks ≤ LOOK_LIMIT }
         ensures ours { IsSeatOf self.now seat.new }
         ensures room { OnOk result (looks ≤ spare_looks_of seat.new) }
         ensures refused { OnErr result (spare_looks_of seat.new ≡ spare_looks_of seat.old) }
@@ -99,7 +100,7 @@ impl<'n> Field<'n> {
     }
 
     /// Looks at all agents, under the locks of all shards, and answers the ticket of the next meeting.
-    /// It may wait for a lock, and takes no memory.
+    /// It may wait for a lock, and allocates nothing.
     pub fn look<R: Wait>(&self, rt: &R, seat: &mut FieldSeat) -> u64
         requires ours { IsSeatOf self.now seat.old }
         requires first { number_of seat.old ≡ 0 }

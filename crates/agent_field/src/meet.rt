@@ -8,6 +8,7 @@ ghost use Rattle.agent_field.specs.Standing.{locks_of, pair_locks};
 ghost use Rattle.agent_field.specs.Steps.{recorded, with_locks, IsReaction, IsNewest};
 
 use crate::field::{Field, FieldSeat, Met};
+use crate::limits::LOG_LIMIT;
 use crate::view::{Logged, View};
 use atomic_table::Seat;
 use pop_io::Gate;
@@ -86,7 +87,7 @@ impl<'n> Field<'n> {
         requires agents { (a < self.now.agents) × (b < self.now.agents) × (a ≢ b) }
         requires held { token.old.me.0.held ≡ locks_of self.now.table.shared.key a b }
         requires clear { (token.old.me.0.known ≡ []) × (token.old.me.0.due ≡ []) }
-        requires room { length token.old.me.0.log < 2 ^ 40 }
+        requires room { length token.old.me.0.log < LOG_LIMIT }
         ensures table { token.new.table_id ≡ token.old.table_id }
         ensures logged { token.new.me ≡ (recorded (logged result.0 a b result.1) token.old.me.0, token.old.me.1) }
         ensures newest { IsNewest result.0 token.old.me.0 }
@@ -101,7 +102,7 @@ impl<'n> Field<'n> {
         (ticket, changed)
     }
 
-    /// The agents a and b meet. It may wait for a lock, and takes no memory.
+    /// The agents a and b meet. It may wait for a lock, and allocates nothing.
     pub fn meet<R: Wait, G: Gate>(
         &self,
         rt: &R,

@@ -156,6 +156,7 @@ flow_met leaf count counts path end way l is q lq =
     let of_moves = dot-moves count (λ t. times_taken leaf t (leaf_input_crowd leaf counts) path end way) (λ t. post t q) (λ t. pre t q) (n + m) 0 leaf.moves (λ j k. is.moves j k ∙ ap (λ t. times_taken leaf t (leaf_input_crowd leaf counts) path end way) (sym (zero-add j))) in
     let at_end = is.states q lq in
     let balance = flow_of_way leaf q (leaf_input_crowd leaf counts) path end way in
+    let helped = sum_by-append (λ x. one_at x q) (starts_from (λ variable. slice_index leaf.inputs variable) 0 counts) leaf.helpers in
     let second : dot count (0 + length inputs) states ≡ dot count n states = ap (λ k. dot count k states) at_states in
     let third : dot count (0 + length (inputs ++ states)) moves ≡ dot count (n + m) moves = ap (λ k. dot count k moves) at_moves in
-    omega (arith, ints, terms, split, split_again, second, third, of_inputs, of_states, of_moves, at_end, balance)
+    omega (arith, ints, terms, split, split_again, second, third, of_inputs, of_states, of_moves, at_end, balance, helped)

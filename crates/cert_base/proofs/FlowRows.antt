@@ -1,10 +1,9 @@
 -- The rows of the flow facts, move by move.
 use Rattle.std.proofs.Common.{◌≡◌, ◌≢◌, ◌⊎◌, inl, inr, ℕ, zero, suc, pred, ◌+◌, ◌<◌, ◌≤◌, Bool, true, false, List, [], ◌∷◌, ◌++◌, length, map, take, get_or, append_assoc, refl, ap, sym, ◌∙◌, zero-add, arith, drop, w64, to_z, of_z}
 use Rattle.std.specs.Prelude.{ℤ, pos, negsuc, neg_ℤ, option_map, ◌-ℤ◌, Some, slice_get, ◌==◌, ◌||◌, if◌then◌else◌}
-use Rattle.std.specs.List.{range_with_len, slice_set}
+use Rattle.std.specs.List.{range_with_len, slice_set, zip}
 use Rattle.std.proofs.Math.ListN.{length-set}
 use Rattle.std.proofs.lemmas.List.{append-nil, length-map, take_more, take_all}
-use Rattle.std.proofs.lemmas.Simd.{map-map}
 use Rattle.std.proofs.lemmas.List.FromFn.{length-map-range_with_len, get_or-map-range_with_len, length-range_with_len}
 use Rattle.std.proofs.lemmas.Bool.Decides.{eqb_tells}
 use Rattle.std.proofs.lemmas.Option.{slice_get-map, slice_get-get_or, slice_get_within, get_or_from_slice_get}
@@ -13,9 +12,10 @@ use Rattle.pop_net.specs.declared.leaf.Move.{Move}
 use Rattle.pop_net.specs.LeafModel.{LeafModel, IsLeaf, IsMoveBelow, pre, post}
 use Rattle.pop_net.proofs.Quiet.{All-slice_get}
 use Rattle.cert_base.specs.declared.fact.Term.{Term}
+use Rattle.cert_base.specs.declared.fact.Fact.{Fact}
 use Rattle.cert_base.specs.declared.fact.Fact.TheVariants.{Eq}
 use Rattle.cert_base.specs.Rows.{terms_from, move_variable, state_variable}
-use Rattle.cert_base.specs.FactsAndCases.{indicator, states_of, is_in, flow}
+use Rattle.cert_base.specs.FactsAndCases.{indicator, states_of, helpers_in, is_in, flow}
 use Rattle.cert_base.specs.Parts.{term_of, change_at, flow_terms, flow_rows, entered}
 use Rattle.cert_base.proofs.Numbers.{slice_get-set_other}
 use Rattle.cert_base.proofs.TermLists.{terms_from-cons, terms_from-append, terms_from-next, minus_one_at, terms_from-state}
@@ -172,7 +172,7 @@ map-same f g a (suc n) e =
     let rest = map-same f g (a + 1) n (λ z l m. e z (omega arith) (omega arith)) in
     cc
 
-flow_row : (leaf : LeafModel) (q : ℕ) → q < length leaf.states → Eq (record { terms = flow_terms leaf (length leaf.moves) q; constant = pos 0 }) ≡ flow leaf q
+flow_row : (leaf : LeafModel) (q : ℕ) → q < length leaf.states → Eq (record { terms = flow_terms leaf (length leaf.moves) q; constant = pos (helpers_in leaf q) }) ≡ flow leaf q
 flow_row leaf q l =
     let inputs = map (λ start. indicator (start == q)) leaf.inputs in
     let states = map (λ z. neg_ℤ (indicator (z == q))) (states_of leaf) in
@@ -188,14 +188,21 @@ flow_row leaf q l =
     ∙ ap (λ k. terms_from 0 inputs ++ terms_from k (states ++ moves)) at_states
     ∙ ap (λ ts. terms_from 0 inputs ++ ts) (terms_from-append n states moves ∙ ap (λ ts. ts ++ terms_from (n + length states) moves) own ∙ ap (λ k. record { at = n + q; by = negsuc 0 } ∷ terms_from k moves) at_moves)
     ∙ ap (λ ms. terms_from 0 inputs ++ (record { at = n + q; by = negsuc 0 } ∷ terms_from (n + m + 0) (map (change_at q) ms))) (sym (take_all (length leaf.moves) leaf.moves (let k : length leaf.moves ≤ length leaf.moves = omega arith in k))) in
-    ap (λ ts. Eq (record { terms = ts; constant = pos 0 })) (sym all)
+    ap (λ ts. Eq (record { terms = ts; constant = pos (helpers_in leaf q) })) (sym all)
 
 -- the facts of the rows after all moves
-pub flow_rows-facts : (leaf : LeafModel) (rows : List (List Term)) → rows ≡ flow_rows leaf (length leaf.moves) → map (λ terms. Eq (record { terms = terms; constant = pos 0 })) rows ≡ map (flow leaf) (states_of leaf)
+abbrev pub fact_of : LeafModel → List Term × ℕ → Fact
+fact_of leaf row = Eq (record { terms = row.0; constant = pos (helpers_in leaf row.1) })
+
+map-zip : {A B : Type 0} (f : A × ℕ → B) (g : ℕ → A) (xs : List ℕ) → map f (zip (map g xs) xs) ≡ map (λ x. f (g x, x)) xs
+map-zip f g [] = refl
+map-zip f g (x ∷ xs) = ap (λ ys. f (g x, x) ∷ ys) (map-zip f g xs)
+
+pub flow_rows-facts : (leaf : LeafModel) (rows : List (List Term)) → rows ≡ flow_rows leaf (length leaf.moves) → map (fact_of leaf) (zip rows (states_of leaf)) ≡ map (flow leaf) (states_of leaf)
 flow_rows-facts leaf rows e =
-    ap (map (λ terms. Eq (record { terms = terms; constant = pos 0 }))) e
-    ∙ map-map (λ terms. Eq (record { terms = terms; constant = pos 0 })) (flow_terms leaf (length leaf.moves)) (states_of leaf)
-    ∙ map-same (λ q. Eq (record { terms = flow_terms leaf (length leaf.moves) q; constant = pos 0 })) (flow leaf) 0 (length leaf.states) (λ q a l. flow_row leaf q (omega arith))
+    ap (λ rs. map (fact_of leaf) (zip rs (states_of leaf))) e
+    ∙ map-zip (fact_of leaf) (flow_terms leaf (length leaf.moves)) (states_of leaf)
+    ∙ map-same (λ q. fact_of leaf (flow_terms leaf (length leaf.moves) q, q)) (flow leaf) 0 (length leaf.states) (λ q a l. flow_row leaf q (omega arith))
 
 -- ---- the terms of the inputs
 

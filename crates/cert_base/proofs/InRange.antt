@@ -32,13 +32,17 @@ leads_in_range leaf is before [] after way range = subst (λ (c : List ℕ). InR
 leads_in_range leaf is before (next ∷ path) after way range =
     leads_in_range leaf is next path after way.1 (step_in_range leaf before next is way.0 range)
 
-pub starts_in_range : (leaf : LeafModel) → IsLeaf leaf → (k : ℕ) (counts : List ℕ) → k + length counts ≤ length leaf.inputs → InRange leaf (starts_from (λ variable. slice_index leaf.inputs variable) k counts)
+starts_in_range : (leaf : LeafModel) → IsLeaf leaf → (k : ℕ) (counts : List ℕ) → k + length counts ≤ length leaf.inputs → InRange leaf (starts_from (λ variable. slice_index leaf.inputs variable) k counts)
 starts_in_range leaf is k [] l = All-nil (λ (q : ℕ). q < length leaf.states)
 starts_in_range leaf is k (n ∷ counts) l =
     All-append (λ (q : ℕ). q < length leaf.states) (replicate n (slice_index leaf.inputs k)) (starts_from (λ variable. slice_index leaf.inputs variable) (k + 1) counts)
     (All-replicate (λ (q : ℕ). q < length leaf.states) n (slice_index leaf.inputs k) (All-get_or (λ (q : ℕ). q < length leaf.states) leaf.inputs k 0 (omega arith) is.inputs))
     (starts_in_range leaf is (k + 1) counts (omega arith))
 
+pub input_in_range : (leaf : LeafModel) → IsLeaf leaf → (counts : List ℕ) → length counts ≡ length leaf.inputs → InRange leaf (leaf_input_crowd leaf counts)
+input_in_range leaf is counts long =
+    All-append (λ (q : ℕ). q < length leaf.states) (starts_from (λ variable. slice_index leaf.inputs variable) 0 counts) leaf.helpers (starts_in_range leaf is 0 counts (omega (arith, long))) is.helpers
+
 pub end_in_range : (leaf : LeafModel) → IsLeaf leaf → (counts : List ℕ) (path : List (List ℕ)) (end : List ℕ) → length counts ≡ length leaf.inputs → Leads (LeafStep leaf) (leaf_input_crowd leaf counts) path end → InRange leaf end
 end_in_range leaf is counts path end long way =
-    leads_in_range leaf is (leaf_input_crowd leaf counts) path end way (starts_in_range leaf is 0 counts (omega (arith, long)))
+    leads_in_range leaf is (leaf_input_crowd leaf counts) path end way (input_in_range leaf is counts long)

@@ -15,3 +15,7 @@ pub mod WrongEnds
 pub mod Openings
 pub mod Combined
 pub mod TreeKinds
+pub mod WeightedSums
+pub mod FlowSums
+pub mod FlowBalance
+pub mod HelperCounts

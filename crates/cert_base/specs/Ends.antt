@@ -18,7 +18,7 @@ pub record IsEnd (leaf : LeafModel) (count : Valuation) : Type 0 where
   pub path : List (List ℕ)
   pub end : List ℕ
   pub way : Leads (LeafStep leaf) (leaf_input_crowd leaf counts) path end
-  pub input : IsInput (length leaf.inputs) counts
+  pub input : IsInput (length leaf.inputs) (length leaf.helpers) counts
   pub terminal : IsTerminal (LeafStep leaf) end
   pub execution : IsOfExecution leaf count counts path end way
 
@@ -40,7 +40,9 @@ AreRefuted facts = (count : Valuation) → MeetsAll count facts → ⊥
 -- wherever the predicate has this value at an input, every agent of each terminal crowd that is reachable from it outputs the value
 abbrev pub EndsRight : LeafModel → PredTree → Bool → Type 0
 EndsRight leaf tree value =
-    (counts end : List ℕ) → IsInput (length leaf.inputs) counts → predicate_value tree counts ≡ value → Reachable (LeafStep leaf) (leaf_input_crowd leaf counts) end → IsTerminal (LeafStep leaf) end → All (λ q. slice_index_or leaf.outputs q false ≡ value) end
+    (counts end : List ℕ) → IsInput (length leaf.inputs) (length leaf.helpers) counts → predicate_value tree counts ≡ value
+    → Reachable (LeafStep leaf) (leaf_input_crowd leaf counts) end → IsTerminal (LeafStep leaf) end
+    → All (λ q. slice_index_or leaf.outputs q false ≡ value) end
 
 -- an execution that starts at an input at which the predicate has the value, and ends in a terminal crowd where an agent outputs another value
 pub record IsWrongEnd (leaf : LeafModel) (tree : PredTree) (value : Bool) (count : Valuation) : Type 0 where

@@ -10,3 +10,5 @@ pub mod ProofLimits
 pub mod Combination
 pub mod Ends
 pub mod Parts
+pub mod WeightedSums
+pub mod FlowLaw

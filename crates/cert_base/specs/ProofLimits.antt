@@ -1,5 +1,8 @@
 -- ProofLimits: how long the lists of a proof may be, and how great its numbers.
 use Rattle.std.specs.Prelude.{◌≡◌, ℕ, ◌<◌, ◌≤◌, ◌^◌, List, [], ◌∷◌, ℤ, nat_abs, length, map, All}
+use Rattle.pop_net.specs.declared.limits.TheConstants.{MOVE_LIMIT, STATE_LIMIT}
+use Rattle.pres_ast.specs.declared.limits.TheConstants.{MODULUS_LIMIT}
+use Rattle.cert_base.specs.declared.limits.TheConstants.{LAYER_LIMIT, NODE_LIMIT, TERM_LIMIT, SIZE_LIMIT}
 use Rattle.cert_base.specs.declared.fact.Term.{Term}
 use Rattle.cert_base.specs.declared.layer.Layer.{Layer}
 use Rattle.cert_base.specs.declared.node.Node.{Node}
@@ -7,9 +10,9 @@ use Rattle.cert_base.specs.declared.node.Node.TheVariants.{Linear, Residue, Spli
 use Rattle.cert_base.specs.declared.proof.Proof.{Proof}
 use Rattle.cert_base.specs.declared.proof.LeafProof.{LeafProof}
 
--- at most 2^40 in size
+-- no greater in size than a number of a proof may be
 abbrev pub IsSmall : ℤ → Type 0
-IsSmall z = nat_abs z ≤ 2 ^ 40
+IsSmall z = nat_abs z ≤ SIZE_LIMIT
 
 -- each number is greater than the one before it
 abbrev pub IsAscending : List ℕ → Type 0
@@ -21,15 +24,15 @@ abbrev pub IsTermWithin : Term → Type 0
 IsTermWithin t = (t.at < 2 ^ 32) × IsSmall t.by
 
 abbrev pub AreTermsWithin : List Term → Type 0
-AreTermsWithin terms = (length terms ≤ 65536) × All IsTermWithin terms
+AreTermsWithin terms = (length terms ≤ TERM_LIMIT) × All IsTermWithin terms
 
 -- a set of states
 abbrev pub IsSetWithin : List ℕ → Type 0
-IsSetWithin set = (length set ≤ 256) × All (λ q. q < 2 ^ 16) set × IsAscending set
+IsSetWithin set = (length set ≤ STATE_LIMIT) × All (λ q. q < 2 ^ 16) set × IsAscending set
 
 abbrev pub IsNodeWithin : Node → Type 0
 IsNodeWithin (Linear terms) = AreTermsWithin terms
-IsNodeWithin (Residue m terms) = (2 ≤ m) × (m ≤ 200) × AreTermsWithin terms
+IsNodeWithin (Residue m terms) = (2 ≤ m) × (m ≤ MODULUS_LIMIT) × AreTermsWithin terms
 IsNodeWithin (Split row) = AreTermsWithin row.terms × IsAscending (map (λ t. t.at) row.terms) × IsSmall row.constant
 IsNodeWithin (Present p) = p < 2 ^ 16
 IsNodeWithin (Twin p) = p < 2 ^ 16
@@ -38,18 +41,18 @@ IsNodeWithin (Siphon set) = IsSetWithin set
 IsNodeWithin (Open f) = f < 2 ^ 32
 
 abbrev pub AreNodesWithin : List Node → Type 0
-AreNodesWithin nodes = (length nodes ≤ 1000000) × All IsNodeWithin nodes
+AreNodesWithin nodes = (length nodes ≤ NODE_LIMIT) × All IsNodeWithin nodes
 
 pub record IsLayerWithin (layer : Layer) : Type 0 where
-  pub move_count : length layer.moves ≤ 32768
+  pub move_count : length layer.moves ≤ MOVE_LIMIT
   pub moves : All (λ number. number < 2 ^ 32) layer.moves
-  pub weight_count : length layer.weights ≤ 256
+  pub weight_count : length layer.weights ≤ STATE_LIMIT
   pub weights : All IsSmall layer.weights
 
 -- a leaf's proof over so many variables
 pub record IsLeafProofWithin (variables : ℕ) (part : LeafProof) : Type 0 where
   pub pred : part.pred.variables ≡ variables
-  pub layer_count : length part.layers ≤ 256
+  pub layer_count : length part.layers ≤ LAYER_LIMIT
   pub layers : All IsLayerWithin part.layers
   pub on_true : AreNodesWithin part.on_true
   pub on_false : AreNodesWithin part.on_false

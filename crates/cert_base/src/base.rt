@@ -11,7 +11,7 @@ use pop_net::Leaf;
 use pres_ast::Pred;
 use std::alloc::Global;
 
-/// First the flow fact of each state; then that there are two agents, that the predicate has the value, and that
+/// First the flow fact of each state; then that there are two agents with the helpers, that the predicate has the value, and that
 /// some agent has another output (the state equation of Blondin, Esparza, Jaax, Meyer 2017).
 pub fn base_facts(
     alloc: Global,
@@ -35,7 +35,7 @@ fn two_agents(alloc: Global, leaf: &Leaf) -> Result<Fact, NoMemory>
     ensures { IfOk result (λ fact. fact ≡ at_least_two leaf.now) }
 {
     let ones = vec![in alloc; 1i64; usize::from(leaf.input_count())]?;
-    Ok(Fact::Ge(Row::dense(alloc, 0, ones.as_slice(), -2)?))
+    Ok(Fact::Ge(Row::over_inputs(alloc, ones.as_slice(), i64::from(leaf.helper_count()) - 2)?))
 }
 
 fn wrong_output(alloc: Global, leaf: &Leaf, value: bool) -> Result<Fact, NoMemory>

@@ -11,7 +11,7 @@ use pop_net::{Item, Net};
 use pres_ast::{Pred, Tree};
 
 /// Whether the net's combination, with each leaf's predicate in the place of its number, is the predicate's tree, and
-/// all predicates are over the net's variables. It takes no memory.
+/// all predicates are over the net's variables. Allocates nothing.
 pub fn net_pred_is(net: &Net, proof: &Proof, pred: &Pred) -> bool
     requires { length proof.now.leaves ≡ length net.now.leaves }
     ensures { IsTrue result ↔ IsNetPred net.now proof.now pred.now }

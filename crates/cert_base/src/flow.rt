@@ -1,14 +1,16 @@
 //! The flow facts of a leaf, in one walk over its moves.
 
 ghost use Rattle.std.specs.Prelude.{◌≡◌, ◌<◌, ◌+◌, ◌++◌, length, map, slice_index_or, IfOk, OnOk, pos, []};
+ghost use Rattle.std.specs.List.{zip};
 ghost use Rattle.pop_net.specs.LeafModel.{IsLeaf, times_in as times_in_pair};
-ghost use Rattle.cert_base.specs.FactsAndCases.{flow, states_of};
+ghost use Rattle.cert_base.specs.FactsAndCases.{flow, states_of, helpers_in as count_in};
 ghost use Rattle.cert_base.specs.Parts.{term_of, change_at, input_terms as input_part, flow_terms, flow_rows as rows_after, entered};
 ghost use Rattle.cert_base.specs.declared.fact.Fact.TheVariants.{Eq};
 
 use crate::fact::Fact;
-use crate::row::first_move;
+use crate::helpers::helpers_in;
 use crate::terms::Terms;
+use crate::variables::{variable_of_input, variable_of_move, variable_of_state};
 use pop_io::NoMemory;
 use pop_net::{Leaf, Move};
 use std::alloc::Global;
@@ -18,15 +20,18 @@ pub(crate) fn flow_facts(alloc: Global, leaf: &Leaf) -> Result<Vec<Fact>, NoMemo
     ensures facts { IfOk result (λ facts. facts.items ≡ map (flow leaf.now) (states_of leaf.now)) }
     ensures formed { IsLeaf leaf.now }
 {
-    facts_of(alloc, flow_rows(alloc, leaf)?)
+    facts_of(alloc, leaf, flow_rows(alloc, leaf)?)
 }
 
-fn facts_of(alloc: Global, rows: Vec<Terms>) -> Result<Vec<Fact>, NoMemory>
-    ensures { IfOk result (λ facts. facts.items ≡ map (λ terms. Eq (record { terms = terms; constant = pos 0 })) rows.items) }
+/// The facts of the states' rows, with the helpers that are in each state.
+fn facts_of(alloc: Global, leaf: &Leaf, rows: Vec<Terms>) -> Result<Vec<Fact>, NoMemory>
+    ensures { IfOk result (λ facts. facts.items
+        ≡ map (λ row. Eq (record { terms = row.0; constant = pos (count_in leaf.now row.1) })) (zip rows.items (states_of leaf.now))) }
 {
     let facts = rows
         .into_iter()
-        .map(|terms| Fact::Eq(terms.into_row(0)))
+        .zip(0..leaf.state_count())
+        .map(|(terms, q)| Fact::Eq(terms.into_row(i64::from(helpers_in(leaf, q)))))
         .collect(alloc)?;
     Ok(facts)
 }
@@ -60,7 +65,7 @@ fn start_row(alloc: Global, leaf: &Leaf, q: u16) -> Result<Terms, NoMemory>
     ensures { IfOk result (λ terms. terms ≡ flow_terms leaf.now 0 q) }
 {
     let mut terms = input_terms(alloc, leaf, q)?;
-    terms.push(u32::from(leaf.input_count()) + u32::from(q), -1)?;
+    terms.push(variable_of_state(leaf, q), -1)?;
     Ok(terms)
 }
 
@@ -69,7 +74,7 @@ fn input_terms(alloc: Global, leaf: &Leaf, q: u16) -> Result<Terms, NoMemory>
 {
     let mut terms = Terms::new(alloc);
     for i in 0..leaf.input_count() {
-        terms.push(u32::from(i), i64::from(leaf.input(i) == q))?;
+        terms.push(variable_of_input(i), i64::from(leaf.input(i) == q))?;
     }
     Ok(terms)
 }
@@ -82,7 +87,7 @@ fn enter_move(rows: &mut Vec<Terms>, leaf: &Leaf, t: u32) -> Result<(), NoMemory
 {
     let taken = leaf.move_at(t);
     let Move { p, q, r, s } = taken;
-    let variable = first_move(leaf) + t;
+    let variable = variable_of_move(leaf, t);
     enter(rows, p, &[], taken, variable)?;
     enter(rows, q, &[p], taken, variable)?;
     enter(rows, r, &[q, p], taken, variable)?;

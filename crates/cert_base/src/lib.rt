@@ -7,22 +7,26 @@ mod base;
 mod combination;
 mod fact;
 mod flow;
+mod helpers;
+mod law;
 mod layer;
+mod limits;
 mod node;
 mod open;
 mod proof;
 mod row;
 mod split;
 mod terms;
+mod variables;
 
 pub use base::base_facts;
 pub use combination::net_pred_is;
 pub use fact::{Fact, Row, Term};
+pub use law::flow_law;
 pub use layer::Layer;
+pub use limits::{FACT_LIMIT, LAYER_LIMIT, NODE_LIMIT, PATH_LIMIT, SIZE_LIMIT, TERM_LIMIT};
 pub use node::Node;
 pub use open::open_cases;
 pub use proof::{LeafProof, Proof};
 pub use split::split_cases;
-
-#[cfg(test)]
-mod tests;
+pub use variables::{count_variables, variable_of_input, variable_of_move, variable_of_state};

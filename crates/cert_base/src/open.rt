@@ -1,6 +1,6 @@
 //! What it means that a predicate has a value.
 
-ghost use Rattle.std.specs.Prelude.{◌≡◌, ◌≤◌, ◌^◌, ◌∷◌, [], not, nat_abs, length, map, neg_ℤ, if◌then◌else◌, IfOk};
+ghost use Rattle.std.specs.Prelude.{◌≡◌, ◌≤◌, ◌∷◌, [], not, nat_abs, length, map, neg_ℤ, if◌then◌else◌, IfOk};
 ghost use Rattle.pres_ast.specs.PredModel.{AreCoefs, HasAtoms, IsPred};
 ghost use Rattle.pres_ast.specs.PredTree.{LessThan, Congruent};
 ghost use Rattle.pres_ast.specs.TreeOf.{tree_of};
@@ -9,8 +9,8 @@ ghost use Rattle.cert_base.specs.FactsAndCases.{open_tree, open_cases as open_li
 ghost use Rattle.cert_base.specs.Ends.{CoverValue};
 
 use crate::fact::{Fact, Row};
-use pop_io::{List, NoMemory};
-use pres_ast::{Pred, Tree};
+use pop_io::{List, NoMemory, VARIABLE_LIMIT};
+use pres_ast::{BOUND_LIMIT, Pred, Tree};
 use std::alloc::Global;
 
 /// One case with a linear fact for an atom; else the values of the parts, in one case or in two.
@@ -67,15 +67,15 @@ fn holds(alloc: Global, vars: u16, tree: &Tree, value: bool) -> Result<Fact, NoM
 
 fn less(alloc: Global, coefs: &[i64], bound: i64, value: bool) -> Result<Fact, NoMemory>
     requires coefs { AreCoefs (length coefs.now) coefs.now }
-    requires few { length coefs.now ≤ 16 }
-    requires bound { nat_abs bound ≤ 2 ^ 40 }
+    requires few { length coefs.now ≤ VARIABLE_LIMIT }
+    requires bound { nat_abs bound ≤ BOUND_LIMIT }
     ensures { IfOk result (λ fact. (fact ∷ []) ∷ [] ≡ open_tree (length coefs.now) (LessThan coefs.now bound) value) }
 {
     if value {
         let turned = turned(alloc, coefs)?;
-        Ok(Fact::Ge(Row::dense(alloc, 0, turned.as_slice(), bound - 1)?))
+        Ok(Fact::Ge(Row::over_inputs(alloc, turned.as_slice(), bound - 1)?))
     } else {
-        Ok(Fact::Ge(Row::dense(alloc, 0, coefs, -bound)?))
+        Ok(Fact::Ge(Row::over_inputs(alloc, coefs, -bound)?))
     }
 }
 
@@ -98,10 +98,10 @@ fn congruent(
     rest: u32,
     value: bool,
 ) -> Result<Fact, NoMemory>
-    requires few { length coefs.now ≤ 16 }
+    requires few { length coefs.now ≤ VARIABLE_LIMIT }
     ensures { IfOk result (λ fact. (fact ∷ []) ∷ [] ≡ open_tree (length coefs.now) (Congruent coefs.now modulus rest) value) }
 {
-    let row = Row::dense(alloc, 0, coefs, -i64::from(rest))?;
+    let row = Row::over_inputs(alloc, coefs, -i64::from(rest))?;
     Ok(if value {
         Fact::Cong(row, modulus)
     } else {

@@ -1,27 +1,15 @@
 //! Rows over some of a leaf's variables.
 
-ghost use Rattle.std.specs.Prelude.{◌≡◌, ◌+◌, ◌≤◌, ◌^◌, length};
-ghost use Rattle.pop_net.specs.LeafModel.{IsLeaf};
-ghost use Rattle.cert_base.specs.Rows.{move_variable};
-
 use crate::fact::{Row, Term};
 use crate::terms::Terms;
+use crate::variables::{variable_of_input, variable_of_move, variable_of_state};
 use pop_io::{List, NoMemory};
 use pop_net::Leaf;
 use std::alloc::Global;
 
-/// The number of the first move's variable.
-pub(crate) fn first_move(leaf: &Leaf) -> u32
-    ensures value { result ≡ move_variable leaf.now 0 }
-    ensures small { result + length leaf.now.moves ≤ 2 ^ 16 }
-    ensures formed { IsLeaf leaf.now }
-{
-    u32::from(leaf.input_count()) + u32::from(leaf.state_count())
-}
-
 impl Row {
     ghost use Rattle.std.specs.Prelude.{◌≡◌, ◌+◌, ◌≤◌, ◌^◌, length, IfOk};
-    ghost use Rattle.cert_base.specs.Rows.{terms_from, single_row, state_row, move_row};
+    ghost use Rattle.cert_base.specs.Rows.{terms_from, single_row, constant_row, input_row, state_row, move_row};
 
     /// One variable, times its coefficient, plus a constant.
     pub fn single(alloc: Global, variable: u32, by: i64, constant: i64) -> Result<Row, NoMemory>
@@ -33,6 +21,16 @@ impl Row {
             terms: List::from_vec(terms),
             constant,
         })
+    }
+
+    /// A constant alone. Allocates nothing.
+    pub fn constant(alloc: Global, constant: i64) -> Row
+        ensures { result ≡ constant_row constant }
+    {
+        Row {
+            terms: List::from_vec(Vec::new(alloc)),
+            constant,
+        }
     }
 
     /// The variables from `first` on, each times its coefficient, plus a constant.
@@ -47,6 +45,14 @@ impl Row {
         Ok(terms.into_row(constant))
     }
 
+    /// How often each input was given, each times its coefficient, plus a constant.
+    pub fn over_inputs(alloc: Global, coefs: &[i64], constant: i64) -> Result<Row, NoMemory>
+        requires { length coefs.now ≤ 2 ^ 32 }
+        ensures { IfOk result (λ row. row ≡ input_row coefs.now constant) }
+    {
+        Row::dense(alloc, variable_of_input(0), coefs, constant)
+    }
+
     /// The counts of the states at the end, each times its coefficient, plus a constant.
     pub fn over_states(
         alloc: Global,
@@ -57,7 +63,7 @@ impl Row {
         requires { length coefs.now ≡ length leaf.now.states }
         ensures { IfOk result (λ row. row ≡ state_row leaf.now coefs.now constant) }
     {
-        Row::dense(alloc, u32::from(leaf.input_count()), coefs, constant)
+        Row::dense(alloc, variable_of_state(leaf, 0), coefs, constant)
     }
 
     /// How often each move was taken, each times its coefficient, plus a constant.
@@ -70,7 +76,7 @@ impl Row {
         requires { length coefs.now ≡ length leaf.now.moves }
         ensures { IfOk result (λ row. row ≡ move_row leaf.now coefs.now constant) }
     {
-        Row::dense(alloc, first_move(leaf), coefs, constant)
+        Row::dense(alloc, variable_of_move(leaf, 0), coefs, constant)
     }
 
     /// A row that is equal.

@@ -1,18 +1,19 @@
 //! A row is above 0, is 0, or is below 0.
 
-ghost use Rattle.std.specs.Prelude.{◌≡◌, ◌≤◌, ◌^◌, nat_abs, neg_ℤ, negsuc, map, All, IfOk};
+ghost use Rattle.std.specs.Prelude.{◌≡◌, ◌≤◌, nat_abs, neg_ℤ, negsuc, map, All, IfOk};
 ghost use Rattle.cert_base.specs.FactsAndCases.{plus, negated as turned_row, split_cases as split_list};
 ghost use Rattle.cert_base.specs.Ends.{CoverAll};
 
 use crate::fact::{Fact, Row, Term};
+use crate::limits::SIZE_LIMIT;
 use crate::open::only;
 use pop_io::{List, NoMemory};
 use std::alloc::Global;
 
 /// The three cases, in this order.
 pub fn split_cases(alloc: Global, row: &Row) -> Result<List<List<Fact>>, NoMemory>
-    requires coefs { All (λ term. nat_abs term.by ≤ 2 ^ 40) row.now.terms }
-    requires constant { nat_abs row.now.constant ≤ 2 ^ 40 }
+    requires coefs { All (λ term. nat_abs term.by ≤ SIZE_LIMIT) row.now.terms }
+    requires constant { nat_abs row.now.constant ≤ SIZE_LIMIT }
     ensures cases { IfOk result (λ cases. cases ≡ split_list row.now) }
     // All counts meet all facts of one of the cases.
     ensures cover { IfOk result CoverAll }
@@ -27,7 +28,7 @@ pub fn split_cases(alloc: Global, row: &Row) -> Result<List<List<Fact>>, NoMemor
 }
 
 fn less_one(row: Row) -> Row
-    requires { nat_abs row.constant ≤ 2 ^ 40 }
+    requires { nat_abs row.constant ≤ SIZE_LIMIT }
     ensures { result ≡ plus row (negsuc 0) }
 {
     let Row { terms, constant } = row;
@@ -39,8 +40,8 @@ fn less_one(row: Row) -> Row
 
 /// The row with all signs turned.
 fn negated(alloc: Global, row: &Row) -> Result<Row, NoMemory>
-    requires coefs { All (λ term. nat_abs term.by ≤ 2 ^ 40) row.now.terms }
-    requires constant { nat_abs row.now.constant ≤ 2 ^ 40 }
+    requires coefs { All (λ term. nat_abs term.by ≤ SIZE_LIMIT) row.now.terms }
+    requires constant { nat_abs row.now.constant ≤ SIZE_LIMIT }
     ensures { IfOk result (λ turned. turned ≡ turned_row row.now) }
 {
     let mut terms = Vec::new(alloc);

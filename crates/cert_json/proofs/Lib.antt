@@ -4,3 +4,4 @@ pub mod NodeLaws
 pub mod ProofLaws
 pub mod Short
 pub mod WrittenFiles
+pub mod BundleLaws

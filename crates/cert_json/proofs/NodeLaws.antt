@@ -15,6 +15,8 @@ use Rattle.cert_base.specs.declared.fact.Term.{Term}
 use Rattle.cert_base.specs.declared.node.Node.{Node}
 use Rattle.cert_base.specs.declared.node.Node.TheVariants.{Linear, Residue, Split, Present, Twin, Trap, Siphon, Open}
 use Rattle.cert_base.specs.ProofLimits.{IsSmall, IsAscending, AreTermsWithin, IsSetWithin, IsNodeWithin, AreNodesWithin}
+use Rattle.cert_base.specs.declared.limits.TheConstants.{NODE_LIMIT}
+use Rattle.pres_ast.specs.declared.limits.TheConstants.{MODULUS_LIMIT}
 use Rattle.cert_json.specs.declared.word.Word.{Word}
 use Rattle.cert_json.specs.declared.word.Word.TheVariants as word
 use Rattle.cert_json.specs.Words.{text_of, word_else, word_named}
@@ -74,16 +76,16 @@ module _ {A B : Type 0} (read : List ℕ → Data → Result A Fault) (other : L
       (t.1, rw (t.2, again (item_path path 1) t.0.0 x t.3 p, others (item_path path 2) t.0.1 y t.4 q) refl)
 
 abbrev IsModulus : ℕ → Type 0
-IsModulus m = (2 ≤ m) × (m ≤ 200)
+IsModulus m = (2 ≤ m) × (m ≤ MODULUS_LIMIT)
 
 abbrev AreRowTerms : List Term → Type 0
 AreRowTerms terms = AreTermsWithin terms × IsAscending (numbers_of terms)
 
 modulus_takes : (path : List ℕ) (d : Data) (m : ℕ) → modulus_at path d ≡ Ok m → IsNumber m d × IsModulus m
-modulus_takes path d m e = let r = Readers.number_at-takes path 2 200 d m e in (r.0, (r.1, r.2))
+modulus_takes path d m e = let r = Readers.number_at-takes path 2 MODULUS_LIMIT d m e in (r.0, (r.1, r.2))
 
 modulus_again : (path : List ℕ) (d : Data) (m : ℕ) → IsNumber m d → IsModulus m → modulus_at path d ≡ Ok m
-modulus_again path d m is fits = Readers.number_at-again path 2 200 d m is fits.0 fits.1
+modulus_again path d m is fits = Readers.number_at-again path 2 MODULUS_LIMIT d m is fits.0 fits.1
 
 row_takes : (path : List ℕ) (d : Data) (ts : List Term) → row_terms_at path d ≡ Ok ts → IsList IsTerm ts d × AreRowTerms ts
 row_takes path d ts e = let r = PartLaws.row_terms_at-takes path d ts e in (r.0, (r.1, r.2))
@@ -159,10 +161,10 @@ node_again path d node is fits = rw (Tagged.items_at-again path d is.0 is.1) (pa
 pub nodes_at-takes : (path : List ℕ) (d : Data) (nodes : List Node) → nodes_at path d ≡ Ok nodes → IsList IsNode nodes d × AreNodesWithin nodes
 unfolding nodes_at
 nodes_at-takes path d nodes e =
-    let r = Readers.list-takes (node_item path) IsNode (λ _ n. IsNodeWithin n) (λ found i x n h. node_takes (item_path path i) x n h) path 0 1000000 d nodes e in
+    let r = Readers.list-takes (node_item path) IsNode (λ _ n. IsNodeWithin n) (λ found i x n h. node_takes (item_path path i) x n h) path 0 NODE_LIMIT d nodes e in
     (r.0, (r.3, EachFrom-All IsNodeWithin [] nodes r.1))
 
 pub nodes_at-again : (path : List ℕ) (d : Data) (nodes : List Node) → IsList IsNode nodes d → AreNodesWithin nodes → nodes_at path d ≡ Ok nodes
 unfolding nodes_at
 nodes_at-again path d nodes is fits =
-    Readers.list-again (node_item path) IsNode (λ _ n. IsNodeWithin n) (λ found i x n h f. node_again (item_path path i) x n h f) path 0 1000000 d nodes is (All-EachFrom IsNodeWithin [] nodes fits.1) (omega arith) fits.0
+    Readers.list-again (node_item path) IsNode (λ _ n. IsNodeWithin n) (λ found i x n h f. node_again (item_path path i) x n h f) path 0 NODE_LIMIT d nodes is (All-EachFrom IsNodeWithin [] nodes fits.1) (omega arith) fits.0

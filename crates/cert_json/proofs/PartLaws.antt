@@ -1,5 +1,5 @@
 -- What is read of terms, sets and layers is in their file, and each such file is read.
-use Rattle.std.proofs.Common.{◌≡◌, ℕ, ◌<◌, ◌≤◌, ◌^◌, true, List, [], length, codes, Result, Ok, ℤ, refl, sym, subst, arith}
+use Rattle.std.proofs.Common.{◌≡◌, ℕ, ◌-◌, ◌<◌, ◌≤◌, ◌^◌, true, List, [], length, codes, Result, Ok, ℤ, refl, sym, subst, arith}
 use Rattle.std.specs.Prelude.{All}
 use Rattle.serde_json.specs.Data.{Data}
 use Rattle.json_shape.specs.Faults.{Fault, ◌>>=◌}
@@ -13,27 +13,29 @@ use Rattle.json_shape.proofs.TaggedReaders as Tagged
 use Rattle.cert_base.specs.declared.fact.Term.{Term}
 use Rattle.cert_base.specs.declared.layer.Layer.{Layer}
 use Rattle.cert_base.specs.ProofLimits.{IsSmall, IsAscending, IsTermWithin, AreTermsWithin, IsSetWithin, IsLayerWithin}
+use Rattle.cert_base.specs.declared.limits.TheConstants.{LAYER_LIMIT, TERM_LIMIT, SIZE_LIMIT}
+use Rattle.pop_net.specs.declared.limits.TheConstants.{STATE_LIMIT, MOVE_LIMIT}
 use Rattle.cert_json.specs.ProofFile.{IsTerm, IsLayerFile}
 use Rattle.cert_json.specs.Examined.{index_at, state_at, small_at, term_from, term_at, term_item, terms_at, row_term_at, numbers_of, row_term_item, row_terms_at, state_item, states_at, index_item, moves_at, weight_item, weights_at, layer_at, layer_item, layers_at}
 use Rattle.cert_json.proofs.Sets
 
 pub index_takes : (path : List ℕ) (d : Data) (n : ℕ) → index_at path d ≡ Ok n → IsNumber n d × (n < 2 ^ 32)
-index_takes path d n e = let r = Readers.number_at-takes path 0 4294967295 d n e in (r.0, omega (arith, r.2))
+index_takes path d n e = let r = Readers.number_at-takes path 0 (2 ^ 32 - 1) d n e in (r.0, omega (arith, r.2))
 
 pub index_again : (path : List ℕ) (d : Data) (n : ℕ) → IsNumber n d → n < 2 ^ 32 → index_at path d ≡ Ok n
-index_again path d n is lt = Readers.number_at-again path 0 4294967295 d n is (omega arith) (omega arith)
+index_again path d n is lt = Readers.number_at-again path 0 (2 ^ 32 - 1) d n is (omega arith) (omega arith)
 
 pub state_takes : (path : List ℕ) (d : Data) (n : ℕ) → state_at path d ≡ Ok n → IsNumber n d × (n < 2 ^ 16)
-state_takes path d n e = let r = Readers.number_at-takes path 0 65535 d n e in (r.0, omega (arith, r.2))
+state_takes path d n e = let r = Readers.number_at-takes path 0 (2 ^ 16 - 1) d n e in (r.0, omega (arith, r.2))
 
 pub state_again : (path : List ℕ) (d : Data) (n : ℕ) → IsNumber n d → n < 2 ^ 16 → state_at path d ≡ Ok n
-state_again path d n is lt = Readers.number_at-again path 0 65535 d n is (omega arith) (omega arith)
+state_again path d n is lt = Readers.number_at-again path 0 (2 ^ 16 - 1) d n is (omega arith) (omega arith)
 
 pub small_takes : (path : List ℕ) (d : Data) (z : ℤ) → small_at path d ≡ Ok z → IsInteger z d × IsSmall z
-small_takes path d z e = let r = Tagged.integer_at-takes path 1099511627776 d z e in (r.0, omega (arith, r.1))
+small_takes path d z e = let r = Tagged.integer_at-takes path SIZE_LIMIT d z e in (r.0, omega (arith, r.1))
 
 pub small_again : (path : List ℕ) (d : Data) (z : ℤ) → IsInteger z d → IsSmall z → small_at path d ≡ Ok z
-small_again path d z is small = Tagged.integer_at-again path 1099511627776 d z is (omega (arith, small))
+small_again path d z is small = Tagged.integer_at-again path SIZE_LIMIT d z is (omega (arith, small))
 
 -- a term whose number is read so
 module _ (number : List ℕ → Data → Result ℕ Fault) (P : ℕ → Type 0) where
@@ -71,13 +73,13 @@ term_again path found i d t is fits = term_from-again index_at Any (λ p x n h l
 pub terms_at-takes : (path : List ℕ) (d : Data) (ts : List Term) → terms_at path d ≡ Ok ts → IsList IsTerm ts d × AreTermsWithin ts
 unfolding terms_at
 terms_at-takes path d ts e =
-    let r = Readers.list-takes (term_item path) IsTerm (λ _ t. IsTermWithin t) (term_takes path) path 0 65536 d ts e in
+    let r = Readers.list-takes (term_item path) IsTerm (λ _ t. IsTermWithin t) (term_takes path) path 0 TERM_LIMIT d ts e in
     (r.0, (r.3, EachFrom-All IsTermWithin [] ts r.1))
 
 pub terms_at-again : (path : List ℕ) (d : Data) (ts : List Term) → IsList IsTerm ts d → AreTermsWithin ts → terms_at path d ≡ Ok ts
 unfolding terms_at
 terms_at-again path d ts is fits =
-    Readers.list-again (term_item path) IsTerm (λ _ t. IsTermWithin t) (term_again path) path 0 65536 d ts is (All-EachFrom IsTermWithin [] ts fits.1) (omega arith) fits.0
+    Readers.list-again (term_item path) IsTerm (λ _ t. IsTermWithin t) (term_again path) path 0 TERM_LIMIT d ts is (All-EachFrom IsTermWithin [] ts fits.1) (omega arith) fits.0
 
 abbrev number_in : Term → ℕ
 number_in t = t.at
@@ -89,19 +91,19 @@ row_term_takes : (path : List ℕ) (found : List Term) (i : ℕ) (d : Data) (t :
 unfolding row_term_at
 row_term_takes path found i d t e =
     let before = last_of (numbers_of found) in
-    let r = term_from-takes (λ p x. ascending_at p 4294967295 before x) (λ n. comes_after before n ≡ true) (λ p x n h. (let s = Tagged.ascending_at-takes p 4294967295 before x n h in let lt : n < 2 ^ 32 = omega (arith, s.1) in (s.0, lt, s.2))) (item_path path i) d t e in
+    let r = term_from-takes (λ p x. ascending_at p (2 ^ 32 - 1) before x) (λ n. comes_after before n ≡ true) (λ p x n h. (let s = Tagged.ascending_at-takes p (2 ^ 32 - 1) before x n h in let lt : n < 2 ^ 32 = omega (arith, s.1) in (s.0, lt, s.2))) (item_path path i) d t e in
     (r.0, (r.1, r.2))
 
 row_term_again : (path : List ℕ) (found : List Term) (i : ℕ) (d : Data) (t : Term) → IsTerm t d → IsNextTerm found t → row_term_item path found i d ≡ Ok t
 unfolding row_term_at
 row_term_again path found i d t is fits =
     let before = last_of (numbers_of found) in
-    term_from-again (λ p x. ascending_at p 4294967295 before x) (λ n. comes_after before n ≡ true) (λ p x n h lt after. Tagged.ascending_at-again p 4294967295 before x n h (omega arith) after) (item_path path i) d t is fits.0 fits.1
+    term_from-again (λ p x. ascending_at p (2 ^ 32 - 1) before x) (λ n. comes_after before n ≡ true) (λ p x n h lt after. Tagged.ascending_at-again p (2 ^ 32 - 1) before x n h (omega arith) after) (item_path path i) d t is fits.0 fits.1
 
 pub row_terms_at-takes : (path : List ℕ) (d : Data) (ts : List Term) → row_terms_at path d ≡ Ok ts → IsList IsTerm ts d × AreTermsWithin ts × IsAscending (numbers_of ts)
 unfolding row_terms_at
 row_terms_at-takes path d ts e =
-    let r = Readers.list-takes (row_term_item path) IsTerm IsNextTerm (row_term_takes path) path 0 65536 d ts e in
+    let r = Readers.list-takes (row_term_item path) IsTerm IsNextTerm (row_term_takes path) path 0 TERM_LIMIT d ts e in
     let fits = EachFrom-weaker IsNextTerm (λ _ t. IsTermWithin t) (λ found t next. next.0) [] ts r.1 in
     let up = EachFrom-weaker IsNextTerm (Sets.Follows number_in) (λ found t next. next.1) [] ts r.1 in
     (r.0, (r.3, EachFrom-All IsTermWithin [] ts fits), Sets.follows-ascending number_in ts up)
@@ -110,7 +112,7 @@ pub row_terms_at-again : (path : List ℕ) (d : Data) (ts : List Term) → IsLis
 unfolding row_terms_at
 row_terms_at-again path d ts is fits up =
     let each_one = Sets.EachFrom-both (λ _ t. IsTermWithin t) (Sets.Follows number_in) [] ts (All-EachFrom IsTermWithin [] ts fits.1) (Sets.ascending-follows number_in ts up) in
-    Readers.list-again (row_term_item path) IsTerm IsNextTerm (row_term_again path) path 0 65536 d ts is each_one (omega arith) fits.0
+    Readers.list-again (row_term_item path) IsTerm IsNextTerm (row_term_again path) path 0 TERM_LIMIT d ts is each_one (omega arith) fits.0
 
 abbrev itself : ℕ → ℕ
 itself n = n
@@ -119,10 +121,10 @@ abbrev IsNextState : List ℕ → ℕ → Type 0
 IsNextState found q = (q < 2 ^ 16) × (comes_after (last_of found) q ≡ true)
 
 next_takes : (path : List ℕ) (found : List ℕ) (i : ℕ) (d : Data) (q : ℕ) → state_item path found i d ≡ Ok q → IsNumber q d × IsNextState found q
-next_takes path found i d q e = let r = Tagged.ascending_at-takes (item_path path i) 65535 (last_of found) d q e in let lt : q < 2 ^ 16 = omega (arith, r.1) in (r.0, (lt, r.2))
+next_takes path found i d q e = let r = Tagged.ascending_at-takes (item_path path i) (2 ^ 16 - 1) (last_of found) d q e in let lt : q < 2 ^ 16 = omega (arith, r.1) in (r.0, (lt, r.2))
 
 next_again : (path : List ℕ) (found : List ℕ) (i : ℕ) (d : Data) (q : ℕ) → IsNumber q d → IsNextState found q → state_item path found i d ≡ Ok q
-next_again path found i d q is fits = Tagged.ascending_at-again (item_path path i) 65535 (last_of found) d q is (omega (arith, fits.0)) fits.1
+next_again path found i d q is fits = Tagged.ascending_at-again (item_path path i) (2 ^ 16 - 1) (last_of found) d q is (omega (arith, fits.0)) fits.1
 
 plain_follows : (found : List ℕ) (q : ℕ) → comes_after (last_of found) q ≡ true → Sets.Follows itself found q
 plain_follows found q after = rw Sets.map_same after
@@ -133,7 +135,7 @@ follows_plain found q after = rw Sets.map_same at after
 pub states_at-takes : (path : List ℕ) (d : Data) (qs : List ℕ) → states_at path d ≡ Ok qs → IsList IsNumber qs d × IsSetWithin qs
 unfolding states_at
 states_at-takes path d qs e =
-    let r = Readers.list-takes (state_item path) IsNumber IsNextState (next_takes path) path 0 256 d qs e in
+    let r = Readers.list-takes (state_item path) IsNumber IsNextState (next_takes path) path 0 STATE_LIMIT d qs e in
     let fits = EachFrom-weaker IsNextState (λ _ q. q < 2 ^ 16) (λ found q next. next.0) [] qs r.1 in
     let up = EachFrom-weaker IsNextState (Sets.Follows itself) (λ found q next. plain_follows found q next.1) [] qs r.1 in
     (r.0, (r.3, EachFrom-All (λ q. q < 2 ^ 16) [] qs fits, subst IsAscending (Sets.map_same qs) (Sets.follows-ascending itself qs up)))
@@ -144,29 +146,29 @@ states_at-again path d qs is fits =
     let up = Sets.ascending-follows itself qs (subst IsAscending (sym (Sets.map_same qs)) fits.2) in
     let plain = EachFrom-weaker (Sets.Follows itself) (λ found q. comes_after (last_of found) q ≡ true) follows_plain [] qs up in
     let each_one = Sets.EachFrom-both (λ _ q. q < 2 ^ 16) (λ found q. comes_after (last_of found) q ≡ true) [] qs (All-EachFrom (λ q. q < 2 ^ 16) [] qs fits.1) plain in
-    Readers.list-again (state_item path) IsNumber IsNextState (next_again path) path 0 256 d qs is each_one (omega arith) fits.0
+    Readers.list-again (state_item path) IsNumber IsNextState (next_again path) path 0 STATE_LIMIT d qs is each_one (omega arith) fits.0
 
-pub moves_at-takes : (path : List ℕ) (d : Data) (ns : List ℕ) → moves_at path d ≡ Ok ns → IsList IsNumber ns d × (length ns ≤ 32768) × All (λ n. n < 2 ^ 32) ns
+pub moves_at-takes : (path : List ℕ) (d : Data) (ns : List ℕ) → moves_at path d ≡ Ok ns → IsList IsNumber ns d × (length ns ≤ MOVE_LIMIT) × All (λ n. n < 2 ^ 32) ns
 unfolding moves_at
 moves_at-takes path d ns e =
-    let r = Readers.list-takes (index_item path) IsNumber (λ _ n. n < 2 ^ 32) (λ found i x n h. index_takes (item_path path i) x n h) path 0 32768 d ns e in
+    let r = Readers.list-takes (index_item path) IsNumber (λ _ n. n < 2 ^ 32) (λ found i x n h. index_takes (item_path path i) x n h) path 0 MOVE_LIMIT d ns e in
     (r.0, r.3, EachFrom-All (λ n. n < 2 ^ 32) [] ns r.1)
 
-pub moves_at-again : (path : List ℕ) (d : Data) (ns : List ℕ) → IsList IsNumber ns d → length ns ≤ 32768 → All (λ n. n < 2 ^ 32) ns → moves_at path d ≡ Ok ns
+pub moves_at-again : (path : List ℕ) (d : Data) (ns : List ℕ) → IsList IsNumber ns d → length ns ≤ MOVE_LIMIT → All (λ n. n < 2 ^ 32) ns → moves_at path d ≡ Ok ns
 unfolding moves_at
 moves_at-again path d ns is hi below =
-    Readers.list-again (index_item path) IsNumber (λ _ n. n < 2 ^ 32) (λ found i x n h lt. index_again (item_path path i) x n h lt) path 0 32768 d ns is (All-EachFrom (λ n. n < 2 ^ 32) [] ns below) (omega arith) hi
+    Readers.list-again (index_item path) IsNumber (λ _ n. n < 2 ^ 32) (λ found i x n h lt. index_again (item_path path i) x n h lt) path 0 MOVE_LIMIT d ns is (All-EachFrom (λ n. n < 2 ^ 32) [] ns below) (omega arith) hi
 
-pub weights_at-takes : (path : List ℕ) (d : Data) (ws : List ℤ) → weights_at path d ≡ Ok ws → IsList IsInteger ws d × (length ws ≤ 256) × All IsSmall ws
+pub weights_at-takes : (path : List ℕ) (d : Data) (ws : List ℤ) → weights_at path d ≡ Ok ws → IsList IsInteger ws d × (length ws ≤ STATE_LIMIT) × All IsSmall ws
 unfolding weights_at
 weights_at-takes path d ws e =
-    let r = Readers.list-takes (weight_item path) IsInteger (λ _ w. IsSmall w) (λ found i x w h. small_takes (item_path path i) x w h) path 0 256 d ws e in
+    let r = Readers.list-takes (weight_item path) IsInteger (λ _ w. IsSmall w) (λ found i x w h. small_takes (item_path path i) x w h) path 0 STATE_LIMIT d ws e in
     (r.0, r.3, EachFrom-All IsSmall [] ws r.1)
 
-pub weights_at-again : (path : List ℕ) (d : Data) (ws : List ℤ) → IsList IsInteger ws d → length ws ≤ 256 → All IsSmall ws → weights_at path d ≡ Ok ws
+pub weights_at-again : (path : List ℕ) (d : Data) (ws : List ℤ) → IsList IsInteger ws d → length ws ≤ STATE_LIMIT → All IsSmall ws → weights_at path d ≡ Ok ws
 unfolding weights_at
 weights_at-again path d ws is hi small =
-    Readers.list-again (weight_item path) IsInteger (λ _ w. IsSmall w) (λ found i x w h s. small_again (item_path path i) x w h s) path 0 256 d ws is (All-EachFrom IsSmall [] ws small) (omega arith) hi
+    Readers.list-again (weight_item path) IsInteger (λ _ w. IsSmall w) (λ found i x w h s. small_again (item_path path i) x w h s) path 0 STATE_LIMIT d ws is (All-EachFrom IsSmall [] ws small) (omega arith) hi
 
 layer_takes : (path : List ℕ) (d : Data) (layer : Layer) → layer_at path d ≡ Ok layer → IsLayerFile layer d × IsLayerWithin layer
 unfolding layer_at
@@ -200,13 +202,13 @@ layer_again path d layer file fits =
       weights_at-again (member_path path (codes "weights")) file.weights.0 layer.weights file.weights.2 fits.weight_count fits.weights,
     ) refl
 
-pub layers_at-takes : (path : List ℕ) (d : Data) (ls : List Layer) → layers_at path d ≡ Ok ls → IsList IsLayerFile ls d × (length ls ≤ 256) × All IsLayerWithin ls
+pub layers_at-takes : (path : List ℕ) (d : Data) (ls : List Layer) → layers_at path d ≡ Ok ls → IsList IsLayerFile ls d × (length ls ≤ LAYER_LIMIT) × All IsLayerWithin ls
 unfolding layers_at
 layers_at-takes path d ls e =
-    let r = Readers.list-takes (layer_item path) IsLayerFile (λ _ l. IsLayerWithin l) (λ found i x l h. layer_takes (item_path path i) x l h) path 0 256 d ls e in
+    let r = Readers.list-takes (layer_item path) IsLayerFile (λ _ l. IsLayerWithin l) (λ found i x l h. layer_takes (item_path path i) x l h) path 0 LAYER_LIMIT d ls e in
     (r.0, r.3, EachFrom-All IsLayerWithin [] ls r.1)
 
-pub layers_at-again : (path : List ℕ) (d : Data) (ls : List Layer) → IsList IsLayerFile ls d → length ls ≤ 256 → All IsLayerWithin ls → layers_at path d ≡ Ok ls
+pub layers_at-again : (path : List ℕ) (d : Data) (ls : List Layer) → IsList IsLayerFile ls d → length ls ≤ LAYER_LIMIT → All IsLayerWithin ls → layers_at path d ≡ Ok ls
 unfolding layers_at
 layers_at-again path d ls is hi fits =
-    Readers.list-again (layer_item path) IsLayerFile (λ _ l. IsLayerWithin l) (λ found i x l h f. layer_again (item_path path i) x l h f) path 0 256 d ls is (All-EachFrom IsLayerWithin [] ls fits) (omega arith) hi
+    Readers.list-again (layer_item path) IsLayerFile (λ _ l. IsLayerWithin l) (λ found i x l h f. layer_again (item_path path i) x l h f) path 0 LAYER_LIMIT d ls is (All-EachFrom IsLayerWithin [] ls fits) (omega arith) hi

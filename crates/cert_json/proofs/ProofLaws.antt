@@ -39,14 +39,14 @@ over_variables n (Ok tree) p e = let same : (let m : PredModel = record { variab
 over_variables n (Err f) p e = absurd cc
 
 module _ (names : List (List ℕ)) where
-  pred_takes : (path : List ℕ) (d : Data) (p : PredModel) → pred_at names path d ≡ Ok p → IsPredText names p d × (p.variables ≡ length names)
+  pub pred_takes : (path : List ℕ) (d : Data) (p : PredModel) → pred_at names path d ≡ Ok p → IsPredText names p d × (p.variables ≡ length names)
   unfolding pred_at
   pred_takes path d p e =
       let a = bind_ok (text_at path d) (λ s. pred_or_why path (pred_read names s)) p e in
       let r = read_ok path (pred_read names a.0) p a.2 in
       ((a.0, Readers.text_at-takes path d a.0 a.1, r), over_variables (length names) (tree_read names a.0) p r)
 
-  pred_again : (path : List ℕ) (d : Data) (p : PredModel) → IsPredText names p d → pred_at names path d ≡ Ok p
+  pub pred_again : (path : List ℕ) (d : Data) (p : PredModel) → IsPredText names p d → pred_at names path d ≡ Ok p
   unfolding pred_at
   pred_again path d p is = rw (Readers.text_at-again path d is.0 is.1, is.2) refl
 

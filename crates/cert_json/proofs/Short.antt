@@ -7,6 +7,7 @@ use Rattle.std.specs.Fmt.{signed_decimal}
 use Rattle.std.proofs.lemmas.Bool.{leb-true}
 use Rattle.std.proofs.lemmas.Fmt.{length-decimal-le, length_signed_le}
 use Rattle.std.proofs.lemmas.List.Elements.{All-head, All-tail}
+use Rattle.pop_io.specs.declared.names.TheConstants.{VARIABLE_LIMIT}
 use Rattle.pop_io.specs.Names.{is_variable_name, is_name_byte, starts_name, AreNames}
 use Rattle.pres_ast.specs.PredTree.{PredTree, LessThan, Congruent, Negation, Conjunction, Disjunction}
 use Rattle.pres_ast.specs.PredModel.{HasAtoms, weight_of, IsPred}
@@ -69,7 +70,7 @@ zero_short (name ∷ names) short =
     let one = All-head (λ name. length name ≤ 32) name names short in
     omega (arith, one, length-append (codes "0*") name)
 
-sum_short : (names : List (List ℕ)) (coefs : List ℤ) → AreShort names → length names ≤ 16 → All (λ a. nat_abs a ≤ 2 ^ 31) coefs → length (sum_text names coefs) ≤ 736
+sum_short : (names : List (List ℕ)) (coefs : List ℤ) → AreShort names → length names ≤ VARIABLE_LIMIT → All (λ a. nat_abs a ≤ 2 ^ 31) coefs → length (sum_text names coefs) ≤ 736
 sum_short names coefs short few small = by_test (list_all is_zero coefs)
   where
     by_test : (b : Bool) → length (cond b (zero_text names) (terms_text true names coefs)) ≤ 736
@@ -80,7 +81,7 @@ signed_short : (z : ℤ) → nat_abs z ≤ 2 ^ 40 → length (signed_decimal z) 
 signed_short (pos n) small = length_signed_le 13 (pos n) (omega (arith, small)) (omega (arith, small))
 signed_short (negsuc n) small = length_signed_le 13 (negsuc n) (omega (arith, small)) (omega (arith, small))
 
-module _ (names : List (List ℕ)) (short : AreShort names) (few : length names ≤ 16) where
+module _ (names : List (List ℕ)) (short : AreShort names) (few : length names ≤ VARIABLE_LIMIT) where
   less_short : (coefs : List ℤ) (bound : ℤ) → HasAtoms (length names) (LessThan coefs bound) → length (tree_text names (LessThan coefs bound)) ≤ 800
   less_short coefs bound atoms =
       let sum = sum_short names coefs short few atoms.0.1 in

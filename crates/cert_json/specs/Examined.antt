@@ -1,6 +1,6 @@
 -- The order in which a proof's value is examined: member by member, each whole before the next; a list for its kind, its
 -- length, and then item by item. The first rule that is broken is the fault.
-use Rattle.std.specs.Prelude.{ℕ, List, [], map, codes, ℤ, Option, Some, None, Result, Ok, Err}
+use Rattle.std.specs.Prelude.{ℕ, ◌-◌, ◌^◌, List, [], map, codes, ℤ, Option, Some, None, Result, Ok, Err}
 use Rattle.serde_json.specs.Data.{Data}
 use Rattle.json_shape.specs.declared.fault.Why.TheVariants.{Kind, Name, Pred}
 use Rattle.json_shape.specs.declared.fault.PredWhy.TheVariants as why
@@ -17,11 +17,14 @@ use Rattle.cert_base.specs.declared.node.Node.{Node}
 use Rattle.cert_base.specs.declared.node.Node.TheVariants.{Linear, Residue, Split, Present, Twin, Trap, Siphon, Open}
 use Rattle.cert_base.specs.declared.proof.Proof.{Proof}
 use Rattle.cert_base.specs.declared.proof.LeafProof.{LeafProof}
+use Rattle.cert_base.specs.declared.limits.TheConstants.{LAYER_LIMIT, NODE_LIMIT, TERM_LIMIT, SIZE_LIMIT}
+use Rattle.pop_net.specs.declared.limits.TheConstants.{STATE_LIMIT, MOVE_LIMIT}
+use Rattle.pres_ast.specs.declared.limits.TheConstants.{MODULUS_LIMIT}
 use Rattle.cert_json.specs.declared.word.Word.{Word}
 use Rattle.cert_json.specs.declared.word.Word.TheVariants as word
 use Rattle.cert_json.specs.Words.{word_named}
 
--- a predicate, or what is wrong with its text; no text is read to want of memory
+-- a predicate, or what is wrong with its text; no text is read to out of memory
 abbrev pub pred_or_why : List ℕ → Result PredModel ReadPred → Result PredModel Fault
 pred_or_why path (Ok p) = Ok p
 pred_or_why path (Err (Syntax at)) = broken path (Pred (why.Syntax at))
@@ -39,18 +42,18 @@ pred_at names path d = do
 
 -- a number of a fact, a variable or a move
 abbrev pub index_at : List ℕ → Data → Result ℕ Fault
-index_at path d = number_at path 0 4294967295 d
+index_at path d = number_at path 0 (2 ^ 32 - 1) d
 
 -- a number of a state
 abbrev pub state_at : List ℕ → Data → Result ℕ Fault
-state_at path d = number_at path 0 65535 d
+state_at path d = number_at path 0 (2 ^ 16 - 1) d
 
 abbrev pub modulus_at : List ℕ → Data → Result ℕ Fault
-modulus_at path d = number_at path 2 200 d
+modulus_at path d = number_at path 2 MODULUS_LIMIT d
 
--- a weight, a multiplier, a coefficient or a constant: at most 2^40 in size
+-- a weight, a multiplier, a coefficient or a constant
 abbrev pub small_at : List ℕ → Data → Result ℤ Fault
-small_at path d = integer_at path 1099511627776 d
+small_at path d = integer_at path SIZE_LIMIT d
 
 abbrev pub term_from : List ℕ → (List ℕ → Data → Result ℕ Fault) → Data × Data → Result Term Fault
 term_from path number p = do
@@ -67,12 +70,12 @@ term_item path found i d = term_at (item_path path i) d
 
 unfoldable pub terms_at : List ℕ → Data → Result (List Term) Fault
 terms_at path d = do
-  ds ← list_at path 0 65536 d
+  ds ← list_at path 0 TERM_LIMIT d
   each (term_item path) [] 0 ds
 
 -- a variable's number, greater than the one before it, and its coefficient
 unfoldable pub row_term_at : List ℕ → Option ℕ → Data → Result Term Fault
-row_term_at path before d = pair_at path d >>= term_from path (λ p e. ascending_at p 4294967295 before e)
+row_term_at path before d = pair_at path d >>= term_from path (λ p e. ascending_at p (2 ^ 32 - 1) before e)
 
 abbrev pub numbers_of : List Term → List ℕ
 numbers_of terms = map (λ t. t.at) terms
@@ -82,16 +85,16 @@ row_term_item path found i d = row_term_at (item_path path i) (last_of (numbers_
 
 unfoldable pub row_terms_at : List ℕ → Data → Result (List Term) Fault
 row_terms_at path d = do
-  ds ← list_at path 0 65536 d
+  ds ← list_at path 0 TERM_LIMIT d
   each (row_term_item path) [] 0 ds
 
 abbrev pub state_item : List ℕ → List ℕ → ℕ → Data → Result ℕ Fault
-state_item path found i d = ascending_at (item_path path i) 65535 (last_of found) d
+state_item path found i d = ascending_at (item_path path i) (2 ^ 16 - 1) (last_of found) d
 
 -- states, each with a greater number than the one before it
 unfoldable pub states_at : List ℕ → Data → Result (List ℕ) Fault
 states_at path d = do
-  ds ← list_at path 0 256 d
+  ds ← list_at path 0 STATE_LIMIT d
   each (state_item path) [] 0 ds
 
 abbrev pub with_one : {A : Type 0} → (List ℕ → Data → Result A Fault) → (A → Node) → List ℕ → List Data → Result Node Fault
@@ -137,7 +140,7 @@ node_item path found i d = node_at (item_path path i) d
 
 unfoldable pub nodes_at : List ℕ → Data → Result (List Node) Fault
 nodes_at path d = do
-  ds ← list_at path 0 1000000 d
+  ds ← list_at path 0 NODE_LIMIT d
   each (node_item path) [] 0 ds
 
 abbrev pub index_item : List ℕ → List ℕ → ℕ → Data → Result ℕ Fault
@@ -145,7 +148,7 @@ index_item path found i d = index_at (item_path path i) d
 
 unfoldable pub moves_at : List ℕ → Data → Result (List ℕ) Fault
 moves_at path d = do
-  ds ← list_at path 0 32768 d
+  ds ← list_at path 0 MOVE_LIMIT d
   each (index_item path) [] 0 ds
 
 abbrev pub weight_item : List ℕ → List ℤ → ℕ → Data → Result ℤ Fault
@@ -153,7 +156,7 @@ weight_item path found i d = small_at (item_path path i) d
 
 unfoldable pub weights_at : List ℕ → Data → Result (List ℤ) Fault
 weights_at path d = do
-  ds ← list_at path 0 256 d
+  ds ← list_at path 0 STATE_LIMIT d
   each (weight_item path) [] 0 ds
 
 unfoldable pub layer_at : List ℕ → Data → Result Layer Fault
@@ -168,7 +171,7 @@ layer_item path found i d = layer_at (item_path path i) d
 
 unfoldable pub layers_at : List ℕ → Data → Result (List Layer) Fault
 layers_at path d = do
-  ds ← list_at path 0 256 d
+  ds ← list_at path 0 LAYER_LIMIT d
   each (layer_item path) [] 0 ds
 
 unfoldable pub leaf_proof_at : List (List ℕ) → List ℕ → Data → Result LeafProof Fault

@@ -3,3 +3,4 @@ pub mod Words
 pub mod Examined
 pub mod Written
 pub mod Bundles
+pub mod BundleFile

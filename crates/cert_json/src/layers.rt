@@ -7,18 +7,19 @@ ghost use Rattle.json_shape.specs.Paths.{path_text};
 ghost use Rattle.cert_json.specs.Examined.{moves_at, weights_at, layer_at, layers_at};
 
 use crate::terms::{index_of, small_of};
-use cert_base::Layer;
+use cert_base::{LAYER_LIMIT, Layer};
 use json_shape::{FormatFault, Path, list_of, member_of, object_of};
 use pop_io::List;
+use pop_net::{MOVE_LIMIT, STATE_LIMIT};
 use serde_json::Value;
 use std::alloc::Global;
 
-/// At most 32,768 numbers of moves.
+/// At most `MOVE_LIMIT` numbers of moves.
 #[tactic(auto, unfolding(crate::specs::Examined::moves_at))]
 fn moves_of(alloc: Global, path: &Path<'_>, value: &Value) -> Result<List<u32>, FormatFault>
     ensures { Gives (λ ns. ns) result (moves_at (path_text path.now) (view value.now)) }
 {
-    let list = list_of(alloc, path, 0, 32_768, value)?;
+    let list = list_of(alloc, path, 0, MOVE_LIMIT, value)?;
     let mut moves = Vec::new(alloc);
     for (i, item) in list.iter().enumerate() {
         moves.push(index_of(alloc, &Path::Item(&*path, i), item)?)?;
@@ -26,12 +27,12 @@ fn moves_of(alloc: Global, path: &Path<'_>, value: &Value) -> Result<List<u32>, 
     Ok(List::from_vec(moves))
 }
 
-/// At most 256 weights.
+/// At most `STATE_LIMIT` weights.
 #[tactic(auto, unfolding(crate::specs::Examined::weights_at))]
 fn weights_of(alloc: Global, path: &Path<'_>, value: &Value) -> Result<List<i64>, FormatFault>
     ensures { Gives (λ ws. ws) result (weights_at (path_text path.now) (view value.now)) }
 {
-    let list = list_of(alloc, path, 0, 256, value)?;
+    let list = list_of(alloc, path, 0, STATE_LIMIT, value)?;
     let mut weights = Vec::new(alloc);
     for (i, item) in list.iter().enumerate() {
         let weight = small_of(alloc, &Path::Item(&*path, i), item)?;
@@ -52,7 +53,7 @@ fn layer_of(alloc: Global, path: &Path<'_>, value: &Value) -> Result<Layer, Form
     Ok(Layer { moves, weights })
 }
 
-/// At most 256 layers.
+/// At most `LAYER_LIMIT` layers.
 #[tactic(auto, unfolding(crate::specs::Examined::layers_at))]
 pub(crate) fn layers_of(
     alloc: Global,
@@ -61,7 +62,7 @@ pub(crate) fn layers_of(
 ) -> Result<List<Layer>, FormatFault>
     ensures { Gives (λ layers. layers) result (layers_at (path_text path.now) (view value.now)) }
 {
-    let list = list_of(alloc, path, 0, 256, value)?;
+    let list = list_of(alloc, path, 0, LAYER_LIMIT, value)?;
     let mut layers = Vec::new(alloc);
     for (i, item) in list.iter().enumerate() {
         layers.push(layer_of(alloc, &Path::Item(&*path, i), item)?)?;

@@ -16,6 +16,3 @@ pub use bundle::{Bundle, read_bundle};
 pub use json_shape::{FormatFault, PredWhy, Why};
 pub use read::read_proof;
 pub use write::write_proof;
-
-#[cfg(test)]
-mod tests;

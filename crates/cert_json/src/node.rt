@@ -8,7 +8,7 @@ ghost use Rattle.cert_json.specs.Examined.{split_by, after_word, node_at, nodes_
 
 use crate::terms::{index_of, modulus_of, row_terms_of, small_of, state_of, states_of, terms_of};
 use crate::word::Word;
-use cert_base::{Node, Row, Term};
+use cert_base::{NODE_LIMIT, Node, Row, Term};
 use json_shape::{
     FormatFault, Path, Why, both_items, broken, items_of, list_of, only_item, word_of,
 };
@@ -70,7 +70,7 @@ fn node_of(alloc: Global, path: &Path<'_>, value: &Value) -> Result<Node, Format
     }
 }
 
-/// At most 1,000,000 nodes.
+/// At most `NODE_LIMIT` nodes.
 #[tactic(auto, unfolding(crate::specs::Examined::nodes_at))]
 pub(crate) fn nodes_of(
     alloc: Global,
@@ -79,7 +79,7 @@ pub(crate) fn nodes_of(
 ) -> Result<List<Node>, FormatFault>
     ensures { Gives (λ nodes. nodes) result (nodes_at (path_text path.now) (view value.now)) }
 {
-    let list = list_of(alloc, path, 0, 1_000_000, value)?;
+    let list = list_of(alloc, path, 0, NODE_LIMIT, value)?;
     let mut nodes = Vec::new(alloc);
     for (i, item) in list.iter().enumerate() {
         nodes.push(node_of(alloc, &Path::Item(&*path, i), item)?)?;

@@ -14,7 +14,7 @@ use crate::layers::layers_of;
 use crate::node::nodes_of;
 use cert_base::{LeafProof, Proof};
 use json_shape::{FormatFault, Path, PredWhy, Why, broken, list_of, member_of, object_of, text_of};
-use pop_io::{List, Text};
+use pop_io::{List, Text, VARIABLE_LIMIT};
 use pop_net::Net;
 use pres_ast::Pred;
 use pres_read::{ReadPred, read_pred};
@@ -30,7 +30,7 @@ pub(crate) fn pred_of(
     value: &Value,
 ) -> Result<Pred, FormatFault>
     requires some { 1 ≤ length names.now }
-    requires few { length names.now ≤ 16 }
+    requires few { length names.now ≤ VARIABLE_LIMIT }
     requires names { AreNames is_variable_name names.now }
     ensures pred { Gives (λ pred. pred) result (pred_at names.now (path_text path.now) (view value.now)) }
     ensures variables { IfOk result (λ pred. pred.variables ≡ length names.now) }
@@ -56,7 +56,7 @@ fn leaf_proof_of(
     value: &Value,
 ) -> Result<LeafProof, FormatFault>
     requires some { 1 ≤ length names.now }
-    requires few { length names.now ≤ 16 }
+    requires few { length names.now ≤ VARIABLE_LIMIT }
     requires names { AreNames is_variable_name names.now }
     ensures { Gives (λ part. part) result (leaf_proof_at names.now (path_text path.now) (view value.now)) }
 {
@@ -86,7 +86,7 @@ fn leaf_proofs_of(
     value: &Value,
 ) -> Result<List<LeafProof>, FormatFault>
     requires some { 1 ≤ length names.now }
-    requires few { length names.now ≤ 16 }
+    requires few { length names.now ≤ VARIABLE_LIMIT }
     requires names { AreNames is_variable_name names.now }
     ensures { Gives (λ parts. parts) result
         (leaf_proofs_at names.now leaves (path_text path.now) (view value.now)) }

@@ -1,15 +1,17 @@
 //! Numbers, and lists of terms and of states.
 
-ghost use Rattle.std.specs.Prelude.{◌≡◌};
+ghost use Rattle.std.specs.Prelude.{◌≡◌, ◌-◌, ◌^◌};
 ghost use Rattle.serde_json.specs.View.{view};
 ghost use Rattle.json_shape.specs.Faults.{Gives};
 ghost use Rattle.json_shape.specs.Paths.{path_text};
 ghost use Rattle.json_shape.specs.Shapes.{ascending_at};
 ghost use Rattle.cert_json.specs.Examined.{index_at, state_at, modulus_at, small_at, term_at, terms_at, row_term_at, row_terms_at, states_at};
 
-use cert_base::Term;
+use cert_base::{SIZE_LIMIT, TERM_LIMIT, Term};
 use json_shape::{FormatFault, Path, ascending_of, integer_of, list_of, number_of, pair_of};
 use pop_io::List;
+use pop_net::STATE_LIMIT;
+use pres_ast::MODULUS_LIMIT;
 use serde_json::Value;
 use std::alloc::Global;
 
@@ -17,28 +19,28 @@ use std::alloc::Global;
 pub(crate) fn index_of(alloc: Global, path: &Path<'_>, value: &Value) -> Result<u32, FormatFault>
     ensures { Gives (λ n. n) result (index_at (path_text path.now) (view value.now)) }
 {
-    number_of(alloc, path, 0, 4_294_967_295, value)
+    number_of(alloc, path, 0, u32::MAX, value)
 }
 
 /// The number of a state.
 pub(crate) fn state_of(alloc: Global, path: &Path<'_>, value: &Value) -> Result<u16, FormatFault>
     ensures { Gives (λ n. n) result (state_at (path_text path.now) (view value.now)) }
 {
-    let state = number_of(alloc, path, 0, 65_535, value)?;
+    let state = number_of(alloc, path, 0, u32::from(u16::MAX), value)?;
     Ok(state as u16)
 }
 
 pub(crate) fn modulus_of(alloc: Global, path: &Path<'_>, value: &Value) -> Result<u32, FormatFault>
     ensures { Gives (λ n. n) result (modulus_at (path_text path.now) (view value.now)) }
 {
-    number_of(alloc, path, 2, 200, value)
+    number_of(alloc, path, 2, MODULUS_LIMIT, value)
 }
 
-/// A weight, a multiplier, a coefficient or a constant, at most 2^40 in size.
+/// A weight, a multiplier, a coefficient or a constant.
 pub(crate) fn small_of(alloc: Global, path: &Path<'_>, value: &Value) -> Result<i64, FormatFault>
     ensures { Gives (λ z. z) result (small_at (path_text path.now) (view value.now)) }
 {
-    integer_of(alloc, path, 1_099_511_627_776, value)
+    integer_of(alloc, path, SIZE_LIMIT, value)
 }
 
 #[tactic(auto, unfolding(crate::specs::Examined::term_at))]
@@ -51,7 +53,7 @@ fn term_of(alloc: Global, path: &Path<'_>, value: &Value) -> Result<Term, Format
     Ok(Term { at, by })
 }
 
-/// At most 65,536 numbers of facts, each with its multiplier.
+/// At most `TERM_LIMIT` numbers of facts, each with its multiplier.
 #[tactic(auto, unfolding(crate::specs::Examined::terms_at))]
 pub(crate) fn terms_of(
     alloc: Global,
@@ -60,7 +62,7 @@ pub(crate) fn terms_of(
 ) -> Result<List<Term>, FormatFault>
     ensures { Gives (λ ts. ts) result (terms_at (path_text path.now) (view value.now)) }
 {
-    let list = list_of(alloc, path, 0, 65_536, value)?;
+    let list = list_of(alloc, path, 0, TERM_LIMIT, value)?;
     let mut terms = Vec::new(alloc);
     for (i, item) in list.iter().enumerate() {
         terms.push(term_of(alloc, &Path::Item(&*path, i), item)?)?;
@@ -74,9 +76,9 @@ fn variable_of(
     before: Option<u32>,
     value: &Value,
 ) -> Result<u32, FormatFault>
-    ensures { Gives (λ n. n) result (ascending_at (path_text path.now) 4294967295 before (view value.now)) }
+    ensures { Gives (λ n. n) result (ascending_at (path_text path.now) (2 ^ 32 - 1) before (view value.now)) }
 {
-    ascending_of(alloc, path, 4_294_967_295, before, value)
+    ascending_of(alloc, path, u32::MAX, before, value)
 }
 
 #[tactic(auto, unfolding(crate::specs::Examined::row_term_at))]
@@ -94,7 +96,7 @@ fn row_term_of(
     Ok(Term { at, by })
 }
 
-/// At most 65,536 numbers of variables that ascend, each with its coefficient.
+/// At most `TERM_LIMIT` numbers of variables that ascend, each with its coefficient.
 #[tactic(auto, unfolding(crate::specs::Examined::row_terms_at))]
 pub(crate) fn row_terms_of(
     alloc: Global,
@@ -103,7 +105,7 @@ pub(crate) fn row_terms_of(
 ) -> Result<List<Term>, FormatFault>
     ensures { Gives (λ ts. ts) result (row_terms_at (path_text path.now) (view value.now)) }
 {
-    let list = list_of(alloc, path, 0, 65_536, value)?;
+    let list = list_of(alloc, path, 0, TERM_LIMIT, value)?;
     let mut terms = Vec::new(alloc);
     let mut before = None;
     for (i, item) in list.iter().enumerate() {
@@ -120,13 +122,13 @@ fn next_state_of(
     before: Option<u32>,
     value: &Value,
 ) -> Result<u16, FormatFault>
-    ensures { Gives (λ n. n) result (ascending_at (path_text path.now) 65535 before (view value.now)) }
+    ensures { Gives (λ n. n) result (ascending_at (path_text path.now) (2 ^ 16 - 1) before (view value.now)) }
 {
-    let state = ascending_of(alloc, path, 65_535, before, value)?;
+    let state = ascending_of(alloc, path, u32::from(u16::MAX), before, value)?;
     Ok(state as u16)
 }
 
-/// At most 256 numbers of states that ascend.
+/// At most `STATE_LIMIT` numbers of states that ascend.
 #[tactic(auto, unfolding(crate::specs::Examined::states_at))]
 pub(crate) fn states_of(
     alloc: Global,
@@ -135,7 +137,7 @@ pub(crate) fn states_of(
 ) -> Result<List<u16>, FormatFault>
     ensures { Gives (λ qs. qs) result (states_at (path_text path.now) (view value.now)) }
 {
-    let list = list_of(alloc, path, 0, 256, value)?;
+    let list = list_of(alloc, path, 0, STATE_LIMIT, value)?;
     let mut states = Vec::new(alloc);
     let mut before = None;
     for (i, item) in list.iter().enumerate() {

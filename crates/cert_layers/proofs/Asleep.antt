@@ -1,5 +1,5 @@
 -- Which moves are not woken.
-use Rattle.std.proofs.Common.{◌≡◌, ◌⊎◌, inl, inr, ℕ, ◌<◌, ◌≤◌, Bool, true, false, not, ◌&&◌, List, length, refl, sym, subst, ◌∙◌}
+use Rattle.std.proofs.Common.{◌^◌, ◌≡◌, ◌⊎◌, inl, inr, ℕ, ◌<◌, ◌≤◌, Bool, true, false, not, ◌&&◌, List, length, refl, sym, subst, ◌∙◌}
 use Rattle.std.specs.Prelude.{Option, Some, None, slice_get, nat_lt, ◌==◌}
 use Rattle.std.specs.List.{list_any, range_with_len}
 use Rattle.std.proofs.lemmas.Bool.{and_cases, and_left, and_right, or_parts, or_cases, not-false, ltb-true, lt-ltb, cases_Bool, cases_lt, eqb-true}
@@ -9,11 +9,11 @@ use Rattle.pop_net.specs.LeafModel.{LeafModel, IsLeaf, IsMoveBelow, is_silent}
 use Rattle.pop_net.proofs.Quiet.{All-slice_get}
 use Rattle.pop_net.specs.FirstFault.{first_below}
 use Rattle.pop_net.proofs.FirstFault.{none_below}
-use Rattle.cert_layers.specs.Places.{place_of}
-use Rattle.cert_layers.specs.Search.{some_move, some_place}
+use Rattle.cert_layers.specs.MoveLayers.{layer_of}
+use Rattle.cert_layers.specs.Search.{some_move, some_layer}
 use Rattle.cert_layers.specs.Waking.{first_at, is_early, IsEarly, IsTable, brings, wakes_with, wakes, wakes_early, wakes_beside, may_wake, wakes_move, wakes_at, FindsFirst}
 use Rattle.cert_layers.proofs.Firsts.{first_below-Some, list_any-none}
-use Rattle.cert_layers.proofs.Heavy.{move_small}
+use Rattle.cert_layers.proofs.NotLower.{move_small}
 
 pub right_false : (a b : Bool) → a ≡ true → (a && b) ≡ false → b ≡ false
 right_false true b is e = e
@@ -59,52 +59,52 @@ module _ (early : ℕ → ℕ → Bool) (t : Move) where
       by_reason (inr none_beside) = by_brought (list_any-none states (wakes_beside early t) none_beside) (cases_Bool (brings t x)) (cases_Bool (brings t y))
 
 -- the states of an early move
-early_both : (leaf : LeafModel) (places : List (Option ℕ)) (table : List ℕ) (i m j : ℕ) (u : Move) → IsLeaf leaf → IsTable leaf places (length leaf.moves) table → i < 65536 → slice_get leaf.moves m ≡ Some u → is_silent u ≡ false → place_of places m ≡ Some j → j < i → (is_early table i u.p u.q ≡ true) × (is_early table i u.q u.p ≡ true)
-early_both leaf places table i m j u formed h few move loud place before =
+early_both : (leaf : LeafModel) (layer_of_move : List (Option ℕ)) (table : List ℕ) (i m j : ℕ) (u : Move) → IsLeaf leaf → IsTable leaf layer_of_move (length leaf.moves) table → i < 2 ^ 16 → slice_get leaf.moves m ≡ Some u → is_silent u ≡ false → layer_of layer_of_move m ≡ Some j → j < i → (is_early table i u.p u.q ≡ true) × (is_early table i u.q u.p ≡ true)
+early_both leaf layer_of_move table i m j u formed h few move loud place before =
     let small = move_small leaf m u formed move in
     let within = slice_get_within leaf.moves m u move in
-    let there : IsEarly leaf places (length leaf.moves) i u.p u.q = record { number = m; layer = j; taken = u; below = within; move_is = move; non_silent = loud; place_is = place; before = before; takes = inl (refl, refl) } in
-    let back : IsEarly leaf places (length leaf.moves) i u.q u.p = record { number = m; layer = j; taken = u; below = within; move_is = move; non_silent = loud; place_is = place; before = before; takes = inr (refl, refl) } in
+    let there : IsEarly leaf layer_of_move (length leaf.moves) i u.p u.q = record { number = m; layer = j; taken = u; below = within; move_is = move; non_silent = loud; layer_is = place; before = before; takes = inl (refl, refl) } in
+    let back : IsEarly leaf layer_of_move (length leaf.moves) i u.q u.p = record { number = m; layer = j; taken = u; below = within; move_is = move; non_silent = loud; layer_is = place; before = before; takes = inr (refl, refl) } in
     (lt-ltb (first_at table u.p u.q) i (h.complete i u.p u.q few small.0 small.1 there), lt-ltb (first_at table u.q u.p) i (h.complete i u.q u.p few small.1 small.0 back))
 
 -- a move that wakes nothing by the table of pairs wakes no move
-pub asleep_move : (leaf : LeafModel) (places : List (Option ℕ)) (table : List ℕ) (i : ℕ) (t : Move) → IsLeaf leaf → IsTable leaf places (length leaf.moves) table → i < 65536 → may_wake (is_early table i) t (length leaf.states) ≡ false → (m : ℕ) → wakes_move leaf places table i t m ≡ false
-asleep_move leaf places table i t formed h few none m = by_move (slice_get leaf.moves m) refl
+pub asleep_move : (leaf : LeafModel) (layer_of_move : List (Option ℕ)) (table : List ℕ) (i : ℕ) (t : Move) → IsLeaf leaf → IsTable leaf layer_of_move (length leaf.moves) table → i < 2 ^ 16 → may_wake (is_early table i) t (length leaf.states) ≡ false → (m : ℕ) → wakes_move leaf layer_of_move table i t m ≡ false
+asleep_move leaf layer_of_move table i t formed h few none m = by_move (slice_get leaf.moves m) refl
   where
-    by_before : (u : Move) (j : ℕ) → slice_get leaf.moves m ≡ Some u → is_silent u ≡ false → place_of places m ≡ Some j → (b : Bool) → nat_lt j i ≡ b → (b && wakes (is_early table i) t u.p u.q) ≡ false
+    by_before : (u : Move) (j : ℕ) → slice_get leaf.moves m ≡ Some u → is_silent u ≡ false → layer_of layer_of_move m ≡ Some j → (b : Bool) → nat_lt j i ≡ b → (b && wakes (is_early table i) t u.p u.q) ≡ false
     by_before u j move loud place false e = refl
     by_before u j move loud place true e =
-        let both = early_both leaf places table i m j u formed h few move loud place (ltb-true j i e) in
+        let both = early_both leaf layer_of_move table i m j u formed h few move loud place (ltb-true j i e) in
         let below = All-slice_get (IsMoveBelow (length leaf.states)) leaf.moves m u formed.moves move in
         asleep_pair (is_early table i) t (length leaf.states) u.p u.q below.0 below.1 both.0 both.1 none
 
-    by_place : (u : Move) → slice_get leaf.moves m ≡ Some u → is_silent u ≡ false → (o : Option ℕ) → place_of places m ≡ o → some_place (λ j. nat_lt j i && wakes (is_early table i) t u.p u.q) o ≡ false
+    by_place : (u : Move) → slice_get leaf.moves m ≡ Some u → is_silent u ≡ false → (o : Option ℕ) → layer_of layer_of_move m ≡ o → some_layer (λ j. nat_lt j i && wakes (is_early table i) t u.p u.q) o ≡ false
     by_place u move loud None place = refl
     by_place u move loud (Some j) place = by_before u j move loud place (nat_lt j i) refl
 
-    by_silent : (u : Move) → slice_get leaf.moves m ≡ Some u → (b : Bool) → is_silent u ≡ b → (not b && some_place (λ j. nat_lt j i && wakes (is_early table i) t u.p u.q) (place_of places m)) ≡ false
+    by_silent : (u : Move) → slice_get leaf.moves m ≡ Some u → (b : Bool) → is_silent u ≡ b → (not b && some_layer (λ j. nat_lt j i && wakes (is_early table i) t u.p u.q) (layer_of layer_of_move m)) ≡ false
     by_silent u move true e = refl
-    by_silent u move false e = by_place u move e (place_of places m) refl
+    by_silent u move false e = by_place u move e (layer_of layer_of_move m) refl
 
-    by_move : (o : Option Move) → slice_get leaf.moves m ≡ o → some_move (λ u. some_place (λ j. nat_lt j i && wakes (is_early table i) t u.p u.q) (place_of places m)) o ≡ false
+    by_move : (o : Option Move) → slice_get leaf.moves m ≡ o → some_move (λ u. some_layer (λ j. nat_lt j i && wakes (is_early table i) t u.p u.q) (layer_of layer_of_move m)) o ≡ false
     by_move None move = refl
     by_move (Some u) move = by_silent u move (is_silent u) refl
 
 -- a move of a layer wakes what the test for its layer says
-pub wakes_at-placed : (leaf : LeafModel) (places : List (Option ℕ)) (table : List ℕ) (n m i : ℕ) (t : Move) → slice_get leaf.moves n ≡ Some t → is_silent t ≡ false → place_of places n ≡ Some i → wakes_at leaf places table n m ≡ wakes_move leaf places table i t m
-wakes_at-placed leaf places table n m i t move loud place = rw (move, loud, place) refl
+pub wakes_at-placed : (leaf : LeafModel) (layer_of_move : List (Option ℕ)) (table : List ℕ) (n m i : ℕ) (t : Move) → slice_get leaf.moves n ≡ Some t → is_silent t ≡ false → layer_of layer_of_move n ≡ Some i → wakes_at leaf layer_of_move table n m ≡ wakes_move leaf layer_of_move table i t m
+wakes_at-placed leaf layer_of_move table n m i t move loud place = rw (move, loud, place) refl
 
 -- so the first that one wakes is the first that the other wakes
-pub finds-placed : (leaf : LeafModel) (places : List (Option ℕ)) (table : List ℕ) (n i : ℕ) (t : Move) (found : Option ℕ) → slice_get leaf.moves n ≡ Some t → is_silent t ≡ false → place_of places n ≡ Some i → FindsFirst (wakes_move leaf places table i t) found → FindsFirst (wakes_at leaf places table n) found
-finds-placed leaf places table n i t None move loud place first = λ m. wakes_at-placed leaf places table n m i t move loud place ∙ first m
-finds-placed leaf places table n i t (Some u) move loud place first =
-    (wakes_at-placed leaf places table n u i t move loud place ∙ first.0, λ m l. wakes_at-placed leaf places table n m i t move loud place ∙ first.1 m l)
+pub finds-placed : (leaf : LeafModel) (layer_of_move : List (Option ℕ)) (table : List ℕ) (n i : ℕ) (t : Move) (found : Option ℕ) → slice_get leaf.moves n ≡ Some t → is_silent t ≡ false → layer_of layer_of_move n ≡ Some i → FindsFirst (wakes_move leaf layer_of_move table i t) found → FindsFirst (wakes_at leaf layer_of_move table n) found
+finds-placed leaf layer_of_move table n i t None move loud place first = λ m. wakes_at-placed leaf layer_of_move table n m i t move loud place ∙ first m
+finds-placed leaf layer_of_move table n i t (Some u) move loud place first =
+    (wakes_at-placed leaf layer_of_move table n u i t move loud place ∙ first.0, λ m l. wakes_at-placed leaf layer_of_move table n m i t move loud place ∙ first.1 m l)
 
-pub finds-below : (leaf : LeafModel) (places : List (Option ℕ)) (table : List ℕ) (i : ℕ) (t : Move) (found : Option ℕ) → first_below (length leaf.moves) (wakes_move leaf places table i t) ≡ found → FindsFirst (wakes_move leaf places table i t) found
-finds-below leaf places table i t None is = λ m. by_size m (cases_lt m (length leaf.moves))
+pub finds-below : (leaf : LeafModel) (layer_of_move : List (Option ℕ)) (table : List ℕ) (i : ℕ) (t : Move) (found : Option ℕ) → first_below (length leaf.moves) (wakes_move leaf layer_of_move table i t) ≡ found → FindsFirst (wakes_move leaf layer_of_move table i t) found
+finds-below leaf layer_of_move table i t None is = λ m. by_size m (cases_lt m (length leaf.moves))
   where
-    by_size : (m : ℕ) → (m < length leaf.moves) ⊎ (length leaf.moves ≤ m) → wakes_move leaf places table i t m ≡ false
-    by_size m (inl within) = (none_below (length leaf.moves) (wakes_move leaf places table i t)).0 is m within
+    by_size : (m : ℕ) → (m < length leaf.moves) ⊎ (length leaf.moves ≤ m) → wakes_move leaf layer_of_move table i t m ≡ false
+    by_size m (inl within) = (none_below (length leaf.moves) (wakes_move leaf layer_of_move table i t)).0 is m within
     by_size m (inr past) = rw (slice_get_past leaf.moves m past) refl
-finds-below leaf places table i t (Some u) is =
-    let f = first_below-Some (length leaf.moves) (wakes_move leaf places table i t) u is in (f.1, f.2)
+finds-below leaf layer_of_move table i t (Some u) is =
+    let f = first_below-Some (length leaf.moves) (wakes_move leaf layer_of_move table i t) u is in (f.1, f.2)

@@ -1,24 +1,25 @@
--- Which places fail, by what the searches found.
+-- Which layer_of_move fail, by what the searches found.
 use Rattle.std.proofs.Common.{◌≡◌, ℕ, ◌≤◌, List, length, arith}
 use Rattle.std.specs.Prelude.{Option, Some, None, Result, Ok, Err, IfErr}
 use Rattle.std.specs.Result.{IsErrAnd}
 use Rattle.std.proofs.lemmas.Option.{slice_get_within}
+use Rattle.cert_base.specs.declared.limits.TheConstants.{LAYER_LIMIT}
 use Rattle.pop_net.specs.LeafModel.{LeafModel, IsLeaf}
 use Rattle.pop_net.specs.FirstFault.{first_below}
 use Rattle.pop_net.proofs.FirstFault.{none_below}
 use Rattle.cert_base.specs.declared.layer.Layer.{Layer}
 use Rattle.cert_layers.specs.LayerFaults.{ListedAt, LowerAt, SleepsAt, Each, IsFirstFailing, IsLayerFault}
-use Rattle.cert_layers.specs.Places.{ArePlaces, Placed}
-use Rattle.cert_layers.specs.Search.{is_unlisted, is_heavy}
+use Rattle.cert_layers.specs.MoveLayers.{AreMoveLayers, FindsMoveLayers}
+use Rattle.cert_layers.specs.Search.{is_unlisted, not_lower}
 use Rattle.cert_layers.specs.Waking.{IsTable, FindsWaking}
 use Rattle.cert_layers.specs.declared.fault.LayerFault.{LayerFault}
 use Rattle.cert_layers.specs.declared.fault.LayerFault.TheVariants.{Shape, NoLayer, NotLower, Wakes, NoMemory}
 use Rattle.cert_layers.proofs.Firsts.{first_below-Some}
-use Rattle.cert_layers.proofs.Heavy.{unlisted-no, unlisted-yes, heavy-no, heavy-yes}
+use Rattle.cert_layers.proofs.NotLower.{unlisted-no, unlisted-yes, not_lower-no, not_lower-yes}
 use Rattle.cert_layers.proofs.Woken.{sleeps-no, sleeps-yes}
 
--- a fault of the places is a fault of the layers
-pub placed-fault : (leaf : LeafModel) (layers : List Layer) (fault : LayerFault) → Placed leaf layers (Err fault) → IsLayerFault leaf layers fault
+-- a fault of the layer_of_move is a fault of the layers
+pub placed-fault : (leaf : LeafModel) (layers : List Layer) (fault : LayerFault) → FindsMoveLayers leaf layers (Err fault) → IsLayerFault leaf layers fault
 placed-fault leaf layers (Shape n) f = f
 placed-fault leaf layers (NoLayer n) f = absurd f
 placed-fault leaf layers (NotLower n) f = absurd f
@@ -30,34 +31,34 @@ pub handed : {X : Type 0} (r : Result X LayerFault) (fault : LayerFault) (P : La
 handed (Ok x) fault P is h = tt
 handed (Err e) fault P is h = rw is h
 
-module _ (leaf : LeafModel) (layers : List Layer) (places : List (Option ℕ)) (p : ArePlaces leaf layers places) where
-  pub all_listed : first_below (length leaf.moves) (is_unlisted leaf places) ≡ None → Each (ListedAt leaf layers)
-  all_listed e n t move loud = unlisted-no leaf layers places n p ((none_below (length leaf.moves) (is_unlisted leaf places)).0 e n (slice_get_within leaf.moves n t move)) t move loud
+module _ (leaf : LeafModel) (layers : List Layer) (layer_of_move : List (Option ℕ)) (p : AreMoveLayers leaf layers layer_of_move) where
+  pub all_listed : first_below (length leaf.moves) (is_unlisted leaf layer_of_move) ≡ None → Each (ListedAt leaf layers)
+  all_listed e n t move loud = unlisted-no leaf layers layer_of_move n p ((none_below (length leaf.moves) (is_unlisted leaf layer_of_move)).0 e n (slice_get_within leaf.moves n t move)) t move loud
 
-  pub first_not_listed : (n : ℕ) → first_below (length leaf.moves) (is_unlisted leaf places) ≡ Some n → IsFirstFailing (ListedAt leaf layers) n
+  pub first_not_listed : (n : ℕ) → first_below (length leaf.moves) (is_unlisted leaf layer_of_move) ≡ Some n → IsFirstFailing (ListedAt leaf layers) n
   first_not_listed n e =
-      let f = first_below-Some (length leaf.moves) (is_unlisted leaf places) n e in
-      (unlisted-yes leaf layers places n p f.1, λ k l. unlisted-no leaf layers places k p (f.2 k l))
+      let f = first_below-Some (length leaf.moves) (is_unlisted leaf layer_of_move) n e in
+      (unlisted-yes leaf layers layer_of_move n p f.1, λ k l. unlisted-no leaf layers layer_of_move k p (f.2 k l))
 
-  pub all_lower : first_below (length leaf.moves) (is_heavy leaf layers places) ≡ None → Each (LowerAt leaf layers)
+  pub all_lower : first_below (length leaf.moves) (not_lower leaf layers layer_of_move) ≡ None → Each (LowerAt leaf layers)
   all_lower e n i t at number =
       let within = slice_get_within leaf.moves at.number t at.move_is in
-      heavy-no leaf layers places n p ((none_below (length leaf.moves) (is_heavy leaf layers places)).0 e n (omega (arith, within, number))) i t at number
+      not_lower-no leaf layers layer_of_move n p ((none_below (length leaf.moves) (not_lower leaf layers layer_of_move)).0 e n (omega (arith, within, number))) i t at number
 
-  pub first_not_lower : (n : ℕ) → first_below (length leaf.moves) (is_heavy leaf layers places) ≡ Some n → IsFirstFailing (LowerAt leaf layers) n
+  pub first_not_lower : (n : ℕ) → first_below (length leaf.moves) (not_lower leaf layers layer_of_move) ≡ Some n → IsFirstFailing (LowerAt leaf layers) n
   first_not_lower n e =
-      let f = first_below-Some (length leaf.moves) (is_heavy leaf layers places) n e in
-      (heavy-yes leaf layers places n p f.1, λ k l. heavy-no leaf layers places k p (f.2 k l))
+      let f = first_below-Some (length leaf.moves) (not_lower leaf layers layer_of_move) n e in
+      (not_lower-yes leaf layers layer_of_move n p f.1, λ k l. not_lower-no leaf layers layer_of_move k p (f.2 k l))
 
-  module _ (table : List ℕ) (formed : IsLeaf leaf) (h : IsTable leaf places (length leaf.moves) table) (small : length layers ≤ 256) where
-    pub all_asleep : FindsWaking leaf places table None → Each (λ n. Each (SleepsAt leaf layers n))
-    all_asleep none n m = sleeps-no leaf layers places table formed p h small n m (none n m)
+  module _ (table : List ℕ) (formed : IsLeaf leaf) (h : IsTable leaf layer_of_move (length leaf.moves) table) (small : length layers ≤ LAYER_LIMIT) where
+    pub all_asleep : FindsWaking leaf layer_of_move table None → Each (λ n. Each (SleepsAt leaf layers n))
+    all_asleep none n m = sleeps-no leaf layers layer_of_move table formed p h small n m (none n m)
 
-    pub first_woken : (n m : ℕ) → FindsWaking leaf places table (Some (n, m)) → IsFirstFailing (λ t. Each (SleepsAt leaf layers t)) n × IsFirstFailing (SleepsAt leaf layers n) m
+    pub first_woken : (n m : ℕ) → FindsWaking leaf layer_of_move table (Some (n, m)) → IsFirstFailing (λ t. Each (SleepsAt leaf layers t)) n × IsFirstFailing (SleepsAt leaf layers n) m
     first_woken n m f = (
       (
-        (λ each. sleeps-yes leaf layers places table formed p h small n m f.0.0 (each m)),
-        (λ k l j. sleeps-no leaf layers places table formed p h small k j (f.1 k l j)),
+        (λ each. sleeps-yes leaf layers layer_of_move table formed p h small n m f.0.0 (each m)),
+        (λ k l j. sleeps-no leaf layers layer_of_move table formed p h small k j (f.1 k l j)),
       ),
-      (sleeps-yes leaf layers places table formed p h small n m f.0.0, λ j l. sleeps-no leaf layers places table formed p h small n j (f.0.1 j l)),
+      (sleeps-yes leaf layers layer_of_move table formed p h small n m f.0.0, λ j l. sleeps-no leaf layers layer_of_move table formed p h small n j (f.0.1 j l)),
     )

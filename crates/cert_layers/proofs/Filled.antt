@@ -10,7 +10,7 @@ use Rattle.pop_net.specs.LeafModel.{LeafModel}
 use Rattle.cert_base.specs.declared.layer.Layer.{Layer}
 use Rattle.cert_base.specs.ValidLayers.{listed}
 use Rattle.cert_layers.specs.LayerFaults.{IsShaped, ShapedAt, IsFirstFailing}
-use Rattle.cert_layers.specs.Places.{place_of, enter_all, enter_layer, ArePlaces}
+use Rattle.cert_layers.specs.MoveLayers.{layer_of, enter_all, enter_layer, AreMoveLayers}
 use Rattle.cert_layers.proofs.Entries.{Apart, Holds, tagged, holds-enter_all, fails-enter_all}
 
 -- the entries of the layers, of which the first has number i
@@ -98,19 +98,19 @@ distinct-apart entries once i j d before within =
     λ same. once i j d.0 before (omega (arith, long)) (first ∙ same ∙ sym second)
 
 -- the layers before layer i have their shape, and their moves are entered
-pub record Filled (leaf : LeafModel) (layers : List Layer) (i : ℕ) (places : List (Option ℕ)) : Type 0 where
-  pub holds : Holds (length leaf.moves) places (tags 0 (take i layers))
+pub record Filled (leaf : LeafModel) (layers : List Layer) (i : ℕ) (layer_of_move : List (Option ℕ)) : Type 0 where
+  pub holds : Holds (length leaf.moves) layer_of_move (tags 0 (take i layers))
   pub shaped : (k : ℕ) → k < i → ShapedAt leaf layers k
 
-none_there : (count n : ℕ) → place_of (replicate count None) n ≡ None
+none_there : (count n : ℕ) → layer_of (replicate count None) n ≡ None
 none_there zero n = refl
 none_there (suc count) zero = refl
 none_there (suc count) (suc n) = none_there count n
 
-place_within : (places : List (Option ℕ)) (n i : ℕ) → place_of places n ≡ Some i → n < length places
+place_within : (layer_of_move : List (Option ℕ)) (n i : ℕ) → layer_of layer_of_move n ≡ Some i → n < length layer_of_move
 place_within [] n i is = cc
-place_within (p ∷ places) zero i is = omega arith
-place_within (p ∷ places) (suc n) i is = omega (arith, place_within places n i is)
+place_within (p ∷ layer_of_move) zero i is = omega arith
+place_within (p ∷ layer_of_move) (suc n) i is = omega (arith, place_within layer_of_move n i is)
 
 -- no layer yet
 pub filled-none : (leaf : LeafModel) (layers : List Layer) → Filled leaf layers 0 (replicate (length leaf.moves) None)
@@ -125,28 +125,28 @@ filled-none leaf layers =
       shaped = λ k l. absurd (omega arith);
     }
 
-layer_entered : (states : ℕ) (places : List (Option ℕ)) (i : ℕ) (layer : Layer) (more : List (Option ℕ)) → enter_layer states places i layer ≡ Some more → (length layer.weights ≡ states) × (enter_all places i layer.moves ≡ Some more)
-layer_entered states places i layer more is = by_test (length layer.weights == states) refl is
+layer_entered : (states : ℕ) (layer_of_move : List (Option ℕ)) (i : ℕ) (layer : Layer) (more : List (Option ℕ)) → enter_layer states layer_of_move i layer ≡ Some more → (length layer.weights ≡ states) × (enter_all layer_of_move i layer.moves ≡ Some more)
+layer_entered states layer_of_move i layer more is = by_test (length layer.weights == states) refl is
   where
-    by_test : (b : Bool) → (length layer.weights == states) ≡ b → (if b then enter_all places i layer.moves else None) ≡ Some more → (length layer.weights ≡ states) × (enter_all places i layer.moves ≡ Some more)
+    by_test : (b : Bool) → (length layer.weights == states) ≡ b → (if b then enter_all layer_of_move i layer.moves else None) ≡ Some more → (length layer.weights ≡ states) × (enter_all layer_of_move i layer.moves ≡ Some more)
     by_test true e h = (eqb-true (length layer.weights) states e, h)
     by_test false e h = cc
 
-layer_refused : (states : ℕ) (places : List (Option ℕ)) (i : ℕ) (layer : Layer) → enter_layer states places i layer ≡ None → length layer.weights ≡ states → enter_all places i layer.moves ≡ None
-layer_refused states places i layer is long =
+layer_refused : (states : ℕ) (layer_of_move : List (Option ℕ)) (i : ℕ) (layer : Layer) → enter_layer states layer_of_move i layer ≡ None → length layer.weights ≡ states → enter_all layer_of_move i layer.moves ≡ None
+layer_refused states layer_of_move i layer is long =
     let test = eq-eqb (length layer.weights) states long in
-    sym (ap (λ b. if b then enter_all places i layer.moves else None) test) ∙ is
+    sym (ap (λ b. if b then enter_all layer_of_move i layer.moves else None) test) ∙ is
 
 -- one more layer
-pub filled-enter : (leaf : LeafModel) (layers : List Layer) (i : ℕ) (places : List (Option ℕ)) (layer : Layer) (more : List (Option ℕ)) → Filled leaf layers i places → slice_get layers i ≡ Some layer → enter_layer (length leaf.states) places i layer ≡ Some more → Filled leaf layers (i + 1) more
-filled-enter leaf layers i places layer more filled is entered =
+pub filled-enter : (leaf : LeafModel) (layers : List Layer) (i : ℕ) (layer_of_move : List (Option ℕ)) (layer : Layer) (more : List (Option ℕ)) → Filled leaf layers i layer_of_move → slice_get layers i ≡ Some layer → enter_layer (length leaf.states) layer_of_move i layer ≡ Some more → Filled leaf layers (i + 1) more
+filled-enter leaf layers i layer_of_move layer more filled is entered =
     record { holds = holds; shaped = shaped }
   where
-    parts : (length layer.weights ≡ length leaf.states) × (enter_all places i layer.moves ≡ Some more)
-    parts = layer_entered (length leaf.states) places i layer more entered
+    parts : (length layer.weights ≡ length leaf.states) × (enter_all layer_of_move i layer.moves ≡ Some more)
+    parts = layer_entered (length leaf.states) layer_of_move i layer more entered
 
     holds : Holds (length leaf.moves) more (tags 0 (take (i + 1) layers))
-    holds = rw (tags-take layers i layer is) (holds-enter_all (length leaf.moves) places (tags 0 (take i layers)) i layer.moves more filled.holds parts.1)
+    holds = rw (tags-take layers i layer is) (holds-enter_all (length leaf.moves) layer_of_move (tags 0 (take i layers)) i layer.moves more filled.holds parts.1)
 
     in_range : (n : ℕ) → Contains layer.moves n → n < length leaf.moves
     in_range n c =
@@ -172,19 +172,19 @@ filled-enter leaf layers i places layer more filled is entered =
             rw (same, ← same_layer) here
 
 -- a layer that is refused is the first out of shape
-pub filled-refused : (leaf : LeafModel) (layers : List Layer) (i : ℕ) (places : List (Option ℕ)) (layer : Layer) → Filled leaf layers i places → slice_get layers i ≡ Some layer → enter_layer (length leaf.states) places i layer ≡ None → IsFirstFailing (ShapedAt leaf layers) i
-filled-refused leaf layers i places layer filled is refused = (no, filled.shaped)
+pub filled-refused : (leaf : LeafModel) (layers : List Layer) (i : ℕ) (layer_of_move : List (Option ℕ)) (layer : Layer) → Filled leaf layers i layer_of_move → slice_get layers i ≡ Some layer → enter_layer (length leaf.states) layer_of_move i layer ≡ None → IsFirstFailing (ShapedAt leaf layers) i
+filled-refused leaf layers i layer_of_move layer filled is refused = (no, filled.shaped)
   where
     no : ShapedAt leaf layers i → ⊥
     no shaped =
         let here = shaped layer is in
         let once = distinct-apart (tags 0 (take (i + 1) layers)) (rw (listed-tags 0 (take (i + 1) layers)) here.once) in
-        fails-enter_all (length leaf.moves) places (tags 0 (take i layers)) i layer.moves filled.holds (layer_refused (length leaf.states) places i layer refused here.weights) here.in_range
+        fails-enter_all (length leaf.moves) layer_of_move (tags 0 (take i layers)) i layer.moves filled.holds (layer_refused (length leaf.states) layer_of_move i layer refused here.weights) here.in_range
         (rw (tags-take layers i layer is) at once)
 
 -- all layers are entered
-pub filled-places : (leaf : LeafModel) (layers : List Layer) (places : List (Option ℕ)) → Filled leaf layers (length layers) places → ArePlaces leaf layers places
-filled-places leaf layers places filled =
+pub filled-layer_of_move : (leaf : LeafModel) (layers : List Layer) (layer_of_move : List (Option ℕ)) → Filled leaf layers (length layers) layer_of_move → AreMoveLayers leaf layers layer_of_move
+filled-layer_of_move leaf layers layer_of_move filled =
     let holds = rw (take-length layers) at filled.holds in
     record {
       long = filled.holds.long;

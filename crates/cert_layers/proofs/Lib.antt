@@ -2,7 +2,7 @@ pub mod LayerMoves
 pub mod Termination
 pub mod Entries
 pub mod Filled
-pub mod Heavy
+pub mod NotLower
 pub mod Small
 pub mod PairEntries
 pub mod Firsts

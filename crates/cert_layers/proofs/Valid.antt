@@ -14,7 +14,7 @@ use Rattle.cert_base.specs.ProofBound.{layers_bound}
 use Rattle.cert_layers.specs.LayerFaults.{ShapedAt, ListedAt, LowerAt, SleepsAt, Each, IsLayerFault, EndsWithin}
 use Rattle.cert_layers.specs.declared.fault.LayerFault.{LayerFault}
 use Rattle.cert_layers.specs.declared.fault.LayerFault.TheVariants.{Shape, NoLayer, NotLower, Wakes, NoMemory}
-use Rattle.cert_layers.proofs.Heavy.{contains-listed}
+use Rattle.cert_layers.proofs.NotLower.{contains-listed}
 use Rattle.cert_layers.proofs.Termination.{listed_at, valid_layers-end}
 
 -- what holds of each element of a list holds of all

@@ -1,10 +1,11 @@
 -- The first place at which the layers of a leaf fail.
-use Rattle.std.specs.Prelude.{◌≡◌, ◌≢◌, ℕ, ◌+◌, ◌<◌, ◌≤◌, ◌*◌, ◌^◌, false, ℤ, nat_abs, List, Some, slice_get, length, take, All, AllPairs, Contains}
+use Rattle.std.specs.Prelude.{◌≡◌, ◌≢◌, ℕ, ◌+◌, ◌<◌, ◌≤◌, ◌*◌, false, ℤ, nat_abs, List, Some, slice_get, length, take, All, AllPairs, Contains}
 use Rattle.pop_net.specs.declared.leaf.Move.{Move}
 use Rattle.pop_net.specs.LeafModel.{LeafModel, is_silent}
 use Rattle.pop_net.specs.Step.{LeafStep}
 use Rattle.pop_net.specs.Reachable.{ReachedWithin}
 use Rattle.pop_net.specs.Terminal.{IsTerminal}
+use Rattle.cert_base.specs.declared.limits.TheConstants.{SIZE_LIMIT}
 use Rattle.cert_base.specs.declared.layer.Layer.{Layer}
 use Rattle.cert_base.specs.ValidLayers.{listed, IsInLayer, IsLower, IsEnabledBefore}
 use Rattle.cert_layers.specs.declared.fault.LayerFault.{LayerFault}
@@ -33,7 +34,9 @@ WakesNone leaf layers i t u = (k : ℕ) × (u' : Move) × (k < i) × IsInLayer l
 
 -- the move with number n wakes not the move with number m, where m stands in an earlier layer
 abbrev pub SleepsAt : LeafModel → List Layer → ℕ → ℕ → Type 0
-SleepsAt leaf layers n m = (i j : ℕ) (t u : Move) → j < i → (at : IsInLayer leaf layers i t) → at.number ≡ n → (earlier : IsInLayer leaf layers j u) → earlier.number ≡ m → WakesNone leaf layers i t u
+SleepsAt leaf layers n m =
+    (i j : ℕ) (t u : Move) → j < i → (at : IsInLayer leaf layers i t) → at.number ≡ n → (earlier : IsInLayer leaf layers j u) → earlier.number ≡ m
+    → WakesNone leaf layers i t u
 
 abbrev pub Each : (ℕ → Type 0) → Type 0
 Each P = (k : ℕ) → P k
@@ -42,19 +45,22 @@ Each P = (k : ℕ) → P k
 abbrev pub IsFirstFailing : (ℕ → Type 0) → ℕ → Type 0
 IsFirstFailing P n = ¬ (P n) × ((k : ℕ) → k < n → P k)
 
--- the first place at which the layers fail: all places of a kind come before those of the next kind
+-- the first place at which the layers fail: all layer_of_move of a kind come before those of the next kind
 abbrev pub IsLayerFault : LeafModel → List Layer → LayerFault → Type 0
 IsLayerFault leaf layers (Shape n) = IsFirstFailing (ShapedAt leaf layers) n
 IsLayerFault leaf layers (NoLayer n) = Each (ShapedAt leaf layers) × IsFirstFailing (ListedAt leaf layers) n
 IsLayerFault leaf layers (NotLower n) = Each (ShapedAt leaf layers) × Each (ListedAt leaf layers) × IsFirstFailing (LowerAt leaf layers) n
 IsLayerFault leaf layers (Wakes n m) =
-    Each (ShapedAt leaf layers) × Each (ListedAt leaf layers) × Each (LowerAt leaf layers) × IsFirstFailing (λ t. Each (SleepsAt leaf layers t)) n × IsFirstFailing (SleepsAt leaf layers n) m
+    Each (ShapedAt leaf layers) × Each (ListedAt leaf layers) × Each (LowerAt leaf layers) × IsFirstFailing (λ t. Each (SleepsAt leaf layers t)) n
+    × IsFirstFailing (SleepsAt leaf layers n) m
 IsLayerFault leaf layers NoMemory = Unit {0}
 
--- a weight is at most 2 ^ 40 in size
+-- a weight within the limits of a proof
 abbrev pub IsWeight : ℤ → Type 0
-IsWeight w = nat_abs w ≤ 2 ^ 40
+IsWeight w = nat_abs w ≤ SIZE_LIMIT
 
 -- from every crowd of at least two agents, a terminal crowd is reached within k steps for each agent
 abbrev pub EndsWithin : LeafModel → ℕ → Type 0
-EndsWithin leaf k = (crowd : List ℕ) → 2 ≤ length crowd → All (λ q. q < length leaf.states) crowd → (end : List ℕ) × IsTerminal (LeafStep leaf) end × ReachedWithin (LeafStep leaf) (k * length crowd) crowd end
+EndsWithin leaf k =
+    (crowd : List ℕ) → 2 ≤ length crowd → All (λ q. q < length leaf.states) crowd → (end : List ℕ) × IsTerminal (LeafStep leaf) end
+    × ReachedWithin (LeafStep leaf) (k * length crowd) crowd end

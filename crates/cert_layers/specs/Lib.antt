@@ -1,4 +1,4 @@
 pub mod LayerFaults
-pub mod Places
+pub mod MoveLayers
 pub mod Search
 pub mod Waking

@@ -5,9 +5,9 @@ use Rattle.pop_net.specs.declared.leaf.Move.{Move}
 use Rattle.pop_net.specs.LeafModel.{LeafModel, is_silent}
 use Rattle.cert_base.specs.declared.layer.Layer.{Layer}
 use Rattle.cert_base.specs.ValidLayers.{weight_at}
-use Rattle.cert_layers.specs.Places.{place_of}
+use Rattle.cert_layers.specs.MoveLayers.{layer_of}
 
--- a layer without moves, for the places past the last layer
+-- a layer without moves, for the layer_of_move past the last layer
 abbrev pub no_layer : Layer
 no_layer = record { moves = []; weights = [] }
 
@@ -20,18 +20,19 @@ some_move test None = false
 some_move test (Some t) = not (is_silent t) && test t
 
 -- whether there is a layer and it passes the test
-abbrev pub some_place : (ℕ → Bool) → Option ℕ → Bool
-some_place test None = false
-some_place test (Some i) = test i
+abbrev pub some_layer : (ℕ → Bool) → Option ℕ → Bool
+some_layer test None = false
+some_layer test (Some i) = test i
 
 -- whether a non-silent move has number n and stands in no layer
 abbrev pub is_unlisted : LeafModel → List (Option ℕ) → ℕ → Bool
-is_unlisted leaf places n = some_move (λ t. not (is_some (place_of places n))) (slice_get leaf.moves n)
+is_unlisted leaf layer_of_move n = some_move (λ t. not (is_some (layer_of layer_of_move n))) (slice_get leaf.moves n)
 
 -- whether a move weighs less after it than before
 abbrev pub is_lower : List ℤ → Move → Bool
 is_lower w t = int_lt (weight_at w t.r +ℤ weight_at w t.s) (weight_at w t.p +ℤ weight_at w t.q)
 
 -- whether a non-silent move has number n, stands in a layer, and doesn't lower its weights
-abbrev pub is_heavy : LeafModel → List Layer → List (Option ℕ) → ℕ → Bool
-is_heavy leaf layers places n = some_move (λ t. some_place (λ i. not (is_lower (layer_at layers i).weights t)) (place_of places n)) (slice_get leaf.moves n)
+abbrev pub not_lower : LeafModel → List Layer → List (Option ℕ) → ℕ → Bool
+not_lower leaf layers layer_of_move n =
+    some_move (λ t. some_layer (λ i. not (is_lower (layer_at layers i).weights t)) (layer_of layer_of_move n)) (slice_get leaf.moves n)

@@ -1,40 +1,43 @@
 -- Which moves wake moves of earlier layers, by a table of pairs of states.
-use Rattle.std.specs.Prelude.{◌≡◌, ℕ, ◌+◌, ◌*◌, ◌<◌, ◌⊎◌, ◌==◌, ◌&&◌, ◌||◌, not, Bool, true, false, nat_lt, List, length, Option, Some, None, slice_get, replicate, if◌then◌else◌}
+use Rattle.std.specs.Prelude.{◌≡◌, ℕ, ◌+◌, ◌*◌, ◌^◌, ◌<◌, ◌⊎◌, ◌==◌, ◌&&◌, ◌||◌, not, Bool}
+use Rattle.std.specs.Prelude.{true, false, nat_lt, List, length, Option, Some, None, slice_get, replicate, if◌then◌else◌}
 use Rattle.std.specs.List.{slice_index_or, list_any, range_with_len}
 use Rattle.pop_net.specs.declared.leaf.Move.{Move}
+use Rattle.pop_net.specs.declared.limits.TheConstants.{STATE_LIMIT}
+use Rattle.cert_layers.specs.declared.pairs.TheConstants.{PAIR_COUNT, NO_LAYER}
 use Rattle.pop_net.specs.LeafModel.{LeafModel, is_silent}
-use Rattle.cert_layers.specs.Places.{place_of}
-use Rattle.cert_layers.specs.Search.{some_move, some_place}
+use Rattle.cert_layers.specs.MoveLayers.{layer_of}
+use Rattle.cert_layers.specs.Search.{some_move, some_layer}
 
--- the entry for the states x and y of a table with 256 rows of 256 entries
+-- the entry for the states x and y
 abbrev pub first_at : List ℕ → ℕ → ℕ → ℕ
-first_at table x y = slice_index_or table (x * 256 + y) 0
+first_at table x y = slice_index_or table (x * STATE_LIMIT + y) 0
 
 -- the table before any move is entered
 unfoldable pub empty_table : List ℕ
-empty_table = replicate 65536 65535
+empty_table = replicate PAIR_COUNT NO_LAYER
 
 -- x and y are the states that a move takes
 abbrev pub IsPair : ℕ → ℕ → Move → Type 0
 IsPair x y t = ((x ≡ t.p) × (y ≡ t.q)) ⊎ ((x ≡ t.q) × (y ≡ t.p))
 
 -- a non-silent move below number n, in a layer before i, takes x and y
-pub record IsEarly (leaf : LeafModel) (places : List (Option ℕ)) (n i x y : ℕ) : Type 0 where
+pub record IsEarly (leaf : LeafModel) (layer_of_move : List (Option ℕ)) (n i x y : ℕ) : Type 0 where
   pub number : ℕ
   pub layer : ℕ
   pub taken : Move
   pub below : number < n
   pub move_is : slice_get leaf.moves number ≡ Some taken
   pub non_silent : is_silent taken ≡ false
-  pub place_is : place_of places number ≡ Some layer
+  pub layer_is : layer_of layer_of_move number ≡ Some layer
   pub before : layer < i
   pub takes : IsPair x y taken
 
 -- the table has, for each two states, the least layer with a non-silent move below number n that takes them
-pub record IsTable (leaf : LeafModel) (places : List (Option ℕ)) (n : ℕ) (table : List ℕ) : Type 0 where
-  pub long : length table ≡ 65536
-  pub sound : (i x y : ℕ) → i < 65536 → x < 256 → y < 256 → first_at table x y < i → IsEarly leaf places n i x y
-  pub complete : (i x y : ℕ) → i < 65536 → x < 256 → y < 256 → IsEarly leaf places n i x y → first_at table x y < i
+pub record IsTable (leaf : LeafModel) (layer_of_move : List (Option ℕ)) (n : ℕ) (table : List ℕ) : Type 0 where
+  pub long : length table ≡ PAIR_COUNT
+  pub sound : (i x y : ℕ) → i < 2 ^ 16 → x < STATE_LIMIT → y < STATE_LIMIT → first_at table x y < i → IsEarly leaf layer_of_move n i x y
+  pub complete : (i x y : ℕ) → i < 2 ^ 16 → x < STATE_LIMIT → y < STATE_LIMIT → IsEarly leaf layer_of_move n i x y → first_at table x y < i
 
 -- whether a layer before i has a non-silent move that takes x and y
 abbrev pub is_early : List ℕ → ℕ → ℕ → ℕ → Bool
@@ -58,11 +61,13 @@ wakes early t x y = if brings t x then wakes_with early t x y else (brings t y &
 
 -- whether t, in layer i, wakes the move with number m, of an earlier layer
 abbrev pub wakes_move : LeafModel → List (Option ℕ) → List ℕ → ℕ → Move → ℕ → Bool
-wakes_move leaf places table i t m = some_move (λ u. some_place (λ j. nat_lt j i && wakes (is_early table i) t u.p u.q) (place_of places m)) (slice_get leaf.moves m)
+wakes_move leaf layer_of_move table i t m =
+    some_move (λ u. some_layer (λ j. nat_lt j i && wakes (is_early table i) t u.p u.q) (layer_of layer_of_move m)) (slice_get leaf.moves m)
 
 -- whether the move with number n wakes the move with number m, of an earlier layer
 abbrev pub wakes_at : LeafModel → List (Option ℕ) → List ℕ → ℕ → ℕ → Bool
-wakes_at leaf places table n m = some_move (λ t. some_place (λ i. wakes_move leaf places table i t m) (place_of places n)) (slice_get leaf.moves n)
+wakes_at leaf layer_of_move table n m =
+    some_move (λ t. some_layer (λ i. wakes_move leaf layer_of_move table i t m) (layer_of layer_of_move n)) (slice_get leaf.moves n)
 
 -- whether t wakes an early move that takes x and y
 abbrev pub wakes_early : (ℕ → ℕ → Bool) → Move → ℕ → ℕ → Bool
@@ -83,5 +88,7 @@ FindsFirst p (Some u) = (p u ≡ true) × ((m : ℕ) → m < u → p m ≡ false
 
 -- the least move that wakes one, and the least that it wakes, if there are such
 abbrev pub FindsWaking : LeafModel → List (Option ℕ) → List ℕ → Option (ℕ × ℕ) → Type 0
-FindsWaking leaf places table None = (n : ℕ) → FindsFirst (wakes_at leaf places table n) None
-FindsWaking leaf places table (Some found) = FindsFirst (wakes_at leaf places table found.0) (Some found.1) × ((n : ℕ) → n < found.0 → FindsFirst (wakes_at leaf places table n) None)
+FindsWaking leaf layer_of_move table None = (n : ℕ) → FindsFirst (wakes_at leaf layer_of_move table n) None
+FindsWaking leaf layer_of_move table (Some found) =
+    FindsFirst (wakes_at leaf layer_of_move table found.0) (Some found.1)
+    × ((n : ℕ) → n < found.0 → FindsFirst (wakes_at leaf layer_of_move table n) None)

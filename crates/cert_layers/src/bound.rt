@@ -1,15 +1,15 @@
 //! The bound of the layers.
 
-ghost use Rattle.std.specs.Prelude.{◌≡◌, ◌≤◌, ◌^◌, length, All, fold};
+ghost use Rattle.std.specs.Prelude.{◌≡◌, ◌≤◌, ◌*◌, length, All, fold};
 ghost use Rattle.std.specs.Int.{int_max, int_min};
 ghost use Rattle.cert_base.specs.ProofBound.{spread as weights_spread, layers_bound};
 ghost use Rattle.cert_layers.specs.LayerFaults.{IsWeight};
 
-use cert_base::Layer;
+use cert_base::{LAYER_LIMIT, Layer, SIZE_LIMIT};
 
 /// The sum, over the layers, of the greatest weight less the least.
 pub(crate) fn bound_of(layers: &[Layer]) -> u64
-    requires few { length layers.now ≤ 256 }
+    requires few { length layers.now ≤ LAYER_LIMIT }
     requires small { All (λ layer. All IsWeight layer.weights) layers.now }
     ensures { result ≡ layers_bound layers.now }
 {
@@ -24,7 +24,7 @@ pub(crate) fn bound_of(layers: &[Layer]) -> u64
 fn spread(weights: &[i64]) -> u64
     requires { All IsWeight weights.now }
     ensures value { result ≡ weights_spread weights.now }
-    ensures bound { result ≤ 2 ^ 41 }
+    ensures bound { result ≤ 2 * SIZE_LIMIT }
 {
     let Some((first, others)) = weights.split_first() else {
         return 0;

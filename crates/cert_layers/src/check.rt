@@ -2,18 +2,18 @@
 
 ghost use Rattle.std.specs.Prelude.{◌≡◌, ◌≤◌, length, All, IfOk, IfErr, OnOk};
 ghost use Rattle.pop_net.specs.LeafModel.{IsLeaf};
-ghost use Rattle.cert_layers.specs.Places.{ArePlaces};
+ghost use Rattle.cert_layers.specs.MoveLayers.{AreMoveLayers};
 ghost use Rattle.cert_base.specs.ValidLayers.{ValidLayers};
 ghost use Rattle.cert_base.specs.ProofBound.{layers_bound};
 ghost use Rattle.cert_layers.specs.LayerFaults.{IsLayerFault, IsWeight, EndsWithin};
 
 use crate::bound::bound_of;
 use crate::fault::LayerFault;
-use crate::lower::{first_heavy, first_unlisted};
+use crate::lower::{first_not_lower, first_unlisted};
+use crate::move_layers::layers_of_moves;
 use crate::pairs::pair_table;
-use crate::places::places_of;
 use crate::waking::first_waking;
-use cert_base::Layer;
+use cert_base::{LAYER_LIMIT, Layer};
 use pop_io::List;
 use pop_net::Leaf;
 use std::alloc::Global;
@@ -22,7 +22,7 @@ use std::alloc::Global;
 /// Esparza, Jaax, Meyer 2017). A move wakes another only where it brings one of its states, so pairs of
 /// moves are looked at by their states.
 pub fn check_layers(alloc: Global, leaf: &Leaf, layers: &List<Layer>) -> Result<u64, LayerFault>
-    requires few { length layers.now ≤ 256 }
+    requires few { length layers.now ≤ LAYER_LIMIT }
     requires small { All (λ layer. All IsWeight layer.weights) layers.now }
     ensures valid { IfOk result (λ bound. ValidLayers leaf.now layers.now × (bound ≡ layers_bound layers.now)) }
     ensures fault { IfErr result (IsLayerFault leaf.now layers.now) }
@@ -34,14 +34,14 @@ pub fn check_layers(alloc: Global, leaf: &Leaf, layers: &List<Layer>) -> Result<
 }
 
 fn checked(alloc: Global, leaf: &Leaf, layers: &[Layer]) -> Result<u64, LayerFault>
-    requires few { length layers.now ≤ 256 }
+    requires few { length layers.now ≤ LAYER_LIMIT }
     requires small { All (λ layer. All IsWeight layer.weights) layers.now }
     ensures valid { IfOk result (λ bound. ValidLayers leaf.now layers.now × (bound ≡ layers_bound layers.now)) }
     ensures fault { IfErr result (IsLayerFault leaf.now layers.now) }
     ensures formed { IsLeaf leaf.now }
 {
-    let places = places_of(alloc, leaf, layers)?;
-    check_moves(alloc, leaf, layers, places.as_slice())?;
+    let layer_of_move = layers_of_moves(alloc, leaf, layers)?;
+    check_moves(alloc, leaf, layers, layer_of_move.as_slice())?;
     Ok(bound_of(layers))
 }
 
@@ -50,23 +50,23 @@ fn check_moves(
     alloc: Global,
     leaf: &Leaf,
     layers: &[Layer],
-    places: &[Option<u16>],
+    layer_of_move: &[Option<u16>],
 ) -> Result<(), LayerFault>
-    requires few { length layers.now ≤ 256 }
+    requires few { length layers.now ≤ LAYER_LIMIT }
     requires small { All (λ layer. All IsWeight layer.weights) layers.now }
     requires formed { IsLeaf leaf.now }
-    requires placed { ArePlaces leaf.now layers.now places.now }
+    requires placed { AreMoveLayers leaf.now layers.now layer_of_move.now }
     ensures valid { OnOk result (ValidLayers leaf.now layers.now) }
     ensures fault { IfErr result (IsLayerFault leaf.now layers.now) }
 {
-    if let Some(t) = first_unlisted(leaf, places) {
+    if let Some(t) = first_unlisted(leaf, layer_of_move) {
         return Err(LayerFault::NoLayer(t));
     }
-    if let Some(t) = first_heavy(leaf, layers, places) {
+    if let Some(t) = first_not_lower(leaf, layers, layer_of_move) {
         return Err(LayerFault::NotLower(t));
     }
-    let table = pair_table(alloc, leaf, places)?;
-    match first_waking(leaf, places, &table) {
+    let table = pair_table(alloc, leaf, layer_of_move)?;
+    match first_waking(leaf, layer_of_move, &table) {
         Some((t, u)) => Err(LayerFault::Wakes(t, u)),
         None => Ok(()),
     }

@@ -13,6 +13,7 @@ pub enum LayerFault {
     NotLower(u32),
     /// The least non-silent move that wakes a move of an earlier layer, and the least such move.
     Wakes(u32, u32),
+    /// Out of memory.
     NoMemory,
 }
 

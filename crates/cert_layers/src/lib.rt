@@ -7,12 +7,9 @@ mod bound;
 mod check;
 mod fault;
 mod lower;
+mod move_layers;
 mod pairs;
-mod places;
 mod waking;
 
 pub use check::check_layers;
 pub use fault::LayerFault;
-
-#[cfg(test)]
-mod tests;

@@ -5,48 +5,52 @@ ghost use Rattle.cert_base.specs.ValidLayers.{weight_at};
 ghost use Rattle.pop_net.specs.FirstFault.{first_below};
 ghost use Rattle.pop_net.specs.LeafModel.{IsLeaf};
 ghost use Rattle.cert_layers.specs.LayerFaults.{IsWeight};
-ghost use Rattle.cert_layers.specs.Places.{ArePlaces};
-ghost use Rattle.cert_layers.specs.Search.{is_unlisted as unlisted, is_lower as lower, is_heavy as heavy};
+ghost use Rattle.cert_layers.specs.MoveLayers.{AreMoveLayers};
+ghost use Rattle.cert_layers.specs.Search.{is_unlisted as unlisted, is_lower as lower, not_lower};
 
 use cert_base::Layer;
 use pop_net::{Leaf, Move};
 
 /// The least non-silent move in no layer.
-pub(crate) fn first_unlisted(leaf: &Leaf, places: &[Option<u16>]) -> Option<u32>
-    requires { length places.now ≡ length leaf.now.moves }
-    ensures { result ≡ first_below (length leaf.now.moves) (unlisted leaf.now places.now) }
+pub(crate) fn first_unlisted(leaf: &Leaf, layer_of_move: &[Option<u16>]) -> Option<u32>
+    requires { length layer_of_move.now ≡ length leaf.now.moves }
+    ensures { result ≡ first_below (length leaf.now.moves) (unlisted leaf.now layer_of_move.now) }
 {
-    (0..leaf.move_count()).find(|t| is_unlisted(leaf, places, *t))
+    (0..leaf.move_count()).find(|t| is_unlisted(leaf, layer_of_move, *t))
 }
 
-fn is_unlisted(leaf: &Leaf, places: &[Option<u16>], t: u32) -> bool
-    requires long { length places.now ≡ length leaf.now.moves }
+fn is_unlisted(leaf: &Leaf, layer_of_move: &[Option<u16>], t: u32) -> bool
+    requires long { length layer_of_move.now ≡ length leaf.now.moves }
     requires in_range { t < length leaf.now.moves }
-    ensures { result ≡ unlisted leaf.now places.now t }
+    ensures { result ≡ unlisted leaf.now layer_of_move.now t }
 {
     let taken = leaf.move_at(t);
-    !taken.is_silent() && places[t as usize].is_none()
+    !taken.is_silent() && layer_of_move[t as usize].is_none()
 }
 
 /// The least non-silent move that doesn't lower the weights of its layer.
-pub(crate) fn first_heavy(leaf: &Leaf, layers: &[Layer], places: &[Option<u16>]) -> Option<u32>
+pub(crate) fn first_not_lower(
+    leaf: &Leaf,
+    layers: &[Layer],
+    layer_of_move: &[Option<u16>],
+) -> Option<u32>
     requires formed { IsLeaf leaf.now }
-    requires placed { ArePlaces leaf.now layers.now places.now }
+    requires placed { AreMoveLayers leaf.now layers.now layer_of_move.now }
     requires small { All (λ layer. All IsWeight layer.weights) layers.now }
-    ensures { result ≡ first_below (length leaf.now.moves) (heavy leaf.now layers.now places.now) }
+    ensures { result ≡ first_below (length leaf.now.moves) (not_lower leaf.now layers.now layer_of_move.now) }
 {
-    (0..leaf.move_count()).find(|t| is_heavy(leaf, layers, places, *t))
+    (0..leaf.move_count()).find(|t| fails_to_lower(leaf, layers, layer_of_move, *t))
 }
 
-fn is_heavy(leaf: &Leaf, layers: &[Layer], places: &[Option<u16>], t: u32) -> bool
+fn fails_to_lower(leaf: &Leaf, layers: &[Layer], layer_of_move: &[Option<u16>], t: u32) -> bool
     requires formed { IsLeaf leaf.now }
-    requires placed { ArePlaces leaf.now layers.now places.now }
+    requires placed { AreMoveLayers leaf.now layers.now layer_of_move.now }
     requires small { All (λ layer. All IsWeight layer.weights) layers.now }
     requires in_range { t < length leaf.now.moves }
-    ensures { result ≡ heavy leaf.now layers.now places.now t }
+    ensures { result ≡ not_lower leaf.now layers.now layer_of_move.now t }
 {
     let taken = leaf.move_at(t);
-    match places[t as usize] {
+    match layer_of_move[t as usize] {
         None => false,
         Some(i) => { !taken.is_silent() && !is_lower(layers[i as usize].weights.as_slice(), taken) }
     }

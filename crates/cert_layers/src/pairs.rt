@@ -7,30 +7,41 @@ ghost use Rattle.cert_layers.specs.Waking.{first_at, is_early, empty_table, IsTa
 
 use crate::fault::LayerFault;
 use pop_io::List;
-use pop_net::Leaf;
+use pop_net::{Leaf, STATE_LIMIT};
 use std::alloc::{AllocError, Global};
+use std::marker::Model;
 
-/// The number of entries in a row of the table.
-const ROW: usize = 256;
+/// The number of ordered pairs of states.
+pub(crate) const PAIR_COUNT: usize = STATE_LIMIT * STATE_LIMIT;
 
-/// The number of entries of the table.
-const ENTRIES: usize = 65_536;
+/// The entry of two states that no move of a layer takes. It is above the number of every layer.
+pub(crate) const NO_LAYER: u16 = u16::MAX;
 
-/// For each two states the least layer with a non-silent move that takes them.
+/// For each ordered pair of states, row by row, the least layer with a non-silent move that takes them.
 #[derive(Debug, Drop)]
 pub(crate) struct PairTable {
-    pub(crate) layers: List<u16>,
+    layers: List<u16>,
+}
+
+impl Model for PairTable {
+    ghost use Rattle.std.specs.Prelude.{◌≡◌, List as Items, ℕ, length};
+    ghost use Rattle.cert_layers.specs.declared.pairs.TheConstants.{PAIR_COUNT};
+
+    ghost Value = { Items ℕ };
+
+    ghost view = { λ t. t.layers };
+
+    ghost invariant = { λ t. length t.layers ≡ PAIR_COUNT };
 }
 
 impl PairTable {
     /// Whether a layer before this one has a non-silent move that takes two states.
     pub(crate) fn is_early(&self, x: u16, y: u16, layer: u16) -> bool
-        requires long { length self.now.layers ≡ 65536 }
-        requires x_in { x < 256 }
-        requires y_in { y < 256 }
-        ensures { result ≡ is_early self.now.layers layer x y }
+        requires x_in { x < STATE_LIMIT }
+        requires y_in { y < STATE_LIMIT }
+        ensures { result ≡ is_early self.now layer x y }
     {
-        self.layers.as_slice()[x as usize * ROW + y as usize] < layer
+        self.layers.as_slice()[x as usize * STATE_LIMIT + y as usize] < layer
     }
 }
 
@@ -38,16 +49,16 @@ impl PairTable {
 pub(crate) fn pair_table(
     alloc: Global,
     leaf: &Leaf,
-    places: &[Option<u16>],
+    layer_of_move: &[Option<u16>],
 ) -> Result<PairTable, LayerFault>
     requires formed { IsLeaf leaf.now }
-    requires long { length places.now ≡ length leaf.now.moves }
-    ensures ok { IfOk result (λ table. IsTable leaf.now places.now (length leaf.now.moves) table.layers) }
+    requires long { length layer_of_move.now ≡ length leaf.now.moves }
+    ensures ok { IfOk result (IsTable leaf.now layer_of_move.now (length leaf.now.moves)) }
     ensures memory { IfErr result (λ e. e ≡ LayerFault.NoMemory) }
 {
     let mut layers = no_layers(alloc)?;
     for t in 0..leaf.move_count() {
-        enter_move(&mut layers, leaf, places, t);
+        enter_move(&mut layers, leaf, layer_of_move, t);
     }
     Ok(PairTable {
         layers: List::from_vec(layers),
@@ -58,22 +69,22 @@ fn no_layers(alloc: Global) -> Result<Vec<u16>, AllocError>
     ensures { IfOk result (λ v. v.items ≡ empty_table) }
 {
     let mut layers = Vec::new(alloc);
-    for _entry in 0..ENTRIES {
-        layers.push(u16::MAX)?;
+    for _entry in 0..PAIR_COUNT {
+        layers.push(NO_LAYER)?;
     }
     Ok(layers)
 }
 
-/// Enters a move, where it isn't silent and stands in a layer.
-fn enter_move(layers: &mut Vec<u16>, leaf: &Leaf, places: &[Option<u16>], t: u32)
+/// Enters a move, unless it is silent or in no layer.
+fn enter_move(layers: &mut Vec<u16>, leaf: &Leaf, layer_of_move: &[Option<u16>], t: u32)
     requires formed { IsLeaf leaf.now }
-    requires long { length places.now ≡ length leaf.now.moves }
+    requires long { length layer_of_move.now ≡ length leaf.now.moves }
     requires in_range { t < length leaf.now.moves }
-    requires table { IsTable leaf.now places.now t layers.old.items }
-    ensures { IsTable leaf.now places.now (t + 1) layers.new.items }
+    requires table { IsTable leaf.now layer_of_move.now t layers.old.items }
+    ensures { IsTable leaf.now layer_of_move.now (t + 1) layers.new.items }
 {
     let taken = leaf.move_at(t);
-    let Some(layer) = places[t as usize] else {
+    let Some(layer) = layer_of_move[t as usize] else {
         return;
     };
     if taken.is_silent() {
@@ -84,12 +95,12 @@ fn enter_move(layers: &mut Vec<u16>, leaf: &Leaf, places: &[Option<u16>], t: u32
 }
 
 fn enter_pair(layers: &mut Vec<u16>, x: u16, y: u16, layer: u16)
-    requires long { length layers.old.items ≡ 65536 }
-    requires x_in { x < 256 }
-    requires y_in { y < 256 }
-    ensures entered { layers.new.items ≡ slice_set layers.old.items (x * 256 + y) (min (first_at layers.old.items x y) layer) }
-    ensures len { length layers.new.items ≡ 65536 }
+    requires long { length layers.old.items ≡ PAIR_COUNT }
+    requires x_in { x < STATE_LIMIT }
+    requires y_in { y < STATE_LIMIT }
+    ensures entered { layers.new.items ≡ slice_set layers.old.items (x * STATE_LIMIT + y) (min (first_at layers.old.items x y) layer) }
+    ensures len { length layers.new.items ≡ PAIR_COUNT }
 {
-    let at = x as usize * ROW + y as usize;
+    let at = x as usize * STATE_LIMIT + y as usize;
     layers[at] = layers[at].min(layer);
 }

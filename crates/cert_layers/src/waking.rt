@@ -1,27 +1,31 @@
 //! Which moves wake moves of earlier layers.
+//!
+//! Let t be a move of layer i that brings a state m, and u a move of an earlier layer that takes m and o. Then t wakes u
+//! unless a move of a layer before i was enabled on the states that t takes and those of u that t doesn't bring: one that
+//! takes both states of t, or, where t doesn't bring o beside m, one that takes o and a state of t.
 
 ghost use Rattle.std.specs.Prelude.{◌≡◌, ◌<◌, ◌≤◌, length, Option, Some, slice_get};
 ghost use Rattle.std.specs.List.{list_any, range_with_len};
 ghost use Rattle.pop_net.specs.FirstFault.{first_below};
 ghost use Rattle.pop_net.specs.LeafModel.{IsLeaf, IsMoveBelow};
-ghost use Rattle.cert_layers.specs.Waking.{is_early, brings as brings_state, brings_both as brings_two, wakes_with as wakes_pair, wakes as wakes_states, wakes_early as wakes_early_states, wakes_beside as wakes_beside_state, may_wake as may_wake_any, wakes_move as wakes_numbered, wakes_at, IsTable, FindsFirst, FindsWaking};
+ghost use Rattle.cert_layers.specs.Waking.{is_early, brings as brings_state, brings_both as brings_two, wakes_with as wakes_pair, wakes as wakes_states, wakes_beside as wakes_beside_state, may_wake as may_wake_any, wakes_move as wakes_numbered, wakes_at, IsTable, FindsFirst, FindsWaking};
 
 use crate::pairs::PairTable;
-use pop_net::{Leaf, Move};
+use pop_net::{Leaf, Move, STATE_LIMIT};
 
 /// The least move that wakes one of an earlier layer, and the least such move.
 pub(crate) fn first_waking(
     leaf: &Leaf,
-    places: &[Option<u16>],
+    layer_of_move: &[Option<u16>],
     table: &PairTable,
 ) -> Option<(u32, u32)>
     requires formed { IsLeaf leaf.now }
-    requires long { length places.now ≡ length leaf.now.moves }
-    requires table { IsTable leaf.now places.now (length leaf.now.moves) table.now.layers }
-    ensures { FindsWaking leaf.now places.now table.now.layers result }
+    requires long { length layer_of_move.now ≡ length leaf.now.moves }
+    requires table { IsTable leaf.now layer_of_move.now (length leaf.now.moves) table.now }
+    ensures { FindsWaking leaf.now layer_of_move.now table.now result }
 {
     for t in 0..leaf.move_count() {
-        if let Some(u) = first_woken(leaf, places, table, t) {
+        if let Some(u) = first_woken(leaf, layer_of_move, table, t) {
             return Some((t, u));
         }
     }
@@ -29,114 +33,100 @@ pub(crate) fn first_waking(
 }
 
 /// The least move of an earlier layer that a move wakes.
-fn first_woken(leaf: &Leaf, places: &[Option<u16>], table: &PairTable, t: u32) -> Option<u32>
+fn first_woken(leaf: &Leaf, layer_of_move: &[Option<u16>], table: &PairTable, t: u32) -> Option<u32>
     requires formed { IsLeaf leaf.now }
-    requires long { length places.now ≡ length leaf.now.moves }
-    requires table { IsTable leaf.now places.now (length leaf.now.moves) table.now.layers }
+    requires long { length layer_of_move.now ≡ length leaf.now.moves }
+    requires table { IsTable leaf.now layer_of_move.now (length leaf.now.moves) table.now }
     requires in_range { t < length leaf.now.moves }
-    ensures { FindsFirst (wakes_at leaf.now places.now table.now.layers t) result }
+    ensures { FindsFirst (wakes_at leaf.now layer_of_move.now table.now t) result }
 {
     let taken = leaf.move_at(t);
-    let layer = places[t as usize]?;
+    let layer = layer_of_move[t as usize]?;
     if taken.is_silent() {
         return None;
     }
-    woken_in_layer(leaf, places, table, layer, taken)
+    woken_in_layer(leaf, layer_of_move, table, layer, taken)
 }
 
 /// The same of a move of a layer.
 fn woken_in_layer(
     leaf: &Leaf,
-    places: &[Option<u16>],
+    layer_of_move: &[Option<u16>],
     table: &PairTable,
     layer: u16,
     taken: Move,
 ) -> Option<u32>
     requires formed { IsLeaf leaf.now }
-    requires long { length places.now ≡ length leaf.now.moves }
-    requires table { IsTable leaf.now places.now (length leaf.now.moves) table.now.layers }
-    requires below { IsMoveBelow 256 taken }
-    ensures { FindsFirst (wakes_numbered leaf.now places.now table.now.layers layer taken) result }
+    requires long { length layer_of_move.now ≡ length leaf.now.moves }
+    requires table { IsTable leaf.now layer_of_move.now (length leaf.now.moves) table.now }
+    requires below { IsMoveBelow STATE_LIMIT taken }
+    ensures { FindsFirst (wakes_numbered leaf.now layer_of_move.now table.now layer taken) result }
 {
     if !may_wake(table, layer, taken, leaf.state_count()) {
         return None;
     }
-    least_woken(leaf, places, table, layer, taken)
+    least_woken(leaf, layer_of_move, table, layer, taken)
 }
 
 fn least_woken(
     leaf: &Leaf,
-    places: &[Option<u16>],
+    layer_of_move: &[Option<u16>],
     table: &PairTable,
     layer: u16,
     taken: Move,
 ) -> Option<u32>
     requires formed { IsLeaf leaf.now }
-    requires long { length places.now ≡ length leaf.now.moves }
-    requires table { length table.now.layers ≡ 65536 }
-    requires below { IsMoveBelow 256 taken }
-    ensures { result ≡ first_below (length leaf.now.moves) (wakes_numbered leaf.now places.now table.now.layers layer taken) }
+    requires long { length layer_of_move.now ≡ length leaf.now.moves }
+    requires below { IsMoveBelow STATE_LIMIT taken }
+    ensures { result ≡ first_below (length leaf.now.moves) (wakes_numbered leaf.now layer_of_move.now table.now layer taken) }
 {
-    (0..leaf.move_count()).find(|u| wakes_move(leaf, places, table, layer, taken, *u))
+    (0..leaf.move_count()).find(|u| wakes_move(leaf, layer_of_move, table, layer, taken, *u))
 }
 
 /// Whether a move wakes an early move at all. It looks at pairs of states alone.
 fn may_wake(table: &PairTable, layer: u16, taken: Move, states: u16) -> bool
-    requires long { length table.now.layers ≡ 65536 }
-    requires below { IsMoveBelow 256 taken }
-    requires states { states ≤ 256 }
-    ensures { result ≡ may_wake_any (is_early table.now.layers layer) taken states }
+    requires below { IsMoveBelow STATE_LIMIT taken }
+    requires states { states ≤ STATE_LIMIT }
+    ensures { result ≡ may_wake_any (is_early table.now layer) taken states }
 {
     !table.is_early(taken.p, taken.q, layer) && wakes_some(table, layer, taken, states)
 }
 
 fn wakes_some(table: &PairTable, layer: u16, taken: Move, states: u16) -> bool
-    requires long { length table.now.layers ≡ 65536 }
-    requires below { IsMoveBelow 256 taken }
-    requires states { states ≤ 256 }
-    ensures { result ≡ list_any (wakes_beside_state (is_early table.now.layers layer) taken) (range_with_len 0 states) }
+    requires below { IsMoveBelow STATE_LIMIT taken }
+    requires states { states ≤ STATE_LIMIT }
+    ensures { result ≡ list_any (wakes_beside_state (is_early table.now layer) taken) (range_with_len 0 states) }
 {
     (0..states).any(|y| wakes_beside(table, layer, taken, y))
 }
 
 /// Whether a move wakes an early move that takes a state that it brings and another one.
 fn wakes_beside(table: &PairTable, layer: u16, taken: Move, y: u16) -> bool
-    requires long { length table.now.layers ≡ 65536 }
-    requires below { IsMoveBelow 256 taken }
-    requires y_in { y < 256 }
-    ensures { result ≡ wakes_beside_state (is_early table.now.layers layer) taken y }
+    requires below { IsMoveBelow STATE_LIMIT taken }
+    requires y_in { y < STATE_LIMIT }
+    ensures { result ≡ wakes_beside_state (is_early table.now layer) taken y }
 {
-    wakes_early(table, layer, taken, taken.r, y) || wakes_early(table, layer, taken, taken.s, y)
-}
-
-fn wakes_early(table: &PairTable, layer: u16, taken: Move, x: u16, y: u16) -> bool
-    requires long { length table.now.layers ≡ 65536 }
-    requires below { IsMoveBelow 256 taken }
-    requires x_in { x < 256 }
-    requires y_in { y < 256 }
-    ensures { result ≡ wakes_early_states (is_early table.now.layers layer) taken x y }
-{
-    table.is_early(x, y, layer) && wakes(table, layer, taken, x, y)
+    (table.is_early(taken.r, y, layer) && wakes(table, layer, taken, taken.r, y))
+        || (table.is_early(taken.s, y, layer) && wakes(table, layer, taken, taken.s, y))
 }
 
 /// Whether a move wakes a move of an earlier layer.
 fn wakes_move(
     leaf: &Leaf,
-    places: &[Option<u16>],
+    layer_of_move: &[Option<u16>],
     table: &PairTable,
     layer: u16,
     taken: Move,
     u: u32,
 ) -> bool
     requires formed { IsLeaf leaf.now }
-    requires long { length places.now ≡ length leaf.now.moves }
-    requires table { length table.now.layers ≡ 65536 }
-    requires below { IsMoveBelow 256 taken }
+    requires long { length layer_of_move.now ≡ length leaf.now.moves }
+    requires below { IsMoveBelow STATE_LIMIT taken }
     requires in_range { u < length leaf.now.moves }
-    ensures { result ≡ wakes_numbered leaf.now places.now table.now.layers layer taken u }
+    ensures { result ≡ wakes_numbered leaf.now layer_of_move.now table.now layer taken u }
 {
     let woken = leaf.move_at(u);
-    match places[u as usize] {
+    match layer_of_move[u as usize] {
         None => false,
         Some(earlier) => {
             !woken.is_silent() && earlier < layer && wakes(table, layer, taken, woken.p, woken.q)
@@ -146,11 +136,10 @@ fn wakes_move(
 
 /// Whether a move wakes a move that takes two states.
 fn wakes(table: &PairTable, layer: u16, taken: Move, x: u16, y: u16) -> bool
-    requires long { length table.now.layers ≡ 65536 }
-    requires below { IsMoveBelow 256 taken }
-    requires x_in { x < 256 }
-    requires y_in { y < 256 }
-    ensures { result ≡ wakes_states (is_early table.now.layers layer) taken x y }
+    requires below { IsMoveBelow STATE_LIMIT taken }
+    requires x_in { x < STATE_LIMIT }
+    requires y_in { y < STATE_LIMIT }
+    ensures { result ≡ wakes_states (is_early table.now layer) taken x y }
 {
     if brings(taken, x) {
         wakes_with(table, layer, taken, x, y)
@@ -161,10 +150,9 @@ fn wakes(table: &PairTable, layer: u16, taken: Move, x: u16, y: u16) -> bool
 
 /// The same where the move brings the first state.
 fn wakes_with(table: &PairTable, layer: u16, taken: Move, brought: u16, other: u16) -> bool
-    requires long { length table.now.layers ≡ 65536 }
-    requires below { IsMoveBelow 256 taken }
-    requires other_in { other < 256 }
-    ensures { result ≡ wakes_pair (is_early table.now.layers layer) taken brought other }
+    requires below { IsMoveBelow STATE_LIMIT taken }
+    requires other_in { other < STATE_LIMIT }
+    ensures { result ≡ wakes_pair (is_early table.now layer) taken brought other }
 {
     let p_and_q = table.is_early(taken.p, taken.q, layer);
     let with_other = table.is_early(taken.p, other, layer) || table.is_early(taken.q, other, layer);

@@ -1,30 +1,20 @@
 -- The coefficients of a row whose terms are entered one by one, and of a sum of rows.
 use Rattle.std.proofs.Common.{◌≡◌, ◌≢◌, ◌⊎◌, inl, inr, ℕ, zero, suc, ◌+◌, ◌<◌, ◌≤◌, Bool, true, false, List, [], ◌∷◌, ◌++◌, map, length, get_or, take, ◌^◌, add-one, refl, ap, sym, ◌∙◌, arith}
-use Rattle.std.specs.Prelude.{ℤ, pos, negsuc, ◌+ℤ◌, ◌*ℤ◌, ◌==◌, if◌then◌else◌, nat_abs, slice_get, Option, Some, None, IfSome}
-use Rattle.std.specs.List.{list_all}
-use Rattle.std.specs.Ordering.{nat_cmp, eq_by_cmp}
-use Rattle.std.specs.Cmp.{nat_cmp_total}
-use Rattle.std.specs.BTreeMap.{values, IsOrdered as KeysAscend}
-use Rattle.std.specs.Map.{lookup}
+use Rattle.std.specs.Prelude.{ℤ, pos, negsuc, ◌+ℤ◌, ◌*ℤ◌, ◌==◌, if◌then◌else◌, nat_abs, slice_get}
 use Rattle.std.proofs.lemmas.Int.{ints, to_z-of_z}
 use mir.Val.{SFits, of_z, to_z}
 use mir.Syntax.{w128}
 use Rattle.std.proofs.Math.IntN.{*ℤ-zero}
 use Rattle.std.proofs.lemmas.List.{take_all}
 use Rattle.cert_base.proofs.Integers.{mul-add}
-use Rattle.std.proofs.lemmas.List.Sums.{AllPass-from_list_all, list_all-from_AllPass}
 use Rattle.std.proofs.lemmas.Bool.Decides.{eqb_tells}
-use Rattle.std.proofs.lemmas.Map.Views.{All-values_from_lookup, IfSome-lookup_from_All}
-use Rattle.std.proofs.lemmas.Map.Keys.{IsDistinct-from_sorted}
-use Rattle.std.proofs.lemmas.Cmp.{eq_by_cmp_equiv}
 use Rattle.cert_base.specs.declared.fact.Term.{Term}
 use Rattle.cert_base.specs.declared.fact.Row.{Row}
 use Rattle.cert_base.specs.declared.fact.Fact.{Fact}
-use Rattle.cert_base.specs.ClosingTests.{times, add_rows, coefficient_in, each_coefficient, scaled, sum_of}
+use Rattle.cert_base.specs.ClosingTests.{times, add_rows, coefficient_in, scaled, sum_of}
 use Rattle.cert_linear.specs.declared.sum.Sum.{Sum}
 use Rattle.cert_linear.specs.Conditions.{AreAscending}
 use Rattle.cert_linear.specs.Sums.{coefficient_of, IsSum, IsPlus, IsSame, IsWithin}
-use Rattle.cert_linear.proofs.RowValues.{each_coefficient-at}
 
 -- the terms, each times a number
 abbrev pub multiplied : ℤ → List Term → List Term
@@ -70,32 +60,6 @@ coefficient-times a (t ∷ ts) q =
     of_term-times : (same : Bool) → (if same then (a *ℤ t.by) else pos 0) ≡ (a *ℤ (if same then t.by else pos 0))
     of_term-times true = refl
     of_term-times false = sym (*ℤ-zero a)
-
-both_ways : (a b : Bool) → (a ≡ true → b ≡ true) → (b ≡ true → a ≡ true) → a ≡ b
-both_ways true b f g = sym (f refl)
-both_ways false true f g = g refl
-both_ways false false f g = refl
-
-abbrev is_at : ℕ → ℕ → Bool
-is_at q = eq_by_cmp nat_cmp q
-
--- the entries of a sum pass a test that 0 passes, exactly where the coefficients of its row do
-pub each-values : (test : ℤ → Bool) (row : Row) (sum : Sum) → IsSum row sum → KeysAscend nat_cmp sum.terms → test (pos 0) ≡ true → list_all test (values sum.terms) ≡ each_coefficient test row
-each-values test row sum is ascend zero_passes =
-    both_ways _ _
-    (λ e. list_all-from_AllPass (λ t. test (coefficient_in row.terms t.at)) row.terms (λ k d l. let at = (get_or row.terms k d).at in ap test (sym (is.terms at)) ∙ found at (lookup (is_at at) sum.terms.entries) refl (IfSome-lookup_from_All (λ a. test a ≡ true) (is_at at) sum.terms.entries (AllPass-from_list_all test _ e))))
-    (λ e. list_all-from_AllPass test (values sum.terms) (All-values_from_lookup (eq_by_cmp_equiv nat_cmp_total) (λ a. test a ≡ true) sum.terms.entries (IsDistinct-from_sorted nat_cmp _ ascend) (λ q. passed q (lookup (is_at q) sum.terms.entries) refl e)))
-  where
-    found : (q : ℕ) (o : Option ℤ) → lookup (is_at q) sum.terms.entries ≡ o → IfSome o (λ a. test a ≡ true) → test (coefficient_of sum q) ≡ true
-    found q None e h = rw e zero_passes
-    found q (Some a) e h = rw e h
-
-    passed : (q : ℕ) (o : Option ℤ) → lookup (is_at q) sum.terms.entries ≡ o → each_coefficient test row ≡ true → IfSome o (λ a. test a ≡ true)
-    passed q None e h = tt
-    passed q (Some a) e h =
-        let there = each_coefficient-at test row q zero_passes h in
-        let here : coefficient_of sum q ≡ a = rw e refl in
-        ap test (sym here ∙ is.terms q) ∙ there
 
 -- a sum plus a row is the sum of both rows
 pub plus_row : (row other : Row) (sum more : Sum) → IsSum row sum → IsPlus other sum more → IsSum (add_rows row other) more
@@ -188,6 +152,12 @@ fits_small (negsuc n) l = record { sfits = omega arith }
 
 pub sum_fits : (x y : ℤ) → nat_abs x ≤ 2 ^ 120 → nat_abs y ≤ 2 ^ 103 → to_z w128 (of_z w128 (to_z w128 (of_z w128 x) +ℤ to_z w128 (of_z w128 y))) ≡ (x +ℤ y)
 sum_fits x y l m =
+    let bound = size-add x y in
+    let both = to_z-of_z w128 (x +ℤ y) (fits_small (x +ℤ y) (omega (arith, bound))) in
+    rw (to_z-of_z w128 x (fits_small x (omega arith)), to_z-of_z w128 y (fits_small y (omega arith))) both
+
+pub entry_fits : (x y : ℤ) → nat_abs x ≤ 2 ^ 121 → nat_abs y ≤ 2 ^ 103 → to_z w128 (of_z w128 (to_z w128 (of_z w128 x) +ℤ to_z w128 (of_z w128 y))) ≡ (x +ℤ y)
+entry_fits x y l m =
     let bound = size-add x y in
     let both = to_z-of_z w128 (x +ℤ y) (fits_small (x +ℤ y) (omega (arith, bound))) in
     rw (to_z-of_z w128 x (fits_small x (omega arith)), to_z-of_z w128 y (fits_small y (omega arith))) both

@@ -105,7 +105,7 @@ sum_of-multiple count m facts (t ∷ terms) meets e =
     let both = multiple-add m _ _ first rest in
     (both.0, row_value-add_rows count (scaled t.by (slice_get facts t.at)) (sum_of facts terms) ∙ both.1)
 
--- a row whose coefficients are multiples has a multiple as its value exactly where its constant is one
+-- a row whose coefficients are multiples has a multiple as its value exactly when its constant is one
 constant_multiple : (count : Valuation) (m : ℕ) (row : Row) → each_coefficient (divides m) row ≡ true → Multiple m (row_value count row) → Multiple m row.constant
 constant_multiple count m row e h =
     let terms = terms-multiple count m row e in

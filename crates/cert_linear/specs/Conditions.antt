@@ -1,5 +1,6 @@
 -- What is asked of facts, and of the terms that name them.
-use Rattle.std.specs.Prelude.{ℕ, ◌<◌, ◌≤◌, ◌^◌, List, nat_abs, length, All, AllPairs}
+use Rattle.std.specs.Prelude.{ℕ, ◌<◌, ◌≤◌, List, nat_abs, length, All, AllPairs}
+use Rattle.cert_base.specs.declared.limits.TheConstants.{SIZE_LIMIT, TERM_LIMIT}
 use Rattle.cert_base.specs.declared.fact.Term.{Term}
 use Rattle.cert_base.specs.declared.fact.Fact.{Fact}
 use Rattle.cert_base.specs.ClosingTests.{row_of}
@@ -12,10 +13,10 @@ AreAscending terms = AllPairs (λ t u. t.at < u.at) terms
 abbrev pub IsOrdered : Fact → Type 0
 IsOrdered fact = AreAscending (row_of fact).terms
 
--- at most 65,536 multipliers, each at most 2 ^ 40 in size
+-- multipliers within the limits of a node
 pub record AreMultipliers (terms : List Term) : Type 0 where
-  pub few : length terms ≤ 65536
-  pub small : All (λ t. nat_abs t.by ≤ 2 ^ 40) terms
+  pub few : length terms ≤ TERM_LIMIT
+  pub small : All (λ t. nat_abs t.by ≤ SIZE_LIMIT) terms
 
 -- each term names one of n facts by its number
 abbrev pub AreNamed : ℕ → List Term → Type 0

@@ -1,16 +1,31 @@
 -- Sums of rows, with one coefficient for each variable.
-use Rattle.std.specs.Prelude.{◌≡◌, ℕ, ◌≤◌, true, false, List, ℤ, pos, ◌+ℤ◌, nat_abs, unwrap_or, Bool, Option, Some, None}
-use Rattle.std.specs.Ordering.{nat_cmp}
-use Rattle.std.specs.BTreeMap.{get}
+use Rattle.std.specs.Prelude.{◌≡◌, ℕ, ◌<◌, ◌≤◌, ◌^◌, length, All, Contains, slice_index_or, true, false, List, ℤ, pos, ◌+ℤ◌, nat_abs, Bool, Option, Some, None}
 use Rattle.cert_base.specs.declared.fact.Term.{Term}
 use Rattle.cert_base.specs.declared.fact.Row.{Row}
 use Rattle.cert_base.specs.declared.fact.Fact.{Fact}
 use Rattle.cert_base.specs.ClosingTests.{coefficient_in, may_add, may_add_modulo, all_named, sum_of}
+use Rattle.cert_linear.specs.declared.sum.Entry.{Entry}
 use Rattle.cert_linear.specs.declared.sum.Sum.{Sum}
 
--- the coefficient of a variable; one without an entry is 0
+-- the entry of a variable; one that the list doesn't reach is blank
+abbrev pub blank : Entry
+blank = record { sum = pos 0; touched = false }
+
+abbrev pub entry_at : List Entry → ℕ → Entry
+entry_at entries variable = slice_index_or entries variable blank
+
+-- the coefficient of a variable
 abbrev pub coefficient_of : Sum → ℕ → ℤ
-coefficient_of sum variable = unwrap_or (get nat_cmp sum.terms variable) (pos 0)
+coefficient_of sum variable = (entry_at sum.entries.items variable).sum
+
+-- the list of what was touched has all entries that aren't 0
+pub record AreTidy (entries : List Entry) (touched : List ℕ) : Type 0 where
+  pub within : All (λ variable. variable < length entries) touched
+  pub zero : (variable : ℕ) → (entry_at entries variable).touched ≡ false → (entry_at entries variable).sum ≡ pos 0
+  pub listed : (variable : ℕ) → (entry_at entries variable).touched ≡ true → Contains touched variable
+
+abbrev pub IsTidy : Sum → Type 0
+IsTidy sum = AreTidy sum.entries.items sum.touched.items
 
 -- the sum has the coefficients and the constant of the row
 pub record IsSum (row : Row) (sum : Sum) : Type 0 where
@@ -37,7 +52,8 @@ abbrev pub may_by : Option ℕ → ℤ → Fact → Bool
 may_by None = may_add
 may_by (Some m) = may_add_modulo m
 
--- where each named fact may have its multiplier, their sum
-abbrev pub SumsUp : Option ℕ → List Fact → List Term → Option Sum → Type 0
-SumsUp modulus facts terms None = all_named (may_by modulus) facts terms ≡ false
-SumsUp modulus facts terms (Some sum) = (all_named (may_by modulus) facts terms ≡ true) × IsSum (sum_of facts terms) sum
+-- whether each named fact may have its multiplier, and if so, the sum is theirs
+abbrev pub SumsUp : Option ℕ → List Fact → List Term → Sum → Bool → Type 0
+SumsUp modulus facts terms sum false = all_named (may_by modulus) facts terms ≡ false
+SumsUp modulus facts terms sum true =
+    (all_named (may_by modulus) facts terms ≡ true) × IsSum (sum_of facts terms) sum × IsWithin (2 ^ 119) sum

@@ -6,7 +6,7 @@ ghost use Rattle.cert_base.specs.declared.fact.Row.{Row};
 ghost use Rattle.cert_base.specs.ClosingTests.{linear_closes as closes_by_sum, residue_closes as closes_by_residue, row_of, denies, vanishes, add_rows, times};
 ghost use Rattle.cert_base.specs.Ends.{AreRefuted};
 ghost use Rattle.cert_linear.specs.Conditions.{AreAscending, IsOrdered, AreMultipliers, AreNamed};
-ghost use Rattle.cert_linear.specs.Sums.{may_by, SumsUp, IsSum, IsSame, IsWithin};
+ghost use Rattle.cert_linear.specs.Sums.{may_by, SumsUp, IsTidy, IsSum, IsSame, IsWithin};
 
 use crate::sum::Sum;
 use cert_base::{Fact, Row, Term};
@@ -26,7 +26,7 @@ pub fn linear_closes(
     ensures closes { IfOk result (λ closes. closes ≡ closes_by_sum facts.now terms.now) }
     ensures refutes { IfOk result (λ closes. IsTrue closes → AreRefuted facts.now) }
 {
-    linear(alloc, facts.as_slice(), terms.as_slice())
+    linear(&mut Sum::new(alloc), facts.as_slice(), terms.as_slice())
 }
 
 /// Whether the sum of the named facts, each times its multiplier, is no multiple of the modulus by its constant alone or by
@@ -44,61 +44,73 @@ pub fn residue_closes(
     ensures closes { IfOk result (λ closes. closes ≡ closes_by_residue facts.now modulus terms.now) }
     ensures refutes { IfOk result (λ closes. IsTrue closes → AreRefuted facts.now) }
 {
-    residue(alloc, facts.as_slice(), modulus, terms.as_slice())
+    residue(
+        &mut Sum::new(alloc),
+        facts.as_slice(),
+        modulus,
+        terms.as_slice(),
+    )
 }
 
-pub(crate) fn linear(alloc: Global, facts: &[Fact], terms: &[Term]) -> Result<bool, NoMemory>
+/// The same over a sum that is used again.
+pub(crate) fn linear(sum: &mut Sum, facts: &[Fact], terms: &[Term]) -> Result<bool, NoMemory>
+    requires tidy { IsTidy sum.old }
     requires named { AreNamed (length facts.now) terms.now }
     requires multipliers { AreMultipliers terms.now }
     requires ordered { All IsOrdered facts.now }
     ensures closes { IfOk result (λ closes. closes ≡ closes_by_sum facts.now terms.now) }
+    ensures tidy { IsTidy sum.new }
 {
-    match sum_of(alloc, facts, terms, None)? {
-        Some(sum) => Ok(sum.is_negative()),
-        None => Ok(false),
-    }
+    let may_add = sum_up(sum, facts, terms, None)?;
+    Ok(may_add && sum.is_negative())
 }
 
+/// The same over a sum that is used again.
 pub(crate) fn residue(
-    alloc: Global,
+    sum: &mut Sum,
     facts: &[Fact],
     modulus: u32,
     terms: &[Term],
 ) -> Result<bool, NoMemory>
+    requires tidy { IsTidy sum.old }
     requires named { AreNamed (length facts.now) terms.now }
     requires multipliers { AreMultipliers terms.now }
     requires modulus { 0 < modulus }
     requires ordered { All IsOrdered facts.now }
     ensures closes { IfOk result (λ closes. closes ≡ closes_by_residue facts.now modulus terms.now) }
+    ensures tidy { IsTidy sum.new }
 {
-    match sum_of(alloc, facts, terms, Some(modulus))? {
-        Some(sum) if sum.is_constant(modulus) => Ok(true),
-        Some(mut sum) => is_denied(&mut sum, facts, modulus),
-        None => Ok(false),
+    if !sum_up(sum, facts, terms, Some(modulus))? {
+        return Ok(false);
     }
+    if sum.is_constant(modulus) {
+        return Ok(true);
+    }
+    is_denied(sum, facts, modulus)
 }
 
-/// The sum of the named facts, unless one may not have its multiplier.
-fn sum_of(
-    alloc: Global,
+/// Makes the sum that of the named facts, unless one may not have its multiplier.
+fn sum_up(
+    sum: &mut Sum,
     facts: &[Fact],
     terms: &[Term],
     modulus: Option<u32>,
-) -> Result<Option<Sum>, NoMemory>
+) -> Result<bool, NoMemory>
+    requires tidy { IsTidy sum.old }
     requires named { AreNamed (length facts.now) terms.now }
     requires multipliers { AreMultipliers terms.now }
     requires ordered { All IsOrdered facts.now }
-    ensures sum { IfOk result (SumsUp modulus facts.now terms.now) }
-    ensures size { IfOk result (λ sum. MatchOption sum (Unit {0}) (IsWithin (2 ^ 119))) }
+    ensures sum { IfOk result (SumsUp modulus facts.now terms.now sum.new) }
+    ensures tidy { IsTidy sum.new }
 {
-    let mut sum = Sum::new(alloc);
+    sum.clear();
     for term in terms {
         let Some(row) = row_to_add(&facts[term.at as usize], term.by, modulus) else {
-            return Ok(None);
+            return Ok(false);
         };
         sum.add(row, term.by)?;
     }
-    Ok(Some(sum))
+    Ok(true)
 }
 
 /// The row of a fact, if it may have the multiplier.
@@ -117,8 +129,10 @@ fn row_to_add(fact: &Fact, by: i64, modulus: Option<u32>) -> Option<&Row>
 fn is_denied(sum: &mut Sum, facts: &[Fact], modulus: u32) -> Result<bool, NoMemory>
     requires modulus { 0 < modulus }
     requires ordered { All IsOrdered facts.now }
+    requires tidy { IsTidy sum.old }
     requires size { IsWithin (2 ^ 119) sum.old }
-    ensures { IfOk result (λ denied. (row : Row) → IsSum row sum.old → denied ≡ list_any (denies modulus row) facts.now) }
+    ensures denied { IfOk result (λ denied. (row : Row) → IsSum row sum.old → denied ≡ list_any (denies modulus row) facts.now) }
+    ensures tidy { IsTidy sum.new }
 {
     for fact in facts {
         if is_denied_by(sum, fact, modulus)? {
@@ -132,9 +146,11 @@ fn is_denied(sum: &mut Sum, facts: &[Fact], modulus: u32) -> Result<bool, NoMemo
 fn is_denied_by(sum: &mut Sum, fact: &Fact, modulus: u32) -> Result<bool, NoMemory>
     requires modulus { 0 < modulus }
     requires ordered { IsOrdered fact.now }
+    requires tidy { IsTidy sum.old }
     requires size { IsWithin (2 ^ 119) sum.old }
     ensures value { IfOk result (λ denied. (row : Row) → IsSum row sum.old → denied ≡ denies modulus row fact.now) }
     ensures stays { OnOk result (IsSame sum.old sum.new) }
+    ensures tidy { IsTidy sum.new }
 {
     match fact {
         Fact::NotCong(row, own) if *own == modulus => agrees(sum, row, modulus),
@@ -146,9 +162,11 @@ fn is_denied_by(sum: &mut Sum, fact: &Fact, modulus: u32) -> Result<bool, NoMemo
 fn agrees(sum: &mut Sum, row: &Row, modulus: u32) -> Result<bool, NoMemory>
     requires modulus { 0 < modulus }
     requires ascending { AreAscending row.now.terms }
+    requires tidy { IsTidy sum.old }
     requires size { IsWithin (2 ^ 119) sum.old }
     ensures value { IfOk result (λ agrees. (other : Row) → IsSum other sum.old → agrees ≡ vanishes modulus (add_rows other (times (negsuc 0) row.now))) }
     ensures stays { OnOk result (IsSame sum.old sum.new) }
+    ensures tidy { IsTidy sum.new }
 {
     sum.add(row, -1)?;
     let agrees = sum.vanishes(modulus);

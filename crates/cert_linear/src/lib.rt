@@ -9,6 +9,3 @@ mod trail;
 
 pub use closing::{linear_closes, residue_closes};
 pub use trail::Trail;
-
-#[cfg(test)]
-mod tests;

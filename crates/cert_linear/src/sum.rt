@@ -1,24 +1,35 @@
 //! A sum of rows.
 
-ghost use Rattle.std.specs.Prelude.{◌≡◌, ◌≤◌, ◌<◌, ◌+◌, ◌^◌, ◌+ℤ◌, ◌*ℤ◌, ℕ, true, ◌&&◌, not, ◌==◌, if◌then◌else◌, pos, negsuc, nat_abs, int_le, OnOk};
+ghost use Rattle.std.specs.Prelude.{◌≡◌, ◌≤◌, ◌<◌, ◌+◌, ◌^◌, ◌+ℤ◌, ◌*ℤ◌, ℕ, ◌&&◌, not, ◌==◌, if◌then◌else◌, pos, negsuc, nat_abs, int_le, length, true, OnOk};
 ghost use Rattle.std.specs.List.{list_all};
-ghost use Rattle.std.specs.Ordering.{nat_cmp};
-ghost use Rattle.std.specs.BTreeMap.{values, IsOrdered as KeysAscend};
 ghost use Rattle.pres_ast.specs.PredicateValue.{divides as is_multiple};
 ghost use Rattle.cert_base.specs.declared.fact.Row.{Row};
 ghost use Rattle.cert_base.specs.ClosingTests.{times, no_row, each_coefficient, vanishes as is_zero};
 ghost use Rattle.cert_linear.specs.Conditions.{AreAscending};
-ghost use Rattle.cert_linear.specs.Sums.{coefficient_of, IsSum, IsPlus, IsWithin};
+ghost use Rattle.cert_linear.specs.Sums.{coefficient_of, entry_at, IsTidy, IsSum, IsPlus, IsWithin};
 
-use cert_base::Row;
+use cert_base::{Row, SIZE_LIMIT};
 use pop_io::NoMemory;
 use std::alloc::Global;
-use std::collections::BTreeMap;
 
-/// A sum of rows, each with its multiplier. It has a coefficient for each variable of the rows, and for no other.
+/// The coefficient of a variable, and whether it is listed as touched.
+#[derive(Clone, Copy)]
+pub(crate) struct Entry {
+    sum: i128,
+    touched: bool,
+}
+
+const BLANK: Entry = Entry {
+    sum: 0,
+    touched: false,
+};
+
+/// A sum of rows, each with its multiplier: an entry for each variable up to the greatest that was ever given. It is
+/// used again for the next sum, and only the entries that were touched are cleared and looked at.
 #[derive(Drop)]
 pub(crate) struct Sum {
-    terms: BTreeMap<u32, i128>,
+    entries: Vec<Entry>,
+    touched: Vec<u32>,
     constant: i128,
 }
 
@@ -26,20 +37,37 @@ impl Sum {
     pub(crate) fn new(alloc: Global) -> Sum
         ensures sum { IsSum no_row result }
         ensures size { IsWithin 0 result }
+        ensures tidy { IsTidy result }
     {
         Sum {
-            terms: BTreeMap::new(alloc),
+            entries: Vec::new(alloc),
+            touched: Vec::new(alloc),
             constant: 0,
         }
     }
 
+    /// The sum of no rows.
+    pub(crate) fn clear(&mut self)
+        requires { IsTidy self.old }
+        ensures sum { IsSum no_row self.new }
+        ensures size { IsWithin 0 self.new }
+        ensures tidy { IsTidy self.new }
+    {
+        while let Some(variable) = self.touched.pop() {
+            self.entries[variable as usize] = BLANK;
+        }
+        self.constant = 0;
+    }
+
     /// Adds a row times a number.
     pub(crate) fn add(&mut self, row: &Row, by: i64) -> Result<(), NoMemory>
+        requires tidy { IsTidy self.old }
         requires ascending { AreAscending row.now.terms }
-        requires small { nat_abs by ≤ 2 ^ 40 }
+        requires small { nat_abs by ≤ SIZE_LIMIT }
         requires room { IsWithin (2 ^ 120) self.old }
         ensures plus { OnOk result (IsPlus (times by row.now) self.old self.new) }
         ensures size { (size : ℕ) → IsWithin size self.old → OnOk result (IsWithin (size + 2 ^ 103) self.new) }
+        ensures tidy { IsTidy self.new }
     {
         for term in row.terms.as_slice() {
             self.enter(term.at, product(by, term.by))?;
@@ -50,21 +78,64 @@ impl Sum {
 
     /// Adds to the coefficient of one variable.
     fn enter(&mut self, variable: u32, by: i128) -> Result<(), NoMemory>
+        requires tidy { IsTidy self.old }
         requires small { nat_abs by ≤ 2 ^ 103 }
         requires room { nat_abs (coefficient_of self.old variable) ≤ 2 ^ 121 }
         ensures terms { OnOk result ((q : ℕ) → coefficient_of self.new q ≡ (coefficient_of self.old q +ℤ (if variable == q then by else pos 0))) }
         ensures constant { self.new.constant ≡ self.old.constant }
+        ensures tidy { IsTidy self.new }
     {
-        if let Some(coefficient) = self.terms.get_mut(&variable) {
-            *coefficient += by;
+        self.reach(variable)?;
+        self.touch(variable)?;
+        self.entries[variable as usize].sum += by;
+        Ok(())
+    }
+
+    /// Adds blank entries up to that of a variable.
+    fn reach(&mut self, variable: u32) -> Result<(), NoMemory>
+        requires { IsTidy self.old }
+        ensures reached { OnOk result (variable < length self.new.entries.items) }
+        ensures same { (q : ℕ) → coefficient_of self.new q ≡ coefficient_of self.old q }
+        ensures constant { self.new.constant ≡ self.old.constant }
+        ensures tidy { IsTidy self.new }
+    {
+        while self.entries.len() <= variable as usize {
+            self.entries.push(BLANK)?;
+        }
+        Ok(())
+    }
+
+    /// Lists a variable as touched.
+    fn touch(&mut self, variable: u32) -> Result<(), NoMemory>
+        requires tidy { IsTidy self.old }
+        requires reached { variable < length self.old.entries.items }
+        ensures reached { length self.new.entries.items ≡ length self.old.entries.items }
+        ensures touched { OnOk result ((entry_at self.new.entries.items variable).touched ≡ true) }
+        ensures same { (q : ℕ) → coefficient_of self.new q ≡ coefficient_of self.old q }
+        ensures constant { self.new.constant ≡ self.old.constant }
+        ensures tidy { IsTidy self.new }
+    {
+        if self.entries[variable as usize].touched {
             return Ok(());
         }
-        self.terms.insert(variable, by)?;
+        self.touched.push(variable)?;
+        self.entries[variable as usize].touched = true;
         Ok(())
+    }
+
+    /// The coefficient of a variable.
+    fn coefficient(&self, variable: u32) -> i128
+        ensures { result ≡ coefficient_of self.now variable }
+    {
+        match self.entries.get(variable as usize) {
+            Some(entry) => entry.sum,
+            None => 0,
+        }
     }
 
     /// Whether the sum is below 0 at all counts: no coefficient is above 0, and the constant is below 0.
     pub(crate) fn is_negative(&self) -> bool
+        requires { IsTidy self.now }
         ensures { (row : Row) → IsSum row self.now → result ≡ (each_coefficient (λ a. int_le a (pos 0)) row && int_le row.constant (negsuc 0)) }
     {
         self.has_negative_constant() && self.has_no_positive()
@@ -77,15 +148,15 @@ impl Sum {
     }
 
     fn has_no_positive(&self) -> bool
-        ensures value { result ≡ list_all (λ a. int_le a (pos 0)) (values self.now.terms) }
-        ensures ordered { KeysAscend nat_cmp self.now.terms }
+        ensures { result ≡ list_all (λ q. int_le (coefficient_of self.now q) (pos 0)) self.now.touched.items }
     {
-        self.terms.values().all(|a| *a <= 0)
+        self.touched.iter().all(|q| self.coefficient(*q) <= 0)
     }
 
     /// Whether all coefficients and the constant are multiples of the modulus.
     pub(crate) fn vanishes(&self, modulus: u32) -> bool
-        requires { 0 < modulus }
+        requires modulus { 0 < modulus }
+        requires tidy { IsTidy self.now }
         ensures { (row : Row) → IsSum row self.now → result ≡ is_zero modulus row }
     {
         self.has_multiples(modulus) && divides(modulus, self.constant)
@@ -93,14 +164,16 @@ impl Sum {
 
     /// Whether all coefficients are multiples of the modulus, and the constant is none.
     pub(crate) fn is_constant(&self, modulus: u32) -> bool
-        requires { 0 < modulus }
+        requires modulus { 0 < modulus }
+        requires tidy { IsTidy self.now }
         ensures { (row : Row) → IsSum row self.now → result ≡ (each_coefficient (is_multiple modulus) row && not (is_multiple modulus row.constant)) }
     {
         self.has_multiples(modulus) && !divides(modulus, self.constant)
     }
 
     fn has_multiples(&self, modulus: u32) -> bool
-        requires { 0 < modulus }
+        requires modulus { 0 < modulus }
+        requires tidy { IsTidy self.now }
         ensures { (row : Row) → IsSum row self.now → result ≡ each_coefficient (is_multiple modulus) row }
     {
         self.has_multiple_values(modulus)
@@ -108,15 +181,16 @@ impl Sum {
 
     fn has_multiple_values(&self, modulus: u32) -> bool
         requires { 0 < modulus }
-        ensures value { result ≡ list_all (is_multiple modulus) (values self.now.terms) }
-        ensures ordered { KeysAscend nat_cmp self.now.terms }
+        ensures { result ≡ list_all (λ q. is_multiple modulus (coefficient_of self.now q)) self.now.touched.items }
     {
-        self.terms.values().all(|a| divides(modulus, *a))
+        self.touched
+            .iter()
+            .all(|q| divides(modulus, self.coefficient(*q)))
     }
 }
 
 fn product(a: i64, b: i64) -> i128
-    requires { nat_abs a ≤ 2 ^ 40 }
+    requires { nat_abs a ≤ SIZE_LIMIT }
     ensures value { result ≡ a *ℤ b }
     ensures size { nat_abs result ≤ 2 ^ 103 }
 {

@@ -3,15 +3,18 @@
 ghost use Rattle.std.specs.Prelude.{◌≡◌, ◌≤◌, length};
 
 use crate::closing::{linear, residue};
-use cert_base::{Fact, Term};
+use crate::sum::Sum;
+use cert_base::{FACT_LIMIT, Fact, Term};
 use pop_io::{List, NoMemory};
 use std::alloc::Global;
 use std::marker::Model;
 
-/// At most 65,536 facts, of which the last ones can be cut off. Contracts see it as their list.
+/// At most `FACT_LIMIT` facts, of which the last ones can be cut off. Contracts see it as their list.
 #[derive(Drop)]
 pub struct Trail {
     facts: Vec<Fact>,
+    /// Used again for each sum of facts.
+    sum: Sum,
 }
 
 impl Model for Trail {
@@ -19,6 +22,8 @@ impl Model for Trail {
     ghost use Rattle.cert_base.specs.declared.fact.Fact.{Fact};
     ghost use Rattle.cert_base.specs.contracts.fact.Fact as fact;
     ghost use Rattle.std.specs.Coded.{coded_list};
+    ghost use Rattle.cert_base.specs.declared.limits.TheConstants.{FACT_LIMIT};
+    ghost use Rattle.cert_linear.specs.Sums.{IsTidy};
 
     ghost Value = { Items Fact };
 
@@ -26,7 +31,7 @@ impl Model for Trail {
 
     ghost view = { λ t. t.facts.items };
 
-    ghost invariant = { λ t. length t.facts.items ≤ 65536 };
+    ghost invariant = { λ t. (length t.facts.items ≤ FACT_LIMIT) × IsTidy t.sum };
 }
 
 impl Trail {
@@ -35,25 +40,26 @@ impl Trail {
     ghost use Rattle.cert_base.specs.Ends.{AreRefuted};
     ghost use Rattle.cert_linear.specs.Conditions.{IsOrdered, AreMultipliers, AreNamed};
 
-    /// It takes no memory.
-    pub fn new(facts: List<Fact>) -> Trail
-        requires { length facts ≤ 65536 }
+    /// It allocates nothing.
+    pub fn new(alloc: Global, facts: List<Fact>) -> Trail
+        requires { length facts ≤ FACT_LIMIT }
         ensures { result ≡ facts }
     {
         Trail {
             facts: facts.into_vec(),
+            sum: Sum::new(alloc),
         }
     }
 
-    /// The number of facts, at most 65,536. It takes no memory.
+    /// The number of facts. It allocates nothing.
     pub fn len(&self) -> u32
         ensures length { result ≡ length self.now }
-        ensures limit { result ≤ 65536 }
+        ensures limit { result ≤ FACT_LIMIT }
     {
         self.facts.len() as u32
     }
 
-    /// It takes no memory.
+    /// It allocates nothing.
     pub fn fact(&self, i: u32) -> &Fact
         requires { i < length self.now }
         ensures { slice_get self.now i ≡ Some result.now }
@@ -63,7 +69,7 @@ impl Trail {
 
     /// Adds a fact at the end. A refusal hands the fact back, and the trail is as before.
     pub fn add(&mut self, fact: Fact) -> Result<(), (Fact, NoMemory)>
-        requires { length self.old < 65536 }
+        requires { length self.old < FACT_LIMIT }
         ensures added { OnOk result (self.new ≡ self.old ++ fact ∷ []) }
         ensures refused { IfErr result (λ refusal. refusal.0 ≡ fact) }
         ensures unchanged { OnErr result (self.new ≡ self.old) }
@@ -74,7 +80,7 @@ impl Trail {
         }
     }
 
-    /// Leaves the first facts, so many. It takes no memory.
+    /// Leaves the first facts, so many. It allocates nothing.
     pub fn cut(&mut self, len: u32)
         requires { len ≤ length self.old }
         ensures { self.new ≡ take len self.old }
@@ -83,25 +89,32 @@ impl Trail {
     }
 
     /// Whether the facts are refuted as by `linear_closes`.
-    pub fn linear(&self, alloc: Global, terms: &List<Term>) -> Result<bool, NoMemory>
-        requires named { AreNamed (length self.now) terms.now }
+    pub fn linear(&mut self, terms: &List<Term>) -> Result<bool, NoMemory>
+        requires named { AreNamed (length self.old) terms.now }
         requires multipliers { AreMultipliers terms.now }
-        requires ordered { All IsOrdered self.now }
-        ensures closes { IfOk result (λ closes. closes ≡ closes_by_sum self.now terms.now) }
-        ensures refutes { IfOk result (λ closes. IsTrue closes → AreRefuted self.now) }
+        requires ordered { All IsOrdered self.old }
+        ensures closes { IfOk result (λ closes. closes ≡ closes_by_sum self.old terms.now) }
+        ensures refutes { IfOk result (λ closes. IsTrue closes → AreRefuted self.old) }
+        ensures unchanged { self.new ≡ self.old }
     {
-        linear(alloc, self.facts.as_slice(), terms.as_slice())
+        linear(&mut self.sum, self.facts.as_slice(), terms.as_slice())
     }
 
     /// Whether the facts are refuted as by `residue_closes`.
-    pub fn residue(&self, alloc: Global, modulus: u32, terms: &List<Term>) -> Result<bool, NoMemory>
-        requires named { AreNamed (length self.now) terms.now }
+    pub fn residue(&mut self, modulus: u32, terms: &List<Term>) -> Result<bool, NoMemory>
+        requires named { AreNamed (length self.old) terms.now }
         requires multipliers { AreMultipliers terms.now }
         requires modulus { 0 < modulus }
-        requires ordered { All IsOrdered self.now }
-        ensures closes { IfOk result (λ closes. closes ≡ closes_by_residue self.now modulus terms.now) }
-        ensures refutes { IfOk result (λ closes. IsTrue closes → AreRefuted self.now) }
+        requires ordered { All IsOrdered self.old }
+        ensures closes { IfOk result (λ closes. closes ≡ closes_by_residue self.old modulus terms.now) }
+        ensures refutes { IfOk result (λ closes. IsTrue closes → AreRefuted self.old) }
+        ensures unchanged { self.new ≡ self.old }
     {
-        residue(alloc, self.facts.as_slice(), modulus, terms.as_slice())
+        residue(
+            &mut self.sum,
+            self.facts.as_slice(),
+            modulus,
+            terms.as_slice(),
+        )
     }
 }

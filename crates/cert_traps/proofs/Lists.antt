@@ -12,6 +12,7 @@ use Rattle.cert_base.specs.FactsAndCases.{indicator, places_from, states_of, is_
 use Rattle.cert_base.proofs.FlowRows.{take_one_more}
 use Rattle.cert_traps.specs.Facts.{zero_if, alone_if}
 use Rattle.cert_traps.specs.Partners.{ArePartners}
+use Rattle.pop_net.specs.declared.limits.TheConstants.{STATE_LIMIT}
 use Rattle.pop_net.specs.declared.leaf.Move.{Move}
 use Rattle.pop_net.specs.LeafModel.{LeafModel, IsLeaf, IsMoveBelow}
 use Rattle.pop_net.proofs.Quiet.{All-slice_get}
@@ -95,10 +96,11 @@ moves_zero leaf test first flags start facts at e f =
     ∙ ap (λ fs. map (λ t. Eq (single_row (move_variable leaf t) (pos 1) (pos 0))) (places_from 0 (λ flag. flag) fs)) e
     ∙ ap (map (λ t. Eq (single_row (move_variable leaf t) (pos 1) (pos 0)))) (places_from-flags 0 test leaf.moves))
 
-pub inputs_zero : (leaf : LeafModel) (set : List ℕ) (flags : List Bool) (start facts : List Fact) → flags ≡ map (is_in set) leaf.inputs → facts ≡ start ++ map (λ t. Eq (single_row (0 + t) (pos 1) (pos 0))) (places_from 0 (λ flag. flag) flags) → facts ≡ start ++ none_started leaf set
-inputs_zero leaf set flags start facts e f =
+pub inputs_zero : (leaf : LeafModel) (set : List ℕ) (first : ℕ) (flags : List Bool) (start facts : List Fact) → first ≡ 0 → flags ≡ map (is_in set) leaf.inputs → facts ≡ start ++ map (λ t. Eq (single_row (first + t) (pos 1) (pos 0))) (places_from 0 (λ flag. flag) flags) → facts ≡ start ++ none_started leaf set
+inputs_zero leaf set first flags start facts z e f =
     let plain : ◌≡◌ {A = ℕ → Fact} (λ t. Eq (single_row (0 + t) (pos 1) (pos 0))) (λ t. Eq (single_row t (pos 1) (pos 0))) = λ i t. Eq (single_row (zero-add t i) (pos 1) (pos 0)) in
     f
+    ∙ ap (λ n. start ++ map (λ t. Eq (single_row (n + t) (pos 1) (pos 0))) (places_from 0 (λ flag. flag) flags)) z
     ∙ ap (λ fs. start ++ fs) (ap (λ g. map g (places_from 0 (λ flag. flag) flags)) plain
     ∙ ap (λ fs. map (λ t. Eq (single_row t (pos 1) (pos 0))) (places_from 0 (λ flag. flag) fs)) e
     ∙ ap (map (λ t. Eq (single_row t (pos 1) (pos 0)))) (places_from-flags 0 (is_in set) leaf.inputs))
@@ -168,7 +170,7 @@ unmet_all leaf p q flag table before after are l all is b e =
     ∙ ap (λ b. (occurs leaf p ∷ map (absent leaf) (filter (λ q. not (q == p) && can_meet leaf p q) (states_of leaf))) ++ alone_if leaf p b) (is ∙ partner_is leaf p p table are l)
 
 -- the states of a move are below the greatest number that a leaf may have
-pub move_small : (leaf : LeafModel) (t : ℕ) (taken : Move) → IsLeaf leaf → slice_get leaf.moves t ≡ Some taken → IsMoveBelow 256 taken
+pub move_small : (leaf : LeafModel) (t : ℕ) (taken : Move) → IsLeaf leaf → slice_get leaf.moves t ≡ Some taken → IsMoveBelow STATE_LIMIT taken
 move_small leaf t taken is h =
     let below = All-slice_get (IsMoveBelow (length leaf.states)) leaf.moves t taken is.moves h in
     let few = is.states in
@@ -180,12 +182,12 @@ read_is xs i j b e at l =
     let h = slice_get_read xs (length xs) j b refl l (e ∙ ap (λ n. get_or xs n b) at) in
     sym (get_or_from_slice_get xs j b false h)
 
-pub contains_is : (listed set : List ℕ) (inside : List Bool) (i q : ℕ) (b : Bool) → b ≡ get_or inside i b → i ≡ q → q < 256 → inside ≡ map (is_in listed) (range_with_len 0 256) → listed ≡ set → b ≡ is_in set q
+pub contains_is : (listed set : List ℕ) (inside : List Bool) (i q : ℕ) (b : Bool) → b ≡ get_or inside i b → i ≡ q → q < STATE_LIMIT → inside ≡ map (is_in listed) (range_with_len 0 STATE_LIMIT) → listed ≡ set → b ≡ is_in set q
 contains_is listed set inside i q b e at l table same =
     e
     ∙ ap (λ n. get_or inside n b) at
     ∙ ap (λ xs. get_or xs q b) table
-    ∙ get_or-map-range_with_len (is_in listed) 0 256 q q b l (zero-add q)
+    ∙ get_or-map-range_with_len (is_in listed) 0 STATE_LIMIT q q b l (zero-add q)
     ∙ ap (λ s. is_in s q) same
 
 pub three_cases : (empty one two three : List (List Fact)) (a b c a' b' c' : List Fact) → empty ≡ [] → one ≡ empty ++ a ∷ [] → two ≡ one ++ b ∷ [] → three ≡ two ++ c ∷ [] → a ≡ a' → b ≡ b' → c ≡ c' → three ≡ a' ∷ b' ∷ c' ∷ []

@@ -1,11 +1,12 @@
 -- At the end of an execution the counts meet all facts of one of the cases of a `Siphon` node.
 use Rattle.std.proofs.Common.{◌≡◌, ◌≢◌, ◌⊎◌, inl, inr, ℕ, suc, ◌+◌, ◌<◌, ◌≤◌, Bool, true, false, not, ◌&&◌, List, [], ◌∷◌, ◌++◌, length, map, replicate, refl, ap, sym, subst, ◌∙◌, zero-add, arith}
-use Rattle.std.specs.Prelude.{Some, pos, negsuc, ◌==◌, slice_get, slice_set, slice_index, All}
+use Rattle.std.specs.Prelude.{Some, pos, negsuc, ◌==◌, slice_get, slice_set, slice_index, All, count_by, ◌-ℤ◌}
 use Rattle.std.proofs.lemmas.Int.{ints}
 use Rattle.std.proofs.lemmas.Bool.{eq-eqb, cases_lt}
 use Rattle.std.proofs.lemmas.Bool.Decides.{eqb_tells}
 use Rattle.std.proofs.lemmas.List.Elements.{All-nil, All-cons, All-map, All-append, All-replicate, All-set}
 use Rattle.std.proofs.lemmas.List.FromFn.{length-range_with_len}
+use Rattle.std.proofs.lemmas.List.Sums.{sum_by-cons}
 use Rattle.std.proofs.lemmas.Option.{slice_get_within, slice_get-get_or}
 use Rattle.pop_net.specs.declared.leaf.Move.{Move}
 use Rattle.pop_net.specs.LeafModel.{LeafModel, one_at}
@@ -17,7 +18,7 @@ use Rattle.cert_base.specs.declared.fact.Fact.{Fact}
 use Rattle.cert_base.specs.declared.fact.Fact.TheVariants.{Ge, Eq}
 use Rattle.cert_base.specs.Rows.{single_row, move_variable, input_row}
 use Rattle.cert_base.specs.Valuation.{Valuation, MeetsFact, is_by, times_taken, IsOfExecution}
-use Rattle.cert_base.specs.FactsAndCases.{indicator, states_of, is_in, takes_from, puts_into, none_taken, some_taken, count_in, siphon_cases}
+use Rattle.cert_base.specs.FactsAndCases.{indicator, states_of, is_in, takes_from, puts_into, helpers_among, none_taken, some_taken, count_in, siphon_cases}
 use Rattle.cert_base.specs.Ends.{MeetsOne}
 use Rattle.cert_base.proofs.Dead.{number_in-cons}
 use Rattle.cert_base.proofs.Numbers.{number_in}
@@ -25,7 +26,7 @@ use Rattle.cert_base.proofs.FlowFacts.{terms_value-terms_from}
 use Rattle.cert_base.proofs.Indicators.{sum_if, dot-indicators, row_value-behind, sum_if-none, sum_if-zero, all_places}
 use Rattle.cert_base.proofs.WrongEnds.{range_get}
 use Rattle.cert_base.proofs.Openings.{in_first, in_rest}
-use Rattle.cert_traps.proofs.TrapEnds.{or_false, or_left_false, or_right_false, takes_none, sum_zero, single_none}
+use Rattle.cert_traps.proofs.TrapEnds.{or_false, or_left_false, or_right_false, takes_none, sum_zero, single_none, bit}
 
 -- no agent is in a state of the set
 abbrev NoneInside : List ℕ → List ℕ → Type 0
@@ -101,6 +102,17 @@ starts_outside set start k (n ∷ counts) f =
     copies n true e g =
         subst (λ (m : ℕ). All (λ q. is_in set q ≡ false) (replicate m (start k))) (sym (g e)) (All-nil (λ (q : ℕ). is_in set q ≡ false))
 
+-- where none is counted that passes a test, all fail it
+none_pass : {A : Type 0} (test : A → Bool) (xs : List A) → count_by test xs ≡ 0 → All (λ x. test x ≡ false) xs
+none_pass test [] e = All-nil (λ x. test x ≡ false)
+none_pass {A} test (x ∷ xs) e =
+    let both = sum_zero (bit (test x)) (count_by test xs) (sym (sum_by-cons (λ y. bit (test y)) x xs) ∙ e) in
+    All-cons (λ y. test y ≡ false) x xs (fails (test x) both.0) (none_pass test xs both.1)
+  where
+    fails : (b : Bool) → bit b ≡ 0 → b ≡ false
+    fails false e = refl
+    fails true e = absurd (omega (arith, e))
+
 -- nobody is in a state of the set
 number-outside : (set : List ℕ) (q : ℕ) (crowd : List ℕ) → is_in set q ≡ true → NoneInside set crowd → number_in q crowd ≡ 0
 number-outside set q [] e none = refl
@@ -122,13 +134,18 @@ module _ (leaf : LeafModel) (set : List ℕ) (count : Valuation) (counts : List 
   not_entered e n t h l =
       sym (is.moves n (slice_get_within leaf.moves n t h)) ∙ sum_if-none count (enters_set set) places leaf.moves e n t h l
 
-  -- where no input of the set is counted, nobody starts in it
-  none_at_start : sum_if count (is_in set) 0 leaf.inputs ≡ 0 → NoneInside set (leaf_input_crowd leaf counts)
-  none_at_start e =
+  -- where no input of the set is counted, no agent of an input starts in it
+  given_outside : sum_if count (is_in set) 0 leaf.inputs ≡ 0 → NoneInside set (starts_from (λ variable. slice_index leaf.inputs variable) 0 counts)
+  given_outside e =
       starts_outside set (λ variable. slice_index leaf.inputs variable) 0 counts
       (λ i l h. let m : i < length leaf.inputs = omega (arith, l, long) in
       let there : slice_get leaf.inputs i ≡ Some (slice_index leaf.inputs i) = slice_get-get_or leaf.inputs i 0 m in
       sym (is.inputs i m) ∙ ap count (sym (zero-add i)) ∙ sum_if-none count (is_in set) 0 leaf.inputs e i (slice_index leaf.inputs i) there (ap (λ j. is_in set (slice_index leaf.inputs j)) (sym (zero-add i)) ∙ h))
+
+  -- where no input of the set is counted and no helper is in it, nobody starts in it
+  none_at_start : sum_if count (is_in set) 0 leaf.inputs ≡ 0 → helpers_among leaf set ≡ 0 → NoneInside set (leaf_input_crowd leaf counts)
+  none_at_start e none =
+      All-append (λ (q : ℕ). is_in set q ≡ false) (starts_from (λ variable. slice_index leaf.inputs variable) 0 counts) leaf.helpers (given_outside e) (none_pass (is_in set) leaf.helpers none)
 
   not_taken : ((n : ℕ) (t : Move) → slice_get leaf.moves n ≡ Some t → takes_from set t ≡ true → times_taken leaf n (leaf_input_crowd leaf counts) path end way ≡ 0) → All (MeetsFact count) (none_taken leaf (takes_from set))
   not_taken f =
@@ -153,14 +170,15 @@ module _ (leaf : LeafModel) (set : List ℕ) (count : Valuation) (counts : List 
   first_case = some_taken leaf (enters_set set) ∷ []
 
   abbrev second_case : List Fact
-  second_case = Ge (input_row (map (λ start. indicator (is_in set start)) leaf.inputs) (negsuc 0)) ∷ []
+  second_case = Ge (input_row (map (λ start. indicator (is_in set start)) leaf.inputs) (pos (helpers_among leaf set) -ℤ pos 1)) ∷ []
 
   abbrev third_case : List Fact
   third_case = none_taken leaf (takes_from set) ++ Eq (count_in leaf set (pos 0)) ∷ []
 
-  third_met : sum_if count (enters_set set) places leaf.moves ≡ 0 → sum_if count (is_in set) 0 leaf.inputs ≡ 0 → All (MeetsFact count) third_case
+  third_met : sum_if count (enters_set set) places leaf.moves ≡ 0 → sum_if count (is_in set) 0 leaf.inputs + helpers_among leaf set ≡ 0 → All (MeetsFact count) third_case
   third_met e f =
-      let on = way_on leaf set (leaf_input_crowd leaf counts) path end way (none_at_start f) (not_entered e) in
+      let given = sum_zero (sum_if count (is_in set) 0 leaf.inputs) (helpers_among leaf set) f in
+      let on = way_on leaf set (leaf_input_crowd leaf counts) path end way (none_at_start given.0 given.1) (not_entered e) in
       let row = row_value-behind count (is_in set) (length leaf.inputs) (states_of leaf) (pos 0) in
       let zero_sum = none_counted on.0 in
       All-append (MeetsFact count) (none_taken leaf (takes_from set)) (Eq (count_in leaf set (pos 0)) ∷ []) (not_taken on.1)
@@ -170,17 +188,17 @@ module _ (leaf : LeafModel) (set : List ℕ) (count : Valuation) (counts : List 
   pub siphon_met : MeetsOne count (siphon_cases leaf set)
   siphon_met = first (cases_lt 0 (sum_if count (enters_set set) places leaf.moves))
     where
-      second : sum_if count (enters_set set) places leaf.moves ≡ 0 → (0 < sum_if count (is_in set) 0 leaf.inputs) ⊎ (sum_if count (is_in set) 0 leaf.inputs ≤ 0) → MeetsOne count (siphon_cases leaf set)
+      second : sum_if count (enters_set set) places leaf.moves ≡ 0 → (0 < sum_if count (is_in set) 0 leaf.inputs + helpers_among leaf set) ⊎ (sum_if count (is_in set) 0 leaf.inputs + helpers_among leaf set ≤ 0) → MeetsOne count (siphon_cases leaf set)
       second e (inl l) =
           let terms = terms_value-terms_from count 0 (map (λ start. indicator (is_in set start)) leaf.inputs) in
           let sum = dot-indicators count (is_in set) 0 leaf.inputs in
-          in_rest count first_case (second_case ∷ third_case ∷ []) (in_first count second_case (third_case ∷ []) (All-cons (MeetsFact count) (Ge (input_row (map (λ start. indicator (is_in set start)) leaf.inputs) (negsuc 0))) [] (omega (arith, ints, terms, sum, l)) (All-nil (MeetsFact count))))
+          in_rest count first_case (second_case ∷ third_case ∷ []) (in_first count second_case (third_case ∷ []) (All-cons (MeetsFact count) (Ge (input_row (map (λ start. indicator (is_in set start)) leaf.inputs) (pos (helpers_among leaf set) -ℤ pos 1))) [] (omega (arith, ints, terms, sum, l)) (All-nil (MeetsFact count))))
       second e (inr l) =
-          in_rest count first_case (second_case ∷ third_case ∷ []) (in_rest count second_case (third_case ∷ []) (in_first count third_case [] (third_met e (let f : sum_if count (is_in set) 0 leaf.inputs ≡ 0 = omega (arith, l) in f))))
+          in_rest count first_case (second_case ∷ third_case ∷ []) (in_rest count second_case (third_case ∷ []) (in_first count third_case [] (third_met e (let f : sum_if count (is_in set) 0 leaf.inputs + helpers_among leaf set ≡ 0 = omega (arith, l) in f))))
 
       first : (0 < sum_if count (enters_set set) places leaf.moves) ⊎ (sum_if count (enters_set set) places leaf.moves ≤ 0) → MeetsOne count (siphon_cases leaf set)
       first (inl l) =
           let value = row_value-behind count (enters_set set) places leaf.moves (negsuc 0) in
           in_first count first_case (second_case ∷ third_case ∷ []) (All-cons (MeetsFact count) (some_taken leaf (enters_set set)) [] (omega (arith, ints, value, l)) (All-nil (MeetsFact count)))
       first (inr l) =
-          second (let e : sum_if count (enters_set set) places leaf.moves ≡ 0 = omega (arith, l) in e) (cases_lt 0 (sum_if count (is_in set) 0 leaf.inputs))
+          second (let e : sum_if count (enters_set set) places leaf.moves ≡ 0 = omega (arith, l) in e) (cases_lt 0 (sum_if count (is_in set) 0 leaf.inputs + helpers_among leaf set))

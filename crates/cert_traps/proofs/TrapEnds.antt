@@ -1,11 +1,12 @@
 -- At the end of an execution the counts meet all facts of one of the cases of a `Trap` node.
 use Rattle.std.proofs.Common.{◌≡◌, ◌≢◌, ◌⊎◌, inl, inr, ℕ, zero, suc, ◌+◌, ◌<◌, ◌≤◌, Bool, true, false, not, ◌&&◌, ◌||◌, List, [], ◌∷◌, ◌++◌, length, replicate, refl, ap, sym, subst, ◌∙◌, zero-add, arith}
-use Rattle.std.specs.Prelude.{Some, pos, negsuc, ◌==◌, slice_get, slice_set, slice_index, All}
+use Rattle.std.specs.Prelude.{Some, pos, negsuc, ◌==◌, slice_get, slice_set, slice_index, All, count_by, if◌then◌else◌}
 use Rattle.std.specs.List.{range_with_len}
 use Rattle.std.proofs.lemmas.Int.{ints}
 use Rattle.std.proofs.lemmas.Bool.{eq-eqb, cases_lt}
 use Rattle.std.proofs.lemmas.Bool.Decides.{eqb_tells}
 use Rattle.std.proofs.lemmas.List.Elements.{All-nil, All-cons, All-map, All-append}
+use Rattle.std.proofs.lemmas.List.Sums.{sum_by-cons}
 use Rattle.std.proofs.lemmas.Option.{slice_get_within, get_or_from_slice_get}
 use Rattle.pop_net.specs.declared.leaf.Move.{Move}
 use Rattle.pop_net.specs.LeafModel.{LeafModel, one_at}
@@ -15,9 +16,9 @@ use Rattle.pop_net.specs.Step.{Follows, LeafChange, LeafStep}
 use Rattle.pop_net.proofs.Quiet.{All-slice_get}
 use Rattle.cert_base.specs.declared.fact.Fact.{Fact}
 use Rattle.cert_base.specs.declared.fact.Fact.TheVariants.{Ge, Eq}
-use Rattle.cert_base.specs.Rows.{single_row, input_variable, move_variable}
+use Rattle.cert_base.specs.Rows.{single_row, constant_row, input_variable, move_variable}
 use Rattle.cert_base.specs.Valuation.{Valuation, MeetsFact, is_by, times_taken, IsOfExecution}
-use Rattle.cert_base.specs.FactsAndCases.{states_of, is_in, takes_from, puts_into, none_taken, none_started, some_taken, count_in, trap_cases}
+use Rattle.cert_base.specs.FactsAndCases.{states_of, is_in, takes_from, puts_into, helpers_among, none_taken, none_started, none_helps, some_taken, count_in, trap_cases}
 use Rattle.cert_base.proofs.Agents.{InRange}
 use Rattle.cert_base.proofs.Dead.{one_there}
 use Rattle.cert_base.proofs.Indicators.{sum_if, row_value-behind, sum_if-none, all_places}
@@ -124,6 +125,11 @@ way_back leaf set start (next ∷ path) end way none leaves =
     let first = step_back leaf set start next way.0 later.0 way.0.change (λ n t h e. (sum_zero (is_by n way.0.change) (times_taken leaf n next path end way.1) (leaves n t h e)).0) in
     (first.0, λ n t h e. (let a = first.1 n t h e in let b = later.1 n t h e in let f : is_by n way.0.change + times_taken leaf n next path end way.1 ≡ 0 = omega (arith, a, b) in f))
 
+get-append_left : {A : Type 0} (xs ys : List A) (a : ℕ) (x : A) → slice_get xs a ≡ Some x → slice_get (xs ++ ys) a ≡ Some x
+get-append_left [] ys a x h = cc
+get-append_left (y ∷ xs) ys zero x h = h
+get-append_left (y ∷ xs) ys (suc a) x h = get-append_left xs ys a x h
+
 get-append_right : {A : Type 0} (xs ys : List A) (a : ℕ) → slice_get (xs ++ ys) (length xs + a) ≡ slice_get ys a
 get-append_right [] ys a = ap (slice_get ys) (zero-add a)
 get-append_right (x ∷ xs) ys a =
@@ -146,7 +152,32 @@ start_has start k (n ∷ counts) (suc i) l =
 
 -- an agent of an input that is there
 start_state : (leaf : LeafModel) (counts : List ℕ) (j : ℕ) → 1 ≤ slice_index counts j → (a : ℕ) × (slice_get (leaf_input_crowd leaf counts) a ≡ Some (slice_index leaf.inputs (0 + j)))
-start_state leaf counts j l = start_has (λ variable. slice_index leaf.inputs variable) 0 counts j l
+start_state leaf counts j l =
+    let start = λ (variable : ℕ). slice_index leaf.inputs variable in
+    let s = start_has start 0 counts j l in
+    (s.0, get-append_left (starts_from start 0 counts) leaf.helpers s.0 (slice_index leaf.inputs (0 + j)) s.1)
+
+-- 1 when a test passes, and 0 otherwise
+abbrev pub bit : Bool → ℕ
+bit passes = if passes then 1 else 0
+
+bit_none : (b : Bool) → b ≡ false → bit b ≡ 0
+bit_none b e = ap bit e
+
+-- no item passes a test that none of the items passes
+count_by-none : {A : Type 0} (test : A → Bool) (xs : List A) → ((a : ℕ) (x : A) → slice_get xs a ≡ Some x → test x ≡ false) → count_by test xs ≡ 0
+count_by-none test [] f = refl
+count_by-none test (x ∷ xs) f =
+    let rest = count_by-none test xs (λ a y h. f (suc a) y h) in
+    let here = bit_none (test x) (f 0 x refl) in
+    let all : count_by test (x ∷ xs) ≡ bit (test x) + count_by test xs = sum_by-cons (λ y. bit (test y)) x xs in
+    omega (arith, all, here, rest)
+
+-- where nobody starts in the set, no helper does
+helps-none : (leaf : LeafModel) (set counts : List ℕ) → NoneIn set (leaf_input_crowd leaf counts) → helpers_among leaf set ≡ 0
+helps-none leaf set counts none =
+    let starts = starts_from (λ variable. slice_index leaf.inputs variable) 0 counts in
+    count_by-none (is_in set) leaf.helpers (λ a x h. none (length starts + a) x (get-append_right starts leaf.helpers a ∙ h))
 
 pub range_get : (a n j : ℕ) → j < n → slice_get (range_with_len a n) j ≡ Some (a + j)
 range_get a zero j l = absurd (omega arith)
@@ -207,7 +238,12 @@ module _ (leaf : LeafModel) (set : List ℕ) (count : Valuation) (counts : List 
   first_case = some_taken leaf (leaves_set set) ∷ []
 
   abbrev second_case : List Fact
-  second_case = none_taken leaf (puts_into set) ++ none_started leaf set ++ Eq (count_in leaf set (pos 0)) ∷ []
+  second_case = none_taken leaf (puts_into set) ++ none_started leaf set ++ Eq (count_in leaf set (pos 0)) ∷ none_helps leaf set
+
+  not_helped : NoneIn set (leaf_input_crowd leaf counts) → All (MeetsFact count) (none_helps leaf set)
+  not_helped none =
+      let zero_helpers : (helpers_among leaf set == 0) ≡ true = eq-eqb (helpers_among leaf set) 0 (helps-none leaf set counts none) in
+      subst (λ (b : Bool). All (MeetsFact count) (if b then [] else (Eq (constant_row (pos (helpers_among leaf set))) ∷ []))) (sym zero_helpers) (All-nil (MeetsFact count))
 
   abbrev third_case : List Fact
   third_case = Ge (count_in leaf set (negsuc 0)) ∷ []
@@ -226,9 +262,9 @@ module _ (leaf : LeafModel) (set : List ℕ) (count : Valuation) (counts : List 
           let value = row_value-behind count (is_in set) (length leaf.inputs) (states_of leaf) (pos 0) in
           in_rest count first_case (second_case ∷ third_case ∷ [])
           (in_first count second_case (third_case ∷ [])
-          (All-append (MeetsFact count) (none_taken leaf (puts_into set) ++ none_started leaf set) (Eq (count_in leaf set (pos 0)) ∷ [])
+          (All-append (MeetsFact count) (none_taken leaf (puts_into set) ++ none_started leaf set) (Eq (count_in leaf set (pos 0)) ∷ none_helps leaf set)
           (All-append (MeetsFact count) (none_taken leaf (puts_into set)) (none_started leaf set) (not_taken back.1) (not_started back.0))
-          (All-cons (MeetsFact count) (Eq (count_in leaf set (pos 0))) [] (omega (arith, ints, value, zero_sum)) (All-nil (MeetsFact count)))))
+          (All-cons (MeetsFact count) (Eq (count_in leaf set (pos 0))) (none_helps leaf set) (omega (arith, ints, value, zero_sum)) (not_helped back.0))))
 
       first : (0 < sum_if count (leaves_set set) places leaf.moves) ⊎ (sum_if count (leaves_set set) places leaf.moves ≤ 0) → MeetsOne count (trap_cases leaf set)
       first (inl l) =

@@ -14,6 +14,3 @@ mod trap;
 pub use present::{present_cases, twin_case};
 pub use siphon::siphon_cases;
 pub use trap::trap_cases;
-
-#[cfg(test)]
-mod tests;

@@ -1,14 +1,13 @@
 //! What a terminal end says of one state.
 
 ghost use Rattle.std.specs.Prelude.{◌≡◌, ◌<◌, ◌≤◌, ◌^◌, ◌∷◌, ◌++◌, ◌==◌, ◌&&◌, not, [], length, map, filter, if◌then◌else◌, slice_index_or, false, Some, None, IfOk, OnOk, IfSome};
-ghost use Rattle.cert_base.specs.Rows.{state_variable as variable_of};
 ghost use Rattle.cert_base.specs.FactsAndCases.{states_of, can_meet, absent as absent_fact, occurs as occurs_fact, alone as alone_fact, not_twice, present_cases as present_list, twin_case as twin_list};
 ghost use Rattle.cert_base.specs.Ends.{Cover};
 ghost use Rattle.cert_traps.specs.Facts.{alone_if};
 
 use crate::facts::{is_zero, only, push_zero};
 use crate::partners::partners;
-use cert_base::{Fact, Row};
+use cert_base::{Fact, Row, variable_of_state};
 use pop_io::{List, NoMemory};
 use pop_net::Leaf;
 use std::alloc::Global;
@@ -43,7 +42,7 @@ fn twin(alloc: Global, leaf: &Leaf, state: u16, meets: bool) -> Result<Option<Li
     if !meets {
         return Ok(None);
     }
-    let row = Row::single(alloc, state_variable(leaf, state), -1, 1)?;
+    let row = Row::single(alloc, variable_of_state(leaf, state), -1, 1)?;
     Ok(Some(only(alloc, Fact::Ge(row))?))
 }
 
@@ -58,7 +57,7 @@ fn unmet(alloc: Global, leaf: &Leaf, state: u16) -> Result<List<Fact>, NoMemory>
     facts.push(occurs(alloc, leaf, state)?)?;
     for q in 0..leaf.state_count() {
         let meets = meets_other(partners.as_slice(), state, q);
-        push_zero(alloc, &mut facts, state_variable(leaf, q), meets)?;
+        push_zero(alloc, &mut facts, variable_of_state(leaf, q), meets)?;
     }
     push_alone(alloc, &mut facts, leaf, state, partners[usize::from(state)])?;
     Ok(List::from_vec(facts))
@@ -75,13 +74,13 @@ fn meets_other(partners: &[bool], state: u16, q: u16) -> bool
 fn absent(alloc: Global, leaf: &Leaf, q: u16) -> Result<Fact, NoMemory>
     ensures { IfOk result (λ fact. fact ≡ absent_fact leaf.now q) }
 {
-    is_zero(alloc, state_variable(leaf, q))
+    is_zero(alloc, variable_of_state(leaf, q))
 }
 
 fn occurs(alloc: Global, leaf: &Leaf, q: u16) -> Result<Fact, NoMemory>
     ensures { IfOk result (λ fact. fact ≡ occurs_fact leaf.now q) }
 {
-    Ok(Fact::Ge(Row::single(alloc, state_variable(leaf, q), 1, -1)?))
+    Ok(Fact::Ge(Row::single(alloc, variable_of_state(leaf, q), 1, -1)?))
 }
 
 /// Adds that the state occurs once, where the flag is set.
@@ -95,14 +94,8 @@ fn push_alone(
     ensures { OnOk result (facts.new.items ≡ facts.old.items ++ alone_if leaf.now q flag) }
 {
     if flag {
-        let row = Row::single(alloc, state_variable(leaf, q), 1, -1)?;
+        let row = Row::single(alloc, variable_of_state(leaf, q), 1, -1)?;
         facts.push(Fact::Eq(row))?;
     }
     Ok(())
-}
-
-fn state_variable(leaf: &Leaf, q: u16) -> u32
-    ensures { result ≡ variable_of leaf.now q }
-{
-    u32::from(leaf.input_count()) + u32::from(q)
 }

@@ -6,7 +6,7 @@ ghost use Rattle.cert_traps.specs.Roles.{passes as passes_role};
 
 use crate::set::StateSet;
 use pop_io::NoMemory;
-use pop_net::{Leaf, Move};
+use pop_net::{Leaf, Move, STATE_LIMIT};
 use std::alloc::Global;
 
 #[derive(Clone, Copy)]
@@ -39,7 +39,7 @@ pub(crate) fn move_flags(
 }
 
 fn passes(set: &StateSet, taken: Move, role: Role) -> bool
-    requires { IsMoveBelow 256 taken }
+    requires { IsMoveBelow STATE_LIMIT taken }
     ensures { result ≡ passes_role set.now role taken }
 {
     let takes = set.contains(taken.p) || set.contains(taken.q);

@@ -3,15 +3,12 @@
 ghost use Rattle.std.specs.Prelude.{◌≡◌, ◌<◌, map, IfOk};
 ghost use Rattle.std.specs.List.{range_with_len};
 ghost use Rattle.pop_net.specs.LeafModel.{IsLeaf};
-ghost use Rattle.cert_base.specs.FactsAndCases.{is_in, states_of};
+ghost use Rattle.cert_base.specs.FactsAndCases.{is_in, states_of, helpers_among};
 
 use pop_io::{List, NoMemory};
-use pop_net::Leaf;
+use pop_net::{Leaf, STATE_LIMIT};
 use std::alloc::Global;
 use std::marker::Model;
-
-/// The number of states that a leaf may have.
-const STATES: u16 = 256;
 
 /// The states that are listed, and for each state whether it is.
 #[derive(Drop)]
@@ -23,13 +20,14 @@ pub(crate) struct StateSet {
 impl Model for StateSet {
     ghost use Rattle.std.specs.Prelude.{◌≡◌, List as Items, ℕ, map};
     ghost use Rattle.std.specs.List.{range_with_len};
+    ghost use Rattle.pop_net.specs.declared.limits.TheConstants.{STATE_LIMIT};
     ghost use Rattle.cert_base.specs.FactsAndCases.{is_in};
 
     ghost Value = { Items ℕ };
 
     ghost view = { λ s. s.listed };
 
-    ghost invariant = { λ s. s.inside.items ≡ map (is_in s.listed) (range_with_len 0 256) };
+    ghost invariant = { λ s. s.inside.items ≡ map (is_in s.listed) (range_with_len 0 STATE_LIMIT) };
 }
 
 impl StateSet {
@@ -44,7 +42,7 @@ impl StateSet {
     }
 
     pub(crate) fn contains(&self, q: u16) -> bool
-        requires { q < 256 }
+        requires { q < STATE_LIMIT }
         ensures { result ≡ is_in self.now q }
     {
         self.inside[usize::from(q)]
@@ -61,6 +59,18 @@ impl StateSet {
         Ok(flags)
     }
 
+    /// How many helpers are in the set.
+    pub(crate) fn helpers(&self, leaf: &Leaf) -> u32
+        requires { IsLeaf leaf.now }
+        ensures { result ≡ helpers_among leaf.now self.now }
+    {
+        let mut count = 0;
+        for j in 0..leaf.helper_count() {
+            count += u32::from(self.contains(leaf.helper(j)));
+        }
+        count
+    }
+
     /// For each input whether it starts in the set.
     pub(crate) fn starts(&self, alloc: Global, leaf: &Leaf) -> Result<Vec<bool>, NoMemory>
         ensures flags { IfOk result (λ flags. flags.items ≡ map (is_in self.now) leaf.now.inputs) }
@@ -75,8 +85,10 @@ impl StateSet {
 }
 
 fn table(alloc: Global, listed: &[u16]) -> Result<Vec<bool>, NoMemory>
-    ensures { IfOk result (λ table. table.items ≡ map (is_in listed.now) (range_with_len 0 256)) }
+    ensures { IfOk result (λ table. table.items ≡ map (is_in listed.now) (range_with_len 0 STATE_LIMIT)) }
 {
-    let table = (0..STATES).map(|q| listed.contains(&q)).collect(alloc)?;
+    let table = (0..STATE_LIMIT as u16)
+        .map(|q| listed.contains(&q))
+        .collect(alloc)?;
     Ok(table)
 }

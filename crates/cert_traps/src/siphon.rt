@@ -1,10 +1,10 @@
 //! A siphon: a set of states that stays unmarked once it is.
 
-ghost use Rattle.std.specs.Prelude.{◌≡◌, ◌++◌, ◌∷◌, [], pos, negsuc, length, map, IfOk};
+ghost use Rattle.std.specs.Prelude.{◌≡◌, ◌++◌, ◌∷◌, [], pos, ◌-ℤ◌, length, map, IfOk};
 ghost use Rattle.pop_net.specs.LeafModel.{IsLeaf};
 ghost use Rattle.cert_base.specs.declared.fact.Fact.TheVariants.{Ge, Eq};
 ghost use Rattle.cert_base.specs.Rows.{input_row};
-ghost use Rattle.cert_base.specs.FactsAndCases.{indicator, is_in, takes_from, none_taken as no_moves, count_in as count_row, siphon_cases as siphon_list};
+ghost use Rattle.cert_base.specs.FactsAndCases.{indicator, is_in, helpers_among, takes_from, none_taken as no_moves, count_in as count_row, siphon_cases as siphon_list};
 ghost use Rattle.cert_base.specs.Ends.{Cover};
 
 use crate::facts::{coefs, only};
@@ -35,14 +35,15 @@ pub fn siphon_cases(
     Ok(List::from_vec(cases))
 }
 
-/// Some input starts in the set.
+/// Some input starts in the set, or a helper is in it.
 fn some_started(alloc: Global, leaf: &Leaf, set: &StateSet) -> Result<Fact, NoMemory>
     ensures formed { IsLeaf leaf.now }
-    ensures fact { IfOk result (λ fact. fact ≡ Ge (input_row (map (λ start. indicator (is_in set.now start)) leaf.now.inputs) (negsuc 0))) }
+    ensures fact { IfOk result (λ fact. fact ≡ Ge (input_row (map (λ start. indicator (is_in set.now start)) leaf.now.inputs)
+        (pos (helpers_among leaf.now set.now) -ℤ pos 1))) }
 {
     let flags = set.starts(alloc, leaf)?;
     let coefs = coefs(alloc, flags.as_slice())?;
-    Ok(Fact::Ge(Row::dense(alloc, 0, coefs.as_slice(), -1)?))
+    Ok(Fact::Ge(Row::over_inputs(alloc, coefs.as_slice(), i64::from(set.helpers(leaf)) - 1)?))
 }
 
 fn never_marked(alloc: Global, leaf: &Leaf, set: &StateSet) -> Result<List<Fact>, NoMemory>

@@ -3,14 +3,14 @@
 ghost use Rattle.std.specs.Prelude.{◌≡◌, ◌≤◌, ◌^◌, ◌++◌, ◌∷◌, [], pos, length, map, IfOk, OnOk};
 ghost use Rattle.pop_net.specs.LeafModel.{IsLeaf};
 ghost use Rattle.cert_base.specs.declared.fact.Fact.TheVariants.{Ge, Eq};
-ghost use Rattle.cert_base.specs.FactsAndCases.{none_taken as no_moves, none_started as no_inputs, some_taken as some_moves, count_in as count_row, puts_into, trap_cases as trap_list};
+ghost use Rattle.cert_base.specs.FactsAndCases.{none_taken as no_moves, none_started as no_inputs, none_helps as no_helpers, some_taken as some_moves, count_in as count_row, puts_into, trap_cases as trap_list};
 ghost use Rattle.cert_base.specs.Ends.{Cover};
 ghost use Rattle.cert_traps.specs.Roles.{passes};
 
 use crate::facts::{coefs, only, push_zeros};
 use crate::role::{Role, move_flags};
 use crate::set::StateSet;
-use cert_base::{Fact, Row};
+use cert_base::{Fact, Row, variable_of_input, variable_of_move};
 use pop_io::{List, NoMemory};
 use pop_net::Leaf;
 use std::alloc::Global;
@@ -32,12 +32,14 @@ pub fn trap_cases(alloc: Global, leaf: &Leaf, set: &List<u16>) -> Result<List<Li
 
 fn never_marked(alloc: Global, leaf: &Leaf, set: &StateSet) -> Result<List<Fact>, NoMemory>
     requires { IsLeaf leaf.now }
-    ensures { IfOk result (λ facts. facts ≡ no_moves leaf.now (puts_into set.now) ++ no_inputs leaf.now set.now ++ Eq (count_row leaf.now set.now (pos 0)) ∷ []) }
+    ensures { IfOk result (λ facts. facts ≡ no_moves leaf.now (puts_into set.now) ++ no_inputs leaf.now set.now
+        ++ Eq (count_row leaf.now set.now (pos 0)) ∷ no_helpers leaf.now set.now) }
 {
     let mut facts = Vec::new(alloc);
     none_taken(alloc, &mut facts, leaf, set, Role::Puts)?;
     none_started(alloc, &mut facts, leaf, set)?;
     facts.push(Fact::Eq(count_in(alloc, leaf, set, 0)?))?;
+    none_helps(alloc, &mut facts, leaf, set)?;
     Ok(List::from_vec(facts))
 }
 
@@ -68,8 +70,7 @@ pub(crate) fn none_taken(
     ensures { OnOk result (facts.new.items ≡ facts.old.items ++ no_moves leaf.now (passes set.now role)) }
 {
     let flags = move_flags(alloc, leaf, set, role)?;
-    let first = u32::from(leaf.input_count()) + u32::from(leaf.state_count());
-    push_zeros(alloc, facts, first, flags.as_slice())?;
+    push_zeros(alloc, facts, variable_of_move(leaf, 0), flags.as_slice())?;
     Ok(())
 }
 
@@ -83,7 +84,24 @@ fn none_started(
     ensures { OnOk result (facts.new.items ≡ facts.old.items ++ no_inputs leaf.now set.now) }
 {
     let flags = set.starts(alloc, leaf)?;
-    push_zeros(alloc, facts, 0, flags.as_slice())?;
+    push_zeros(alloc, facts, variable_of_input(0), flags.as_slice())?;
+    Ok(())
+}
+
+/// Adds that no helper is in the set, where one is: a fact that no counts meet.
+fn none_helps(
+    alloc: Global,
+    facts: &mut Vec<Fact>,
+    leaf: &Leaf,
+    set: &StateSet,
+) -> Result<(), NoMemory>
+    requires { IsLeaf leaf.now }
+    ensures { OnOk result (facts.new.items ≡ facts.old.items ++ no_helpers leaf.now set.now) }
+{
+    let count = set.helpers(leaf);
+    if count != 0 {
+        facts.push(Fact::Eq(Row::constant(alloc, i64::from(count))))?;
+    }
     Ok(())
 }
 

@@ -1,4 +1,4 @@
--- No node is refused exactly where the nodes close the cases that wait, one after the other.
+-- No node is refused exactly when the nodes close the cases that wait, one after the other.
 use Rattle.std.proofs.Common.{◌≡◌, inl, inr, ℕ, ◌+◌, ◌≤◌, Bool, true, List, [], ◌∷◌, ◌++◌, length, map, length-append, refl, ◌∙◌}
 use Rattle.std.specs.Prelude.{Option, Some, None, nat_le}
 use Rattle.std.proofs.lemmas.Bool.{leb-true, le-leb}

@@ -8,4 +8,4 @@ pub mod Ordered
 pub mod Visits
 pub mod Starts
 pub mod Verdicts
-pub mod PlainWalk
+pub mod ReferenceWalk

@@ -15,8 +15,8 @@ use Rattle.cert_base.specs.declared.fact.Fact.{Fact}
 use Rattle.cert_base.specs.declared.fact.Fact.TheVariants.{Ge, Eq, Cong, NotCong, Holds}
 use Rattle.cert_base.specs.declared.node.Node.{Node}
 use Rattle.cert_base.specs.declared.node.Node.TheVariants.{Linear, Residue, Split, Present, Twin, Trap, Siphon, Open}
-use Rattle.cert_base.specs.Rows.{terms_from, single_row, input_row, state_row, zeros, input_variable, state_variable, move_variable, variable_count}
-use Rattle.cert_base.specs.FactsAndCases.{indicator, states_of, flow, two_agents, differs, wrong_output, base_facts, absent, occurs, alone, not_twice, can_meet, present_cases, is_in, takes_from, puts_into, places_from, none_taken, none_started, some_taken, count_in, trap_cases, siphon_cases, plus, negated, split_cases, over, open_tree}
+use Rattle.cert_base.specs.Rows.{constant_row, terms_from, single_row, input_row, state_row, zeros, input_variable, state_variable, move_variable, variable_count}
+use Rattle.cert_base.specs.FactsAndCases.{helpers_in, helpers_among, none_helps, indicator, states_of, flow, two_agents, differs, wrong_output, base_facts, absent, occurs, alone, not_twice, can_meet, present_cases, is_in, takes_from, puts_into, places_from, none_taken, none_started, some_taken, count_in, trap_cases, siphon_cases, plus, negated, split_cases, over, open_tree}
 use Rattle.cert_base.specs.Closes.{name_below, where_in_range, opened, only_case}
 use Rattle.cert_linear.specs.Conditions.{AreAscending, IsOrdered}
 use Rattle.cert_tree.specs.Refusals.{cases_at}
@@ -148,10 +148,10 @@ one_in_one f h = one_case (f ∷ []) (one_fact f h)
 
 flow_ordered : (leaf : LeafModel) (q : ℕ) → HasOrder (flow leaf q)
 flow_ordered leaf q =
-    dense_eq (map (λ start. indicator (start == q)) leaf.inputs ++ map (λ z. neg_ℤ (indicator (z == q))) (states_of leaf) ++ map (λ t. pos (post t q) -ℤ pos (pre t q)) leaf.moves) (pos 0)
+    dense_eq (map (λ start. indicator (start == q)) leaf.inputs ++ map (λ z. neg_ℤ (indicator (z == q))) (states_of leaf) ++ map (λ t. pos (post t q) -ℤ pos (pre t q)) leaf.moves) (pos (helpers_in leaf q))
 
 two_ordered : (leaf : LeafModel) → HasOrder (two_agents leaf)
-two_ordered leaf = dense_ge (replicate (length leaf.inputs) (pos 1)) (negsuc 1)
+two_ordered leaf = dense_ge (replicate (length leaf.inputs) (pos 1)) (pos (length leaf.helpers) -ℤ pos 2)
 
 over_states : (leaf : LeafModel) (coefs : List ℤ) (c : ℤ) → HasOrder (Ge (state_row leaf coefs c))
 over_states leaf coefs c = dense_ge (zeros (length leaf.inputs) ++ coefs) c
@@ -201,24 +201,29 @@ taken_ordered leaf test =
 abbrev marks : LeafModel → List ℕ → List ℤ
 marks leaf set = map (λ q. indicator (is_in set q)) (states_of leaf)
 
+none_helps_ordered : (leaf : LeafModel) (set : List ℕ) (b : Bool) → AllOrdered (if b then [] else (Eq (constant_row (pos (helpers_among leaf set))) ∷ []))
+none_helps_ordered leaf set true = no_fact
+none_helps_ordered leaf set false =
+    one_fact (Eq (constant_row (pos (helpers_among leaf set)))) (dense_eq [] (pos (helpers_among leaf set)))
+
 trap_ordered : (leaf : LeafModel) (set : List ℕ) → CasesOrdered (trap_cases leaf set)
 trap_ordered leaf set =
     three_cases (some_taken leaf (λ t. takes_from set t && not (puts_into set t)) ∷ [])
-    (none_taken leaf (puts_into set) ++ none_started leaf set ++ Eq (count_in leaf set (pos 0)) ∷ [])
+    (none_taken leaf (puts_into set) ++ none_started leaf set ++ Eq (count_in leaf set (pos 0)) ∷ none_helps leaf set)
     (Ge (count_in leaf set (negsuc 0)) ∷ [])
     (one_fact (some_taken leaf (λ t. takes_from set t && not (puts_into set t))) (taken_ordered leaf (λ t. takes_from set t && not (puts_into set t))))
-    (append_ordered (none_taken leaf (puts_into set) ++ none_started leaf set) (Eq (count_in leaf set (pos 0)) ∷ [])
+    (append_ordered (none_taken leaf (puts_into set) ++ none_started leaf set) (Eq (count_in leaf set (pos 0)) ∷ none_helps leaf set)
     (append_ordered (none_taken leaf (puts_into set)) (none_started leaf set) (none_taken_ordered leaf (puts_into set)) (none_started_ordered leaf set))
-    (one_fact (Eq (count_in leaf set (pos 0))) (zero_over_states leaf (marks leaf set) (pos 0))))
+    (more_facts (Eq (count_in leaf set (pos 0))) (none_helps leaf set) (zero_over_states leaf (marks leaf set) (pos 0)) (none_helps_ordered leaf set (helpers_among leaf set == 0))))
     (one_fact (Ge (count_in leaf set (negsuc 0))) (over_states leaf (marks leaf set) (negsuc 0)))
 
 siphon_ordered : (leaf : LeafModel) (set : List ℕ) → CasesOrdered (siphon_cases leaf set)
 siphon_ordered leaf set =
     three_cases (some_taken leaf (λ t. puts_into set t && not (takes_from set t)) ∷ [])
-    (Ge (input_row (map (λ start. indicator (is_in set start)) leaf.inputs) (negsuc 0)) ∷ [])
+    (Ge (input_row (map (λ start. indicator (is_in set start)) leaf.inputs) (pos (helpers_among leaf set) -ℤ pos 1)) ∷ [])
     (none_taken leaf (takes_from set) ++ Eq (count_in leaf set (pos 0)) ∷ [])
     (one_fact (some_taken leaf (λ t. puts_into set t && not (takes_from set t))) (taken_ordered leaf (λ t. puts_into set t && not (takes_from set t))))
-    (one_fact (Ge (input_row (map (λ start. indicator (is_in set start)) leaf.inputs) (negsuc 0))) (dense_ge (map (λ start. indicator (is_in set start)) leaf.inputs) (negsuc 0)))
+    (one_fact (Ge (input_row (map (λ start. indicator (is_in set start)) leaf.inputs) (pos (helpers_among leaf set) -ℤ pos 1))) (dense_ge (map (λ start. indicator (is_in set start)) leaf.inputs) (pos (helpers_among leaf set) -ℤ pos 1)))
     (append_ordered (none_taken leaf (takes_from set)) (Eq (count_in leaf set (pos 0)) ∷ []) (none_taken_ordered leaf (takes_from set))
     (one_fact (Eq (count_in leaf set (pos 0))) (zero_over_states leaf (marks leaf set) (pos 0))))
 

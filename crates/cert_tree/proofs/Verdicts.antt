@@ -36,7 +36,7 @@ missing_at leaf p value nodes at before others number same d e = same ∙ rw (d,
 pub none_at : (leaf : LeafModel) (p : PredModel) (value : Bool) (nodes : List Node) (before : List Waiting) (number : ℕ) → first_refused leaf p value nodes ≡ first_from leaf before number (drop number nodes) → drop number nodes ≡ [] → before ≡ [] → first_refused leaf p value nodes ≡ None
 none_at leaf p value nodes before number same d e = same ∙ rw (d, e) refl
 
--- a tree that closes is refused for want of memory alone
+-- a tree that closes is refused for out of memory alone
 pub only_memory : (leaf : LeafModel) (p : PredModel) (value : Bool) (nodes : List Node) (fault : TreeFault) → IsTreeFault leaf p value nodes fault → Closes leaf (base_facts leaf p value) nodes [] → fault ≡ OutOfMemory
 only_memory leaf p value nodes (Broken number why) is closes =
     let none = Closes-unrefused leaf p value nodes closes in let clash : Some (number, why) ≡ None = sym is ∙ none in cc

@@ -1,5 +1,6 @@
 -- Format: the limits of a node in a proof's text.
-use Rattle.std.specs.Prelude.{◌≤◌, ◌^◌, nat_abs, All}
+use Rattle.std.specs.Prelude.{◌≤◌, nat_abs, All}
+use Rattle.cert_base.specs.declared.limits.TheConstants.{SIZE_LIMIT}
 use Rattle.cert_base.specs.declared.node.Node.{Node}
 use Rattle.cert_base.specs.declared.node.Node.TheVariants.{Linear, Residue, Split, Present, Twin, Trap, Siphon, Open}
 use Rattle.cert_linear.specs.Conditions.{AreAscending, AreMultipliers}
@@ -9,7 +10,7 @@ abbrev pub IsWithinFormat : Node → Type 0
 IsWithinFormat (Linear terms) = AreMultipliers terms
 IsWithinFormat (Residue m terms) = (2 ≤ m) × (m ≤ 200) × AreMultipliers terms
 IsWithinFormat (Split row) =
-    AreAscending row.terms × All (λ t. nat_abs t.by ≤ 2 ^ 40) row.terms × (nat_abs row.constant ≤ 2 ^ 40)
+    AreAscending row.terms × All (λ t. nat_abs t.by ≤ SIZE_LIMIT) row.terms × (nat_abs row.constant ≤ SIZE_LIMIT)
 IsWithinFormat (Present p) = Unit {0}
 IsWithinFormat (Twin p) = Unit {0}
 IsWithinFormat (Trap set) = Unit {0}

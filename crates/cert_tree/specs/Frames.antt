@@ -1,6 +1,7 @@
 -- The stack of the nodes whose cases are being closed.
 use Rattle.std.specs.Prelude.{◌≡◌, ℕ, ◌+◌, ◌≤◌, ◌<◌, true, false, Bool, List, [], ◌∷◌, ◌++◌, map, length, take, All, Contains, Option, Some, None, reverse}
 use Rattle.pop_net.specs.LeafModel.{LeafModel}
+use Rattle.cert_base.specs.declared.limits.TheConstants.{FACT_LIMIT}
 use Rattle.cert_base.specs.declared.fact.Fact.{Fact}
 use Rattle.cert_base.specs.declared.node.Node.{Node}
 use Rattle.cert_base.specs.Valuation.{Valuation}
@@ -39,7 +40,7 @@ IsNested walk = AreNested (length walk.trail) (reverse walk.frames.items)
 
 -- the facts of a case are few enough, and their rows are ordered
 pub record IsFit (at : Waiting) : Type 0 where
-  pub few : length at.1 ≤ 65536
+  pub few : length at.1 ≤ FACT_LIMIT
   pub ordered : All IsOrdered at.1
 
 -- the walk stands at a case that was the first of those waiting
@@ -107,5 +108,5 @@ pub record IsStart (leaf : LeafModel) (p : PredModel) (value : Bool) (walk : Wal
   pub waits : waiting walk ≡ (0, base_facts leaf p value) ∷ []
   pub nested : IsNested walk
   pub fit : All IsFit (waiting walk)
-  pub few : length (base_facts leaf p value) ≤ 65536
+  pub few : length (base_facts leaf p value) ≤ FACT_LIMIT
   pub met : HoldAtWrongEnds leaf p.tree value (base_facts leaf p value)

@@ -1,4 +1,5 @@
 pub mod Format
 pub mod Refusals
 pub mod Frames
-pub mod Plain
+pub mod RefusalLaw
+pub mod Reference

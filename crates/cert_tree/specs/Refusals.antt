@@ -1,8 +1,10 @@
 -- Refusals: which node of a tree is the first that is refused, and why.
-use Rattle.std.specs.Prelude.{◌≡◌, ℕ, ◌+◌, Bool, true, false, not, if◌then◌else◌, nat_lt, nat_le, List, [], ◌∷◌, ◌++◌, map, length, Option, Some, None, unwrap_or, slice_get}
+use Rattle.std.specs.Prelude.{◌≡◌, ℕ, ◌+◌, Bool, true, false, not, if◌then◌else◌, nat_lt, nat_le, List}
+use Rattle.std.specs.Prelude.{[], ◌∷◌, ◌++◌, map, length, Option, Some, None, unwrap_or, slice_get}
 use Rattle.std.specs.List.{list_all}
 use Rattle.pres_ast.specs.PredModel.{PredModel}
 use Rattle.pop_net.specs.LeafModel.{LeafModel}
+use Rattle.cert_base.specs.declared.limits.TheConstants.{FACT_LIMIT, PATH_LIMIT}
 use Rattle.cert_base.specs.declared.fact.Fact.{Fact}
 use Rattle.cert_base.specs.declared.fact.Fact.TheVariants.{Holds}
 use Rattle.cert_base.specs.declared.node.Node.{Node}
@@ -40,19 +42,19 @@ abbrev pub opens_holds : List Fact → Node → Bool
 opens_holds facts (Open f) = is_holds (slice_get facts f)
 opens_holds facts _ = true
 
--- a `Linear` or `Residue` refutes the facts
-abbrev pub closes_leaf : List Fact → Node → Bool
-closes_leaf facts (Linear terms) = refutes facts (Linear terms)
-closes_leaf facts (Residue m terms) = refutes facts (Residue m terms)
-closes_leaf facts _ = true
+-- whether a node without cases refutes the facts
+abbrev pub refutes_facts : List Fact → Node → Bool
+refutes_facts facts (Linear terms) = refutes facts (Linear terms)
+refutes_facts facts (Residue m terms) = refutes facts (Residue m terms)
+refutes_facts facts _ = true
 
 -- the cases of a node, one after the other; none at a node that refutes
 abbrev pub cases_at : LeafModel → List Fact → Node → List (List Fact)
 cases_at leaf facts node = unwrap_or (cases_of leaf facts node) []
 
--- whether the facts with those of each case are at most 65,536
+-- whether the facts with those of each case are few enough
 abbrev pub all_fit : List Fact → List (List Fact) → Bool
-all_fit facts = list_all (λ own. nat_le (length facts + length own) 65536)
+all_fit facts = list_all (λ own. nat_le (length facts + length own) FACT_LIMIT)
 
 -- why a node is refused by its numbers, its move, its fact or its test
 abbrev pub own_refusal : LeafModel → List Fact → Node → Option TreeWhy
@@ -60,7 +62,7 @@ own_refusal leaf facts node =
     if not (in_range leaf facts node) then Some BadIndex
     else if not (has_twin leaf node) then Some NoTwin
     else if not (opens_holds facts node) then Some NotOpen
-    else if not (closes_leaf facts node) then Some NotClosed
+    else if not (refutes_facts facts node) then Some NotClosed
     else None
 
 -- the first reason, unless there is none
@@ -71,7 +73,7 @@ or_else (Some why) other = Some why
 -- why a node is refused that has so many nodes above it, and these facts
 abbrev pub refusal : LeafModel → ℕ → List Fact → Node → Option TreeWhy
 refusal leaf above facts node =
-    if not (nat_lt above 4096) then Some TooDeep
+    if not (nat_lt above PATH_LIMIT) then Some TooDeep
     else or_else (own_refusal leaf facts node) (if all_fit facts (cases_at leaf facts node) then None else Some TooManyFacts)
 
 -- a case that waits for its nodes: how many nodes are above it, and its facts

@@ -5,11 +5,13 @@ use pop_io::NoMemory as OutOfMemory;
 /// The first node that is refused.
 #[derive(Clone, Copy, Debug, PartialEq, Eq)]
 pub enum TreeFault {
+    /// A node is refused.
     Broken {
         /// The number of the node, which is the number of nodes where one is missing.
         node: u32,
         why: TreeWhy,
     },
+    /// Out of memory.
     NoMemory,
 }
 
@@ -18,7 +20,7 @@ pub enum TreeFault {
 pub enum TreeWhy {
     /// No node is left for a case.
     Missing,
-    /// 4,096 nodes or more are above it.
+    /// `PATH_LIMIT` nodes or more are above it.
     TooDeep,
     /// A number of a fact, a state or a variable is out of range.
     BadIndex,
@@ -28,7 +30,7 @@ pub enum TreeWhy {
     NotOpen,
     /// The facts aren't refuted.
     NotClosed,
-    /// A case has more than 65,536 facts.
+    /// A case has more than `FACT_LIMIT` facts.
     TooManyFacts,
     /// The tree was closed before it.
     Rest,

@@ -5,14 +5,16 @@
 
 mod fault;
 mod halt;
+mod law;
 mod nodes;
 mod tree;
 mod walk;
 
 pub use fault::{TreeFault, TreeWhy};
+pub use law::refusal_law;
 pub use tree::check_tree;
 
 #[cfg(test)]
-mod plain;
+mod reference;
 #[cfg(test)]
 mod tests;

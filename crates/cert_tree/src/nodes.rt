@@ -5,7 +5,6 @@ ghost use Rattle.std.specs.List.{list_all};
 ghost use Rattle.pop_net.specs.LeafModel.{LeafModel};
 ghost use Rattle.cert_base.specs.declared.fact.Fact.{Fact};
 ghost use Rattle.cert_base.specs.declared.node.Node.TheVariants.{Linear, Residue, Split, Present, Twin, Trap, Siphon, Open};
-ghost use Rattle.cert_base.specs.Rows.{variable_count as variables_of};
 ghost use Rattle.cert_base.specs.Closes.{name_below};
 ghost use Rattle.cert_linear.specs.Conditions.{IsOrdered, AreMultipliers};
 ghost use Rattle.cert_tree.specs.Format.{IsWithinFormat};
@@ -14,7 +13,7 @@ ghost use Rattle.cert_tree.specs.Frames.{IsPassed, HaltsBy};
 
 use crate::fault::TreeWhy;
 use crate::halt::Halt;
-use cert_base::{Fact, Node, Row, Term, open_cases, split_cases};
+use cert_base::{Fact, Node, Row, SIZE_LIMIT, Term, count_variables, open_cases, split_cases};
 use cert_linear::Trail;
 use cert_traps::{present_cases, siphon_cases, trap_cases, twin_case};
 use pop_io::List;
@@ -25,13 +24,14 @@ use std::alloc::Global;
 pub(crate) fn node_cases(
     alloc: Global,
     leaf: &Leaf,
-    trail: &Trail,
+    trail: &mut Trail,
     node: &Node,
 ) -> Result<List<List<Fact>>, Halt>
     requires within { IsWithinFormat node.now }
-    requires ordered { All IsOrdered trail.now }
-    ensures passed { IfOk result (IsPassed leaf.now trail.now node.now) }
-    ensures halts { IfErr result (HaltsBy (own_refusal leaf.now trail.now node.now)) }
+    requires ordered { All IsOrdered trail.old }
+    ensures passed { IfOk result (IsPassed leaf.now trail.old node.now) }
+    ensures halts { IfErr result (HaltsBy (own_refusal leaf.now trail.old node.now)) }
+    ensures unchanged { trail.new ≡ trail.old }
 {
     match node {
         Node::Linear(terms) => linear_node(alloc, trail, terms),
@@ -46,16 +46,21 @@ pub(crate) fn node_cases(
 }
 
 /// A node that refutes the facts.
-fn linear_node(alloc: Global, trail: &Trail, terms: &List<Term>) -> Result<List<List<Fact>>, Halt>
+fn linear_node(
+    alloc: Global,
+    trail: &mut Trail,
+    terms: &List<Term>,
+) -> Result<List<List<Fact>>, Halt>
     requires multipliers { AreMultipliers terms.now }
-    requires ordered { All IsOrdered trail.now }
-    ensures passed { (leaf : LeafModel) → IfOk result (IsPassed leaf trail.now (Linear terms.now)) }
-    ensures halts { (leaf : LeafModel) → IfErr result (HaltsBy (own_refusal leaf trail.now (Linear terms.now))) }
+    requires ordered { All IsOrdered trail.old }
+    ensures passed { (leaf : LeafModel) → IfOk result (IsPassed leaf trail.old (Linear terms.now)) }
+    ensures halts { (leaf : LeafModel) → IfErr result (HaltsBy (own_refusal leaf trail.old (Linear terms.now))) }
+    ensures unchanged { trail.new ≡ trail.old }
 {
     if !name_facts(terms.as_slice(), trail.len()) {
         return Err(Halt::Refused(TreeWhy::BadIndex));
     }
-    if !trail.linear(alloc, terms)? {
+    if !trail.linear(terms)? {
         return Err(Halt::Refused(TreeWhy::NotClosed));
     }
     Ok(List::from_vec(Vec::new(alloc)))
@@ -63,32 +68,33 @@ fn linear_node(alloc: Global, trail: &Trail, terms: &List<Term>) -> Result<List<
 
 fn residue_node(
     alloc: Global,
-    trail: &Trail,
+    trail: &mut Trail,
     modulus: u32,
     terms: &List<Term>,
 ) -> Result<List<List<Fact>>, Halt>
     requires modulus { 2 ≤ modulus }
     requires multipliers { AreMultipliers terms.now }
-    requires ordered { All IsOrdered trail.now }
-    ensures passed { (leaf : LeafModel) → IfOk result (IsPassed leaf trail.now (Residue modulus terms.now)) }
-    ensures halts { (leaf : LeafModel) → IfErr result (HaltsBy (own_refusal leaf trail.now (Residue modulus terms.now))) }
+    requires ordered { All IsOrdered trail.old }
+    ensures passed { (leaf : LeafModel) → IfOk result (IsPassed leaf trail.old (Residue modulus terms.now)) }
+    ensures halts { (leaf : LeafModel) → IfErr result (HaltsBy (own_refusal leaf trail.old (Residue modulus terms.now))) }
+    ensures unchanged { trail.new ≡ trail.old }
 {
     if !name_facts(terms.as_slice(), trail.len()) {
         return Err(Halt::Refused(TreeWhy::BadIndex));
     }
-    if !trail.residue(alloc, modulus, terms)? {
+    if !trail.residue(modulus, terms)? {
         return Err(Halt::Refused(TreeWhy::NotClosed));
     }
     Ok(List::from_vec(Vec::new(alloc)))
 }
 
 fn split_node(alloc: Global, leaf: &Leaf, row: &Row) -> Result<List<List<Fact>>, Halt>
-    requires coefs { All (λ t. nat_abs t.by ≤ 2 ^ 40) row.now.terms }
-    requires constant { nat_abs row.now.constant ≤ 2 ^ 40 }
+    requires coefs { All (λ t. nat_abs t.by ≤ SIZE_LIMIT) row.now.terms }
+    requires constant { nat_abs row.now.constant ≤ SIZE_LIMIT }
     ensures passed { (facts : List Fact) → IfOk result (IsPassed leaf.now facts (Split row.now)) }
     ensures halts { (facts : List Fact) → IfErr result (HaltsBy (own_refusal leaf.now facts (Split row.now))) }
 {
-    if !name_facts(row.terms.as_slice(), variable_count(leaf)) {
+    if !name_facts(row.terms.as_slice(), count_variables(leaf)) {
         return Err(Halt::Refused(TreeWhy::BadIndex));
     }
     Ok(split_cases(alloc, row)?)
@@ -164,10 +170,4 @@ fn name_states(states: &[u16], end: u16) -> bool
     ensures { result ≡ list_all (λ q. nat_lt q end) states.now }
 {
     states.iter().all(|q| *q < end)
-}
-
-fn variable_count(leaf: &Leaf) -> u32
-    ensures { result ≡ variables_of leaf.now }
-{
-    u32::from(leaf.input_count()) + u32::from(leaf.state_count()) + leaf.move_count()
 }

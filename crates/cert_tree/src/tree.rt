@@ -10,7 +10,7 @@ ghost use Rattle.cert_tree.specs.Frames.{IsStart};
 
 use crate::fault::{TreeFault, TreeWhy};
 use crate::walk::Walk;
-use cert_base::{Node, base_facts};
+use cert_base::{NODE_LIMIT, Node, base_facts};
 use pop_io::{List, NoMemory};
 use pop_net::Leaf;
 use pres_ast::Pred;
@@ -28,7 +28,7 @@ pub fn check_tree(
     nodes: &List<Node>,
 ) -> Result<(), TreeFault>
     requires variables { pred.now.variables ≡ length leaf.now.inputs }
-    requires few { length nodes.now ≤ 1000000 }
+    requires few { length nodes.now ≤ NODE_LIMIT }
     requires within { All IsWithinFormat nodes.now }
     ensures closes { OnOk result (Closes leaf.now (base_list leaf.now pred.now value) nodes.now []) }
     ensures fault { IfErr result (IsTreeFault leaf.now pred.now value nodes.now) }

@@ -10,17 +10,11 @@ ghost use Rattle.cert_tree.specs.Frames.{waiting, waiting_with, AreNested, IsNes
 use crate::fault::TreeWhy;
 use crate::halt::Halt;
 use crate::nodes::node_cases;
-use cert_base::{Fact, Node};
+use cert_base::{FACT_LIMIT, Fact, Node, PATH_LIMIT};
 use cert_linear::Trail;
 use pop_io::{List, NoMemory};
 use pop_net::Leaf;
 use std::alloc::Global;
-
-/// The greatest number of nodes on a path.
-const DEPTH: usize = 4_096;
-
-/// The greatest number of facts of a case.
-const FACTS: usize = 65_536;
 
 /// A node whose cases are being closed.
 #[derive(Drop)]
@@ -41,11 +35,11 @@ pub(crate) struct Walk {
 impl Walk {
     /// The walk at the beginning: one case waits, with these facts and no node above it.
     pub(crate) fn new(alloc: Global, facts: List<Fact>) -> Result<Walk, NoMemory>
-        requires { length facts ≤ 65536 }
+        requires { length facts ≤ FACT_LIMIT }
         ensures waits { IfOk result (λ walk. waiting walk ≡ (0, facts) ∷ []) }
         ensures nested { IfOk result IsNested }
     {
-        let trail = Trail::new(facts);
+        let trail = Trail::new(alloc, facts);
         let mut cases = Vec::new(alloc);
         cases.push(List::from_vec(Vec::new(alloc)))?;
         let mut frames = Vec::new(alloc);
@@ -70,10 +64,10 @@ impl Walk {
         if !self.next_case()? {
             return Err(Halt::Refused(TreeWhy::Rest));
         }
-        if self.frames.len() > DEPTH {
+        if self.frames.len() > PATH_LIMIT {
             return Err(Halt::Refused(TreeWhy::TooDeep));
         }
-        let cases = node_cases(alloc, leaf, &self.trail, node)?;
+        let cases = node_cases(alloc, leaf, &mut self.trail, node)?;
         if !has_room(&self.trail, cases.as_slice()) {
             return Err(Halt::Refused(TreeWhy::TooManyFacts));
         }
@@ -128,7 +122,7 @@ impl Walk {
 
 /// Adds the facts of a case.
 pub(crate) fn extend(trail: &mut Trail, own: List<Fact>) -> Result<(), NoMemory>
-    requires { length trail.old + length own ≤ 65536 }
+    requires { length trail.old + length own ≤ FACT_LIMIT }
     ensures { OnOk result (trail.new ≡ trail.old ++ own) }
 {
     for fact in own.into_vec() {
@@ -143,7 +137,7 @@ pub(crate) fn extend(trail: &mut Trail, own: List<Fact>) -> Result<(), NoMemory>
 pub(crate) fn has_room(trail: &Trail, cases: &[List<Fact>]) -> bool
     ensures { result ≡ all_fit trail.now cases.now }
 {
-    are_short(cases, FACTS - trail.len() as usize)
+    are_short(cases, FACT_LIMIT - trail.len() as usize)
 }
 
 fn are_short(cases: &[List<Fact>], len: usize) -> bool

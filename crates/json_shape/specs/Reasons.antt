@@ -1,4 +1,4 @@
--- How a reason is told.
+-- How a reason is printed.
 use Rattle.std.specs.Prelude.{ℕ, List, ◌++◌, codes, decimal}
 use Rattle.json_shape.specs.declared.fault.Why.{Why}
 use Rattle.json_shape.specs.declared.fault.Why.TheVariants.{Kind, Range, Name, Shape, Pred}

@@ -16,7 +16,7 @@ pub enum Why {
     Kind,
     /// A number or a list's length is out of range.
     Range,
-    /// A text is out of form, or stands twice.
+    /// A text is malformed, or stands twice.
     Name,
     /// A combination in postfix is no single tree.
     Shape,
@@ -27,10 +27,15 @@ pub enum Why {
 /// Why a predicate's text is refused. The numbers are byte offsets, of `LongText` the length.
 #[derive(Clone, Copy, Debug, PartialEq, Eq)]
 pub enum PredWhy {
+    /// No text of the grammar begins so.
     Syntax(u32),
+    /// No variable has this name.
     UnknownName(u32),
+    /// A number is beyond its limit.
     TooLarge(u32),
+    /// It nests too deep.
     TooDeep(u32),
+    /// It has too many bytes.
     LongText(u64),
 }
 
@@ -75,6 +80,7 @@ impl fmt::Display for Why {
 pub enum FormatFault {
     /// The first rule that is broken. The path is a `/` and a name or a number for each step from the root.
     Broken { path: Text, why: Why },
+    /// Out of memory.
     NoMemory,
 }
 

@@ -9,8 +9,11 @@ use std::alloc::{AllocError, Global};
 /// The members and items that lead from the root to a value. It lives on the stack: only a fault makes it a text.
 #[derive(Clone, Copy)]
 pub enum Path<'a> {
+    /// The root.
     Root,
+    /// A member of the object at a path.
     Member(&'a Path<'a>, &'a str),
+    /// An item of the list at a path, counted from 0.
     Item(&'a Path<'a>, usize),
 }
 

@@ -1,6 +1,7 @@
 -- What is read of a leaf is the leaf of its file, and each file of a leaf is read.
-use Rattle.std.proofs.Common.{◌≡◌, ℕ, ◌-◌, ◌≤◌, ◌<◌, ◌&&◌, Bool, true, false, cond, not, IsTrue, List, [], ◌∷◌, ◌++◌, length, codes, Result, Ok, refl, subst, arith}
-use Rattle.std.specs.Prelude.{All}
+use Rattle.std.proofs.Common.{◌≡◌, ◌⊎◌, inl, inr, ℕ, ◌-◌, ◌≤◌, ◌<◌, ◌&&◌, Bool, true, false, cond, not, IsTrue, List, [], ◌∷◌, ◌++◌, length, codes, Result, Ok, refl, ap, sym, subst, arith}
+use Rattle.std.specs.Prelude.{All, Option, Some, None, IfSome}
+use Rattle.std.proofs.lemmas.List.Elements.{All-nil}
 use Rattle.std.specs.List.{list_any}
 use Rattle.std.specs.Str.{bytes_eq}
 use Rattle.serde_json.specs.Data.{Data}
@@ -10,14 +11,17 @@ use Rattle.json_shape.specs.declared.fault.Why.TheVariants.{Name}
 use Rattle.json_shape.specs.Faults.{Fault, ◌>>=◌, broken}
 use Rattle.json_shape.specs.Paths.{member_path, item_path}
 use Rattle.json_shape.specs.Shapes.{of_kind, listed, object_at, member_at, member_by, number_at, text_at}
-use Rattle.json_shape.specs.Parts.{IsNumber, IsText, IsTruth, AreItems, IsList}
+use Rattle.json_shape.specs.Parts.{IsNumber, IsText, IsTruth, HasMember, AreItems, IsList}
 use Rattle.json_shape.proofs.Steps.{bind_ok, guard_ok, both_true, not_true, same_ok}
 use Rattle.json_shape.proofs.Readers
 use Rattle.json_shape.proofs.Fresh
 use Rattle.pop_net.specs.declared.leaf.Move.{Move}
 use Rattle.pop_net.specs.LeafModel.{LeafModel, IsLeaf, IsMoveBelow}
-use Rattle.net_json.specs.NetFile.{IsMove, IsLeafFile}
-use Rattle.net_json.specs.Examined.{name_at, name_item, names_at, four_at, move_at, move_item, moves_at, state_item, inputs_at, truth_item, outputs_at, leaf_at}
+use Rattle.pop_io.specs.declared.names.TheConstants.{VARIABLE_LIMIT}
+use Rattle.pop_net.specs.declared.limits.TheConstants.{STATE_LIMIT, MOVE_LIMIT, HELPER_LIMIT}
+use Rattle.net_json.specs.declared.format.TheConstants.{PLAIN_FORMAT, HELPER_FORMAT}
+use Rattle.net_json.specs.NetFile.{IsMove, AreHelpers, IsLeafFile}
+use Rattle.net_json.specs.Examined.{name_at, name_item, names_at, four_at, move_at, move_item, moves_at, state_item, states_at, inputs_at, truth_item, outputs_at, helper_range, helpers_at, leaf_at}
 
 abbrev IsNewName : (List ℕ → Bool) → List (List ℕ) → List ℕ → Type 0
 IsNewName is_name found s = IsTrue (is_name s) × Fresh.IsFresh found s
@@ -121,27 +125,27 @@ module _ (states : ℕ) (some_state : 1 ≤ states) where
   unfolding move_at
   move_again path found i d t is below = rw is.1 (four_again (item_path path i) (listed is.0) t is.2 below)
 
-  pub moves_at-takes : (path : List ℕ) (d : Data) (ts : List Move) → moves_at states path d ≡ Ok ts → IsList IsMove ts d × All (IsMoveBelow states) ts × (length ts ≤ 32768)
+  pub moves_at-takes : (path : List ℕ) (d : Data) (ts : List Move) → moves_at states path d ≡ Ok ts → IsList IsMove ts d × All (IsMoveBelow states) ts × (length ts ≤ MOVE_LIMIT)
   unfolding moves_at
   moves_at-takes path d ts e =
-      let r = Readers.list-takes (move_item path states) IsMove (λ _ t. IsMoveBelow states t) (move_takes path) path 0 32768 d ts e in
+      let r = Readers.list-takes (move_item path states) IsMove (λ _ t. IsMoveBelow states t) (move_takes path) path 0 MOVE_LIMIT d ts e in
       (r.0, Fresh.EachFrom-All (IsMoveBelow states) [] ts r.1, r.3)
 
-  pub moves_at-again : (path : List ℕ) (d : Data) (ts : List Move) → IsList IsMove ts d → All (IsMoveBelow states) ts → length ts ≤ 32768 → moves_at states path d ≡ Ok ts
+  pub moves_at-again : (path : List ℕ) (d : Data) (ts : List Move) → IsList IsMove ts d → All (IsMoveBelow states) ts → length ts ≤ MOVE_LIMIT → moves_at states path d ≡ Ok ts
   unfolding moves_at
   moves_at-again path d ts is below hi =
-      Readers.list-again (move_item path states) IsMove (λ _ t. IsMoveBelow states t) (move_again path) path 0 32768 d ts is (Fresh.All-EachFrom (IsMoveBelow states) [] ts below) (omega arith) hi
+      Readers.list-again (move_item path states) IsMove (λ _ t. IsMoveBelow states t) (move_again path) path 0 MOVE_LIMIT d ts is (Fresh.All-EachFrom (IsMoveBelow states) [] ts below) (omega arith) hi
 
-  pub inputs_at-takes : (variables : ℕ) (path : List ℕ) (d : Data) (qs : List ℕ) → inputs_at variables states path d ≡ Ok qs → IsList IsNumber qs d × All (λ q. q < states) qs × (length qs ≡ variables)
-  unfolding inputs_at
-  inputs_at-takes variables path d qs e =
-      let r = Readers.list-takes (state_item path states) IsNumber (λ _ q. q < states) (λ found i d q e. state_takes (item_path path i) d q e) path variables variables d qs e in
-      (r.0, Fresh.EachFrom-All (λ q. q < states) [] qs r.1, omega (arith, r.2, r.3))
+  pub states_at-takes : (least most : ℕ) (path : List ℕ) (d : Data) (qs : List ℕ) → states_at least most states path d ≡ Ok qs → IsList IsNumber qs d × All (λ q. q < states) qs × (least ≤ length qs) × (length qs ≤ most)
+  unfolding states_at
+  states_at-takes least most path d qs e =
+      let r = Readers.list-takes (state_item path states) IsNumber (λ _ q. q < states) (λ found i d q e. state_takes (item_path path i) d q e) path least most d qs e in
+      (r.0, Fresh.EachFrom-All (λ q. q < states) [] qs r.1, r.2, r.3)
 
-  pub inputs_at-again : (variables : ℕ) (path : List ℕ) (d : Data) (qs : List ℕ) → IsList IsNumber qs d → All (λ q. q < states) qs → length qs ≡ variables → inputs_at variables states path d ≡ Ok qs
-  unfolding inputs_at
-  inputs_at-again variables path d qs is below long =
-      Readers.list-again (state_item path states) IsNumber (λ _ q. q < states) (λ found i d q is below. state_again (item_path path i) d q is below) path variables variables d qs is (Fresh.All-EachFrom (λ q. q < states) [] qs below) (omega arith) (omega arith)
+  pub states_at-again : (least most : ℕ) (path : List ℕ) (d : Data) (qs : List ℕ) → IsList IsNumber qs d → All (λ q. q < states) qs → least ≤ length qs → length qs ≤ most → states_at least most states path d ≡ Ok qs
+  unfolding states_at
+  states_at-again least most path d qs is below lo hi =
+      Readers.list-again (state_item path states) IsNumber (λ _ q. q < states) (λ found i d q is below. state_again (item_path path i) d q is below) path least most d qs is (Fresh.All-EachFrom (λ q. q < states) [] qs below) lo hi
 
   any_truth : (found bs : List Bool) → Readers.EachFrom (λ _ _. Unit {0}) found bs
   any_truth found [] = tt
@@ -158,84 +162,142 @@ module _ (states : ℕ) (some_state : 1 ≤ states) where
   outputs_at-again path d bs is long =
       Readers.list-again (truth_item path) IsTruth (λ _ _. Unit {0}) (λ found i d b is any. Readers.truth_at-again (item_path path i) d b is) path states states d bs is (any_truth [] bs) (omega arith) (omega arith)
 
-module _ (variables : ℕ) (some_variable : 1 ≤ variables) (few_variables : variables ≤ 16) where
-  -- the leaf of the four lists that were read
-  leaf_of : (path : List ℕ) (d : Data) (ss : List (List ℕ)) (ts : List Move) (qs : List ℕ) (bs : List Bool)
-      → member_by path (codes "states") (names_at is_state_name 256) d ≡ Ok ss
+-- how many helpers a range allows
+abbrev pub Allows : Option (ℕ × ℕ) → List ℕ → Type 0
+Allows None hs = Unit {0}
+Allows (Some range) hs = (range.0 ≤ length hs) × (length hs ≤ range.1)
+
+-- what a file says of helpers
+abbrev pub TellsHelpers : Option (ℕ × ℕ) → List ℕ → Data → Type 0
+TellsHelpers None hs d = hs ≡ []
+TellsHelpers (Some range) hs d = HasMember (codes "helpers") (IsList IsNumber hs) d
+
+pub helpers_at-takes : (range : Option (ℕ × ℕ)) (states : ℕ) → 1 ≤ states → (path : List ℕ) (d : Data) (hs : List ℕ) → helpers_at range states path d ≡ Ok hs → TellsHelpers range hs d × All (λ q. q < states) hs × Allows range hs
+helpers_at-takes None states some path d hs e =
+    let none : hs ≡ [] = cc in
+    (none, subst (All (λ q. q < states)) (sym none) (All-nil (λ q. q < states)), tt)
+helpers_at-takes (Some range) states some path d hs e =
+    let h = bind_ok (member_at path (codes "helpers") d) (λ e. states_at range.0 range.1 states (member_path path (codes "helpers")) e) hs e in
+    let t = states_at-takes states some range.0 range.1 (member_path path (codes "helpers")) h.0 hs h.2 in
+    ((h.0, Readers.member_at-takes path (codes "helpers") d h.0 h.1, t.0), t.1, (t.2, t.3))
+
+pub helpers_at-again : (range : Option (ℕ × ℕ)) (states : ℕ) → 1 ≤ states → (path : List ℕ) (d : Data) (hs : List ℕ) → TellsHelpers range hs d → All (λ q. q < states) hs → Allows range hs → helpers_at range states path d ≡ Ok hs
+helpers_at-again None states some path d hs told below fits = ap Ok (sym told)
+helpers_at-again (Some range) states some path d hs told below fits =
+    rw (told.1) (states_at-again states some range.0 range.1 (member_path path (codes "helpers")) told.0 hs told.2 below fits.0 fits.1)
+
+module _ (format variables : ℕ) (known : (format ≡ PLAIN_FORMAT) ⊎ (format ≡ HELPER_FORMAT)) (some_variable : 1 ≤ variables) (few_variables : variables ≤ VARIABLE_LIMIT) where
+  -- what a file says of helpers, by its format
+  of_format : (found : List LeafModel) (hs : List ℕ) (d : Data) → TellsHelpers (helper_range format found) hs d → AreHelpers format hs d
+  of_format found hs d = by_format known
+    where
+      by_format : (format ≡ PLAIN_FORMAT) ⊎ (format ≡ HELPER_FORMAT) → TellsHelpers (helper_range format found) hs d → AreHelpers format hs d
+      by_format (inl plain) told = inl (plain, subst (λ (f : ℕ). TellsHelpers (helper_range f found) hs d) plain told)
+      by_format (inr helped) told = inr (helped, subst (λ (f : ℕ). TellsHelpers (helper_range f found) hs d) helped told)
+
+  -- the leaf of the lists that were read
+  leaf_of : (range : Option (ℕ × ℕ)) (path : List ℕ) (d : Data) (ss : List (List ℕ)) (ts : List Move) (qs : List ℕ) (bs : List Bool) (hs : List ℕ)
+      → member_by path (codes "states") (names_at is_state_name STATE_LIMIT) d ≡ Ok ss
       → member_by path (codes "moves") (moves_at (length ss)) d ≡ Ok ts
       → member_by path (codes "input") (inputs_at variables (length ss)) d ≡ Ok qs
       → member_by path (codes "output") (outputs_at (length ss)) d ≡ Ok bs
-      → (let leaf : LeafModel = record { states = ss; moves = ts; inputs = qs; outputs = bs } in IsLeafFile leaf d × IsLeaf leaf × (length leaf.inputs ≡ variables))
-  leaf_of path d ss ts qs bs s m q o =
-      let s' = bind_ok (member_at path (codes "states") d) (λ e. names_at is_state_name 256 (member_path path (codes "states")) e) ss s in
+      → helpers_at range (length ss) path d ≡ Ok hs
+      → (let leaf : LeafModel = record { states = ss; moves = ts; inputs = qs; outputs = bs; helpers = hs } in ((TellsHelpers range hs d → AreHelpers format hs d) → IsLeafFile format leaf d) × (IfSome range (λ r. r.1 ≤ HELPER_LIMIT) → IsLeaf leaf) × (length leaf.inputs ≡ variables) × TellsHelpers range hs d × Allows range hs)
+  leaf_of range path d ss ts qs bs hs s m q o h =
+      let s' = bind_ok (member_at path (codes "states") d) (λ e. names_at is_state_name STATE_LIMIT (member_path path (codes "states")) e) ss s in
       let m' = bind_ok (member_at path (codes "moves") d) (λ e. moves_at (length ss) (member_path path (codes "moves")) e) ts m in
       let q' = bind_ok (member_at path (codes "input") d) (λ e. inputs_at variables (length ss) (member_path path (codes "input")) e) qs q in
       let o' = bind_ok (member_at path (codes "output") d) (λ e. outputs_at (length ss) (member_path path (codes "output")) e) bs o in
-      let st = names_at-takes is_state_name 256 (member_path path (codes "states")) s'.0 ss s'.2 in
+      let st = names_at-takes is_state_name STATE_LIMIT (member_path path (codes "states")) s'.0 ss s'.2 in
       let mt = moves_at-takes (length ss) st.2 (member_path path (codes "moves")) m'.0 ts m'.2 in
-      let qt = inputs_at-takes (length ss) st.2 variables (member_path path (codes "input")) q'.0 qs q'.2 in
-      let ot = outputs_at-takes (length ss) st.2 (member_path path (codes "output")) o'.0 bs o'.2 in (
-        record {
+      let qt = states_at-takes (length ss) st.2 variables variables (member_path path (codes "input")) q'.0 qs q'.2 in
+      let ot = outputs_at-takes (length ss) st.2 (member_path path (codes "output")) o'.0 bs o'.2 in
+      let ht = helpers_at-takes range (length ss) st.2 path d hs h in
+      let inputs : length qs ≡ variables = (let lo = qt.2 in let hi = qt.3 in omega (arith, lo, hi)) in (
+        λ told. record {
           states = (s'.0, Readers.member_at-takes path (codes "states") d s'.0 s'.1, st.0);
           moves = (m'.0, Readers.member_at-takes path (codes "moves") d m'.0 m'.1, mt.0);
           input = (q'.0, Readers.member_at-takes path (codes "input") d q'.0 q'.1, qt.0);
           output = (o'.0, Readers.member_at-takes path (codes "output") d o'.0 o'.1, ot.0);
+          helpers = told ht.0;
         },
-        record {
+        λ most. record {
           names = st.1;
           some_state = st.2;
           states = st.3;
           move_count = mt.2;
           moves = mt.1;
-          some_input = rw qt.2 some_variable;
-          input_count = rw qt.2 few_variables;
+          some_input = rw inputs some_variable;
+          input_count = rw inputs few_variables;
           inputs = qt.1;
           outputs = ot.1;
+          helper_count = few_helpers range hs d most ht.0 ht.2;
+          helpers = ht.1;
         },
-        qt.2,
+        inputs,
+        ht.0,
+        ht.2,
       )
+    where
+      few_helpers : (range : Option (ℕ × ℕ)) (hs : List ℕ) (d : Data) → IfSome range (λ r. r.1 ≤ HELPER_LIMIT) → TellsHelpers range hs d → Allows range hs → length hs ≤ HELPER_LIMIT
+      few_helpers None hs d most none fits = let z : length hs ≡ 0 = ap length none in omega (arith, z)
+      few_helpers (Some r) hs d most told fits = let hi = fits.1 in omega (arith, most, hi)
 
-  -- the four lists that were read make a leaf
-  pub leaf_read : (path : List ℕ) (d e f g h : Data) (n : ℕ) (ss : List (List ℕ)) (ts : List Move) (qs : List ℕ) (bs : List Bool) → n ≡ length ss
-      → member_at path (codes "states") d ≡ Ok e → names_at is_state_name 256 (member_path path (codes "states")) e ≡ Ok ss
+  -- the lists that were read make a leaf
+  pub leaf_read : (range : Option (ℕ × ℕ)) (path : List ℕ) (d e f g h : Data) (n : ℕ) (ss : List (List ℕ)) (ts : List Move) (qs : List ℕ) (bs : List Bool) (hs : List ℕ) → n ≡ length ss
+      → IfSome range (λ r. r.1 ≤ HELPER_LIMIT)
+      → member_at path (codes "states") d ≡ Ok e → names_at is_state_name STATE_LIMIT (member_path path (codes "states")) e ≡ Ok ss
       → member_at path (codes "moves") d ≡ Ok f → moves_at n (member_path path (codes "moves")) f ≡ Ok ts
       → member_at path (codes "input") d ≡ Ok g → inputs_at variables n (member_path path (codes "input")) g ≡ Ok qs
       → member_at path (codes "output") d ≡ Ok h → outputs_at n (member_path path (codes "output")) h ≡ Ok bs
-      → IsLeaf (record { states = ss; moves = ts; inputs = qs; outputs = bs })
-  leaf_read path d e f g h n ss ts qs bs long s s' m m' q q' o o' =
-      (leaf_of path d ss ts qs bs
+      → helpers_at range n path d ≡ Ok hs
+      → IsLeaf (record { states = ss; moves = ts; inputs = qs; outputs = bs; helpers = hs })
+  leaf_read range path d e f g h n ss ts qs bs hs long most s s' m m' q q' o o' hs' =
+      (leaf_of range path d ss ts qs bs hs
       (rw s s')
       (rw m (subst (λ (k : ℕ). moves_at k (member_path path (codes "moves")) f ≡ Ok ts) long m'))
       (rw q (subst (λ (k : ℕ). inputs_at variables k (member_path path (codes "input")) g ≡ Ok qs) long q'))
-      (rw o (subst (λ (k : ℕ). outputs_at k (member_path path (codes "output")) h ≡ Ok bs) long o'))).1
+      (rw o (subst (λ (k : ℕ). outputs_at k (member_path path (codes "output")) h ≡ Ok bs) long o'))
+      (subst (λ (k : ℕ). helpers_at range k path d ≡ Ok hs) long hs')).1 most
 
-  pub leaf_at-takes : (path : List ℕ) (d : Data) (leaf : LeafModel) → leaf_at variables path d ≡ Ok leaf → IsLeafFile leaf d × IsLeaf leaf × (length leaf.inputs ≡ variables)
+  -- what is known of a leaf that stands behind others
+  abbrev pub Follows : List LeafModel → LeafModel → Type 0
+  Follows found leaf =
+      (IfSome (helper_range format found) (λ r. r.1 ≤ HELPER_LIMIT) → IsLeaf leaf) × (length leaf.inputs ≡ variables) × Allows (helper_range format found) leaf.helpers × (format ≡ PLAIN_FORMAT → leaf.helpers ≡ [])
+
+  pub leaf_at-takes : (found : List LeafModel) (path : List ℕ) (d : Data) (leaf : LeafModel) → leaf_at (helper_range format found) variables path d ≡ Ok leaf → IsLeafFile format leaf d × Follows found leaf
   unfolding leaf_at
-  leaf_at-takes path d leaf e =
-      let made = λ (ss : List (List ℕ)) (ts : List Move) (qs : List ℕ) (bs : List Bool). (let o : Result LeafModel Fault = Ok (record { states = ss; moves = ts; inputs = qs; outputs = bs }) in o) in
-      let names = member_by path (codes "states") (names_at is_state_name 256) d in
+  leaf_at-takes found path d leaf e =
+      let range = helper_range format found in
+      let made = λ (ss : List (List ℕ)) (ts : List Move) (qs : List ℕ) (bs : List Bool) (hs : List ℕ). (let o : Result LeafModel Fault = Ok (record { states = ss; moves = ts; inputs = qs; outputs = bs; helpers = hs }) in o) in
+      let names = member_by path (codes "states") (names_at is_state_name STATE_LIMIT) d in
       let moves = λ (ss : List (List ℕ)). member_by path (codes "moves") (moves_at (length ss)) d in
       let input = λ (ss : List (List ℕ)). member_by path (codes "input") (inputs_at variables (length ss)) d in
       let output = λ (ss : List (List ℕ)). member_by path (codes "output") (outputs_at (length ss)) d in
-      let a = bind_ok (object_at path d) (λ o. names >>= λ ss. moves ss >>= λ ts. input ss >>= λ qs. output ss >>= λ bs. made ss ts qs bs) leaf e in
-      let s = bind_ok names (λ ss. moves ss >>= λ ts. input ss >>= λ qs. output ss >>= λ bs. made ss ts qs bs) leaf a.2 in
-      let m = bind_ok (moves s.0) (λ ts. input s.0 >>= λ qs. output s.0 >>= λ bs. made s.0 ts qs bs) leaf s.2 in
-      let q = bind_ok (input s.0) (λ qs. output s.0 >>= λ bs. made s.0 m.0 qs bs) leaf m.2 in
-      let o = bind_ok (output s.0) (λ bs. made s.0 m.0 q.0 bs) leaf q.2 in
-      subst (λ (l : LeafModel). IsLeafFile l d × IsLeaf l × (length l.inputs ≡ variables)) (same_ok (record { states = s.0; moves = m.0; inputs = q.0; outputs = o.0 }) leaf o.2) (leaf_of path d s.0 m.0 q.0 o.0 s.1 m.1 q.1 o.1)
+      let helpers = λ (ss : List (List ℕ)). helpers_at range (length ss) path d in
+      let a = bind_ok (object_at path d) (λ o. names >>= λ ss. moves ss >>= λ ts. input ss >>= λ qs. output ss >>= λ bs. helpers ss >>= λ hs. made ss ts qs bs hs) leaf e in
+      let s = bind_ok names (λ ss. moves ss >>= λ ts. input ss >>= λ qs. output ss >>= λ bs. helpers ss >>= λ hs. made ss ts qs bs hs) leaf a.2 in
+      let m = bind_ok (moves s.0) (λ ts. input s.0 >>= λ qs. output s.0 >>= λ bs. helpers s.0 >>= λ hs. made s.0 ts qs bs hs) leaf s.2 in
+      let q = bind_ok (input s.0) (λ qs. output s.0 >>= λ bs. helpers s.0 >>= λ hs. made s.0 m.0 qs bs hs) leaf m.2 in
+      let o = bind_ok (output s.0) (λ bs. helpers s.0 >>= λ hs. made s.0 m.0 q.0 bs hs) leaf q.2 in
+      let h = bind_ok (helpers s.0) (λ hs. made s.0 m.0 q.0 o.0 hs) leaf o.2 in
+      let r = leaf_of range path d s.0 m.0 q.0 o.0 h.0 s.1 m.1 q.1 o.1 h.1 in
+      subst (λ (l : LeafModel). IsLeafFile format l d × Follows found l) (same_ok (record { states = s.0; moves = m.0; inputs = q.0; outputs = o.0; helpers = h.0 }) leaf h.2)
+      (r.0 (of_format found h.0 d), (r.1, r.2, r.4, λ plain. subst (λ (f : ℕ). TellsHelpers (helper_range f found) h.0 d) plain r.3))
 
-pub leaf_at-again : (variables : ℕ) (path : List ℕ) (d : Data) (leaf : LeafModel) → IsLeafFile leaf d → IsLeaf leaf → length leaf.inputs ≡ variables → leaf_at variables path d ≡ Ok leaf
+pub leaf_at-again : (range : Option (ℕ × ℕ)) (format variables : ℕ) (path : List ℕ) (d : Data) (leaf : LeafModel) → IsLeafFile format leaf d → TellsHelpers range leaf.helpers d → Allows range leaf.helpers → IsLeaf leaf → length leaf.inputs ≡ variables → leaf_at range variables path d ≡ Ok leaf
 unfolding leaf_at
-leaf_at-again variables path d leaf file is long =
+leaf_at-again range format variables path d leaf file told fits is long =
     let n = length leaf.states in
     rw (
       Readers.object_at-again path (codes "states") d file.states.0 file.states.1,
       file.states.1,
-      names_at-again is_state_name 256 (member_path path (codes "states")) file.states.0 leaf.states file.states.2 is.names is.some_state is.states,
+      names_at-again is_state_name STATE_LIMIT (member_path path (codes "states")) file.states.0 leaf.states file.states.2 is.names is.some_state is.states,
       file.moves.1,
       moves_at-again n is.some_state (member_path path (codes "moves")) file.moves.0 leaf.moves file.moves.2 is.moves is.move_count,
       file.input.1,
-      inputs_at-again n is.some_state variables (member_path path (codes "input")) file.input.0 leaf.inputs file.input.2 is.inputs long,
+      states_at-again n is.some_state variables variables (member_path path (codes "input")) file.input.0 leaf.inputs file.input.2 is.inputs (omega (arith, long)) (omega (arith, long)),
       file.output.1,
       outputs_at-again n is.some_state (member_path path (codes "output")) file.output.0 leaf.outputs file.output.2 is.outputs,
+      helpers_at-again range n is.some_state path d leaf.helpers told is.helpers fits,
     ) refl

@@ -1,6 +1,6 @@
 mod Moves
 mod LeafLaws
 mod Postfix
-mod NetLaws
+pub mod NetLaws
 mod Items
 pub mod Writes

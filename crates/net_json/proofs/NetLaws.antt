@@ -1,6 +1,8 @@
 -- What is read of a net is the net of its file, and each file of a net is read.
-use Rattle.std.proofs.Common.{◌≡◌, ℕ, ◌-◌, ◌≤◌, Bool, true, false, cond, List, [], ◌∷◌, ◌++◌, length, codes, Option, Some, None, Result, Ok, Err, refl, ap, subst, ◌∙◌, arith}
-use Rattle.std.specs.Prelude.{All, is_some, IsSomeAnd, IfOk, IfErr}
+use Rattle.std.proofs.Common.{◌≡◌, ◌≢◌, ◌⊎◌, inl, inr, ℕ, ◌-◌, ◌≤◌, Bool, true, false, cond, List, [], ◌∷◌, ◌++◌, length, codes, Option, Some, None, Result, Ok, Err, refl, ap, sym, subst, ◌∙◌, arith}
+use Rattle.std.specs.Prelude.{All, is_some, IsSomeAnd, IfSome, IfOk, IfErr, ◌==◌, if◌then◌else◌}
+use Rattle.std.proofs.lemmas.List.Elements.{All-nil, All-cons, All-head, All-tail}
+use Rattle.std.proofs.lemmas.Bool.Decides.{eqb_tells}
 use Rattle.std.specs.Str.{bytes_eq}
 use Rattle.std.proofs.lemmas.Slice.Eq.{bytes_eq-Decides}
 use Rattle.serde_json.specs.Data.{Data, null, boolean, number, string, array, object}
@@ -11,20 +13,24 @@ use Rattle.json_shape.specs.declared.fault.FormatFault.{FormatFault}
 use Rattle.json_shape.specs.declared.fault.FormatFault.TheVariants.{Broken, NoMemory}
 use Rattle.json_shape.specs.Faults.{Fault, ◌>>=◌, broken, Gives}
 use Rattle.json_shape.specs.Paths.{member_path, item_path}
-use Rattle.json_shape.specs.Shapes.{object_at, member_at, member_by, number_at}
-use Rattle.json_shape.specs.Parts.{IsNumber, IsList}
+use Rattle.json_shape.specs.Shapes.{listed, object_at, member_at, member_by, number_at}
+use Rattle.json_shape.specs.Parts.{IsNumber, AreItems, IsList}
 use Rattle.json_shape.proofs.Steps.{bind_ok, guard_ok, same_ok}
 use Rattle.json_shape.proofs.Readers
 use Rattle.json_shape.proofs.Fresh
 use Rattle.pop_net.specs.declared.net.Item.{Item}
 use Rattle.pop_net.specs.declared.net.Item.TheVariants.{Leaf, Not, And, Or}
 use Rattle.pop_net.specs.LeafModel.{LeafModel, IsLeaf}
-use Rattle.pop_net.specs.NetModel.{NetModel, IsNet, NamesBelow, combined, depths}
-use Rattle.pop_net.specs.NetFaults.{are_low}
-use Rattle.net_json.specs.NetFile.{IsItem, IsLeafFile, IsNetFile}
+use Rattle.pop_net.specs.NetModel.{NetModel, IsNet, NamesBelow, combined, depths, helpers_of}
+use Rattle.pop_net.specs.NetFaults.{are_low, wide_leaf}
+use Rattle.pop_io.specs.declared.names.TheConstants.{VARIABLE_LIMIT}
+use Rattle.pop_net.specs.declared.limits.TheConstants.{HELPER_LIMIT, LEAF_LIMIT, ITEM_LIMIT, DEPTH_LIMIT}
+use Rattle.pop_net.proofs.NetFaults.{none_wide}
+use Rattle.net_json.specs.declared.format.TheConstants.{PLAIN_FORMAT, HELPER_FORMAT}
+use Rattle.net_json.specs.NetFile.{IsItem, AreHelpers, IsLeafFile, IsNetFile}
 use Rattle.net_json.specs.Kept.{IsBroken}
-use Rattle.net_json.specs.Examined.{names_at, leaf_item, leaves_at, operand_at, open_depths, item_at, combine_item, items_at, combine_at, net_at}
-use Rattle.net_json.proofs.LeafLaws.{names_at-takes, names_at-again, leaf_at-takes, leaf_at-again}
+use Rattle.net_json.specs.Examined.{names_at, range_after, helper_range, leaf_item, leaves_at, fitting, operand_at, open_depths, item_at, combine_item, items_at, combine_at, net_at}
+use Rattle.net_json.proofs.LeafLaws.{names_at-takes, names_at-again, Allows, TellsHelpers, Follows, leaf_at-takes, leaf_at-again}
 use Rattle.net_json.proofs.Postfix.{IsPlaced, placed-takes, placed-again, one_tree, some_item}
 
 same_bytes : (s t : List ℕ) → bytes_eq s t ≡ true → s ≡ t
@@ -87,63 +93,153 @@ module _ (leaves : ℕ) (some_leaf : 1 ≤ leaves) where
   fit_both found [] below placed = tt
   fit_both found (x ∷ xs) below placed = ((below.0, placed.0), fit_both (found ++ x ∷ []) xs below.1 placed.1)
 
-  pub combine_at-takes : (path : List ℕ) (d : Data) (items : List Item) → combine_at leaves path d ≡ Ok items → IsList IsItem items d × All (NamesBelow leaves) items × (length items ≤ 1024) × IsSomeAnd (combined depths items) (λ n. n ≤ 65)
+  pub combine_at-takes : (path : List ℕ) (d : Data) (items : List Item) → combine_at leaves path d ≡ Ok items → IsList IsItem items d × All (NamesBelow leaves) items × (length items ≤ ITEM_LIMIT) × IsSomeAnd (combined depths items) (λ n. n ≤ DEPTH_LIMIT)
   unfolding combine_at items_at
   combine_at-takes path d items e =
       let a = bind_ok (items_at leaves path d) (λ xs. cond (is_some (combined depths xs)) (Ok xs) (broken path Shape)) items e in
       let g = guard_ok (is_some (combined depths a.0)) path Shape a.0 items a.2 in
-      let r = Readers.list-takes (combine_item path leaves) IsItem Fits (item_takes path) path 1 1024 d a.0 a.1 in
+      let r = Readers.list-takes (combine_item path leaves) IsItem Fits (item_takes path) path 1 ITEM_LIMIT d a.0 a.1 in
       let below = Fresh.EachFrom-weaker Fits (λ _ x. NamesBelow leaves x) (λ found x fits. fits.0) [] a.0 r.1 in
       let placed = Fresh.EachFrom-weaker Fits IsPlaced (λ found x fits. fits.1) [] a.0 r.1 in
-      subst (λ (xs : List Item). IsList IsItem xs d × All (NamesBelow leaves) xs × (length xs ≤ 1024) × IsSomeAnd (combined depths xs) (λ n. n ≤ 65)) g.1
+      subst (λ (xs : List Item). IsList IsItem xs d × All (NamesBelow leaves) xs × (length xs ≤ ITEM_LIMIT) × IsSomeAnd (combined depths xs) (λ n. n ≤ DEPTH_LIMIT)) g.1
       (r.0, Fresh.EachFrom-All (NamesBelow leaves) [] a.0 below, r.3, placed-takes a.0 r.2 placed g.0)
 
-  pub combine_at-again : (path : List ℕ) (d : Data) (items : List Item) → IsList IsItem items d → All (NamesBelow leaves) items → length items ≤ 1024 → IsSomeAnd (combined depths items) (λ n. n ≤ 65) → combine_at leaves path d ≡ Ok items
+  pub combine_at-again : (path : List ℕ) (d : Data) (items : List Item) → IsList IsItem items d → All (NamesBelow leaves) items → length items ≤ ITEM_LIMIT → IsSomeAnd (combined depths items) (λ n. n ≤ DEPTH_LIMIT) → combine_at leaves path d ≡ Ok items
   unfolding combine_at items_at
   combine_at-again path d items is below hi one =
       let fits = fit_both [] items (Fresh.All-EachFrom (NamesBelow leaves) [] items below) (placed-again items one) in
-      rw (Readers.list-again (combine_item path leaves) IsItem Fits (item_again path) path 1 1024 d items is fits (some_item items one) hi, one_tree items one) refl
+      rw (Readers.list-again (combine_item path leaves) IsItem Fits (item_again path) path 1 ITEM_LIMIT d items is fits (some_item items one) hi, one_tree items one) refl
 
 -- the leaves have as many inputs as there are variables
 abbrev IsLeafOf : ℕ → LeafModel → Type 0
 IsLeafOf variables leaf = IsLeaf leaf × (length leaf.inputs ≡ variables)
 
-leaves_at-takes : (variables : ℕ) → 1 ≤ variables → variables ≤ 16 → (path : List ℕ) (d : Data) (leaves : List LeafModel) → leaves_at variables path d ≡ Ok leaves
-    → IsList IsLeafFile leaves d × All (IsLeafOf variables) leaves × (1 ≤ length leaves) × (length leaves ≤ 8)
-unfolding leaves_at
-leaves_at-takes variables lo hi path d leaves e =
-    let taken = λ (found : List LeafModel) (i : ℕ) (x : Data) (leaf : LeafModel) (is : leaf_item variables path found i x ≡ Ok leaf). (
-    let t = leaf_at-takes variables lo hi (item_path path i) x leaf is in
-    let both : IsLeafFile leaf x × IsLeafOf variables leaf = (t.0, (t.1, t.2)) in
-    both
-    ) in
-    let r = Readers.list-takes (leaf_item variables path) IsLeafFile (λ _ leaf. IsLeafOf variables leaf) taken path 1 8 d leaves e in
-    (r.0, Fresh.EachFrom-All (IsLeafOf variables) [] leaves r.1, r.2, r.3)
+module _ (format variables : ℕ) (known : (format ≡ PLAIN_FORMAT) ⊎ (format ≡ HELPER_FORMAT)) (lo : 1 ≤ variables) (hi : variables ≤ VARIABLE_LIMIT) where
+  abbrev FollowsHere : List LeafModel → LeafModel → Type 0
+  FollowsHere = Follows format variables known lo hi
 
-leaves_at-again : (variables : ℕ) (path : List ℕ) (d : Data) (leaves : List LeafModel) → IsList IsLeafFile leaves d → All (IsLeafOf variables) leaves → 1 ≤ length leaves → length leaves ≤ 8 → leaves_at variables path d ≡ Ok leaves
-unfolding leaves_at
-leaves_at-again variables path d leaves is each_leaf lo hi =
-    Readers.list-again (leaf_item variables path) IsLeafFile (λ _ leaf. IsLeafOf variables leaf) (λ found i x leaf file fits. leaf_at-again variables (item_path path i) x leaf file fits.0 fits.1) path 1 8 d leaves is (Fresh.All-EachFrom (IsLeafOf variables) [] leaves each_leaf) lo hi
+  -- a range of as many helpers as the first leaf has
+  one_number : (first leaf : LeafModel) (found : List LeafModel) → (format ≡ PLAIN_FORMAT → first.helpers ≡ []) → FollowsHere (first ∷ found) leaf → length leaf.helpers ≡ length first.helpers
+  one_number first leaf found none h = by_format known
+    where
+      by_format : (format ≡ PLAIN_FORMAT) ⊎ (format ≡ HELPER_FORMAT) → length leaf.helpers ≡ length first.helpers
+      by_format (inl plain) = ap length (h.3 plain) ∙ sym (ap length (none plain))
+      by_format (inr helped) =
+          let a : Allows (helper_range HELPER_FORMAT (first ∷ found)) leaf.helpers = subst (λ (f : ℕ). Allows (helper_range f (first ∷ found)) leaf.helpers) helped h.2 in
+          let x = a.0 in
+          let y = a.1 in
+          omega (arith, x, y)
+
+  in_limit : (first : LeafModel) (found : List LeafModel) → IsLeaf first → IfSome (helper_range format (first ∷ found)) (λ r. r.1 ≤ HELPER_LIMIT)
+  in_limit first found is = go (format == PLAIN_FORMAT)
+    where
+      go : (b : Bool) → IfSome (if b then None else Some (range_after (first ∷ found))) (λ (r : ℕ × ℕ). r.1 ≤ HELPER_LIMIT)
+      go true = tt
+      go false = is.helper_count
+
+  -- the leaves behind the first one
+  later_leaves : (first : LeafModel) (found leaves : List LeafModel) → IsLeaf first → (format ≡ PLAIN_FORMAT → first.helpers ≡ []) → Readers.EachFrom FollowsHere (first ∷ found) leaves → All (λ leaf. IsLeafOf variables leaf × (length leaf.helpers ≡ length first.helpers)) leaves
+  later_leaves first found [] is none each = All-nil (λ leaf. IsLeafOf variables leaf × (length leaf.helpers ≡ length first.helpers))
+  later_leaves first found (leaf ∷ leaves) is none each =
+      All-cons (λ leaf. IsLeafOf variables leaf × (length leaf.helpers ≡ length first.helpers)) leaf leaves
+      ((each.0.0 (in_limit first found is), each.0.1), one_number first leaf found none each.0)
+      (later_leaves first (found ++ leaf ∷ []) leaves is none each.1)
+
+  first_in_limit : IfSome (helper_range format []) (λ r. r.1 ≤ HELPER_LIMIT)
+  first_in_limit = go (format == PLAIN_FORMAT)
+    where
+      go : (b : Bool) → IfSome (if b then None else Some (range_after [])) (λ (r : ℕ × ℕ). r.1 ≤ HELPER_LIMIT)
+      go true = tt
+      go false = omega arith
+
+  all_leaves : (leaves : List LeafModel) → Readers.EachFrom FollowsHere [] leaves → All (λ leaf. IsLeafOf variables leaf × (length leaf.helpers ≡ helpers_of leaves)) leaves
+  all_leaves [] each = All-nil (λ leaf. IsLeafOf variables leaf × (length leaf.helpers ≡ 0))
+  all_leaves (leaf ∷ leaves) each =
+      let is = each.0.0 first_in_limit in
+      All-cons (λ (l : LeafModel). IsLeafOf variables l × (length l.helpers ≡ length leaf.helpers)) leaf leaves ((is, each.0.1), refl)
+      (later_leaves leaf [] leaves is each.0.3 each.1)
+
+  leaves_at-takes : (path : List ℕ) (d : Data) (leaves : List LeafModel) → leaves_at format variables path d ≡ Ok leaves
+      → IsList (IsLeafFile format) leaves d × All (λ leaf. IsLeafOf variables leaf × (length leaf.helpers ≡ helpers_of leaves)) leaves × (1 ≤ length leaves) × (length leaves ≤ LEAF_LIMIT)
+  unfolding leaves_at
+  leaves_at-takes path d leaves e =
+      let r = Readers.list-takes (leaf_item format variables path) (IsLeafFile format) FollowsHere (λ found i x leaf is. leaf_at-takes format variables known lo hi found (item_path path i) x leaf is) path 1 LEAF_LIMIT d leaves e in
+      (r.0, all_leaves leaves r.1, r.2, r.3)
+
+-- what is asked of a leaf behind others, to be read
+abbrev Fitting : ℕ → ℕ → List LeafModel → LeafModel → Type 0
+Fitting format variables found leaf = IsLeafOf variables leaf × Allows (helper_range format found) leaf.helpers
+
+module _ (format variables : ℕ) where
+  allowed : (found : List LeafModel) (hs : List ℕ) → (range_after found).0 ≤ length hs → length hs ≤ (range_after found).1 → Allows (helper_range format found) hs
+  allowed found hs least most = go (format == PLAIN_FORMAT)
+    where
+      go : (b : Bool) → Allows (if b then None else Some (range_after found)) hs
+      go true = tt
+      go false = (least, most)
+
+  fitting_later : (first : LeafModel) (found leaves : List LeafModel) → All (λ leaf. IsLeafOf variables leaf × (length leaf.helpers ≡ length first.helpers)) leaves → Readers.EachFrom (Fitting format variables) (first ∷ found) leaves
+  fitting_later first found [] all = tt
+  fitting_later first found (leaf ∷ leaves) all =
+      let here = All-head (λ leaf. IsLeafOf variables leaf × (length leaf.helpers ≡ length first.helpers)) leaf leaves all in
+      let same = here.1 in (
+        (here.0, allowed (first ∷ found) leaf.helpers (omega (arith, same)) (omega (arith, same))),
+        fitting_later first (found ++ leaf ∷ []) leaves (All-tail (λ leaf. IsLeafOf variables leaf × (length leaf.helpers ≡ length first.helpers)) leaf leaves all),
+      )
+
+  fitting_each : (leaves : List LeafModel) → All (λ leaf. IsLeafOf variables leaf × (length leaf.helpers ≡ helpers_of leaves)) leaves → Readers.EachFrom (Fitting format variables) [] leaves
+  fitting_each [] all = tt
+  fitting_each (leaf ∷ leaves) all =
+      let here = All-head (λ (l : LeafModel). IsLeafOf variables l × (length l.helpers ≡ length leaf.helpers)) leaf leaves all in
+      let few = here.0.0.helper_count in (
+        (here.0, allowed [] leaf.helpers (omega arith) few),
+        fitting_later leaf [] leaves (All-tail (λ (l : LeafModel). IsLeafOf variables l × (length l.helpers ≡ length leaf.helpers)) leaf leaves all),
+      )
+
+  -- what a file of a format says of helpers
+  told : (found : List LeafModel) (hs : List ℕ) (d : Data) → AreHelpers format hs d → TellsHelpers (helper_range format found) hs d
+  told found hs d (inl h) = subst (λ (f : ℕ). TellsHelpers (helper_range f found) hs d) (sym h.0) h.1
+  told found hs d (inr h) = subst (λ (f : ℕ). TellsHelpers (helper_range f found) hs d) (sym h.0) h.1
+
+  leaves_at-again : (path : List ℕ) (d : Data) (leaves : List LeafModel) → IsList (IsLeafFile format) leaves d → All (λ leaf. IsLeafOf variables leaf × (length leaf.helpers ≡ helpers_of leaves)) leaves → 1 ≤ length leaves → length leaves ≤ LEAF_LIMIT → leaves_at format variables path d ≡ Ok leaves
+  unfolding leaves_at
+  leaves_at-again path d leaves is all lo hi =
+      Readers.list-again (leaf_item format variables path) (IsLeafFile format) (Fitting format variables)
+      (λ found i x leaf file fits. leaf_at-again (helper_range format found) format variables (item_path path i) x leaf file (told found leaf.helpers x file.helpers) fits.1 fits.0.0 fits.0.1)
+      path 1 LEAF_LIMIT d leaves is (fitting_each leaves all) lo hi
+
+-- no leaf is too wide for the others exactly when a wide net has few leaves
+fitting-takes : (path : List ℕ) (found : Option ℕ) (made net : NetModel) → fitting path found made ≡ Ok net → (found ≡ None) × (made ≡ net)
+fitting-takes path None made net e = (refl, same_ok made net e)
+fitting-takes path (Some i) made net e = absurd cc
+
+known_format : (n : ℕ) → PLAIN_FORMAT ≤ n → n ≤ HELPER_FORMAT → (n ≡ PLAIN_FORMAT) ⊎ (n ≡ HELPER_FORMAT)
+known_format n lo hi = go (eqb_tells n PLAIN_FORMAT)
+  where
+    go : ((n == PLAIN_FORMAT) ≡ true) × (n ≡ PLAIN_FORMAT) ⊎ ((n == PLAIN_FORMAT) ≡ false) × (n ≢ PLAIN_FORMAT) → (n ≡ PLAIN_FORMAT) ⊎ (n ≡ HELPER_FORMAT)
+    go (inl same) = inl same.1
+    go (inr other) = let ne = other.1 in inr (omega (arith, lo, hi, ne))
 
 -- the net of the lists that were read
-net_of : (path : List ℕ) (d : Data) (one : ℕ) (vars : List (List ℕ)) (leaves : List LeafModel) (items : List Item)
-    → member_by path (codes "format") (λ p. number_at p 1 1) d ≡ Ok one
-    → member_by path (codes "vars") (names_at is_variable_name 16) d ≡ Ok vars
-    → member_by path (codes "leaves") (leaves_at (length vars)) d ≡ Ok leaves
+net_of : (path : List ℕ) (d : Data) (format : ℕ) (vars : List (List ℕ)) (leaves : List LeafModel) (items : List Item)
+    → member_by path (codes "format") (λ p. number_at p PLAIN_FORMAT HELPER_FORMAT) d ≡ Ok format
+    → member_by path (codes "vars") (names_at is_variable_name VARIABLE_LIMIT) d ≡ Ok vars
+    → member_by path (codes "leaves") (leaves_at format (length vars)) d ≡ Ok leaves
     → member_by path (codes "combine") (combine_at (length leaves)) d ≡ Ok items
+    → wide_leaf leaves ≡ None
     → IsNetFile (record { variables = vars; leaves = leaves; combine = items }) d
-net_of path d one vars leaves items f v l c =
-    let f' = bind_ok (member_at path (codes "format") d) (λ e. number_at (member_path path (codes "format")) 1 1 e) one f in
-    let v' = bind_ok (member_at path (codes "vars") d) (λ e. names_at is_variable_name 16 (member_path path (codes "vars")) e) vars v in
-    let l' = bind_ok (member_at path (codes "leaves") d) (λ e. leaves_at (length vars) (member_path path (codes "leaves")) e) leaves l in
+net_of path d format vars leaves items f v l c narrow =
+    let f' = bind_ok (member_at path (codes "format") d) (λ e. number_at (member_path path (codes "format")) PLAIN_FORMAT HELPER_FORMAT e) format f in
+    let v' = bind_ok (member_at path (codes "vars") d) (λ e. names_at is_variable_name VARIABLE_LIMIT (member_path path (codes "vars")) e) vars v in
+    let l' = bind_ok (member_at path (codes "leaves") d) (λ e. leaves_at format (length vars) (member_path path (codes "leaves")) e) leaves l in
     let c' = bind_ok (member_at path (codes "combine") d) (λ e. combine_at (length leaves) (member_path path (codes "combine")) e) items c in
-    let ft = Readers.number_at-takes (member_path path (codes "format")) 1 1 f'.0 one f'.2 in
-    let vt = names_at-takes is_variable_name 16 (member_path path (codes "vars")) v'.0 vars v'.2 in
-    let lt = leaves_at-takes (length vars) vt.2 vt.3 (member_path path (codes "leaves")) l'.0 leaves l'.2 in
+    let ft = Readers.number_at-takes (member_path path (codes "format")) PLAIN_FORMAT HELPER_FORMAT f'.0 format f'.2 in
+    let vt = names_at-takes is_variable_name VARIABLE_LIMIT (member_path path (codes "vars")) v'.0 vars v'.2 in
+    let lt = leaves_at-takes format (length vars) (known_format format ft.1 ft.2) vt.2 vt.3 (member_path path (codes "leaves")) l'.0 leaves l'.2 in
     let ct = combine_at-takes (length leaves) lt.2 (member_path path (codes "combine")) c'.0 items c'.2 in
-    let is_one : one ≡ 1 = omega (arith, ft.1, ft.2) in
     record {
-      format = (f'.0, Readers.member_at-takes path (codes "format") d f'.0 f'.1, subst (λ (n : ℕ). IsNumber n f'.0) is_one ft.0);
+      number = format;
+      format = (f'.0, Readers.member_at-takes path (codes "format") d f'.0 f'.1, ft.0);
       vars = (v'.0, Readers.member_at-takes path (codes "vars") d v'.0 v'.1, vt.0);
       leaves = (l'.0, Readers.member_at-takes path (codes "leaves") d l'.0 l'.1, lt.0);
       combine = (c'.0, Readers.member_at-takes path (codes "combine") d c'.0 c'.1, ct.0);
@@ -153,58 +249,82 @@ net_of path d one vars leaves items f v l c =
         variables = vt.3;
         some_leaf = lt.2;
         leaf_count = lt.3;
-        leaves = λ k leaf within. (lt.1 k leaf within).0;
-        inputs = λ k leaf within. (lt.1 k leaf within).1;
+        leaves = λ k leaf within. (lt.1 k leaf within).0.0;
+        inputs = λ k leaf within. (lt.1 k leaf within).0.1;
         items = ct.2;
         leaf_numbers = ct.1;
         depth = ct.3;
+        helpers = λ k leaf within. (lt.1 k leaf within).1;
+        wide = (none_wide leaves).0 narrow;
       };
     }
 
 -- the lists that were read make a net
-pub net_read : (path : List ℕ) (d e f g h : Data) (one m n : ℕ) (vars : List (List ℕ)) (leaves : List LeafModel) (items : List Item) → m ≡ length vars → n ≡ length leaves
-    → member_at path (codes "format") d ≡ Ok e → number_at (member_path path (codes "format")) 1 1 e ≡ Ok one
-    → member_at path (codes "vars") d ≡ Ok f → names_at is_variable_name 16 (member_path path (codes "vars")) f ≡ Ok vars
-    → member_at path (codes "leaves") d ≡ Ok g → leaves_at m (member_path path (codes "leaves")) g ≡ Ok leaves
+pub net_read : (path : List ℕ) (d e f g h : Data) (format m n : ℕ) (vars : List (List ℕ)) (leaves : List LeafModel) (items : List Item) → m ≡ length vars → n ≡ length leaves
+    → member_at path (codes "format") d ≡ Ok e → number_at (member_path path (codes "format")) PLAIN_FORMAT HELPER_FORMAT e ≡ Ok format
+    → member_at path (codes "vars") d ≡ Ok f → names_at is_variable_name VARIABLE_LIMIT (member_path path (codes "vars")) f ≡ Ok vars
+    → member_at path (codes "leaves") d ≡ Ok g → leaves_at format m (member_path path (codes "leaves")) g ≡ Ok leaves
     → member_at path (codes "combine") d ≡ Ok h → combine_at n (member_path path (codes "combine")) h ≡ Ok items
+    → wide_leaf leaves ≡ None
     → IsNet (record { variables = vars; leaves = leaves; combine = items })
-net_read path d e f g h one m n vars leaves items long wide o o' v v' l l' c c' =
-    (net_of path d one vars leaves items
+net_read path d e f g h format m n vars leaves items long wide o o' v v' l l' c c' narrow =
+    (net_of path d format vars leaves items
     (rw o o')
     (rw v v')
-    (rw l (subst (λ (k : ℕ). leaves_at k (member_path path (codes "leaves")) g ≡ Ok leaves) long l'))
-    (rw c (subst (λ (k : ℕ). combine_at k (member_path path (codes "combine")) h ≡ Ok items) wide c'))).fits
+    (rw l (subst (λ (k : ℕ). leaves_at format k (member_path path (codes "leaves")) g ≡ Ok leaves) long l'))
+    (rw c (subst (λ (k : ℕ). combine_at k (member_path path (codes "combine")) h ≡ Ok items) wide c'))
+    narrow).fits
 
 pub net_at-takes : (path : List ℕ) (d : Data) (net : NetModel) → net_at path d ≡ Ok net → IsNetFile net d
 unfolding net_at
 net_at-takes path d net e =
-    let made = λ (vars : List (List ℕ)) (leaves : List LeafModel) (items : List Item). (let o : Result NetModel Fault = Ok (record { variables = vars; leaves = leaves; combine = items }) in o) in
-    let format = member_by path (codes "format") (λ p. number_at p 1 1) d in
-    let names = member_by path (codes "vars") (names_at is_variable_name 16) d in
-    let leaves = λ (vars : List (List ℕ)). member_by path (codes "leaves") (leaves_at (length vars)) d in
+    let made = λ (vars : List (List ℕ)) (leaves : List LeafModel) (items : List Item). fitting path (wide_leaf leaves) (record { variables = vars; leaves = leaves; combine = items }) in
+    let format = member_by path (codes "format") (λ p. number_at p PLAIN_FORMAT HELPER_FORMAT) d in
+    let names = member_by path (codes "vars") (names_at is_variable_name VARIABLE_LIMIT) d in
+    let leaves = λ (format : ℕ) (vars : List (List ℕ)). member_by path (codes "leaves") (leaves_at format (length vars)) d in
     let combine = λ (ls : List LeafModel). member_by path (codes "combine") (combine_at (length ls)) d in
-    let a = bind_ok (object_at path d) (λ o. format >>= λ one. names >>= λ vs. leaves vs >>= λ ls. combine ls >>= λ cs. made vs ls cs) net e in
-    let f = bind_ok format (λ one. names >>= λ vs. leaves vs >>= λ ls. combine ls >>= λ cs. made vs ls cs) net a.2 in
-    let v = bind_ok names (λ vs. leaves vs >>= λ ls. combine ls >>= λ cs. made vs ls cs) net f.2 in
-    let l = bind_ok (leaves v.0) (λ ls. combine ls >>= λ cs. made v.0 ls cs) net v.2 in
+    let a = bind_ok (object_at path d) (λ o. format >>= λ n. names >>= λ vs. leaves n vs >>= λ ls. combine ls >>= λ cs. made vs ls cs) net e in
+    let f = bind_ok format (λ n. names >>= λ vs. leaves n vs >>= λ ls. combine ls >>= λ cs. made vs ls cs) net a.2 in
+    let v = bind_ok names (λ vs. leaves f.0 vs >>= λ ls. combine ls >>= λ cs. made vs ls cs) net f.2 in
+    let l = bind_ok (leaves f.0 v.0) (λ ls. combine ls >>= λ cs. made v.0 ls cs) net v.2 in
     let c = bind_ok (combine l.0) (λ cs. made v.0 l.0 cs) net l.2 in
-    subst (λ (n : NetModel). IsNetFile n d) (same_ok (record { variables = v.0; leaves = l.0; combine = c.0 }) net c.2) (net_of path d f.0 v.0 l.0 c.0 f.1 v.1 l.1 c.1)
+    let w = fitting-takes path (wide_leaf l.0) (record { variables = v.0; leaves = l.0; combine = c.0 }) net c.2 in
+    subst (λ (n : NetModel). IsNetFile n d) w.1 (net_of path d f.0 v.0 l.0 c.0 f.1 v.1 l.1 c.1 w.0)
+
+-- the format that a file of a net names
+format_known : (net : NetModel) (d : Data) (file : IsNetFile net d) → (file.number ≡ PLAIN_FORMAT) ⊎ (file.number ≡ HELPER_FORMAT)
+format_known net d file = go net.leaves (listed file.leaves.2.0) file.fits.some_leaf file.leaves.2.2
+  where
+    by_leaf : (leaf : LeafModel) (d : Data) → AreHelpers file.number leaf.helpers d → (file.number ≡ PLAIN_FORMAT) ⊎ (file.number ≡ HELPER_FORMAT)
+    by_leaf leaf d (inl h) = inl h.0
+    by_leaf leaf d (inr h) = inr h.0
+
+    go : (leaves : List LeafModel) (ds : List Data) → 1 ≤ length leaves → AreItems (IsLeafFile file.number) leaves ds → (file.number ≡ PLAIN_FORMAT) ⊎ (file.number ≡ HELPER_FORMAT)
+    go [] ds some are = absurd (omega arith)
+    go (leaf ∷ leaves) [] some are = absurd are
+    go (leaf ∷ leaves) (d ∷ ds) some are = by_leaf leaf d are.0.helpers
+
+in_range : (n : ℕ) → (n ≡ PLAIN_FORMAT) ⊎ (n ≡ HELPER_FORMAT) → (PLAIN_FORMAT ≤ n) × (n ≤ HELPER_FORMAT)
+in_range n (inl e) = (omega (arith, e), omega (arith, e))
+in_range n (inr e) = (omega (arith, e), omega (arith, e))
 
 pub net_at-again : (path : List ℕ) (d : Data) (net : NetModel) → IsNetFile net d → net_at path d ≡ Ok net
 unfolding net_at
 net_at-again path d net file =
     let is = file.fits in
-    let each_leaf : All (IsLeafOf (length net.variables)) net.leaves = λ k leaf within. (is.leaves k leaf within, is.inputs k leaf within) in
+    let all : All (λ leaf. IsLeafOf (length net.variables) leaf × (length leaf.helpers ≡ helpers_of net.leaves)) net.leaves = λ k leaf within. ((is.leaves k leaf within, is.inputs k leaf within), is.helpers k leaf within) in
+    let known = in_range (file.number) (format_known net d file) in
     rw (
       Readers.object_at-again path (codes "format") d file.format.0 file.format.1,
       file.format.1,
-      Readers.number_at-again (member_path path (codes "format")) 1 1 file.format.0 1 file.format.2 (omega arith) (omega arith),
+      Readers.number_at-again (member_path path (codes "format")) PLAIN_FORMAT HELPER_FORMAT file.format.0 file.number file.format.2 known.0 known.1,
       file.vars.1,
-      names_at-again is_variable_name 16 (member_path path (codes "vars")) file.vars.0 net.variables file.vars.2 is.variable_names is.some_variable is.variables,
+      names_at-again is_variable_name VARIABLE_LIMIT (member_path path (codes "vars")) file.vars.0 net.variables file.vars.2 is.variable_names is.some_variable is.variables,
       file.leaves.1,
-      leaves_at-again (length net.variables) (member_path path (codes "leaves")) file.leaves.0 net.leaves file.leaves.2 each_leaf is.some_leaf is.leaf_count,
+      leaves_at-again file.number (length net.variables) (member_path path (codes "leaves")) file.leaves.0 net.leaves file.leaves.2 all is.some_leaf is.leaf_count,
       file.combine.1,
       combine_at-again (length net.leaves) is.some_leaf (member_path path (codes "combine")) file.combine.0 net.combine file.combine.2 is.leaf_numbers is.items is.depth,
+      (none_wide net.leaves).1 is.wide,
     ) refl
 
 pub read-file : (d : Data) (r : Result NetModel FormatFault) → Gives (λ net. net) r (net_at [] d) → IfOk r (λ net. IsNetFile net d)

@@ -1,8 +1,7 @@
 -- Lists of values that are written one after the other, and that what is written is a net's file.
-use Rattle.std.proofs.Common.{◌≡◌, ℕ, zero, suc, ◌+◌, ◌≤◌, ◌<◌, ◌^◌, List, [], ◌∷◌, ◌++◌, length, map, take, Bool, Some, refl, sym, ap, ◌∙◌, arith, add-one}
-use Rattle.std.specs.Prelude.{slice_get, All, Result, Ok, Err, IfOk}
-use Rattle.std.specs.declared.alloc.AllocError.{AllocError}
-use Rattle.std.proofs.lemmas.Bool.{lt-ltb}
+use Rattle.std.proofs.Common.{◌≡◌, inl, inr, ℕ, zero, suc, ◌+◌, ◌≤◌, ◌<◌, ◌^◌, List, [], ◌∷◌, ◌++◌, length, map, take, nat_lt, Bool, true, false, Some, refl, sym, ap, ◌∙◌, arith, add-one}
+use Rattle.std.specs.Prelude.{slice_get, All}
+use Rattle.std.proofs.lemmas.Bool.{lt-ltb, ltb-false}
 use Rattle.std.proofs.lemmas.List.Elements.{All-head, All-tail}
 use Rattle.std.proofs.lemmas.List.{map-append}
 use Rattle.serde_json.specs.Data.{Data, string, boolean, array}
@@ -14,9 +13,10 @@ use Rattle.pop_net.specs.declared.leaf.Move.{Move}
 use Rattle.pop_net.specs.declared.net.Item.{Item}
 use Rattle.pop_net.specs.declared.net.Item.TheVariants.{Leaf, Not, And, Or}
 use Rattle.pop_net.specs.LeafModel.{LeafModel, IsLeaf, IsMoveBelow}
-use Rattle.pop_net.specs.NetModel.{NetModel, IsNet, NamesBelow}
+use Rattle.pop_net.specs.NetModel.{NetModel, IsNet, NamesBelow, helper_count}
+use Rattle.pop_net.specs.declared.limits.TheConstants.{STATE_LIMIT, LEAF_LIMIT}
 use Rattle.net_json.specs.NetFile.{IsMove, IsItem, IsLeafFile, IsNetFile}
-use Rattle.net_json.specs.Written.{number_data, list_data, texts_data, numbers_data, truths_data, move_data, item_data, leaf_members, leaf_data, net_members, net_data}
+use Rattle.net_json.specs.Written.{number_data, list_data, texts_data, numbers_data, truths_data, move_data, item_data, leaf_members, helped_members, leaf_data, net_members, is_helped, format_of, net_data}
 
 whole_taken : {A : Type 0} (xs : List A) (i : ℕ) → length xs ≤ i → take i xs ≡ xs
 whole_taken [] zero le = refl
@@ -59,7 +59,7 @@ written_list P Is f one xs all = (items_of (map f xs), refl, written_items P Is 
 number_is : (n : ℕ) → n < 1024 → IsNumber n (number_data n)
 number_is n small = let fits : n < 2 ^ 63 = omega arith in rw (lt-ltb n (2 ^ 63) fits) refl
 
-move_is : (states : ℕ) → states ≤ 256 → (t : Move) → IsMoveBelow states t → IsMove t (move_data t)
+move_is : (states : ℕ) → states ≤ STATE_LIMIT → (t : Move) → IsMoveBelow states t → IsMove t (move_data t)
 move_is states few t below = (
   items_of (number_data t.p ∷ number_data t.q ∷ number_data t.r ∷ number_data t.s ∷ []),
   refl,
@@ -72,41 +72,64 @@ texts_are ss = written_list (λ _. Unit {0}) IsText string (λ s any. refl) ss (
 truths_are : (bs : List Bool) → IsList IsTruth bs (truths_data bs)
 truths_are bs = written_list (λ _. Unit {0}) IsTruth boolean (λ b any. refl) bs (λ i d within. tt)
 
-pub leaf_file : (leaf : LeafModel) → IsLeaf leaf → IsLeafFile leaf (leaf_data leaf)
+numbers_are : (n : ℕ) → n ≤ STATE_LIMIT → (qs : List ℕ) → All (λ q. q < n) qs → IsList IsNumber qs (numbers_data qs)
+numbers_are n few qs below = written_list (λ q. q < n) IsNumber number_data (λ q low. number_is q (omega (arith, low, few))) qs below
+
+-- a leaf of a net with or without helpers
+pub leaf_file : (helped : Bool) (leaf : LeafModel) → IsLeaf leaf → (helped ≡ false → leaf.helpers ≡ []) → IsLeafFile (format_of helped) leaf (leaf_data helped leaf)
 unfolding leaf_data
-leaf_file leaf is =
+leaf_file false leaf is none =
     record {
       states = (texts_data leaf.states, refl, texts_are leaf.states);
       moves = (list_data (map move_data leaf.moves), refl, written_list (IsMoveBelow (length leaf.states)) IsMove move_data (move_is (length leaf.states) is.states) leaf.moves is.moves);
-      input = (numbers_data leaf.inputs, refl, written_list (λ q. q < length leaf.states) IsNumber number_data (λ q below. number_is q (omega (arith, below, is.states))) leaf.inputs is.inputs);
+      input = (numbers_data leaf.inputs, refl, numbers_are (length leaf.states) is.states leaf.inputs is.inputs);
       output = (truths_data leaf.outputs, refl, truths_are leaf.outputs);
+      helpers = inl (refl, none refl);
+    }
+leaf_file true leaf is none =
+    record {
+      states = (texts_data leaf.states, refl, texts_are leaf.states);
+      moves = (list_data (map move_data leaf.moves), refl, written_list (IsMoveBelow (length leaf.states)) IsMove move_data (move_is (length leaf.states) is.states) leaf.moves is.moves);
+      input = (numbers_data leaf.inputs, refl, numbers_are (length leaf.states) is.states leaf.inputs is.inputs);
+      output = (truths_data leaf.outputs, refl, truths_are leaf.outputs);
+      helpers = inr (refl, (numbers_data leaf.helpers, refl, numbers_are (length leaf.states) is.states leaf.helpers is.helpers));
     }
 
-item_is : (leaves : ℕ) → leaves ≤ 8 → (item : Item) → NamesBelow leaves item → IsItem item (item_data item)
+item_is : (leaves : ℕ) → leaves ≤ LEAF_LIMIT → (item : Item) → NamesBelow leaves item → IsItem item (item_data item)
 item_is leaves few (Leaf i) below = number_is i (omega (arith, below))
 item_is leaves few Not below = refl
 item_is leaves few And below = refl
 item_is leaves few Or below = refl
 
+empty : {A : Type 0} (xs : List A) (n : ℕ) → length xs ≡ n → nat_lt 0 n ≡ false → xs ≡ []
+empty [] n e none = refl
+empty (x ∷ xs) n e none = let few = ltb-false 0 n none in absurd (omega (arith, few, e))
+
 pub net_file : (net : NetModel) → IsNet net → IsNetFile net (net_data net)
 unfolding net_data
 net_file net is =
+    let helped = is_helped net in
     record {
-      format = (number_data 1, refl, refl);
+      number = format_of helped;
+      format = (number_data (format_of helped), refl, format_is helped);
       vars = (texts_data net.variables, refl, texts_are net.variables);
-      leaves = (list_data (map leaf_data net.leaves), refl, written_list IsLeaf IsLeafFile leaf_data leaf_file net.leaves is.leaves);
+      leaves = (list_data (map (leaf_data helped) net.leaves), refl, written_list (λ (leaf : LeafModel). IsLeaf leaf × (length leaf.helpers ≡ helper_count net)) (IsLeafFile (format_of helped)) (leaf_data helped) (λ leaf h. leaf_file helped leaf h.0 (λ none. empty leaf.helpers (helper_count net) h.1 none)) net.leaves (λ k leaf within. (is.leaves k leaf within, is.helpers k leaf within)));
       combine = (list_data (map item_data net.combine), refl, written_list (NamesBelow (length net.leaves)) IsItem item_data (item_is (length net.leaves) is.leaf_count) net.combine is.leaf_numbers);
       fits = is;
     }
+  where
+    format_is : (helped : Bool) → IsNumber (format_of helped) (number_data (format_of helped))
+    format_is true = refl
+    format_is false = refl
 
-pub leaf_data-is : (leaf : LeafModel) (v inputs moves outputs states : Data) → v ≡ leaf_members inputs moves outputs states → inputs ≡ numbers_data leaf.inputs → moves ≡ list_data (map move_data leaf.moves) → outputs ≡ truths_data leaf.outputs → states ≡ texts_data leaf.states → v ≡ leaf_data leaf
+pub plain_leaf-is : (leaf : LeafModel) (v inputs moves outputs states : Data) → v ≡ leaf_members inputs moves outputs states → inputs ≡ numbers_data leaf.inputs → moves ≡ list_data (map move_data leaf.moves) → outputs ≡ truths_data leaf.outputs → states ≡ texts_data leaf.states → v ≡ leaf_data false leaf
 unfolding leaf_data
-leaf_data-is leaf v inputs moves outputs states whole i m o s = rw (whole, i, m, o, s) refl
+plain_leaf-is leaf v inputs moves outputs states whole i m o s = rw (whole, i, m, o, s) refl
 
-pub leaf_value-is : (leaf : LeafModel) (r : Result Value AllocError) (inputs moves outputs states : Data) → IfOk r (λ v. view v ≡ leaf_members inputs moves outputs states) → inputs ≡ numbers_data leaf.inputs → moves ≡ list_data (map move_data leaf.moves) → outputs ≡ truths_data leaf.outputs → states ≡ texts_data leaf.states → IfOk r (λ v. view v ≡ leaf_data leaf)
-leaf_value-is leaf (Ok v) inputs moves outputs states whole i m o s = leaf_data-is leaf (view v) inputs moves outputs states whole i m o s
-leaf_value-is leaf (Err e) inputs moves outputs states whole i m o s = tt
+pub helped_leaf-is : (leaf : LeafModel) (v helpers inputs moves outputs states : Data) → v ≡ helped_members helpers inputs moves outputs states → helpers ≡ numbers_data leaf.helpers → inputs ≡ numbers_data leaf.inputs → moves ≡ list_data (map move_data leaf.moves) → outputs ≡ truths_data leaf.outputs → states ≡ texts_data leaf.states → v ≡ leaf_data true leaf
+unfolding leaf_data
+helped_leaf-is leaf v helpers inputs moves outputs states whole h i m o s = rw (whole, h, i, m, o, s) refl
 
-pub net_data-is : (net : NetModel) (v combine leaves vars : Data) → v ≡ net_members combine leaves vars → combine ≡ list_data (map item_data net.combine) → leaves ≡ list_data (map leaf_data net.leaves) → vars ≡ texts_data net.variables → v ≡ net_data net
+pub net_data-is : (net : NetModel) (helped : Bool) (v combine format leaves vars : Data) → helped ≡ is_helped net → v ≡ net_members combine format leaves vars → combine ≡ list_data (map item_data net.combine) → format ≡ number_data (format_of helped) → leaves ≡ list_data (map (leaf_data helped) net.leaves) → vars ≡ texts_data net.variables → v ≡ net_data net
 unfolding net_data
-net_data-is net v combine leaves vars whole c l s = rw (whole, c, l, s) refl
+net_data-is net helped v combine format leaves vars is whole c f l s = rw (whole, c, f, l, s, is) refl

@@ -1,6 +1,6 @@
 -- The order in which a net's value is examined: member by member, each whole before the next; a list for its kind, its
 -- length, and then item by item. The first rule that is broken is the fault.
-use Rattle.std.specs.Prelude.{ℕ, ◌-◌, ◌&&◌, Bool, not, List, [], ◌∷◌, ◌++◌, length, codes, Option, Some, None, is_some, Result, Ok, if◌then◌else◌}
+use Rattle.std.specs.Prelude.{ℕ, ◌-◌, ◌==◌, ◌&&◌, Bool, not, List, [], ◌∷◌, ◌++◌, length, codes, Option, Some, None, is_some, Result, Ok, if◌then◌else◌}
 use Rattle.std.specs.List.{list_any}
 use Rattle.std.specs.Str.{bytes_eq}
 use Rattle.serde_json.specs.Data.{Data}
@@ -8,14 +8,17 @@ use Rattle.serde_json.specs.Find.{as_array, as_str}
 use Rattle.pop_io.specs.Names.{is_variable_name, is_state_name}
 use Rattle.json_shape.specs.declared.fault.Why.TheVariants.{Kind, Name, Shape}
 use Rattle.json_shape.specs.Faults.{Fault, ◌>>=◌, broken}
-use Rattle.json_shape.specs.Paths.{item_path}
+use Rattle.json_shape.specs.Paths.{member_path, item_path}
 use Rattle.json_shape.specs.Shapes.{of_kind, object_at, member_by, list_at, number_at, text_at, truth_at, each, listed}
 use Rattle.pop_net.specs.declared.leaf.Move.{Move}
 use Rattle.pop_net.specs.declared.net.Item.{Item}
 use Rattle.pop_net.specs.declared.net.Item.TheVariants.{Leaf, Not, And, Or}
 use Rattle.pop_net.specs.LeafModel.{LeafModel}
 use Rattle.pop_net.specs.NetModel.{NetModel, after_items, combined, depths}
-use Rattle.pop_net.specs.NetFaults.{are_low}
+use Rattle.pop_net.specs.NetFaults.{are_low, wide_leaf}
+use Rattle.pop_io.specs.declared.names.TheConstants.{VARIABLE_LIMIT}
+use Rattle.pop_net.specs.declared.limits.TheConstants.{STATE_LIMIT, MOVE_LIMIT, HELPER_LIMIT, LEAF_LIMIT, ITEM_LIMIT}
+use Rattle.net_json.specs.declared.format.TheConstants.{PLAIN_FORMAT, HELPER_FORMAT}
 
 -- a name of this form that none of those before it equals
 unfoldable pub name_at : (List ℕ → Bool) → List ℕ → List (List ℕ) → Data → Result (List ℕ) Fault
@@ -52,17 +55,33 @@ move_item path states found i d = move_at (item_path path i) states d
 
 unfoldable pub moves_at : ℕ → List ℕ → Data → Result (List Move) Fault
 moves_at states path d = do
-  ds ← list_at path 0 32768 d
+  ds ← list_at path 0 MOVE_LIMIT d
   each (move_item path states) [] 0 ds
 
 abbrev pub state_item : List ℕ → ℕ → List ℕ → ℕ → Data → Result ℕ Fault
 state_item path states found i d = number_at (item_path path i) 0 (states - 1) d
 
--- a number of a state for each variable
-unfoldable pub inputs_at : ℕ → ℕ → List ℕ → Data → Result (List ℕ) Fault
-inputs_at variables states path d = do
-  ds ← list_at path variables variables d
+-- so many numbers of states
+unfoldable pub states_at : ℕ → ℕ → ℕ → List ℕ → Data → Result (List ℕ) Fault
+states_at least most states path d = do
+  ds ← list_at path least most d
   each (state_item path states) [] 0 ds
+
+-- a number of a state for each variable
+abbrev pub inputs_at : ℕ → ℕ → List ℕ → Data → Result (List ℕ) Fault
+inputs_at variables states path d = states_at variables variables states path d
+
+-- how many helpers a leaf may have: none in format 1; in format 2 as many as leaf 0
+abbrev pub range_after : List LeafModel → ℕ × ℕ
+range_after [] = (0, HELPER_LIMIT)
+range_after (leaf ∷ found) = (length leaf.helpers, length leaf.helpers)
+
+abbrev pub helper_range : ℕ → List LeafModel → Option (ℕ × ℕ)
+helper_range format found = if format == PLAIN_FORMAT then None else Some (range_after found)
+
+abbrev pub helpers_at : Option (ℕ × ℕ) → ℕ → List ℕ → Data → Result (List ℕ) Fault
+helpers_at None states path d = Ok []
+helpers_at (Some range) states path d = member_by path (codes "helpers") (states_at range.0 range.1 states) d
 
 abbrev pub truth_item : List ℕ → List Bool → ℕ → Data → Result Bool Fault
 truth_item path found i d = truth_at (item_path path i) d
@@ -73,22 +92,23 @@ outputs_at states path d = do
   ds ← list_at path states states d
   each (truth_item path) [] 0 ds
 
-unfoldable pub leaf_at : ℕ → List ℕ → Data → Result LeafModel Fault
-leaf_at variables path d = do
+unfoldable pub leaf_at : Option (ℕ × ℕ) → ℕ → List ℕ → Data → Result LeafModel Fault
+leaf_at range variables path d = do
   o ← object_at path d
-  ss ← member_by path (codes "states") (names_at is_state_name 256) d
+  ss ← member_by path (codes "states") (names_at is_state_name STATE_LIMIT) d
   ts ← member_by path (codes "moves") (moves_at (length ss)) d
   qs ← member_by path (codes "input") (inputs_at variables (length ss)) d
   bs ← member_by path (codes "output") (outputs_at (length ss)) d
-  Ok (record { states = ss; moves = ts; inputs = qs; outputs = bs })
+  hs ← helpers_at range (length ss) path d
+  Ok (record { states = ss; moves = ts; inputs = qs; outputs = bs; helpers = hs })
 
-abbrev pub leaf_item : ℕ → List ℕ → List LeafModel → ℕ → Data → Result LeafModel Fault
-leaf_item variables path found i d = leaf_at variables (item_path path i) d
+abbrev pub leaf_item : ℕ → ℕ → List ℕ → List LeafModel → ℕ → Data → Result LeafModel Fault
+leaf_item format variables path found i d = leaf_at (helper_range format found) variables (item_path path i) d
 
-unfoldable pub leaves_at : ℕ → List ℕ → Data → Result (List LeafModel) Fault
-leaves_at variables path d = do
-  ds ← list_at path 1 8 d
-  each (leaf_item variables path) [] 0 ds
+unfoldable pub leaves_at : ℕ → ℕ → List ℕ → Data → Result (List LeafModel) Fault
+leaves_at format variables path d = do
+  ds ← list_at path 1 LEAF_LIMIT d
+  each (leaf_item format variables path) [] 0 ds
 
 abbrev pub operator_at : List ℕ → List ℕ → Result Item Fault
 operator_at path s =
@@ -104,7 +124,7 @@ operand_at path leaves d None = number_at path 0 (leaves - 1) d >>= λ i. Ok (Le
 abbrev pub open_depths : List Item → Option (List ℕ)
 open_depths items = after_items depths items []
 
--- an item finds its operands, and makes no tree of a depth over 65
+-- an item finds its operands, and makes no tree of too great a depth
 unfoldable pub item_at : List ℕ → ℕ → List Item → Data → Result Item Fault
 item_at path leaves found d = do
   item ← operand_at path leaves d (as_str d)
@@ -115,7 +135,7 @@ combine_item path leaves found i d = item_at (item_path path i) leaves found d
 
 unfoldable pub items_at : ℕ → List ℕ → Data → Result (List Item) Fault
 items_at leaves path d = do
-  ds ← list_at path 1 1024 d
+  ds ← list_at path 1 ITEM_LIMIT d
   each (combine_item path leaves) [] 0 ds
 
 -- a combination in postfix, of which one tree is left at the end
@@ -124,11 +144,16 @@ combine_at leaves path d = do
   items ← items_at leaves path d
   if is_some (combined depths items) then Ok items else broken path Shape
 
+-- the net, unless this one of its leaves is wide and too many stand beside it
+abbrev pub fitting : List ℕ → Option ℕ → NetModel → Result NetModel Fault
+fitting path None net = Ok net
+fitting path (Some i) net = broken (item_path (member_path path (codes "leaves")) i) Shape
+
 unfoldable pub net_at : List ℕ → Data → Result NetModel Fault
 net_at path d = do
   o ← object_at path d
-  one ← member_by path (codes "format") (λ p. number_at p 1 1) d
-  vars ← member_by path (codes "vars") (names_at is_variable_name 16) d
-  leaves ← member_by path (codes "leaves") (leaves_at (length vars)) d
+  format ← member_by path (codes "format") (λ p. number_at p PLAIN_FORMAT HELPER_FORMAT) d
+  vars ← member_by path (codes "vars") (names_at is_variable_name VARIABLE_LIMIT) d
+  leaves ← member_by path (codes "leaves") (leaves_at format (length vars)) d
   items ← member_by path (codes "combine") (combine_at (length leaves)) d
-  Ok (record { variables = vars; leaves = leaves; combine = items })
+  fitting path (wide_leaf leaves) (record { variables = vars; leaves = leaves; combine = items })

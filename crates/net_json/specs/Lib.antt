@@ -3,3 +3,4 @@ pub mod Examined
 pub mod Written
 pub mod NameForms
 pub mod Kept
+pub mod HelperRange

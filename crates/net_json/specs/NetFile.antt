@@ -1,10 +1,11 @@
 -- NetFile: which JSON value is the file of which net. Members may stand in any order, and others may stand beside them.
-use Rattle.std.specs.Prelude.{[], ◌∷◌, codes}
+use Rattle.std.specs.Prelude.{◌≡◌, ◌⊎◌, ℕ, List, [], ◌∷◌, codes}
 use Rattle.serde_json.specs.Data.{Data}
 use Rattle.json_shape.specs.Parts.{IsNumber, IsText, IsTruth, HasMember, IsList}
 use Rattle.pop_net.specs.declared.leaf.Move.{Move}
 use Rattle.pop_net.specs.declared.net.Item.{Item}
 use Rattle.pop_net.specs.declared.net.Item.TheVariants.{Leaf, Not, And, Or}
+use Rattle.net_json.specs.declared.format.TheConstants.{PLAIN_FORMAT, HELPER_FORMAT}
 use Rattle.pop_net.specs.LeafModel.{LeafModel}
 use Rattle.pop_net.specs.NetModel.{NetModel, IsNet}
 
@@ -19,15 +20,22 @@ IsItem Not d = IsText (codes "not") d
 IsItem And d = IsText (codes "and") d
 IsItem Or d = IsText (codes "or") d
 
-pub record IsLeafFile (leaf : LeafModel) (d : Data) : Type 0 where
+-- in format 1 a leaf has no helpers, and in format 2 it names them
+abbrev pub AreHelpers : ℕ → List ℕ → Data → Type 0
+AreHelpers format helpers d =
+    ((format ≡ PLAIN_FORMAT) × (helpers ≡ [])) ⊎ ((format ≡ HELPER_FORMAT) × HasMember (codes "helpers") (IsList IsNumber helpers) d)
+
+pub record IsLeafFile (format : ℕ) (leaf : LeafModel) (d : Data) : Type 0 where
   pub states : HasMember (codes "states") (IsList IsText leaf.states) d
   pub moves : HasMember (codes "moves") (IsList IsMove leaf.moves) d
   pub input : HasMember (codes "input") (IsList IsNumber leaf.inputs) d
   pub output : HasMember (codes "output") (IsList IsTruth leaf.outputs) d
+  pub helpers : AreHelpers format leaf.helpers d
 
 pub record IsNetFile (net : NetModel) (d : Data) : Type 0 where
-  pub format : HasMember (codes "format") (IsNumber 1) d
+  pub number : ℕ
+  pub format : HasMember (codes "format") (IsNumber number) d
   pub vars : HasMember (codes "vars") (IsList IsText net.variables) d
-  pub leaves : HasMember (codes "leaves") (IsList IsLeafFile net.leaves) d
+  pub leaves : HasMember (codes "leaves") (IsList (IsLeafFile number) net.leaves) d
   pub combine : HasMember (codes "combine") (IsList IsItem net.combine) d
   pub fits : IsNet net

@@ -10,7 +10,7 @@ ghost use Rattle.net_json.specs.Examined.{operand_at, items_at, combine_at};
 
 use json_shape::{FormatFault, Path, Why, broken, list_of, number_of};
 use pop_io::List;
-use pop_net::{Item, OpenTrees};
+use pop_net::{ITEM_LIMIT, Item, OpenTrees};
 use serde_json::Value;
 use std::alloc::Global;
 
@@ -50,7 +50,7 @@ fn items_of(
     ensures items { Gives (λ r. r.0) result (items_at leaves (path_text path.now) (view value.now)) }
     ensures open { IfOk result (λ r. r.1 ≡ operands_left r.0) }
 {
-    let list = list_of(alloc, path, 1, 1024, value)?;
+    let list = list_of(alloc, path, 1, ITEM_LIMIT, value)?;
     let mut items = Vec::new(alloc);
     let mut trees = OpenTrees::new();
     for (i, item) in list.iter().enumerate() {

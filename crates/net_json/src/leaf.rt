@@ -5,22 +5,22 @@ ghost use Rattle.serde_json.specs.View.{view};
 ghost use Rattle.json_shape.specs.Faults.{Gives};
 ghost use Rattle.json_shape.specs.Paths.{path_text};
 ghost use Rattle.json_shape.specs.Shapes.{number_at};
-ghost use Rattle.net_json.specs.Examined.{move_at, moves_at, inputs_at, outputs_at};
+ghost use Rattle.net_json.specs.Examined.{move_at, moves_at, states_at, outputs_at};
 
 use json_shape::{FormatFault, Path, Why, broken, list_of, number_of, truth_of};
 use pop_io::List;
-use pop_net::Move;
+use pop_net::{MOVE_LIMIT, Move, STATE_LIMIT};
 use serde_json::Value;
 use std::alloc::Global;
 
-/// The number of one of `states` states, which are 1 to 256.
+/// The number of one of `states` states, which are 1 to `STATE_LIMIT`.
 fn state_of(
     alloc: Global,
     path: &Path<'_>,
     states: usize,
     value: &Value,
 ) -> Result<u16, FormatFault>
-    requires { (1 ≤ states) × (states ≤ 256) }
+    requires { (1 ≤ states) × (states ≤ STATE_LIMIT) }
     ensures { Gives (λ q. q) result (number_at (path_text path.now) 0 (states - 1) (view value.now)) }
 {
     let number = number_of(alloc, path, 0, states as u32 - 1, value)?;
@@ -34,7 +34,7 @@ fn move_of(
     states: usize,
     value: &Value,
 ) -> Result<Move, FormatFault>
-    requires { (1 ≤ states) × (states ≤ 256) }
+    requires { (1 ≤ states) × (states ≤ STATE_LIMIT) }
     ensures { Gives (λ t. t) result (move_at (path_text path.now) states (view value.now)) }
 {
     let Some(list) = value.as_array() else {
@@ -50,7 +50,7 @@ fn move_of(
     Ok(Move { p, q, r, s })
 }
 
-/// At most 32,768 moves of a leaf with so many states.
+/// At most `MOVE_LIMIT` moves of a leaf with so many states.
 #[tactic(auto, unfolding(crate::specs::Examined::moves_at))]
 pub(crate) fn moves_of(
     alloc: Global,
@@ -58,10 +58,10 @@ pub(crate) fn moves_of(
     states: usize,
     value: &Value,
 ) -> Result<List<Move>, FormatFault>
-    requires { (1 ≤ states) × (states ≤ 256) }
+    requires { (1 ≤ states) × (states ≤ STATE_LIMIT) }
     ensures { Gives (λ ts. ts) result (moves_at states (path_text path.now) (view value.now)) }
 {
-    let list = list_of(alloc, path, 0, 32_768, value)?;
+    let list = list_of(alloc, path, 0, MOVE_LIMIT, value)?;
     let mut moves = Vec::new(alloc);
     for (i, item) in list.iter().enumerate() {
         moves.push(move_of(alloc, &Path::Item(&*path, i), states, item)?)?;
@@ -69,24 +69,25 @@ pub(crate) fn moves_of(
     Ok(List::from_vec(moves))
 }
 
-/// One start state per variable.
-#[tactic(auto, unfolding(crate::specs::Examined::inputs_at))]
-pub(crate) fn inputs_of(
+/// From `least` to `most` numbers of states.
+#[tactic(auto, unfolding(crate::specs::Examined::states_at))]
+pub(crate) fn states_of(
     alloc: Global,
     path: &Path<'_>,
-    variables: usize,
+    least: usize,
+    most: usize,
     states: usize,
     value: &Value,
 ) -> Result<List<u16>, FormatFault>
-    requires { (1 ≤ states) × (states ≤ 256) }
-    ensures { Gives (λ qs. qs) result (inputs_at variables states (path_text path.now) (view value.now)) }
+    requires { (1 ≤ states) × (states ≤ STATE_LIMIT) }
+    ensures { Gives (λ qs. qs) result (states_at least most states (path_text path.now) (view value.now)) }
 {
-    let list = list_of(alloc, path, variables, variables, value)?;
-    let mut inputs = Vec::new(alloc);
+    let list = list_of(alloc, path, least, most, value)?;
+    let mut numbers = Vec::new(alloc);
     for (i, item) in list.iter().enumerate() {
-        inputs.push(state_of(alloc, &Path::Item(&*path, i), states, item)?)?;
+        numbers.push(state_of(alloc, &Path::Item(&*path, i), states, item)?)?;
     }
-    Ok(List::from_vec(inputs))
+    Ok(List::from_vec(numbers))
 }
 
 /// One output per state.

@@ -1,30 +1,57 @@
 //! The leaves of a net.
 
-ghost use Rattle.std.specs.Prelude.{◌≡◌, ◌≤◌, length, IfErr, IfOk};
+ghost use Rattle.std.specs.Prelude.{◌≡◌, ◌≤◌, length, IfOk};
 ghost use Rattle.serde_json.specs.View.{view};
 ghost use Rattle.json_shape.specs.Faults.{Gives};
 ghost use Rattle.json_shape.specs.Paths.{path_text};
-ghost use Rattle.net_json.specs.Examined.{leaf_at, leaves_at};
-ghost use Rattle.net_json.specs.Kept.{Keeps};
-ghost use Rattle.pop_net.specs.declared.fault.LeafFault.TheVariants.{NoMemory as LeafMemory};
+ghost use Rattle.net_json.specs.Examined.{helper_range as helpers_allowed, helpers_at, leaf_at, leaves_at};
+ghost use Rattle.net_json.specs.HelperRange.{IsHelperRange};
 
-use crate::leaf::{inputs_of, moves_of, outputs_of};
+use crate::format::PLAIN_FORMAT;
+use crate::leaf::{moves_of, outputs_of, states_of};
 use crate::names::{NameForm, names_of};
 use json_shape::{FormatFault, Path, list_of, member_of, object_of};
-use pop_io::List;
-use pop_net::{Leaf, LeafFault};
+use pop_io::{List, VARIABLE_LIMIT};
+use pop_net::{HELPER_LIMIT, LEAF_LIMIT, Leaf, STATE_LIMIT};
 use serde_json::Value;
 use std::alloc::Global;
 
-/// A leaf whose parts are in form, where memory was there.
-fn formed(made: Result<Leaf, LeafFault>) -> Result<Leaf, FormatFault>
-    requires { IfErr made (λ fault. fault ≡ LeafMemory) }
-    ensures { Keeps made result }
+/// How many helpers the next leaf may have, from the first number to the second: in the plain format none.
+fn helper_range(format: u32, found: &[Leaf]) -> Option<(usize, usize)>
+    ensures allowed { result ≡ helpers_allowed format found.now }
+    ensures within { IsHelperRange result }
 {
-    match made {
-        Ok(leaf) => Ok(leaf),
-        Err(LeafFault::NoMemory) => Err(FormatFault::NoMemory),
-        Err(_) => unreachable!(),
+    if format == PLAIN_FORMAT {
+        return None;
+    }
+    match found {
+        [] => Some((0, HELPER_LIMIT)),
+        [first, ..] => {
+            let _formed = first.state_count();
+            let count = first.helper_count() as usize;
+            Some((count, count))
+        }
+    }
+}
+
+/// The helpers of a leaf, where its format has some.
+fn helpers_of(
+    alloc: Global,
+    path: &Path<'_>,
+    range: Option<(usize, usize)>,
+    states: usize,
+    value: &Value,
+) -> Result<List<u16>, FormatFault>
+    requires { (1 ≤ states) × (states ≤ STATE_LIMIT) }
+    ensures { Gives (λ qs. qs) result (helpers_at range states (path_text path.now) (view value.now)) }
+{
+    match range {
+        None => Ok(List::from_vec(Vec::new(alloc))),
+        Some((least, most)) => {
+            let helpers = member_of(alloc, path, "helpers", value)?;
+            let path = Path::Member(path, "helpers");
+            states_of(alloc, &path, least, most, states, helpers)
+        }
     }
 }
 
@@ -32,48 +59,49 @@ fn formed(made: Result<Leaf, LeafFault>) -> Result<Leaf, FormatFault>
 fn leaf_of(
     alloc: Global,
     path: &Path<'_>,
+    range: Option<(usize, usize)>,
     variables: usize,
     value: &Value,
 ) -> Result<Leaf, FormatFault>
-    requires { (1 ≤ variables) × (variables ≤ 16) }
-    ensures { Gives (λ leaf. leaf) result (leaf_at variables (path_text path.now) (view value.now)) }
+    requires variables { (1 ≤ variables) × (variables ≤ VARIABLE_LIMIT) }
+    requires range { IsHelperRange range }
+    ensures { Gives (λ leaf. leaf) result (leaf_at range variables (path_text path.now) (view value.now)) }
 {
     object_of(alloc, path, value)?;
     let states = member_of(alloc, path, "states", value)?;
     let states_path = Path::Member(path, "states");
-    let states = names_of(alloc, &states_path, NameForm::State, 256, states)?;
+    let states = names_of(alloc, &states_path, NameForm::State, STATE_LIMIT, states)?;
     let count = states.as_slice().len();
     let moves = member_of(alloc, path, "moves", value)?;
     let moves = moves_of(alloc, &Path::Member(path, "moves"), count, moves)?;
     let inputs = member_of(alloc, path, "input", value)?;
-    let inputs = inputs_of(
-        alloc,
-        &Path::Member(path, "input"),
-        variables,
-        count,
-        inputs,
-    )?;
+    let inputs_path = Path::Member(path, "input");
+    let inputs = states_of(alloc, &inputs_path, variables, variables, count, inputs)?;
     let outputs = member_of(alloc, path, "output", value)?;
     let outputs = outputs_of(alloc, &Path::Member(path, "output"), count, outputs)?;
-    formed(Leaf::new(alloc, states, moves, inputs, outputs))
+    let helpers = helpers_of(alloc, path, range, count, value)?;
+    let leaf = Leaf::of_valid(alloc, states, moves, inputs, outputs, helpers)?;
+    Ok(leaf)
 }
 
-/// 1 to 8 leaves with so many inputs.
+/// 1 to `LEAF_LIMIT` leaves with so many inputs, of this format.
 #[tactic(auto, unfolding(crate::specs::Examined::leaves_at))]
 pub(crate) fn leaves_of(
     alloc: Global,
     path: &Path<'_>,
+    format: u32,
     variables: usize,
     value: &Value,
 ) -> Result<List<Leaf>, FormatFault>
-    requires { (1 ≤ variables) × (variables ≤ 16) }
-    ensures leaves { Gives (λ ls. ls) result (leaves_at variables (path_text path.now) (view value.now)) }
-    ensures count { IfOk result (λ ls. (1 ≤ length ls) × (length ls ≤ 8)) }
+    requires { (1 ≤ variables) × (variables ≤ VARIABLE_LIMIT) }
+    ensures leaves { Gives (λ ls. ls) result (leaves_at format variables (path_text path.now) (view value.now)) }
+    ensures count { IfOk result (λ ls. (1 ≤ length ls) × (length ls ≤ LEAF_LIMIT)) }
 {
-    let list = list_of(alloc, path, 1, 8, value)?;
+    let list = list_of(alloc, path, 1, LEAF_LIMIT, value)?;
     let mut leaves = Vec::new(alloc);
     for (i, item) in list.iter().enumerate() {
-        leaves.push(leaf_of(alloc, &Path::Item(&*path, i), variables, item)?)?;
+        let range = helper_range(format, leaves.as_slice());
+        leaves.push(leaf_of(alloc, &Path::Item(&*path, i), range, variables, item)?)?;
     }
     Ok(List::from_vec(leaves))
 }

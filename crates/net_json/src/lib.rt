@@ -4,6 +4,7 @@
 #![tactic(auto)]
 
 mod combine;
+mod format;
 mod leaf;
 mod leaves;
 mod names;
@@ -13,6 +14,3 @@ mod write;
 pub use json_shape::{FormatFault, PredWhy, Why};
 pub use read::{read_net, read_net_at};
 pub use write::write_net;
-
-#[cfg(test)]
-mod tests;

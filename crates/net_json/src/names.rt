@@ -10,7 +10,7 @@ ghost use Rattle.net_json.specs.NameForms.{form_of};
 ghost use Rattle.net_json.specs.Examined.{name_at, names_at};
 
 use json_shape::{FormatFault, Path, Why, broken, list_of, text_of};
-use pop_io::{List, Text, is_state_name, is_variable_name};
+use pop_io::{List, Text, is_among, is_state_name, is_variable_name};
 use serde_json::Value;
 use std::alloc::Global;
 
@@ -34,12 +34,6 @@ impl NameForm {
     }
 }
 
-fn is_among(name: &str, found: &[Text]) -> bool
-    ensures { result ≡ list_any (bytes_eq name.now) found.now }
-{
-    found.iter().any(|other| name == other.as_str())
-}
-
 #[tactic(auto, unfolding(crate::specs::Examined::name_at))]
 fn name_of(
     alloc: Global,
@@ -51,7 +45,7 @@ fn name_of(
     ensures { Gives (λ t. t) result (name_at (form_of form) (path_text path.now) found.now (view value.now)) }
 {
     let name = text_of(alloc, path, value)?;
-    if !form.fits(name) || is_among(name, found) {
+    if !form.fits(name) || is_among(found, name.as_bytes()) {
         return Err(broken(alloc, path, Why::Name));
     }
     Ok(Text::from_string(String::from_str(alloc, name)?))

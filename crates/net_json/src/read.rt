@@ -5,30 +5,19 @@ ghost use Rattle.serde_json.specs.View.{view};
 ghost use Rattle.json_shape.specs.Faults.{Gives};
 ghost use Rattle.json_shape.specs.Paths.{path_text};
 ghost use Rattle.pop_net.specs.NetModel.{NetModel};
-ghost use Rattle.pop_net.specs.declared.fault.NetFault.TheVariants.{NoMemory as NetMemory};
 ghost use Rattle.net_json.specs.Examined.{net_at};
-ghost use Rattle.net_json.specs.Kept.{Keeps, IsBroken};
+ghost use Rattle.net_json.specs.Kept.{IsBroken};
 ghost use Rattle.net_json.specs.NetFile.{IsNetFile};
 
 use crate::combine::combine_of;
+use crate::format::{HELPER_FORMAT, PLAIN_FORMAT};
 use crate::leaves::leaves_of;
 use crate::names::{NameForm, names_of};
-use json_shape::{FormatFault, Path, member_of, number_of, object_of};
-use pop_net::{Net, NetFault};
+use json_shape::{FormatFault, Path, Why, broken, member_of, number_of, object_of};
+use pop_io::VARIABLE_LIMIT;
+use pop_net::{Net, wide_leaf};
 use serde_json::Value;
 use std::alloc::Global;
-
-/// A net whose parts are in form, where memory was there.
-fn formed(made: Result<Net, NetFault>) -> Result<Net, FormatFault>
-    requires { IfErr made (λ fault. fault ≡ NetMemory) }
-    ensures { Keeps made result }
-{
-    match made {
-        Ok(net) => Ok(net),
-        Err(NetFault::NoMemory) => Err(FormatFault::NoMemory),
-        Err(_) => unreachable!(),
-    }
-}
 
 /// `read_net` for a file that stands inside another value: paths begin with this one.
 #[tactic(auto, unfolding(crate::specs::Examined::net_at))]
@@ -37,28 +26,34 @@ pub fn read_net_at(alloc: Global, path: &Path<'_>, value: &Value) -> Result<Net,
 {
     object_of(alloc, path, value)?;
     let format = member_of(alloc, path, "format", value)?;
-    number_of(alloc, &Path::Member(path, "format"), 1, 1, format)?;
+    let format_path = Path::Member(path, "format");
+    let format = number_of(alloc, &format_path, PLAIN_FORMAT, HELPER_FORMAT, format)?;
     let vars = member_of(alloc, path, "vars", value)?;
     let vars = names_of(
         alloc,
         &Path::Member(path, "vars"),
         NameForm::Variable,
-        16,
+        VARIABLE_LIMIT,
         vars,
     )?;
     let variables = vars.as_slice().len();
     let leaves = member_of(alloc, path, "leaves", value)?;
-    let leaves = leaves_of(alloc, &Path::Member(path, "leaves"), variables, leaves)?;
+    let leaves_path = Path::Member(path, "leaves");
+    let leaves = leaves_of(alloc, &leaves_path, format, variables, leaves)?;
     let count = leaves.as_slice().len();
     let combine = member_of(alloc, path, "combine", value)?;
     let combine = combine_of(alloc, &Path::Member(path, "combine"), count as u8, combine)?;
-    formed(Net::new(alloc, vars, leaves, combine))
+    match wide_leaf(leaves.as_slice()) {
+        Some(i) => Err(broken(alloc, &Path::Item(&leaves_path, i), Why::Shape)),
+        None => Ok(Net::of_valid(vars, leaves, combine)),
+    }
 }
 
 /// The net of a file, or the first rule that the file breaks, with its path from the file's root.
 ///
 /// Members are examined in the order `format`, `vars`, `leaves`, `combine`; of a leaf `states`, `moves`, `input`,
-/// `output`. Each is examined whole before the next is looked for. Other members are ignored.
+/// `output`, and in format 2 `helpers`. Each is examined whole before the next is looked for. Other members are
+/// ignored. Last it is examined whether there are too many leaves for a wide one.
 pub fn read_net(alloc: Global, value: &Value) -> Result<Net, FormatFault>
     ensures exact { Gives (λ net. net) result (net_at [] (view value.now)) }
 

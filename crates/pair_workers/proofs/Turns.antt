@@ -67,7 +67,7 @@ each-last {A = A} P xs ys x is each =
 pub each-push_is : {A : Type 0} (P : ℕ → A → Type 0) (xs ys : List A) (x : A) → ys ≡ xs ++ x ∷ [] → ((i : ℕ) (d : A) → i < length xs → P i (get_or xs i d)) → P (length xs) x → (i : ℕ) (d : A) → i < length ys → P i (get_or ys i d)
 each-push_is {A = A} P xs ys x is each last = subst (λ (l : List A). (i : ℕ) (d : A) → i < length l → P i (get_or l i d)) (sym is) (each-push P xs x each last)
 
--- a list of which the last one was taken is still a front of another
+-- a list of which the last one was taken is still a prefix of another
 pub popped : {A : Type 0} (xs ys rest : List A) (x : A) → ys ≡ rest ++ x ∷ [] → ((i : ℕ) (d : A) → i < length ys → get_or ys i d ≡ get_or xs i d)
     → ((i : ℕ) (d : A) → i < length rest → get_or rest i d ≡ get_or xs i d) × ((d : A) → get_or xs (length rest) d ≡ x)
 popped {A = A} xs ys rest x is same =

@@ -5,6 +5,7 @@ use Rattle.pop_net.specs.Step.{Step}
 use Rattle.pop_net.specs.Terminal.{IsTerminal}
 use Rattle.terminal_test.specs.Pairs.{IsLeastPair}
 use Rattle.pop_words.specs.declared.spec.RunSpec.{RunSpec}
+use Rattle.pair_workers.specs.declared.alone.TheConstants.{ROUND_TURNS}
 use Rattle.pair_workers.specs.declared.alone.End.{End}
 use Rattle.pair_workers.specs.declared.alone.End.TheVariants.{Terminal, Open}
 
@@ -12,4 +13,4 @@ use Rattle.pair_workers.specs.declared.alone.End.TheVariants.{Terminal, Open}
 abbrev pub EndsBy : NetModel → CrowdModel → RunSpec → ℕ → End → Type 0
 EndsBy net crowd spec rounds Terminal = IsTerminal (Step net) crowd
 EndsBy net crowd spec rounds (Open a b) =
-    IsLeastPair net crowd a b × (spec.turns ≤ 4096 * rounds) × (IsTerminal (Step net) crowd → ⊥)
+    IsLeastPair net crowd a b × (spec.turns ≤ ROUND_TURNS * rounds) × (IsTerminal (Step net) crowd → ⊥)

@@ -6,6 +6,7 @@ use Rattle.pop_net.specs.Terminal.{IsTerminal}
 use Rattle.pop_crowd.specs.declared.crowd.Meeting.{Meeting}
 use Rattle.pop_crowd.specs.Replay.{replay, AreMarked}
 use Rattle.pop_words.specs.declared.spec.RunSpec.{RunSpec}
+use Rattle.pair_workers.specs.declared.alone.TheConstants.{ROUND_TURNS}
 use Rattle.pair_workers.specs.Picks.{picks}
 
 -- the meetings of worker w, in order
@@ -21,7 +22,7 @@ joined rounds = flat_map (λ meetings. meetings) rounds
 
 -- how many meetings each worker makes in round k, counted from 1
 abbrev pub turns_in : RunSpec → ℕ → ℕ
-turns_in spec k = min 4096 (spec.turns - 4096 * (k - 1))
+turns_in spec k = min ROUND_TURNS (spec.turns - ROUND_TURNS * (k - 1))
 
 -- round k: each worker makes its turns, one at least, and nobody else makes any
 pub record IsRound (spec : RunSpec) (k : ℕ) (meetings : List Meeting) : Type 0 where
@@ -39,4 +40,4 @@ pub record IsRun (net : NetModel) (start : CrowdModel) (spec : RunSpec) (rounds 
   -- no crowd before a round is terminal
   pub goes_on : (k : ℕ) → k < length rounds → IsTerminal (Step net) (replay net (joined (take k rounds)) start) → ⊥
   -- the end is terminal, or the turns are spent
-  pub over : IsTerminal (Step net) end ⊎ (spec.turns ≤ 4096 * length rounds)
+  pub over : IsTerminal (Step net) end ⊎ (spec.turns ≤ ROUND_TURNS * length rounds)

@@ -7,22 +7,22 @@ ghost use Rattle.pair_workers.specs.Run.{IsRun};
 ghost use Rattle.pair_workers.specs.OneRun.{IsOnlyRun};
 ghost use Rattle.pair_workers.specs.Ends.{EndsBy};
 
-use crate::alone::{End, ROUND, RunEnd, run_alone};
+use crate::alone::{End, ROUND_TURNS, RunEnd, run_alone};
 use crate::picker::Picker;
 use crate::round::run_round;
 use agent_field::Round;
 use pop_crowd::Crowd;
-use pop_io::{Gate, List, NoMemory};
+use pop_io::{Gate, List, NoMemory, SHARD_LIMIT, WORKER_LIMIT};
 use pop_net::{Net, Word};
-use pop_words::RunSpec;
+use pop_words::{RunSpec, SEED_LIMIT, TURN_LIMIT};
 use std::alloc::Global;
 use std::sync::Wait;
 use std::thread::Threads;
-use terminal_test::enabled_pair;
+use terminal_test::PairTable;
 
 /// The pickers of all workers, of which none has made a pick.
 fn first_pickers(alloc: Global, spec: &RunSpec) -> Result<Vec<Picker>, NoMemory>
-    requires seed { spec.now.seed ≤ 2 ^ 63 - 1 }
+    requires seed { spec.now.seed ≤ SEED_LIMIT }
     ensures long { IfOk result (λ pickers. length pickers.items ≡ spec.now.workers) }
     ensures first { IfOk result (λ pickers. (w : ℕ) (d : _) → w < spec.now.workers → slice_index_or pickers.items w d ≡ first_state spec.now.seed w) }
 {
@@ -52,10 +52,10 @@ fn run_many<R: Threads + Wait + Sync, G: Gate>(
     spec: &RunSpec,
     gate: &G,
 ) -> Result<RunEnd, NoMemory>
-    requires workers { (1 ≤ spec.now.workers) × (spec.now.workers ≤ 64) }
-    requires shards { (1 ≤ spec.now.shards) × (spec.now.shards ≤ 1024) }
-    requires turns { spec.now.turns ≤ 1000000 }
-    requires seed { spec.now.seed ≤ 2 ^ 63 - 1 }
+    requires workers { (1 ≤ spec.now.workers) × (spec.now.workers ≤ WORKER_LIMIT) }
+    requires shards { (1 ≤ spec.now.shards) × (spec.now.shards ≤ SHARD_LIMIT) }
+    requires turns { spec.now.turns ≤ TURN_LIMIT }
+    requires seed { spec.now.seed ≤ SEED_LIMIT }
     requires valid { AreValid net.now crowd }
     ensures run { IfOk result (λ run. IsRun net.now (crowd_of net.now crowd) spec.now run.rounds (crowd_of net.now run.crowd)) }
     ensures end { IfOk result (λ run. EndsBy net.now (crowd_of net.now run.crowd) spec.now (length run.rounds) run.end) }
@@ -66,7 +66,8 @@ fn run_many<R: Threads + Wait + Sync, G: Gate>(
     let mut pickers = first_pickers(alloc, spec)?;
     let mut rounds = Vec::new(alloc);
     let mut left = spec.turns;
-    'rounds: while let Some((a, b)) = enabled_pair(alloc, net, &crowd)? {
+    let table = PairTable::new(alloc, net)?;
+    'rounds: while let Some((a, b)) = table.enabled_pair(alloc, &crowd)? {
         if left == 0 {
             return Ok(RunEnd {
                 rounds: List::from_vec(rounds),
@@ -74,7 +75,7 @@ fn run_many<R: Threads + Wait + Sync, G: Gate>(
                 end: End::Open(a, b),
             });
         }
-        let turns = ROUND.min(left);
+        let turns = ROUND_TURNS.min(left);
         let lent = pickers.as_mut_slice();
         let Round { words, meetings } = run_round(rt, alloc, net, &crowd, spec, lent, turns, gate)?;
         crowd = next_crowd(net, crowd, words);
@@ -97,10 +98,10 @@ pub fn run_all<R: Threads + Wait + Sync, G: Gate>(
     spec: &RunSpec,
     gate: &G,
 ) -> Result<RunEnd, NoMemory>
-    requires workers { (1 ≤ spec.now.workers) × (spec.now.workers ≤ 64) }
-    requires shards { (1 ≤ spec.now.shards) × (spec.now.shards ≤ 1024) }
-    requires turns { spec.now.turns ≤ 1000000 }
-    requires seed { spec.now.seed ≤ 2 ^ 63 - 1 }
+    requires workers { (1 ≤ spec.now.workers) × (spec.now.workers ≤ WORKER_LIMIT) }
+    requires shards { (1 ≤ spec.now.shards) × (spec.now.shards ≤ SHARD_LIMIT) }
+    requires turns { spec.now.turns ≤ TURN_LIMIT }
+    requires seed { spec.now.seed ≤ SEED_LIMIT }
     requires valid { AreValid net.now crowd }
     ensures run { IfOk result (λ run. IsRun net.now (crowd_of net.now crowd) spec.now run.rounds (crowd_of net.now run.crowd)) }
     ensures end { IfOk result (λ run. EndsBy net.now (crowd_of net.now run.crowd) spec.now (length run.rounds) run.end) }

@@ -12,12 +12,12 @@ use crate::picker::Picker;
 use pop_crowd::{Crowd, Meeting};
 use pop_io::{Gate, List, NoMemory};
 use pop_net::Net;
-use pop_words::RunSpec;
+use pop_words::{RunSpec, SEED_LIMIT, TURN_LIMIT};
 use std::alloc::Global;
-use terminal_test::enabled_pair;
+use terminal_test::PairTable;
 
-/// The greatest number of meetings of a worker in a round.
-pub(crate) const ROUND: u64 = 4096;
+/// The most meetings of a worker in a round.
+pub const ROUND_TURNS: u64 = 4_096;
 
 /// Why a run ended.
 #[derive(Clone, Copy, Debug, PartialEq, Eq)]
@@ -46,8 +46,8 @@ pub fn run_alone<G: Gate>(
     gate: &G,
 ) -> Result<RunEnd, NoMemory>
     requires alone { spec.now.workers ≡ 1 }
-    requires turns { spec.now.turns ≤ 1000000 }
-    requires seed { spec.now.seed ≤ 2 ^ 63 - 1 }
+    requires turns { spec.now.turns ≤ TURN_LIMIT }
+    requires seed { spec.now.seed ≤ SEED_LIMIT }
     requires valid { AreValid net.now crowd }
     ensures run { IfOk result (λ run. IsRun net.now (crowd_of net.now crowd) spec.now run.rounds (crowd_of net.now run.crowd)) }
     ensures end { IfOk result (λ run. EndsBy net.now (crowd_of net.now run.crowd) spec.now (length run.rounds) run.end) }
@@ -60,7 +60,8 @@ pub fn run_alone<G: Gate>(
     let mut picker = Picker::new(spec.seed, 0);
     let mut rounds = Vec::new(alloc);
     let mut left = spec.turns;
-    'rounds: while let Some((a, b)) = enabled_pair(alloc, net, &crowd)? {
+    let table = PairTable::new(alloc, net)?;
+    'rounds: while let Some((a, b)) = table.enabled_pair(alloc, &crowd)? {
         if left == 0 {
             return Ok(RunEnd {
                 rounds: List::from_vec(rounds),
@@ -68,7 +69,7 @@ pub fn run_alone<G: Gate>(
                 end: End::Open(a, b),
             });
         }
-        let turns = ROUND.min(left);
+        let turns = ROUND_TURNS.min(left);
         let meetings = play_round(alloc, net, &mut crowd, &mut picker, turns, gate)?;
         rounds.push(List::from_vec(meetings))?;
         left -= turns;
@@ -90,7 +91,7 @@ pub(crate) fn play_round<G: Gate>(
     gate: &G,
 ) -> Result<Vec<Meeting>, NoMemory>
     requires valid { AreValid net.now crowd.old }
-    requires few { turns ≤ 4096 }
+    requires few { turns ≤ ROUND_TURNS }
     ensures played { IfOk result (λ log. IsPlayed net.now (crowd_of net.now crowd.old) (words_from picker.old) log.items (crowd_of net.now crowd.new) (words_from picker.new)) }
     ensures turns { IfOk result (λ log. length log.items ≡ turns) }
     ensures valid { AreValid net.now crowd.new }

@@ -11,10 +11,7 @@ mod round;
 mod work;
 
 pub use all::run_all;
-pub use alone::{End, RunEnd, run_alone};
+pub use alone::{End, ROUND_TURNS, RunEnd, run_alone};
 pub use examples::{pick_examples, run_examples};
 pub use picker::Picker;
 pub use round::run_round;
-
-#[cfg(test)]
-mod tests;

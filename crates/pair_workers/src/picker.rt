@@ -6,7 +6,9 @@ ghost use Rattle.rand_core.specs.Steps.{stream_of, steps_u64_high};
 ghost use Rattle.rand_xoshiro.specs.Xoshiro256.{plus_plus};
 ghost use Rattle.pair_workers.specs.Picks.{words_from, first_state, pick_of, picks_from, picks};
 
+use pop_crowd::{AGENT_LEAST, AGENT_LIMIT};
 use pop_io::NoMemory;
+use pop_words::SEED_LIMIT;
 use rand_core::{Rng, SeedableRng};
 use rand_xoshiro::Xoshiro256PlusPlus;
 use std::marker::Model;
@@ -27,9 +29,9 @@ impl Model for Picker {
 }
 
 impl Picker {
-    /// The picker of a worker that has made no pick. It takes no memory.
+    /// The picker of a worker that has made no pick. It allocates nothing.
     pub fn new(seed: u64, worker: u16) -> Picker
-        requires { seed ≤ 2 ^ 63 - 1 }
+        requires { seed ≤ SEED_LIMIT }
         ensures state { result ≡ first_state seed worker }
         ensures picks { (n count : ℕ) → picks_from (words_from result) n count ≡ picks seed worker n count }
     {
@@ -47,10 +49,10 @@ impl Picker {
         })
     }
 
-    /// Two different agents of `n`, from the next word. It takes no memory.
+    /// Two different agents of `n`, from the next word. It allocates nothing.
     pub fn pick(&mut self, n: u32) -> (u32, u32)
-        requires two { 2 ≤ n }
-        requires few { n ≤ 65536 }
+        requires two { AGENT_LEAST ≤ n }
+        requires few { n ≤ AGENT_LIMIT }
         ensures pick { result ≡ pick_of n (next_u64 (words_from self.old)).0 }
         ensures rest { words_from self.new ≡ (next_u64 (words_from self.old)).1 }
         // Picks in a row are those of the definition.

@@ -6,12 +6,12 @@ ghost use Rattle.agent_field.specs.Seats.{IsSeatOf, KeepsOwn, number_of, next_of
 ghost use Rattle.pair_workers.specs.Turns.{ArePlayed, HasPicked};
 ghost use Rattle.pair_workers.specs.Work.{MayWork, HasWorked, AreReady, AreDone, HasAll, agents_of};
 
-use crate::alone::play_round;
+use crate::alone::{ROUND_TURNS, play_round};
 use crate::picker::Picker;
 use crate::work::{Worker, work, work_all};
 use agent_field::{Field, FieldSeat, Round};
-use pop_crowd::Crowd;
-use pop_io::{Gate, List, NoMemory};
+use pop_crowd::{AGENT_LEAST, AGENT_LIMIT, Crowd};
+use pop_io::{Gate, List, NoMemory, SHARD_LIMIT, WORKER_LIMIT};
 use pop_net::{Net, Word};
 use pop_words::RunSpec;
 use std::alloc::Global;
@@ -21,7 +21,7 @@ use std::thread::{Threads, join_mut};
 /// A crowd's words.
 fn words_of(alloc: Global, crowd: &Crowd) -> Result<List<Word>, NoMemory>
     ensures words { IfOk result (λ words. words ≡ crowd.now) }
-    ensures agents { (2 ≤ length crowd.now) × (length crowd.now ≤ 65536) }
+    ensures agents { (AGENT_LEAST ≤ length crowd.now) × (length crowd.now ≤ AGENT_LIMIT) }
 {
     let mut words = Vec::new(alloc);
     'agents: for agent in 0..crowd.len() {
@@ -40,7 +40,7 @@ fn seat_others(
 ) -> Result<Vec<Worker>, NoMemory>
     requires ours { IsSeatOf field.now first.old }
     requires fresh { (number_of first.old ≡ 0) × (next_of first.old ≡ 1) × (left_of first.old + 1 ≡ length pickers.now) }
-    requires turns { turns ≤ 4096 }
+    requires turns { turns ≤ ROUND_TURNS }
     ensures ours { IsSeatOf field.now first.new }
     ensures own { KeepsOwn first.old first.new × (taken_of first.new ≡ taken_of first.old) }
     ensures ready { IfOk result (λ workers. (next_of first.new ≡ length pickers.now) × AreReady field.now turns pickers.now workers.items) }
@@ -93,7 +93,7 @@ fn work_beside<R: Threads + Wait + Sync, G: Gate>(
     turns: u64,
     gate: &G,
 )
-    requires agents { (2 ≤ agents_of field.now) × (agents_of field.now ≤ 65536) }
+    requires agents { (AGENT_LEAST ≤ agents_of field.now) × (agents_of field.now ≤ AGENT_LIMIT) }
     requires first { MayWork field.now turns first.old }
     requires others { All (MayWork field.now turns) others.old }
     ensures first { HasWorked field.now turns first.old first.new }
@@ -102,11 +102,11 @@ fn work_beside<R: Threads + Wait + Sync, G: Gate>(
     join_mut(
         rt,
         &mut ||
-            requires { (2 ≤ agents_of field.now) × (agents_of field.now ≤ 65536) × MayWork field.now turns first.now }
+            requires { (AGENT_LEAST ≤ agents_of field.now) × (agents_of field.now ≤ AGENT_LIMIT) × MayWork field.now turns first.now }
             ensures { HasWorked field.entry.now turns first.entry.now first.exit.now }
         { work(rt, field, first, turns, gate) },
         &mut ||
-            requires { (2 ≤ agents_of field.now) × (agents_of field.now ≤ 65536) × All (MayWork field.now turns) others.now }
+            requires { (AGENT_LEAST ≤ agents_of field.now) × (agents_of field.now ≤ AGENT_LIMIT) × All (MayWork field.now turns) others.now }
             ensures { (i : ℕ) (d : Worker) → i < length others.entry.now → HasWorked field.entry.now turns (slice_index_or others.entry.now i d) (slice_index_or others.exit.now i d) }
         { work_all(rt, field, others, turns, gate) },
     );
@@ -124,10 +124,10 @@ fn field_round<R: Threads + Wait + Sync, G: Gate>(
     gate: &G,
 ) -> Result<Round, NoMemory>
     requires valid { AreValid net.now crowd.now }
-    requires shards { (1 ≤ spec.now.shards) × (spec.now.shards ≤ 1024) }
-    requires workers { (1 ≤ spec.now.workers) × (spec.now.workers ≤ 64) }
+    requires shards { (1 ≤ spec.now.shards) × (spec.now.shards ≤ SHARD_LIMIT) }
+    requires workers { (1 ≤ spec.now.workers) × (spec.now.workers ≤ WORKER_LIMIT) }
     requires pickers { length pickers.old ≡ spec.now.workers }
-    requires turns { turns ≤ 4096 }
+    requires turns { turns ≤ ROUND_TURNS }
     ensures played { IfOk result (λ round. ArePlayed net.now (crowd_of net.now crowd.now) spec.now.workers turns pickers.old pickers.new round.meetings (crowd_of net.now round.words)) }
     ensures valid { IfOk result (λ round. AreValid net.now round.words) }
     ensures agents { IfOk result (λ round. length round.words ≡ length crowd.now) }
@@ -158,7 +158,7 @@ fn plain_round<G: Gate>(
 ) -> Result<Round, NoMemory>
     requires valid { AreValid net.now crowd.now }
     requires pickers { length pickers.old ≡ 1 }
-    requires turns { turns ≤ 4096 }
+    requires turns { turns ≤ ROUND_TURNS }
     ensures played { IfOk result (λ round. ArePlayed net.now (crowd_of net.now crowd.now) 1 turns pickers.old pickers.new round.meetings (crowd_of net.now round.words)) }
     ensures valid { IfOk result (λ round. AreValid net.now round.words) }
     ensures agents { IfOk result (λ round. length round.words ≡ length crowd.now) }
@@ -188,10 +188,10 @@ pub fn run_round<R: Threads + Wait + Sync, G: Gate>(
     gate: &G,
 ) -> Result<Round, NoMemory>
     requires valid { AreValid net.now crowd.now }
-    requires shards { (1 ≤ spec.now.shards) × (spec.now.shards ≤ 1024) }
-    requires workers { (1 ≤ spec.now.workers) × (spec.now.workers ≤ 64) }
+    requires shards { (1 ≤ spec.now.shards) × (spec.now.shards ≤ SHARD_LIMIT) }
+    requires workers { (1 ≤ spec.now.workers) × (spec.now.workers ≤ WORKER_LIMIT) }
     requires pickers { length pickers.old ≡ spec.now.workers }
-    requires turns { turns ≤ 4096 }
+    requires turns { turns ≤ ROUND_TURNS }
     ensures played { IfOk result (λ round. ArePlayed net.now (crowd_of net.now crowd.now) spec.now.workers turns pickers.old pickers.new round.meetings (crowd_of net.now round.words)) }
     ensures valid { IfOk result (λ round. AreValid net.now round.words) }
     ensures agents { IfOk result (λ round. length round.words ≡ length crowd.now) }

@@ -5,6 +5,7 @@ ghost use Rattle.pair_workers.specs.Work.{MayWork, HasWorked, agents_of};
 
 use crate::picker::Picker;
 use agent_field::{Field, FieldSeat};
+use pop_crowd::{AGENT_LEAST, AGENT_LIMIT};
 use pop_io::Gate;
 use std::sync::Wait;
 use std::thread;
@@ -25,7 +26,7 @@ pub(crate) fn work<R: Wait, G: Gate>(
     turns: u64,
     gate: &G,
 )
-    requires agents { (2 ≤ agents_of field.now) × (agents_of field.now ≤ 65536) }
+    requires agents { (AGENT_LEAST ≤ agents_of field.now) × (agents_of field.now ≤ AGENT_LIMIT) }
     requires may { MayWork field.now turns worker.old }
     ensures { HasWorked field.now turns worker.old worker.new }
 {
@@ -44,7 +45,7 @@ pub(crate) fn work_all<R: Threads + Wait + Sync, G: Gate>(
     turns: u64,
     gate: &G,
 )
-    requires agents { (2 ≤ agents_of field.now) × (agents_of field.now ≤ 65536) }
+    requires agents { (AGENT_LEAST ≤ agents_of field.now) × (agents_of field.now ≤ AGENT_LIMIT) }
     requires may { All (MayWork field.now turns) workers.old }
     ensures { (i : ℕ) (d : Worker) → i < length workers.old → HasWorked field.now turns (slice_index_or workers.old i d) (slice_index_or workers.new i d) }
 {
@@ -54,7 +55,7 @@ pub(crate) fn work_all<R: Threads + Wait + Sync, G: Gate>(
         workers,
         threads,
         &|_i: usize, worker: &mut Worker|
-            requires { (2 ≤ agents_of field.now) × (agents_of field.now ≤ 65536) × MayWork field.now turns worker.now }
+            requires { (AGENT_LEAST ≤ agents_of field.now) × (agents_of field.now ≤ AGENT_LIMIT) × MayWork field.now turns worker.now }
             ensures { HasWorked field.entry.now turns worker.entry.now worker.exit.now }
         { work(rt, field, worker, turns, gate) },
     );

@@ -195,14 +195,14 @@ none_rejected net p proof (Tree i value f) valid r =
     none_before net proof i (λ leaf part. RejectsTree leaf part value f) (tree_refuses value f) r (all_valid net proof p valid)
 none_rejected net p proof Predicate valid r = r.1 valid.combination
 
--- two faults that are not want of memory are one
+-- two faults that are not out of memory are one
 pub one_check_fault : (net : NetModel) (p : PredModel) (proof : Proof) (fault other : CheckFault) → IsCheckFault net p proof fault → IsCheckFault net p proof other → fault ≢ NoMemory → other ≢ NoMemory → fault ≡ other
 one_check_fault net p proof (Rejects r) (Rejects s) f g some more =
     ap (λ (x : Rejected). Rejects x) (one_rejected net p proof r s f g)
 one_check_fault net p proof (Rejects r) NoMemory f g some more = absurd (more refl)
 one_check_fault net p proof NoMemory other f g some more = absurd (some refl)
 
--- a valid proof is refused for want of memory alone
+-- a valid proof is refused for out of memory alone
 pub valid_fault : (net : NetModel) (p : PredModel) (proof : Proof) (fault : CheckFault) → ValidProof net p proof → IsCheckFault net p proof fault → fault ≡ NoMemory
 valid_fault net p proof (Rejects r) valid f = absurd (none_rejected net p proof r valid f)
 valid_fault net p proof NoMemory valid f = refl

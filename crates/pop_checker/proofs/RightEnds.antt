@@ -14,11 +14,10 @@ use Rattle.cert_base.specs.declared.fact.Fact.{Fact}
 use Rattle.cert_base.specs.declared.fact.Fact.TheVariants.{Ge, Eq, Cong, NotCong, Holds}
 use Rattle.cert_base.specs.declared.node.Node.{Node}
 use Rattle.cert_base.specs.declared.node.Node.TheVariants.{Linear, Residue, Split, Present, Twin, Trap, Siphon, Open}
-use Rattle.cert_base.specs.declared.proof.LeafProof.{LeafProof}
 use Rattle.cert_base.specs.declared.proof.Proof.{Proof}
-use Rattle.cert_base.specs.Rows.{single_row, input_variable, move_variable, variable_count}
+use Rattle.cert_base.specs.Rows.{single_row, input_variable, move_variable, variable_count, constant_row}
 use Rattle.cert_base.specs.Valuation.{Valuation, MeetsFact}
-use Rattle.cert_base.specs.FactsAndCases.{states_of, flow, two_agents, wrong_output, base_facts, can_meet, absent, alone, not_twice, present_cases, is_in, takes_from, puts_into, places_from, none_taken, none_started, count_in, trap_cases, siphon_cases, split_cases, open_tree, open_cases}
+use Rattle.cert_base.specs.FactsAndCases.{states_of, flow, two_agents, wrong_output, base_facts, can_meet, absent, alone, not_twice, present_cases, is_in, takes_from, puts_into, places_from, none_taken, none_started, count_in, trap_cases, siphon_cases, split_cases, open_tree, open_cases, helpers_among, none_helps}
 use Rattle.cert_base.specs.Closes.{name_below, refutes, where_in_range, opened, only_case, cases_of, ClosesUnder, refuted, by_cases, ClosesEach, no_case, next_case, Closes}
 use Rattle.cert_base.specs.Ends.{IsEnd, MeetsAll, MeetsOne, EndsRight}
 use Rattle.cert_base.specs.ValidProof.{ValidProof}
@@ -87,10 +86,14 @@ taken_formed leaf test = map_formed (λ t. Eq (single_row (move_variable leaf t)
 started_formed : (leaf : LeafModel) (set : List ℕ) → AreFormed (none_started leaf set)
 started_formed leaf set = map_formed (λ i. Eq (single_row (input_variable leaf i) (pos 1) (pos 0))) (places_from 0 (is_in set) leaf.inputs) (λ i. tt)
 
+none_helps_formed : (leaf : LeafModel) (set : List ℕ) (b : Bool) → AreFormed (if b then [] else (Eq (constant_row (pos (helpers_among leaf set))) ∷ []))
+none_helps_formed leaf set true = tt
+none_helps_formed leaf set false = (tt, tt)
+
 trap_formed : (leaf : LeafModel) (set : List ℕ) → AreCasesFormed (trap_cases leaf set)
 trap_formed leaf set =
     let unmarked = append_formed (none_taken leaf (puts_into set)) (none_started leaf set) (taken_formed leaf (puts_into set)) (started_formed leaf set) in
-    ((tt, tt), (append_formed (none_taken leaf (puts_into set) ++ none_started leaf set) (Eq (count_in leaf set (pos 0)) ∷ []) unmarked (tt, tt), ((tt, tt), tt)))
+    ((tt, tt), (append_formed (none_taken leaf (puts_into set) ++ none_started leaf set) (Eq (count_in leaf set (pos 0)) ∷ none_helps leaf set) unmarked (tt, none_helps_formed leaf set (helpers_among leaf set == 0)), ((tt, tt), tt)))
 
 siphon_formed : (leaf : LeafModel) (set : List ℕ) → AreCasesFormed (siphon_cases leaf set)
 siphon_formed leaf set =

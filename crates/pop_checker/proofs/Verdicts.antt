@@ -5,7 +5,7 @@ use Rattle.std.proofs.lemmas.List.Elements.{All-head}
 use Rattle.pres_ast.specs.PredModel.{PredModel}
 use Rattle.pres_ast.specs.PredicateValue.{predicate_value}
 use Rattle.pop_net.specs.declared.net.Word.{Word}
-use Rattle.pop_net.specs.NetModel.{NetModel, Tuple, IsNet, output_of}
+use Rattle.pop_net.specs.NetModel.{NetModel, Tuple, IsNet, helper_count, output_of}
 use Rattle.pop_net.specs.InputCrowd.{IsInput, input_crowd}
 use Rattle.pop_net.specs.Lanes.{tuple_of, crowd_of}
 use Rattle.pop_net.specs.Step.{Step}
@@ -16,8 +16,14 @@ use Rattle.cert_base.specs.ProofBound.{proof_bound}
 use Rattle.cert_base.specs.ValidProof.{ValidProof}
 use Rattle.pop_checker.specs.CheckedModel.{CheckedModel, IsChecked}
 use Rattle.pop_checker.specs.Parts.{AreRightBefore}
+use Rattle.pop_checker.specs.Sound.{IsRight}
 use Rattle.pop_checker.proofs.Outputs.{computes as computed}
 use Rattle.pop_checker.proofs.Settles.{valid_settles}
+
+-- a net whose proof is right computes the predicate
+pub right_by : (net : NetModel) (p : PredModel) (proof : Proof) → IsNet net → ValidProof net p proof → AreRightBefore net proof.leaves (length net.leaves) → IsRight net p proof
+right_by net p proof is valid right =
+    record { computes = computed net p proof is valid right; settles = λ single. valid_settles net p proof is valid single }
 
 -- a net whose proof is right is checked
 pub checked_by : (net : NetModel) (p : PredModel) (proof : Proof) (bound : ℕ) → IsNet net → p.variables ≡ length net.variables → ValidProof net p proof → AreRightBefore net proof.leaves (length net.leaves) → bound ≡ proof_bound proof → IsChecked (record { net = net; pred = p; bound = bound })
@@ -30,7 +36,7 @@ checked_by net p proof bound is variables valid right e =
     })
 
 -- all agents output the predicate's value
-pub all_right : (checked : CheckedModel) (counts : List ℕ) (words : List Word) → IsChecked checked → IsInput (length checked.net.variables) counts → Reachable (Step checked.net) (input_crowd checked.net counts) (crowd_of checked.net words) → IsTerminal (Step checked.net) (crowd_of checked.net words) → All (λ tuple. output_of checked.net tuple ≡ predicate_value checked.pred.tree counts) (crowd_of checked.net words)
+pub all_right : (checked : CheckedModel) (counts : List ℕ) (words : List Word) → IsChecked checked → IsInput (length checked.net.variables) (helper_count checked.net) counts → Reachable (Step checked.net) (input_crowd checked.net counts) (crowd_of checked.net words) → IsTerminal (Step checked.net) (crowd_of checked.net words) → All (λ tuple. output_of checked.net tuple ≡ predicate_value checked.pred.tree counts) (crowd_of checked.net words)
 all_right checked counts words is input reached terminal =
     (is.computes counts (crowd_of checked.net words) input reached).right terminal
 

@@ -33,7 +33,8 @@ abbrev pub RejectsTree : LeafModel → LeafProof → Bool → TreeFault → Type
 RejectsTree leaf part true fault =
     ValidLayers leaf part.layers × IsTreeFault leaf part.pred true part.on_true fault × (fault ≢ TreeMemory)
 RejectsTree leaf part false fault =
-    ValidLayers leaf part.layers × Closes leaf (base_facts leaf part.pred true) part.on_true [] × IsTreeFault leaf part.pred false part.on_false fault × (fault ≢ TreeMemory)
+    ValidLayers leaf part.layers × Closes leaf (base_facts leaf part.pred true) part.on_true [] × IsTreeFault leaf part.pred false part.on_false fault
+    × (fault ≢ TreeMemory)
 
 -- leaf i and its proof are the first that are rejected
 pub record IsFirstRejected (net : NetModel) (proof : Proof) (i : ℕ) (Rejects : LeafModel → LeafProof → Type 0) : Type 0 where

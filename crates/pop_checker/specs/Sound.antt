@@ -12,7 +12,8 @@ use Rattle.pop_checker.specs.Computes.{Computes, EndsByMeetings}
 -- the predicates of the leaves are over the net's variables, with coefficients for these alone
 abbrev pub ArePreds : NetModel → Proof → Type 0
 ArePreds net proof =
-    (i : ℕ) (part : LeafProof) → slice_get proof.leaves i ≡ Some part → (part.pred.variables ≡ length net.variables) × HasAtoms part.pred.variables part.pred.tree
+    (i : ℕ) (part : LeafProof) → slice_get proof.leaves i ≡ Some part → (part.pred.variables ≡ length net.variables)
+    × HasAtoms part.pred.variables part.pred.tree
 
 -- The net computes the predicate within the proof's bound, and where no two moves of a leaf are for the same states, meetings alone lead to its end.
 pub record IsRight (net : NetModel) (p : PredModel) (proof : Proof) : Type 0 where

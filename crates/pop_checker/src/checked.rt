@@ -31,7 +31,7 @@ impl Model for Checked {
 
 impl Checked {
     ghost use Rattle.pres_ast.specs.PredicateValue.{predicate_value};
-    ghost use Rattle.pop_net.specs.NetModel.{output_of};
+    ghost use Rattle.pop_net.specs.NetModel.{helper_count, output_of};
     ghost use Rattle.pop_net.specs.InputCrowd.{IsInput, input_crowd};
     ghost use Rattle.pop_net.specs.Lanes.{crowd_of, AreValid};
     ghost use Rattle.pop_net.specs.Step.{Step};
@@ -39,7 +39,7 @@ impl Checked {
     ghost use Rattle.pop_net.specs.Terminal.{IsTerminal};
     ghost use Rattle.pop_checker.specs.CheckedModel.{IsChecked};
 
-    /// It takes no memory.
+    /// A net that was checked. Allocates nothing.
     pub(crate) fn new(net: Net, pred: Pred, bound: u64) -> Checked
         requires { IsChecked (record { net = net; pred = pred; bound = bound }) }
         ensures { result ≡ record { net = net; pred = pred; bound = bound } }
@@ -47,12 +47,14 @@ impl Checked {
         Checked { net, pred, bound }
     }
 
+    /// The net.
     pub fn net(&self) -> &Net
         ensures { result.now ≡ self.now.net }
     {
         &self.net
     }
 
+    /// The predicate that it computes.
     pub fn pred(&self) -> &Pred
         ensures value { result.now ≡ self.now.pred }
         ensures variables { self.now.pred.variables ≡ length self.now.net.variables }
@@ -69,9 +71,9 @@ impl Checked {
         self.bound
     }
 
-    /// What the agents of a terminal crowd answer that the counts led to. It takes no memory.
+    /// What the agents of a terminal crowd answer that the counts, with the helpers, led to. Allocates nothing.
     pub fn verdict(&self, counts: &[u64], crowd: &Crowd) -> bool
-        requires input { IsInput (length self.now.net.variables) counts.now }
+        requires input { IsInput (length self.now.net.variables) (helper_count self.now.net) counts.now }
         requires valid { AreValid self.now.net crowd.now }
         requires reached { Reachable (Step self.now.net) (input_crowd self.now.net counts.now) (crowd_of self.now.net crowd.now) }
         requires terminal { IsTerminal (Step self.now.net) (crowd_of self.now.net crowd.now) }

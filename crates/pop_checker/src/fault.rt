@@ -7,12 +7,12 @@ use cert_tree::TreeFault;
 /// predicate.
 #[derive(Clone, Copy, Debug, PartialEq, Eq)]
 pub enum Rejected {
-    /// The layers of a leaf; the fault is not want of memory.
+    /// The layers of a leaf; the fault is not `NoMemory`.
     Layers {
         leaf: u8,
         fault: LayerFault,
     },
-    /// The tree of a leaf for this value of its predicate; the fault is not want of memory.
+    /// The tree of a leaf for this value of its predicate; the fault is not `NoMemory`.
     Tree {
         leaf: u8,
         value: bool,
@@ -22,8 +22,11 @@ pub enum Rejected {
     Predicate,
 }
 
+/// Why a net is not accepted with a proof.
 #[derive(Clone, Copy, Debug, PartialEq, Eq)]
 pub enum CheckFault {
+    /// The proof is not valid.
     Rejected(Rejected),
+    /// Out of memory.
     NoMemory,
 }

@@ -13,6 +13,3 @@ pub use checked::Checked;
 pub use fault::{CheckFault, Rejected};
 pub use law::valid_is_right;
 pub use whole::check;
-
-#[cfg(test)]
-mod tests;

@@ -1,6 +1,6 @@
 //! The check of one leaf's part of a proof.
 
-ghost use Rattle.std.specs.Prelude.{◌≡◌, ◌≤◌, ◌^◌, [], length, All, IfOk, IfErr, OnOk};
+ghost use Rattle.std.specs.Prelude.{◌≡◌, ◌≤◌, ◌*◌, [], length, All, IfOk, IfErr, OnOk};
 ghost use Rattle.cert_base.specs.FactsAndCases.{base_facts as base_list};
 ghost use Rattle.cert_base.specs.Closes.{Closes};
 ghost use Rattle.cert_base.specs.Ends.{EndsRight};
@@ -11,7 +11,7 @@ ghost use Rattle.cert_base.specs.ValidProof.{ValidLeafProof};
 ghost use Rattle.pop_checker.specs.Parts.{IsRightPart, IsLayersFault, IsValueFault, IsPartFault};
 
 use crate::fault::{CheckFault, Rejected};
-use cert_base::{LeafProof, Node};
+use cert_base::{LAYER_LIMIT, LeafProof, Node, SIZE_LIMIT};
 use cert_layers::{LayerFault, check_layers};
 use cert_tree::{TreeFault, check_tree};
 use pop_io::List;
@@ -29,7 +29,7 @@ pub(crate) fn check_part(
     requires variables { part.now.pred.variables ≡ length leaf.now.inputs }
     requires within { IsLeafProofWithin part.now.pred.variables part.now }
     ensures right { IfOk result (λ bound. IsRightPart leaf.now part.now) }
-    ensures bound { IfOk result (λ bound. (bound ≡ layers_bound part.now.layers) × (bound ≤ 2 ^ 49)) }
+    ensures bound { IfOk result (λ bound. (bound ≡ layers_bound part.now.layers) × (bound ≤ LAYER_LIMIT * (2 * SIZE_LIMIT))) }
     ensures fault { IfErr result (IsPartFault leaf.now part.now number) }
     ensures accepts { ValidLeafProof leaf.now part.now → IfErr result (λ fault. fault ≡ CheckFault.NoMemory) }
 {
@@ -40,10 +40,10 @@ pub(crate) fn check_part(
 }
 
 fn check_order(alloc: Global, leaf: &Leaf, number: u8, part: &LeafProof) -> Result<u64, CheckFault>
-    requires few { length part.now.layers ≤ 256 }
+    requires few { length part.now.layers ≤ LAYER_LIMIT }
     requires within { All IsLayerWithin part.now.layers }
     ensures valid { IfOk result (λ bound. ValidLayers leaf.now part.now.layers) }
-    ensures bound { IfOk result (λ bound. (bound ≡ layers_bound part.now.layers) × (bound ≤ 2 ^ 49)) }
+    ensures bound { IfOk result (λ bound. (bound ≡ layers_bound part.now.layers) × (bound ≤ LAYER_LIMIT * (2 * SIZE_LIMIT))) }
     ensures fault { IfErr result (IsLayersFault leaf.now part.now number) }
     ensures accepts { ValidLayers leaf.now part.now.layers → IfErr result (λ fault. fault ≡ CheckFault.NoMemory) }
 {

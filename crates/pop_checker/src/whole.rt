@@ -8,6 +8,7 @@ ghost use Rattle.cert_base.specs.ProofLimits.{IsProofWithin};
 ghost use Rattle.cert_base.specs.ValidProof.{ValidProof};
 ghost use Rattle.pop_checker.specs.Rejections.{AreValidBefore, IsCheckFault};
 ghost use Rattle.pop_checker.specs.Parts.{AreRightBefore};
+ghost use Rattle.pop_checker.specs.Sound.{IsRight};
 
 use crate::checked::Checked;
 use crate::fault::{CheckFault, Rejected};
@@ -22,6 +23,8 @@ pub fn check(alloc: Global, net: Net, pred: Pred, proof: &Proof) -> Result<Check
     requires variables { pred.variables ≡ length net.variables }
     requires within { IsProofWithin (length net.variables) (length net.leaves) proof.now }
     ensures valid { OnOk result (ValidProof net pred proof.now) }
+    // The net computes the predicate, and meetings alone lead a net to its end that has no two moves for the same states.
+    ensures right { OnOk result (IsRight net pred proof.now) }
     ensures fault { IfErr result (IsCheckFault net pred proof.now) }
     ensures accepts { ValidProof net pred proof.now → IfErr result (λ fault. fault ≡ CheckFault.NoMemory) }
     ensures kept { IfOk result (λ checked. checked ≡ record { net = net; pred = pred; bound = proof_bound proof.now }) }

@@ -1,13 +1,18 @@
 -- When counts give no crowd that can be run.
-use Rattle.std.specs.Prelude.{◌≡◌, ◌⊎◌, ℕ, ◌&&◌, nat_le, List, sum, Option, Some}
+use Rattle.std.specs.Prelude.{◌≡◌, ◌⊎◌, ℕ, ◌+◌, ◌&&◌, nat_le, List, sum, Option, Some}
 use Rattle.pop_net.specs.FirstFault.{unless}
+use Rattle.pop_net.specs.NetModel.{NetModel, helper_count}
+use Rattle.pop_crowd.specs.declared.limits.TheConstants.{AGENT_LEAST, AGENT_LIMIT}
 use Rattle.pop_crowd.specs.declared.fault.CrowdFault.{CrowdFault}
 use Rattle.pop_crowd.specs.declared.fault.CrowdFault.TheVariants as fault
 
--- a crowd that is run has 2 to 65,536 agents
-abbrev pub size_fault : List ℕ → Option CrowdFault
-size_fault counts = unless (nat_le 2 (sum counts) && nat_le (sum counts) 65536) (fault.Size (sum counts))
+-- how many agents the input crowd has, the helpers among them
+abbrev pub input_size : NetModel → List ℕ → ℕ
+input_size net counts = sum counts + helper_count net
 
--- the counts' sum is the fault, unless memory ran out
-abbrev pub RefusesCounts : List ℕ → CrowdFault → Type 0
-RefusesCounts counts f = (f ≡ fault.NoMemory) ⊎ (size_fault counts ≡ Some f)
+abbrev pub size_fault : ℕ → Option CrowdFault
+size_fault agents = unless (nat_le AGENT_LEAST agents && nat_le agents AGENT_LIMIT) (fault.Size agents)
+
+-- the input crowd is too small or too large, unless memory ran out
+abbrev pub RefusesCounts : NetModel → List ℕ → CrowdFault → Type 0
+RefusesCounts net counts f = (f ≡ fault.NoMemory) ⊎ (size_fault (input_size net counts) ≡ Some f)

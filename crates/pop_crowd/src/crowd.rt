@@ -1,16 +1,17 @@
 //! Crowds of agents, and their meetings one after the other.
 
-ghost use Rattle.std.specs.Prelude.{◌≡◌, ◌≢◌, ◌<◌, ◌≤◌, ◌==◌, ◌||◌, not, length, sum, Some, IfOk, IfErr, slice_get};
+ghost use Rattle.std.specs.Prelude.{◌≡◌, ◌≢◌, ◌<◌, ◌≤◌, ◌==◌, ◌||◌, not, length, Some, IfOk, IfErr, slice_get};
 
 use crate::fault::CrowdFault;
+use crate::limits::{AGENT_LEAST, AGENT_LIMIT};
 use crate::lines::lines_of;
-use crate::starts::{AGENT_LIMIT, start_words, total};
+use crate::starts::{input_words, size};
 use pop_io::{List, NoMemory};
 use pop_net::{Net, Word};
 use std::alloc::Global;
 use std::marker::Model;
 
-/// A crowd of 2 to 65,536 agents, which contracts see as the list of its words.
+/// A crowd of `AGENT_LEAST` to `AGENT_LIMIT` agents, which contracts see as the list of its words.
 #[derive(Debug, Drop)]
 pub struct Crowd {
     words: Vec<Word>,
@@ -19,12 +20,13 @@ pub struct Crowd {
 impl Model for Crowd {
     ghost use Rattle.std.specs.Prelude.{List, ◌≤◌, length};
     ghost use Rattle.pop_net.specs.declared.net.Word.{Word};
+    ghost use Rattle.pop_crowd.specs.declared.limits.TheConstants.{AGENT_LEAST, AGENT_LIMIT};
 
     ghost Value = { List Word };
 
     ghost view = { λ c. c.words.items };
 
-    ghost invariant = { λ c. (2 ≤ length c.words.items) × (length c.words.items ≤ 65536) };
+    ghost invariant = { λ c. (AGENT_LEAST ≤ length c.words.items) × (length c.words.items ≤ AGENT_LIMIT) };
 }
 
 /// A meeting of two agents by a worker, and whether it changed a word.
@@ -49,35 +51,35 @@ impl Crowd {
     ghost use Rattle.pop_net.specs.Step.{Step};
     ghost use Rattle.pop_net.specs.Reachable.{ReachedWithin};
     ghost use Rattle.pop_net.specs.Reaction.{after_meeting};
-    ghost use Rattle.pop_crowd.specs.Crowds.{RefusesCounts};
+    ghost use Rattle.pop_crowd.specs.Crowds.{RefusesCounts, input_size};
     ghost use Rattle.pop_crowd.specs.Tally.{crowd_lines, tuples_of, AreTuplesOf};
     ghost use Rattle.pop_crowd.specs.Replay.{changes, replay, change_count, AreMeetings};
     ghost use Rattle.pop_crowd.specs.declared.fault.CrowdFault.TheVariants.{NoMemory as OutOfMemory};
 
-    /// First the agents of variable 0, then those of variable 1, and so on.
+    /// The input crowd: first the agents of variable 0, then those of variable 1, and so on, then the helpers.
     pub fn of_counts(alloc: Global, net: &Net, counts: &[u64]) -> Result<Crowd, CrowdFault>
         requires { length counts.now ≡ length net.now.variables }
         ensures start { IfOk result (λ crowd. crowd_of net.now crowd ≡ input_crowd net.now counts.now) }
         ensures valid { IfOk result (AreValid net.now) }
-        ensures size { IfOk result (λ crowd. (2 ≤ length crowd) × (length crowd ≤ 65536)) }
-        ensures refused { IfErr result (RefusesCounts counts.now) }
-        ensures accepts { 2 ≤ sum counts.now → sum counts.now ≤ 65536
+        ensures size { IfOk result (λ crowd. (AGENT_LEAST ≤ length crowd) × (length crowd ≤ AGENT_LIMIT)) }
+        ensures refused { IfErr result (RefusesCounts net.now counts.now) }
+        ensures accepts { AGENT_LEAST ≤ input_size net.now counts.now → input_size net.now counts.now ≤ AGENT_LIMIT
             → IfErr result (λ fault. fault ≡ OutOfMemory) }
     {
         let _ = net.var_count();
-        let size = total(counts);
-        if size < 2 || AGENT_LIMIT < size {
-            return Err(CrowdFault::Size(size));
+        let agents = size(net, counts);
+        if agents < u128::from(AGENT_LEAST) || u128::from(AGENT_LIMIT) < agents {
+            return Err(CrowdFault::Size(agents));
         }
-        let words = start_words(alloc, net, counts)?;
+        let words = input_words(alloc, net, counts)?;
         Ok(Crowd { words })
     }
 
-    /// It takes no memory.
+    /// A crowd of these words. It allocates nothing.
     pub fn of_words(net: &Net, words: List<Word>) -> Crowd
         requires valid { AreValid net.now words }
-        requires some { 2 ≤ length words }
-        requires few { length words ≤ 65536 }
+        requires some { AGENT_LEAST ≤ length words }
+        requires few { length words ≤ AGENT_LIMIT }
         ensures { result ≡ words }
     {
         let _ = net;
@@ -89,12 +91,13 @@ impl Crowd {
     /// The number of agents.
     pub fn len(&self) -> u32
         ensures count { result ≡ length self.now }
-        ensures some { 2 ≤ result }
-        ensures few { result ≤ 65536 }
+        ensures some { AGENT_LEAST ≤ result }
+        ensures few { result ≤ AGENT_LIMIT }
     {
         self.words.len() as u32
     }
 
+    /// An agent's states.
     pub fn word(&self, agent: u32) -> Word
         requires { agent < length self.now }
         ensures { slice_get self.now agent ≡ Some result }

@@ -5,10 +5,10 @@ ghost use Rattle.pop_crowd.specs.declared.fault.CrowdFault.TheVariants.{NoMemory
 
 use pop_io::NoMemory;
 
-/// Counts whose sum is below 2 or over 65,536 give no crowd.
+/// Fewer agents than `AGENT_LEAST` or more than `AGENT_LIMIT` are no crowd.
 #[derive(Clone, Copy, Debug, PartialEq, Eq)]
 pub enum CrowdFault {
-    /// The sum of the counts.
+    /// The sum of the counts and the number of helpers.
     Size(u128),
     NoMemory,
 }

@@ -6,12 +6,11 @@
 mod crowd;
 mod examples;
 mod fault;
+mod limits;
 mod lines;
 mod starts;
 
 pub use crowd::{Crowd, Meeting};
 pub use examples::replay_examples;
 pub use fault::CrowdFault;
-
-#[cfg(test)]
-mod tests;
+pub use limits::{AGENT_LEAST, AGENT_LIMIT};

@@ -1,20 +1,29 @@
 //! The crowd that counts start with.
 
-ghost use Rattle.std.specs.Prelude.{◌≡◌, ◌≤◌, ◌++◌, length, IfOk, OnOk, sum, replicate};
-ghost use Rattle.pop_net.specs.InputCrowd.{input_crowd};
+ghost use Rattle.std.specs.Prelude.{◌≡◌, ◌*◌, ◌^◌, ◌≤◌, ◌++◌, length, map, IfOk, OnOk, sum, replicate};
+ghost use Rattle.std.specs.List.{range_with_len};
+ghost use Rattle.pop_net.specs.NetModel.{helper_count};
+ghost use Rattle.pop_net.specs.InputCrowd.{starts_from, start_of, helper_of, input_crowd};
 ghost use Rattle.pop_net.specs.Lanes.{crowd_of, AreValid};
+ghost use Rattle.pop_crowd.specs.Crowds.{input_size};
 
-use pop_io::NoMemory;
+use pop_io::{NoMemory, VARIABLE_LIMIT};
 use pop_net::{Net, Word};
 use std::alloc::Global;
 
-/// The greatest number of agents of a crowd that is run.
-pub(crate) const AGENT_LIMIT: u128 = 65_536;
+/// How many agents the counts and the helpers are.
+pub(crate) fn size(net: &Net, counts: &[u64]) -> u128
+    requires { length counts.now ≤ VARIABLE_LIMIT }
+    ensures { result ≡ input_size net.now counts.now }
+{
+    total(counts) + u128::from(net.helper_count())
+}
 
-/// There are at most sixteen counts, so that the sum fits.
-pub(crate) fn total(counts: &[u64]) -> u128
-    requires { length counts.now ≤ 16 }
-    ensures { result ≡ sum counts.now }
+/// There are few enough counts for the sum to fit.
+fn total(counts: &[u64]) -> u128
+    requires { length counts.now ≤ VARIABLE_LIMIT }
+    ensures sum { result ≡ sum counts.now }
+    ensures small { result ≤ VARIABLE_LIMIT * 2 ^ 64 }
 {
     let mut sum = 0u128;
     for count in counts {
@@ -23,12 +32,23 @@ pub(crate) fn total(counts: &[u64]) -> u128
     sum
 }
 
-/// As many words of each variable as its count says.
-pub(crate) fn start_words(alloc: Global, net: &Net, counts: &[u64]) -> Result<Vec<Word>, NoMemory>
+/// The words of an input crowd: those of the variables in their order, then the helpers'.
+pub(crate) fn input_words(alloc: Global, net: &Net, counts: &[u64]) -> Result<Vec<Word>, NoMemory>
     requires { length counts.now ≡ length net.now.variables }
     ensures start { IfOk result (λ words. crowd_of net.now words.items ≡ input_crowd net.now counts.now) }
     ensures valid { IfOk result (λ words. AreValid net.now words.items) }
-    ensures agents { IfOk result (λ words. length words.items ≡ sum counts.now) }
+    ensures agents { IfOk result (λ words. length words.items ≡ input_size net.now counts.now) }
+{
+    let mut words = start_words(alloc, net, counts)?;
+    push_helpers(&mut words, net)?;
+    Ok(words)
+}
+
+/// As many words of each variable as its count says.
+fn start_words(alloc: Global, net: &Net, counts: &[u64]) -> Result<Vec<Word>, NoMemory>
+    requires { length counts.now ≡ length net.now.variables }
+    ensures start { IfOk result (λ words. crowd_of net.now words.items ≡ starts_from (start_of net.now) 0 counts.now) }
+    ensures valid { IfOk result (λ words. AreValid net.now words.items) }
 {
     let mut words = Vec::new(alloc);
     for variable in 0..net.var_count() {
@@ -43,6 +63,19 @@ fn push_words(words: &mut Vec<Word>, word: Word, count: u64) -> Result<(), NoMem
 {
     for _turn in 0..count {
         words.push(word)?;
+    }
+    Ok(())
+}
+
+/// The words of the helpers, behind those that stand there.
+fn push_helpers(words: &mut Vec<Word>, net: &Net) -> Result<(), NoMemory>
+    requires { AreValid net.now words.old.items }
+    ensures helpers { OnOk result (crowd_of net.now words.new.items
+        ≡ crowd_of net.now words.old.items ++ map (helper_of net.now) (range_with_len 0 (helper_count net.now))) }
+    ensures valid { OnOk result (AreValid net.now words.new.items) }
+{
+    for helper in 0..net.helper_count() {
+        words.push(net.helper(helper))?;
     }
     Ok(())
 }

@@ -7,6 +7,6 @@ pub gave : (xs out given : List ℕ) (at count : ℕ) → at + count ≤ length 
     → drop at xs ≡ take count (given ++ drop count out) ++ drop (at + count) xs
 gave xs out given at count within copied =
     let same : (at + count) - at ≡ count = omega arith in
-    let front : given ≡ take count (drop at xs) = copied ∙ ap (λ n. take n (drop at xs)) same in
-    let long : length given ≡ count = ap length front ∙ length-take count (drop at xs) ∙ omega (arith, length-drop at xs) in
-    rw (take_at given (drop count out) count long, front, ← drop-drop count at xs) (sym (take-append-drop count (drop at xs)))
+    let prefix : given ≡ take count (drop at xs) = copied ∙ ap (λ n. take n (drop at xs)) same in
+    let long : length given ≡ count = ap length prefix ∙ length-take count (drop at xs) ∙ omega (arith, length-drop at xs) in
+    rw (take_at given (drop count out) count long, prefix, ← drop-drop count at xs) (sym (take-append-drop count (drop at xs)))

@@ -1,5 +1,6 @@
 pub mod Causes
 pub mod Script
-pub mod Feed
-pub mod Bin
+pub mod SourceModels
+pub mod SinkModels
 pub mod Names
+pub mod Gives

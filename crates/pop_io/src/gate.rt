@@ -1,6 +1,12 @@
-//! Where a test may hold a worker.
+//! The workers of a run, and where a test may hold one.
 
-/// It has no clause: whatever a gate does, a run meets its promises.
+/// The greatest number of workers of a run.
+pub const WORKER_LIMIT: u16 = 64;
+
+/// The greatest number of shards that the workers share.
+pub const SHARD_LIMIT: u32 = 1_024;
+
+/// Called by the workers of a run. It has no clause: whatever a gate does, a run meets its promises.
 pub trait Gate: Sync {
     /// A worker calls it before each of its meetings, with turns counted from 1 in each round.
     fn pass(&self, worker: u16, turn: u64);

@@ -1,6 +1,6 @@
 //! Lists, texts and names; sources, sinks and gates: all that the program has of the outside.
 //! It stands on std alone.
-//! The layer above uses: `read_all` gives all bytes, `write_all` appends all or a front, and a fault comes only where a count rose.
+//! The layer above uses: `read_all` gives all bytes, `write_all` appends all or a prefix, and a fault comes only when a count has risen.
 #![tactic(auto)]
 
 mod fault;
@@ -16,16 +16,13 @@ mod trouble;
 mod whole;
 
 pub use fault::{Failed, NoMemory, ReadAll, WriteFault};
-pub use gate::{Gate, OpenGate};
+pub use gate::{Gate, OpenGate, SHARD_LIMIT, WORKER_LIMIT};
 pub use list::List;
 pub use memory_sink::{CalmSink, MemorySink};
 pub use memory_source::{CalmSource, MemorySource};
-pub use names::{is_state_name, is_variable_name};
+pub use names::{NAME_LIMIT, VARIABLE_LIMIT, is_among, is_state_name, is_variable_name, place_of};
 pub use outside::{Sink, Source};
 pub use standard::{StdSink, StdSource};
 pub use text::Text;
 pub use trouble::{Trouble, TroubleKind};
 pub use whole::{INPUT_LIMIT, read_all, write_all};
-
-#[cfg(test)]
-mod tests;

@@ -24,21 +24,21 @@ impl<T> Model for List<T> {
 }
 
 impl<T> List<T> {
-    /// It takes no memory.
+    /// The list of these items. Allocates nothing.
     pub fn from_vec(items: Vec<T>) -> List<T>
         ensures { result ≡ items.items }
     {
         List { items }
     }
 
-    /// It takes no memory.
+    /// The items. Allocates nothing.
     pub fn as_slice(&self) -> &[T]
         ensures { result.now ≡ self.now }
     {
         self.items.as_slice()
     }
 
-    /// It takes no memory.
+    /// The items, to own. Allocates nothing.
     pub fn into_vec(self) -> Vec<T>
         ensures { result.items ≡ self }
     {

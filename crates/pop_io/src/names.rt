@@ -1,13 +1,19 @@
-//! The forms of names.
+//! The forms of names, and names among others.
 
-ghost use Rattle.std.specs.Prelude.{◌≡◌};
-ghost use Rattle.std.specs.List.{list_all};
+ghost use Rattle.std.specs.Prelude.{◌≡◌, position};
+ghost use Rattle.std.specs.List.{list_all, list_any};
+ghost use Rattle.std.specs.Str.{bytes_eq};
 ghost use Rattle.pop_io.specs.Names.{is_variable_name as variable_name, is_state_name as state_name, starts_name, is_name_start, is_name_byte, is_printed};
 
-/// The greatest number of bytes that a name has.
-const NAME_LIMIT: usize = 32;
+use crate::text::Text;
 
-/// Whether a text can name a variable: 1 to 32 letters, digits and `_`, no digit first, and not `mod`.
+/// The greatest number of bytes that a name has.
+pub const NAME_LIMIT: usize = 32;
+
+/// The greatest number of variables of a predicate, and of a net's inputs.
+pub const VARIABLE_LIMIT: usize = 16;
+
+/// Whether a text can name a variable: 1 to `NAME_LIMIT` letters, digits and `_`, no digit first, and not `mod`. Allocates nothing.
 pub fn is_variable_name(name: &str) -> bool
     ensures { result ≡ variable_name name.now }
 {
@@ -15,12 +21,28 @@ pub fn is_variable_name(name: &str) -> bool
     has_start(bytes) && has_name_bytes(bytes) && bytes.len() <= NAME_LIMIT && name != "mod"
 }
 
-/// Whether a text can name a state: 1 to 32 printed bytes, no blank and no `/` among them.
+/// Whether a text can name a state: 1 to `NAME_LIMIT` printed bytes, no blank and no `/` among them. Allocates nothing.
 pub fn is_state_name(name: &str) -> bool
     ensures { result ≡ state_name name.now }
 {
     let bytes = name.as_bytes();
     1 <= bytes.len() && has_printed_bytes(bytes) && bytes.len() <= NAME_LIMIT
+}
+
+/// The place of the first of these names that is `name`, counted from 0. Allocates nothing.
+pub fn place_of(names: &[Text], name: &[u8]) -> Option<usize>
+    ensures { result ≡ position (bytes_eq name.now) names.now }
+{
+    names
+        .iter()
+        .position(|other| name == other.as_str().as_bytes())
+}
+
+/// Whether `name` is one of these names. Allocates nothing.
+pub fn is_among(names: &[Text], name: &[u8]) -> bool
+    ensures { result ≡ list_any (bytes_eq name.now) names.now }
+{
+    names.iter().any(|other| name == other.as_str().as_bytes())
 }
 
 fn has_start(name: &[u8]) -> bool

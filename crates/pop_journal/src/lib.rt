@@ -8,6 +8,3 @@ mod write;
 
 pub use last::Last;
 pub use write::write_journal;
-
-#[cfg(test)]
-mod tests;

@@ -5,6 +5,7 @@ use Rattle.std.specs.Str.Parse.{digits_value}
 use Rattle.std.proofs.lemmas.Bool.{eqb-false, leb-true, le-leb, and_parts, and_from, not-true, ne_eqb, cond-true}
 use Rattle.std.proofs.lemmas.Str.Parse.{IsNumeralModel, numerals_by_value, tells_all_ascii_digits}
 use Rattle.std.proofs.lemmas.Fmt.{decimal-digits_value, digits_decimal, digits_value-decimal, decimal_nonempty, length-decimal-le, decimal_digit, first_decimal}
+use Rattle.pop_lines.specs.declared.numbers.TheConstants.{DIGIT_LIMIT}
 use Rattle.pop_lines.specs.Numbers.{number_of, number_within, has_no_leading_zero, printed_number_of}
 
 own : IsNumeralModel (λ ds. all_ascii_digits ds ≡ true) (digits_value 10)
@@ -16,12 +17,12 @@ chosen true v n is = (refl, cc)
 chosen false v n is = cc
 
 -- what a number in digits is
-pub number_of-Some : (text : List ℕ) (n : ℕ) → number_of text ≡ Some n → (0 < length text) × (length text ≤ 20) × (all_ascii_digits text ≡ true) × (digits_value 10 text ≡ n)
+pub number_of-Some : (text : List ℕ) (n : ℕ) → number_of text ≡ Some n → (0 < length text) × (length text ≤ DIGIT_LIMIT) × (all_ascii_digits text ≡ true) × (digits_value 10 text ≡ n)
 number_of-Some text n is =
-    let found = chosen ((nat_le 1 (length text) && nat_le (length text) 20) && all_ascii_digits text) (digits_value 10 text) n is in
-    let tests = and_parts (nat_le 1 (length text) && nat_le (length text) 20) (all_ascii_digits text) found.0 in
-    let sizes = and_parts (nat_le 1 (length text)) (nat_le (length text) 20) tests.0 in
-    (leb-true 1 (length text) sizes.0, leb-true (length text) 20 sizes.1, tests.1, found.1)
+    let found = chosen ((nat_le 1 (length text) && nat_le (length text) DIGIT_LIMIT) && all_ascii_digits text) (digits_value 10 text) n is in
+    let tests = and_parts (nat_le 1 (length text) && nat_le (length text) DIGIT_LIMIT) (all_ascii_digits text) found.0 in
+    let sizes = and_parts (nat_le 1 (length text)) (nat_le (length text) DIGIT_LIMIT) tests.0 in
+    (leb-true 1 (length text) sizes.0, leb-true (length text) DIGIT_LIMIT sizes.1, tests.1, found.1)
 
 zero_alone : (text : List ℕ) → has_no_leading_zero text ≡ true → get_or text 0 0 ≡ 48 → length text ≡ 1
 zero_alone [] form first = cc
@@ -46,10 +47,10 @@ form-decimal (suc n) small = positive_first (decimal (suc n)) (decimal_nonempty 
 
 number_of-decimal : (n : ℕ) → n < 2 ^ 64 → number_of (decimal n) ≡ Some n
 number_of-decimal n small =
-    let sizes = and_from (nat_le 1 (length (decimal n))) (nat_le (length (decimal n)) 20) (le-leb 1 (length (decimal n)) (decimal_nonempty n small))
-    (le-leb (length (decimal n)) 20 (length-decimal-le 20 n (omega arith) (omega arith) small)) in
-    let tests = and_from (nat_le 1 (length (decimal n)) && nat_le (length (decimal n)) 20) (all_ascii_digits (decimal n)) sizes (digits_decimal own n small) in
-    cond-true ((nat_le 1 (length (decimal n)) && nat_le (length (decimal n)) 20) && all_ascii_digits (decimal n)) (Some (digits_value 10 (decimal n))) None tests ∙ ap Some (digits_value-decimal own n small)
+    let sizes = and_from (nat_le 1 (length (decimal n))) (nat_le (length (decimal n)) DIGIT_LIMIT) (le-leb 1 (length (decimal n)) (decimal_nonempty n small))
+    (le-leb (length (decimal n)) DIGIT_LIMIT (length-decimal-le DIGIT_LIMIT n (omega arith) (omega arith) small)) in
+    let tests = and_from (nat_le 1 (length (decimal n)) && nat_le (length (decimal n)) DIGIT_LIMIT) (all_ascii_digits (decimal n)) sizes (digits_decimal own n small) in
+    cond-true ((nat_le 1 (length (decimal n)) && nat_le (length (decimal n)) DIGIT_LIMIT) && all_ascii_digits (decimal n)) (Some (digits_value 10 (decimal n))) None tests ∙ ap Some (digits_value-decimal own n small)
 
 -- what is printed is read back
 pub printed_number_of-decimal : (n : ℕ) → n < 2 ^ 64 → printed_number_of (decimal n) ≡ Some n

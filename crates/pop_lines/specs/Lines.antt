@@ -27,7 +27,7 @@ abbrev pub IsCut : ℕ → List ℕ → List ℕ → Option (List ℕ) → Type 
 IsCut c bytes piece None = (pieces c bytes ≡ piece ∷ []) × (piece ≡ bytes)
 IsCut c bytes piece (Some rest) = (pieces c bytes ≡ piece ∷ pieces c rest) × (bytes ≡ piece ++ c ∷ rest)
 
--- the bytes, with a line feed at the end where one is missing
+-- the bytes, with a line feed at the end if it is missing
 abbrev pub completed : List ℕ → List ℕ
 completed [] = []
 completed (b ∷ []) = if b == 10 then b ∷ [] else b ∷ 10 ∷ []

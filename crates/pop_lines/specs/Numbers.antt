@@ -1,11 +1,13 @@
 -- Numbers in decimal digits.
-use Rattle.std.specs.Prelude.{ℕ, ◌^◌, ◌==◌, ◌&&◌, not, Bool, true, false, nat_le, nat_lt, List, [], ◌∷◌, length, Option, Some, None, if◌then◌else◌, option_and_then}
+use Rattle.std.specs.Prelude.{ℕ, ◌^◌, ◌==◌, ◌&&◌, not, Bool, true, false, nat_le, nat_lt, List, [], ◌∷◌, length, Option, Some, None}
+use Rattle.std.specs.Prelude.{if◌then◌else◌, option_and_then}
 use Rattle.std.specs.Str.{all_ascii_digits}
 use Rattle.std.specs.Str.Parse.{digits_value}
+use Rattle.pop_lines.specs.declared.numbers.TheConstants.{DIGIT_LIMIT}
 
--- 1 to 20 digits of any value; leading zeros are accepted
+-- 1 to DIGIT_LIMIT digits of any value; leading zeros are accepted
 abbrev pub number_of : List ℕ → Option ℕ
-number_of text = if (nat_le 1 (length text) && nat_le (length text) 20) && all_ascii_digits text then Some (digits_value 10 text) else None
+number_of text = if (nat_le 1 (length text) && nat_le (length text) DIGIT_LIMIT) && all_ascii_digits text then Some (digits_value 10 text) else None
 
 -- the same with a value below 2 ^ 64
 abbrev pub small_number_of : List ℕ → Option ℕ
@@ -21,7 +23,7 @@ has_no_leading_zero [] = false
 has_no_leading_zero (c ∷ []) = true
 has_no_leading_zero (c ∷ d ∷ text) = not (c == 48)
 
--- 1 to 20 digits of any value, as they are printed
+-- 1 to DIGIT_LIMIT digits of any value, as they are printed
 abbrev pub printed_number_of : List ℕ → Option ℕ
 printed_number_of text = if has_no_leading_zero text then number_of text else None
 

@@ -4,7 +4,7 @@ ghost use Rattle.std.specs.Prelude.{◌≡◌, ◌∷◌, [], MatchOption};
 ghost use Rattle.std.specs.Option.{option_copied};
 ghost use Rattle.pop_lines.specs.Lines.{IsCut, lines_of};
 
-/// The first piece before this byte, and the bytes after it. It takes no memory.
+/// The first piece before this byte, and the bytes after it. Allocates nothing.
 pub fn cut(bytes: &[u8], byte: u8) -> (&[u8], Option<&[u8]>)
     ensures { IsCut byte bytes.now result.0.now (option_copied result.1) }
 {
@@ -16,7 +16,7 @@ pub fn cut(bytes: &[u8], byte: u8) -> (&[u8], Option<&[u8]>)
     (bytes, None)
 }
 
-/// The first line, and the bytes after its line feed. It takes no memory; a walk over all lines looks at each byte once.
+/// The first line, and the bytes after its line feed. A walk over all lines looks at each byte once. Allocates nothing.
 pub fn next_line(bytes: &[u8]) -> Option<(&[u8], &[u8])>
     ensures { MatchOption result ((bytes.now ≡ []) × (lines_of bytes.now ≡ []))
         (λ found. lines_of bytes.now ≡ found.0.now ∷ lines_of found.1.now) }

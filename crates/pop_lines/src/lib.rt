@@ -1,5 +1,5 @@
 //! Lines and the pieces of a line, and numbers in decimal digits.
-//! It stands on `pop_io` and on `itoa`.
+//! It stands on `itoa` alone.
 //! The layer above uses: `next_line` and its kin give exactly the lines of a text, `cut` its pieces; what is printed is read back.
 #![tactic(auto)]
 
@@ -11,12 +11,11 @@ mod walks;
 
 pub use cuts::{cut, next_line};
 pub use fault::LineFault;
-pub use numbers::{number, number_within, printed_number, printed_within, small_number};
+pub use numbers::{
+    DIGIT_LIMIT, number, number_within, printed_number, printed_within, small_number,
+};
 pub use print::{push_number, push_wide_number};
 pub use walks::{
     line_count, one_line, one_line_and_more, three_lines, three_lines_and_more, two_lines,
     two_lines_and_more,
 };
-
-#[cfg(test)]
-mod tests;

@@ -1,12 +1,14 @@
 //! Numbers read from decimal digits.
 
 ghost use Rattle.std.specs.Prelude.{◌≡◌, ◌^◌, ◌<◌, decimal, IfSome};
-ghost use Rattle.pop_lines.specs.Numbers.{number_of, small_number_of, number_within as value_within, printed_number_of, printed_within as printed_value_within, has_no_leading_zero};
+ghost use Rattle.pop_lines.specs.Numbers.{number_of, small_number_of, number_within as value_within};
+ghost use Rattle.pop_lines.specs.Numbers.{printed_number_of, printed_within as printed_value_within, has_no_leading_zero};
 
 /// The greatest number of digits that are read.
-const DIGIT_LIMIT: usize = 20;
+pub const DIGIT_LIMIT: usize = 20;
 
-/// A number of 1 to 20 digits, of any value. Leading zeros are accepted, a sign is not.
+/// The number that a text of 1 to `DIGIT_LIMIT` digits is, of any value. Leading zeros are accepted, a sign is not.
+/// Allocates nothing, like its kin.
 pub fn number(text: &[u8]) -> Option<u128>
     ensures { result ≡ number_of text.now }
 {
@@ -23,7 +25,7 @@ pub fn number(text: &[u8]) -> Option<u128>
     Some(value)
 }
 
-/// The same with a value below 2^64.
+/// The number, if it is below 2^64.
 pub fn small_number(text: &[u8]) -> Option<u64>
     ensures { result ≡ small_number_of text.now }
 {
@@ -35,7 +37,7 @@ pub fn small_number(text: &[u8]) -> Option<u64>
     }
 }
 
-/// The same with a value from `least` to `most`.
+/// The number, if it is from `least` to `most`.
 pub fn number_within(text: &[u8], least: u64, most: u64) -> Option<u64>
     ensures { result ≡ value_within least most text.now }
 {
@@ -47,7 +49,7 @@ pub fn number_within(text: &[u8], least: u64, most: u64) -> Option<u64>
     }
 }
 
-/// A number of 1 to 20 digits, of any value, in the form in which it is printed: without leading zeros.
+/// The number, if the text is the form in which it is printed: without leading zeros.
 pub fn printed_number(text: &[u8]) -> Option<u128>
     ensures value { result ≡ printed_number_of text.now }
     ensures printed { IfSome result (λ n. n < 2 ^ 64 → text.now ≡ decimal n) }
@@ -55,7 +57,7 @@ pub fn printed_number(text: &[u8]) -> Option<u128>
     if is_printed(text) { number(text) } else { None }
 }
 
-/// The same with a value from `least` to `most`.
+/// The number in its printed form, if it is from `least` to `most`.
 pub fn printed_within(text: &[u8], least: u64, most: u64) -> Option<u64>
     ensures value { result ≡ printed_value_within least most text.now }
     ensures printed { IfSome result (λ n. text.now ≡ decimal n) }

@@ -6,7 +6,7 @@ ghost use Rattle.pop_lines.specs.Lines.{lines_of, AreLinesOf, IsLineFault, IsToo
 use crate::cuts::next_line;
 use crate::fault::LineFault;
 
-/// The number of lines. It takes no memory.
+/// The number of lines. Allocates nothing.
 pub fn line_count(bytes: &[u8]) -> usize
     ensures count { result ≡ length (lines_of bytes.now) }
     // Joined again the lines are the bytes, but for a final line feed.

@@ -12,7 +12,7 @@ use Rattle.std.proofs.lemmas.Slice.Eq.{bytes_eq-Decides}
 use Rattle.pop_io.specs.Names.{AreNames}
 use Rattle.pop_net.specs.FirstFault.{unless, first_of, first_below, is_bad_name, first_bad_name}
 
--- there is none exactly where P holds
+-- there is none exactly when P holds
 abbrev pub NoneIff : {F : Type 0} → Option F → Type 0 → Type 0
 NoneIff o P = (o ≡ None → P) × (P → o ≡ None)
 
@@ -68,31 +68,31 @@ none_below n p =
     (λ e k l. ap p (let s : k ≡ 0 + k = omega arith in s) ∙ f.0 e k l, λ h. f.1 (λ k l. ap p (let s : 0 + k ≡ k = omega arith in s) ∙ h k l))
 
 -- the earlier names are all different from this one
-none_earlier : (names : List (List ℕ)) (k : ℕ) (name : List ℕ) → k ≤ length names → (list_any (λ earlier. bytes_eq earlier name) (take k names) ≡ false → (i : ℕ) (d : List ℕ) → i < k → get_or names i d ≢ name) × (((i : ℕ) (d : List ℕ) → i < k → get_or names i d ≢ name) → list_any (λ earlier. bytes_eq earlier name) (take k names) ≡ false)
+none_earlier : (names : List (List ℕ)) (k : ℕ) (name : List ℕ) → k ≤ length names → (list_any (bytes_eq name) (take k names) ≡ false → (i : ℕ) (d : List ℕ) → i < k → get_or names i d ≢ name) × (((i : ℕ) (d : List ℕ) → i < k → get_or names i d ≢ name) → list_any (bytes_eq name) (take k names) ≡ false)
 none_earlier names k name l = (there, back)
   where
     long : length (take k names) ≡ k
     long = length-take-le k names l
 
-    there : list_any (λ earlier. bytes_eq earlier name) (take k names) ≡ false → (i : ℕ) (d : List ℕ) → i < k → get_or names i d ≢ name
+    there : list_any (bytes_eq name) (take k names) ≡ false → (i : ℕ) (d : List ℕ) → i < k → get_or names i d ≢ name
     there e i d h same =
-        let found = list_any_at (λ earlier. bytes_eq earlier name) (take k names) i d (omega (arith, long)) ((bytes_eq-Decides _ name).1 (get_or-take k names i d h ∙ same)) in
+        let found = list_any_at (bytes_eq name) (take k names) i d (omega (arith, long)) ((bytes_eq-Decides name _).1 (sym (get_or-take k names i d h ∙ same))) in
         false≢true (sym e ∙ found)
 
-    back : ((i : ℕ) (d : List ℕ) → i < k → get_or names i d ≢ name) → list_any (λ earlier. bytes_eq earlier name) (take k names) ≡ false
-    back h = list_any_none (λ earlier. bytes_eq earlier name) (take k names) (λ i d m.
+    back : ((i : ℕ) (d : List ℕ) → i < k → get_or names i d ≢ name) → list_any (bytes_eq name) (take k names) ≡ false
+    back h = list_any_none (bytes_eq name) (take k names) (λ i d m.
         let n : i < k = omega (arith, long) in
-        false_from_ne_true _ (λ e. h i d n (sym (get_or-take k names i d n) ∙ (bytes_eq-Decides _ name).0 e)))
+        false_from_ne_true _ (λ e. h i d n (sym (get_or-take k names i d n) ∙ sym ((bytes_eq-Decides name _).0 e))))
 
--- no name is bad exactly where all are in form and no two are equal
+-- no name is bad exactly when all are in form and no two are equal
 pub none_bad : (is_name : List ℕ → Bool) (names : List (List ℕ)) → NoneIff (first_bad_name is_name names) (AreNames is_name names)
 none_bad is_name names = (there, back)
   where
     bad : ℕ → Bool
     bad = is_bad_name is_name names
 
-    fine : (k : ℕ) → bad k ≡ false → (not (is_name (get_or names k [])) ≡ false) × (list_any (λ earlier. bytes_eq earlier (get_or names k [])) (take k names) ≡ false)
-    fine k e = or_parts (not (is_name (get_or names k []))) (list_any (λ earlier. bytes_eq earlier (get_or names k [])) (take k names)) e
+    fine : (k : ℕ) → bad k ≡ false → (not (is_name (get_or names k [])) ≡ false) × (list_any (bytes_eq (get_or names k [])) (take k names) ≡ false)
+    fine k e = or_parts (not (is_name (get_or names k []))) (list_any (bytes_eq (get_or names k [])) (take k names)) e
 
     there : first_bad_name is_name names ≡ None → AreNames is_name names
     there e = (

@@ -1,9 +1,11 @@
--- A leaf breaks no rule exactly where its names are in form and its numbers in range.
+-- A leaf breaks no rule exactly when its names are in form and its numbers in range.
 use Rattle.std.proofs.Common.{◌≡◌, inl, inr, ℕ, ◌<◌, ◌≤◌, ◌&&◌, nat_le, nat_lt, length}
 use Rattle.std.specs.Prelude.{None, Decides, All}
 use Rattle.std.proofs.lemmas.Bool.Decides.{Decides-eqb, Decides-ltb, Decides-and, Decides-like}
 use Rattle.std.proofs.lemmas.Bool.{leb-true, le-leb}
 use Rattle.pop_io.specs.Names.{AreNames, is_state_name}
+use Rattle.pop_io.specs.declared.names.TheConstants.{VARIABLE_LIMIT}
+use Rattle.pop_net.specs.declared.limits.TheConstants.{STATE_LIMIT, MOVE_LIMIT, HELPER_LIMIT}
 use Rattle.pop_net.specs.declared.leaf.Move.{Move}
 use Rattle.pop_net.specs.declared.fault.LeafFault.{LeafFault}
 use Rattle.pop_net.specs.declared.fault.LeafFault.TheVariants as fault
@@ -25,18 +27,20 @@ move_below n t =
 -- the rules, one after the other
 abbrev KeepsRules : LeafModel → Type 0
 KeepsRules leaf =
-    ((1 ≤ length leaf.states) × (length leaf.states ≤ 256)) × (AreNames is_state_name leaf.states × ((length leaf.moves ≤ 32768) × (All (IsMoveBelow (length leaf.states)) leaf.moves
-    × (((1 ≤ length leaf.inputs) × (length leaf.inputs ≤ 16)) × (All (λ q. q < length leaf.states) leaf.inputs × ((length leaf.outputs ≡ length leaf.states) × Unit {0}))))))
+    ((1 ≤ length leaf.states) × (length leaf.states ≤ STATE_LIMIT)) × (AreNames is_state_name leaf.states × ((length leaf.moves ≤ MOVE_LIMIT) × (All (IsMoveBelow (length leaf.states)) leaf.moves
+    × (((1 ≤ length leaf.inputs) × (length leaf.inputs ≤ VARIABLE_LIMIT)) × (All (λ q. q < length leaf.states) leaf.inputs × ((length leaf.outputs ≡ length leaf.states) × ((length leaf.helpers ≤ HELPER_LIMIT) × (All (λ q. q < length leaf.states) leaf.helpers × Unit {0}))))))))
 
 rules_of : (leaf : LeafModel) → NoneIff (fault_of_leaf leaf) (KeepsRules leaf)
 rules_of leaf =
-    first_of-cons _ _ (none_unless _ _ (within 1 256 (length leaf.states)))
+    first_of-cons _ _ (none_unless _ _ (within 1 STATE_LIMIT (length leaf.states)))
     (first_of-cons _ _ (none_map fault.Name _ (none_bad is_state_name leaf.states))
-    (first_of-cons _ _ (none_unless _ _ (Decides-le (length leaf.moves) 32768))
+    (first_of-cons _ _ (none_unless _ _ (Decides-le (length leaf.moves) MOVE_LIMIT))
     (first_of-cons _ _ (none_map fault.Move _ (none_position (is_move_below (length leaf.states)) (IsMoveBelow (length leaf.states)) (move_below (length leaf.states)) leaf.moves))
-    (first_of-cons _ _ (none_unless _ _ (within 1 16 (length leaf.inputs)))
+    (first_of-cons _ _ (none_unless _ _ (within 1 VARIABLE_LIMIT (length leaf.inputs)))
     (first_of-cons _ _ (none_map fault.Input _ (none_position (λ q. nat_lt q (length leaf.states)) (λ q. q < length leaf.states) (λ q. Decides-ltb q (length leaf.states)) leaf.inputs))
-    (first_of-cons _ _ (none_unless _ _ (Decides-eqb (length leaf.outputs) (length leaf.states))) first_of-nil))))))
+    (first_of-cons _ _ (none_unless _ _ (Decides-eqb (length leaf.outputs) (length leaf.states)))
+    (first_of-cons _ _ (none_unless _ _ (Decides-le (length leaf.helpers) HELPER_LIMIT))
+    (first_of-cons _ _ (none_map fault.Helper _ (none_position (λ q. nat_lt q (length leaf.states)) (λ q. q < length leaf.states) (λ q. Decides-ltb q (length leaf.states)) leaf.helpers)) first_of-nil))))))))
 
 -- a leaf that breaks no rule
 pub unbroken_leaf : (leaf : LeafModel) → fault_of_leaf leaf ≡ None → IsLeaf leaf
@@ -52,11 +56,13 @@ unbroken_leaf leaf e =
       input_count = k.1.1.1.1.0.1;
       inputs = k.1.1.1.1.1.0;
       outputs = k.1.1.1.1.1.1.0;
+      helper_count = k.1.1.1.1.1.1.1.0;
+      helpers = k.1.1.1.1.1.1.1.1.0;
     }
 
--- where a leaf is right, it is refused for want of memory alone
+-- where a leaf is right, it is refused only when out of memory
 pub right_leaf : (leaf : LeafModel) (f : LeafFault) → RefusesLeaf leaf f → IsLeaf leaf → f ≡ fault.NoMemory
 right_leaf leaf f (inl memory) h = memory
 right_leaf leaf f (inr e) h =
-    let none = (rules_of leaf).1 ((h.some_state, h.states), (h.names, (h.move_count, (h.moves, ((h.some_input, h.input_count), (h.inputs, (h.outputs, tt))))))) in
+    let none = (rules_of leaf).1 ((h.some_state, h.states), (h.names, (h.move_count, (h.moves, ((h.some_input, h.input_count), (h.inputs, (h.outputs, (h.helper_count, (h.helpers, tt))))))))) in
     cc

@@ -17,3 +17,5 @@ pub mod Packing
 pub mod Lanewise
 pub mod Values
 pub mod Within
+pub mod Tables
+pub mod Widths

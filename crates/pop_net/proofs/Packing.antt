@@ -1,11 +1,12 @@
 -- Words that are packed lane by lane.
 use Rattle.std.proofs.Common.{◌≡◌, ℕ, zero, suc, ◌+◌, ◌*◌, ◌/◌, ◌%◌, ◌^◌, ◌<◌, ◌≤◌, List, [], ◌∷◌, ◌++◌, length, take, get_or, refl, ap, sym, ◌∙◌, arith}
 use Rattle.std.proofs.Math.Nat.{pow-zero, pow-suc, mul_assoc, add-mul-mod_self_right, add-mul-div_right, mod-eq_of_lt}
-use Rattle.std.proofs.lemmas.Nat.{div_below, div-add-mod'}
+use Rattle.std.proofs.lemmas.Nat.{div_below, div-add-mod', pow_pos}
 use Rattle.std.proofs.lemmas.List.{take_more, take_all}
 use Rattle.pop_net.specs.declared.net.Word.{Word}
 use Rattle.pop_net.specs.NetModel.{NetModel, IsTuple, state_of}
-use Rattle.pop_net.specs.Lanes.{digits, tuple_of, IsValid}
+use Rattle.pop_net.specs.LaneWidth.{bits_of, width_of}
+use Rattle.pop_net.specs.Lanes.{digits, lane_size, tuple_of, IsValid}
 use Rattle.pop_net.proofs.Digits.{length-digits, get_or-digits}
 
 low_part : (base word s p : ℕ) → (word + s * (p * base)) % base ≡ word % base
@@ -28,31 +29,31 @@ digits_more base (suc i) word s l h k =
     rw (low, high, digits_more base i (word / base) s l (div_below word base (base ^ i) l m) k) refl
 
 -- the lanes below i hold the first i states, and the others are 0
-pub record Packed (i : ℕ) (states : List ℕ) (word : ℕ) : Type 0 where
-  pub lanes : digits 256 i word ≡ take i states
-  pub free : word < 256 ^ i
+pub record Packed (base i : ℕ) (states : List ℕ) (word : ℕ) : Type 0 where
+  pub lanes : digits base i word ≡ take i states
+  pub free : word < base ^ i
 
-pub packed_none : (states : List ℕ) → Packed 0 states 0
-packed_none states = record { lanes = refl; free = omega (arith, pow-zero 256) }
+pub packed_none : (base : ℕ) (states : List ℕ) → Packed base 0 states 0
+packed_none base states = record { lanes = refl; free = omega (arith, pow-zero base) }
 
-pub packed_more : (i : ℕ) (states : List ℕ) (word s next : ℕ) → Packed i states word → i < length states → s ≡ get_or states i 0 → s < 256 → next ≡ word + s * 256 ^ i → next < 256 ^ (i + 1) → Packed (i + 1) states next
-packed_more i states word s next p l e k sum free =
+pub packed_more : (base i : ℕ) (states : List ℕ) (word s next : ℕ) → 0 < base → Packed base i states word → i < length states → s ≡ get_or states i 0 → s < base → next ≡ word + s * base ^ i → next < base ^ (i + 1) → Packed base (i + 1) states next
+packed_more base i states word s next pos p l e k sum free =
     record {
       lanes =
-          ap (λ n. digits 256 n next) (let m : i + 1 ≡ suc i = omega arith in m) ∙ ap (digits 256 (suc i)) sum ∙ digits_more 256 i word s (omega arith) p.free k
+          ap (λ n. digits base n next) (let m : i + 1 ≡ suc i = omega arith in m) ∙ ap (digits base (suc i)) sum ∙ digits_more base i word s pos p.free k
           ∙ ap (λ xs. xs ++ s ∷ []) p.lanes
           ∙ ap (λ x. take i states ++ x ∷ []) e
           ∙ sym (take_more states i 0 l);
       free = free;
     }
 
-pub packed_all : (n i : ℕ) (states : List ℕ) (word : ℕ) → length states ≡ n → n ≤ i → i ≤ n → Packed i states word → digits 256 n word ≡ states
-packed_all n i states word e l m p =
-    ap (λ k. digits 256 k word) (let s : n ≡ i = omega arith in s) ∙ p.lanes ∙ take_all i states (omega (arith, e))
+pub packed_all : (base n i : ℕ) (states : List ℕ) (word : ℕ) → length states ≡ n → n ≤ i → i ≤ n → Packed base i states word → digits base n word ≡ states
+packed_all base n i states word e l m p =
+    ap (λ k. digits base k word) (let s : n ≡ i = omega arith in s) ∙ p.lanes ∙ take_all i states (omega (arith, e))
 
 -- the state in lane i
-pub lane_at : (n word i : ℕ) → i < n → state_of (digits 256 n word) i ≡ word / 256 ^ i % 256
-lane_at n word i l = get_or-digits 256 n word i l
+pub lane_at : (base n word i : ℕ) → i < n → state_of (digits base n word) i ≡ word / base ^ i % base
+lane_at base n word i l = get_or-digits base n word i l
 
 -- a number below a power has that many digits, which it is made of
 digits-same : (base n x y : ℕ) → 0 < base → x < base ^ n → y < base ^ n → digits base n x ≡ digits base n y → x ≡ y
@@ -68,8 +69,8 @@ digits-same base (suc n) x y l hx hy e =
 -- valid words of the same tuple are the same
 pub same_word : (net : NetModel) (v w : Word) → IsValid net v → IsValid net w → tuple_of net v ≡ tuple_of net w → v ≡ w
 same_word net v w hv hw e =
-    ap (λ (n : ℕ). record { 0 = n }) (digits-same 256 (length net.leaves) v.0 w.0 (omega arith) hv.rest hw.rest e)
+    ap (λ (n : ℕ). record { 0 = n }) (digits-same (lane_size net) (length net.leaves) v.0 w.0 (pow_pos (bits_of (width_of net.leaves))) hv.rest hw.rest e)
 
 -- a word's tuple has one state per leaf
 pub is_tuple : (net : NetModel) (word : Word) → IsTuple net (tuple_of net word)
-is_tuple net word = length-digits 256 (length net.leaves) word.0
+is_tuple net word = length-digits (lane_size net) (length net.leaves) word.0

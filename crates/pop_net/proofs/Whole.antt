@@ -1,4 +1,4 @@
--- A combination breaks no rule exactly where it is one tree of a depth that is not too great, over leaves that are there.
+-- A combination breaks no rule exactly when it is one tree of a depth that is not too great, over leaves that are there.
 use Rattle.std.proofs.Common.{◌≡◌, ℕ, ◌+◌, max, ◌<◌, ◌≤◌, true, false, not, List, [], ◌∷◌, length, take, drop, refl, ap, sym, ◌∙◌, arith}
 use Rattle.std.specs.Prelude.{Option, Some, None, All, Decides, IsSomeAnd, option_and_then}
 use Rattle.std.specs.List.{list_all}
@@ -84,7 +84,7 @@ one_tree (Some []) low one = absurd (omega (arith, one))
 one_tree (Some (d ∷ [])) low one = All-head (λ d. d ≤ 65) d [] ((low_decides (d ∷ [])).0 low)
 one_tree (Some (d ∷ e ∷ operands)) low one = absurd (omega (arith, one))
 
--- all fronts stand where the whole is a tree
+-- all prefixes stand where the whole is a tree
 front_stands : (leaves : ℕ) (items : List Item) (n : ℕ) → IsTree leaves items → stands leaves (take n items) ≡ true
 front_stands leaves items n t =
     let d = the_depth (combined depths items) t.depth in
@@ -125,7 +125,7 @@ none_broken leaves items = (there items, back)
     back : IsTree leaves items → fault_of_combination leaves items ≡ None
     back t = (both items).1 ((λ k l. not_from_true _ (front_stands leaves items (k + 1) t)), (one_operand leaves items t, tt))
 
--- there is no fault exactly where there is one tree
+-- there is no fault exactly when there is one tree
 pub none_where_tree : (leaves : ℕ) (items : List Item) (result : Option CombinationFault) → result ≡ fault_of_combination leaves items → NoneIff result (IsTree leaves items)
 none_where_tree leaves items result h =
     ((λ e. (none_broken leaves items).0 (sym h ∙ e)), (λ t. h ∙ (none_broken leaves items).1 t))

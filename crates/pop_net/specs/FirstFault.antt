@@ -21,7 +21,7 @@ first_below n p = find p (range_with_len 0 n)
 -- whether name k is out of form or equal to an earlier one
 abbrev pub is_bad_name : (List ℕ → Bool) → List (List ℕ) → ℕ → Bool
 is_bad_name is_name names k =
-    let name = slice_index_or names k [] in not (is_name name) || list_any (λ earlier. bytes_eq earlier name) (take k names)
+    let name = slice_index_or names k [] in not (is_name name) || list_any (bytes_eq name) (take k names)
 
 abbrev pub first_bad_name : (List ℕ → Bool) → List (List ℕ) → Option ℕ
 first_bad_name is_name names = first_below (length names) (is_bad_name is_name names)

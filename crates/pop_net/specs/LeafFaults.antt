@@ -2,6 +2,8 @@
 use Rattle.std.specs.Prelude.{◌≡◌, ◌⊎◌, ℕ, Bool, not, ◌&&◌, ◌==◌, nat_lt, nat_le, [], ◌∷◌, length, Option, Some, position}
 use Rattle.std.specs.Option.{option_map}
 use Rattle.pop_io.specs.Names.{is_state_name}
+use Rattle.pop_io.specs.declared.names.TheConstants.{VARIABLE_LIMIT}
+use Rattle.pop_net.specs.declared.limits.TheConstants.{STATE_LIMIT, MOVE_LIMIT, HELPER_LIMIT}
 use Rattle.pop_net.specs.declared.leaf.Move.{Move}
 use Rattle.pop_net.specs.declared.fault.LeafFault.{LeafFault}
 use Rattle.pop_net.specs.declared.fault.LeafFault.TheVariants as fault
@@ -17,13 +19,15 @@ fault_of_leaf leaf =
     let states = length leaf.states in
     let inputs = length leaf.inputs in
     first_of
-    (unless (nat_le 1 states && nat_le states 256) (fault.States states)
+    (unless (nat_le 1 states && nat_le states STATE_LIMIT) (fault.States states)
     ∷ option_map fault.Name (first_bad_name is_state_name leaf.states)
-    ∷ unless (nat_le (length leaf.moves) 32768) (fault.Moves (length leaf.moves))
+    ∷ unless (nat_le (length leaf.moves) MOVE_LIMIT) (fault.Moves (length leaf.moves))
     ∷ option_map fault.Move (position (λ t. not (is_move_below states t)) leaf.moves)
-    ∷ unless (nat_le 1 inputs && nat_le inputs 16) (fault.Inputs inputs)
+    ∷ unless (nat_le 1 inputs && nat_le inputs VARIABLE_LIMIT) (fault.Inputs inputs)
     ∷ option_map fault.Input (position (λ q. not (nat_lt q states)) leaf.inputs)
     ∷ unless (length leaf.outputs == states) (fault.Outputs (length leaf.outputs))
+    ∷ unless (nat_le (length leaf.helpers) HELPER_LIMIT) (fault.Helpers (length leaf.helpers))
+    ∷ option_map fault.Helper (position (λ q. not (nat_lt q states)) leaf.helpers)
     ∷ [])
 
 -- the fault is the first rule that the leaf breaks, unless memory ran out

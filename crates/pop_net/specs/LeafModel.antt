@@ -2,6 +2,8 @@
 use Rattle.std.specs.Prelude.{◌≡◌, ℕ, ◌+◌, ◌<◌, ◌≤◌, Bool, ◌&&◌, ◌||◌, ◌==◌, if◌then◌else◌, List, length, All}
 use Rattle.pop_io.specs.Names.{AreNames, is_state_name}
 use Rattle.pop_net.specs.declared.leaf.Move.{Move}
+use Rattle.pop_io.specs.declared.names.TheConstants.{VARIABLE_LIMIT}
+use Rattle.pop_net.specs.declared.limits.TheConstants.{STATE_LIMIT, MOVE_LIMIT, HELPER_LIMIT}
 
 pub record LeafModel : Type 0 where
   -- the states' names
@@ -12,8 +14,10 @@ pub record LeafModel : Type 0 where
   pub inputs : List ℕ
   -- the output of each state
   pub outputs : List Bool
+  -- the state of each helper, an agent that stands in every input
+  pub helpers : List ℕ
 
--- 1 where the states are the same, and 0 elsewhere
+-- 1 when the states are the same, and 0 otherwise
 abbrev pub one_at : ℕ → ℕ → ℕ
 one_at x z = if x == z then 1 else 0
 
@@ -44,10 +48,12 @@ IsMoveBelow n t = (t.p < n) × (t.q < n) × (t.r < n) × (t.s < n)
 pub record IsLeaf (leaf : LeafModel) : Type 0 where
   pub names : AreNames is_state_name leaf.states
   pub some_state : 1 ≤ length leaf.states
-  pub states : length leaf.states ≤ 256
-  pub move_count : length leaf.moves ≤ 32768
+  pub states : length leaf.states ≤ STATE_LIMIT
+  pub move_count : length leaf.moves ≤ MOVE_LIMIT
   pub moves : All (IsMoveBelow (length leaf.states)) leaf.moves
   pub some_input : 1 ≤ length leaf.inputs
-  pub input_count : length leaf.inputs ≤ 16
+  pub input_count : length leaf.inputs ≤ VARIABLE_LIMIT
   pub inputs : All (λ q. q < length leaf.states) leaf.inputs
   pub outputs : length leaf.outputs ≡ length leaf.states
+  pub helper_count : length leaf.helpers ≤ HELPER_LIMIT
+  pub helpers : All (λ q. q < length leaf.states) leaf.helpers

@@ -8,6 +8,8 @@ pub mod Step
 pub mod Reachable
 pub mod Terminal
 pub mod Reaction
+pub mod LaneWidth
 pub mod Lanes
+pub mod ReactionTable
 pub mod ExampleNets
 pub mod Examples

@@ -1,5 +1,5 @@
 -- The first rule that a net breaks.
-use Rattle.std.specs.Prelude.{◌≡◌, ◌⊎◌, ℕ, ◌+◌, Bool, true, not, ◌&&◌, ◌==◌, nat_lt, nat_le, List, [], ◌∷◌, length, take, Option, Some, position, false, ◌≤◌, All, IsSomeAnd}
+use Rattle.std.specs.Prelude.{◌≡◌, ◌⊎◌, ℕ, ◌+◌, Bool, true, not, ◌&&◌, ◌==◌, nat_lt, nat_le, List, [], ◌∷◌, length, take, Option, Some, None, if◌then◌else◌, position, false, ◌≤◌, All, IsSomeAnd}
 use Rattle.std.specs.List.{list_all}
 use Rattle.std.specs.Option.{option_map, option_map_or}
 use Rattle.pop_io.specs.Names.{is_variable_name}
@@ -9,7 +9,10 @@ use Rattle.pop_net.specs.declared.fault.CombinationFault.{CombinationFault}
 use Rattle.pop_net.specs.declared.fault.CombinationFault.TheVariants as combination
 use Rattle.pop_net.specs.declared.fault.NetFault.{NetFault}
 use Rattle.pop_net.specs.declared.fault.NetFault.TheVariants as fault
-use Rattle.pop_net.specs.NetModel.{NetModel, NamesBelow, after_items, combined, depths}
+use Rattle.pop_io.specs.declared.names.TheConstants.{VARIABLE_LIMIT}
+use Rattle.pop_net.specs.declared.limits.TheConstants.{LEAF_LIMIT, ITEM_LIMIT, WIDE_LEAF_LIMIT, DEPTH_LIMIT}
+use Rattle.pop_net.specs.LeafModel.{LeafModel}
+use Rattle.pop_net.specs.NetModel.{NetModel, NamesBelow, helper_count, is_wide_leaf, after_items, combined, depths}
 use Rattle.pop_net.specs.FirstFault.{unless, first_of, first_below, first_bad_name}
 
 -- whether an item names one of n leaves, where it names one
@@ -19,11 +22,11 @@ names_below n item.Not = true
 names_below n item.And = true
 names_below n item.Or = true
 
--- whether operands were found, of which none has a depth over 65
+-- whether operands were found, of which none has too great a depth
 abbrev pub are_low : Option (List ℕ) → Bool
-are_low operands = option_map_or (list_all (λ d. nat_le d 65)) operands false
+are_low operands = option_map_or (list_all (λ d. nat_le d DEPTH_LIMIT)) operands false
 
--- whether items name leaves alone, find their operands, and make no tree of a depth over 65
+-- whether items name leaves alone, find their operands, and make no tree of too great a depth
 abbrev pub stands : ℕ → List Item → Bool
 stands leaves items = list_all (names_below leaves) items && are_low (after_items depths items [])
 
@@ -42,14 +45,18 @@ fault_of_combination leaves items =
     ∷ unless (operands_left items == 1) (combination.Open (operands_left items))
     ∷ [])
 
--- a combination of n leaves that is one tree of a depth of at most 65
+-- a combination of n leaves that is one tree whose depth is within the limit
 pub record IsTree (leaves : ℕ) (items : List Item) : Type 0 where
   pub named : All (NamesBelow leaves) items
-  pub depth : IsSomeAnd (combined depths items) (λ d. d ≤ 65)
+  pub depth : IsSomeAnd (combined depths items) (λ d. d ≤ DEPTH_LIMIT)
 
 abbrev pub net_fault : CombinationFault → NetFault
 net_fault (combination.Item k) = fault.Item k
 net_fault (combination.Open n) = fault.Open n
+
+-- the first wide leaf among too many leaves for it
+abbrev pub wide_leaf : List LeafModel → Option ℕ
+wide_leaf leaves = if nat_lt WIDE_LEAF_LIMIT (length leaves) then position is_wide_leaf leaves else None
 
 abbrev pub fault_of_net : NetModel → Option NetFault
 fault_of_net net =
@@ -57,12 +64,14 @@ fault_of_net net =
     let leaves = length net.leaves in
     let items = length net.combine in
     first_of
-    (unless (nat_le 1 variables && nat_le variables 16) (fault.Vars variables)
+    (unless (nat_le 1 variables && nat_le variables VARIABLE_LIMIT) (fault.Vars variables)
     ∷ option_map fault.VarName (first_bad_name is_variable_name net.variables)
-    ∷ unless (nat_le 1 leaves && nat_le leaves 8) (fault.Leaves leaves)
+    ∷ unless (nat_le 1 leaves && nat_le leaves LEAF_LIMIT) (fault.Leaves leaves)
     ∷ option_map fault.LeafInputs (position (λ leaf. not (length leaf.inputs == variables)) net.leaves)
-    ∷ unless (nat_le 1 items && nat_le items 1024) (fault.Items items)
+    ∷ unless (nat_le 1 items && nat_le items ITEM_LIMIT) (fault.Items items)
     ∷ option_map net_fault (fault_of_combination leaves net.combine)
+    ∷ option_map fault.LeafHelpers (position (λ leaf. not (length leaf.helpers == helper_count net)) net.leaves)
+    ∷ option_map fault.Wide (wide_leaf net.leaves)
     ∷ [])
 
 -- the fault is the first rule that the net breaks, unless memory ran out

@@ -1,8 +1,11 @@
 -- NetModel: protocols that run side by side on the same agents, and a combination of their outputs in postfix.
-use Rattle.std.specs.Prelude.{◌≡◌, ℕ, ◌+◌, max, ◌<◌, ◌≤◌, Bool, false, not, ◌&&◌, ◌||◌, List, [], ◌∷◌, length, All, Option, Some, None, IsSomeAnd, option_and_then, unwrap_or, slice_get, slice_index, slice_index_or}
+use Rattle.std.specs.Prelude.{◌≡◌, ℕ, ◌+◌, max, ◌<◌, ◌≤◌, Bool, true, false, not, nat_lt, ◌&&◌, ◌||◌, List, [], ◌∷◌, length, All, Option, Some, None, IsSomeAnd, option_and_then, unwrap_or, slice_get, slice_index, slice_index_or}
 use Rattle.pop_io.specs.Names.{AreNames, is_variable_name}
 use Rattle.pop_net.specs.declared.net.Item.{Item}
 use Rattle.pop_net.specs.declared.net.Item.TheVariants.{Leaf, Not, And, Or}
+use Rattle.std.specs.List.{list_any}
+use Rattle.pop_io.specs.declared.names.TheConstants.{VARIABLE_LIMIT}
+use Rattle.pop_net.specs.declared.limits.TheConstants.{LEAF_LIMIT, NARROW_STATE_LIMIT, WIDE_LEAF_LIMIT, ITEM_LIMIT, DEPTH_LIMIT}
 use Rattle.pop_net.specs.LeafModel.{LeafModel, IsLeaf}
 
 pub record NetModel : Type 0 where
@@ -11,6 +14,21 @@ pub record NetModel : Type 0 where
   pub leaves : List LeafModel
   -- the combination in postfix
   pub combine : List Item
+
+-- how many helpers each leaf has
+abbrev pub helpers_of : List LeafModel → ℕ
+helpers_of [] = 0
+helpers_of (leaf ∷ leaves) = length leaf.helpers
+
+abbrev pub helper_count : NetModel → ℕ
+helper_count net = helpers_of net.leaves
+
+abbrev pub is_wide_leaf : LeafModel → Bool
+is_wide_leaf leaf = nat_lt NARROW_STATE_LIMIT (length leaf.states)
+
+-- a net is wide when one of its leaves is
+abbrev pub is_wide : List LeafModel → Bool
+is_wide leaves = list_any is_wide_leaf leaves
 
 -- an agent: one state per leaf
 abbrev pub Tuple : Type 0
@@ -98,11 +116,13 @@ NamesBelow n Or = Unit {0}
 pub record IsNet (net : NetModel) : Type 0 where
   pub variable_names : AreNames is_variable_name net.variables
   pub some_variable : 1 ≤ length net.variables
-  pub variables : length net.variables ≤ 16
+  pub variables : length net.variables ≤ VARIABLE_LIMIT
   pub some_leaf : 1 ≤ length net.leaves
-  pub leaf_count : length net.leaves ≤ 8
+  pub leaf_count : length net.leaves ≤ LEAF_LIMIT
   pub leaves : All IsLeaf net.leaves
   pub inputs : All (λ leaf. length leaf.inputs ≡ length net.variables) net.leaves
-  pub items : length net.combine ≤ 1024
+  pub items : length net.combine ≤ ITEM_LIMIT
   pub leaf_numbers : All (NamesBelow (length net.leaves)) net.combine
-  pub depth : IsSomeAnd (combined depths net.combine) (λ d. d ≤ 65)
+  pub depth : IsSomeAnd (combined depths net.combine) (λ d. d ≤ DEPTH_LIMIT)
+  pub helpers : All (λ leaf. length leaf.helpers ≡ helper_count net) net.leaves
+  pub wide : is_wide net.leaves ≡ true → length net.leaves ≤ WIDE_LEAF_LIMIT

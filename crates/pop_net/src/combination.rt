@@ -6,17 +6,15 @@ ghost use Rattle.pop_net.specs.NetModel.{after_item, depths as depth_operators, 
 ghost use Rattle.pop_net.specs.NetFaults.{names_below, are_low, IsTree, fault_of_combination};
 
 use crate::fault::CombinationFault;
+use crate::limits::{DEPTH_LIMIT, ITEM_LIMIT};
 use crate::net::Item;
-use crate::operands::{ITEM_LIMIT, Operands};
+use crate::operands::Operands;
 
-/// The greatest depth of a combination's tree.
-const DEPTH_LIMIT: u8 = 65;
-
-/// The first rule that a combination of these leaves breaks. It takes no memory.
+/// The first rule that a combination of these leaves breaks. It allocates nothing.
 pub fn combination_fault(leaves: u8, combine: &[Item]) -> Option<CombinationFault>
     requires { length combine.now ≤ ITEM_LIMIT }
     ensures first { result ≡ fault_of_combination leaves combine.now }
-    // No rule is broken exactly where the combination is one tree, as a net needs it.
+    // No rule is broken exactly when the combination is one tree, as a net needs it.
     ensures none { (result ≡ None) ↔ IsTree leaves combine.now }
 {
     let mut depths = Operands::new(0);
@@ -35,10 +33,10 @@ pub fn combination_fault(leaves: u8, combine: &[Item]) -> Option<CombinationFaul
 /// Takes an item in, unless it is a bad one.
 pub(crate) fn put_depth(depths: &mut Operands<u8>, leaves: u8, item: Item) -> bool
     requires room { length depths.old < ITEM_LIMIT }
-    requires low { All (λ d. d ≤ 65) depths.old }
+    requires low { All (λ d. d ≤ DEPTH_LIMIT) depths.old }
     ensures good { result ≡ (names_below leaves item && are_low (after_item depth_operators item depths.old)) }
     ensures put { OnTrue result (after_item depth_operators item depths.old ≡ Some depths.new) }
-    ensures still_low { All (λ d. d ≤ 65) depths.new }
+    ensures still_low { All (λ d. d ≤ DEPTH_LIMIT) depths.new }
 {
     if !item.is_below(leaves) {
         return false;
@@ -54,7 +52,7 @@ pub(crate) fn put_depth(depths: &mut Operands<u8>, leaves: u8, item: Item) -> bo
 
 /// Takes an item's operands away, and gives the depth of its tree.
 fn take_depth(depths: &mut Operands<u8>, item: Item) -> Option<u8>
-    requires { All (λ d. d ≤ 65) depths.old }
+    requires { All (λ d. d ≤ DEPTH_LIMIT) depths.old }
     ensures found { MatchOption result (after_item depth_operators item depths.old ≡ None)
         (λ depth. after_item depth_operators item depths.old ≡ Some (depth ∷ depths.new)) }
     ensures rest { (n : ℕ) × (depths.new ≡ drop n depths.old) }

@@ -2,54 +2,73 @@
 
 ghost use Rattle.std.specs.Prelude.{◌≡◌};
 ghost use Rattle.pop_net.specs.NetFaults.{net_fault};
+ghost use Rattle.pop_net.specs.declared.fault.LeafFault.TheVariants.{NoMemory as OutOfMemory};
+
+use pop_io::NoMemory;
 
 /// The first rule that a leaf breaks.
 #[derive(Clone, Copy, Debug, PartialEq, Eq)]
 pub enum LeafFault {
-    /// The number of states is outside 1 to 256.
+    /// The number of states is outside 1 to `STATE_LIMIT`.
     States(u64),
     /// The first name that is out of form or equal to an earlier one.
     Name(u32),
-    /// There are more than 32,768 moves.
+    /// There are more than `MOVE_LIMIT` moves.
     Moves(u64),
     /// The first move with a number that no state has.
     Move(u32),
-    /// The number of inputs is outside 1 to 16.
+    /// The number of inputs is outside 1 to `VARIABLE_LIMIT`.
     Inputs(u64),
     /// The first input with a number that no state has.
     Input(u32),
     /// There are not as many outputs as states.
     Outputs(u64),
+    /// There are more than `HELPER_LIMIT` helpers.
+    Helpers(u64),
+    /// The first helper with a number that no state has.
+    Helper(u32),
     NoMemory,
 }
 
 /// The first rule that a net breaks.
 #[derive(Clone, Copy, Debug, PartialEq, Eq)]
 pub enum NetFault {
-    /// The number of variables is outside 1 to 16.
+    /// The number of variables is outside 1 to `VARIABLE_LIMIT`.
     Vars(u64),
     /// The first name that is out of form or equal to an earlier one.
     VarName(u32),
-    /// The number of leaves is outside 1 to 8.
+    /// The number of leaves is outside 1 to `LEAF_LIMIT`.
     Leaves(u64),
     /// The first leaf with another number of inputs than variables.
     LeafInputs(u8),
-    /// The number of items of the combination is outside 1 to 1,024.
+    /// The number of items of the combination is outside 1 to `ITEM_LIMIT`.
     Items(u64),
-    /// The first item that names no leaf, finds too few operands, or makes a tree of a depth over 65.
+    /// The first item that names no leaf, finds too few operands, or makes a tree of a depth over `DEPTH_LIMIT`.
     Item(u32),
     /// The number of operands that the items leave, where it isn't 1.
     Open(u32),
+    /// The first leaf with another number of helpers than leaf 0.
+    LeafHelpers(u8),
+    /// The first wide leaf among more than `WIDE_LEAF_LIMIT` leaves.
+    Wide(u8),
     NoMemory,
 }
 
-/// The first rule that a combination breaks, which has at most 1,024 items.
+/// The first rule that a combination breaks, which has at most `ITEM_LIMIT` items.
 #[derive(Clone, Copy, Debug, PartialEq, Eq)]
 pub enum CombinationFault {
-    /// The first item that names no leaf, finds too few operands, or makes a tree of a depth over 65.
+    /// The first item that names no leaf, finds too few operands, or makes a tree of a depth over `DEPTH_LIMIT`.
     Item(u32),
     /// The number of operands that the items leave, where it isn't 1.
     Open(u32),
+}
+
+impl From<NoMemory> for LeafFault {
+    ghost from_gives = { λ _ f. f ≡ OutOfMemory };
+
+    fn from(_fault: NoMemory) -> LeafFault {
+        LeafFault::NoMemory
+    }
 }
 
 impl From<CombinationFault> for NetFault {

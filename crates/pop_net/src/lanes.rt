@@ -1,35 +1,81 @@
-//! How states are packed into a word.
+//! How states are packed into a word: a lane per leaf, lane 0 lowest.
 
-ghost use Rattle.std.specs.Prelude.{◌≡◌, ◌+◌, ◌*◌, ◌/◌, ◌%◌, ◌^◌, ◌<◌, ◌≤◌, ◌↔◌, IsTrue};
+ghost use Rattle.std.specs.Prelude.{◌≡◌, ◌+◌, ◌-◌, ◌*◌, ◌/◌, ◌%◌, ◌^◌, ◌<◌, ◌≤◌, ◌↔◌, IsTrue};
+ghost use Rattle.pop_net.specs.NetModel.{is_wide};
+ghost use Rattle.pop_net.specs.LaneWidth.{bits_of, width_of};
 
-/// The most lanes of a word.
-pub(crate) const LANES: usize = 8;
-/// The bits of a lane.
-const LANE_BITS: usize = 8;
+use crate::leaf::Leaf;
+use crate::limits::{LANE_BITS, WIDE_LANE_BITS, WORD_BITS};
 
-/// The state in lane i, lane 0 lowest.
-pub(crate) fn lane_of(word: u64, i: usize) -> u16
-    requires { i < LANES }
-    ensures { result ≡ word / 256 ^ i % 256 }
-{
-    ((word >> (LANE_BITS * i)) & 0xff) as u16
+/// How many bits a lane has.
+#[derive(Clone, Copy, Debug, PartialEq, Eq)]
+pub(crate) enum LaneWidth {
+    Narrow,
+    Wide,
 }
 
-/// The word with a state in lane i, in which lane i and those past it are 0.
-pub(crate) fn with_lane(word: u64, i: usize, state: u16) -> u64
-    requires lane { i < LANES }
-    requires free { word < 256 ^ i }
-    requires small { state < 256 }
-    ensures sum { result ≡ word + state * 256 ^ i }
-    ensures used { result < 256 ^ (i + 1) }
-{
-    word + (u64::from(state) << (LANE_BITS * i))
+impl LaneWidth {
+    /// The width that these leaves need.
+    pub(crate) fn of_leaves(leaves: &[Leaf]) -> LaneWidth
+        ensures { result ≡ width_of leaves.now }
+    {
+        if has_wide_leaf(leaves) {
+            LaneWidth::Wide
+        } else {
+            LaneWidth::Narrow
+        }
+    }
+
+    fn bits(self) -> usize
+        ensures { result ≡ bits_of self }
+    {
+        match self {
+            LaneWidth::Narrow => LANE_BITS,
+            LaneWidth::Wide => WIDE_LANE_BITS,
+        }
+    }
+
+    /// A lane whose bits are all set.
+    fn mask(self) -> u64
+        ensures { result ≡ 2 ^ bits_of self - 1 }
+    {
+        match self {
+            LaneWidth::Narrow => u64::from(u8::MAX),
+            LaneWidth::Wide => u64::from(u16::MAX),
+        }
+    }
+
+    /// The state in lane i.
+    pub(crate) fn state(self, word: u64, i: usize) -> u16
+        requires { bits_of self * (i + 1) ≤ WORD_BITS }
+        ensures { result ≡ word / (2 ^ bits_of self) ^ i % 2 ^ bits_of self }
+    {
+        ((word >> (self.bits() * i)) & self.mask()) as u16
+    }
+
+    /// The word with a state in lane i, in which lane i and those past it are 0.
+    pub(crate) fn with_state(self, word: u64, i: usize, state: u16) -> u64
+        requires lane { bits_of self * (i + 1) ≤ WORD_BITS }
+        requires free { word < (2 ^ bits_of self) ^ i }
+        requires small { state < 2 ^ bits_of self }
+        ensures sum { result ≡ word + state * (2 ^ bits_of self) ^ i }
+        ensures used { result < (2 ^ bits_of self) ^ (i + 1) }
+    {
+        word + (u64::from(state) << (self.bits() * i))
+    }
+
+    /// Whether all lanes from lane n on are 0.
+    pub(crate) fn ends_before(self, word: u64, n: usize) -> bool
+        requires { bits_of self * n ≤ WORD_BITS }
+        ensures { IsTrue result ↔ (word < (2 ^ bits_of self) ^ n) }
+    {
+        let used = self.bits() * n;
+        used == WORD_BITS || word >> used == 0
+    }
 }
 
-/// Whether all lanes from lane n on are 0.
-pub(crate) fn ends_before(word: u64, n: usize) -> bool
-    requires { n ≤ LANES }
-    ensures { IsTrue result ↔ (word < 256 ^ n) }
+fn has_wide_leaf(leaves: &[Leaf]) -> bool
+    ensures { result ≡ is_wide leaves.now }
 {
-    n == LANES || word >> (LANE_BITS * n) == 0
+    leaves.iter().any(|leaf| leaf.is_wide())
 }

@@ -1,11 +1,12 @@
-//! A population protocol: states, moves, start states and outputs (Angluin, Aspnes, Diamadi, Fischer, Peralta 2006).
+//! A population protocol: states, moves, start states, outputs and helpers (Angluin, Aspnes, Diamadi, Fischer, Peralta 2006).
 
-ghost use Rattle.std.specs.Prelude.{◌≡◌, ◌<◌, length, Some, IfOk, IfErr, IfSome, slice_get};
+ghost use Rattle.std.specs.Prelude.{◌≡◌, ◌<◌, [], length, Some, IfOk, IfErr, IfSome, slice_get};
 ghost use Rattle.pop_net.specs.LeafFaults.{is_move_below};
 
 use crate::copies::copy_texts;
 use crate::fault::LeafFault;
-use crate::moves::{first_taking, taken};
+use crate::limits::NARROW_STATE_LIMIT;
+use crate::moves::reaction_table;
 use crate::rules::leaf_fault;
 use pop_io::{List, NoMemory, Text};
 use std::alloc::Global;
@@ -56,27 +57,35 @@ pub struct Leaf {
     moves: List<Move>,
     inputs: List<u16>,
     outputs: List<bool>,
+    helpers: List<u16>,
+    /// What reacts, for each ordered pair of states.
+    table: Vec<(u16, u16)>,
 }
 
 impl Model for Leaf {
+    ghost use Rattle.std.specs.Prelude.{length};
     ghost use Rattle.pop_net.specs.LeafModel.{LeafModel, IsLeaf};
+    ghost use Rattle.pop_net.specs.ReactionTable.{IsTable};
 
     ghost Value = { LeafModel };
 
-    ghost view = { λ l. record { states = l.states; moves = l.moves; inputs = l.inputs; outputs = l.outputs } };
+    ghost view = { λ l. record { states = l.states; moves = l.moves; inputs = l.inputs; outputs = l.outputs; helpers = l.helpers } };
 
-    ghost invariant = { λ l. IsLeaf (record { states = l.states; moves = l.moves; inputs = l.inputs; outputs = l.outputs }) };
+    ghost invariant = { λ l.
+        IsLeaf (record { states = l.states; moves = l.moves; inputs = l.inputs; outputs = l.outputs; helpers = l.helpers })
+        × IsTable (length l.states) l.moves l.table.items };
 }
 
 impl Leaf {
     ghost use Rattle.pop_net.specs.LeafModel.{IsLeaf, is_silent as silent_move};
     ghost use Rattle.pop_net.specs.Reaction.{leaf_reaction};
+    ghost use Rattle.pop_net.specs.NetModel.{is_wide_leaf};
     ghost use Rattle.pop_net.specs.Step.{LeafChange};
     ghost use Rattle.pop_net.specs.LeafFaults.{RefusesLeaf};
     ghost use Rattle.pop_net.specs.declared.fault.LeafFault.TheVariants.{NoMemory as OutOfMemory};
 
-    /// It takes no memory today. The names of the states, the moves, the start state of each variable,
-    /// and the output of each state.
+    /// A leaf without helpers: the names of its states, its moves, the start state of each variable,
+    /// and the output of each state. It answers neither `Helpers` nor `Helper`.
     pub fn new(
         alloc: Global,
         states: List<Text>,
@@ -84,29 +93,67 @@ impl Leaf {
         inputs: List<u16>,
         outputs: List<bool>,
     ) -> Result<Leaf, LeafFault>
-        ensures kept { IfOk result (λ leaf. leaf ≡ record { states = states; moves = moves; inputs = inputs; outputs = outputs }) }
-        ensures formed { IfOk result IsLeaf }
-        ensures refused { IfErr result (RefusesLeaf (record { states = states; moves = moves; inputs = inputs; outputs = outputs })) }
-        ensures accepts { IsLeaf (record { states = states; moves = moves; inputs = inputs; outputs = outputs })
+        ensures kept { IfOk result (λ leaf. leaf ≡ record { states = states; moves = moves; inputs = inputs; outputs = outputs; helpers = [] }) }
+        ensures refused { IfErr result (RefusesLeaf (record { states = states; moves = moves; inputs = inputs; outputs = outputs; helpers = [] })) }
+        ensures accepts { IsLeaf (record { states = states; moves = moves; inputs = inputs; outputs = outputs; helpers = [] })
             → IfErr result (λ fault. fault ≡ OutOfMemory) }
     {
-        let _ = alloc;
+        let helpers = List::from_vec(Vec::new(alloc));
+        Leaf::with_helpers(alloc, states, moves, inputs, outputs, helpers)
+    }
+
+    /// A leaf with the state of each helper too.
+    pub fn with_helpers(
+        alloc: Global,
+        states: List<Text>,
+        moves: List<Move>,
+        inputs: List<u16>,
+        outputs: List<bool>,
+        helpers: List<u16>,
+    ) -> Result<Leaf, LeafFault>
+        ensures kept { IfOk result (λ leaf. leaf
+            ≡ record { states = states; moves = moves; inputs = inputs; outputs = outputs; helpers = helpers }) }
+        ensures refused { IfErr result (RefusesLeaf (record { states = states; moves = moves; inputs = inputs; outputs = outputs; helpers = helpers })) }
+        ensures accepts { IsLeaf (record { states = states; moves = moves; inputs = inputs; outputs = outputs; helpers = helpers })
+            → IfErr result (λ fault. fault ≡ OutOfMemory) }
+    {
         match leaf_fault(
             states.as_slice(),
             moves.as_slice(),
             inputs.as_slice(),
             outputs.as_slice(),
+            helpers.as_slice(),
         ) {
             Some(fault) => Err(fault),
-            None => Ok(Leaf {
-                states,
-                moves,
-                inputs,
-                outputs,
-            }),
+            None => Ok(Leaf::of_valid(alloc, states, moves, inputs, outputs, helpers)?),
         }
     }
 
+    /// A leaf of parts that are known to break no rule.
+    pub fn of_valid(
+        alloc: Global,
+        states: List<Text>,
+        moves: List<Move>,
+        inputs: List<u16>,
+        outputs: List<bool>,
+        helpers: List<u16>,
+    ) -> Result<Leaf, NoMemory>
+        requires { IsLeaf (record { states = states; moves = moves; inputs = inputs; outputs = outputs; helpers = helpers }) }
+        ensures { IfOk result (λ leaf. leaf
+            ≡ record { states = states; moves = moves; inputs = inputs; outputs = outputs; helpers = helpers }) }
+    {
+        let table = reaction_table(alloc, states.as_slice().len(), moves.as_slice())?;
+        Ok(Leaf {
+            states,
+            moves,
+            inputs,
+            outputs,
+            helpers,
+            table,
+        })
+    }
+
+    /// How many states it has, from 1 to `STATE_LIMIT`.
     pub fn state_count(&self) -> u16
         ensures count { result ≡ length self.now.states }
         ensures formed { IsLeaf self.now }
@@ -114,6 +161,7 @@ impl Leaf {
         self.states.as_slice().len() as u16
     }
 
+    /// The name of a state.
     pub fn name(&self, state: u16) -> &str
         requires { state < length self.now.states }
         ensures { slice_get self.now.states state ≡ Some result.now }
@@ -121,12 +169,14 @@ impl Leaf {
         self.states.as_slice()[state as usize].as_str()
     }
 
+    /// How many moves it lists, silent ones among them.
     pub fn move_count(&self) -> u32
         ensures { result ≡ length self.now.moves }
     {
         self.moves.as_slice().len() as u32
     }
 
+    /// A move by its place in the list.
     pub fn move_at(&self, t: u32) -> Move
         requires { t < length self.now.moves }
         ensures { slice_get self.now.moves t ≡ Some result }
@@ -142,6 +192,7 @@ impl Leaf {
         self.moves.as_slice()[t as usize].is_silent()
     }
 
+    /// How many variables it has a start state for, from 1 to `VARIABLE_LIMIT`.
     pub fn input_count(&self) -> u16
         ensures count { result ≡ length self.now.inputs }
         ensures formed { IsLeaf self.now }
@@ -158,11 +209,35 @@ impl Leaf {
         self.inputs.as_slice()[variable as usize]
     }
 
+    /// What an agent in a state answers.
     pub fn output(&self, state: u16) -> bool
         requires { state < length self.now.states }
         ensures { slice_get self.now.outputs state ≡ Some result }
     {
         self.outputs.as_slice()[state as usize]
+    }
+
+    /// How many helpers it has.
+    pub fn helper_count(&self) -> u32
+        ensures { result ≡ length self.now.helpers }
+    {
+        self.helpers.as_slice().len() as u32
+    }
+
+    /// The state in which a helper starts.
+    pub fn helper(&self, helper: u32) -> u16
+        requires { helper < length self.now.helpers }
+        ensures start { slice_get self.now.helpers helper ≡ Some result }
+        ensures bound { result < length self.now.states }
+    {
+        self.helpers.as_slice()[helper as usize]
+    }
+
+    /// Whether a net with this leaf has wide words.
+    pub(crate) fn is_wide(&self) -> bool
+        ensures { result ≡ is_wide_leaf self.now }
+    {
+        NARROW_STATE_LIMIT < self.states.as_slice().len()
     }
 
     /// The first non-silent move that matches, in the order of the list, is taken, the first way before the second.
@@ -175,7 +250,7 @@ impl Leaf {
         // It is a change that a step allows.
         ensures change { LeafChange self.now x y result.0 result.1 }
     {
-        taken(first_taking(self.moves.as_slice(), x, y), x, y)
+        self.table[x as usize * self.states.as_slice().len() + y as usize]
     }
 
     /// A leaf that is equal.
@@ -187,6 +262,8 @@ impl Leaf {
             moves: self.moves.copy(alloc)?,
             inputs: self.inputs.copy(alloc)?,
             outputs: self.outputs.copy(alloc)?,
+            helpers: self.helpers.copy(alloc)?,
+            table: Vec::from_slice(alloc, self.table.as_slice())?,
         })
     }
 }

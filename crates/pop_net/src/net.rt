@@ -6,15 +6,15 @@ ghost use Rattle.pop_net.specs.NetFaults.{names_below};
 use crate::combination::value_of;
 use crate::copies::{copy_leaves, copy_texts};
 use crate::fault::NetFault;
-use crate::lanes::lane_of;
+use crate::lanes::LaneWidth;
 use crate::leaf::Leaf;
 use crate::rules::net_fault;
-use crate::words::{is_valid_word, react_words, start_word, word_outputs};
+use crate::words::{helper_word, is_valid_word, react_words, start_word, word_outputs};
 use pop_io::{List, NoMemory, Text};
 use std::alloc::Global;
 use std::marker::Model;
 
-/// One state per leaf, packed: eight bits per leaf, leaf 0 lowest.
+/// One state per leaf, packed: eight bits per leaf, or sixteen in a wide net, leaf 0 lowest.
 #[derive(Clone, Copy, Debug, PartialEq, Eq)]
 pub struct Word(pub u64);
 
@@ -45,28 +45,32 @@ pub struct Net {
     vars: List<Text>,
     leaves: List<Leaf>,
     combine: List<Item>,
+    lanes: LaneWidth,
 }
 
 impl Model for Net {
+    ghost use Rattle.std.specs.Prelude.{◌≡◌};
     ghost use Rattle.pop_net.specs.NetModel.{NetModel, IsNet};
+    ghost use Rattle.pop_net.specs.LaneWidth.{width_of};
 
     ghost Value = { NetModel };
 
     ghost view = { λ n. record { variables = n.vars; leaves = n.leaves; combine = n.combine } };
 
-    ghost invariant = { λ n. IsNet (record { variables = n.vars; leaves = n.leaves; combine = n.combine }) };
+    ghost invariant = { λ n.
+        IsNet (record { variables = n.vars; leaves = n.leaves; combine = n.combine }) × (n.lanes ≡ width_of n.leaves) };
 }
 
 impl Net {
-    ghost use Rattle.pop_net.specs.NetModel.{IsNet, state_of, output_of};
-    ghost use Rattle.pop_net.specs.InputCrowd.{start_of};
+    ghost use Rattle.pop_net.specs.NetModel.{IsNet, state_of, output_of, helper_count as helpers};
+    ghost use Rattle.pop_net.specs.InputCrowd.{start_of, helper_of};
     ghost use Rattle.pop_net.specs.Reaction.{reaction};
     ghost use Rattle.pop_net.specs.Step.{TupleChange};
     ghost use Rattle.pop_net.specs.Lanes.{tuple_of, IsValid};
     ghost use Rattle.pop_net.specs.NetFaults.{RefusesNet};
     ghost use Rattle.pop_net.specs.declared.fault.NetFault.TheVariants.{NoMemory as OutOfMemory};
 
-    /// It takes no memory today. The names of the variables, the leaves, and the combination in postfix.
+    /// The names of the variables, the leaves, and the combination in postfix. It allocates nothing.
     pub fn new(
         alloc: Global,
         vars: List<Text>,
@@ -74,7 +78,6 @@ impl Net {
         combine: List<Item>,
     ) -> Result<Net, NetFault>
         ensures kept { IfOk result (λ net. net ≡ record { variables = vars; leaves = leaves; combine = combine }) }
-        ensures formed { IfOk result IsNet }
         ensures refused { IfErr result (RefusesNet (record { variables = vars; leaves = leaves; combine = combine })) }
         ensures accepts { IsNet (record { variables = vars; leaves = leaves; combine = combine })
             → IfErr result (λ fault. fault ≡ OutOfMemory) }
@@ -82,14 +85,25 @@ impl Net {
         let _ = alloc;
         match net_fault(vars.as_slice(), leaves.as_slice(), combine.as_slice()) {
             Some(fault) => Err(fault),
-            None => Ok(Net {
-                vars,
-                leaves,
-                combine,
-            }),
+            None => Ok(Net::of_valid(vars, leaves, combine)),
         }
     }
 
+    /// A net of parts that are known to break no rule. It allocates nothing.
+    pub fn of_valid(vars: List<Text>, leaves: List<Leaf>, combine: List<Item>) -> Net
+        requires { IsNet (record { variables = vars; leaves = leaves; combine = combine }) }
+        ensures { result ≡ record { variables = vars; leaves = leaves; combine = combine } }
+    {
+        let lanes = LaneWidth::of_leaves(leaves.as_slice());
+        Net {
+            vars,
+            leaves,
+            combine,
+            lanes,
+        }
+    }
+
+    /// How many variables it has, from 1 to `VARIABLE_LIMIT`.
     pub fn var_count(&self) -> u16
         ensures count { result ≡ length self.now.variables }
         ensures formed { IsNet self.now }
@@ -97,6 +111,7 @@ impl Net {
         self.vars.as_slice().len() as u16
     }
 
+    /// The names of the variables, in their order.
     pub fn var_names(&self) -> &List<Text>
         ensures names { result.now ≡ self.now.variables }
         ensures formed { IsNet self.now }
@@ -104,6 +119,7 @@ impl Net {
         &self.vars
     }
 
+    /// How many leaves it has, from 1 to `LEAF_LIMIT`.
     pub fn leaf_count(&self) -> u8
         ensures count { result ≡ length self.now.leaves }
         ensures formed { IsNet self.now }
@@ -111,6 +127,7 @@ impl Net {
         self.leaves.as_slice().len() as u8
     }
 
+    /// A leaf by its number.
     pub fn leaf(&self, i: u8) -> &Leaf
         requires { i < length self.now.leaves }
         ensures { slice_get self.now.leaves i ≡ Some result.now }
@@ -118,12 +135,14 @@ impl Net {
         &self.leaves.as_slice()[i as usize]
     }
 
+    /// How many items the combination has, from 1 to `ITEM_LIMIT`.
     pub fn item_count(&self) -> u32
         ensures { result ≡ length self.now.combine }
     {
         self.combine.as_slice().len() as u32
     }
 
+    /// An item of the combination by its place.
     pub fn item(&self, i: u32) -> Item
         requires { i < length self.now.combine }
         ensures { slice_get self.now.combine i ≡ Some result }
@@ -135,7 +154,7 @@ impl Net {
     pub fn valid(&self, word: Word) -> bool
         ensures { IsTrue result ↔ IsValid self.now word }
     {
-        is_valid_word(self.leaves.as_slice(), word.0)
+        is_valid_word(self.lanes, self.leaves.as_slice(), word.0)
     }
 
     /// The state of a leaf in a word.
@@ -147,7 +166,7 @@ impl Net {
     {
         // A net has at most as many leaves as a word has lanes.
         let _ = &self.leaves;
-        lane_of(word.0, leaf as usize)
+        self.lanes.state(word.0, leaf as usize)
     }
 
     /// Each leaf reacts by itself.
@@ -162,7 +181,7 @@ impl Net {
         ensures change { TupleChange self.now (tuple_of self.now a) (tuple_of self.now b)
             (tuple_of self.now result.0) (tuple_of self.now result.1) }
     {
-        let (first, second) = react_words(self.leaves.as_slice(), a.0, b.0);
+        let (first, second) = react_words(self.lanes, self.leaves.as_slice(), a.0, b.0);
         (Word(first), Word(second))
     }
 
@@ -172,7 +191,7 @@ impl Net {
         ensures { result ≡ output_of self.now (tuple_of self.now word) }
     {
         let leaves = self.leaves.as_slice();
-        let outputs = word_outputs(leaves, word.0);
+        let outputs = word_outputs(self.lanes, leaves, word.0);
         value_of(self.combine.as_slice(), &outputs[..leaves.len()])
     }
 
@@ -182,7 +201,26 @@ impl Net {
         ensures start { tuple_of self.now result ≡ start_of self.now variable }
         ensures valid { IsValid self.now result }
     {
-        Word(start_word(self.leaves.as_slice(), variable))
+        Word(start_word(self.lanes, self.leaves.as_slice(), variable))
+    }
+
+    /// How many helpers stand in every input.
+    pub fn helper_count(&self) -> u32
+        ensures { result ≡ helpers self.now }
+    {
+        match self.leaves.as_slice() {
+            [] => 0,
+            [leaf, ..] => leaf.helper_count(),
+        }
+    }
+
+    /// The word in which a helper starts.
+    pub fn helper(&self, helper: u32) -> Word
+        requires { helper < helpers self.now }
+        ensures start { tuple_of self.now result ≡ helper_of self.now helper }
+        ensures valid { IsValid self.now result }
+    {
+        Word(helper_word(self.lanes, self.leaves.as_slice(), helper))
     }
 
     /// A net that is equal.
@@ -193,6 +231,7 @@ impl Net {
             vars: copy_texts(alloc, self.vars.as_slice())?,
             leaves: copy_leaves(alloc, self.leaves.as_slice())?,
             combine: self.combine.copy(alloc)?,
+            lanes: self.lanes,
         })
     }
 }

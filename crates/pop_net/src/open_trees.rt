@@ -6,8 +6,9 @@ ghost use Rattle.pop_net.specs.NetModel.{after_item, depths as depth_operators};
 ghost use Rattle.pop_net.specs.NetFaults.{names_below, are_low};
 
 use crate::combination::put_depth;
+use crate::limits::{DEPTH_LIMIT, ITEM_LIMIT};
 use crate::net::Item;
-use crate::operands::{ITEM_LIMIT, Operands};
+use crate::operands::Operands;
 use std::marker::Model;
 
 /// The trees that stand open after the items so far. Contracts see their depths, the newest first.
@@ -18,16 +19,17 @@ pub struct OpenTrees {
 
 impl Model for OpenTrees {
     ghost use Rattle.std.specs.Prelude.{List, ℕ, ◌≤◌, All};
+    ghost use Rattle.pop_net.specs.declared.limits.TheConstants.{DEPTH_LIMIT};
 
     ghost Value = { List ℕ };
 
     ghost view = { λ t. t.depths };
 
-    ghost invariant = { λ t. All (λ d. d ≤ 65) t.depths };
+    ghost invariant = { λ t. All (λ d. d ≤ DEPTH_LIMIT) t.depths };
 }
 
 impl OpenTrees {
-    /// No items were read. It takes no memory.
+    /// No items were read. It allocates nothing.
     pub fn new() -> OpenTrees
         ensures { result ≡ [] }
     {
@@ -36,7 +38,7 @@ impl OpenTrees {
         }
     }
 
-    /// Takes an item in, unless it names no leaf, finds too few trees or makes one of a depth over 65.
+    /// Takes an item in, unless it names no leaf, finds too few trees or makes one of a depth over `DEPTH_LIMIT`.
     pub fn put(&mut self, leaves: u8, item: Item) -> bool
         requires { length self.old < ITEM_LIMIT }
         ensures good { result ≡ (names_below leaves item && are_low (after_item depth_operators item self.old)) }

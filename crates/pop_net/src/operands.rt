@@ -2,10 +2,8 @@
 
 ghost use Rattle.std.specs.Prelude.{◌≡◌, ◌<◌, ◌∷◌, [], length, Some, None, MatchOption};
 
+use crate::limits::ITEM_LIMIT;
 use std::marker::Model;
-
-/// A combination has at most as many items.
-pub(crate) const ITEM_LIMIT: usize = 1024;
 
 /// A stack of operands. Contracts see the list of them, the newest first.
 #[derive(Drop)]
@@ -17,6 +15,7 @@ pub(crate) struct Operands<T> {
 impl<T> Model for Operands<T> {
     ghost use Rattle.std.specs.Prelude.{◌≡◌, List, ◌≤◌, length, take, reverse};
     ghost use Rattle.std.specs.Coded.{coded_list};
+    ghost use Rattle.pop_net.specs.declared.limits.TheConstants.{ITEM_LIMIT};
 
     ghost Value = { List T };
 
@@ -24,7 +23,7 @@ impl<T> Model for Operands<T> {
 
     ghost view = { λ o. reverse (take o.count o.items) };
 
-    ghost invariant = { λ o. (o.count ≤ 1024) × (length o.items ≡ 1024) };
+    ghost invariant = { λ o. (o.count ≤ ITEM_LIMIT) × (length o.items ≡ ITEM_LIMIT) };
 }
 
 impl<T: Copy> Operands<T> {

@@ -7,30 +7,26 @@ ghost use Rattle.pop_io.specs.Names.{is_state_name as state_name, is_variable_na
 ghost use Rattle.pop_net.specs.FirstFault.{is_bad_name, first_bad_name};
 ghost use Rattle.pop_net.specs.LeafModel.{IsLeaf};
 ghost use Rattle.pop_net.specs.LeafFaults.{fault_of_leaf, is_move_below};
-ghost use Rattle.pop_net.specs.NetFaults.{fault_of_net};
+ghost use Rattle.pop_net.specs.NetModel.{helpers_of, is_wide_leaf};
+ghost use Rattle.pop_net.specs.NetFaults.{fault_of_net, wide_leaf as wide_leaf_of};
 
 use crate::combination::combination_fault;
 use crate::fault::{LeafFault, NetFault};
 use crate::leaf::{Leaf, Move};
+use crate::limits::{
+    HELPER_LIMIT, ITEM_LIMIT, LEAF_LIMIT, MOVE_LIMIT, STATE_LIMIT, WIDE_LEAF_LIMIT,
+};
 use crate::net::Item;
-use crate::operands::ITEM_LIMIT;
-use pop_io::{Text, is_state_name, is_variable_name};
-
-pub(crate) const STATE_LIMIT: usize = 256;
-
-pub(crate) const MOVE_LIMIT: usize = 32_768;
-
-pub(crate) const INPUT_LIMIT: usize = 16;
-
-pub(crate) const LEAF_LIMIT: usize = 8;
+use pop_io::{Text, VARIABLE_LIMIT, is_among, is_state_name, is_variable_name};
 
 pub(crate) fn leaf_fault(
     states: &[Text],
     moves: &[Move],
     inputs: &[u16],
     outputs: &[bool],
+    helpers: &[u16],
 ) -> Option<LeafFault>
-    ensures { result ≡ fault_of_leaf (record { states = states.now; moves = moves.now; inputs = inputs.now; outputs = outputs.now }) }
+    ensures { result ≡ fault_of_leaf (record { states = states.now; moves = moves.now; inputs = inputs.now; outputs = outputs.now; helpers = helpers.now }) }
 {
     let count = states.len();
     if count < 1 || STATE_LIMIT < count {
@@ -45,16 +41,20 @@ pub(crate) fn leaf_fault(
     if let Some(t) = bad_move(moves, count) {
         return Some(LeafFault::Move(t as u32));
     }
-    if inputs.len() < 1 || INPUT_LIMIT < inputs.len() {
+    if inputs.len() < 1 || VARIABLE_LIMIT < inputs.len() {
         return Some(LeafFault::Inputs(inputs.len() as u64));
     }
-    if let Some(i) = bad_input(inputs, count) {
+    if let Some(i) = outside(inputs, count) {
         return Some(LeafFault::Input(i as u32));
     }
     if outputs.len() != count {
         return Some(LeafFault::Outputs(outputs.len() as u64));
     }
-    None
+    if HELPER_LIMIT < helpers.len() {
+        return Some(LeafFault::Helpers(helpers.len() as u64));
+    }
+    let helper = outside(helpers, count)?;
+    Some(LeafFault::Helper(helper as u32))
 }
 
 fn bad_state_name(names: &[Text]) -> Option<usize>
@@ -68,14 +68,7 @@ fn is_bad_state_name(names: &[Text], k: usize) -> bool
     requires { k < length names.now }
     ensures { result ≡ is_bad_name state_name names.now k }
 {
-    !is_state_name(names[k].as_str()) || stands_in(names[k].as_str(), &names[..k])
-}
-
-/// Whether a name is among others.
-pub(crate) fn stands_in(name: &str, others: &[Text]) -> bool
-    ensures { result ≡ list_any (λ other. bytes_eq other name.now) others.now }
-{
-    others.iter().any(|other| other.as_str() == name)
+    !is_state_name(names[k].as_str()) || is_among(&names[..k], names[k].as_str().as_bytes())
 }
 
 fn bad_move(moves: &[Move], states: usize) -> Option<usize>
@@ -85,11 +78,12 @@ fn bad_move(moves: &[Move], states: usize) -> Option<usize>
     moves.iter().position(|t| !t.is_below(states))
 }
 
-fn bad_input(inputs: &[u16], states: usize) -> Option<usize>
-    ensures first { result ≡ position (λ q. not (nat_lt q states)) inputs.now }
-    ensures bound { IfSome result (λ k. k < length inputs.now) }
+/// The first of some numbers that no state has.
+fn outside(numbers: &[u16], states: usize) -> Option<usize>
+    ensures first { result ≡ position (λ q. not (nat_lt q states)) numbers.now }
+    ensures bound { IfSome result (λ k. k < length numbers.now) }
 {
-    inputs.iter().position(|q| !((*q as usize) < states))
+    numbers.iter().position(|q| !((*q as usize) < states))
 }
 
 /// The leaves are right by their type; where no rule is broken, all of them were looked at.
@@ -97,7 +91,7 @@ pub(crate) fn net_fault(vars: &[Text], leaves: &[Leaf], combine: &[Item]) -> Opt
     ensures first { result ≡ fault_of_net (record { variables = vars.now; leaves = leaves.now; combine = combine.now }) }
     ensures formed { IfNone result (All IsLeaf leaves.now) }
 {
-    if vars.len() < 1 || INPUT_LIMIT < vars.len() {
+    if vars.len() < 1 || VARIABLE_LIMIT < vars.len() {
         return Some(NetFault::Vars(vars.len() as u64));
     }
     if let Some(k) = bad_variable_name(vars) {
@@ -112,8 +106,44 @@ pub(crate) fn net_fault(vars: &[Text], leaves: &[Leaf], combine: &[Item]) -> Opt
     if combine.len() < 1 || ITEM_LIMIT < combine.len() {
         return Some(NetFault::Items(combine.len() as u64));
     }
-    let fault = combination_fault(leaves.len() as u8, combine)?;
-    Some(NetFault::from(fault))
+    if let Some(fault) = combination_fault(leaves.len() as u8, combine) {
+        return Some(NetFault::from(fault));
+    }
+    if let Some(i) = other_helpers(leaves) {
+        return Some(NetFault::LeafHelpers(i as u8));
+    }
+    let wide = wide_leaf(leaves)?;
+    Some(NetFault::Wide(wide as u8))
+}
+
+/// The first leaf with another number of helpers than leaf 0.
+fn other_helpers(leaves: &[Leaf]) -> Option<usize>
+    ensures first { result ≡ position (λ leaf. not (length leaf.helpers == helpers_of leaves.now)) leaves.now }
+    ensures bound { IfSome result (λ i. i < length leaves.now) }
+{
+    let first = leaves.first()?.helper_count();
+    leaves
+        .iter()
+        .position(|leaf| !(leaf.helper_count() == first))
+}
+
+/// The first wide leaf, when there are too many leaves for it. It allocates nothing.
+pub fn wide_leaf(leaves: &[Leaf]) -> Option<usize>
+    ensures first { result ≡ wide_leaf_of leaves.now }
+    ensures bound { IfSome result (λ i. i < length leaves.now) }
+{
+    if WIDE_LEAF_LIMIT < leaves.len() {
+        first_wide(leaves)
+    } else {
+        None
+    }
+}
+
+fn first_wide(leaves: &[Leaf]) -> Option<usize>
+    ensures first { result ≡ position is_wide_leaf leaves.now }
+    ensures bound { IfSome result (λ i. i < length leaves.now) }
+{
+    leaves.iter().position(|leaf| leaf.is_wide())
 }
 
 fn bad_variable_name(names: &[Text]) -> Option<usize>
@@ -127,7 +157,7 @@ fn is_bad_variable_name(names: &[Text], k: usize) -> bool
     requires { k < length names.now }
     ensures { result ≡ is_bad_name variable_name names.now k }
 {
-    !is_variable_name(names[k].as_str()) || stands_in(names[k].as_str(), &names[..k])
+    !is_variable_name(names[k].as_str()) || is_among(&names[..k], names[k].as_str().as_bytes())
 }
 
 fn bad_leaf(leaves: &[Leaf], inputs: usize) -> Option<usize>

@@ -1,52 +1,105 @@
--- What a sink did with an answer is the call's outcome.
-use Rattle.std.proofs.Common.{◌≡◌, ◌⊎◌, inl, inr, ℕ, List, Option, Result, Ok, Err, sym, subst, ◌∙◌}
-use Rattle.std.specs.Prelude.{◌≢◌, IfOk, MatchResult}
+-- What a sink did with an output is the call's outcome.
+use Rattle.std.proofs.Common.{◌≡◌, inl, inr, ℕ, List, Option, Result, Ok, Err, refl, sym, ap, subst, ◌∙◌}
+use Rattle.std.specs.Prelude.{◌≢◌, true, is_err, IfOk, MatchResult}
 use Rattle.std.specs.Io.KnownBytes.{Appends, Keeps}
-use Rattle.pop_tool.specs.declared.status.Status.{Status}
-use Rattle.pop_tool.specs.declared.status.Status.TheVariants.{Done, Usage, Refused, Rejected, Undecided, Differs, ReadFault, WriteFault, NoMemory}
-use Rattle.pop_tool.specs.Outcome.{IsReply, Outcome}
-use Rattle.pop_tool.specs.Replies.{IsPut}
+use Rattle.pop_io.specs.Causes.{HasRisen}
+use Rattle.pop_words.specs.Words.{meaning_of}
+use Rattle.tool_texts.specs.declared.output.Output.{Output}
+use Rattle.tool_texts.specs.declared.output.Ending.{Ending}
+use Rattle.tool_texts.specs.declared.output.Ending.TheVariants as ending
+use Rattle.tool_texts.specs.declared.status.Status.{Status}
+use Rattle.tool_texts.specs.declared.status.Status.TheVariants.{ReadFault, WriteFault, NoMemory}
+use Rattle.tool_texts.specs.Statuses.{status_of}
+use Rattle.pop_tool.specs.Outcome.{IsAnswer, IsReply, Outcome, IsAnswered}
+use Rattle.pop_tool.specs.Source.{IsReadToEnd}
+use Rattle.pop_tool.specs.Written.{ReadFailed, IsRightOutput, IsWritten}
 
-module _ (words : List (List ℕ)) (left old new : Option (List ℕ)) (text : List ℕ) where
-  whole : (status : Status) → IsReply words left text status → Appends old new text → Outcome words left old new status
-  whole Done is appends = (text, is, appends)
-  whole Usage is appends = (text, is, appends)
-  whole Refused is appends = (text, is, appends)
-  whole Rejected is appends = (text, is, appends)
-  whole Undecided is appends = (text, is, appends)
-  whole Differs is appends = (text, is, appends)
-  whole ReadFault is appends = (text, is, appends)
-  whole WriteFault is appends = absurd is
-  whole NoMemory is appends = absurd is
+no_write_fault : (end : Ending) → status_of end ≡ WriteFault → ⊥
+no_write_fault ending.Done e = absurd cc
+no_write_fault ending.Usage e = absurd cc
+no_write_fault ending.Refused e = absurd cc
+no_write_fault ending.Rejected e = absurd cc
+no_write_fault ending.Undecided e = absurd cc
+no_write_fault ending.Differs e = absurd cc
+no_write_fault ending.ReadFault e = absurd cc
 
-  put_outcome : (status result : Status) (rose : Type 0) → IsReply words left text status → IsPut text status old new rose result → Outcome words left old new result
-  put_outcome status result rose is (inl all) =
-      subst (λ (s : Status). Outcome words left old new s) (sym all.0) (whole status is all.1)
-  put_outcome status result rose is (inr front) =
-      subst (λ (s : Status). Outcome words left old new s) (sym front.0) (text, status, is, front.1)
+reads : (end : Ending) → status_of end ≡ ReadFault → end ≡ ending.ReadFault
+reads ending.Done e = absurd cc
+reads ending.Usage e = absurd cc
+reads ending.Refused e = absurd cc
+reads ending.Rejected e = absurd cc
+reads ending.Undecided e = absurd cc
+reads ending.Differs e = absurd cc
+reads ending.ReadFault e = refl
 
-  put_write : (status result : Status) (rose : Type 0) → IsReply words left text status → IsPut text status old new rose result → result ≡ WriteFault → rose
-  put_write status result rose is (inl all) e =
-      absurd (subst (λ (s : Status). IsReply words left text s) (sym all.0 ∙ e) is)
-  put_write status result rose is (inr front) e = front.2
+module _ (words : List (List ℕ)) (left rest old new : Option (List ℕ)) (output : Output) where
+  answered : IsAnswer words left output → output.ending ≢ ending.ReadFault → Appends old new output.text → (end : Ending) → output.ending ≡ end → Outcome words left old new (status_of end)
+  answered is other grew ending.Done ends = record { output = output; answer = is; ends = ends; grew = grew }
+  answered is other grew ending.Usage ends = record { output = output; answer = is; ends = ends; grew = grew }
+  answered is other grew ending.Refused ends = record { output = output; answer = is; ends = ends; grew = grew }
+  answered is other grew ending.Rejected ends = record { output = output; answer = is; ends = ends; grew = grew }
+  answered is other grew ending.Undecided ends = record { output = output; answer = is; ends = ends; grew = grew }
+  answered is other grew ending.Differs ends = record { output = output; answer = is; ends = ends; grew = grew }
+  answered is other grew ending.ReadFault ends = absurd (other ends)
 
-put_read : (text : List ℕ) (status result : Status) (old new : Option (List ℕ)) (rose read : Type 0) → (status ≡ ReadFault → read) → IsPut text status old new rose result → result ≡ ReadFault → read
-put_read text status result old new rose read so (inl all) e = so (cc (all.0, e))
-put_read text status result old new rose read so (inr front) e = absurd (cc (front.0, e))
+  module _ (before after : ℕ) where
+    pub may_write : IsRightOutput words left rest before after output → IsReply words left output
+    may_write (inl right) = inl right.answer
+    may_write (inr failed) = inr failed.is
 
-module _ {A E : Type 0} (text_of : A → List ℕ) (told : A → Status) (words : List (List ℕ)) (left old new : Option (List ℕ)) (result : Status) (rose : Type 0) where
-  abbrev WasPut : Result A E → Type 0
-  WasPut reply =
-      MatchResult reply (λ r. IsPut (text_of r) (told r) old new rose result) (λ _. (result ≡ NoMemory) × Keeps old new)
+    whole : IsRightOutput words left rest before after output → Appends old new output.text → Outcome words left old new (status_of output.ending)
+    whole (inl right) grew = answered right.answer right.other grew output.ending refl
+    whole (inr failed) grew =
+        subst (λ (o : Output). Outcome words left old new (status_of o.ending)) (sym failed.is) (subst (λ (o : Output). Appends old new o.text) failed.is grew)
 
-  pub reply_outcome : (reply : Result A E) → IfOk reply (λ r. IsReply words left (text_of r) (told r)) → WasPut reply → Outcome words left old new result
-  reply_outcome (Ok r) is put = put_outcome words left old new (text_of r) (told r) result rose is put
-  reply_outcome (Err e) is put = subst (λ (s : Status). Outcome words left old new s) (sym put.0) put.1
+    is_fault : IsRightOutput words left rest before after output → output.ending ≡ ending.ReadFault → ReadFailed words before after output
+    is_fault (inl right) e = absurd (right.other e)
+    is_fault (inr failed) e = failed
 
-  pub reply_write : (reply : Result A E) → IfOk reply (λ r. IsReply words left (text_of r) (told r)) → WasPut reply → result ≡ WriteFault → rose
-  reply_write (Ok r) is put e = put_write words left old new (text_of r) (told r) result rose is put e
-  reply_write (Err f) is put e = absurd (cc (put.0, e))
+    module _ (low high : ℕ) (result : Status) where
+      put_outcome : IsRightOutput words left rest before after output → IsWritten output old new low high result → Outcome words left old new result
+      put_outcome right (inl all) = subst (λ (s : Status). Outcome words left old new s) (sym all.0) (whole right all.1)
+      put_outcome right (inr part) =
+          subst (λ (s : Status). Outcome words left old new s) (sym part.0) (record { output = output; reply = may_write right; grew = part.1 })
 
-  pub reply_read : (read : Type 0) (reply : Result A E) → IfOk reply (λ r. told r ≡ ReadFault → read) → WasPut reply → result ≡ ReadFault → read
-  reply_read read (Ok r) so put e = put_read (text_of r) (told r) result old new rose read so put e
-  reply_read read (Err f) so put e = absurd (cc (put.0, e))
+      put_read : IsRightOutput words left rest before after output → IsWritten output old new low high result → result ≡ ReadFault → ReadFailed words before after output
+      put_read right (inl all) e = is_fault right (reads output.ending (sym all.0 ∙ e))
+      put_read right (inr part) e = absurd (cc (part.0, e))
+
+      put_end : IsRightOutput words left rest before after output → IsWritten output old new low high result → IsAnswered result → IsReadToEnd words left rest
+      put_end (inl right) written whole = right.end
+      put_end (inr failed) (inl all) whole =
+          absurd (subst IsAnswered (all.0 ∙ ap (λ (o : Output). status_of o.ending) failed.is) whole)
+      put_end (inr failed) (inr part) whole = absurd (subst IsAnswered part.0 whole)
+
+put_write : (output : Output) (old new : Option (List ℕ)) (low high : ℕ) (result : Status) → IsWritten output old new low high result → result ≡ WriteFault → HasRisen low high
+put_write output old new low high result (inl all) e = absurd (no_write_fault output.ending (sym all.0 ∙ e))
+put_write output old new low high result (inr part) e = part.2
+
+module _ {E : Type 0} (old new : Option (List ℕ)) (low high : ℕ) (result : Status) where
+  abbrev WasWritten : Result Output E → Type 0
+  WasWritten output =
+      MatchResult output (λ o. IsWritten o old new low high result) (λ _. (result ≡ NoMemory) × Keeps old new)
+
+  pub written_write : (output : Result Output E) → WasWritten output → result ≡ WriteFault → HasRisen low high
+  written_write (Ok output) written e = put_write output old new low high result written e
+  written_write (Err f) written e = absurd (cc (written.0, e))
+
+  module _ (words : List (List ℕ)) (left rest : Option (List ℕ)) (before after : ℕ) where
+    pub written_outcome : (output : Result Output E) → IfOk output (IsRightOutput words left rest before after) → WasWritten output → Outcome words left old new result
+    written_outcome (Ok output) right written = put_outcome words left rest old new output before after low high result right written
+    written_outcome (Err e) right written = subst (λ (s : Status). Outcome words left old new s) (sym written.0) written.1
+
+    failed : (output : Result Output E) → IfOk output (IsRightOutput words left rest before after) → WasWritten output → result ≡ ReadFault → (o : Output) × ReadFailed words before after o
+    failed (Ok output) right written e = (output, put_read words left rest old new output before after low high result right written e)
+    failed (Err f) right written e = absurd (cc (written.0, e))
+
+    pub written_read : (output : Result Output E) → IfOk output (IsRightOutput words left rest before after) → WasWritten output → result ≡ ReadFault → HasRisen before after
+    written_read output right written e = (failed output right written e).1.rose
+
+    pub written_unread : (output : Result Output E) → IfOk output (IsRightOutput words left rest before after) → WasWritten output → is_err (meaning_of words) ≡ true → result ≢ ReadFault
+    written_unread output right written without e = (failed output right written e).1.command without
+
+    pub written_end : (output : Result Output E) → IfOk output (IsRightOutput words left rest before after) → WasWritten output → IsAnswered result → IsReadToEnd words left rest
+    written_end (Ok output) right written whole = put_end words left rest old new output before after low high result right written whole
+    written_end (Err e) right written whole = absurd (subst IsAnswered written.0 whole)

@@ -1,40 +1,27 @@
--- Answer: which text and status answer the words and the input.
+-- Answer: which output answers the words and the input.
 use Rattle.std.specs.Prelude.{◌≡◌, ℕ, nat_lt, List, length, MatchBool, Result, Ok, Err}
-use Rattle.pop_lines.specs.Lines.{lines_of, ended}
+use Rattle.pop_io.specs.declared.whole.TheConstants.{INPUT_LIMIT}
+use Rattle.pop_lines.specs.Lines.{lines_of}
 use Rattle.pop_words.specs.declared.command.Command.{Command}
-use Rattle.pop_words.specs.declared.command.Command.TheVariants.{Play, Eval, Check, Run}
-use Rattle.pop_words.specs.declared.command.Usage.{Usage as BadWord}
+use Rattle.pop_words.specs.declared.command.Usage.{Usage}
 use Rattle.pop_words.specs.Words.{meaning_of}
-use Rattle.pop_tool.specs.declared.status.Status.{Status}
-use Rattle.pop_tool.specs.declared.status.Status.TheVariants.{Usage, Refused}
-use Rattle.pop_tool.specs.declared.refusal.Refusal.{Refusal}
-use Rattle.pop_tool.specs.declared.refusal.Refusal.TheVariants.{TooLong}
-use Rattle.pop_tool.specs.Refusals.{usage_text, refusal_text}
-use Rattle.pop_tool.specs.Eval.{eval_answer}
-use Rattle.pop_tool.specs.Play.{PlayGives}
-use Rattle.pop_tool.specs.Check.{CheckGives}
-use Rattle.pop_tool.specs.Run.{RunGives}
-use Rattle.pop_tool.specs.Given.{Given, status_of}
+use Rattle.tool_texts.specs.declared.refusal.Refusal.{Refusal}
+use Rattle.tool_texts.specs.declared.refusal.Refusal.TheVariants.{TooLong}
+use Rattle.tool_texts.specs.declared.output.Output.{Output}
+use Rattle.tool_texts.specs.Refusals.{usage_output, output_for}
+use Rattle.tool_commands.specs.Commands.{CommandGives}
 
--- the text and the status for what a command gives
-abbrev pub Told : Result Given Refusal → List ℕ → Status → Type 0
-Told (Ok given) text status = (text ≡ given.0) × (status ≡ status_of given.1)
-Told (Err refusal) text status = (text ≡ ended (refusal_text refusal)) × (status ≡ Refused)
+-- what a command gives for an input, which has a limit
+abbrev pub InputGives : Command → List ℕ → Result Output Refusal → Type 0
+InputGives command input given = MatchBool (nat_lt INPUT_LIMIT (length input)) (given ≡ Err TooLong) (CommandGives command (lines_of input) given)
 
--- what a command gives for the lines of its input
-abbrev pub OfCommand : Command → List (List ℕ) → Result Given Refusal → Type 0
-OfCommand Play lines given = PlayGives lines given
-OfCommand Eval lines given = given ≡ eval_answer lines
-OfCommand Check lines given = CheckGives lines given
-OfCommand (Run spec) lines given = RunGives spec lines given
+-- the output is for what the command gives for these lines
+abbrev pub IsOfCommand : Command → List (List ℕ) → Output → Type 0
+IsOfCommand command lines output = (given : Result Output Refusal) × CommandGives command lines given × (output ≡ output_for given)
 
--- an input has at most 134,217,728 bytes
-abbrev pub OfInput : Command → List ℕ → Result Given Refusal → Type 0
-OfInput command input given = MatchBool (nat_lt 134217728 (length input)) (given ≡ Err TooLong) (OfCommand command (lines_of input) given)
+abbrev pub OfMeaning : Result Command Usage → List ℕ → Output → Type 0
+OfMeaning (Err usage) input output = output ≡ usage_output usage
+OfMeaning (Ok command) input output = (given : Result Output Refusal) × InputGives command input given × (output ≡ output_for given)
 
-abbrev pub OfMeaning : Result Command BadWord → List ℕ → List ℕ → Status → Type 0
-OfMeaning (Err usage) input text status = (text ≡ ended (usage_text usage)) × (status ≡ Usage)
-OfMeaning (Ok command) input text status = (given : Result Given Refusal) × OfInput command input given × Told given text status
-
-abbrev pub Answer : List (List ℕ) → List ℕ → List ℕ → Status → Type 0
-Answer words input text status = OfMeaning (meaning_of words) input text status
+abbrev pub Answer : List (List ℕ) → List ℕ → Output → Type 0
+Answer words input output = OfMeaning (meaning_of words) input output

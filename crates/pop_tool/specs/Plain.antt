@@ -1,13 +1,8 @@
 -- Words that need no threads.
-use Rattle.std.specs.Prelude.{◌≡◌, Result, Ok, Err}
-use Rattle.pop_words.specs.declared.command.Command.{Command}
-use Rattle.pop_words.specs.declared.command.Command.TheVariants.{Play, Eval, Check, Run}
-use Rattle.pop_words.specs.declared.command.Usage.{Usage}
+use Rattle.std.specs.Prelude.{ℕ, List, IfOk}
+use Rattle.pop_words.specs.Words.{meaning_of}
+use Rattle.tool_commands.specs.Commands.{IsPlain}
 
--- the words don't mean a run with two or more workers
-abbrev pub IsPlain : Result Command Usage → Type 0
-IsPlain (Err usage) = Unit {0}
-IsPlain (Ok Play) = Unit {0}
-IsPlain (Ok Eval) = Unit {0}
-IsPlain (Ok Check) = Unit {0}
-IsPlain (Ok (Run spec)) = spec.workers ≡ 1
+-- the words mean no command, or one that needs no threads
+abbrev pub ArePlain : List (List ℕ) → Type 0
+ArePlain words = IfOk (meaning_of words) IsPlain

@@ -1,26 +1,14 @@
 //! The top call: the words and the bytes that a source has left go in, a text goes to a sink, and a status comes back.
-//! It stands on the public calls of all crates below.
-//! The layer above uses: what the sink gains and the status are what `specs/Answer.antt` gives.
+//! It stands on `tool_commands` and `tool_texts`.
+//! The layer above uses: what the sink gains and the status are those of an answer of `specs/Answer.antt`.
 #![tactic(auto)]
 
-mod asked;
-mod bundle;
-mod check;
-mod command;
-mod eval;
-mod json;
 mod law;
-mod lines;
-mod output;
-mod play;
-mod refusal;
-mod rejection;
-mod reply;
-mod run;
-mod start;
-mod status;
-mod stop;
+mod perform;
+mod prepare;
+mod tool;
+mod write;
 
-pub use command::{is_plain, run_plain, run_tool};
 pub use law::one_answer;
-pub use status::Status;
+pub use tool::{is_plain, run_plain, run_tool};
+pub use tool_texts::Status;

@@ -3,7 +3,8 @@ use Rattle.std.proofs.Common.{◌≡◌, ℕ, ◌≤◌, ◌&&◌, Bool, true, f
 use Rattle.std.specs.Prelude.{◌%◌, ◌==◌, ◌+◌, ◌*◌, nat_lt, IfOk, IfSome, length, option_and_then, option_map, position, unwrap_or, slice_index_or, if◌then◌else◌, find, ◌∷◌, []}
 use Rattle.std.specs.Str.{bytes_eq}
 use Rattle.std.proofs.lemmas.Bool.{and_parts, leb-true}
-use Rattle.pop_lines.specs.Numbers.{number_of, number_within}
+use Rattle.pop_lines.specs.Numbers.{number_of}
+use Rattle.pop_words.specs.declared.spec.TheConstants.{MEETING_LIMIT}
 use Rattle.pop_words.specs.declared.spec.RunSpec.{RunSpec}
 use Rattle.pop_words.specs.declared.options.RunOption.{RunOption}
 use Rattle.pop_words.specs.declared.options.RunOption.TheVariants.{Workers, Shards, Turns, Seed}
@@ -84,7 +85,7 @@ behind_within : (form : Option Form) (words : List (List ℕ)) → IfSome form F
 behind_within None words is = tt
 behind_within (Some (Alone command)) words is = alone_within command words is
 behind_within (Some WithOptions) words is =
-    run_limits (options_meaning words) (fault_within (first_fault words) (run_with words) (run_within words (length words % 2 == 1) (nat_lt 2000000 ((spec_of words).workers * (spec_of words).turns))))
+    run_limits (options_meaning words) (fault_within (first_fault words) (run_with words) (run_within words (length words % 2 == 1) (nat_lt MEETING_LIMIT ((spec_of words).workers * (spec_of words).turns))))
 
 -- whatever words mean, the numbers are within their limits
 pub meaning_limits : (words : List (List ℕ)) → IfOk (meaning_of words) HasLimits

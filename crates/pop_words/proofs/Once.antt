@@ -1,6 +1,8 @@
--- Where a text is cut once.
-use Rattle.std.proofs.Common.{◌≡◌, ◌≢◌, ℕ, zero, suc, ◌+◌, ◌<◌, List, [], ◌∷◌, length, get_or, take, drop, Option, Some, None, refl, sym, ◌∙◌, Result, arith, add-one}
-use Rattle.std.proofs.lemmas.Bool.{eq-eqb, ne_eqb}
+-- A text that is cut once, and the counts that a word enters.
+use Rattle.std.proofs.Common.{◌≡◌, ℕ, ◌+◌, ◌<◌, ◌⊎◌, inl, inr, eqb, true, false, ◌++◌, ap, List, [], ◌∷◌, length, get_or, Option, Some, None, refl, sym, ◌∙◌, Result, arith}
+use Rattle.std.specs.List.{onto_first}
+use Rattle.std.proofs.lemmas.Bool.{eq-eqb}
+use Rattle.std.proofs.lemmas.List.Splits.{slice_split-cons_yes, slice_split-cons_no, length-slice_split}
 use Rattle.pop_lines.specs.Lines.{pieces, IsCut}
 use Rattle.pop_words.specs.Counts.{split_once, with_word, with_words}
 use Rattle.pop_words.specs.Walk.{words_after, without_count}
@@ -8,17 +10,40 @@ use Rattle.std.specs.Prelude.{is_none, slice_set, map, if◌then◌else◌}
 use Rattle.std.proofs.lemmas.List.Sums.{sum_by-set, sum_by-cons}
 use Rattle.pop_words.proofs.Cuts.{words-cut}
 
-found : (c : ℕ) (xs : List ℕ) (i : ℕ) → i < length xs → ((k : ℕ) → k < i → get_or xs k 0 ≢ c) → get_or xs i 0 ≡ c → split_once c xs ≡ Some (take i xs, drop (suc i) xs)
-found c [] i lt before is = absurd (omega arith)
-found c (x ∷ xs) zero lt before is = rw (eq-eqb x c is) refl
-found c (x ∷ xs) (suc i) lt before is = rw (ne_eqb x c (before 0 (omega arith)), found c xs i (omega arith) (λ k h. before (suc k) (omega arith)) is) refl
+next_piece : (x : ℕ) (ps qs : List (List ℕ)) (y : ℕ) (ys : List ℕ) → 0 < length ps → onto_first x ps ≡ (y ∷ ys) ∷ qs → ps ≡ ys ∷ qs
+next_piece x [] qs y ys some is = absurd (omega arith)
+next_piece x (p ∷ ps) qs y ys some is = cc
 
-pub split_once-found : (c : ℕ) (xs : List ℕ) (i : ℕ) → i < length xs → ((k : ℕ) → k < i → get_or xs k 0 ≢ c) → get_or xs i 0 ≡ c → split_once c xs ≡ Some (take i xs, drop (i + 1) xs)
-split_once-found c xs i lt before is = rw add-one (found c xs i lt before is)
+bool_cases_eqb : (x c : ℕ) → (eqb x c ≡ true) ⊎ (eqb x c ≡ false)
+bool_cases_eqb x c = elim (eqb x c) as (λ b. (b ≡ true) ⊎ (b ≡ false)) [ true ↦ inl refl | false ↦ inr refl ]
 
-pub split_once-none : (c : ℕ) (xs : List ℕ) → ((k : ℕ) → k < length xs → get_or xs k 0 ≢ c) → split_once c xs ≡ None
-split_once-none c [] before = refl
-split_once-none c (x ∷ xs) before = rw (ne_eqb x c (before 0 (omega arith)), split_once-none c xs (λ k h. before (suc k) (omega arith))) refl
+module _ (c : ℕ) where
+  -- a text that is cut at a byte
+  pub split_once_cut : (xs piece rest : List ℕ) → IsCut c xs piece (Some rest) → split_once c xs ≡ Some (piece, rest)
+  split_once_cut [] [] rest cut = absurd (cc cut.1)
+  split_once_cut [] (y ∷ ys) rest cut = absurd (cc cut.1)
+  split_once_cut (x ∷ xs) [] rest cut = let e : x ≡ c = cc cut.1 in let f : xs ≡ rest = cc cut.1 in rw (eq-eqb x c e, f) refl
+  split_once_cut (x ∷ xs) (y ∷ ys) rest cut =
+      let same : x ≡ y = cc cut.1 in
+      let more : xs ≡ ys ++ c ∷ rest = cc cut.1 in
+      elim (bool_cases_eqb x c) [
+        | inl e ↦ absurd (let none : [] ∷ pieces c xs ≡ (y ∷ ys) ∷ pieces c rest = sym (slice_split-cons_yes (λ b. eqb b c) x xs e) ∙ cut.0 in cc none)
+        | inr e ↦ let next : pieces c xs ≡ ys ∷ pieces c rest = next_piece x (pieces c xs) (pieces c rest) y ys (omega (arith, length-slice_split (λ b. eqb b c) xs)) (sym (slice_split-cons_no (λ b. eqb b c) x xs e) ∙ cut.0) in
+            rw (e, split_once_cut xs ys rest (next, more), same) refl
+      ]
+
+  one_piece : (x : ℕ) (ps : List (List ℕ)) (piece : List ℕ) → 0 < length ps → onto_first x ps ≡ piece ∷ [] → (p : List ℕ) × (ps ≡ p ∷ [])
+  one_piece x [] piece some is = absurd (omega arith)
+  one_piece x (p ∷ ps) piece some is = (p, cc)
+
+  -- a text without the byte
+  pub split_once_whole : (xs piece : List ℕ) → pieces c xs ≡ piece ∷ [] → split_once c xs ≡ None
+  split_once_whole [] piece cut = refl
+  split_once_whole (x ∷ xs) piece cut = elim (bool_cases_eqb x c) [
+    | inl e ↦ absurd (let two : [] ∷ pieces c xs ≡ piece ∷ [] = sym (slice_split-cons_yes (λ b. eqb b c) x xs e) ∙ cut in omega (arith, ap length two, length-slice_split (λ b. eqb b c) xs))
+    | inr e ↦ let next = one_piece x (pieces c xs) piece (omega (arith, length-slice_split (λ b. eqb b c) xs)) (sym (slice_split-cons_no (λ b. eqb b c) x xs e) ∙ cut) in
+        rw (e, split_once_whole xs next.0 next.1) refl
+  ]
 
 pub goes_on : (names : List (List ℕ)) (found more : List (Option ℕ)) (at : ℕ) (bytes word : List ℕ) (rest : Option (List ℕ)) (total : Result (List (Option ℕ)) ℕ) → IsCut 32 bytes word rest → with_word names found word ≡ Some more
     → with_words names found at (pieces 32 bytes) ≡ total → with_words names more (at + 1) (words_after rest) ≡ total

@@ -1,7 +1,9 @@
 -- Crowd lines: `crowd`, and words `name=count` behind single spaces.
-use Rattle.std.specs.Prelude.{◌≡◌, ℕ, ◌+◌, ◌==◌, List, [], ◌∷◌, codes, map, Option, Some, None, if◌then◌else◌, option_and_then, option_map, unwrap_or, is_some, position, Result, Ok, Err}
+use Rattle.std.specs.Prelude.{ℕ, ◌+◌, ◌==◌, List, [], ◌∷◌, codes, map, Option, Some, None, if◌then◌else◌, option_and_then, option_map}
+use Rattle.std.specs.Prelude.{unwrap_or, is_some, position, Result, Ok, Err}
 use Rattle.std.specs.List.{slice_index_or, slice_set}
 use Rattle.std.specs.Str.{bytes_eq}
+use Rattle.pop_io.specs.Gives.{Gives}
 use Rattle.pop_lines.specs.Lines.{pieces}
 use Rattle.pop_lines.specs.Numbers.{small_number_of}
 use Rattle.pop_words.specs.declared.counts.CountFault.{CountFault}
@@ -14,7 +16,10 @@ split_once c (x ∷ xs) = if x == c then Some ([], xs) else option_map (λ p. (x
 
 -- a word `name=count`: the number of the variable, and a count below 2 ^ 64
 abbrev pub entry_of : List (List ℕ) → List ℕ → Option (ℕ × ℕ)
-entry_of names word = option_and_then (λ parts. option_and_then (λ variable. option_map (λ count. (variable, count)) (small_number_of parts.1)) (position (bytes_eq parts.0) names)) (split_once 61 word)
+entry_of names word =
+    option_and_then
+    (λ parts. option_and_then (λ variable. option_map (λ count. (variable, count)) (small_number_of parts.1)) (position (bytes_eq parts.0) names))
+    (split_once 61 word)
 
 -- the counts with one more, where its variable has none yet
 abbrev pub with_entry : List (Option ℕ) → ℕ × ℕ → Option (List (Option ℕ))
@@ -43,8 +48,11 @@ with_zeros (Err word) = Err word
 unfoldable pub counts_of : List (List ℕ) → List ℕ → Result (List ℕ) ℕ
 counts_of names line = with_zeros (counts_behind names (pieces 32 line))
 
--- What a function returned is what was read, unless memory ran out.
+-- the bad word, unless out of memory
+abbrev pub bad_word_of : CountFault → Option ℕ
+bad_word_of NoMemory = None
+bad_word_of (Count word) = Some word
+
+-- what a function returned is what was read, unless out of memory
 abbrev pub Counted : {A : Type 0} → Result A CountFault → Result A ℕ → Type 0
-Counted (Ok counts) read = read ≡ Ok counts
-Counted (Err NoMemory) read = Unit {0}
-Counted (Err (Count word)) read = read ≡ Err word
+Counted result read = Gives bad_word_of (λ counts. counts) result read

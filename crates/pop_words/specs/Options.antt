@@ -1,10 +1,13 @@
 -- The options of `run`, in any order and each at most once.
-use Rattle.std.specs.Prelude.{ℕ, ◌+◌, ◌*◌, ◌-◌, ◌≤◌, ◌%◌, ◌==◌, nat_lt, List, [], ◌∷◌, length, take, codes, Option, Some, None, is_some, option_map, option_and_then, unwrap_or, find, position, slice_index_or, if◌then◌else◌, Result, Ok, Err}
+use Rattle.std.specs.Prelude.{ℕ, ◌+◌, ◌*◌, ◌-◌, ◌≤◌, ◌%◌, ◌==◌, nat_lt, List, [], ◌∷◌, length, take, codes, Option, Some, None, is_some}
+use Rattle.std.specs.Prelude.{option_map, option_and_then, unwrap_or, find, position, slice_index_or, if◌then◌else◌, Result, Ok, Err}
 use Rattle.std.specs.List.{list_any, range_with_len}
 use Rattle.std.specs.Str.{bytes_eq}
 use Rattle.pop_lines.specs.Numbers.{number_within}
 use Rattle.pop_words.specs.declared.options.RunOption.{RunOption}
 use Rattle.pop_words.specs.declared.options.RunOption.TheVariants.{Workers, Shards, Turns, Seed}
+use Rattle.pop_io.specs.declared.gate.TheConstants.{WORKER_LIMIT, SHARD_LIMIT}
+use Rattle.pop_words.specs.declared.spec.TheConstants.{TURN_LIMIT, MEETING_LIMIT, SEED_LIMIT}
 use Rattle.pop_words.specs.declared.spec.RunSpec.{RunSpec}
 use Rattle.pop_words.specs.declared.command.UsageWhy.{UsageWhy}
 use Rattle.pop_words.specs.declared.command.UsageWhy.TheVariants.{Missing, Unknown, Twice, Value, Product}
@@ -16,7 +19,7 @@ name_of Shards = codes "--shards"
 name_of Turns = codes "--turns"
 name_of Seed = codes "--seed"
 
--- the least and the greatest number behind an option, and the one where the option isn't given
+-- the least and the greatest number behind an option, and the one if the option isn't given
 abbrev pub least_of : RunOption → ℕ
 least_of Workers = 1
 least_of Shards = 1
@@ -24,10 +27,10 @@ least_of Turns = 0
 least_of Seed = 0
 
 abbrev pub most_of : RunOption → ℕ
-most_of Workers = 64
-most_of Shards = 1024
-most_of Turns = 1000000
-most_of Seed = 9223372036854775807
+most_of Workers = WORKER_LIMIT
+most_of Shards = SHARD_LIMIT
+most_of Turns = TURN_LIMIT
+most_of Seed = SEED_LIMIT
 
 abbrev pub default_of : RunOption → ℕ
 default_of Workers = 1
@@ -73,7 +76,9 @@ first_fault words = first_given (fault_with_place words) (range_with_len 0 (leng
 -- the number of an option: the one behind its name, or its default
 abbrev pub value_of : List (List ℕ) → RunOption → ℕ
 value_of words option =
-    unwrap_or (option_and_then (λ i. number_behind option (slice_index_or words (i + 1) [])) (position (λ word. bytes_eq word (name_of option)) words)) (default_of option)
+    unwrap_or
+    (option_and_then (λ i. number_behind option (slice_index_or words (i + 1) [])) (position (λ word. bytes_eq word (name_of option)) words))
+    (default_of option)
 
 abbrev pub spec_of : List (List ℕ) → RunSpec
 spec_of words =
@@ -88,12 +93,12 @@ spec_of words =
 abbrev pub bad_at : {A : Type 0} → ℕ → UsageWhy → Result A Usage
 bad_at word why = Err (record { word = word; why = why })
 
--- the run that options without a fault ask for, where the last one has its number, and workers times turns are at most 2,000,000
+-- the run that options without a fault ask for, where the last one has its number, and workers times turns are within their limit
 abbrev pub run_with : List (List ℕ) → Result RunSpec Usage
 run_with words =
     if length words % 2 == 1
     then bad_at (length words + 1) Missing
-    else (if nat_lt 2000000 ((spec_of words).workers * (spec_of words).turns) then bad_at (length words + 1) Product else Ok (spec_of words))
+    else (if nat_lt MEETING_LIMIT ((spec_of words).workers * (spec_of words).turns) then bad_at (length words + 1) Product else Ok (spec_of words))
 
 abbrev pub or_fault : Option (ℕ × UsageWhy) → Result RunSpec Usage → Result RunSpec Usage
 or_fault None run = run

@@ -1,8 +1,10 @@
 -- Vars lines: `vars`, and the names of the variables behind single spaces.
-use Rattle.std.specs.Prelude.{◌≡◌, ◌≤◌, ℕ, Bool, true, ◌&&◌, not, nat_le, List, [], ◌∷◌, length, codes, Option, Some, None, Result, Ok, Err, if◌then◌else◌}
+use Rattle.std.specs.Prelude.{◌≡◌, ◌≤◌, ℕ, Bool, true, ◌&&◌, not, nat_le, List, [], ◌∷◌, length, codes, Option, Some, None, Result, Ok, Err}
+use Rattle.std.specs.Prelude.{if◌then◌else◌}
 use Rattle.std.specs.List.{list_all, list_any}
 use Rattle.std.specs.Str.{bytes_eq}
 use Rattle.pop_io.specs.Names.{is_variable_name, AreNames}
+use Rattle.pop_io.specs.declared.names.TheConstants.{VARIABLE_LIMIT}
 use Rattle.pop_lines.specs.Lines.{pieces}
 use Rattle.pop_words.specs.declared.vars.VarsFault.{VarsFault}
 use Rattle.pop_words.specs.declared.vars.VarsFault.TheVariants.{Form, NoMemory}
@@ -12,9 +14,9 @@ abbrev pub are_distinct : List (List ℕ) → Bool
 are_distinct [] = true
 are_distinct (name ∷ names) = not (list_any (bytes_eq name) names) && are_distinct names
 
--- 1 to 16 distinct names of variables
+-- 1 to VARIABLE_LIMIT distinct names of variables
 abbrev pub are_variables : List (List ℕ) → Bool
-are_variables names = (nat_le 1 (length names) && nat_le (length names) 16) && (list_all is_variable_name names && are_distinct names)
+are_variables names = (nat_le 1 (length names) && nat_le (length names) VARIABLE_LIMIT) && (list_all is_variable_name names && are_distinct names)
 
 -- the words behind the first, which is `vars`
 abbrev pub behind_vars : List (List ℕ) → Option (List (List ℕ))
@@ -25,7 +27,7 @@ behind_vars (first ∷ names) = if bytes_eq first (codes "vars") && are_variable
 unfoldable pub vars_of : List ℕ → Option (List (List ℕ))
 vars_of line = behind_vars (pieces 32 line)
 
--- What a function returned is what the line says, unless memory ran out.
+-- what a function returned is what the line says, unless out of memory
 abbrev pub Named : Result (List (List ℕ)) VarsFault → Option (List (List ℕ)) → Type 0
 Named (Ok names) read = read ≡ Some names
 Named (Err Form) read = read ≡ None
@@ -34,5 +36,5 @@ Named (Err NoMemory) read = Unit {0}
 -- the names of a net's or a predicate's variables
 pub record AreVariables (names : List (List ℕ)) : Type 0 where
   pub some : 1 ≤ length names
-  pub few : length names ≤ 16
+  pub few : length names ≤ VARIABLE_LIMIT
   pub formed : AreNames is_variable_name names

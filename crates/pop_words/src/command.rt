@@ -19,6 +19,7 @@ pub struct Usage {
     pub why: UsageWhy,
 }
 
+/// What is wrong with a word.
 #[derive(Clone, Copy, Debug, PartialEq, Eq)]
 pub enum UsageWhy {
     /// A word is wanted after the last one.
@@ -27,7 +28,7 @@ pub enum UsageWhy {
     Unknown,
     /// The option came before.
     Twice,
-    /// The number is out of form or limits.
+    /// The number is malformed or out of its limits.
     Value,
     /// All words were read, and two numbers are too great together.
     Product,

@@ -7,7 +7,7 @@ ghost use Rattle.pop_words.specs.Vars.{AreVariables};
 ghost use Rattle.pop_words.specs.Counts.{split_once, entry_of, with_entry, with_word, with_words, counts_of, Counted};
 ghost use Rattle.pop_words.specs.Walk.{words_after, without_count};
 
-use pop_io::{List, Text};
+use pop_io::{List, Text, VARIABLE_LIMIT, place_of};
 use pop_lines::{cut, small_number};
 use std::alloc::{AllocError, AllocFailed, Global};
 
@@ -16,6 +16,7 @@ use std::alloc::{AllocError, AllocFailed, Global};
 pub enum CountFault {
     /// The first word of the line that breaks its form, counted from 0.
     Count(u32),
+    /// Out of memory.
     NoMemory,
 }
 
@@ -62,7 +63,7 @@ fn counts_behind(
     names: &[Text],
     words: Option<&[u8]>,
 ) -> Result<List<Option<u64>>, CountFault>
-    requires few { length names.now ≤ 16 }
+    requires few { length names.now ≤ VARIABLE_LIMIT }
     ensures counts { Counted result (with_words names.now (map (λ _. None) names.now) 1 (words_after (option_copied words.entry))) }
     ensures len { IfOk result (λ found. length found ≡ length names.now) }
 {
@@ -81,7 +82,7 @@ fn counts_behind(
 }
 
 /// Enters a word's count. A bad word changes nothing.
-#[tactic(auto, unfolding(crate::specs::Counts::with_word), using(crate::proofs::Once::one_fewer))]
+#[tactic(auto, unfolding(crate::specs::Counts::with_word), using(crate::proofs::Once::one_fewer, crate::proofs::Once::split_once_cut, crate::proofs::Once::split_once_whole))]
 fn enter(names: &[Text], found: &mut Vec<Option<u64>>, word: &[u8]) -> bool
     requires { length found.old.items ≡ length names.now }
     ensures word { MatchBool result (with_word names.now found.old.items word.now ≡ Some found.new.items)
@@ -90,7 +91,7 @@ fn enter(names: &[Text], found: &mut Vec<Option<u64>>, word: &[u8]) -> bool
     ensures fewer { result ≡ true → without_count found.new.items + 1 ≡ without_count found.old.items }
     ensures len { length found.new.items ≡ length found.old.items }
 {
-    let Some((name, count)) = split_at_byte(word, b'=') else {
+    let (name, Some(count)) = cut(word, b'=') else {
         return false;
     };
     let Some(variable) = place_of(names, name) else {
@@ -104,23 +105,6 @@ fn enter(names: &[Text], found: &mut Vec<Option<u64>>, word: &[u8]) -> bool
     }
     found[variable] = Some(count);
     true
-}
-
-fn split_at_byte(bytes: &[u8], byte: u8) -> Option<(&[u8], &[u8])>
-    ensures { option_map (λ p. (p.0.now, p.1.now)) result ≡ split_once byte bytes.now }
-{
-    for (i, b) in bytes.iter().enumerate() {
-        if *b == byte {
-            return Some((&bytes[..i], &bytes[i + 1..]));
-        }
-    }
-    None
-}
-
-fn place_of(names: &[Text], name: &[u8]) -> Option<usize>
-    ensures { result ≡ position (bytes_eq name.now) names.now }
-{
-    names.iter().position(|t| name == t.as_str().as_bytes())
 }
 
 fn none_of(alloc: Global, names: &[Text]) -> Result<Vec<Option<u64>>, AllocError>

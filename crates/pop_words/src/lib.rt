@@ -14,9 +14,6 @@ mod words;
 pub use command::{Command, Usage, UsageWhy};
 pub use counts::{CountFault, read_counts};
 pub use meeting::{MeetingFault, read_meeting};
-pub use spec::RunSpec;
+pub use spec::{MEETING_LIMIT, RunSpec, SEED_LIMIT, TURN_LIMIT};
 pub use vars::{VarsFault, read_vars};
 pub use words::read_words;
-
-#[cfg(test)]
-mod tests;

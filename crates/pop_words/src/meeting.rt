@@ -15,7 +15,7 @@ pub enum MeetingFault {
     Agents,
 }
 
-/// The two agents that a line names. It takes no memory.
+/// The two agents that a line names. Allocates nothing.
 #[tactic(auto, unfolding(crate::specs::Meetings::meeting_of))]
 pub fn read_meeting(line: &[u8], agents: u32) -> Result<(u32, u32), MeetingFault>
     ensures meeting { result ≡ meeting_of agents line.now }

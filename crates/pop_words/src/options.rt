@@ -3,14 +3,13 @@
 ghost use Rattle.std.specs.Prelude.{◌≡◌, ◌<◌, ◌≤◌, ◌^◌, ◌+◌, ◌*◌, length, map, Some, IfSome, IfOk, position};
 ghost use Rattle.std.specs.List.{list_any};
 ghost use Rattle.std.specs.Str.{bytes_eq};
-ghost use Rattle.pop_words.specs.Options.{IsWithin, IsWithinLimits, word_fault, name_fault, number_fault, first_fault, options_meaning, spec_of, value_of};
+ghost use Rattle.pop_words.specs.Options.{IsWithin, IsWithinLimits, name_of, value_of, spec_of, options_meaning};
+ghost use Rattle.pop_words.specs.Options.{word_fault, name_fault, number_fault, first_fault};
 
 use crate::command::{Usage, UsageWhy};
-use crate::spec::RunSpec;
+use crate::spec::{MEETING_LIMIT, RunSpec, SEED_LIMIT, TURN_LIMIT};
+use pop_io::{SHARD_LIMIT, WORKER_LIMIT};
 use pop_lines::number_within;
-
-/// Workers times turns of a run.
-const MEETING_LIMIT: u64 = 2_000_000;
 
 /// An option of `run`.
 #[derive(Clone, Copy, Debug, PartialEq, Eq)]
@@ -48,15 +47,15 @@ impl RunOption {
         }
     }
 
-    /// The least and the greatest number, and the one that stands where the option isn't given.
+    /// The least and the greatest number, and the one that stands if the option isn't given.
     fn numbers(self) -> (u64, u64, u64)
         ensures { result ≡ (least_of self, most_of self, default_of self) }
     {
         match self {
-            RunOption::Workers => (1, 64, 1),
-            RunOption::Shards => (1, 1_024, 16),
-            RunOption::Turns => (0, 1_000_000, 10_000),
-            RunOption::Seed => (0, 9_223_372_036_854_775_807, 0),
+            RunOption::Workers => (1, u64::from(WORKER_LIMIT), 1),
+            RunOption::Shards => (1, u64::from(SHARD_LIMIT), 16),
+            RunOption::Turns => (0, TURN_LIMIT, 10_000),
+            RunOption::Seed => (0, SEED_LIMIT, 0),
         }
     }
 
@@ -129,21 +128,22 @@ fn fault_of_name(before: &[&str], word: &str) -> Option<UsageWhy>
     if RunOption::named(word).is_none() {
         return Some(UsageWhy::Unknown);
     }
-    if is_among(before, word) {
+    if has_word(before, word) {
         return Some(UsageWhy::Twice);
     }
     None
 }
 
-fn is_among(words: &[&str], word: &str) -> bool
+fn has_word(words: &[&str], word: &str) -> bool
     ensures { result ≡ list_any (λ other. bytes_eq word.now other.now) words.now }
 {
     words.iter().any(|other| word == *other)
 }
 
-fn place_of(words: &[&str], name: &str) -> Option<usize>
-    ensures { result ≡ position (λ word. bytes_eq word.now name.now) words.now }
+fn place_of_option(words: &[&str], option: RunOption) -> Option<usize>
+    ensures { result ≡ position (λ word. bytes_eq word.now (name_of option)) words.now }
 {
+    let name = option.name();
     words.iter().position(|word| *word == name)
 }
 
@@ -161,7 +161,7 @@ fn fault_of_number(option: RunOption, word: &str) -> Option<UsageWhy>
 fn spec_in(words: &[&str]) -> RunSpec
     ensures spec { result ≡ spec_of (map (λ w. w.now) words.now) }
     ensures limits { IsWithinLimits result }
-    ensures few { result.workers * result.turns ≤ 64000000 }
+    ensures few { result.workers * result.turns ≤ WORKER_LIMIT * TURN_LIMIT }
 {
     RunSpec {
         workers: value_in(words, RunOption::Workers) as u16,
@@ -177,9 +177,8 @@ fn value_in(words: &[&str], option: RunOption) -> u64
     ensures value { result ≡ value_of (map (λ w. w.now) words.now) option }
     ensures within { IsWithin option result }
 {
-    let name = option.name();
     let (_least, _most, default) = option.numbers();
-    match place_of(words, name) {
+    match place_of_option(words, option) {
         Some(at) if at + 1 < words.len() => option.number_of(words[at + 1]).unwrap_or(default),
         _ => default,
     }

@@ -1,4 +1,13 @@
-//! How a run is made.
+//! How a run is made. The limits of workers and shards are those of `pop_io`.
+
+/// The greatest number of turns of each worker.
+pub const TURN_LIMIT: u64 = 1_000_000;
+
+/// The greatest number of workers times turns.
+pub const MEETING_LIMIT: u64 = 2_000_000;
+
+/// The greatest seed, 2^63 - 1.
+pub const SEED_LIMIT: u64 = 9_223_372_036_854_775_807;
 
 /// The options of a run: how many workers and shards, how many meetings each worker may make at
 /// most, and the seed of their picks.

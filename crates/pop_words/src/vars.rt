@@ -2,24 +2,20 @@
 
 ghost use Rattle.std.specs.Prelude.{◌≡◌, ◌∷◌, ◌++◌, [], Bool, true, false, nat_le, nat_lt, not, ◌&&◌, length, IfOk, OnOk, Ok, Err, Option, MatchOption};
 ghost use Rattle.std.specs.Option.{option_copied};
-ghost use Rattle.std.specs.List.{list_any};
-ghost use Rattle.std.specs.Str.{bytes_eq};
 ghost use Rattle.pop_io.specs.Names.{is_variable_name as variable_name};
 ghost use Rattle.pop_words.specs.Vars.{vars_of, Named, AreVariables};
 ghost use Rattle.pop_words.specs.Walk.{words_after, can_join, NamedBehind};
 
-use pop_io::{List, Text, is_variable_name};
+use pop_io::{List, Text, VARIABLE_LIMIT, is_among, is_variable_name};
 use pop_lines::cut;
 use std::alloc::{AllocError, AllocFailed, Global};
-
-/// The greatest number of variables.
-const VARS_LIMIT: usize = 16;
 
 /// Why a vars line was not read.
 #[derive(Clone, Copy, Debug, PartialEq, Eq)]
 pub enum VarsFault {
-    /// It isn't `vars` and 1 to 16 distinct names, one space before each.
+    /// It isn't `vars` and 1 to `VARIABLE_LIMIT` distinct names, one space before each.
     Form,
+    /// Out of memory.
     NoMemory,
 }
 
@@ -57,7 +53,7 @@ pub fn read_vars(alloc: Global, line: &[u8]) -> Result<List<Text>, VarsFault>
     names_behind(alloc, rest)
 }
 
-/// The names, where all words are names and there are enough of them.
+/// The names, if all words are names and there is at least one.
 fn names_behind(alloc: Global, words: Option<&[u8]>) -> Result<List<Text>, VarsFault>
     ensures { NamedBehind result (words_after (option_copied words.entry)) }
 {
@@ -78,19 +74,19 @@ fn names_behind(alloc: Global, words: Option<&[u8]>) -> Result<List<Text>, VarsF
     Ok(List::from_vec(names))
 }
 
-/// The word as a text, where it is a further name.
+/// The word as a text, if it is a further name.
 fn further_name<'w>(names: &[Text], word: &'w [u8]) -> Option<&'w str>
     ensures { MatchOption result (can_join names.now word.now ≡ false) (λ name. (name.now ≡ word.now) × (can_join names.now word.now ≡ true)) }
 {
     let name = name_of(word)?;
-    if names.len() < VARS_LIMIT && !is_among(names, word) {
+    if names.len() < VARIABLE_LIMIT && !is_among(names, word) {
         Some(name)
     } else {
         None
     }
 }
 
-/// The word as a text, where it has the form of a name.
+/// The word as a text, if it has the form of a name.
 fn name_of(word: &[u8]) -> Option<&str>
     ensures { MatchOption result (variable_name word.now ≡ false) (λ name. (name.now ≡ word.now) × (variable_name word.now ≡ true)) }
 {
@@ -102,10 +98,4 @@ fn name_of(word: &[u8]) -> Option<&str>
     } else {
         None
     }
-}
-
-fn is_among(names: &[Text], word: &[u8]) -> bool
-    ensures { result ≡ list_any (bytes_eq word.now) names.now }
-{
-    names.iter().any(|name| word == name.as_str().as_bytes())
 }

@@ -15,7 +15,7 @@ pub(crate) enum Form {
     WithOptions,
 }
 
-/// The command that the words ask for. It takes no memory.
+/// The command that the words ask for. Allocates nothing.
 pub fn read_words(words: &[&str]) -> Result<Command, Usage>
     requires { length words.now < 2 ^ 32 }
     ensures meaning { result ≡ meaning_of (map (λ w. w.now) words.now) }

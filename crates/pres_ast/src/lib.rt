@@ -3,12 +3,11 @@
 //! The layer above uses: `eval` is the predicate's value, `same` is equality, and `copy` is equal.
 #![tactic(auto)]
 
+mod limits;
 mod pred;
 mod tree;
 mod value;
 
+pub use limits::{BOUND_LIMIT, COEFFICIENT_LIMIT, MODULUS_LIMIT, WEIGHT_LIMIT};
 pub use pred::{Pred, same};
 pub use tree::Tree;
-
-#[cfg(test)]
-mod tests;

@@ -8,8 +8,7 @@ use pop_io::NoMemory;
 use std::alloc::Global;
 use std::marker::Model;
 
-/// A tree over 1 to 16 variables: coefficients at most 2^31 in size, bounds at most 2^40, moduli in 2..=200, and at
-/// most 64 nodes other than `Less`.
+/// A tree over 1 to `VARIABLE_LIMIT` variables within the other limits of this crate.
 #[derive(Drop)]
 pub struct Pred {
     vars: u16,
@@ -36,7 +35,7 @@ impl Pred {
     ghost use Rattle.pres_ast.specs.PredicateValue.{predicate_value};
     ghost use Rattle.pres_ast.specs.TreeOf.{tree_of};
 
-    /// It takes no memory.
+    /// The predicate of this tree over `vars` variables. Allocates nothing.
     pub fn new(vars: u16, tree: Tree) -> Pred
         requires { IsPred vars (tree_of tree) }
         ensures { result ≡ record { variables = vars; tree = tree_of tree } }
@@ -44,7 +43,7 @@ impl Pred {
         Pred { vars, tree }
     }
 
-    /// The number of variables.
+    /// The number of variables. Allocates nothing.
     pub fn vars(&self) -> u16
         ensures value { result ≡ self.now.variables }
         ensures limits { IsPred self.now.variables self.now.tree }
@@ -52,6 +51,7 @@ impl Pred {
         self.vars
     }
 
+    /// The tree. Allocates nothing.
     pub fn tree(&self) -> &Tree
         ensures value { tree_of result.now ≡ self.now.tree }
         ensures limits { IsPred self.now.variables self.now.tree }
@@ -59,6 +59,7 @@ impl Pred {
         &self.tree
     }
 
+    /// An equal predicate.
     pub fn copy(&self, alloc: Global) -> Result<Pred, NoMemory>
         ensures { IfOk result (λ pred. pred ≡ self.now) }
     {
@@ -66,7 +67,7 @@ impl Pred {
         Ok(Pred::new(self.vars, tree))
     }
 
-    /// The value where variable i has the count `counts[i]`. It takes no memory.
+    /// The value where variable i has the count `counts[i]`. Allocates nothing.
     pub fn eval(&self, counts: &[u64]) -> bool
         requires { length counts.now ≡ self.now.variables }
         ensures { result ≡ predicate_value self.now.tree counts.now }
@@ -75,7 +76,7 @@ impl Pred {
     }
 }
 
-/// Whether two predicates have the same number of variables and the same tree. It takes no memory.
+/// Whether two predicates have the same number of variables and the same tree. Allocates nothing.
 pub fn same(a: &Pred, b: &Pred) -> bool
     ensures { IsTrue result ↔ (a.now ≡ b.now) }
 {

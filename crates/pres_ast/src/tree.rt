@@ -19,8 +19,11 @@ pub enum Tree {
         modulus: u32,
         rest: u32,
     },
+    /// The formula is false.
     Not(Box<Tree>),
+    /// Both are true.
     And(Box<Tree>, Box<Tree>),
+    /// One of the two is true, or both.
     Or(Box<Tree>, Box<Tree>),
 }
 
@@ -28,6 +31,7 @@ impl Tree {
     ghost use Rattle.std.specs.Prelude.{◌≡◌, ◌↔◌, IfOk, IsTrue};
     ghost use Rattle.pres_ast.specs.TreeOf.{tree_of};
 
+    /// The same formula.
     pub fn copy(&self, alloc: Global) -> Result<Tree, NoMemory>
         ensures { IfOk result (λ tree. tree_of tree ≡ tree_of self.now) }
     {
@@ -61,7 +65,7 @@ impl Tree {
         })
     }
 
-    /// Whether both trees are the same formula, node by node. It takes no memory.
+    /// Whether both trees are the same formula, node by node. Allocates nothing.
     pub fn same(&self, other: &Tree) -> bool
         ensures { IsTrue result ↔ (tree_of self.now ≡ tree_of other.now) }
     {

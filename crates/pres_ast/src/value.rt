@@ -5,11 +5,13 @@ ghost use Rattle.pres_ast.specs.PredModel.{AreCoefs, HasAtoms};
 ghost use Rattle.pres_ast.specs.PredicateValue.{weighted_sum, divides, predicate_value};
 ghost use Rattle.pres_ast.specs.TreeOf.{tree_of};
 
+use crate::limits::COEFFICIENT_LIMIT;
 use crate::tree::Tree;
+use pop_io::VARIABLE_LIMIT;
 
 /// The value of a tree whose atoms are over as many variables as there are counts.
 pub(crate) fn value(tree: &Tree, counts: &[u64]) -> bool
-    requires few { length counts.now ≤ 16 }
+    requires few { length counts.now ≤ VARIABLE_LIMIT }
     requires atoms { HasAtoms (length counts.now) (tree_of tree.now) }
     ensures { result ≡ predicate_value (tree_of tree.now) counts.now }
 {
@@ -19,16 +21,16 @@ pub(crate) fn value(tree: &Tree, counts: &[u64]) -> bool
             coefs,
             modulus,
             rest,
-        } => leaves(coefs.as_slice(), counts, *modulus, *rest),
+        } => is_congruent(coefs.as_slice(), counts, *modulus, *rest),
         Tree::Not(p) => !value(p, counts),
         Tree::And(p, q) => value(p, counts) && value(q, counts),
         Tree::Or(p, q) => value(p, counts) || value(q, counts),
     }
 }
 
-// Sixteen products of at most 2^31 by 2^64 stay below 2^100, so no partial sum wraps.
+// Sixteen products of at most 2^31 by 2^64 stay below 2^100: no overflow.
 fn sum(coefs: &[i64], counts: &[u64]) -> i128
-    requires few { length counts.now ≤ 16 }
+    requires few { length counts.now ≤ VARIABLE_LIMIT }
     requires coefs { AreCoefs (length counts.now) coefs.now }
     ensures value { result ≡ weighted_sum coefs.now counts.now }
     ensures size { nat_abs result ≤ 2 ^ 99 }
@@ -41,15 +43,15 @@ fn sum(coefs: &[i64], counts: &[u64]) -> i128
 }
 
 fn product(coef: i64, count: u64) -> i128
-    requires { nat_abs coef ≤ 2 ^ 31 }
+    requires { nat_abs coef ≤ COEFFICIENT_LIMIT }
     ensures value { result ≡ coef *ℤ pos count }
     ensures size { nat_abs result ≤ 2 ^ 95 }
 {
     i128::from(coef) * i128::from(count)
 }
 
-fn leaves(coefs: &[i64], counts: &[u64], modulus: u32, rest: u32) -> bool
-    requires few { length counts.now ≤ 16 }
+fn is_congruent(coefs: &[i64], counts: &[u64], modulus: u32, rest: u32) -> bool
+    requires few { length counts.now ≤ VARIABLE_LIMIT }
     requires coefs { AreCoefs (length counts.now) coefs.now }
     requires modulus { 0 < modulus }
     ensures { result ≡ divides modulus (weighted_sum coefs.now counts.now -ℤ pos rest) }

@@ -1,11 +1,14 @@
 -- The canonical text of a predicate within the limits keeps the rules, so that it is read again.
-use Rattle.std.proofs.Common.{◌≡◌, ℕ, ◌+◌, ◌-◌, ◌^◌, ◌<◌, ◌≤◌, Bool, true, false, List, [], ◌∷◌, ◌++◌, length, get_or, All, Option, Some, None, Ok, refl, sym, ap, subst, ◌∙◌, arith, append_assoc, ℤ, pos, ◌+ℤ◌, nat_abs, codes, decimal, replicate, position}
+use Rattle.std.proofs.Common.{◌≡◌, ℕ, ◌+◌, ◌-◌, ◌<◌, ◌≤◌, Bool, true, false, List, [], ◌∷◌, ◌++◌, length, get_or, All, Option, Some, None, Ok, refl, sym, ap, subst, ◌∙◌, arith, append_assoc, ℤ, pos, ◌+ℤ◌, nat_abs, codes, decimal, replicate, position}
 use Rattle.std.specs.Prelude.{if◌then◌else◌, ◌==◌, AllPairs, ◌≢◌}
 use Rattle.std.specs.Str.{bytes_eq}
 use Rattle.std.proofs.lemmas.List.{append-nil, length-append}
 use Rattle.std.proofs.lemmas.List.Elements.{All-head, All-tail}
 use Rattle.std.proofs.lemmas.Int.{ints}
 use Rattle.std.proofs.Math.Seq.{get_or-append_seam}
+use Rattle.pres_ast.specs.declared.limits.TheConstants.{COEFFICIENT_LIMIT, WEIGHT_LIMIT}
+use Rattle.pres_read.specs.declared.read.TheConstants.{TEXT_LIMIT}
+use Rattle.pres_read.specs.declared.depth.TheConstants.{PARENTHESIS_LIMIT}
 use Rattle.pop_io.specs.Names.{is_variable_name, AreNames}
 use Rattle.pres_ast.specs.PredTree.{PredTree, LessThan, Congruent, Negation, Conjunction, Disjunction}
 use Rattle.pres_ast.specs.PredModel.{AreCoefs, HasAtoms, weight_of, IsPred}
@@ -32,54 +35,54 @@ fits-extended : (names : List (List ℕ)) (o : Option Sum) (negative : Bool) (te
 fits-extended names None negative term f t = t
 fits-extended names (Some sum) negative term f t = (f, t)
 
-abbrev Limited : List ℤ → Type 0
+abbrev pub Limited : List ℤ → Type 0
 Limited [] = Unit {0}
-Limited (a ∷ coefs) = (nat_abs a ≤ 2 ^ 31) × Limited coefs
+Limited (a ∷ coefs) = (nat_abs a ≤ COEFFICIENT_LIMIT) × Limited coefs
 
-Limited-All : (coefs : List ℤ) → All (λ a. nat_abs a ≤ 2 ^ 31) coefs → Limited coefs
+pub Limited-All : (coefs : List ℤ) → All (λ a. nat_abs a ≤ COEFFICIENT_LIMIT) coefs → Limited coefs
 Limited-All [] h = tt
-Limited-All (a ∷ coefs) h = (All-head (λ z. nat_abs z ≤ 2 ^ 31) a coefs h, Limited-All coefs (All-tail (λ z. nat_abs z ≤ 2 ^ 31) a coefs h))
+Limited-All (a ∷ coefs) h = (All-head (λ z. nat_abs z ≤ COEFFICIENT_LIMIT) a coefs h, Limited-All coefs (All-tail (λ z. nat_abs z ≤ COEFFICIENT_LIMIT) a coefs h))
 
-coef_fits : (front after : List ℤ) (n : ℕ) (a : ℤ) → n ≡ length front → nat_abs a ≤ 2 ^ 31 → CoefFits (front ++ pos 0 ∷ after) (Some n) a
-coef_fits front after n a e h =
-    let old : get_or (front ++ pos 0 ∷ after) n (pos 0) ≡ pos 0 = ap (λ k. get_or (front ++ pos 0 ∷ after) k (pos 0)) e ∙ get_or-append_seam front (pos 0) after (pos 0) in
-    let new : get_or (front ++ pos 0 ∷ after) n (pos 0) +ℤ a ≡ a = ap (λ y. y +ℤ a) old ∙ (let same : pos 0 +ℤ a ≡ a = omega (arith, ints) in same) in
-    subst (λ (z : ℤ). nat_abs z ≤ 2 ^ 31) (sym new) h
+coef_fits : (prefix after : List ℤ) (n : ℕ) (a : ℤ) → n ≡ length prefix → nat_abs a ≤ COEFFICIENT_LIMIT → CoefFits (prefix ++ pos 0 ∷ after) (Some n) a
+coef_fits prefix after n a e h =
+    let old : get_or (prefix ++ pos 0 ∷ after) n (pos 0) ≡ pos 0 = ap (λ k. get_or (prefix ++ pos 0 ∷ after) k (pos 0)) e ∙ get_or-append_seam prefix (pos 0) after (pos 0) in
+    let new : get_or (prefix ++ pos 0 ∷ after) n (pos 0) +ℤ a ≡ a = ap (λ y. y +ℤ a) old ∙ (let same : pos 0 +ℤ a ≡ a = omega (arith, ints) in same) in
+    subst (λ (z : ℤ). nat_abs z ≤ COEFFICIENT_LIMIT) (sym new) h
 
-term_fits : (all before names : List (List ℕ)) (name : List ℕ) (o : Option Sum) (front : List ℤ) (a : ℤ) → AllPairs ◌≢◌ all → all ≡ before ++ name ∷ names
-    → length before ≡ length front → nat_abs a ≤ 2 ^ 31 → coefs_so_far all o ≡ front ++ pos 0 ∷ replicate (length names) (pos 0)
+term_fits : (all before names : List (List ℕ)) (name : List ℕ) (o : Option Sum) (prefix : List ℤ) (a : ℤ) → AllPairs ◌≢◌ all → all ≡ before ++ name ∷ names
+    → length before ≡ length prefix → nat_abs a ≤ COEFFICIENT_LIMIT → coefs_so_far all o ≡ prefix ++ pos 0 ∷ replicate (length names) (pos 0)
     → TermFits all (coefs_so_far all o) (is_negative a) (canonical_term (nat_abs a) name)
-term_fits all before names name o front a apart e same h filled =
+term_fits all before names name o prefix a apart e same h filled =
     let number : term_number (canonical_term (nat_abs a) name) ≡ nat_abs a = number-canonical (nat_abs a) name (omega (arith, h)) in
-    let last : CoefFits (front ++ pos 0 ∷ replicate (length names) (pos 0)) (Some (length before)) a = coef_fits front (replicate (length names) (pos 0)) (length before) a same h in
-    let placed = subst (λ (i : Option ℕ). CoefFits (front ++ pos 0 ∷ replicate (length names) (pos 0)) i a) (sym (place_found all before names name apart e)) last in
-    let named = subst (λ (word : List ℕ). CoefFits (front ++ pos 0 ∷ replicate (length names) (pos 0)) (position (λ other. bytes_eq other word) all) a) (sym (name-term_by (nat_abs a == 1) (nat_abs a) name)) placed in
-    let valued = subst (λ (z : ℤ). CoefFits (front ++ pos 0 ∷ replicate (length names) (pos 0)) (position (λ other. bytes_eq other (term_name (canonical_term (nat_abs a) name))) all) z)
+    let last : CoefFits (prefix ++ pos 0 ∷ replicate (length names) (pos 0)) (Some (length before)) a = coef_fits prefix (replicate (length names) (pos 0)) (length before) a same h in
+    let placed = subst (λ (i : Option ℕ). CoefFits (prefix ++ pos 0 ∷ replicate (length names) (pos 0)) i a) (sym (place_found all before names name apart e)) last in
+    let named = subst (λ (word : List ℕ). CoefFits (prefix ++ pos 0 ∷ replicate (length names) (pos 0)) (position (bytes_eq word) all) a) (sym (name-term_by (nat_abs a == 1) (nat_abs a) name)) placed in
+    let valued = subst (λ (z : ℤ). CoefFits (prefix ++ pos 0 ∷ replicate (length names) (pos 0)) (position (bytes_eq (term_name (canonical_term (nat_abs a) name))) all) z)
     (sym (ap (signed (is_negative a)) number ∙ signed-abs a)) named in (
       omega (arith, number, h),
-      subst (λ (coefs : List ℤ). CoefFits coefs (position (λ other. bytes_eq other (term_name (canonical_term (nat_abs a) name))) all) (signed (is_negative a) (term_number (canonical_term (nat_abs a) name)))) (sym filled) valued,
+      subst (λ (coefs : List ℤ). CoefFits coefs (position (bytes_eq (term_name (canonical_term (nat_abs a) name))) all) (signed (is_negative a) (term_number (canonical_term (nat_abs a) name)))) (sym filled) valued,
     )
 
 fits_if : (names : List (List ℕ)) (c : Bool) (found later : Option Sum) → (c ≡ true → OptionFits names found) → (c ≡ false → OptionFits names later) → OptionFits names (if c then found else later)
 fits_if names true found later h g = h refl
 fits_if names false found later h g = g refl
 
-terms_fit : (all before names : List (List ℕ)) (o : Option Sum) (front coefs : List ℤ) → AllPairs ◌≢◌ all → all ≡ before ++ names
-    → length before ≡ length front → length names ≡ length coefs → Limited coefs → coefs_so_far all o ≡ front ++ replicate (length names) (pos 0)
+terms_fit : (all before names : List (List ℕ)) (o : Option Sum) (prefix coefs : List ℤ) → AllPairs ◌≢◌ all → all ≡ before ++ names
+    → length before ≡ length prefix → length names ≡ length coefs → Limited coefs → coefs_so_far all o ≡ prefix ++ replicate (length names) (pos 0)
     → OptionFits all o → OptionFits all (terms_sum o names coefs)
-terms_fit all before [] o front coefs apart e same len small h f = f
-terms_fit all before (name ∷ names) o front [] apart e same len small h f = f
-terms_fit all before (name ∷ names) o front (a ∷ coefs) apart e same len small h f =
+terms_fit all before [] o prefix coefs apart e same len small h f = f
+terms_fit all before (name ∷ names) o prefix [] apart e same len small h f = f
+terms_fit all before (name ∷ names) o prefix (a ∷ coefs) apart e same len small h f =
     let further_names : all ≡ (before ++ name ∷ []) ++ names = e ∙ sym (append_assoc before (name ∷ []) names) in
-    let longer : length (before ++ name ∷ []) ≡ length (front ++ a ∷ []) = omega (arith, length-append before (name ∷ []), length-append front (a ∷ []), same) in
+    let longer : length (before ++ name ∷ []) ≡ length (prefix ++ a ∷ []) = omega (arith, length-append before (name ∷ []), length-append prefix (a ∷ []), same) in
     let shorter : length names ≡ length coefs = omega (arith, len) in
     let here = small.0 in
     fits_if all (is_zero a) (terms_sum o names coefs) (terms_sum (Some (extended o (is_negative a) (canonical_term (nat_abs a) name))) names coefs)
-    (λ z. terms_fit all (before ++ name ∷ []) names o (front ++ a ∷ []) coefs apart further_names longer shorter small.1
-    (h ∙ ap (λ y. front ++ y ∷ replicate (length names) (pos 0)) (sym (zero_of a z)) ∙ sym (append_assoc front (a ∷ []) (replicate (length names) (pos 0)))) f)
-    (λ z. terms_fit all (before ++ name ∷ []) names (Some (extended o (is_negative a) (canonical_term (nat_abs a) name))) (front ++ a ∷ []) coefs apart further_names longer shorter small.1
-    (step_filled all before names name o front a apart e same (omega (arith, here)) h ∙ sym (append_assoc front (a ∷ []) (replicate (length names) (pos 0))))
-    (fits-extended all o (is_negative a) (canonical_term (nat_abs a) name) f (term_fits all before names name o front a apart e same here h)))
+    (λ z. terms_fit all (before ++ name ∷ []) names o (prefix ++ a ∷ []) coefs apart further_names longer shorter small.1
+    (h ∙ ap (λ y. prefix ++ y ∷ replicate (length names) (pos 0)) (sym (zero_of a z)) ∙ sym (append_assoc prefix (a ∷ []) (replicate (length names) (pos 0)))) f)
+    (λ z. terms_fit all (before ++ name ∷ []) names (Some (extended o (is_negative a) (canonical_term (nat_abs a) name))) (prefix ++ a ∷ []) coefs apart further_names longer shorter small.1
+    (step_filled all before names name o prefix a apart e same (omega (arith, here)) h ∙ sym (append_assoc prefix (a ∷ []) (replicate (length names) (pos 0))))
+    (fits-extended all o (is_negative a) (canonical_term (nat_abs a) name) f (term_fits all before names name o prefix a apart e same here h)))
 
 zero_fits : (names : List (List ℕ)) → AllPairs ◌≢◌ names → 0 < length names → TermFits names (zeros names) false (times (codes "0") (head_name names))
 zero_fits [] apart some = absurd (omega arith)
@@ -128,7 +131,7 @@ Flat-append : (ss us : List Symbol) → Flat ss → Flat us → Flat (ss ++ us)
 Flat-append [] us f g = g
 Flat-append (s ∷ ss) us f g = (f.0, f.1, Flat-append ss us f.2 g)
 
-flat_shallow : (ss rest : List Symbol) (c n : ℕ) → Flat ss → c ≤ 64 → n ≤ 64 → IsShallow (at_depth c n) rest → IsShallow (at_depth c n) (ss ++ rest)
+flat_shallow : (ss rest : List Symbol) (c n : ℕ) → Flat ss → c ≤ WEIGHT_LIMIT → n ≤ PARENTHESIS_LIMIT → IsShallow (at_depth c n) rest → IsShallow (at_depth c n) (ss ++ rest)
 flat_shallow [] rest c n f h g d = d
 flat_shallow (s ∷ ss) rest c n f h g d =
     let charge : c + charge_of s ≡ c = (let none = f.0 in omega (arith, none)) in
@@ -159,9 +162,9 @@ shallow_at : (rest : List Symbol) (c e n m : ℕ) → c ≡ e → n ≡ m → Is
 shallow_at rest c e n m p q h = subst (λ k. IsShallow (at_depth e k) rest) q (subst (λ k. IsShallow (at_depth k n) rest) p h)
 
 pair_shallow : (names : List (List ℕ)) (sign : Symbol) (p q rest : List Symbol) (c n wp wq : ℕ) → charge_of sign ≡ 1 → ((k : ℕ) → parentheses_after k sign ≡ k)
-    → c + (wp + wq + 1) ≤ 64 → n + (wp + wq + 1) ≤ 64 → IsShallow (at_depth (c + (wp + wq + 1)) n) rest
-    → ((us : List Symbol) (e k : ℕ) → e + wp ≤ 64 → k + wp ≤ 64 → IsShallow (at_depth (e + wp) k) us → IsShallow (at_depth e k) (p ++ us))
-    → ((us : List Symbol) (e k : ℕ) → e + wq ≤ 64 → k + wq ≤ 64 → IsShallow (at_depth (e + wq) k) us → IsShallow (at_depth e k) (q ++ us))
+    → c + (wp + wq + 1) ≤ WEIGHT_LIMIT → n + (wp + wq + 1) ≤ PARENTHESIS_LIMIT → IsShallow (at_depth (c + (wp + wq + 1)) n) rest
+    → ((us : List Symbol) (e k : ℕ) → e + wp ≤ WEIGHT_LIMIT → k + wp ≤ PARENTHESIS_LIMIT → IsShallow (at_depth (e + wp) k) us → IsShallow (at_depth e k) (p ++ us))
+    → ((us : List Symbol) (e k : ℕ) → e + wq ≤ WEIGHT_LIMIT → k + wq ≤ PARENTHESIS_LIMIT → IsShallow (at_depth (e + wq) k) us → IsShallow (at_depth e k) (q ++ us))
     → IsShallow (at_depth c n) (Open ∷ (p ++ (sign ∷ (q ++ (Close ∷ rest)))))
 pair_shallow names sign p q rest c n wp wq one stays h g d left right =
     let opened : parentheses_after (n + 1) sign ≡ n + 1 = stays (n + 1) in
@@ -173,7 +176,7 @@ pair_shallow names sign p q rest c n wp wq one stays h g d left right =
     let whole : IsShallow (at_depth c (n + 1)) (p ++ (sign ∷ (q ++ (Close ∷ rest)))) = left (sign ∷ (q ++ (Close ∷ rest))) c (n + 1) (omega (arith, h)) (omega (arith, g)) signed_part in
     (omega (arith, h), omega (arith, g), shallow_at (p ++ (sign ∷ (q ++ (Close ∷ rest)))) c (c + 0) (n + 1) (n + 1) (omega arith) refl whole)
 
-tree_shallow : (names : List (List ℕ)) (t : PredTree) (rest : List Symbol) (c n : ℕ) → c + weight_of t ≤ 64 → n + weight_of t ≤ 64 → IsShallow (at_depth (c + weight_of t) n) rest
+tree_shallow : (names : List (List ℕ)) (t : PredTree) (rest : List Symbol) (c n : ℕ) → c + weight_of t ≤ WEIGHT_LIMIT → n + weight_of t ≤ PARENTHESIS_LIMIT → IsShallow (at_depth (c + weight_of t) n) rest
     → IsShallow (at_depth c n) (symbols (canonical names t) ++ rest)
 tree_shallow names (LessThan coefs bound) rest c n h g d =
     flat_shallow (symbols (canonical names (LessThan coefs bound))) rest c n
@@ -206,7 +209,7 @@ tree_shallow names (Disjunction p q) rest c n h g d =
     (λ us e k i j l. tree_shallow names p us e k i j l) (λ us e k i j l. tree_shallow names q us e k i j l))
 
 -- the canonical text is read again
-pub printed_read : (names : List (List ℕ)) (t : PredTree) → AreNames is_variable_name names → IsPred (length names) t → length (tree_text names t) ≤ 1048576
+pub printed_read : (names : List (List ℕ)) (t : PredTree) → AreNames is_variable_name names → IsPred (length names) t → length (tree_text names t) ≤ TEXT_LIMIT
     → pred_read names (tree_text names t) ≡ Ok (record { variables = length names; tree = t })
 printed_read names t are pred short =
     let some = pred.some_variable in

@@ -1,6 +1,9 @@
 -- What was read is a predicate within the limits.
 use Rattle.std.proofs.Common.{◌≡◌, ℕ, ◌+◌, ◌≤◌, Bool, true, false, List, [], ◌∷◌, length, ltb, Option, IfOk, Result, Ok, Err, sym, ap, subst, arith}
 use Rattle.std.specs.Prelude.{if◌then◌else◌, ◌||◌}
+use Rattle.pres_ast.specs.declared.limits.TheConstants.{WEIGHT_LIMIT}
+use Rattle.pop_io.specs.declared.names.TheConstants.{VARIABLE_LIMIT}
+use Rattle.pres_read.specs.declared.depth.TheConstants.{PARENTHESIS_LIMIT}
 use Rattle.pres_ast.specs.PredTree.{PredTree}
 use Rattle.pres_ast.specs.PredModel.{HasAtoms, weight_of, IsPred}
 use Rattle.pres_ast.specs.TreeOf.{tree_of}
@@ -22,7 +25,7 @@ charge-within t d e true h = cc
 charge-within t d e false h = let same : d ≡ e = cc in ap (λ (x : Depth). x.charge) (sym same)
 
 pub charge-sunk : (d e : Depth) (t : Placed) → sunk d t ≡ Ok e → e.charge ≡ d.charge + charge_of t.symbol
-charge-sunk d e t h = charge-within t (deeper d t.symbol) e (ltb 64 (deeper d t.symbol).charge || ltb 64 (deeper d t.symbol).parentheses) h
+charge-sunk d e t h = charge-within t (deeper d t.symbol) e (ltb WEIGHT_LIMIT (deeper d t.symbol).charge || ltb PARENTHESIS_LIMIT (deeper d t.symbol).parentheses) h
 
 pub sound_further : (names : List (List ℕ)) (p q : Progress) (d e : Depth) (t : Placed)
     → IsSound (length names) p d.charge → step names p t ≡ Ok q → sunk d t ≡ Ok e → IsSound (length names) q e.charge
@@ -32,7 +35,7 @@ sound_further names p q d e t sound stepped deep =
     subst (λ c. IsSound (length names) q c) (sym (charge-sunk d e t deep)) here
 
 ended_fits : (n charge end : ℕ) (above : List Span) (ors : Option PredTree) (p : PredTree)
-    → 1 ≤ n → n ≤ 16 → charge ≤ 64 → HasOption n ors → HasAtoms n p → spans_weight above + option_weight ors + weight_of p ≡ charge
+    → 1 ≤ n → n ≤ VARIABLE_LIMIT → charge ≤ WEIGHT_LIMIT → HasOption n ors → HasAtoms n p → spans_weight above + option_weight ors + weight_of p ≡ charge
     → IfOk (ended above ors p end) (IsPred n)
 ended_fits n charge end [] ors p one most small o g w = record {
   some_variable = one;
@@ -42,7 +45,7 @@ ended_fits n charge end [] ors p one most small o g w = record {
 }
 ended_fits n charge end (span ∷ above) ors p one most small o g w = tt
 
-finish_by_fits : (n charge end : ℕ) (a : Around) (next : Next) → 1 ≤ n → n ≤ 16 → charge ≤ 64
+finish_by_fits : (n charge end : ℕ) (a : Around) (next : Next) → 1 ≤ n → n ≤ VARIABLE_LIMIT → charge ≤ WEIGHT_LIMIT
     → HasSpans n a.above → HasSpan n a.span → HasNext n next → IsSettled a.span next → spans_weight a.above + span_weight a.span + next_weight next ≡ charge
     → IfOk (finish_by a next end) (IsPred n)
 finish_by_fits n charge end a AUnit one most small above span h settled w = tt
@@ -61,7 +64,7 @@ finish_by_fits n charge end a (ASign p) one most small above span h settled w =
     ended_fits n charge end a.above a.span.ors p one most small span.0 h
     (let none = ap option_weight settled.0 in let nots = settled.1 in omega (arith, w, none, nots))
 
-pub finish_fits : (n charge end : ℕ) (p : Progress) → 1 ≤ n → n ≤ 16 → charge ≤ 64 → IsSound n p charge → IfOk (finish p end) (IsPred n)
+pub finish_fits : (n charge end : ℕ) (p : Progress) → 1 ≤ n → n ≤ VARIABLE_LIMIT → charge ≤ WEIGHT_LIMIT → IsSound n p charge → IfOk (finish p end) (IsPred n)
 unfolding finish
 finish_fits n charge end p one most small sound =
     finish_by_fits n charge end p.around p.next one most small sound.above sound.span sound.next sound.settled sound.weight

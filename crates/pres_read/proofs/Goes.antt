@@ -6,9 +6,9 @@ use Rattle.pres_tokens.specs.Symbols.{Symbol, Name, Number, Star, Compare, Close
 use Rattle.pres_read.specs.Grammar.{bare, times, Sum, first, Atom, plain, modular, APred, AConj, Phrase, group, atom, equal_or_not, atom_symbols, symbols}
 use Rattle.pres_read.specs.Texts.{Begins}
 use Rattle.pres_read.proofs.Traces.{sum_with, Inner, IUnit, ITerm, IStar, IName, IRelation, IConstant, INumber, IModulo, IModulus, Side, Trace, Inside, Done, with_ors, conj_of}
-use Rattle.pres_read.proofs.Fronts.{ors_front, side_front, above_front, inner_front, front, symbols-sum_with, symbols-with_ors, front-unit_done}
+use Rattle.pres_read.proofs.Prefixes.{ors_prefix, side_prefix, above_prefix, inner_prefix, prefix, symbols-sum_with, symbols-with_ors, prefix-unit_done}
 
-closing : (above : List Side) (p : Phrase APred) → Begins (above_front above ++ symbols p)
+closing : (above : List Side) (p : Phrase APred) → Begins (above_prefix above ++ symbols p)
 closing [] p = record { more = []; phrase = p; spelled = sym (append-nil (symbols p)) }
 closing (side ∷ above) p =
     let outer = closing above (with_ors side.ors (conj_of side (group p))) in
@@ -16,8 +16,8 @@ closing (side ∷ above) p =
       more = Close ∷ outer.more;
       phrase = outer.phrase;
       spelled = outer.spelled
-          ∙ ap (λ ss. (above_front above ++ ss) ++ outer.more) (symbols-with_ors side.ors (conj_of side (group p)))
-          ∙ ap (λ ss. ss ++ outer.more) (front-unit_done above side (group p))
+          ∙ ap (λ ss. (above_prefix above ++ ss) ++ outer.more) (symbols-with_ors side.ors (conj_of side (group p)))
+          ∙ ap (λ ss. ss ++ outer.more) (prefix-unit_done above side (group p))
           ∙ simp append_assoc;
     }
 
@@ -33,7 +33,7 @@ one = Compare Less ∷ Number (codes "1") ∷ []
 less_one : Sum → Atom
 less_one sum = plain sum Less false (codes "1")
 
-atom_from : (inner : Inner) → AtomFrom (inner_front inner)
+atom_from : (inner : Inner) → AtomFrom (inner_prefix inner)
 unfolding one less_one
 atom_from IUnit = record { more = Name (codes "x") ∷ one; whole = less_one (first false (bare (codes "x"))); spelled = refl }
 atom_from (ITerm lead) = record {
@@ -55,11 +55,11 @@ atom_from (IRelation sum) = record { more = one; whole = less_one sum; spelled =
 atom_from (IConstant sum r) = record { more = Number (codes "1") ∷ []; whole = plain sum r false (codes "1"); spelled = simp append_assoc }
 atom_from (INumber sum r) = record { more = Number (codes "1") ∷ []; whole = plain sum r true (codes "1"); spelled = simp append_assoc }
 atom_from (IModulo sum unequal negative digits) =
-    record { more = []; whole = plain sum (equal_or_not unequal) negative digits; spelled = sym (append-nil (inner_front (IModulo sum unequal negative digits))) }
+    record { more = []; whole = plain sum (equal_or_not unequal) negative digits; spelled = sym (append-nil (inner_prefix (IModulo sum unequal negative digits))) }
 atom_from (IModulus sum unequal negative digits) =
     record { more = Number (codes "2") ∷ []; whole = modular sum unequal negative digits (codes "2"); spelled = simp append_assoc }
 
-inside_on : (above : List Side) (side : Side) (inner : Inner) → Begins (above_front above ++ (side_front side ++ inner_front inner))
+inside_on : (above : List Side) (side : Side) (inner : Inner) → Begins (above_prefix above ++ (side_prefix side ++ inner_prefix inner))
 inside_on above side inner =
     let own = atom_from inner in
     let outer = closing above (with_ors side.ors (conj_of side (atom own.whole))) in
@@ -67,15 +67,15 @@ inside_on above side inner =
       more = own.more ++ outer.more;
       phrase = outer.phrase;
       spelled = outer.spelled
-          ∙ ap (λ ss. (above_front above ++ ss) ++ outer.more) (symbols-with_ors side.ors (conj_of side (atom own.whole)))
-          ∙ ap (λ ss. ss ++ outer.more) (front-unit_done above side (atom own.whole))
-          ∙ ap (λ ss. (above_front above ++ (side_front side ++ ss)) ++ outer.more) own.spelled
+          ∙ ap (λ ss. (above_prefix above ++ ss) ++ outer.more) (symbols-with_ors side.ors (conj_of side (atom own.whole)))
+          ∙ ap (λ ss. ss ++ outer.more) (prefix-unit_done above side (atom own.whole))
+          ∙ ap (λ ss. (above_prefix above ++ (side_prefix side ++ ss)) ++ outer.more) own.spelled
           ∙ simp append_assoc;
     }
 
-done_on : (above : List Side) (ors : Option (Phrase APred)) (c : Phrase AConj) → Begins (above_front above ++ (ors_front ors ++ symbols c))
-done_on above ors c = subst (λ (ss : List Symbol). Begins (above_front above ++ ss)) (symbols-with_ors ors c) (closing above (with_ors ors c))
+done_on : (above : List Side) (ors : Option (Phrase APred)) (c : Phrase AConj) → Begins (above_prefix above ++ (ors_prefix ors ++ symbols c))
+done_on above ors c = subst (λ (ss : List Symbol). Begins (above_prefix above ++ ss)) (symbols-with_ors ors c) (closing above (with_ors ors c))
 
-pub goes_on : (a : Trace) → Begins (front a)
+pub goes_on : (a : Trace) → Begins (prefix a)
 goes_on (Inside above side inner) = inside_on above side inner
 goes_on (Done above ors c) = done_on above ors c

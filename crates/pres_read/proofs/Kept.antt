@@ -1,6 +1,7 @@
 -- A text of the grammar that keeps the rules is read.
 use Rattle.std.proofs.Common.{◌≡◌, ℕ, suc, ◌≤◌, Bool, true, false, List, [], ◌∷◌, ◌++◌, Option, Some, None, sym, subst, append_assoc}
 use Rattle.std.proofs.lemmas.List.{append-nil}
+use Rattle.pres_ast.specs.declared.limits.TheConstants.{MODULUS_LIMIT}
 use Rattle.pres_tokens.specs.declared.token.Relation.{Relation}
 use Rattle.pres_tokens.specs.declared.token.Relation.TheVariants.{Less, AtMost, Greater, AtLeast, Equal, Unequal}
 use Rattle.pres_tokens.specs.Symbols.{Symbol, Name, Number, Plus, Minus, Star, Compare, And, Or, Not, Open, Close, Mod, Stray}
@@ -26,7 +27,7 @@ RuleConstant r (Number digits) = value_of digits ≤ constant_limit r
 RuleConstant r s = Unit {0}
 
 abbrev pub RuleModulus : Symbol → Type 0
-RuleModulus (Number digits) = (2 ≤ value_of digits) × (value_of digits ≤ 200)
+RuleModulus (Number digits) = (2 ≤ value_of digits) × (value_of digits ≤ MODULUS_LIMIT)
 RuleModulus s = Unit {0}
 
 abbrev pub RuleInner : List (List ℕ) → Inner → Symbol → Type 0
@@ -115,7 +116,7 @@ compared_kept names above side sum Equal negative digits rest h k = modulo_kept 
 compared_kept names above side sum Unequal negative digits rest h k = modulo_kept names above side sum true negative digits rest h k
 
 modular_kept : (names : List (List ℕ)) (above : List Side) (side : Side) (sum : Sum) (unequal negative : Bool) (digits modulus : List ℕ) (rest : List Symbol)
-    → (2 ≤ value_of modulus) × (value_of modulus ≤ 200) → Kept names (unit_done above side (atom (modular sum unequal negative digits modulus))) rest
+    → (2 ≤ value_of modulus) × (value_of modulus ≤ MODULUS_LIMIT) → Kept names (unit_done above side (atom (modular sum unequal negative digits modulus))) rest
     → Kept names (trace_compared above side sum (equal_or_not unequal) negative digits) (Mod ∷ Number modulus ∷ rest)
 modular_kept names above side sum false negative digits modulus rest f k = (tt, (f, k))
 modular_kept names above side sum true negative digits modulus rest f k = (tt, (f, k))

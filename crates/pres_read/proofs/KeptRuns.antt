@@ -1,8 +1,11 @@
 -- Where the rules are kept no fault but one of syntax comes, and so a text of the grammar is read.
-use Rattle.std.proofs.Common.{◌≡◌, ℕ, ◌^◌, ◌≤◌, Bool, true, false, List, [], ◌∷◌, length, ltb, Option, Some, None, Result, Ok, Err, refl, sym, ap, subst, arith, ℤ, pos, ◌+ℤ◌, nat_abs, position, get_or, slice_set}
+use Rattle.std.proofs.Common.{◌≡◌, ℕ, ◌≤◌, Bool, true, false, List, [], ◌∷◌, length, ltb, Option, Some, None, Result, Ok, Err, refl, sym, ap, subst, arith, ℤ, pos, ◌+ℤ◌, nat_abs, position, get_or, slice_set}
 use Rattle.std.specs.Prelude.{if◌then◌else◌, ◌||◌}
 use Rattle.std.specs.Str.{bytes_eq}
 use Rattle.std.proofs.lemmas.Bool.{ltb-true}
+use Rattle.pres_ast.specs.declared.limits.TheConstants.{COEFFICIENT_LIMIT, MODULUS_LIMIT, WEIGHT_LIMIT}
+use Rattle.pres_read.specs.declared.read.TheConstants.{TEXT_LIMIT}
+use Rattle.pres_read.specs.declared.depth.TheConstants.{PARENTHESIS_LIMIT}
 use Rattle.pres_ast.specs.PredTree.{PredTree}
 use Rattle.pres_ast.specs.PredModel.{PredModel}
 use Rattle.pres_tokens.specs.declared.token.Relation.{Relation}
@@ -29,7 +32,7 @@ Went (Ok x) = Unit {0}
 Went (Err e) = ⊥
 
 -- no fault, or one of syntax
-abbrev Fine : {X : Type 0} → Result X ReadPred → Type 0
+abbrev pub Fine : {X : Type 0} → Result X ReadPred → Type 0
 Fine (Ok x) = Unit {0}
 Fine (Err (Syntax at)) = Unit {0}
 Fine (Err (UnknownName at)) = ⊥
@@ -38,14 +41,14 @@ Fine (Err (TooDeep at)) = ⊥
 Fine (Err (LongText n)) = ⊥
 Fine (Err NoMemory) = ⊥
 
-coef_went : (coefs : List ℤ) (i : ℕ) (z : ℤ) (place : ℕ) → nat_abs z ≤ 2 ^ 31 → Went (with_coef coefs i z place)
-coef_went coefs i z place h = by_test (ltb (2 ^ 31) (nat_abs z)) refl
+coef_went : (coefs : List ℤ) (i : ℕ) (z : ℤ) (place : ℕ) → nat_abs z ≤ COEFFICIENT_LIMIT → Went (with_coef coefs i z place)
+coef_went coefs i z place h = by_test (ltb COEFFICIENT_LIMIT (nat_abs z)) refl
   where
-    by_test : (b : Bool) → ltb (2 ^ 31) (nat_abs z) ≡ b → Went {X = List ℤ} (if b then Err (TooLarge place) else Ok (slice_set coefs i z))
-    by_test true e = let past = ltb-true (2 ^ 31) (nat_abs z) e in absurd (omega (arith, past, h))
+    by_test : (b : Bool) → ltb COEFFICIENT_LIMIT (nat_abs z) ≡ b → Went {X = List ℤ} (if b then Err (TooLarge place) else Ok (slice_set coefs i z))
+    by_test true e = let past = ltb-true COEFFICIENT_LIMIT (nat_abs z) e in absurd (omega (arith, past, h))
     by_test false e = tt
 
-number_went : (coefs : List ℤ) (i : ℕ) (factor : Factor) (limit v : ℕ) → v ≤ limit → nat_abs (get_or coefs i (pos 0) +ℤ signed factor.negative v) ≤ 2 ^ 31
+number_went : (coefs : List ℤ) (i : ℕ) (factor : Factor) (limit v : ℕ) → v ≤ limit → nat_abs (get_or coefs i (pos 0) +ℤ signed factor.negative v) ≤ COEFFICIENT_LIMIT
     → Went (with_number coefs i factor (value_within limit v))
 number_went coefs i factor limit v h g = by_test (ltb limit v) refl
   where
@@ -53,9 +56,9 @@ number_went coefs i factor limit v h g = by_test (ltb limit v) refl
     by_test true e = let past = ltb-true limit v e in absurd (omega (arith, past, h))
     by_test false e = coef_went coefs i (get_or coefs i (pos 0) +ℤ signed factor.negative v) factor.place g
 
-term_went : (coefs : List ℤ) (o : Option ℕ) (factor : Factor) (place : ℕ) → value_of factor.digits ≤ 2 ^ 31 → CoefFits coefs o (signed factor.negative (value_of factor.digits)) → Went (with_term coefs o factor place)
+term_went : (coefs : List ℤ) (o : Option ℕ) (factor : Factor) (place : ℕ) → value_of factor.digits ≤ COEFFICIENT_LIMIT → CoefFits coefs o (signed factor.negative (value_of factor.digits)) → Went (with_term coefs o factor place)
 term_went coefs None factor place h g = absurd g
-term_went coefs (Some i) factor place h g = number_went coefs i factor (2 ^ 31) (value_of factor.digits) h g
+term_went coefs (Some i) factor place h g = number_went coefs i factor COEFFICIENT_LIMIT (value_of factor.digits) h g
 
 sum_fine : (a : Around) (r : Result (List ℤ) ReadPred) → Went r → Fine (after_sum a r)
 sum_fine a (Ok coefs) h = tt
@@ -65,7 +68,7 @@ unit_term_fine : (names : List (List ℕ)) (a : Around) (lead : Lead) (place : �
     → Fine (at_term names a (lead_coefs names lead) (lead_negative lead) place s)
 unit_term_fine names a lead place (Name word) h =
     sum_fine a (added names (lead_coefs names lead) (lone (lead_negative lead) place) place word)
-    (term_went (lead_coefs names lead) (position (λ name. bytes_eq name word) names) (lone (lead_negative lead) place) place h.0 h.1)
+    (term_went (lead_coefs names lead) (position (bytes_eq word) names) (lone (lead_negative lead) place) place h.0 h.1)
 unit_term_fine names a lead place s h = tt
 
 unit_fine : (names : List (List ℕ)) (a : Around) (place : ℕ) (s : Symbol) → RuleUnit names (begin false) s → Fine (at_unit names a place s)
@@ -82,7 +85,7 @@ name_fine : (names : List (List ℕ)) (a : Around) (lead : Lead) (digits : List 
     → Fine (at_name names a (lead_coefs names lead) (lead_factor lead digits at) place s)
 name_fine names a lead digits at place (Name word) h =
     sum_fine a (added names (lead_coefs names lead) (lead_factor lead digits at) place word)
-    (term_went (lead_coefs names lead) (position (λ name. bytes_eq name word) names) (lead_factor lead digits at) place h.0 h.1)
+    (term_went (lead_coefs names lead) (position (bytes_eq word) names) (lead_factor lead digits at) place h.0 h.1)
 name_fine names a lead digits at place s h = tt
 
 relation_fine : (a : Around) (coefs : List ℤ) (place : ℕ) (s : Symbol) → Fine (at_relation a coefs place s)
@@ -118,10 +121,10 @@ modulo_fine a coefs unequal c place Mod = tt
 modulo_fine a coefs unequal c place s = sign_fine a.above a.span.ors (up_to_unit a.span (negated_if unequal (equality coefs c))) place s
 
 modulus_fine : (a : Around) (coefs : List ℤ) (unequal : Bool) (c : ℤ) (place : ℕ) (s : Symbol) → RuleModulus s → Fine (at_modulus a coefs unequal c place s)
-modulus_fine a coefs unequal c place (Number digits) h = by_test (ltb 200 (value_of digits)) refl (ltb (value_of digits) 2) refl
+modulus_fine a coefs unequal c place (Number digits) h = by_test (ltb MODULUS_LIMIT (value_of digits)) refl (ltb (value_of digits) 2) refl
   where
-    by_test : (b : Bool) → ltb 200 (value_of digits) ≡ b → (small : Bool) → ltb (value_of digits) 2 ≡ small → Fine (with_modulus a coefs unequal c place (if b then None else Some (value_of digits)))
-    by_test true e small f = let past = ltb-true 200 (value_of digits) e in let most = h.1 in absurd (omega (arith, past, most))
+    by_test : (b : Bool) → ltb MODULUS_LIMIT (value_of digits) ≡ b → (small : Bool) → ltb (value_of digits) 2 ≡ small → Fine (with_modulus a coefs unequal c place (if b then None else Some (value_of digits)))
+    by_test true e small f = let past = ltb-true MODULUS_LIMIT (value_of digits) e in let most = h.1 in absurd (omega (arith, past, most))
     by_test false e true f = let past = ltb-true (value_of digits) 2 f in let least = h.0 in absurd (omega (arith, past, least))
     by_test false e false f = rw f tt
 modulus_fine a coefs unequal c place s h = tt
@@ -162,21 +165,21 @@ finish_by_fine a (AModulo coefs unequal c) end = ended_fine a.above a.span.ors (
 finish_by_fine a (AModulus coefs unequal c) end = tt
 finish_by_fine a (ASign p) end = ended_fine a.above a.span.ors p end
 
-finish_fine : (p : Progress) (end : ℕ) → Fine (finish p end)
+pub finish_fine : (p : Progress) (end : ℕ) → Fine (finish p end)
 unfolding finish
 finish_fine p end = finish_by_fine p.around p.next end
 
-deep_fine : (names : List (List ℕ)) (end : ℕ) (t : Placed) (ts : List Placed) (q : Progress) (d : Depth) → d.charge ≤ 64 → d.parentheses ≤ 64
+deep_fine : (names : List (List ℕ)) (end : ℕ) (t : Placed) (ts : List Placed) (q : Progress) (d : Depth) → d.charge ≤ WEIGHT_LIMIT → d.parentheses ≤ PARENTHESIS_LIMIT
     → Fine (run names end q d ts) → Fine (going names end ts (with_progress q (within_depth t d)))
-deep_fine names end t ts q d c p h = by_tests (ltb 64 d.charge) refl (ltb 64 d.parentheses) refl
+deep_fine names end t ts q d c p h = by_tests (ltb WEIGHT_LIMIT d.charge) refl (ltb PARENTHESIS_LIMIT d.parentheses) refl
   where
-    by_tests : (b : Bool) → ltb 64 d.charge ≡ b → (e : Bool) → ltb 64 d.parentheses ≡ e → Fine (going names end ts (with_progress q (if b || e then Err (TooDeep t.place) else Ok d)))
-    by_tests true x e y = let past = ltb-true 64 d.charge x in absurd (omega (arith, past, c))
-    by_tests false x true y = let past = ltb-true 64 d.parentheses y in absurd (omega (arith, past, p))
+    by_tests : (b : Bool) → ltb WEIGHT_LIMIT d.charge ≡ b → (e : Bool) → ltb PARENTHESIS_LIMIT d.parentheses ≡ e → Fine (going names end ts (with_progress q (if b || e then Err (TooDeep t.place) else Ok d)))
+    by_tests true x e y = let past = ltb-true WEIGHT_LIMIT d.charge x in absurd (omega (arith, past, c))
+    by_tests false x true y = let past = ltb-true PARENTHESIS_LIMIT d.parentheses y in absurd (omega (arith, past, p))
     by_tests false x false y = h
 
 step_run_fine : (names : List (List ℕ)) (end : ℕ) (t : Placed) (ts : List Placed) (d : Depth) (o : Option Trace) (r : Result Progress ReadPred)
-    → Agrees names r o t.place → Fine r → KeptAfter o (λ b. Kept names b (symbols_of ts)) → (deeper d t.symbol).charge ≤ 64 → (deeper d t.symbol).parentheses ≤ 64
+    → Agrees names r o t.place → Fine r → KeptAfter o (λ b. Kept names b (symbols_of ts)) → (deeper d t.symbol).charge ≤ WEIGHT_LIMIT → (deeper d t.symbol).parentheses ≤ PARENTHESIS_LIMIT
     → ((q : Progress) (b : Trace) → IsShown names q b → Kept names b (symbols_of ts) → Fine (run names end q (deeper d t.symbol) ts))
     → Fine (going names end ts (r >>= λ q. with_progress q (sunk d t)))
 step_run_fine names end t ts d None (Ok q) agrees fine kept c p later = absurd agrees
@@ -207,20 +210,20 @@ read_fine names text p (Err (LongText n)) e comes fine = absurd fine
 read_fine names text p (Err NoMemory) e comes fine = absurd fine
 
 -- a text of the grammar that keeps the rules is read to its tree
-pub kept_read : (names : List (List ℕ)) (text : List ℕ) (p : Phrase APred) → symbols p ≡ text_symbols text → length text ≤ 1048576 → Fits names p → IsShallow surface (text_symbols text)
+pub kept_read : (names : List (List ℕ)) (text : List ℕ) (p : Phrase APred) → symbols p ≡ text_symbols text → length text ≤ TEXT_LIMIT → Fits names p → IsShallow surface (text_symbols text)
     → pred_read names text ≡ Ok (record { variables = length names; tree = meaning names p })
 kept_read names text p e short fits shallow =
     let kept : Kept names begun (text_symbols text) = subst (Kept names begun) e (kept_symbols names p fits) in
     let fine : Fine (run names (length text) start surface (tokens_of text)) = run_fine names (length text) (tokens_of text) start begun surface (start_shown names) kept shallow in
     let read = read_fine names text p (run names (length text) start surface (tokens_of text)) e (run_comes names (length text) (tokens_of text) start begun surface (start_shown names)) fine in
-    by_length (ltb 1048576 (length text)) refl read
+    by_length (ltb TEXT_LIMIT (length text)) refl read
   where
-    by_length : (b : Bool) → ltb 1048576 (length text) ≡ b → run names (length text) start surface (tokens_of text) ≡ Ok (meaning names p)
+    by_length : (b : Bool) → ltb TEXT_LIMIT (length text) ≡ b → run names (length text) start surface (tokens_of text) ≡ Ok (meaning names p)
         → over (length names) (if b then Err (LongText (length text)) else run names (length text) start surface (tokens_of text)) ≡ Ok (record { variables = length names; tree = meaning names p })
-    by_length true x read = let past = ltb-true 1048576 (length text) x in absurd (omega (arith, past, short))
+    by_length true x read = let past = ltb-true TEXT_LIMIT (length text) x in absurd (omega (arith, past, short))
     by_length false x read = ap (over (length names)) read
 
--- the same of what a call gave, which may lack memory
+-- the same of what a call gave, which may be out of memory
 pub given_kept : (names : List (List ℕ)) (text : List ℕ) (tree : PredTree) (r : Result PredModel ReadPred) → Gives (λ pred. pred) r (pred_read names text)
     → pred_read names text ≡ Ok (record { variables = length names; tree = tree }) → IsReadTo tree r
 given_kept names text tree (Ok pred) h e =

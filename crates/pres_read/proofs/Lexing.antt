@@ -63,7 +63,7 @@ if_false : {A : Type 0} (c : Bool) (x y : A) → c ≡ false → (if c then x el
 if_false true x y e = cc
 if_false false x y e = refl
 
--- the symbol at the front, with its length
+-- the symbol at the prefix, with its length
 lex_first : (b : ℕ) (bytes : List ℕ) (s : Symbol) (m : ℕ) → blank b ≡ false → first_symbol (b ∷ bytes) ≡ (s, suc m) → lex 0 (b ∷ bytes) ≡ s ∷ lex 0 (drop m bytes)
 lex_first b bytes s m solid e =
     if_false (blank b) (lex 0 bytes) ((first_symbol (b ∷ bytes)).0 ∷ lex ((first_symbol (b ∷ bytes)).1 - 1) bytes) solid

@@ -4,7 +4,7 @@ pub mod Steps
 pub mod Ends
 pub mod Traces
 pub mod Complete
-pub mod Fronts
+pub mod Prefixes
 pub mod Goes
 pub mod Shows
 pub mod Outcomes
@@ -15,4 +15,10 @@ pub mod PrintedTrees
 pub mod Kept
 pub mod KeptRuns
 pub mod Again
-pub mod Heeded
+pub mod PrintedLength
+pub mod KnownNames
+mod Opens
+mod Whole
+mod Breaks
+mod Says
+mod Explained

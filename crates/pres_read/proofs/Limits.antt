@@ -1,5 +1,5 @@
 -- Trees and coefficients within the limits.
-use Rattle.std.proofs.Common.{◌≡◌, ℕ, zero, suc, ◌+◌, ◌^◌, ◌<◌, ◌≤◌, Bool, true, false, List, length, get_or, ltb, Option, Some, None, IfSome, IfOk, Ok, Err, refl, ◌∙◌, arith, ℤ, pos, negsuc, neg_ℤ, nat_abs, ◌+ℤ◌, ◌-ℤ◌, slice_set, position}
+use Rattle.std.proofs.Common.{◌≡◌, ℕ, zero, suc, ◌+◌, ◌<◌, ◌≤◌, Bool, true, false, List, length, get_or, ltb, Option, Some, None, IfSome, IfOk, Ok, Err, refl, ◌∙◌, arith, ℤ, pos, negsuc, neg_ℤ, nat_abs, ◌+ℤ◌, ◌-ℤ◌, slice_set, position}
 use Rattle.std.specs.Prelude.{if◌then◌else◌}
 use Rattle.std.proofs.lemmas.Int.{ints}
 use Rattle.std.proofs.lemmas.Bool.{ltb-false}
@@ -8,6 +8,7 @@ use Rattle.std.proofs.lemmas.List.Elements.{All-set, All-replicate, All-map}
 use Rattle.pres_ast.specs.PredTree.{PredTree, Congruent}
 use Rattle.pres_ast.specs.PredModel.{AreCoefs, HasAtoms, weight_of}
 use Rattle.std.specs.Str.{bytes_eq}
+use Rattle.pres_ast.specs.declared.limits.TheConstants.{COEFFICIENT_LIMIT, BOUND_LIMIT, MODULUS_LIMIT}
 use Rattle.pres_tokens.specs.declared.token.Relation.{Relation}
 use Rattle.pres_tokens.specs.declared.token.Relation.TheVariants.{Less, AtMost, Greater, AtLeast, Equal, Unequal}
 use Rattle.pres_read.specs.declared.fault.ReadPred.{ReadPred}
@@ -51,14 +52,14 @@ abs-neg (pos zero) = refl
 abs-neg (pos (suc n)) = refl
 abs-neg (negsuc n) = refl
 
-pub abs_up : (z : ℤ) → IsConstant z → nat_abs (z +ℤ pos 1) ≤ 2 ^ 40
+pub abs_up : (z : ℤ) → IsConstant z → nat_abs (z +ℤ pos 1) ≤ BOUND_LIMIT
 abs_up z h = grind (arith, ints)
 
-pub abs_down : (z : ℤ) → IsConstant z → nat_abs (pos 1 -ℤ z) ≤ 2 ^ 40
+pub abs_down : (z : ℤ) → IsConstant z → nat_abs (pos 1 -ℤ z) ≤ BOUND_LIMIT
 abs_down z h = grind (arith, ints)
 
 abbrev IsCoef : ℤ → Type 0
-IsCoef a = nat_abs a ≤ 2 ^ 31
+IsCoef a = nat_abs a ≤ COEFFICIENT_LIMIT
 
 pub AreCoefs-turned : (n : ℕ) (coefs : List ℤ) → AreCoefs n coefs → AreCoefs n (turned coefs)
 AreCoefs-turned n coefs h = (
@@ -89,11 +90,11 @@ within_limit limit v = by_test (ltb limit v) refl
     by_test false e = ltb-false limit v e
 
 with_coef_fits : (n : ℕ) (coefs : List ℤ) (i : ℕ) (z : ℤ) (place : ℕ) → AreCoefs n coefs → IfOk (with_coef coefs i z place) (AreCoefs n)
-with_coef_fits n coefs i z place h = by_test (ltb (2 ^ 31) (nat_abs z)) refl
+with_coef_fits n coefs i z place h = by_test (ltb COEFFICIENT_LIMIT (nat_abs z)) refl
   where
-    by_test : (b : Bool) → ltb (2 ^ 31) (nat_abs z) ≡ b → IfOk {E = ReadPred} (if b then Err (TooLarge place) else Ok (slice_set coefs i z)) (AreCoefs n)
+    by_test : (b : Bool) → ltb COEFFICIENT_LIMIT (nat_abs z) ≡ b → IfOk {E = ReadPred} (if b then Err (TooLarge place) else Ok (slice_set coefs i z)) (AreCoefs n)
     by_test true e = tt
-    by_test false e = (length-set coefs i z ∙ h.0, All-set IsCoef coefs i z (ltb-false (2 ^ 31) (nat_abs z) e) h.1)
+    by_test false e = (length-set coefs i z ∙ h.0, All-set IsCoef coefs i z (ltb-false COEFFICIENT_LIMIT (nat_abs z) e) h.1)
 
 with_number_fits : (n : ℕ) (coefs : List ℤ) (i : ℕ) (factor : Factor) (o : Option ℕ) → AreCoefs n coefs → IfOk (with_number coefs i factor o) (AreCoefs n)
 with_number_fits n coefs i factor None h = tt
@@ -102,14 +103,14 @@ with_number_fits n coefs i factor (Some v) h =
 
 with_term_fits : (n : ℕ) (coefs : List ℤ) (o : Option ℕ) (factor : Factor) (place : ℕ) → AreCoefs n coefs → IfOk (with_term coefs o factor place) (AreCoefs n)
 with_term_fits n coefs None factor place h = tt
-with_term_fits n coefs (Some i) factor place h = with_number_fits n coefs i factor (value_within (2 ^ 31) (value_of factor.digits)) h
+with_term_fits n coefs (Some i) factor place h = with_number_fits n coefs i factor (value_within COEFFICIENT_LIMIT (value_of factor.digits)) h
 
 pub added_fits : (n : ℕ) (names : List (List ℕ)) (coefs : List ℤ) (factor : Factor) (place : ℕ) (word : List ℕ)
     → AreCoefs n coefs → IfOk (added names coefs factor place word) (AreCoefs n)
 added_fits n names coefs factor place word h =
-    with_term_fits n coefs (position (λ name. bytes_eq name word) names) factor place h
+    with_term_fits n coefs (position (bytes_eq word) names) factor place h
 
-pub HasAtoms-congruent : (n : ℕ) (coefs : List ℤ) (b : Bool) (c : ℤ) (m : ℕ) → AreCoefs n coefs → 2 ≤ m → m ≤ 200 → HasAtoms n (congruent coefs b c m)
+pub HasAtoms-congruent : (n : ℕ) (coefs : List ℤ) (b : Bool) (c : ℤ) (m : ℕ) → AreCoefs n coefs → 2 ≤ m → m ≤ MODULUS_LIMIT → HasAtoms n (congruent coefs b c m)
 HasAtoms-congruent n coefs b c m h least most =
     HasAtoms-negated_if n b (Congruent coefs m (remainder c m)) (h, least, most, remainder_below c m (omega arith))
 

@@ -2,6 +2,9 @@
 use Rattle.std.proofs.Common.{◌≡◌, ℕ, Bool, true, false, List, [], ◌∷◌, ◌++◌, length, ltb, Option, Some, None, IfOk, Result, Ok, Err, refl, sym, ap, subst, ◌∙◌, append_assoc}
 use Rattle.std.specs.Prelude.{if◌then◌else◌, ◌||◌, IfSome}
 use Rattle.std.proofs.lemmas.List.{append-nil, map-append}
+use Rattle.pres_ast.specs.declared.limits.TheConstants.{WEIGHT_LIMIT}
+use Rattle.pres_read.specs.declared.read.TheConstants.{TEXT_LIMIT}
+use Rattle.pres_read.specs.declared.depth.TheConstants.{PARENTHESIS_LIMIT}
 use Rattle.pres_ast.specs.PredTree.{PredTree}
 use Rattle.pres_ast.specs.PredModel.{PredModel}
 use Rattle.pres_tokens.specs.Symbols.{Symbol, Placed}
@@ -13,11 +16,10 @@ use Rattle.pres_read.specs.Progress.{Progress, start}
 use Rattle.pres_read.specs.Depth.{Depth, surface, deeper, sunk}
 use Rattle.pres_read.specs.Reading.{step, finish, with_progress, run, over, pred_read}
 use Rattle.pres_read.specs.Grammar.{APred, Phrase, symbols, meaning, Derives}
-use Rattle.pres_read.specs.Texts.{symbols_of, text_symbols, Begins, IsStuck, place_of, IsSyntaxFault, IsReadAs}
+use Rattle.pres_read.specs.Texts.{symbols_of, text_symbols, IsStuck, place_of, IsReadAs}
 use Rattle.pres_read.proofs.Traces.{Trace, begun, trace_step, trace_run, trace_goes_by, trace_end, trace_then, trace_read, trace_read-run}
 use Rattle.pres_read.proofs.Complete.{trace_read-symbols}
-use Rattle.pres_read.proofs.Fronts.{front, step_follows, front-run, symbols-end}
-use Rattle.pres_read.proofs.Goes.{goes_on}
+use Rattle.pres_read.proofs.Prefixes.{prefix, step_follows, symbols-end}
 use Rattle.pres_read.proofs.Shows.{IsShown, Agrees, EndAgrees, step_agrees, finish_agrees, start_shown}
 
 abbrev pub NoStep : Trace → List Placed → Type 0
@@ -94,7 +96,7 @@ step_comes : (names : List (List ℕ)) (a : Trace) (t : Placed) (ts : List Place
     → Comes names a (t ∷ ts) end (going names end ts (r >>= λ q. with_progress q (sunk d t)))
 step_comes names a t ts end d None (Ok q) later e h = absurd h
 step_comes names a t ts end d (Some b) (Ok q) later e h =
-    deep_comes names a b t ts end q (deeper d t.symbol) (ltb 64 (deeper d t.symbol).charge || ltb 64 (deeper d t.symbol).parentheses) e (λ x. later q b x h)
+    deep_comes names a b t ts end q (deeper d t.symbol) (ltb WEIGHT_LIMIT (deeper d t.symbol).charge || ltb PARENTHESIS_LIMIT (deeper d t.symbol).parentheses) e (λ x. later q b x h)
 step_comes names a t ts end d o (Err (Syntax at)) later e h =
     record { before = []; rest = t ∷ ts; tokens = refl; last = a; went = refl; stuck = e ∙ h.0; place = sym h.1 }
 step_comes names a t ts end d o (Err (UnknownName at)) later e h = tt
@@ -110,15 +112,15 @@ run_comes names end (t ∷ ts) p a d h =
 
 -- ---- the laws on symbols
 
-read_front : (whole : List Symbol) (s : Symbol) (ss : List Symbol) (p : Phrase APred) (o : Option Trace)
-    → ((c : Trace) → trace_read c ss ≡ Some p → symbols p ≡ front c ++ ss) → IfSome o (λ b. front b ≡ whole ++ s ∷ []) → trace_then o (λ c. trace_read c ss) ≡ Some p
+read_prefix : (whole : List Symbol) (s : Symbol) (ss : List Symbol) (p : Phrase APred) (o : Option Trace)
+    → ((c : Trace) → trace_read c ss ≡ Some p → symbols p ≡ prefix c ++ ss) → IfSome o (λ b. prefix b ≡ whole ++ s ∷ []) → trace_then o (λ c. trace_read c ss) ≡ Some p
     → symbols p ≡ whole ++ s ∷ ss
-read_front whole s ss p None go h e = cc
-read_front whole s ss p (Some c) go h e = go c e ∙ ap (λ w. w ++ ss) h ∙ append_assoc whole (s ∷ []) ss
+read_prefix whole s ss p None go h e = cc
+read_prefix whole s ss p (Some c) go h e = go c e ∙ ap (λ w. w ++ ss) h ∙ append_assoc whole (s ∷ []) ss
 
-symbols-read : (a : Trace) (ss : List Symbol) (p : Phrase APred) → trace_read a ss ≡ Some p → symbols p ≡ front a ++ ss
-symbols-read a [] p e = symbols-end a p e ∙ sym (append-nil (front a))
-symbols-read a (s ∷ ss) p e = read_front (front a) s ss p (trace_step a s) (λ c h. symbols-read c ss p h) (step_follows a s) e
+symbols-read : (a : Trace) (ss : List Symbol) (p : Phrase APred) → trace_read a ss ≡ Some p → symbols p ≡ prefix a ++ ss
+symbols-read a [] p e = symbols-end a p e ∙ sym (append-nil (prefix a))
+symbols-read a (s ∷ ss) p e = read_prefix (prefix a) s ss p (trace_step a s) (λ c h. symbols-read c ss p h) (step_follows a s) e
 
 not_read : (a : Trace) (rest : List Placed) → NoStep a rest → trace_read a (symbols_of rest) ≡ None
 not_read a [] h = h
@@ -132,20 +134,10 @@ never_read last before more p went none e =
     let same = ap (trace_read begun) e in
     cc
 
-stuck_law : (last : Trace) (before : List Symbol) (rest : List Placed) → trace_run begun before ≡ Some last → NoStep last rest → IsStuck before rest
+pub stuck_law : (last : Trace) (before : List Symbol) (rest : List Placed) → trace_run begun before ≡ Some last → NoStep last rest → IsStuck before rest
 stuck_law last before [] went h = λ p e. never_read last before [] p went h (e ∙ sym (append-nil before))
 stuck_law last before (t ∷ ts) went h =
     λ p more e. never_read last before (t.symbol ∷ more) p went (ap (λ o. trace_then o (λ c. trace_read c more)) h) e
-
-syntax_law : (text : List ℕ) (at : ℕ) → StopsAt begun (tokens_of text) (length text) at → IsSyntaxFault text at
-syntax_law text at h = record {
-  before = h.before;
-  rest = h.rest;
-  tokens = h.tokens;
-  begins = subst Begins (front-run begun h.last (symbols_of h.before) h.went) (goes_on h.last);
-  stuck = stuck_law h.last (symbols_of h.before) h.rest h.went h.stuck;
-  place = h.place;
-}
 
 derived_law : (names : List (List ℕ)) (ts : List Placed) (tree : PredTree) → ReadsTo names begun ts tree → Derives names (symbols_of ts) tree
 derived_law names ts tree h =
@@ -169,35 +161,32 @@ never_law names ts end at tree h d =
 pub record Laws (names : List (List ℕ)) (text : List ℕ) (r : Result PredModel ReadPred) : Type 0 where
   pub derived : IfOk r (λ pred. Derives names (text_symbols text) pred.tree)
   pub only : (tree : PredTree) → Derives names (text_symbols text) tree → IsReadAs tree r
-  pub syntax_at : (at : ℕ) → r ≡ Err (Syntax at) → IsSyntaxFault text at
 
 run_laws : (names : List (List ℕ)) (text : List ℕ) (r : Result PredTree ReadPred) → Comes names begun (tokens_of text) (length text) r → Laws names text (over (length names) r)
 run_laws names text (Ok tree) h = record {
   derived = derived_law names (tokens_of text) tree h;
   only = λ other d. only_law names (tokens_of text) tree other h d;
-  syntax_at = λ at e. cc;
 }
 run_laws names text (Err (Syntax at)) h = record {
   derived = tt;
   only = λ tree d. never_law names (tokens_of text) (length text) at tree h d;
-  syntax_at = λ other e. let same : at ≡ other = cc in subst (IsSyntaxFault text) same (syntax_law text at h);
 }
-run_laws names text (Err (UnknownName at)) h = record { derived = tt; only = λ tree d. tt; syntax_at = λ other e. cc }
-run_laws names text (Err (TooLarge at)) h = record { derived = tt; only = λ tree d. tt; syntax_at = λ other e. cc }
-run_laws names text (Err (TooDeep at)) h = record { derived = tt; only = λ tree d. tt; syntax_at = λ other e. cc }
+run_laws names text (Err (UnknownName at)) h = record { derived = tt; only = λ tree d. tt }
+run_laws names text (Err (TooLarge at)) h = record { derived = tt; only = λ tree d. tt }
+run_laws names text (Err (TooDeep at)) h = record { derived = tt; only = λ tree d. tt }
 run_laws names text (Err (LongText n)) h = absurd h
 run_laws names text (Err NoMemory) h = absurd h
 
 read_laws : (names : List (List ℕ)) (text : List ℕ) → Laws names text (pred_read names text)
-read_laws names text = by_length (ltb 1048576 (length text))
+read_laws names text = by_length (ltb TEXT_LIMIT (length text))
   where
     by_length : (b : Bool) → Laws names text (over (length names) (if b then Err (LongText (length text)) else run names (length text) start surface (tokens_of text)))
-    by_length true = record { derived = tt; only = λ tree d. tt; syntax_at = λ other e. cc }
+    by_length true = record { derived = tt; only = λ tree d. tt }
     by_length false =
         run_laws names text (run names (length text) start surface (tokens_of text))
         (run_comes names (length text) (tokens_of text) start begun surface (start_shown names))
 
--- the same of what a call gave, which may lack memory
+-- the same of what a call gave, which may be out of memory
 pub given_laws : (names : List (List ℕ)) (text : List ℕ) (r : Result PredModel ReadPred) → Gives (λ pred. pred) r (pred_read names text) → Laws names text r
 given_laws names text (Ok pred) h = subst (Laws names text) h (read_laws names text)
 given_laws names text (Err (Syntax at)) h = subst (Laws names text) h (read_laws names text)
@@ -205,4 +194,4 @@ given_laws names text (Err (UnknownName at)) h = subst (Laws names text) h (read
 given_laws names text (Err (TooLarge at)) h = subst (Laws names text) h (read_laws names text)
 given_laws names text (Err (TooDeep at)) h = subst (Laws names text) h (read_laws names text)
 given_laws names text (Err (LongText n)) h = subst (Laws names text) h (read_laws names text)
-given_laws names text (Err NoMemory) h = record { derived = tt; only = λ tree d. tt; syntax_at = λ other e. cc }
+given_laws names text (Err NoMemory) h = record { derived = tt; only = λ tree d. tt }

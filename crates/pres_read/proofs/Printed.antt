@@ -6,6 +6,7 @@ use Rattle.std.specs.Fmt.{signed_decimal}
 use Rattle.std.proofs.lemmas.List.Elements.{All-head, All-tail}
 use Rattle.std.specs.Str.{bytes_eq}
 use Rattle.std.proofs.lemmas.Bool.Decides.{nat_tests}
+use Rattle.pres_ast.specs.declared.limits.TheConstants.{COEFFICIENT_LIMIT}
 use Rattle.pop_io.specs.Names.{is_name_start, is_name_byte, is_variable_name}
 use Rattle.pres_ast.specs.PredTree.{PredTree, LessThan, Congruent, Negation, Conjunction, Disjunction}
 use Rattle.pres_ast.specs.PredModel.{HasAtoms}
@@ -82,9 +83,9 @@ abbrev is_first : Option Sum → Bool
 is_first None = true
 is_first (Some sum) = false
 
-abbrev front_symbols : Option Sum → List Symbol
-front_symbols None = []
-front_symbols (Some sum) = sum_symbols sum
+abbrev prefix_symbols : Option Sum → List Symbol
+prefix_symbols None = []
+prefix_symbols (Some sum) = sum_symbols sum
 
 lex-first_sign : (negative : Bool) (text : List ℕ) → lex 0 (sign_text true negative ++ text) ≡ minus_if negative ++ lex 0 text
 lex-first_sign false text = refl
@@ -95,7 +96,7 @@ lex-later_sign false text = refl
 lex-later_sign true text = refl
 
 lex-extended : (o : Option Sum) (negative : Bool) (term : Term) (text : List ℕ) (ss : List Symbol) → lex 0 text ≡ term_symbols term ++ ss
-    → front_symbols o ++ lex 0 (sign_text (is_first o) negative ++ text) ≡ sum_symbols (extended o negative term) ++ ss
+    → prefix_symbols o ++ lex 0 (sign_text (is_first o) negative ++ text) ≡ sum_symbols (extended o negative term) ++ ss
 lex-extended None negative term text ss e =
     lex-first_sign negative text ∙ ap (λ us. minus_if negative ++ us) e ∙ sym (append_assoc (minus_if negative) (term_symbols term) ss)
 lex-extended (Some sum) negative term text ss e =
@@ -120,18 +121,18 @@ stops_terms (name ∷ names) (a ∷ coefs) rest h =
 
 lex-terms_if : (c : Bool) (o : Option Sum) (negative : Bool) (k : ℕ) (name rest zero_case others : List ℕ) (zero_sum later_sum : Option Sum)
     → is_variable_name name ≡ true → k < 2 ^ 64 → Stops (others ++ rest)
-    → front_symbols o ++ lex 0 (zero_case ++ rest) ≡ front_symbols zero_sum ++ lex 0 rest
-    → sum_symbols (extended o negative (canonical_term k name)) ++ lex 0 (others ++ rest) ≡ front_symbols later_sum ++ lex 0 rest
-    → front_symbols o ++ lex 0 ((if c then zero_case else (sign_text (is_first o) negative ++ term_text k name ++ others)) ++ rest) ≡ front_symbols (if c then zero_sum else later_sum) ++ lex 0 rest
+    → prefix_symbols o ++ lex 0 (zero_case ++ rest) ≡ prefix_symbols zero_sum ++ lex 0 rest
+    → sum_symbols (extended o negative (canonical_term k name)) ++ lex 0 (others ++ rest) ≡ prefix_symbols later_sum ++ lex 0 rest
+    → prefix_symbols o ++ lex 0 ((if c then zero_case else (sign_text (is_first o) negative ++ term_text k name ++ others)) ++ rest) ≡ prefix_symbols (if c then zero_sum else later_sum) ++ lex 0 rest
 lex-terms_if true o negative k name rest zero_case others zero_sum later_sum h small stops e f = e
 lex-terms_if false o negative k name rest zero_case others zero_sum later_sum h small stops e f =
     let flat : ((sign_text (is_first o) negative ++ term_text k name) ++ others) ++ rest ≡ sign_text (is_first o) negative ++ (term_text k name ++ (others ++ rest)) = simp append_assoc in
-    ap (λ text. front_symbols o ++ lex 0 text) flat
+    ap (λ text. prefix_symbols o ++ lex 0 text) flat
     ∙ lex-extended o negative (canonical_term k name) (term_text k name ++ (others ++ rest)) (lex 0 (others ++ rest)) (lex-term k name (others ++ rest) h small stops)
     ∙ f
 
 lex-terms : (o : Option Sum) (names : List (List ℕ)) (coefs : List ℤ) (rest : List ℕ) → Named names → Small coefs → Stops rest
-    → front_symbols o ++ lex 0 (terms_text (is_first o) names coefs ++ rest) ≡ front_symbols (terms_sum o names coefs) ++ lex 0 rest
+    → prefix_symbols o ++ lex 0 (terms_text (is_first o) names coefs ++ rest) ≡ prefix_symbols (terms_sum o names coefs) ++ lex 0 rest
 lex-terms o [] coefs rest named small stops = refl
 lex-terms o (name ∷ names) [] rest named small stops = refl
 lex-terms o (name ∷ names) (a ∷ coefs) rest named small stops =
@@ -195,7 +196,7 @@ lex-sum names coefs rest named small same some stops = by_zero (list_all is_zero
     by_zero false e =
         let found = some_sum names coefs same e in
         lex-terms None names coefs rest named small stops
-        ∙ ap (λ o. front_symbols o ++ lex 0 rest) found.1
+        ∙ ap (λ o. prefix_symbols o ++ lex 0 rest) found.1
         ∙ ap (λ o. sum_symbols (sum_or_zero names o) ++ lex 0 rest) (sym found.1)
 
 -- ---- no text begins with `=`
@@ -253,11 +254,11 @@ sum_no_equal names coefs rest named small h = by_zero (list_all is_zero coefs)
     by_zero true = zero_no_equal names rest
     by_zero false = terms_no_equal names coefs rest named small h
 
-pub Small-AreCoefs : (coefs : List ℤ) → All (λ a. nat_abs a ≤ 2 ^ 31) coefs → Small coefs
+pub Small-AreCoefs : (coefs : List ℤ) → All (λ a. nat_abs a ≤ COEFFICIENT_LIMIT) coefs → Small coefs
 Small-AreCoefs [] h = tt
 Small-AreCoefs (a ∷ coefs) h =
-    let here = All-head (λ z. nat_abs z ≤ 2 ^ 31) a coefs h in
-    (omega (arith, here), Small-AreCoefs coefs (All-tail (λ z. nat_abs z ≤ 2 ^ 31) a coefs h))
+    let here = All-head (λ z. nat_abs z ≤ COEFFICIENT_LIMIT) a coefs h in
+    (omega (arith, here), Small-AreCoefs coefs (All-tail (λ z. nat_abs z ≤ COEFFICIENT_LIMIT) a coefs h))
 
 pub tree_no_equal : (names : List (List ℕ)) (t : PredTree) (rest : List ℕ) → Named names → HasAtoms (length names) t → NoEqual (tree_text names t ++ rest)
 tree_no_equal names (LessThan coefs bound) rest named h =

@@ -139,15 +139,15 @@ not_same x y h = by_test (bytes_eq x y) (bytes_eq-Decides x y).0
 
 -- the place of a name after others
 pub place_found : (all before names : List (List ℕ)) (name : List ℕ) → AllPairs ◌≢◌ all → all ≡ before ++ name ∷ names
-    → position (λ other. bytes_eq other name) all ≡ Some (length before)
+    → position (bytes_eq name) all ≡ Some (length before)
 place_found all before names name apart e =
     let long = ap length e in
     let within : length before < length all = omega (arith, long, length-append before (name ∷ names)) in
     let there : get_or all (length before) [] ≡ name = ap (λ xs. get_or xs (length before) []) e ∙ get_or-append_seam before name names [] in
-    let found : prefix_len (λ other. not (bytes_eq other name)) all ≡ length before =
-    prefix_len_is (λ other. not (bytes_eq other name)) all (length before) [] (omega (arith, within))
-    (λ k l. not_same (get_or all k []) name (λ same. apart k (length before) [] l within (same ∙ sym there)))
-    (λ l. ap not ((bytes_eq-Decides (get_or all (length before) []) name).1 there)) in
+    let found : prefix_len (λ other. not (bytes_eq name other)) all ≡ length before =
+    prefix_len_is (λ other. not (bytes_eq name other)) all (length before) [] (omega (arith, within))
+    (λ k l. not_same name (get_or all k []) (λ same. apart k (length before) [] l within (sym same ∙ sym there)))
+    (λ l. ap not ((bytes_eq-Decides name (get_or all (length before) [])).1 (sym there))) in
     ap (λ k. if nat_lt k (length all) then Some k else None) found
     ∙ some_if (nat_lt (length before) (length all)) (length before) (lt-ltb (length before) (length all) within)
   where
@@ -177,35 +177,35 @@ filled_if : (all : List (List ℕ)) (c : Bool) (zero_sum later_sum : Option Sum)
 filled_if all true zero_sum later_sum coefs h g = h refl
 filled_if all false zero_sum later_sum coefs h g = g refl
 
-pub step_filled : (all before names : List (List ℕ)) (name : List ℕ) (o : Option Sum) (front : List ℤ) (a : ℤ) → AllPairs ◌≢◌ all → all ≡ before ++ name ∷ names
-    → length before ≡ length front → nat_abs a < 2 ^ 64 → coefs_so_far all o ≡ front ++ pos 0 ∷ replicate (length names) (pos 0)
-    → coefs_so_far all (Some (extended o (is_negative a) (canonical_term (nat_abs a) name))) ≡ front ++ a ∷ replicate (length names) (pos 0)
-step_filled all before names name o front a apart e same small h =
+pub step_filled : (all before names : List (List ℕ)) (name : List ℕ) (o : Option Sum) (prefix : List ℤ) (a : ℤ) → AllPairs ◌≢◌ all → all ≡ before ++ name ∷ names
+    → length before ≡ length prefix → nat_abs a < 2 ^ 64 → coefs_so_far all o ≡ prefix ++ pos 0 ∷ replicate (length names) (pos 0)
+    → coefs_so_far all (Some (extended o (is_negative a) (canonical_term (nat_abs a) name))) ≡ prefix ++ a ∷ replicate (length names) (pos 0)
+step_filled all before names name o prefix a apart e same small h =
     coefs-extended all o (is_negative a) (canonical_term (nat_abs a) name)
     ∙ ap (λ coefs. with_a_term all coefs (is_negative a) (canonical_term (nat_abs a) name)) h
-    ∙ ap (λ word. raised (front ++ pos 0 ∷ replicate (length names) (pos 0)) (position (λ other. bytes_eq other word) all) (signed (is_negative a) (term_number (canonical_term (nat_abs a) name)))) (name-term_by (nat_abs a == 1) (nat_abs a) name)
-    ∙ ap (λ k. raised (front ++ pos 0 ∷ replicate (length names) (pos 0)) (position (λ other. bytes_eq other name) all) (signed (is_negative a) k)) (number-canonical (nat_abs a) name small)
-    ∙ ap (λ z. raised (front ++ pos 0 ∷ replicate (length names) (pos 0)) (position (λ other. bytes_eq other name) all) z) (signed-abs a)
-    ∙ ap (λ i. raised (front ++ pos 0 ∷ replicate (length names) (pos 0)) i a) (place_found all before names name apart e)
-    ∙ raised_at front (replicate (length names) (pos 0)) (length before) a same
+    ∙ ap (λ word. raised (prefix ++ pos 0 ∷ replicate (length names) (pos 0)) (position (bytes_eq word) all) (signed (is_negative a) (term_number (canonical_term (nat_abs a) name)))) (name-term_by (nat_abs a == 1) (nat_abs a) name)
+    ∙ ap (λ k. raised (prefix ++ pos 0 ∷ replicate (length names) (pos 0)) (position (bytes_eq name) all) (signed (is_negative a) k)) (number-canonical (nat_abs a) name small)
+    ∙ ap (λ z. raised (prefix ++ pos 0 ∷ replicate (length names) (pos 0)) (position (bytes_eq name) all) z) (signed-abs a)
+    ∙ ap (λ i. raised (prefix ++ pos 0 ∷ replicate (length names) (pos 0)) i a) (place_found all before names name apart e)
+    ∙ raised_at prefix (replicate (length names) (pos 0)) (length before) a same
 
-terms_filled : (all before names : List (List ℕ)) (o : Option Sum) (front coefs : List ℤ) → AllPairs ◌≢◌ all → all ≡ before ++ names
-    → length before ≡ length front → length names ≡ length coefs → Small coefs → coefs_so_far all o ≡ front ++ replicate (length names) (pos 0)
-    → Filled all (terms_sum o names coefs) (front ++ coefs)
-terms_filled all before [] o front [] apart e same len small h = h
-terms_filled all before [] o front (a ∷ coefs) apart e same len small h = absurd (omega arith)
-terms_filled all before (name ∷ names) o front [] apart e same len small h = absurd (omega arith)
-terms_filled all before (name ∷ names) o front (a ∷ coefs) apart e same len small h =
+terms_filled : (all before names : List (List ℕ)) (o : Option Sum) (prefix coefs : List ℤ) → AllPairs ◌≢◌ all → all ≡ before ++ names
+    → length before ≡ length prefix → length names ≡ length coefs → Small coefs → coefs_so_far all o ≡ prefix ++ replicate (length names) (pos 0)
+    → Filled all (terms_sum o names coefs) (prefix ++ coefs)
+terms_filled all before [] o prefix [] apart e same len small h = h
+terms_filled all before [] o prefix (a ∷ coefs) apart e same len small h = absurd (omega arith)
+terms_filled all before (name ∷ names) o prefix [] apart e same len small h = absurd (omega arith)
+terms_filled all before (name ∷ names) o prefix (a ∷ coefs) apart e same len small h =
     let further_names : all ≡ (before ++ name ∷ []) ++ names = e ∙ sym (append_assoc before (name ∷ []) names) in
-    let longer : length (before ++ name ∷ []) ≡ length (front ++ a ∷ []) = omega (arith, length-append before (name ∷ []), length-append front (a ∷ []), same) in
+    let longer : length (before ++ name ∷ []) ≡ length (prefix ++ a ∷ []) = omega (arith, length-append before (name ∷ []), length-append prefix (a ∷ []), same) in
     let shorter : length names ≡ length coefs = omega (arith, len) in
-    let flat : front ++ a ∷ coefs ≡ (front ++ a ∷ []) ++ coefs = sym (append_assoc front (a ∷ []) coefs) in
-    filled_if all (is_zero a) (terms_sum o names coefs) (terms_sum (Some (extended o (is_negative a) (canonical_term (nat_abs a) name))) names coefs) (front ++ a ∷ coefs)
-    (λ z. terms_filled all (before ++ name ∷ []) names o (front ++ a ∷ []) coefs apart further_names longer shorter small.1
-    (h ∙ ap (λ y. front ++ y ∷ replicate (length names) (pos 0)) (sym (zero_of a z)) ∙ sym (append_assoc front (a ∷ []) (replicate (length names) (pos 0))))
+    let flat : prefix ++ a ∷ coefs ≡ (prefix ++ a ∷ []) ++ coefs = sym (append_assoc prefix (a ∷ []) coefs) in
+    filled_if all (is_zero a) (terms_sum o names coefs) (terms_sum (Some (extended o (is_negative a) (canonical_term (nat_abs a) name))) names coefs) (prefix ++ a ∷ coefs)
+    (λ z. terms_filled all (before ++ name ∷ []) names o (prefix ++ a ∷ []) coefs apart further_names longer shorter small.1
+    (h ∙ ap (λ y. prefix ++ y ∷ replicate (length names) (pos 0)) (sym (zero_of a z)) ∙ sym (append_assoc prefix (a ∷ []) (replicate (length names) (pos 0))))
     ∙ sym flat)
-    (λ z. terms_filled all (before ++ name ∷ []) names (Some (extended o (is_negative a) (canonical_term (nat_abs a) name))) (front ++ a ∷ []) coefs apart further_names longer shorter small.1
-    (step_filled all before names name o front a apart e same small.0 h ∙ sym (append_assoc front (a ∷ []) (replicate (length names) (pos 0))))
+    (λ z. terms_filled all (before ++ name ∷ []) names (Some (extended o (is_negative a) (canonical_term (nat_abs a) name))) (prefix ++ a ∷ []) coefs apart further_names longer shorter small.1
+    (step_filled all before names name o prefix a apart e same small.0 h ∙ sym (append_assoc prefix (a ∷ []) (replicate (length names) (pos 0))))
     ∙ sym flat)
 
 set-back : (coefs : List ℤ) (i : ℕ) → slice_set coefs i (get_or coefs i (pos 0) +ℤ pos 0) ≡ coefs
@@ -218,7 +218,7 @@ raised-zero coefs None = refl
 raised-zero coefs (Some i) = set-back coefs i
 
 coefs-sum_or_zero : (names : List (List ℕ)) (o : Option Sum) → coefs_of names (sum_or_zero names o) ≡ coefs_so_far names o
-coefs-sum_or_zero names None = raised-zero (zeros names) (position (λ other. bytes_eq other (head_name names)) names)
+coefs-sum_or_zero names None = raised-zero (zeros names) (position (bytes_eq (head_name names)) names)
 coefs-sum_or_zero names (Some sum) = refl
 
 coefs-canonical : (names : List (List ℕ)) (coefs : List ℤ) → AllPairs ◌≢◌ names → length names ≡ length coefs → Small coefs → coefs_of names (canonical_sum names coefs) ≡ coefs

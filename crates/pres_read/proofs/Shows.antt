@@ -1,7 +1,8 @@
 -- Reading with names and limits, against the tree of productions.
-use Rattle.std.proofs.Common.{◌≡◌, ℕ, zero, suc, ◌^◌, Bool, true, false, List, [], ◌∷◌, ltb, Option, Some, None, IsSome, option_map, Result, Ok, Err, refl, sym, ap, subst, ◌∙◌, ℤ, pos, ◌+ℤ◌, nat_abs, position, slice_set, get_or, codes}
+use Rattle.std.proofs.Common.{◌≡◌, ℕ, zero, suc, Bool, true, false, List, [], ◌∷◌, ltb, Option, Some, None, IsSome, option_map, Result, Ok, Err, refl, sym, ap, subst, ◌∙◌, ℤ, pos, ◌+ℤ◌, nat_abs, position, slice_set, get_or, codes}
 use Rattle.std.specs.Prelude.{if◌then◌else◌}
 use Rattle.std.specs.Str.{bytes_eq}
+use Rattle.pres_ast.specs.declared.limits.TheConstants.{COEFFICIENT_LIMIT, MODULUS_LIMIT}
 use Rattle.pres_ast.specs.PredTree.{PredTree, Negation}
 use Rattle.pres_tokens.specs.declared.token.Relation.{Relation}
 use Rattle.pres_tokens.specs.declared.token.Relation.TheVariants.{Less, AtMost, Greater, AtLeast, Equal, Unequal}
@@ -58,7 +59,7 @@ shown names place (Done above ors c) = record {
 abbrev pub IsShown : List (List ℕ) → Progress → Trace → Type 0
 IsShown names p a = (place : ℕ) × (p ≡ shown names place a)
 
--- a fault is of syntax exactly where the trace can't go on
+-- a fault is of syntax exactly when the trace can't go on
 abbrev pub FaultAt : {A : Type 0} → ReadPred → Option A → ℕ → Type 0
 FaultAt (Syntax at) o place = (o ≡ None) × (at ≡ place)
 FaultAt (UnknownName at) o place = IsSome o
@@ -105,7 +106,7 @@ IsAdded (Ok s) x = s ≡ x
 IsAdded (Err e) x = FaultAt e (Some x) 0
 
 coef_added : (coefs : List ℤ) (i : ℕ) (z : ℤ) (place : ℕ) → IsAdded (with_coef coefs i z place) (slice_set coefs i z)
-coef_added coefs i z place = by_test (ltb (2 ^ 31) (nat_abs z))
+coef_added coefs i z place = by_test (ltb COEFFICIENT_LIMIT (nat_abs z))
   where
     by_test : (b : Bool) → IsAdded (if b then Err (TooLarge place) else Ok (slice_set coefs i z)) (slice_set coefs i z)
     by_test true = refl
@@ -122,7 +123,7 @@ number_added coefs i factor limit v = by_test (ltb limit v)
 term_added : (coefs : List ℤ) (o : Option ℕ) (factor : Factor) (place : ℕ)
     → IsAdded (with_term coefs o factor place) (raised coefs o (signed factor.negative (value_of factor.digits)))
 term_added coefs None factor place = refl
-term_added coefs (Some i) factor place = number_added coefs i factor (2 ^ 31) (value_of factor.digits)
+term_added coefs (Some i) factor place = number_added coefs i factor COEFFICIENT_LIMIT (value_of factor.digits)
 
 sum_agrees : (names : List (List ℕ)) (above : List Side) (side : Side) (place : ℕ) (r : Result (List ℤ) ReadPred) (x : List ℤ) (sum : Sum)
     → coefs_of names sum ≡ x → IsAdded r x → Agrees names (after_sum (around_side names above side) r) (Some (Inside above side (IRelation sum))) place
@@ -135,20 +136,20 @@ sum_agrees names above side place (Err (LongText at)) x sum e h = absurd h
 sum_agrees names above side place (Err NoMemory) x sum e h = absurd h
 
 added_agrees : (names : List (List ℕ)) (above : List Side) (side : Side) (place at : ℕ) (lead : Lead) (digits word : List ℕ) (term : Term)
-    → coefs_of names (sum_with lead term) ≡ raised (lead_coefs names lead) (position (λ name. bytes_eq name word) names) (signed (lead_negative lead) (value_of digits))
+    → coefs_of names (sum_with lead term) ≡ raised (lead_coefs names lead) (position (bytes_eq word) names) (signed (lead_negative lead) (value_of digits))
     → Agrees names (after_sum (around_side names above side) (added names (lead_coefs names lead) (lead_factor lead digits at) place word)) (Some (Inside above side (IRelation (sum_with lead term)))) place
 added_agrees names above side place at lead digits word term e =
     sum_agrees names above side place (added names (lead_coefs names lead) (lead_factor lead digits at) place word)
-    (raised (lead_coefs names lead) (position (λ name. bytes_eq name word) names) (signed (lead_negative lead) (value_of digits))) (sum_with lead term) e
-    (term_added (lead_coefs names lead) (position (λ name. bytes_eq name word) names) (lead_factor lead digits at) place)
+    (raised (lead_coefs names lead) (position (bytes_eq word) names) (signed (lead_negative lead) (value_of digits))) (sum_with lead term) e
+    (term_added (lead_coefs names lead) (position (bytes_eq word) names) (lead_factor lead digits at) place)
 
 coefs-bare : (names : List (List ℕ)) (lead : Lead) (word : List ℕ)
-    → coefs_of names (sum_with lead (bare word)) ≡ raised (lead_coefs names lead) (position (λ name. bytes_eq name word) names) (signed (lead_negative lead) (value_of (codes "1")))
+    → coefs_of names (sum_with lead (bare word)) ≡ raised (lead_coefs names lead) (position (bytes_eq word) names) (signed (lead_negative lead) (value_of (codes "1")))
 coefs-bare names (begin negative) word = refl
 coefs-bare names (after sum negative) word = refl
 
 coefs-times : (names : List (List ℕ)) (lead : Lead) (digits word : List ℕ)
-    → coefs_of names (sum_with lead (times digits word)) ≡ raised (lead_coefs names lead) (position (λ name. bytes_eq name word) names) (signed (lead_negative lead) (value_of digits))
+    → coefs_of names (sum_with lead (times digits word)) ≡ raised (lead_coefs names lead) (position (bytes_eq word) names) (signed (lead_negative lead) (value_of digits))
 coefs-times names (begin negative) digits word = refl
 coefs-times names (after sum negative) digits word = refl
 
@@ -247,9 +248,9 @@ modulo_agrees names above side sum unequal negative digits place Mod = (place, r
 modulo_agrees names above side sum unequal negative digits place s = equality_agrees names above side sum unequal negative digits place s
 
 modulus_within : (names : List (List ℕ)) (above : List Side) (side : Side) (sum : Sum) (unequal negative : Bool) (digits modulus : List ℕ) (place : ℕ)
-    → Agrees names (with_modulus (around_side names above side) (coefs_of names sum) unequal (signed negative (value_of digits)) place (value_within 200 (value_of modulus)))
+    → Agrees names (with_modulus (around_side names above side) (coefs_of names sum) unequal (signed negative (value_of digits)) place (value_within MODULUS_LIMIT (value_of modulus)))
     (Some (unit_done above side (atom (modular sum unequal negative digits modulus)))) place
-modulus_within names above side sum unequal negative digits modulus place = by_test (ltb 200 (value_of modulus))
+modulus_within names above side sum unequal negative digits modulus place = by_test (ltb MODULUS_LIMIT (value_of modulus))
   where
     least : (b : Bool) → Agrees names (if b then Err (TooLarge place) else Ok (after_unit (around_side names above side) (congruent (coefs_of names sum) unequal (signed negative (value_of digits)) (value_of modulus)))) (Some (unit_done above side (atom (modular sum unequal negative digits modulus)))) place
     least true = refl

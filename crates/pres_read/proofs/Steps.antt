@@ -2,6 +2,7 @@
 use Rattle.std.proofs.Common.{◌≡◌, ℕ, ◌+◌, ◌≤◌, Bool, true, false, List, [], ◌∷◌, length, ltb, Option, Some, None, IfSome, IfOk, Result, Ok, Err, refl, ap, subst, ◌∙◌, arith, ℤ, nat_abs}
 use Rattle.std.specs.Prelude.{if◌then◌else◌}
 use Rattle.std.proofs.lemmas.Bool.{ltb-false}
+use Rattle.pres_ast.specs.declared.limits.TheConstants.{MODULUS_LIMIT}
 use Rattle.pres_ast.specs.PredTree.{PredTree}
 use Rattle.pres_ast.specs.PredModel.{AreCoefs, HasAtoms, weight_of}
 use Rattle.pres_tokens.specs.declared.token.Relation.{Relation}
@@ -179,7 +180,7 @@ modulo_goes n charge a coefs unequal c place Mod rests h g =
 modulo_goes n charge a coefs unequal c place s rests h g = equality_goes n charge a coefs unequal c place s rests h g
 
 with_modulus_goes : (n charge : ℕ) (a : Around) (coefs : List ℤ) (unequal : Bool) (c : ℤ) (place : ℕ) (o : Option ℕ)
-    → Rests n a charge → AreCoefs n coefs → IfSome o (λ m. m ≤ 200) → Goes n (charge + equality_weight unequal) (with_modulus a coefs unequal c place o)
+    → Rests n a charge → AreCoefs n coefs → IfSome o (λ m. m ≤ MODULUS_LIMIT) → Goes n (charge + equality_weight unequal) (with_modulus a coefs unequal c place o)
 with_modulus_goes n charge a coefs unequal c place None rests h g = tt
 with_modulus_goes n charge a coefs unequal c place (Some m) rests h g = by_test (ltb m 2) refl
   where
@@ -194,8 +195,8 @@ modulus_goes : (n charge : ℕ) (a : Around) (coefs : List ℤ) (unequal : Bool)
     → Rests n a charge → AreCoefs n coefs → Goes n (charge + equality_weight unequal + charge_of s) (at_modulus a coefs unequal c place s)
 modulus_goes n charge a coefs unequal c place (Number digits) rests h =
     weighs n (charge + equality_weight unequal) (charge + equality_weight unequal + 0)
-    (with_modulus a coefs unequal c place (value_within 200 (value_of digits))) (omega arith)
-    (with_modulus_goes n charge a coefs unequal c place (value_within 200 (value_of digits)) rests h (within_limit 200 (value_of digits)))
+    (with_modulus a coefs unequal c place (value_within MODULUS_LIMIT (value_of digits))) (omega arith)
+    (with_modulus_goes n charge a coefs unequal c place (value_within MODULUS_LIMIT (value_of digits)) rests h (within_limit MODULUS_LIMIT (value_of digits)))
 modulus_goes n charge a coefs unequal c place s rests h = tt
 
 next_goes : (charge : ℕ) (names : List (List ℕ)) (a : Around) (next : Next) (place : ℕ) (s : Symbol)

@@ -1,7 +1,9 @@
 -- The trees of atoms, from their sum, relation and constant.
-use Rattle.std.specs.Prelude.{ℕ, ◌-◌, ◌^◌, Bool, true, false, if◌then◌else◌, nat_lt, List, Option, Some, None, Result, Ok, Err, map, position, slice_set, slice_index_or, ℤ, pos, ◌+ℤ◌, ◌-ℤ◌, neg_ℤ, nat_abs, codes}
+use Rattle.std.specs.Prelude.{ℕ, ◌-◌, Bool, true, false, if◌then◌else◌, nat_lt, List, Option, Some, None, Result, Ok, Err, map, position}
+use Rattle.std.specs.Prelude.{slice_set, slice_index_or, ℤ, pos, ◌+ℤ◌, ◌-ℤ◌, neg_ℤ, nat_abs, codes}
 use Rattle.std.specs.Int.{int_rem_euclid}
 use Rattle.std.specs.Str.{bytes_eq}
+use Rattle.pres_ast.specs.declared.limits.TheConstants.{COEFFICIENT_LIMIT, BOUND_LIMIT}
 use Rattle.pres_ast.specs.PredTree.{PredTree, LessThan, Congruent, Negation, Conjunction}
 use Rattle.pres_tokens.specs.declared.token.Relation.{Relation}
 use Rattle.pres_tokens.specs.declared.token.Relation.TheVariants.{Less, AtMost, Greater, AtLeast, Equal, Unequal}
@@ -42,12 +44,12 @@ congruent coefs unequal c m = negated_if unequal (Congruent coefs m (remainder c
 
 -- the greatest constant after a relation
 abbrev pub constant_limit : Relation → ℕ
-constant_limit Less = 2 ^ 40
-constant_limit AtMost = 2 ^ 40 - 1
-constant_limit Greater = 2 ^ 40 - 1
-constant_limit AtLeast = 2 ^ 40 - 1
-constant_limit Equal = 2 ^ 40 - 1
-constant_limit Unequal = 2 ^ 40 - 1
+constant_limit Less = BOUND_LIMIT
+constant_limit AtMost = BOUND_LIMIT - 1
+constant_limit Greater = BOUND_LIMIT - 1
+constant_limit AtLeast = BOUND_LIMIT - 1
+constant_limit Equal = BOUND_LIMIT - 1
+constant_limit Unequal = BOUND_LIMIT - 1
 
 -- a term's sign and number, and where the term begins
 pub record Factor : Type 0 where
@@ -61,7 +63,7 @@ lone negative place = record { negative = negative; digits = codes "1"; place = 
 
 -- the coefficients in which that of variable i is z, where that is at most 2^31 in size
 abbrev pub with_coef : List ℤ → ℕ → ℤ → ℕ → Result (List ℤ) ReadPred
-with_coef coefs i z place = if nat_lt (2 ^ 31) (nat_abs z) then Err (TooLarge place) else Ok (slice_set coefs i z)
+with_coef coefs i z place = if nat_lt COEFFICIENT_LIMIT (nat_abs z) then Err (TooLarge place) else Ok (slice_set coefs i z)
 
 abbrev pub with_number : List ℤ → ℕ → Factor → Option ℕ → Result (List ℤ) ReadPred
 with_number coefs i factor None = Err (TooLarge factor.place)
@@ -69,8 +71,8 @@ with_number coefs i factor (Some n) = with_coef coefs i (slice_index_or coefs i 
 
 abbrev pub with_term : List ℤ → Option ℕ → Factor → ℕ → Result (List ℤ) ReadPred
 with_term coefs None factor place = Err (UnknownName place)
-with_term coefs (Some i) factor place = with_number coefs i factor (value_within (2 ^ 31) (value_of factor.digits))
+with_term coefs (Some i) factor place = with_number coefs i factor (value_within COEFFICIENT_LIMIT (value_of factor.digits))
 
 -- the coefficients after a term at this name: those of equal names add up
 abbrev pub added : List (List ℕ) → List ℤ → Factor → ℕ → List ℕ → Result (List ℤ) ReadPred
-added names coefs factor place word = with_term coefs (position (λ name. bytes_eq name word) names) factor place
+added names coefs factor place word = with_term coefs (position (bytes_eq word) names) factor place

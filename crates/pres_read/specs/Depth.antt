@@ -1,5 +1,7 @@
 -- The charge of the signs and the open parentheses.
 use Rattle.std.specs.Prelude.{ℕ, ◌+◌, ◌-◌, ◌||◌, if◌then◌else◌, nat_lt, Result, Ok, Err}
+use Rattle.pres_ast.specs.declared.limits.TheConstants.{WEIGHT_LIMIT}
+use Rattle.pres_read.specs.declared.depth.TheConstants.{PARENTHESIS_LIMIT}
 use Rattle.pres_tokens.specs.declared.token.Relation.{Relation}
 use Rattle.pres_tokens.specs.declared.token.Relation.TheVariants.{Less, AtMost, Greater, AtLeast, Equal, Unequal}
 use Rattle.pres_tokens.specs.Symbols.{Symbol, Name, Number, Plus, Minus, Star, Compare, And, Or, Not, Open, Close, Mod, Stray, Placed}
@@ -57,7 +59,7 @@ deeper d s = record { charge = d.charge + charge_of s; parentheses = parentheses
 
 -- at most 64 of each
 abbrev pub within_depth : Placed → Depth → Result Depth ReadPred
-within_depth t d = if nat_lt 64 d.charge || nat_lt 64 d.parentheses then Err (TooDeep t.place) else Ok d
+within_depth t d = if nat_lt WEIGHT_LIMIT d.charge || nat_lt PARENTHESIS_LIMIT d.parentheses then Err (TooDeep t.place) else Ok d
 
 abbrev pub sunk : Depth → Placed → Result Depth ReadPred
 sunk d t = within_depth t (deeper d t.symbol)

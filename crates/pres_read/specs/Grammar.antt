@@ -100,7 +100,7 @@ raised coefs (Some i) z = slice_set coefs i (slice_index_or coefs i (pos 0) +ℤ
 -- the coefficients with a further term: those of equal names add up
 abbrev pub with_a_term : List (List ℕ) → List ℤ → Bool → Term → List ℤ
 with_a_term names coefs negative term =
-    raised coefs (position (λ name. bytes_eq name (term_name term)) names) (signed negative (term_number term))
+    raised coefs (position (bytes_eq (term_name term)) names) (signed negative (term_number term))
 
 abbrev pub coefs_of : List (List ℕ) → Sum → List ℤ
 coefs_of names (first negative term) = with_a_term names (zeros names) negative term

@@ -7,6 +7,7 @@ pub mod Reading
 pub mod Grammar
 pub mod Texts
 pub mod Rules
+pub mod Faults
 pub mod Canonical
 pub mod Sound
 pub mod Views

@@ -1,4 +1,4 @@
--- What is known of a predicate after a front of its tokens.
+-- What is known of a predicate after a prefix of its tokens.
 use Rattle.std.specs.Prelude.{ℕ, Bool, List, [], Option, None, ℤ}
 use Rattle.pres_ast.specs.PredTree.{PredTree}
 use Rattle.pres_read.specs.Atoms.{Factor}

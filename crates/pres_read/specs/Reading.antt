@@ -1,6 +1,9 @@
 -- What reading a text gives: the tree, or the first token that breaks a rule.
-use Rattle.std.specs.Prelude.{ℕ, Bool, true, false, if◌then◌else◌, nat_lt, List, [], ◌∷◌, length, Option, Some, None, Result, Ok, Err, replicate, ℤ, pos}
+use Rattle.std.specs.Prelude.{ℕ, Bool, true, false, if◌then◌else◌, nat_lt, List, [], ◌∷◌, length, Option, Some, None, Result, Ok, Err}
+use Rattle.std.specs.Prelude.{replicate, ℤ, pos}
 use Rattle.std.proofs.Common.{zero, suc}
+use Rattle.pres_ast.specs.declared.limits.TheConstants.{MODULUS_LIMIT}
+use Rattle.pres_read.specs.declared.read.TheConstants.{TEXT_LIMIT}
 use Rattle.pres_ast.specs.PredTree.{PredTree, Negation, Conjunction, Disjunction}
 use Rattle.pres_ast.specs.PredModel.{PredModel}
 use Rattle.pres_tokens.specs.declared.token.Relation.{Relation}
@@ -12,7 +15,8 @@ use Rattle.pres_read.specs.declared.fault.ReadPred.TheVariants.{Syntax, TooLarge
 use Rattle.pres_read.specs.Outcome.{◌>>=◌}
 use Rattle.pres_read.specs.Atoms.{signed, equality, negated_if, compared, congruent, constant_limit, Factor, lone, added}
 use Rattle.pres_read.specs.Numbers.{value_of, value_within}
-use Rattle.pres_read.specs.Progress.{Span, clear, Around, Next, AUnit, ATerm, AStar, AName, ARelation, AConstant, ANumber, AModulo, AModulus, ASign, Progress, start}
+use Rattle.pres_read.specs.Progress.{Span, clear, Around, Next, AUnit, ATerm, AStar, AName, ARelation, AConstant, ANumber, AModulo}
+use Rattle.pres_read.specs.Progress.{AModulus, ASign, Progress, start}
 use Rattle.pres_read.specs.Depth.{Depth, surface, sunk}
 
 abbrev pub negated : ℕ → PredTree → PredTree
@@ -101,7 +105,7 @@ with_modulus a coefs unequal c place (Some m) =
 
 abbrev pub at_modulus : Around → List ℤ → Bool → ℤ → ℕ → Symbol → Result Progress ReadPred
 at_modulus a coefs unequal c place (Number digits) =
-    with_modulus a coefs unequal c place (value_within 200 (value_of digits))
+    with_modulus a coefs unequal c place (value_within MODULUS_LIMIT (value_of digits))
 at_modulus a coefs unequal c place s = Err (Syntax place)
 
 -- a `)` ends the innermost parenthesis, whose predicate is a unit
@@ -182,7 +186,7 @@ run names end p d (t ∷ ts) = read_on names p d t >>= λ q. run names end q.0 q
 
 abbrev pub tree_read : List (List ℕ) → List ℕ → Result PredTree ReadPred
 tree_read names text =
-    if nat_lt 1048576 (length text) then Err (LongText (length text)) else run names (length text) start surface (tokens_of text)
+    if nat_lt TEXT_LIMIT (length text) then Err (LongText (length text)) else run names (length text) start surface (tokens_of text)
 
 abbrev pub over : ℕ → Result PredTree ReadPred → Result PredModel ReadPred
 over n (Ok p) = Ok (record { variables = n; tree = p })

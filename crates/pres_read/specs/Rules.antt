@@ -1,21 +1,26 @@
 -- The rules on names, numbers and depth, over trees of productions and their symbols.
-use Rattle.std.specs.Prelude.{◌≤◌, ◌^◌, ℕ, Bool, List, [], ◌∷◌, Option, Some, None, position, slice_index_or, IsSome, ℤ, pos, ◌+ℤ◌, nat_abs}
+use Rattle.std.specs.Prelude.{◌≡◌, ◌≤◌, ℕ, Bool, true, false, ◌++◌, List, [], ◌∷◌, Option, Some, None, position, slice_index_or, IsSome, ℤ}
+use Rattle.std.specs.Prelude.{pos, ◌+ℤ◌, nat_abs}
 use Rattle.std.specs.Str.{bytes_eq}
+use Rattle.pres_ast.specs.declared.limits.TheConstants.{COEFFICIENT_LIMIT, MODULUS_LIMIT, WEIGHT_LIMIT}
+use Rattle.pres_read.specs.declared.depth.TheConstants.{PARENTHESIS_LIMIT}
+use Rattle.pres_tokens.specs.declared.token.Relation.{Relation}
 use Rattle.pres_tokens.specs.Symbols.{Symbol, Name, Number, Plus, Minus, Star, Compare, And, Or, Not, Open, Close, Mod, Stray}
 use Rattle.pres_read.specs.Numbers.{value_of}
 use Rattle.pres_read.specs.Atoms.{signed, constant_limit}
-use Rattle.pres_read.specs.Depth.{Depth, deeper}
+use Rattle.pres_read.specs.Depth.{Depth, surface, deeper}
 use Rattle.pres_read.specs.Reading.{zeros}
-use Rattle.pres_read.specs.Grammar.{Term, Sum, first, further, Atom, plain, modular, Part, Phrase, conj, either, unit, both, negate, group, atom, equal_or_not, term_name, term_number, coefs_of}
+use Rattle.pres_read.specs.Grammar.{Term, Sum, first, further, Atom, plain, modular, Part, Phrase, conj, either, unit, both, negate, group}
+use Rattle.pres_read.specs.Grammar.{atom, sum_symbols, equal_or_not, constant_symbols, term_name, term_number, coefs_of}
 
--- the name is a variable's, and its coefficient with z more is at most 2^31 in size
+-- the name is a variable's, and its coefficient with z more is within the limit
 abbrev pub CoefFits : List ℤ → Option ℕ → ℤ → Type 0
 CoefFits coefs None z = ⊥
-CoefFits coefs (Some i) z = nat_abs (slice_index_or coefs i (pos 0) +ℤ z) ≤ 2 ^ 31
+CoefFits coefs (Some i) z = nat_abs (slice_index_or coefs i (pos 0) +ℤ z) ≤ COEFFICIENT_LIMIT
 
 abbrev pub TermFits : List (List ℕ) → List ℤ → Bool → Term → Type 0
 TermFits names coefs negative term =
-    (term_number term ≤ 2 ^ 31) × CoefFits coefs (position (λ name. bytes_eq name (term_name term)) names) (signed negative (term_number term))
+    (term_number term ≤ COEFFICIENT_LIMIT) × CoefFits coefs (position (bytes_eq (term_name term)) names) (signed negative (term_number term))
 
 abbrev pub SumFits : List (List ℕ) → Sum → Type 0
 SumFits names (first negative term) = TermFits names (zeros names) negative term
@@ -24,7 +29,7 @@ SumFits names (further sum negative term) = SumFits names sum × TermFits names 
 abbrev pub AtomFits : List (List ℕ) → Atom → Type 0
 AtomFits names (plain sum relation negative digits) = SumFits names sum × (value_of digits ≤ constant_limit relation)
 AtomFits names (modular sum unequal negative digits modulus) =
-    SumFits names sum × (value_of digits ≤ constant_limit (equal_or_not unequal)) × (2 ≤ value_of modulus) × (value_of modulus ≤ 200)
+    SumFits names sum × (value_of digits ≤ constant_limit (equal_or_not unequal)) × (2 ≤ value_of modulus) × (value_of modulus ≤ MODULUS_LIMIT)
 
 -- names are known, and numbers within their limits
 abbrev pub Fits : {part : Part} → List (List ℕ) → Phrase part → Type 0
@@ -36,14 +41,14 @@ Fits names (negate p) = Fits names p
 Fits names (group p) = Fits names p
 Fits names (atom a) = AtomFits names a
 
--- nowhere is more than 64 charged, or are more than 64 parentheses open
+-- nowhere is more charged than the weight of a predicate, or are too many parentheses open
 abbrev pub IsShallow : Depth → List Symbol → Type 0
 IsShallow d [] = Unit {0}
-IsShallow d (s ∷ ss) = ((deeper d s).charge ≤ 64) × ((deeper d s).parentheses ≤ 64) × IsShallow (deeper d s) ss
+IsShallow d (s ∷ ss) = ((deeper d s).charge ≤ WEIGHT_LIMIT) × ((deeper d s).parentheses ≤ PARENTHESIS_LIMIT) × IsShallow (deeper d s) ss
 
 -- a name is a variable's
 abbrev pub IsKnown : List (List ℕ) → Symbol → Type 0
-IsKnown names (Name word) = IsSome (position (λ name. bytes_eq name word) names)
+IsKnown names (Name word) = IsSome (position (bytes_eq word) names)
 IsKnown names (Number digits) = Unit {0}
 IsKnown names Plus = Unit {0}
 IsKnown names Minus = Unit {0}
@@ -60,3 +65,36 @@ IsKnown names Stray = Unit {0}
 abbrev pub AreKnown : List (List ℕ) → List Symbol → Type 0
 AreKnown names [] = Unit {0}
 AreKnown names (s ∷ ss) = IsKnown names s × AreKnown names ss
+
+-- whether the last symbol is so; `none` where there is none
+abbrev pub last_is : (Symbol → Bool) → Bool → List Symbol → Bool
+last_is test none [] = none
+last_is test none (s ∷ []) = test s
+last_is test none (s ∷ t ∷ ss) = last_is test none (t ∷ ss)
+
+-- a unit begins after these
+abbrev pub opens : Symbol → Bool
+opens And = true
+opens Or = true
+opens Not = true
+opens Open = true
+opens s = false
+
+abbrev pub is_star : Symbol → Bool
+is_star Star = true
+is_star s = false
+
+-- each sum, constant and modulus that stands whole in the symbols is within the limits
+pub record NumbersFit (names : List (List ℕ)) (ss : List Symbol) : Type 0 where
+  pub sums : (before later : List Symbol) (sum : Sum) → ss ≡ before ++ (sum_symbols sum ++ later) → last_is opens true before ≡ true → SumFits names sum
+  pub constants : (before later : List Symbol) (relation : Relation) (negative : Bool) (digits : List ℕ)
+      → ss ≡ before ++ Compare relation ∷ (constant_symbols negative digits ++ later)
+      → value_of digits ≤ constant_limit relation
+  pub moduli : (before later : List Symbol) (digits : List ℕ) → ss ≡ before ++ Mod ∷ Number digits ∷ later
+      → (2 ≤ value_of digits) × (value_of digits ≤ MODULUS_LIMIT)
+
+-- the symbols keep all rules on names, numbers and depth
+pub record KeepsRules (names : List (List ℕ)) (ss : List Symbol) : Type 0 where
+  pub known : AreKnown names ss
+  pub numbers : NumbersFit names ss
+  pub shallow : IsShallow surface ss

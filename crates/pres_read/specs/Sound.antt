@@ -1,5 +1,6 @@
--- What is known after a front of the tokens is within the limits of a predicate, and weighs what the signs are charged.
-use Rattle.std.specs.Prelude.{◌≡◌, ◌≤◌, ◌+◌, ◌-◌, ◌^◌, ℕ, Bool, true, false, List, [], ◌∷◌, Option, Some, None, ℤ, nat_abs}
+-- What is known after a prefix of the tokens is within the limits of a predicate, and weighs what the signs are charged.
+use Rattle.std.specs.Prelude.{◌≡◌, ◌≤◌, ◌+◌, ◌-◌, ℕ, Bool, true, false, List, [], ◌∷◌, Option, Some, None, ℤ, nat_abs}
+use Rattle.pres_ast.specs.declared.limits.TheConstants.{BOUND_LIMIT}
 use Rattle.pres_ast.specs.PredTree.{PredTree}
 use Rattle.pres_ast.specs.PredModel.{AreCoefs, HasAtoms, weight_of}
 use Rattle.pres_read.specs.Progress.{Span, Next, AUnit, ATerm, AStar, AName, ARelation, AConstant, ANumber, AModulo, AModulus, ASign, Progress}
@@ -45,7 +46,7 @@ HasSpans n [] = Unit {0}
 HasSpans n (s ∷ spans) = HasSpan n s × HasSpans n spans
 
 abbrev pub IsConstant : ℤ → Type 0
-IsConstant c = nat_abs c ≤ 2 ^ 40 - 1
+IsConstant c = nat_abs c ≤ BOUND_LIMIT - 1
 
 abbrev pub HasNext : ℕ → Next → Type 0
 HasNext n AUnit = Unit {0}

@@ -1,5 +1,5 @@
 -- Texts of the grammar, and where one can't go on.
-use Rattle.std.specs.Prelude.{◌≡◌, ℕ, List, [], ◌∷◌, ◌++◌, length, map, Result, Ok, Err}
+use Rattle.std.specs.Prelude.{◌≡◌, ℕ, List, [], ◌∷◌, ◌++◌, map, Result, Ok, Err}
 use Rattle.pres_ast.specs.PredTree.{PredTree}
 use Rattle.pres_ast.specs.PredModel.{PredModel}
 use Rattle.pres_tokens.specs.Symbols.{Symbol, Placed}
@@ -16,29 +16,20 @@ abbrev pub text_symbols : List ℕ → List Symbol
 text_symbols text = symbols_of (tokens_of text)
 
 -- some text of the grammar begins with these symbols
-pub record Begins (front : List Symbol) : Type 0 where
+pub record Begins (prefix : List Symbol) : Type 0 where
   pub more : List Symbol
   pub phrase : Phrase APred
-  pub spelled : symbols phrase ≡ front ++ more
+  pub spelled : symbols phrase ≡ prefix ++ more
 
 -- no text of the grammar has the next token after these symbols, or none ends after them
 abbrev pub IsStuck : List Symbol → List Placed → Type 0
-IsStuck front [] = (p : Phrase APred) → symbols p ≡ front → ⊥
-IsStuck front (t ∷ ts) = (p : Phrase APred) (more : List Symbol) → symbols p ≡ front ++ t.symbol ∷ more → ⊥
+IsStuck prefix [] = (p : Phrase APred) → symbols p ≡ prefix → ⊥
+IsStuck prefix (t ∷ ts) = (p : Phrase APred) (more : List Symbol) → symbols p ≡ prefix ++ t.symbol ∷ more → ⊥
 
 -- the place of the next token, or the text's length
 abbrev pub place_of : List Placed → ℕ → ℕ
 place_of [] end = end
 place_of (t ∷ ts) end = t.place
-
--- the first token that no text of the grammar has after the tokens before it: these begin one
-pub record IsSyntaxFault (text : List ℕ) (at : ℕ) : Type 0 where
-  pub before : List Placed
-  pub rest : List Placed
-  pub tokens : tokens_of text ≡ before ++ rest
-  pub begins : Begins (symbols_of before)
-  pub stuck : IsStuck (symbols_of before) rest
-  pub place : place_of rest (length text) ≡ at
 
 -- what may be answered for a text that the grammar relates to this tree: the tree, or a rule on names, numbers or depth
 abbrev pub IsReadAs : PredTree → Result PredModel ReadPred → Type 0
@@ -50,7 +41,7 @@ IsReadAs tree (Err (TooDeep at)) = Unit {0}
 IsReadAs tree (Err (LongText n)) = Unit {0}
 IsReadAs tree (Err NoMemory) = Unit {0}
 
--- the tree is read, unless memory ran out
+-- the tree is read, unless out of memory
 abbrev pub IsReadTo : PredTree → Result PredModel ReadPred → Type 0
 IsReadTo tree (Ok pred) = pred.tree ≡ tree
 IsReadTo tree (Err (Syntax at)) = ⊥

@@ -6,7 +6,7 @@ ghost use Rattle.pres_ast.specs.TreeOf.{tree_of};
 ghost use Rattle.pres_read.specs.Atoms.{turned as turned_coefs, negated_if as negation_if, equality as equality_tree, compared as compared_tree, congruent as congruent_tree, constant_limit as limit_of};
 
 use pop_io::{List, NoMemory};
-use pres_ast::Tree;
+use pres_ast::{BOUND_LIMIT, COEFFICIENT_LIMIT, MODULUS_LIMIT, Tree};
 use pres_tokens::Relation;
 use std::alloc::{AllocError, Global};
 
@@ -15,13 +15,13 @@ pub(crate) fn constant_limit(relation: Relation) -> u64
     ensures { result ≡ limit_of relation }
 {
     match relation {
-        Relation::Less => 1_099_511_627_776,
-        _ => 1_099_511_627_775,
+        Relation::Less => BOUND_LIMIT,
+        _ => BOUND_LIMIT - 1,
     }
 }
 
 fn turned(alloc: Global, coefs: &[i64]) -> Result<Vec<i64>, AllocError>
-    requires { All (λ a. nat_abs a ≤ 2 ^ 31) coefs.now }
+    requires { All (λ a. nat_abs a ≤ COEFFICIENT_LIMIT) coefs.now }
     ensures { IfOk result (λ sum. sum.items ≡ turned_coefs coefs.now) }
 {
     let mut turned = Vec::with_capacity(alloc, coefs.len())?;
@@ -52,8 +52,8 @@ pub(crate) fn negated_if(alloc: Global, negative: bool, tree: Tree) -> Result<Tr
 
 /// The sum equals the constant.
 pub(crate) fn equality(alloc: Global, coefs: Vec<i64>, constant: i64) -> Result<Tree, NoMemory>
-    requires coefs { All (λ a. nat_abs a ≤ 2 ^ 31) coefs.items }
-    requires constant { nat_abs constant ≤ 2 ^ 40 - 1 }
+    requires coefs { All (λ a. nat_abs a ≤ COEFFICIENT_LIMIT) coefs.items }
+    requires constant { nat_abs constant ≤ BOUND_LIMIT - 1 }
     ensures { IfOk result (λ tree. tree_of tree ≡ equality_tree coefs.items constant) }
 {
     let opposite = turned(alloc, coefs.as_slice())?;
@@ -69,7 +69,7 @@ pub(crate) fn compared(
     relation: Relation,
     constant: i64,
 ) -> Result<Tree, NoMemory>
-    requires coefs { All (λ a. nat_abs a ≤ 2 ^ 31) coefs.items }
+    requires coefs { All (λ a. nat_abs a ≤ COEFFICIENT_LIMIT) coefs.items }
     requires constant { nat_abs constant ≤ limit_of relation }
     ensures { IfOk result (λ tree. tree_of tree ≡ compared_tree coefs.items relation constant) }
 {
@@ -92,7 +92,7 @@ pub(crate) fn congruent(
     modulus: u32,
 ) -> Result<Tree, NoMemory>
     requires positive { 2 ≤ modulus }
-    requires small { modulus ≤ 200 }
+    requires small { modulus ≤ MODULUS_LIMIT }
     ensures { IfOk result (λ tree. tree_of tree ≡ congruent_tree coefs.items unequal constant modulus) }
 {
     let rest = constant.rem_euclid(i64::from(modulus)) as u32;

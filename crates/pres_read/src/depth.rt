@@ -7,10 +7,11 @@ ghost use Rattle.pres_read.specs.Depth.{charge_of as symbol_charge, relation_cha
 ghost use Rattle.pres_read.specs.Views.{depth_of};
 
 use crate::fault::ReadPred;
+use pres_ast::WEIGHT_LIMIT;
 use pres_tokens::{Kind, Relation, Token};
 
-/// At most this much is charged, and so many parentheses are open.
-const DEPTH_LIMIT: u32 = 64;
+/// The greatest number of open parentheses.
+pub const PARENTHESIS_LIMIT: u32 = 64;
 
 #[derive(Clone, Copy)]
 pub(crate) struct Depth {
@@ -30,8 +31,8 @@ impl Depth {
 
     /// The depth after a token.
     pub fn after(self, token: Token<'_>) -> Result<Depth, ReadPred>
-        requires charge { self.charge ≤ 64 }
-        requires parentheses { self.parentheses ≤ 64 }
+        requires charge { self.charge ≤ WEIGHT_LIMIT }
+        requires parentheses { self.parentheses ≤ PARENTHESIS_LIMIT }
         ensures { Gives depth_of result (sunk (depth_of self) (token_of token.entry)) }
     {
         let charge = self.charge + charge_of(token.kind);
@@ -40,7 +41,7 @@ impl Depth {
             Kind::Close => self.parentheses.saturating_sub(1),
             _ => self.parentheses,
         };
-        if charge > DEPTH_LIMIT || parentheses > DEPTH_LIMIT {
+        if charge > WEIGHT_LIMIT || parentheses > PARENTHESIS_LIMIT {
             return Err(ReadPred::TooDeep(token.place));
         }
         Ok(Depth {

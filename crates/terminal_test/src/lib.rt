@@ -5,9 +5,11 @@
 
 mod agreement;
 mod enabled;
+mod loud;
+mod pair_table;
+mod partner;
+mod restless;
 
 pub use agreement::agreed;
 pub use enabled::enabled_pair;
-
-#[cfg(test)]
-mod tests;
+pub use pair_table::PairTable;

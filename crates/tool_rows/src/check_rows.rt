@@ -229,7 +229,7 @@ fn proofs_are_certified(rt: HostRuntime) -> Result<(), Fail> {
     for (parts, text) in CERTIFIED {
         let line = line_of(alloc, &parts)?;
         assert!(rt;
-            is_given_both_ways(alloc, "check", line.as_str(), text, Status::Done)?,
+            is_given_both_ways(&rt, alloc, "check", line.as_str(), text, Status::Done)?,
             "{text}"
         );
     }
@@ -244,6 +244,7 @@ fn proofs_are_rejected(rt: HostRuntime) -> Result<(), Fail> {
         let text = format!(in alloc; "rejected {what}\n")?;
         assert!(rt;
             is_given(
+                &rt,
                 alloc,
                 "check",
                 line.as_str(),
@@ -264,6 +265,7 @@ fn bundles_out_of_form_are_refused(rt: HostRuntime) -> Result<(), Fail> {
         let text = format!(in alloc; "fault: format {what}\n")?;
         assert!(rt;
             is_given(
+                &rt,
                 alloc,
                 "check",
                 line.as_str(),
@@ -276,17 +278,24 @@ fn bundles_out_of_form_are_refused(rt: HostRuntime) -> Result<(), Fail> {
     Ok(())
 }
 
-/// Each front of a bundle that is not the whole.
+/// Each prefix of a bundle that is not the whole.
 #[test]
-fn fronts_of_a_bundle_are_no_json(rt: HostRuntime) -> Result<(), Fail> {
+fn prefixes_of_a_bundle_are_no_json(rt: HostRuntime) -> Result<(), Fail> {
     let alloc = rt.alloc();
     let line = line_of(alloc, &MAJORITY)?;
     for length in 1..line.as_str().len() {
-        let Some(front) = line.as_str().get(..length) else {
-            return Err(Fail::from("a front"));
+        let Some(prefix) = line.as_str().get(..length) else {
+            return Err(Fail::from("a prefix"));
         };
         assert!(rt;
-            is_given(alloc, "check", front, "fault: not json\n", Status::Refused)?,
+            is_given(
+                &rt,
+                alloc,
+                "check",
+                prefix,
+                "fault: not json\n",
+                Status::Refused
+            )?,
             "{length}"
         );
     }
@@ -311,6 +320,7 @@ fn deep_lists_are_no_json(rt: HostRuntime) -> Result<(), Fail> {
     let line = nested(alloc, 200)?;
     assert!(rt;
         is_given(
+            &rt,
             alloc,
             "check",
             line.as_str(),
@@ -325,7 +335,7 @@ fn deep_lists_are_no_json(rt: HostRuntime) -> Result<(), Fail> {
 fn other_lines_are_refused(rt: HostRuntime) -> Result<(), Fail> {
     let alloc = rt.alloc();
     for row in REFUSED {
-        assert!(rt; holds(alloc, row)?, "{}", row.1);
+        assert!(rt; holds(&rt, alloc, row)?, "{}", row.1);
     }
     Ok(())
 }

@@ -121,7 +121,7 @@ const ROWS: [Row; 20] = [
 fn eval_answers(rt: HostRuntime) -> Result<(), Fail> {
     let alloc = rt.alloc();
     for row in ROWS {
-        assert!(rt; holds(alloc, row)?, "{}", row.1);
+        assert!(rt; holds(&rt, alloc, row)?, "{}", row.1);
     }
     Ok(())
 }

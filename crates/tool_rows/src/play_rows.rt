@@ -80,7 +80,7 @@ const REFUSED: [Lines; 9] = [
 const CHANGED: [Change; 6] = [
     (
         "\"format\":1",
-        "\"format\":2",
+        "\"format\":3",
         "fault: format /format range\n",
     ),
     ("\"vars\":[\"x\",\"y\"],", "", "fault: format /vars kind\n"),
@@ -127,13 +127,14 @@ fn play_answers(rt: HostRuntime) -> Result<(), Fail> {
     for (lines, text, status) in PLAYS {
         let input = format!(in alloc; "{MAJORITY}{lines}")?;
         assert!(rt;
-            is_given_both_ways(alloc, "play", input.as_str(), text, status)?,
+            is_given_both_ways(&rt, alloc, "play", input.as_str(), text, status)?,
             "{lines}"
         );
     }
     let swap = format!(in alloc; "{SWAP}\ncrowd x=1 y=1\n0 1\n")?;
     assert!(rt;
         is_given_both_ways(
+            &rt,
             alloc,
             "play",
             swap.as_str(),
@@ -150,12 +151,12 @@ fn play_refuses_lines(rt: HostRuntime) -> Result<(), Fail> {
     for (lines, text, status) in REFUSED {
         let input = format!(in alloc; "{MAJORITY}{lines}")?;
         assert!(rt;
-            is_given_both_ways(alloc, "play", input.as_str(), text, status)?,
+            is_given_both_ways(&rt, alloc, "play", input.as_str(), text, status)?,
             "{lines}"
         );
     }
     for row in OTHERS {
-        assert!(rt; holds(alloc, row)?, "{}", row.1);
+        assert!(rt; holds(&rt, alloc, row)?, "{}", row.1);
     }
     Ok(())
 }
@@ -169,7 +170,7 @@ fn play_refuses_nets(rt: HostRuntime) -> Result<(), Fail> {
             .ok_or("the part stands in the net")?;
         let input = format!(in alloc; "{before}{change}{after}\ncrowd x=2\n")?;
         assert!(rt;
-            is_given_both_ways(alloc, "play", input.as_str(), text, Status::Refused)?,
+            is_given_both_ways(&rt, alloc, "play", input.as_str(), text, Status::Refused)?,
             "{change}"
         );
     }
@@ -197,7 +198,7 @@ fn eight_leaves_play(rt: HostRuntime) -> Result<(), Fail> {
     let alloc = rt.alloc();
     let input = eight(alloc)?;
     let text = "s/s/s/s/s/s/s/s 1\nt/t/t/t/t/t/t/t 1\nterminal\n";
-    assert!(rt; is_given_both_ways(alloc, "play", input.as_str(), text, Status::Done)?);
+    assert!(rt; is_given_both_ways(&rt, alloc, "play", input.as_str(), text, Status::Done)?);
     Ok(())
 }
 

@@ -3,9 +3,11 @@
 ghost use Rattle.std.specs.Prelude.{◌≤◌, length, IfOk};
 
 use pop_io::{CalmSource, List, MemorySink, MemorySource, OpenGate, Source, Trouble, TroubleKind};
-use pop_tool::{Status, is_plain, run_plain};
+use pop_tool::{Status, run_tool};
 use std::alloc::{AllocError, Global};
+use std::sync::Wait;
 use std::test::Fail;
+use std::thread::Threads;
 
 /// The words between single spaces, the input, the text, and the status.
 pub(crate) type Row = (&'static str, &'static str, &'static str, Status);
@@ -51,23 +53,22 @@ pub(crate) fn words_of(alloc: Global, text: &str) -> Result<Vec<&str>, Fail>
     Ok(words)
 }
 
-/// The status of words that need no threads.
-pub(crate) fn plain_status<S: Source>(
+/// The status that the program's call gives for these words.
+pub(crate) fn tool_status<R: Threads + Wait + Sync, S: Source>(
+    rt: &R,
     alloc: Global,
     words: &[&str],
     source: &mut S,
     sink: &mut MemorySink,
-) -> Result<Status, Fail>
+) -> Status
     requires { length words.now ≤ 100 }
 {
-    if !is_plain(words) {
-        return Err(Fail::from("plain words"));
-    }
-    Ok(run_plain(alloc, words, source, sink, &OpenGate))
+    run_tool(rt, alloc, words, source, sink, &OpenGate)
 }
 
-/// The status of the words over this source, and whether the sink took just this text.
-fn ends_with<S: Source>(
+/// The status of the words over this source, if the sink took just this text.
+fn ends_with<R: Threads + Wait + Sync, S: Source>(
+    rt: &R,
     alloc: Global,
     words: &str,
     source: &mut S,
@@ -75,7 +76,7 @@ fn ends_with<S: Source>(
     text: &str,
 ) -> Result<Option<Status>, Fail> {
     let words = words_of(alloc, words)?;
-    let status = plain_status(alloc, &words, source, sink)?;
+    let status = tool_status(rt, alloc, &words, source, sink);
     Ok(if sink.held() == text.as_bytes() {
         Some(status)
     } else {
@@ -84,7 +85,8 @@ fn ends_with<S: Source>(
 }
 
 /// Whether words and an input give this text and status.
-pub(crate) fn is_given(
+pub(crate) fn is_given<R: Threads + Wait + Sync>(
+    rt: &R,
     alloc: Global,
     words: &str,
     input: &str,
@@ -93,11 +95,12 @@ pub(crate) fn is_given(
 ) -> Result<bool, Fail> {
     let mut source = CalmSource::new(bytes_of(alloc, input)?);
     let mut sink = sink_with(alloc, no_troubles(alloc))?;
-    Ok(ends_with(alloc, words, &mut source, &mut sink, text)? == Some(status))
+    Ok(ends_with(rt, alloc, words, &mut source, &mut sink, text)? == Some(status))
 }
 
-/// Whether they do so where the source gives one byte at a time, and the sink takes one.
-pub(crate) fn is_given_in_crumbs(
+/// Whether they do so if the source gives one byte at a time, and the sink takes one.
+pub(crate) fn is_given_in_crumbs<R: Threads + Wait + Sync>(
+    rt: &R,
     alloc: Global,
     words: &str,
     input: &str,
@@ -106,11 +109,12 @@ pub(crate) fn is_given_in_crumbs(
 ) -> Result<bool, Fail> {
     let mut source = MemorySource::new(bytes_of(alloc, input)?, crumbs(alloc, input.len())?);
     let mut sink = sink_with(alloc, crumbs(alloc, text.len())?)?;
-    Ok(ends_with(alloc, words, &mut source, &mut sink, text)? == Some(status))
+    Ok(ends_with(rt, alloc, words, &mut source, &mut sink, text)? == Some(status))
 }
 
 /// Whether they do so both at once and in crumbs.
-pub(crate) fn is_given_both_ways(
+pub(crate) fn is_given_both_ways<R: Threads + Wait + Sync>(
+    rt: &R,
     alloc: Global,
     words: &str,
     input: &str,
@@ -118,13 +122,17 @@ pub(crate) fn is_given_both_ways(
     status: Status,
 ) -> Result<bool, Fail> {
     Ok(
-        is_given(alloc, words, input, text, status)?
-            && is_given_in_crumbs(alloc, words, input, text, status)?,
+        is_given(rt, alloc, words, input, text, status)?
+            && is_given_in_crumbs(rt, alloc, words, input, text, status)?,
     )
 }
 
 /// Whether a row holds, at once and in crumbs.
-pub(crate) fn holds(alloc: Global, row: Row) -> Result<bool, Fail> {
+pub(crate) fn holds<R: Threads + Wait + Sync>(
+    rt: &R,
+    alloc: Global,
+    row: Row,
+) -> Result<bool, Fail> {
     let (words, input, text, status) = row;
-    is_given_both_ways(alloc, words, input, text, status)
+    is_given_both_ways(rt, alloc, words, input, text, status)
 }

@@ -105,14 +105,14 @@ const REFUSED: [Row; 13] = [
 ];
 
 #[test]
-fn runs_are_told(rt: HostRuntime) -> Result<(), Fail> {
+fn runs_are_printed(rt: HostRuntime) -> Result<(), Fail> {
     let alloc = rt.alloc();
     for (words, crowd, journal, status) in RUNS {
         let bundle = line_of(alloc, &MAJORITY)?;
         let input = format!(in alloc; "{bundle}\n{crowd}\n")?;
         let text = format!(in alloc; "{input}{journal}")?;
         assert!(rt;
-            is_given_both_ways(alloc, words, input.as_str(), text.as_str(), status)?,
+            is_given_both_ways(&rt, alloc, words, input.as_str(), text.as_str(), status)?,
             "{words}"
         );
     }
@@ -123,7 +123,7 @@ fn runs_are_told(rt: HostRuntime) -> Result<(), Fail> {
 fn runs_are_refused(rt: HostRuntime) -> Result<(), Fail> {
     let alloc = rt.alloc();
     for row in REFUSED {
-        assert!(rt; holds(alloc, row)?, "{}", row.0);
+        assert!(rt; holds(&rt, alloc, row)?, "{}", row.0);
     }
     Ok(())
 }
@@ -140,7 +140,7 @@ fn crowds_of_runs_are_refused(rt: HostRuntime) -> Result<(), Fail> {
         let bundle = line_of(alloc, &MAJORITY)?;
         let input = format!(in alloc; "{bundle}\n{crowd}\n")?;
         assert!(rt;
-            is_given_both_ways(alloc, "run", input.as_str(), text, Status::Refused)?,
+            is_given_both_ways(&rt, alloc, "run", input.as_str(), text, Status::Refused)?,
             "{crowd}"
         );
     }
@@ -163,7 +163,7 @@ fn wrong_proofs_are_not_run(rt: HostRuntime) -> Result<(), Fail> {
         let bundle = line_of(alloc, &WRONG)?;
         let input = format!(in alloc; "{bundle}\n{crowd}\n")?;
         assert!(rt;
-            is_given_both_ways(alloc, "run", input.as_str(), text, status)?,
+            is_given_both_ways(&rt, alloc, "run", input.as_str(), text, status)?,
             "{crowd}"
         );
     }

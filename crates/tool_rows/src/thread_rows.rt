@@ -2,7 +2,7 @@
 
 use crate::check_rows::{MAJORITY, line_of};
 use crate::play_rows::MAJORITY as NET;
-use crate::rows::{bytes_of, no_troubles, plain_status, words_of};
+use crate::rows::{bytes_of, no_troubles, tool_status, words_of};
 use pair_workers::Picker;
 use pop_io::{CalmSource, Gate, MemorySink, OpenGate};
 use pop_tool::{Status, run_tool};
@@ -66,14 +66,19 @@ fn played_lines(alloc: Global, journal: &str) -> Result<String, AllocError> {
 }
 
 /// What `play` makes of the meetings of a journal.
-fn replayed(alloc: Global, crowd: &str, journal: &str) -> Result<String, Fail> {
+fn replayed<R: Threads + Wait + Sync>(
+    rt: &R,
+    alloc: Global,
+    crowd: &str,
+    journal: &str,
+) -> Result<String, Fail> {
     let lines = played_lines(alloc, journal)?;
     let input = format!(in alloc; "{NET}\n{crowd}\n{lines}")?;
     let mut source = CalmSource::new(bytes_of(alloc, input.as_str())?);
     let mut sink = MemorySink::new(alloc, ROOM, no_troubles(alloc))
         .ok()
         .ok_or("memory")?;
-    if plain_status(alloc, &["play"], &mut source, &mut sink)? != Status::Done {
+    if tool_status(rt, alloc, &["play"], &mut source, &mut sink) != Status::Done {
         return Err(Fail::from("meetings that play"));
     }
     let text = from_utf8(sink.held()).ok().ok_or("a text")?;
@@ -97,7 +102,7 @@ fn is_replayed<R: Threads + Wait + Sync>(rt: &R, alloc: Global, words: &str) -> 
     let crowd = "crowd x=120 y=80";
     let (journal, status) = journal_of(rt, alloc, words, crowd, &OpenGate)?;
     let (_, end) = journal.as_str().split_once("\nend\n").ok_or("an end")?;
-    let played = replayed(alloc, crowd, journal.as_str())?;
+    let played = replayed(rt, alloc, crowd, journal.as_str())?;
     let (want, wanted) = end_after(alloc, played.as_str())?;
     Ok(end == want.as_str() && status == wanted)
 }

@@ -8,7 +8,7 @@ use Rattle.cert_base.proofs.flow.input_terms.Goals as goal
 
 pub loop-i-preserved : goal.loop-i-preserved
 loop-i-preserved c =
-    input_entered c.args.leaf.now.inputs c.args.q c.loop-i.i c.input.result c.from.result c.from-in-loop-i.result c.loop-i.terms c.push.new.self c.input.ensures.start c.from.ensures c.from-in-loop-i.ensures c.in_ok-push.ensures
+    input_entered c.args.leaf.now.inputs c.args.q c.loop-i.i c.input.result c.variable_of_input.result c.from.result c.loop-i.terms c.push.new.self c.input.ensures.start c.variable_of_input.ensures c.from.ensures c.in_ok-push.ensures
     ∙ c.loop-i.invariant
 
 pub returns : goal.returns

@@ -2,4 +2,4 @@ use Rattle.cert_layers.specs.Waking.{IsTable}
 use Rattle.cert_layers.proofs.pairs.pair_table.Given as goal
 
 abbrev pub invariant-loop-t : goal.invariant-loop-t
-invariant-loop-t l = IsTable l.leaf l.places l.t l.layers.items
+invariant-loop-t l = IsTable l.leaf l.layer_of_move l.t l.layers.items

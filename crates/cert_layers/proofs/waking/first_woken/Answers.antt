@@ -1,6 +1,6 @@
 use Rattle.std.proofs.Common.{sym, ◌∙◌}
 use Rattle.cert_layers.proofs.Asleep.{finds-placed}
-use Rattle.cert_layers.proofs.Heavy.{move_small}
+use Rattle.cert_layers.proofs.NotLower.{move_small}
 use Rattle.cert_layers.proofs.waking.first_woken.Goals as goal
 
 pub woken_in_layer-requires-clause-below : goal.woken_in_layer-requires-clause-below
@@ -8,4 +8,4 @@ woken_in_layer-requires-clause-below c = move_small c.args.leaf.now c.args.t c.m
 
 pub returns : goal.returns
 returns c =
-    finds-placed c.args.leaf.now c.args.places.now c.args.table.now.layers c.args.t c.in_ok-layer.layer c.move_at-taken.result c.woken_in_layer.result c.move_at-taken.ensures (sym c.is_silent.ensures ∙ c.if-is_silent.false) c.in_ok-layer.was c.woken_in_layer.ensures
+    finds-placed c.args.leaf.now c.args.layer_of_move.now c.args.table.now c.args.t c.in_ok-layer.layer c.move_at-taken.result c.woken_in_layer.result c.move_at-taken.ensures (sym c.is_silent.ensures ∙ c.if-is_silent.false) c.in_ok-layer.was c.woken_in_layer.ensures

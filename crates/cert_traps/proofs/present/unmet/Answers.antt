@@ -5,7 +5,7 @@ use Rattle.cert_traps.proofs.present.unmet.Goals as goal
 
 pub loop-q-preserved : goal.loop-q-preserved
 loop-q-preserved c =
-    unmet_more c.args.leaf.now c.args.state c.loop-q.q c.state_variable.result c.meets_other-meets.result c.in_ok-partners.partners.items c.loop-q.facts.items c.push_zero.new.facts.items c.in_ok-partners.ensures (omega (arith, c.state_count-q-end.ensures.count)) c.state_variable.ensures
+    unmet_more c.args.leaf.now c.args.state c.loop-q.q c.variable_of_state.result c.meets_other-meets.result c.in_ok-partners.partners.items c.loop-q.facts.items c.push_zero.new.facts.items c.in_ok-partners.ensures (omega (arith, c.state_count-q-end.ensures.count)) c.variable_of_state.ensures.value
     (c.meets_other-meets.ensures ∙ ap (λ table. not (c.loop-q.q == c.args.state) && get_or table c.loop-q.q false) c.as_slice.ensures.value)
     c.loop-q.invariant c.in_ok-push_zero.ensures
 

@@ -7,5 +7,5 @@ use Rattle.net_json.proofs.leaves.leaves_of.Given as goal
 
 abbrev pub invariant-loop-i : goal.invariant-loop-i
 invariant-loop-i l =
-    (each (leaf_item l.variables (path_text l.path)) l.leaves.items l.i (drop l.i (map view l.item-items)) ≡ each (leaf_item l.variables (path_text l.path)) [] 0 (map view l.item-items))
+    (each (leaf_item l.format l.variables (path_text l.path)) l.leaves.items l.i (drop l.i (map view l.item-items)) ≡ each (leaf_item l.format l.variables (path_text l.path)) [] 0 (map view l.item-items))
     × (vec_len l.leaves ≡ l.i)

@@ -4,4 +4,4 @@ use Rattle.net_json.specs.Written.{leaf_data}
 use Rattle.net_json.proofs.write.leaves_value.Given as goal
 
 abbrev pub invariant-loop-i : goal.invariant-loop-i
-invariant-loop-i l = map view l.list.items ≡ map leaf_data (take l.i l.net.leaves)
+invariant-loop-i l = map view l.list.items ≡ map (leaf_data l.helped) (take l.i l.net.leaves)

@@ -1,11 +1,14 @@
 use Rattle.std.proofs.Common.{◌≡◌, ℕ, inl, inr, ◌-◌, ◌≤◌, min, List, [], ◌∷◌, ◌++◌, length, take, drop, ap, sym, subst, ◌∙◌, arith, rules}
-use Rattle.std.specs.Prelude.{None}
+use Rattle.std.specs.Prelude.{None, IfSome, ◌↔◌}
+use Rattle.pop_net.specs.NetModel.{NetModel}
 use Rattle.pop_net.specs.Step.{Step}
 use Rattle.pop_net.specs.Terminal.{IsTerminal}
 use Rattle.pop_net.specs.declared.net.Word.{Word}
 use Rattle.pop_net.specs.Lanes.{crowd_of, AreValid}
 use Rattle.pop_crowd.specs.declared.crowd.Meeting.{Meeting}
+use Rattle.terminal_test.specs.Pairs.{IsLeastPair}
 use Rattle.pair_workers.specs.Run.{IsRun}
+use Rattle.pair_workers.proofs.OpenEnds.{open_end}
 use Rattle.pair_workers.specs.Turns.{ArePlayed}
 use Rattle.pair_workers.proofs.FieldRounds.{whole_written}
 use Rattle.pair_workers.proofs.ManyRounds.{AreOnTheRun, all_more_rounds, all_run_over}
@@ -31,7 +34,7 @@ rounds-preserved g c =
     let least : c.min-turns.result ≡ min 4096 c.rounds.left = c.min-turns.ensures in
     let round = c.in_ok-words.field-0.meetings in
     let pushed : c.push.new.self.items ≡ c.rounds.rounds.items ++ round ∷ [] = c.in_ok-push.ensures.items in
-    let goes : IsTerminal (Step net) (crowd_of net c.rounds.crowd) → ⊥ = (λ t. let e : c.in_ok-a.field-0 ≡ None = c.in_ok-a.ensures.none.1 t in cc) in
+    let goes : IsTerminal (Step net) (crowd_of net c.rounds.crowd) → ⊥ = (λ t. let e : c.in_ok-a.field-0 ≡ None = (subst (λ (n : NetModel). (c.in_ok-a.field-0 ≡ None) ↔ IsTerminal (Step n) (crowd_of n c.rounds.crowd)) c.in_ok-table.ensures c.in_ok-a.ensures.none).1 t in cc) in
     let some : 1 ≤ c.rounds.left = search rules in
     let after = c.next_crowd-crowd.result in
     let words : c.in_ok-words.field-0.words ≡ after = sym c.next_crowd-crowd.ensures in
@@ -52,7 +55,15 @@ returns-clause-run g c =
     let net = c.args.net.now in
     let e : c.in_ok-a.field-0 ≡ None = search rules in
     subst (λ (rounds : List (List Meeting)). IsRun net (crowd_of net c.args.crowd) c.args.spec.now rounds (crowd_of net c.rounds.crowd)) (sym c.from_vec-2.ensures)
-    (all_run_over net _ c.args.spec.now c.rounds.rounds.items _ _ c.rounds.left c.rounds.invariant.run (inl (c.in_ok-a.ensures.none.0 e)))
+    (all_run_over net _ c.args.spec.now c.rounds.rounds.items _ _ c.rounds.left c.rounds.invariant.run (inl ((subst (λ (n : NetModel). (c.in_ok-a.field-0 ≡ None) ↔ IsTerminal (Step n) (crowd_of n c.rounds.crowd)) c.in_ok-table.ensures c.in_ok-a.ensures.none).0 e)))
 
 pub returns-clause-end : goal.returns-clause-end
-returns-clause-end g c = let e : c.in_ok-a.field-0 ≡ None = search rules in c.in_ok-a.ensures.none.0 e
+returns-clause-end g c = let e : c.in_ok-a.field-0 ≡ None = search rules in (subst (λ (n : NetModel). (c.in_ok-a.field-0 ≡ None) ↔ IsTerminal (Step n) (crowd_of n c.rounds.crowd)) c.in_ok-table.ensures c.in_ok-a.ensures.none).0 e
+
+pub returns-then-left-eq0-clause-end : goal.returns-then-left-eq0-clause-end
+returns-then-left-eq0-clause-end g c =
+    let net = c.args.net.now in
+    let found = c.in_ok-a.field-0 in
+    let none = subst (λ (n : NetModel). (found ≡ None) ↔ IsTerminal (Step n) (crowd_of n c.rounds.crowd)) c.in_ok-table.ensures c.in_ok-a.ensures.none in
+    let least = subst (λ (n : NetModel). IfSome found (λ (pair : ℕ × ℕ). IsLeastPair n (crowd_of n c.rounds.crowd) pair.0 pair.1)) c.in_ok-table.ensures c.in_ok-a.ensures.least in
+    open_end net (crowd_of net c.rounds.crowd) c.args.spec.now (length c.from_vec.result) found c.in-Some.a c.in-Some.b c.in-Some.is none least (search rules)

@@ -1,7 +1,8 @@
-use Rattle.std.proofs.Common.{length, ◌∙◌, arith}
+use Rattle.std.proofs.Common.{◌^◌, length, ◌∙◌, arith}
 use Rattle.std.proofs.lemmas.List.{length-map}
 use Rattle.pop_net.specs.Lanes.{digits}
 use Rattle.pop_net.specs.Reaction.{reactions}
+use Rattle.pop_net.specs.LaneWidth.{bits_of}
 use Rattle.pop_net.proofs.Digits.{length-digits}
 use Rattle.pop_net.proofs.Reactions.{length-reactions}
 use Rattle.pop_net.proofs.Packing.{packed_all}
@@ -10,25 +11,25 @@ use Rattle.pop_net.proofs.words.react_words.Goals as goal
 
 pub react-x-requires-clause-x_in : goal.react-x-requires-clause-x_in
 react-x-requires-clause-x_in c =
-    lane_in c.args.leaves.now c.loop-i.i c.index-leaves-i.result c.loop-i-test.true c.index-leaves-i.is c.args.a _ c.requires.a_valid c.lane_of.ensures
+    lane_in (2 ^ bits_of c.args.lanes) c.args.leaves.now c.loop-i.i c.index-leaves-i.result c.loop-i-test.true c.index-leaves-i.is c.args.a _ c.requires.a_valid c.state.ensures
 
 pub react-x-requires-clause-y_in : goal.react-x-requires-clause-y_in
 react-x-requires-clause-y_in c =
-    lane_in c.args.leaves.now c.loop-i.i c.index-leaves-i.result c.loop-i-test.true c.index-leaves-i.is c.args.b _ c.requires.b_valid c.lane_of-in-loop-i.ensures
+    lane_in (2 ^ bits_of c.args.lanes) c.args.leaves.now c.loop-i.i c.index-leaves-i.result c.loop-i-test.true c.index-leaves-i.is c.args.b _ c.requires.b_valid c.state-in-loop-i.ensures
 
 pub loop-i-preserved : goal.loop-i-preserved
 loop-i-preserved c =
     record {
-      first = reaction_more c.args.leaves.now c.loop-i.i c.index-leaves-i.result c.loop-i-test.true c.index-leaves-i.is (λ z. z.0) c.args.a c.args.b _ _ _ _ c.react-x.result c.requires.formed c.lane_of.ensures c.lane_of-in-loop-i.ensures c.react-x.ensures.reaction c.react-x.ensures.first_in c.with_lane-first.ensures.sum c.with_lane-first.ensures.used c.loop-i.invariant.first;
-      second = reaction_more c.args.leaves.now c.loop-i.i c.index-leaves-i.result c.loop-i-test.true c.index-leaves-i.is (λ z. z.1) c.args.a c.args.b _ _ _ _ c.react-x.result c.requires.formed c.lane_of.ensures c.lane_of-in-loop-i.ensures c.react-x.ensures.reaction c.react-x.ensures.second_in c.with_lane-second.ensures.sum c.with_lane-second.ensures.used c.loop-i.invariant.second;
+      first = reaction_more (2 ^ bits_of c.args.lanes) c.args.leaves.now c.loop-i.i c.index-leaves-i.result c.loop-i-test.true c.index-leaves-i.is (λ z. z.0) c.args.a c.args.b _ _ _ _ c.react-x.result c.requires.narrow c.state.ensures c.state-in-loop-i.ensures c.react-x.ensures.reaction c.react-x.ensures.first_in c.with_state-first.ensures.sum c.with_state-first.ensures.used c.loop-i.invariant.first;
+      second = reaction_more (2 ^ bits_of c.args.lanes) c.args.leaves.now c.loop-i.i c.index-leaves-i.result c.loop-i-test.true c.index-leaves-i.is (λ z. z.1) c.args.a c.args.b _ _ _ _ c.react-x.result c.requires.narrow c.state.ensures c.state-in-loop-i.ensures c.react-x.ensures.reaction c.react-x.ensures.second_in c.with_state-second.ensures.sum c.with_state-second.ensures.used c.loop-i.invariant.second;
     }
 
 pub returns-clause-first : goal.returns-clause-first
 returns-clause-first c =
     let n = length c.args.leaves.now in
-    packed_all n c.loop-i.i _ _ (length-map (reactions c.args.leaves.now (digits 256 n c.args.a) (digits 256 n c.args.b)) (λ z. z.0) ∙ length-reactions c.args.leaves.now _ _ (length-digits 256 n c.args.a) (length-digits 256 n c.args.b)) (omega arith) (omega arith) c.loop-i.invariant.first
+    packed_all (2 ^ bits_of c.args.lanes) n c.loop-i.i _ _ (length-map (reactions c.args.leaves.now (digits (2 ^ bits_of c.args.lanes) n c.args.a) (digits (2 ^ bits_of c.args.lanes) n c.args.b)) (λ z. z.0) ∙ length-reactions c.args.leaves.now _ _ (length-digits (2 ^ bits_of c.args.lanes) n c.args.a) (length-digits (2 ^ bits_of c.args.lanes) n c.args.b)) (omega arith) (omega arith) c.loop-i.invariant.first
 
 pub returns-clause-second : goal.returns-clause-second
 returns-clause-second c =
     let n = length c.args.leaves.now in
-    packed_all n c.loop-i.i _ _ (length-map (reactions c.args.leaves.now (digits 256 n c.args.a) (digits 256 n c.args.b)) (λ z. z.1) ∙ length-reactions c.args.leaves.now _ _ (length-digits 256 n c.args.a) (length-digits 256 n c.args.b)) (omega arith) (omega arith) c.loop-i.invariant.second
+    packed_all (2 ^ bits_of c.args.lanes) n c.loop-i.i _ _ (length-map (reactions c.args.leaves.now (digits (2 ^ bits_of c.args.lanes) n c.args.a) (digits (2 ^ bits_of c.args.lanes) n c.args.b)) (λ z. z.1) ∙ length-reactions c.args.leaves.now _ _ (length-digits (2 ^ bits_of c.args.lanes) n c.args.a) (length-digits (2 ^ bits_of c.args.lanes) n c.args.b)) (omega arith) (omega arith) c.loop-i.invariant.second

@@ -23,7 +23,7 @@ value_past words option at is past =
 
 pub returns-in-Some-clause-value : goal.returns-in-Some-clause-value
 returns-in-Some-clause-value c =
-    let is = rw c.name-name.ensures at (sym c.place_of.ensures ∙ c.in-Some.is) in
+    let is = sym c.place_of_option.ensures ∙ c.in-Some.is in
     let word = get_or-map (λ w. w.now) c.args.words.now (c.in-Some.at + 1) _ [] c.if-at-words.true in
     c.unwrap_or.ensures
     ∙ ap (λ n. unwrap_or n c.numbers-least.result.2) c.number_of.ensures.number
@@ -33,10 +33,10 @@ returns-in-Some-clause-value c =
 
 pub returns-in_default-clause-value : goal.returns-in_default-clause-value
 returns-in_default-clause-value c =
-    let is = rw c.name-name.ensures at (sym c.place_of.ensures ∙ c.in-Some.is) in
+    let is = sym c.place_of_option.ensures ∙ c.in-Some.is in
     ap (λ t. t.2) c.numbers-least.ensures ∙ sym (value_past c.args.words.now c.args.option c.in-Some.at is (omega (arith, c.if-at-words.false)))
 
 pub returns-in_default-2-clause-value : goal.returns-in_default-2-clause-value
 returns-in_default-2-clause-value c =
-    let is = rw c.name-name.ensures at (sym c.place_of.ensures ∙ c.in_default.is) in
+    let is = sym c.place_of_option.ensures ∙ c.in_default.is in
     ap (λ t. t.2) c.numbers-least.ensures ∙ sym (value_default c.args.words.now c.args.option is)

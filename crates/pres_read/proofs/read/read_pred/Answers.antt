@@ -1,4 +1,4 @@
-use Rattle.pres_read.proofs.Heeded.{given_heeds}
+use Rattle.pres_read.proofs.Explained.{given_explains, kept_all, faults_all}
 use Rattle.pres_read.specs.Grammar.{meaning}
 use Rattle.pres_read.proofs.KeptRuns.{given_kept, kept_read}
 use Rattle.pres_read.proofs.Outcomes.{given_laws}
@@ -10,13 +10,13 @@ returns-clause-derived c = (given_laws c.args.names.now c.args.text.now c.read_e
 pub returns-clause-only : goal.returns-clause-only
 returns-clause-only c = (given_laws c.args.names.now c.args.text.now c.read_exactly.result c.read_exactly.ensures).only
 
-pub returns-clause-syntax : goal.returns-clause-syntax
-returns-clause-syntax c = (given_laws c.args.names.now c.args.text.now c.read_exactly.result c.read_exactly.ensures).syntax_at
-
 pub returns-clause-kept : goal.returns-clause-kept
 returns-clause-kept c = λ phrase spelled short fits shallow.
     given_kept c.args.names.now c.args.text.now (meaning c.args.names.now phrase) c.read_exactly.result c.read_exactly.ensures
     (kept_read c.args.names.now c.args.text.now phrase spelled short fits shallow)
 
-pub returns-clause-heeded : goal.returns-clause-heeded
-returns-clause-heeded c = given_heeds c.args.names.now c.args.text.now c.read_exactly.result c.read_exactly.ensures
+pub returns-clause-kept_rules : goal.returns-clause-kept_rules
+returns-clause-kept_rules c = kept_all c.args.names.now c.args.text.now c.read_exactly.result (given_explains c.args.names.now c.args.text.now c.read_exactly.result c.read_exactly.ensures)
+
+pub returns-clause-faults : goal.returns-clause-faults
+returns-clause-faults c = faults_all c.args.names.now c.args.text.now c.read_exactly.result (given_explains c.args.names.now c.args.text.now c.read_exactly.result c.read_exactly.ensures)

@@ -1,4 +1,6 @@
 use Rattle.std.proofs.Common.{◌≡◌, ◌≤◌, ◌-◌, length, drop}
+use Rattle.pres_ast.specs.declared.limits.TheConstants.{WEIGHT_LIMIT}
+use Rattle.pres_read.specs.declared.depth.TheConstants.{PARENTHESIS_LIMIT}
 use Rattle.pres_tokens.specs.Tokens.{tokens_from, tokens_of}
 use Rattle.pres_read.specs.Progress.{start}
 use Rattle.pres_read.specs.Depth.{surface}
@@ -11,8 +13,8 @@ abbrev pub invariant-loop-token : goal.invariant-loop-token
 invariant-loop-token l = record {
   within : l.at ≤ length l.text;
   sound : IsSound (length l.names) (progress_of l.reader.parser) l.reader.depth.charge;
-  charge : l.reader.depth.charge ≤ 64;
-  parentheses : l.reader.depth.parentheses ≤ 64;
+  charge : l.reader.depth.charge ≤ WEIGHT_LIMIT;
+  parentheses : l.reader.depth.parentheses ≤ PARENTHESIS_LIMIT;
   rest : run l.names (length l.text) (progress_of l.reader.parser) (depth_of l.reader.depth) (tokens_from 0 l.at (drop l.at l.text))
       ≡ run l.names (length l.text) start surface (tokens_of l.text);
 }

@@ -8,7 +8,7 @@ pub returns : goal.returns
 returns c =
     let fits : SFits w64 c.args.constant = search rules in
     IfOk-weaker c.dense.result
-    (λ row. row ≡ record { terms = terms_from c.first_move.result c.args.coefs.now; constant = to_z w64 (of_z w64 c.args.constant) })
+    (λ row. row ≡ record { terms = terms_from c.variable_of_move.result c.args.coefs.now; constant = to_z w64 (of_z w64 c.args.constant) })
     (λ row. row ≡ move_row c.args.leaf.now c.args.coefs.now c.args.constant)
-    (λ row e. row_behind (length c.args.leaf.now.inputs + length c.args.leaf.now.states) c.first_move.result c.args.coefs.now c.args.constant row fits (omega (arith, c.first_move.ensures.value)) e)
+    (λ row e. row_behind (length c.args.leaf.now.inputs + length c.args.leaf.now.states) c.variable_of_move.result c.args.coefs.now c.args.constant row fits (omega (arith, c.variable_of_move.ensures.value)) e)
     c.dense.ensures

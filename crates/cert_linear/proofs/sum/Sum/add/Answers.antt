@@ -12,7 +12,7 @@ d = record { at = 0; by = pos 0 }
 
 pub enter-requires-clause-room : goal.enter-requires-clause-room
 enter-requires-clause-room c =
-    let h = c.loop-term.invariant.size (2 ^ 120) c.requires.room (get_or c.as_slice-term-items.result.now c.loop-term.term-index d).at in
+    let h = c.loop-term.invariant.entered.size (2 ^ 120) c.requires.room (get_or c.as_slice-term-items.result.now c.loop-term.term-index d).at in
     omega (arith, h)
 
 pub loop-term-preserved : goal.loop-term-preserved
@@ -20,12 +20,15 @@ loop-term-preserved c =
     let fits : SFits w64 (get_or c.as_slice-term-items.result.now c.loop-term.term-index d).by = search rules in
     let whole = to_z-of_z w128 c.product.result (record { sfits = c.product.type_inv }) in
     let by = whole ∙ c.product.ensures.value ∙ ap (λ z. to_z w64 (of_z w64 c.args.by) *ℤ z) (to_z-of_z w64 _ fits) in
-    entered_step (to_z w64 (of_z w64 c.args.by)) c.as_slice-term-items.result.now c.loop-term.term-index d c.args.self.now c.loop-term.self c.enter.new.self (to_z w128 (of_z w128 c.product.result)) (rw c.as_slice-term-items.ensures c.requires.ascending) (omega arith) by (rw whole c.product.ensures.size) c.loop-term.invariant c.in_ok-enter.ensures.terms c.enter.ensures.constant
+    record {
+      entered = entered_step (to_z w64 (of_z w64 c.args.by)) c.as_slice-term-items.result.now c.loop-term.term-index d c.args.self.now c.loop-term.self c.enter.new.self (to_z w128 (of_z w128 c.product.result)) (rw c.as_slice-term-items.ensures c.requires.ascending) (omega arith) by (rw whole c.product.ensures.size) c.loop-term.invariant.entered c.in_ok-enter.ensures.terms c.enter.ensures.constant;
+      tidy = c.in_ok-enter.ensures.tidy;
+    }
 
 pub returns-clause-plus : goal.returns-clause-plus
 returns-clause-plus c =
-    let entered = rw (c.as_slice-term-items.ensures, to_z-of_z w64 c.args.by c.ranges.by) at c.loop-term.invariant in
-    let fits = sum_fits c.loop-term.self.constant c.product-2.result (rw c.loop-term.invariant.constant c.requires.room.constant) c.product-2.ensures.size in
+    let entered = rw (c.as_slice-term-items.ensures, to_z-of_z w64 c.args.by c.ranges.by) at c.loop-term.invariant.entered in
+    let fits = sum_fits c.loop-term.self.constant c.product-2.result (rw c.loop-term.invariant.entered.constant c.requires.room.constant) c.product-2.ensures.size in
     let constant : SFits w64 c.args.row.now.constant = search rules in
     let by = c.product-2.ensures.value ∙ rw (to_z-of_z w64 c.args.by c.ranges.by, to_z-of_z w64 c.args.row.now.constant constant) refl in
     let all = rw c.as_slice-term-items.ensures at c.loop-term-test.false in
@@ -33,5 +36,5 @@ returns-clause-plus c =
 
 pub returns-clause-size : goal.returns-clause-size
 returns-clause-size c =
-    let fits = sum_fits c.loop-term.self.constant c.product-2.result (rw c.loop-term.invariant.constant c.requires.room.constant) c.product-2.ensures.size in
-    entered_size (to_z w64 (of_z w64 c.args.by)) _ c.args.self.now c.loop-term.self _ c.product-2.result c.loop-term.invariant (λ q. refl) fits c.product-2.ensures.size
+    let fits = sum_fits c.loop-term.self.constant c.product-2.result (rw c.loop-term.invariant.entered.constant c.requires.room.constant) c.product-2.ensures.size in
+    entered_size (to_z w64 (of_z w64 c.args.by)) _ c.args.self.now c.loop-term.self _ c.product-2.result c.loop-term.invariant.entered (λ q. refl) fits c.product-2.ensures.size

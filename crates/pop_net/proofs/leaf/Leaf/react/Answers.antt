@@ -1,16 +1,21 @@
-use Rattle.std.proofs.Common.{◌≡◌, ap, ◌∙◌}
-use Rattle.std.specs.Prelude.{find}
+use Rattle.std.proofs.Common.{◌≡◌, length, ap, ◌∙◌, arith}
 use Rattle.pop_net.specs.LeafModel.{LeafModel, IsLeaf}
-use Rattle.pop_net.specs.Reaction.{leaf_reaction, by_move, takes}
+use Rattle.pop_net.specs.Reaction.{leaf_reaction}
+use Rattle.pop_net.proofs.Tables.{entry_read}
 use Rattle.pop_net.proofs.Within.{reaction_within}
 use Rattle.pop_net.proofs.Reactions.{leaf_reaction_change}
 use Rattle.pop_net.proofs.leaf.Leaf.react.Goals as goal
 
-same : (c : goal.After-taken) → c.taken.result ≡ leaf_reaction c.args.self.now c.args.x c.args.y
-same c = c.taken.ensures ∙ ap (by_move c.args.x c.args.y) (c.first_taking.ensures ∙ ap (find (takes c.args.x c.args.y)) (c.as_slice.ensures ∙ ap (λ (l : LeafModel). l.moves) c.self.view_is))
+same : (c : goal.After-result-1) → c.index.result.now ≡ leaf_reaction c.args.self.now c.args.x c.args.y
+same c =
+    let states = ap (λ (l : LeafModel). length l.states) c.self.view_is in
+    c.index.ensures
+    ∙ entry_read (length c.self.inside.states) c.args.x c.args.y c.self.inside.moves c.self.inside.table.items _ _ c.self.invariant.1
+    (let l = c.requires.x_in in omega (arith, l, states)) (let l = c.requires.y_in in omega (arith, l, states)) (ap length c.as_slice.ensures)
+    ∙ ap (λ (l : LeafModel). leaf_reaction l c.args.x c.args.y) c.self.view_is
 
-formed : (c : goal.After-taken) → IsLeaf c.args.self.now
-formed c = rw c.self.view_is at c.self.invariant
+formed : (c : goal.After-result-1) → IsLeaf c.args.self.now
+formed c = rw c.self.view_is at c.self.invariant.0
 
 pub returns-clause-first_in : goal.returns-clause-first_in
 returns-clause-first_in c =

@@ -3,7 +3,8 @@ use Rattle.pop_net.specs.LeafModel.{LeafModel}
 use Rattle.pop_net.specs.NetModel.{NetModel, Tuple, HasStates, IsNet}
 use Rattle.pop_net.specs.Reaction.{reactions, reaction}
 use Rattle.pop_net.specs.Step.{TupleChange}
-use Rattle.pop_net.specs.Lanes.{digits, tuple_of}
+use Rattle.pop_net.specs.LaneWidth.{bits_of, width_of}
+use Rattle.pop_net.specs.Lanes.{digits, lane_size, tuple_of}
 use Rattle.pop_net.proofs.Digits.{length-digits}
 use Rattle.pop_net.proofs.Reactions.{reaction_change}
 use Rattle.pop_net.proofs.Within.{reaction_states}
@@ -13,37 +14,46 @@ the_leaves : (c : goal.After-react_words-first) → c.as_slice.result.now ≡ c.
 the_leaves c = c.as_slice.ensures ∙ ap (λ (n : NetModel). n.leaves) c.self.view_is
 
 formed : (c : goal.After-react_words-first) → IsNet c.args.self.now
-formed c = subst IsNet c.self.view_is c.self.invariant
+formed c = subst IsNet c.self.view_is c.self.invariant.0
+
+the_base : (c : goal.After-react_words-first) → 2 ^ bits_of c.self.inside.lanes ≡ lane_size c.args.self.now
+the_base c = ap (λ w. 2 ^ bits_of w) (c.self.invariant.1 ∙ ap (λ (n : NetModel). width_of n.leaves) c.self.view_is)
 
 -- the tuple of a word whose lanes are those of a reaction, seen by f
-reacted : (f : ℕ × ℕ → ℕ) (net : NetModel) (a b word : ℕ) (leaves : List LeafModel) → leaves ≡ net.leaves → digits 256 (length leaves) word ≡ map f (reactions leaves (digits 256 (length leaves) a) (digits 256 (length leaves) b)) → tuple_of net (record { 0 = word }) ≡ map f (reactions net.leaves (tuple_of net (record { 0 = a })) (tuple_of net (record { 0 = b })))
-reacted f net a b word leaves e h =
-    subst (λ (ls : List LeafModel). digits 256 (length ls) word ≡ map f (reactions ls (digits 256 (length ls) a) (digits 256 (length ls) b))) e h
+reacted : (f : ℕ × ℕ → ℕ) (net : NetModel) (base a b word : ℕ) (leaves : List LeafModel) → base ≡ lane_size net → leaves ≡ net.leaves → digits base (length leaves) word ≡ map f (reactions leaves (digits base (length leaves) a) (digits base (length leaves) b)) → tuple_of net (record { 0 = word }) ≡ map f (reactions net.leaves (tuple_of net (record { 0 = a })) (tuple_of net (record { 0 = b })))
+reacted f net base a b word leaves same e h =
+    subst (λ (n : ℕ). digits n (length net.leaves) word ≡ map f (reactions net.leaves (digits n (length net.leaves) a) (digits n (length net.leaves) b))) same
+    (subst (λ (ls : List LeafModel). digits base (length ls) word ≡ map f (reactions ls (digits base (length ls) a) (digits base (length ls) b))) e h)
 
 first : (c : goal.After-react_words-first) → tuple_of c.args.self.now (record { 0 = c.react_words-first.result.0 }) ≡ (reaction c.args.self.now (tuple_of c.args.self.now c.args.a) (tuple_of c.args.self.now c.args.b)).0
-first c = reacted (λ z. z.0) c.args.self.now c.args.a.0 c.args.b.0 _ _ (the_leaves c) c.react_words-first.ensures.first
+first c = reacted (λ z. z.0) c.args.self.now _ c.args.a.0 c.args.b.0 _ _ (the_base c) (the_leaves c) c.react_words-first.ensures.first
 
 second : (c : goal.After-react_words-first) → tuple_of c.args.self.now (record { 0 = c.react_words-first.result.1 }) ≡ (reaction c.args.self.now (tuple_of c.args.self.now c.args.a) (tuple_of c.args.self.now c.args.b)).1
-second c = reacted (λ z. z.1) c.args.self.now c.args.a.0 c.args.b.0 _ _ (the_leaves c) c.react_words-first.ensures.second
+second c = reacted (λ z. z.1) c.args.self.now _ c.args.a.0 c.args.b.0 _ _ (the_base c) (the_leaves c) c.react_words-first.ensures.second
 
 states : (c : goal.After-react_words-first) → HasStates c.args.self.now (reaction c.args.self.now (tuple_of c.args.self.now c.args.a) (tuple_of c.args.self.now c.args.b)).0 × HasStates c.args.self.now (reaction c.args.self.now (tuple_of c.args.self.now c.args.a) (tuple_of c.args.self.now c.args.b)).1
 states c =
     let net = c.args.self.now in
     let f = formed c in
-    reaction_states net (tuple_of net c.args.a) (tuple_of net c.args.b) f.leaves (length-digits 256 (length net.leaves) c.args.a.0) (length-digits 256 (length net.leaves) c.args.b.0) c.requires.a_valid.states c.requires.b_valid.states
+    reaction_states net (tuple_of net c.args.a) (tuple_of net c.args.b) f.leaves (length-digits (lane_size net) (length net.leaves) c.args.a.0) (length-digits (lane_size net) (length net.leaves) c.args.b.0) c.requires.a_valid.states c.requires.b_valid.states
+
+in_range : (c : goal.After-react_words-first) (word : ℕ) → word < (2 ^ bits_of c.self.inside.lanes) ^ length c.as_slice.result.now → word < lane_size c.args.self.now ^ length c.args.self.now.leaves
+in_range c word l =
+    subst (λ (base : ℕ). word < base ^ length c.args.self.now.leaves) (the_base c)
+    (subst (λ (ls : List LeafModel). word < (2 ^ bits_of c.self.inside.lanes) ^ length ls) (the_leaves c) l)
 
 pub returns-clause-first_valid : goal.returns-clause-first_valid
 returns-clause-first_valid c =
     record {
       states = subst (HasStates c.args.self.now) (sym (first c)) (states c).0;
-      rest = subst (λ (ls : List LeafModel). c.react_words-first.result.0 < 256 ^ length ls) (the_leaves c) c.react_words-first.ensures.first_ends;
+      rest = in_range c c.react_words-first.result.0 c.react_words-first.ensures.first_ends;
     }
 
 pub returns-clause-second_valid : goal.returns-clause-second_valid
 returns-clause-second_valid c =
     record {
       states = subst (HasStates c.args.self.now) (sym (second c)) (states c).1;
-      rest = subst (λ (ls : List LeafModel). c.react_words-first.result.1 < 256 ^ length ls) (the_leaves c) c.react_words-first.ensures.second_ends;
+      rest = in_range c c.react_words-first.result.1 c.react_words-first.ensures.second_ends;
     }
 
 pub returns-clause-change : goal.returns-clause-change
@@ -51,4 +61,4 @@ returns-clause-change c =
     let net = c.args.self.now in
     subst (λ (y' : Tuple). TupleChange net (tuple_of net c.args.a) (tuple_of net c.args.b) (tuple_of net (record { 0 = c.react_words-first.result.0 })) y') (sym (second c))
     (subst (λ (x' : Tuple). TupleChange net (tuple_of net c.args.a) (tuple_of net c.args.b) x' (reaction net (tuple_of net c.args.a) (tuple_of net c.args.b)).1) (sym (first c))
-    (reaction_change net (tuple_of net c.args.a) (tuple_of net c.args.b) (length-digits 256 (length net.leaves) c.args.a.0) (length-digits 256 (length net.leaves) c.args.b.0)))
+    (reaction_change net (tuple_of net c.args.a) (tuple_of net c.args.b) (length-digits (lane_size net) (length net.leaves) c.args.a.0) (length-digits (lane_size net) (length net.leaves) c.args.b.0)))

@@ -1,0 +1,19 @@
+//! The limits of proofs.
+
+/// The most layers of a leaf.
+pub const LAYER_LIMIT: usize = 256;
+
+/// The most nodes of a tree.
+pub const NODE_LIMIT: usize = 1_000_000;
+
+/// The most nodes above each other in a tree.
+pub const PATH_LIMIT: usize = 4_096;
+
+/// The most facts of a case.
+pub const FACT_LIMIT: usize = 65_536;
+
+/// The most terms of a node.
+pub const TERM_LIMIT: usize = 65_536;
+
+/// The greatest size of a weight, a multiplier, a coefficient and a constant.
+pub const SIZE_LIMIT: u64 = 1 << 40;

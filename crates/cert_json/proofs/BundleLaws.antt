@@ -1,0 +1,72 @@
+-- What is read of a bundle is in its file, and each such file is read.
+use Rattle.std.proofs.Common.{◌≡◌, [], length, codes, Result, Ok, Err, refl, subst}
+use Rattle.std.specs.Prelude.{◌≢◌, IfOk, IfErr}
+use Rattle.serde_json.specs.Data.{Data}
+use Rattle.json_shape.specs.declared.fault.FormatFault.{FormatFault}
+use Rattle.json_shape.specs.declared.fault.FormatFault.TheVariants as fault
+use Rattle.json_shape.specs.Faults.{Fault, ◌>>=◌, Gives}
+use Rattle.json_shape.specs.Paths.{member_path}
+use Rattle.json_shape.specs.Shapes.{object_at, member_at, member_by}
+use Rattle.json_shape.proofs.Steps.{bind_ok, same_ok}
+use Rattle.json_shape.proofs.Readers
+use Rattle.pres_ast.specs.PredModel.{PredModel}
+use Rattle.pop_net.specs.NetModel.{NetModel}
+use Rattle.net_json.specs.Examined.{net_at}
+use Rattle.net_json.proofs.NetLaws.{net_at-takes, net_at-again}
+use Rattle.cert_base.specs.declared.proof.Proof.{Proof}
+use Rattle.cert_base.specs.ProofLimits.{IsProofWithin}
+use Rattle.cert_json.specs.declared.bundle.Bundle.{Bundle}
+use Rattle.cert_json.specs.BundleFile.{IsBundleFile}
+use Rattle.cert_json.specs.Bundles.{bundle_at}
+use Rattle.cert_json.specs.Examined.{pred_at, proof_at}
+use Rattle.cert_json.proofs.ProofLaws.{pred_takes, pred_again, proof_takes, proof_again}
+
+bundle_takes : (d : Data) (bundle : Bundle) → bundle_at d ≡ Ok bundle → IsBundleFile bundle d
+unfolding bundle_at
+bundle_takes d bundle e =
+    let net_path = member_path [] (codes "net") in
+    let pred_path = member_path [] (codes "pred") in
+    let made = λ (net : NetModel) (p : PredModel) (proof : Proof). (let o : Result Bundle Fault = Ok (record { net = net; pred = p; proof = proof }) in o) in
+    let net = member_by [] (codes "net") net_at d in
+    let pred = λ (net : NetModel). member_by [] (codes "pred") (pred_at net.variables) d in
+    let proof = λ (net : NetModel). proof_at net.variables (length net.leaves) d in
+    let a = bind_ok (object_at [] d) (λ o. net >>= λ n. pred n >>= λ p. proof n >>= λ parts. made n p parts) bundle e in
+    let n = bind_ok net (λ n. pred n >>= λ p. proof n >>= λ parts. made n p parts) bundle a.2 in
+    let p = bind_ok (pred n.0) (λ p. proof n.0 >>= λ parts. made n.0 p parts) bundle n.2 in
+    let r = bind_ok (proof n.0) (λ parts. made n.0 p.0 parts) bundle p.2 in
+    let n' = bind_ok (member_at [] (codes "net") d) (λ v. net_at net_path v) n.0 n.1 in
+    let p' = bind_ok (member_at [] (codes "pred") d) (λ v. pred_at n.0.variables pred_path v) p.0 p.1 in
+    let taken = proof_takes n.0.variables (length n.0.leaves) d r.0 r.1 in
+    subst (λ (b : Bundle). IsBundleFile b d) (same_ok (record { net = n.0; pred = p.0; proof = r.0 }) bundle r.2)
+    (record {
+      net = (n'.0, Readers.member_at-takes [] (codes "net") d n'.0 n'.1, net_at-takes net_path n'.0 n.0 n'.2);
+      pred = (p'.0, Readers.member_at-takes [] (codes "pred") d p'.0 p'.1, (pred_takes n.0.variables pred_path p'.0 p.0 p'.2).0);
+      proof = taken.0;
+      within = taken.1;
+    })
+
+bundle_again : (d : Data) (bundle : Bundle) → IsBundleFile bundle d → bundle_at d ≡ Ok bundle
+unfolding bundle_at
+bundle_again d bundle file =
+    let net : NetModel = bundle.net in
+    rw (
+      Readers.object_at-again [] (codes "net") d file.net.0 file.net.1,
+      file.net.1,
+      net_at-again (member_path [] (codes "net")) file.net.0 bundle.net file.net.2,
+      file.pred.1,
+      pred_again net.variables (member_path [] (codes "pred")) file.pred.0 bundle.pred file.pred.2,
+      proof_again net.variables (length net.leaves) d bundle.proof file.proof file.within,
+    ) refl
+
+pub read-file : (d : Data) (r : Result Bundle FormatFault) → Gives (λ bundle. bundle) r (bundle_at d) → IfOk r (λ bundle. IsBundleFile bundle d)
+read-file d (Ok bundle) given = bundle_takes d bundle given
+read-file d (Err e) given = tt
+
+pub read-within : (d : Data) (r : Result Bundle FormatFault) → Gives (λ bundle. bundle) r (bundle_at d) → IfOk r (λ bundle. IsProofWithin (length bundle.net.variables) (length bundle.net.leaves) bundle.proof)
+read-within d (Ok bundle) given = (bundle_takes d bundle given).within
+read-within d (Err e) given = tt
+
+pub broken-no_file : (d : Data) (r : Result Bundle FormatFault) → Gives (λ bundle. bundle) r (bundle_at d) → IfErr r (λ f. f ≢ fault.NoMemory → (bundle : Bundle) → IsBundleFile bundle d → ⊥)
+broken-no_file d (Ok bundle) given = tt
+broken-no_file d (Err (fault.Broken p w)) given = λ other bundle file. absurd (cc (given, bundle_again d bundle file))
+broken-no_file d (Err fault.NoMemory) given = λ other bundle file. other refl

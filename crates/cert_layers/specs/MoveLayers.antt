@@ -1,0 +1,38 @@
+-- The layer of each move.
+use Rattle.std.specs.Prelude.{◌≡◌, ℕ, ◌==◌, ◌&&◌, not, nat_lt, List, [], ◌∷◌, length, Contains}
+use Rattle.std.specs.Prelude.{Option, Some, None, is_some, if◌then◌else◌, option_and_then, Result, Ok, Err, slice_get}
+use Rattle.std.specs.List.{slice_index_or, slice_set}
+use Rattle.pop_net.specs.LeafModel.{LeafModel}
+use Rattle.cert_base.specs.declared.layer.Layer.{Layer}
+use Rattle.cert_layers.specs.LayerFaults.{Each, ShapedAt, IsFirstFailing}
+use Rattle.cert_layers.specs.declared.fault.LayerFault.{LayerFault}
+use Rattle.cert_layers.specs.declared.fault.LayerFault.TheVariants.{Shape, NoMemory}
+
+abbrev pub layer_of : List (Option ℕ) → ℕ → Option ℕ
+layer_of layer_of_move n = slice_index_or layer_of_move n None
+
+-- the layers of the moves so far, with move n in one more, unless there is no such move or it has a layer
+abbrev pub enter : List (Option ℕ) → ℕ → ℕ → Option (List (Option ℕ))
+enter layer_of_move layer n =
+    if nat_lt n (length layer_of_move) && not (is_some (layer_of layer_of_move n)) then Some (slice_set layer_of_move n (Some layer)) else None
+
+abbrev pub enter_all : List (Option ℕ) → ℕ → List ℕ → Option (List (Option ℕ))
+enter_all layer_of_move layer [] = Some layer_of_move
+enter_all layer_of_move layer (n ∷ ns) = option_and_then (λ more. enter_all more layer ns) (enter layer_of_move layer n)
+
+-- the layers of the moves, where all layers have their shape, or the first layer that hasn't
+abbrev pub enter_layer : ℕ → List (Option ℕ) → ℕ → Layer → Option (List (Option ℕ))
+enter_layer states layer_of_move i layer = if length layer.weights == states then enter_all layer_of_move i layer.moves else None
+
+-- each move's layer, if one lists it; all layers have their shape
+pub record AreMoveLayers (leaf : LeafModel) (layers : List Layer) (layer_of_move : List (Option ℕ)) : Type 0 where
+  pub long : length layer_of_move ≡ length leaf.moves
+  pub listed_in : (n i : ℕ) → layer_of layer_of_move n ≡ Some i → (layer : Layer) × (slice_get layers i ≡ Some layer) × Contains layer.moves n
+  pub placed : (n i : ℕ) (layer : Layer) → slice_get layers i ≡ Some layer → Contains layer.moves n → layer_of layer_of_move n ≡ Some i
+  pub shaped : Each (ShapedAt leaf layers)
+
+abbrev pub FindsMoveLayers : LeafModel → List Layer → Result (List (Option ℕ)) LayerFault → Type 0
+FindsMoveLayers leaf layers (Ok layer_of_move) = AreMoveLayers leaf layers layer_of_move
+FindsMoveLayers leaf layers (Err (Shape n)) = IsFirstFailing (ShapedAt leaf layers) n
+FindsMoveLayers leaf layers (Err NoMemory) = Unit {0}
+FindsMoveLayers leaf layers (Err _) = ⊥

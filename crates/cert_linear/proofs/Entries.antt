@@ -1,0 +1,173 @@
+-- Entries of which the touched ones are listed.
+use Rattle.std.proofs.Common.{◌≡◌, ◌≢◌, ◌⊎◌, inl, inr, ℕ, zero, suc, ◌<◌, ◌≤◌, Bool, true, false, List, [], ◌∷◌, ◌++◌, length, refl, ap, sym, ◌∙◌, subst, arith}
+use Rattle.std.specs.Prelude.{ℤ, pos, ◌+ℤ◌, ◌==◌, if◌then◌else◌, All, Contains, slice_index_or, slice_set}
+use Rattle.std.specs.List.{list_all}
+use Rattle.std.proofs.lemmas.Int.{ints}
+use Rattle.std.proofs.lemmas.Bool.Decides.{eqb_tells}
+use Rattle.std.proofs.lemmas.List.{length-append, get_or-set_same, get_or-set_other, get_or_past, get_or_append_left}
+use Rattle.std.proofs.lemmas.List.Elements.{Contains-append_left, Contains-append_right, Contains-append_cases, All-push}
+use Rattle.std.proofs.lemmas.List.Sums.{AllPass-from_list_all, list_all-from_AllPass}
+use Rattle.std.proofs.Math.ListN.{length-set}
+use Rattle.cert_base.specs.declared.fact.Row.{Row}
+use Rattle.cert_base.specs.ClosingTests.{coefficient_in, each_coefficient}
+use Rattle.cert_linear.specs.declared.sum.Entry.{Entry}
+use Rattle.cert_linear.specs.declared.sum.Sum.{Sum}
+use Rattle.cert_linear.specs.Sums.{blank, entry_at, coefficient_of, AreTidy, IsTidy, IsSum}
+use Rattle.cert_linear.proofs.RowValues.{each_coefficient-at}
+
+abbrev Tells : ℕ → ℕ → Type 0
+Tells m n = ((m == n) ≡ true) × (m ≡ n) ⊎ ((m == n) ≡ false) × (m ≢ n)
+
+only : (x q : ℕ) → Contains (x ∷ []) q → x ≡ q
+only x q (zero, l, is) = is
+only x q (suc k, l, is) = absurd (omega (arith, l))
+
+last : (xs : List ℕ) (x : ℕ) → Contains (xs ++ x ∷ []) x
+last xs x = Contains-append_right xs (x ∷ []) x (0, (let l : 0 < 1 = omega arith in l), refl)
+
+-- an entry past the end is blank
+pub at_past : (entries : List Entry) (q : ℕ) → length entries ≤ q → entry_at entries q ≡ blank
+at_past entries q l = get_or_past entries q blank l
+
+pub push-at : (entries : List Entry) (q : ℕ) → entry_at (entries ++ blank ∷ []) q ≡ entry_at entries q
+push-at [] zero = refl
+push-at [] (suc q) = refl
+push-at (e ∷ entries) zero = refl
+push-at (e ∷ entries) (suc q) = push-at entries q
+
+-- one more blank entry
+pub tidy-push : (entries : List Entry) (touched : List ℕ) → AreTidy entries touched → AreTidy (entries ++ blank ∷ []) touched
+tidy-push entries touched t = record {
+  within = λ k d l. let h = t.within k d l in omega (arith, h, length-append entries (blank ∷ []));
+  zero = λ q e. ap (λ (f : Entry). f.sum) (push-at entries q) ∙ t.zero q (sym (ap (λ (f : Entry). f.touched) (push-at entries q)) ∙ e);
+  listed = λ q e. t.listed q (sym (ap (λ (f : Entry). f.touched) (push-at entries q)) ∙ e);
+}
+
+pub set-same : (entries : List Entry) (x : ℕ) (e : Entry) → x < length entries → entry_at (slice_set entries x e) x ≡ e
+set-same entries x e l = get_or-set_same entries x e blank l
+
+pub set-other : (entries : List Entry) (x q : ℕ) (e : Entry) → x ≢ q → entry_at (slice_set entries x e) q ≡ entry_at entries q
+set-other entries x q e ne = get_or-set_other entries x q e blank (λ same. ne (sym same))
+
+-- the last that was touched is blank again
+pub tidy-blank : (entries : List Entry) (rest : List ℕ) (x : ℕ) → AreTidy entries (rest ++ x ∷ []) → AreTidy (slice_set entries x blank) rest
+tidy-blank entries rest x t = record {
+  within = λ k d l. let h = within_rest k d l in omega (arith, h, length-set entries x blank);
+  zero = λ q e. zero_at q e (eqb_tells x q);
+  listed = λ q e. listed_at q e (eqb_tells x q);
+}
+  where
+    inside : x < length entries
+    inside = at (last rest x)
+      where
+        at : Contains (rest ++ x ∷ []) x → x < length entries
+        at (k, l, is) = subst (λ (n : ℕ). n < length entries) is (t.within k x l)
+
+    within_rest : All (λ q. q < length entries) rest
+    within_rest k d l =
+        let before : slice_index_or (rest ++ x ∷ []) k d ≡ slice_index_or rest k d = get_or_append_left rest (x ∷ []) d k l in
+        subst (λ (n : ℕ). n < length entries) before (t.within k d (let m : k < length (rest ++ x ∷ []) = omega (arith, l, length-append rest (x ∷ [])) in m))
+
+    zero_at : (q : ℕ) → (entry_at (slice_set entries x blank) q).touched ≡ false → Tells x q → (entry_at (slice_set entries x blank) q).sum ≡ pos 0
+    zero_at q e (inl h) = ap (λ n. (entry_at (slice_set entries x blank) n).sum) (sym h.1) ∙ ap (λ (f : Entry). f.sum) (set-same entries x blank inside)
+    zero_at q e (inr h) =
+        let same = set-other entries x q blank h.1 in
+        ap (λ (f : Entry). f.sum) same ∙ t.zero q (sym (ap (λ (f : Entry). f.touched) same) ∙ e)
+
+    listed_at : (q : ℕ) → (entry_at (slice_set entries x blank) q).touched ≡ true → Tells x q → Contains rest q
+    listed_at q e (inl h) =
+        let clash : false ≡ true = sym (ap (λ n. (entry_at (slice_set entries x blank) n).touched) (sym h.1) ∙ ap (λ (f : Entry). f.touched) (set-same entries x blank inside)) ∙ e in
+        cc
+    listed_at q e (inr h) =
+        let same = set-other entries x q blank h.1 in
+        elim (Contains-append_cases rest (x ∷ []) q (t.listed q (sym (ap (λ (f : Entry). f.touched) same) ∙ e))) [
+          | inl c ↦ c
+          | inr c ↦ absurd (h.1 (only x q c))
+        ]
+
+-- where nothing is listed, all is 0
+pub none-touched : (entries : List Entry) → AreTidy entries [] → (q : ℕ) → (entry_at entries q).sum ≡ pos 0
+none-touched entries t q = go (entry_at entries q).touched refl
+  where
+    none : Contains [] q → ⊥
+    none (k, l, is) = omega (arith, l)
+
+    go : (b : Bool) → (entry_at entries q).touched ≡ b → (entry_at entries q).sum ≡ pos 0
+    go false e = t.zero q e
+    go true e = absurd (none (t.listed q e))
+
+-- an entry is written that is listed
+pub tidy-set : (entries : List Entry) (touched : List ℕ) (x : ℕ) (e : Entry) → AreTidy entries touched → x < length entries → e.touched ≡ true → Contains touched x → AreTidy (slice_set entries x e) touched
+tidy-set entries touched x e t inside marked there = record {
+  within = λ k d l. let h = t.within k d l in omega (arith, h, length-set entries x e);
+  zero = λ q h. zero_at q h (eqb_tells x q);
+  listed = λ q h. listed_at q h (eqb_tells x q);
+}
+  where
+    zero_at : (q : ℕ) → (entry_at (slice_set entries x e) q).touched ≡ false → Tells x q → (entry_at (slice_set entries x e) q).sum ≡ pos 0
+    zero_at q h (inl k) =
+        let clash : true ≡ false = sym marked ∙ sym (ap (λ (f : Entry). f.touched) (set-same entries x e inside)) ∙ ap (λ n. (entry_at (slice_set entries x e) n).touched) k.1 ∙ h in
+        cc
+    zero_at q h (inr k) =
+        let same = set-other entries x q e k.1 in
+        ap (λ (f : Entry). f.sum) same ∙ t.zero q (sym (ap (λ (f : Entry). f.touched) same) ∙ h)
+
+    listed_at : (q : ℕ) → (entry_at (slice_set entries x e) q).touched ≡ true → Tells x q → Contains touched q
+    listed_at q h (inl k) = subst (λ (n : ℕ). Contains touched n) k.1 there
+    listed_at q h (inr k) =
+        let same = set-other entries x q e k.1 in
+        t.listed q (sym (ap (λ (f : Entry). f.touched) same) ∙ h)
+
+-- one more is listed
+pub tidy-list : (entries : List Entry) (touched : List ℕ) (x : ℕ) → AreTidy entries touched → x < length entries → AreTidy entries (touched ++ x ∷ [])
+tidy-list entries touched x t inside = record {
+  within = All-push (λ (q : ℕ). q < length entries) touched x t.within inside;
+  zero = t.zero;
+  listed = λ q e. Contains-append_left touched (x ∷ []) q (t.listed q e);
+}
+
+-- the sums after an entry's sum grew
+pub sum-grown : (entries : List Entry) (x : ℕ) (e : Entry) (by : ℤ) → x < length entries → e.sum ≡ ((entry_at entries x).sum +ℤ by) → (q : ℕ) → (entry_at (slice_set entries x e) q).sum ≡ ((entry_at entries q).sum +ℤ (if x == q then by else pos 0))
+sum-grown entries x e by inside grown q = go (eqb_tells x q)
+  where
+    go : Tells x q → (entry_at (slice_set entries x e) q).sum ≡ ((entry_at entries q).sum +ℤ (if x == q then by else pos 0))
+    go (inl h) =
+        rw (h.0, ← h.1) (ap (λ (f : Entry). f.sum) (set-same entries x e inside) ∙ grown)
+    go (inr h) =
+        let same = ap (λ (f : Entry). f.sum) (set-other entries x q e h.1) in
+        rw h.0 (omega (arith, ints, same))
+
+-- the sums stay where an entry's sum does
+pub sum-kept : (entries : List Entry) (x : ℕ) (e : Entry) → x < length entries → e.sum ≡ (entry_at entries x).sum → (q : ℕ) → (entry_at (slice_set entries x e) q).sum ≡ (entry_at entries q).sum
+sum-kept entries x e inside kept q = go (eqb_tells x q)
+  where
+    go : Tells x q → (entry_at (slice_set entries x e) q).sum ≡ (entry_at entries q).sum
+    go (inl h) = rw (← h.1) (ap (λ (f : Entry). f.sum) (set-same entries x e inside) ∙ kept)
+    go (inr h) = ap (λ (f : Entry). f.sum) (set-other entries x q e h.1)
+
+both_ways : (a b : Bool) → (a ≡ true → b ≡ true) → (b ≡ true → a ≡ true) → a ≡ b
+both_ways true b f g = sym (f refl)
+both_ways false true f g = g refl
+both_ways false false f g = refl
+
+-- the touched entries pass a test that 0 passes exactly when the coefficients of the row do
+pub each-touched : (test : ℤ → Bool) (row : Row) (sum : Sum) → IsSum row sum → IsTidy sum → test (pos 0) ≡ true → list_all (λ q. test (coefficient_of sum q)) sum.touched.items ≡ each_coefficient test row
+each-touched test row sum is tidy zero_passes =
+    both_ways _ _
+    (λ e. list_all-from_AllPass (λ t. test (coefficient_in row.terms t.at)) row.terms (λ k d l. let at = (slice_index_or row.terms k d).at in ap test (sym (is.terms at)) ∙ passes at e (entry_at sum.entries.items at).touched refl))
+    (λ e. list_all-from_AllPass (λ q. test (coefficient_of sum q)) sum.touched.items (λ k d l. let at = slice_index_or sum.touched.items k d in ap test (is.terms at) ∙ each_coefficient-at test row at zero_passes e))
+  where
+    found : (q : ℕ) → list_all (λ q. test (coefficient_of sum q)) sum.touched.items ≡ true → Contains sum.touched.items q → test (coefficient_of sum q) ≡ true
+    found q e (k, l, is) = ap (λ n. test (coefficient_of sum n)) (sym is) ∙ AllPass-from_list_all (λ q. test (coefficient_of sum q)) sum.touched.items e k q l
+
+    passes : (q : ℕ) → list_all (λ q. test (coefficient_of sum q)) sum.touched.items ≡ true → (b : Bool) → (entry_at sum.entries.items q).touched ≡ b → test (coefficient_of sum q) ≡ true
+    passes q e false f = ap test (tidy.zero q f) ∙ zero_passes
+    passes q e true f = found q e (tidy.listed q f)
+
+-- an entry that is listed grows
+pub entry_grows : (entries : List Entry) (touched : List ℕ) (x : ℕ) (here e : Entry) (by total : ℤ) → AreTidy entries touched → x < length entries → here ≡ entry_at entries x → here.touched ≡ true → e ≡ record { sum = total; touched = here.touched } → total ≡ (here.sum +ℤ by) → AreTidy (slice_set entries x e) touched × ((q : ℕ) → (entry_at (slice_set entries x e) q).sum ≡ ((entry_at entries q).sum +ℤ (if x == q then by else pos 0)))
+entry_grows entries touched x here e by total t inside is marked e_is total_is =
+    let there = t.listed x (ap (λ (f : Entry). f.touched) (sym is) ∙ marked) in
+    let e_marked : e.touched ≡ true = ap (λ (f : Entry). f.touched) e_is ∙ marked in
+    let e_sum : e.sum ≡ ((entry_at entries x).sum +ℤ by) = ap (λ (f : Entry). f.sum) e_is ∙ total_is ∙ ap (λ (f : Entry). f.sum +ℤ by) is in
+    (tidy-set entries touched x e t inside e_marked there, sum-grown entries x e by inside e_sum)

@@ -1,0 +1,7 @@
+//! How many agents a crowd has that is run.
+
+/// The fewest agents of a crowd.
+pub const AGENT_LEAST: u32 = 2;
+
+/// The most agents of a crowd.
+pub const AGENT_LIMIT: u32 = 65_536;

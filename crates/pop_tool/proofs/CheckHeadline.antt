@@ -1,0 +1,110 @@
+-- What a printed text of `check` says of a bundle.
+use Rattle.std.proofs.Common.{◌≡◌, ℕ, ◌≤◌, Bool, true, false, nat_lt, List, [], ◌∷◌, get_or, length, Option, Some, None, Result, Ok, Err, refl, sym, ap, subst, ◌∙◌, arith}
+use Rattle.std.specs.Prelude.{MatchBool}
+use Rattle.std.proofs.lemmas.Bool.{le-ltb, ltb-false}
+use Rattle.pop_io.specs.declared.whole.TheConstants.{INPUT_LIMIT}
+use Rattle.pop_lines.specs.Lines.{lines_of, ended}
+use Rattle.pop_words.specs.declared.command.Command.TheVariants.{Check}
+use Rattle.cert_json.specs.declared.bundle.Bundle.{Bundle}
+use Rattle.pop_checker.specs.declared.fault.Rejected.{Rejected}
+use Rattle.pop_checker.specs.declared.fault.Rejected.TheVariants.{Layers, Tree, Predicate}
+use Rattle.pop_checker.proofs.OneFault.{none_rejected}
+use Rattle.tool_texts.specs.declared.refusal.Refusal.{Refusal}
+use Rattle.tool_texts.specs.declared.refusal.Refusal.TheVariants.{TooLong, Line, NotJson, Format, Pred, Count, Size}
+use Rattle.tool_texts.specs.declared.output.Output.{Output}
+use Rattle.tool_texts.specs.declared.output.Ending.TheVariants as ending
+use Rattle.tool_texts.specs.declared.status.Status.TheVariants.{Done}
+use Rattle.tool_texts.specs.Statuses.{status_of}
+use Rattle.tool_texts.specs.Steps.{After}
+use Rattle.tool_texts.specs.Lines.{just_one}
+use Rattle.tool_texts.specs.Refusals.{refusal_text, output_for}
+use Rattle.tool_texts.specs.Rejections.{rejected_text}
+use Rattle.tool_texts.proofs.OneValue.{one_value}
+use Rattle.tool_commands.specs.Bundles.{bundle_in, IsBundleOf, IsJudged}
+use Rattle.tool_commands.specs.Check.{certified_text, judgement, OfBundle, OfLine, CheckGives}
+use Rattle.tool_commands.proofs.Certified.{some_value}
+use Rattle.pop_tool.specs.Answer.{InputGives}
+use Rattle.pop_tool.specs.Headline.{IsBundleLine, IsValid, CheckSays, IsValidLine}
+
+first_byte : List ℕ → ℕ
+first_byte bytes = get_or bytes 0 0
+
+-- a refusal begins with an f, a rejection with an r, and `certified` with a c
+not_refusal : (refusal : Refusal) (k : ℕ) → ended (refusal_text refusal) ≡ ended (certified_text k) → ⊥
+unfolding first_byte
+not_refusal TooLong k e = let b : 102 ≡ 99 = ap first_byte e in absurd (omega (arith, b))
+not_refusal (Line number why) k e = let b : 102 ≡ 99 = ap first_byte e in absurd (omega (arith, b))
+not_refusal NotJson k e = let b : 102 ≡ 99 = ap first_byte e in absurd (omega (arith, b))
+not_refusal (Format path why) k e = let b : 102 ≡ 99 = ap first_byte e in absurd (omega (arith, b))
+not_refusal (Pred why) k e = let b : 102 ≡ 99 = ap first_byte e in absurd (omega (arith, b))
+not_refusal (Count word) k e = let b : 102 ≡ 99 = ap first_byte e in absurd (omega (arith, b))
+not_refusal (Size agents) k e = let b : 102 ≡ 99 = ap first_byte e in absurd (omega (arith, b))
+
+not_rejection : (rejected : Rejected) (k : ℕ) → ended (rejected_text rejected) ≡ ended (certified_text k) → ⊥
+unfolding first_byte
+not_rejection (Layers leaf fault) k e = let b : 114 ≡ 99 = ap first_byte e in absurd (omega (arith, b))
+not_rejection (Tree leaf value fault) k e = let b : 114 ≡ 99 = ap first_byte e in absurd (omega (arith, b))
+not_rejection Predicate k e = let b : 114 ≡ 99 = ap first_byte e in absurd (omega (arith, b))
+
+done : (text : List ℕ) (output : Output) → text ≡ output.text → output.ending ≡ ending.Done → (text ≡ output.text) × (status_of output.ending ≡ Done)
+done text output is ends = (is, ap status_of ends)
+
+module _ (text : List ℕ) (bundle : Bundle) where
+  judged_says : (judged : Option Rejected) → IsJudged bundle judged → text ≡ (judgement bundle judged).text → CheckSays bundle text (status_of (judgement bundle judged).ending)
+  judged_says None is printed =
+      record { certified = ((λ p. is.0), (λ valid. (printed, refl))); computes = λ valid. is.1.computes }
+  judged_says (Some rejected) is printed =
+      let never : IsValid bundle → ⊥ = λ valid. none_rejected bundle.net bundle.pred bundle.proof rejected valid is in
+      record { certified = ((λ p. absurd (cc (p.1))), (λ valid. absurd (never valid))); computes = λ valid. absurd (never valid) }
+
+  judged_valid : (judged : Option Rejected) → IsJudged bundle judged → (k : ℕ) → (judgement bundle judged).text ≡ ended (certified_text k) → IsValid bundle
+  judged_valid None is k e = is.0
+  judged_valid (Some rejected) is k e = absurd (not_rejection rejected k e)
+
+short_lines : (input : List ℕ) (given : Result Output Refusal) → length input ≤ INPUT_LIMIT → InputGives Check input given → CheckGives (lines_of input) given
+short_lines input given short is = rw (le-ltb INPUT_LIMIT (length input) short) at is
+
+-- what is given for the line of a bundle
+pub check_says : (input : List ℕ) (bundle : Bundle) (given : Result Output Refusal) → IsBundleLine input bundle → InputGives Check input given → CheckSays bundle (output_for given).text (status_of (output_for given).ending)
+check_says input bundle given line is =
+    let of_line : OfLine line.line given = subst (λ (ls : List (List ℕ)). After (just_one ls) OfLine given) line.lines (short_lines input given line.short is) in
+    let value = one_value line.line of_line.1.0 (Some line.value) of_line.1.1 line.reads in
+    let read : of_line.0 ≡ Ok bundle = of_line.1.2 ∙ ap bundle_in value ∙ rw line.is refl in
+    let of_bundle : OfBundle bundle given = subst (λ (r : Result Bundle Refusal). After r OfBundle given) read of_line.2 in
+    subst (λ (g : Result Output Refusal). CheckSays bundle (output_for g).text (status_of (output_for g).ending)) (sym of_bundle.2)
+    (judged_says (judgement bundle of_bundle.0).text bundle of_bundle.0 of_bundle.1 refl)
+
+abbrev Printed : Result Output Refusal → ℕ → Type 0
+Printed given k = (output_for given).text ≡ ended (certified_text k)
+
+module _ (k : ℕ) where
+  refused : (refusal : Refusal) (given : Result Output Refusal) → given ≡ Err refusal → Printed given k → ⊥
+  refused refusal given is printed = not_refusal refusal k (subst (λ (g : Result Output Refusal). Printed g k) is printed)
+
+  bundle_only : (line : List ℕ) (r : Result Bundle Refusal) (given : Result Output Refusal) → IsBundleOf line r → After r OfBundle given → Printed given k → (bundle : Bundle) × IsBundleOf line (Ok bundle) × IsValid bundle
+  bundle_only line (Err refusal) given of is printed = absurd (refused refusal given is printed)
+  bundle_only line (Ok bundle) given of is printed =
+      (bundle, of, judged_valid (judgement bundle is.0).text bundle is.0 is.1 k (subst (λ (g : Result Output Refusal). Printed g k) is.2 printed))
+
+  line_only : (input line : List ℕ) → length input ≤ INPUT_LIMIT → lines_of input ≡ line ∷ [] → (given : Result Output Refusal) → OfLine line given → Printed given k → IsValidLine input
+  line_only input line short is given of printed =
+      let found = bundle_only line of.0 given of.1 of.2 printed in
+      let value = some_value line found.1.0 found.0 found.1.1 (sym found.1.2) in
+      record {
+        bundle = found.0;
+        line = record { short = short; line = line; lines = is; value = value.0; reads = value.1; is = value.2 };
+        valid = found.2;
+      }
+
+  lines_only : (input : List ℕ) (lines : List (List ℕ)) → length input ≤ INPUT_LIMIT → lines_of input ≡ lines → (given : Result Output Refusal) → CheckGives lines given → Printed given k → IsValidLine input
+  lines_only input [] short is given of printed = absurd (refused _ given of printed)
+  lines_only input (line ∷ []) short is given of printed = line_only input line short is given of printed
+  lines_only input (line ∷ second ∷ more) short is given of printed = absurd (refused _ given of printed)
+
+  by_length : (input : List ℕ) (long : Bool) → nat_lt INPUT_LIMIT (length input) ≡ long → (given : Result Output Refusal) → MatchBool long (given ≡ Err TooLong) (CheckGives (lines_of input) given) → Printed given k → IsValidLine input
+  by_length input true is given of printed = absurd (refused TooLong given of printed)
+  by_length input false is given of printed = lines_only input (lines_of input) (ltb-false INPUT_LIMIT (length input) is) refl given of printed
+
+  -- `certified` is given for the line of a bundle whose proof is valid alone
+  pub check_only : (input : List ℕ) (given : Result Output Refusal) → InputGives Check input given → Printed given k → IsValidLine input
+  check_only input given is printed = by_length input (nat_lt INPUT_LIMIT (length input)) refl given is printed

@@ -1,0 +1,108 @@
+-- What a printed text of `run` says of a bundle.
+use Rattle.std.proofs.Common.{◌≡◌, inl, inr, ℕ, Bool, true, false, nat_lt, List, [], ◌∷◌, ◌++◌, length, Option, Some, None, Result, Ok, Err, refl, sym, ap, subst}
+use Rattle.std.specs.Prelude.{All, MatchBool}
+use Rattle.pop_io.specs.declared.whole.TheConstants.{INPUT_LIMIT}
+use Rattle.pop_lines.specs.Lines.{lines_of, ended}
+use Rattle.pres_ast.specs.PredicateValue.{predicate_value}
+use Rattle.pop_net.specs.NetModel.{NetModel, CrowdModel, IsTuple}
+use Rattle.pop_net.specs.Step.{Step}
+use Rattle.pop_net.specs.Terminal.{IsTerminal}
+use Rattle.terminal_test.proofs.Ends.{not_terminal}
+use Rattle.pop_words.specs.declared.command.Command.TheVariants.{Run}
+use Rattle.pop_words.specs.declared.spec.RunSpec.{RunSpec}
+use Rattle.pop_journal.specs.declared.last.Last.TheVariants.{Verdict}
+use Rattle.cert_json.specs.declared.bundle.Bundle.{Bundle}
+use Rattle.pop_checker.specs.declared.fault.Rejected.{Rejected}
+use Rattle.tool_texts.specs.declared.refusal.Refusal.{Refusal}
+use Rattle.tool_texts.specs.declared.refusal.Refusal.TheVariants.{TooLong}
+use Rattle.tool_texts.specs.declared.output.Output.{Output}
+use Rattle.tool_texts.specs.declared.status.Status.{Status}
+use Rattle.tool_texts.specs.declared.status.Status.TheVariants.{Refused, Rejected as IsRejectedStatus}
+use Rattle.tool_texts.specs.Statuses.{status_of}
+use Rattle.tool_texts.specs.Steps.{After}
+use Rattle.tool_texts.specs.Lines.{just_two}
+use Rattle.tool_texts.specs.Refusals.{output_for}
+use Rattle.tool_commands.specs.Bundles.{IsBegunBy, IsJudged}
+use Rattle.tool_commands.specs.Play.{IsLast}
+use Rattle.tool_commands.specs.Run.{journal_end, IsRunOutput, OfJudged, OfBegun, OfLines, RunGives}
+use Rattle.tool_commands.proofs.Begun.{begun_two}
+use Rattle.tool_commands.proofs.Ran.{run_tuples}
+use Rattle.pop_tool.specs.Answer.{InputGives}
+use Rattle.pop_tool.specs.Headline.{RunSays, WasRun}
+
+two_lines : (lines : List (List ℕ)) (found : List ℕ × List ℕ) → just_two lines ≡ Ok found → lines ≡ found.0 ∷ found.1 ∷ []
+two_lines [] found e = absurd cc
+two_lines (a ∷ []) found e = absurd cc
+two_lines (a ∷ b ∷ []) found e =
+    let both : ◌≡◌ {A = List ℕ × List ℕ} (a, b) found = cc in ap (λ (p : List ℕ × List ℕ). p.0 ∷ p.1 ∷ []) both
+two_lines (a ∷ b ∷ c ∷ more) found e = absurd cc
+
+module _ (net : NetModel) (end : CrowdModel) (tuples : All (IsTuple net) end) (value : Bool) where
+  ends_by_verdict : (pair : Option (ℕ × ℕ)) → IsLast net end pair → IsTerminal (Step net) end → journal_end value pair ≡ Verdict value
+  ends_by_verdict None is terminal = refl
+  ends_by_verdict (Some (a, b)) is terminal = absurd (not_terminal net end tuples a b is.enabled terminal)
+
+  verdict_ends : (pair : Option (ℕ × ℕ)) (v : Bool) → IsLast net end pair → journal_end value pair ≡ Verdict v → IsTerminal (Step net) end
+  verdict_ends None v is e = is
+  verdict_ends (Some (a, b)) v is e = absurd cc
+
+not_rejected : (status : Status) → status ≡ IsRejectedStatus → WasRun status → ⊥
+not_rejected status is (inl done) = absurd (cc (is, done))
+not_rejected status is (inr undecided) = absurd (cc (is, undecided))
+
+not_refused : WasRun Refused → ⊥
+not_refused (inl done) = absurd cc
+not_refused (inr undecided) = absurd cc
+
+abbrev Ran : Result Output Refusal → Type 0
+Ran given = WasRun (status_of (output_for given).ending)
+
+refused : (refusal : Refusal) (given : Result Output Refusal) → given ≡ Err refusal → Ran given → ⊥
+refused refusal given is ran = not_refused (subst Ran is ran)
+
+module _ (spec : RunSpec) (input : List ℕ) where
+  module _ (first second : List ℕ) (lines : lines_of input ≡ first ∷ second ∷ []) where
+    output_says : (bundle : Bundle) (counts : List ℕ) → IsBegunBy first second (Ok (bundle, counts)) → IsJudged bundle None → (output : Output) → IsRunOutput spec (ended first ++ ended second) bundle.net bundle.pred counts output → RunSays spec input output.text
+    output_says bundle counts begins judged output is =
+        let tuples = run_tuples bundle.net counts (begun_two begins.0 second bundle counts (sym begins.2)) spec is.rounds is.end is.run in
+        let truth = predicate_value bundle.pred.tree counts in
+        record {
+          first = first;
+          second = second;
+          lines = lines;
+          bundle = bundle;
+          counts = counts;
+          begins = begins;
+          computes = judged.1.computes;
+          rounds = is.rounds;
+          end = is.end;
+          run = is.run;
+          last = journal_end truth is.pair;
+          printed = is.text;
+          verdict = ends_by_verdict bundle.net is.end tuples truth is.pair is.last;
+          terminal = λ v. verdict_ends bundle.net is.end tuples truth is.pair v is.last;
+        }
+
+    judged_says : (bundle : Bundle) (counts : List ℕ) → IsBegunBy first second (Ok (bundle, counts)) → (judged : Option Rejected) → IsJudged bundle judged → (output : Output)
+        → OfJudged spec (ended first ++ ended second) bundle counts judged output → WasRun (status_of output.ending) → RunSays spec input output.text
+    judged_says bundle counts begins None is output of ran = output_says bundle counts begins is output of
+    judged_says bundle counts begins (Some rejected) is output of ran =
+        absurd (not_rejected (status_of output.ending) (ap (λ (o : Output). status_of o.ending) of) ran)
+
+    begun_says : (r : Result (Bundle × List ℕ) Refusal) → IsBegunBy first second r → (given : Result Output Refusal) → After r (OfBegun spec (ended first ++ ended second)) given → Ran given → RunSays spec input (output_for given).text
+    begun_says (Err refusal) begins given of ran = absurd (refused refusal given of ran)
+    begun_says (Ok begin) begins given of ran =
+        subst (λ (g : Result Output Refusal). RunSays spec input (output_for g).text) (sym of.4)
+        (judged_says begin.0 begin.1 begins of.0 of.2 of.1 of.3 (subst Ran of.4 ran))
+
+  lines_say : (r : Result (List ℕ × List ℕ) Refusal) → just_two (lines_of input) ≡ r → (given : Result Output Refusal) → After r (OfLines spec) given → Ran given → RunSays spec input (output_for given).text
+  lines_say (Err refusal) is given of ran = absurd (refused refusal given of ran)
+  lines_say (Ok found) is given of ran =
+      begun_says found.0 found.1 (two_lines (lines_of input) found is) of.0 of.1 given of.2 ran
+
+  by_length : (long : Bool) (given : Result Output Refusal) → MatchBool long (given ≡ Err TooLong) (RunGives spec (lines_of input) given) → Ran given → RunSays spec input (output_for given).text
+  by_length true given of ran = absurd (refused TooLong given of ran)
+  by_length false given of ran = lines_say (just_two (lines_of input)) refl given of ran
+
+  pub run_says : (given : Result Output Refusal) → InputGives (Run spec) input given → Ran given → RunSays spec input (output_for given).text
+  run_says given of ran = by_length (nat_lt INPUT_LIMIT (length input)) given of ran

@@ -1,9 +1,0 @@
--- There are no more lines than bytes.
-use Rattle.std.proofs.Common.{◌≡◌, ℕ, ◌≤◌, List, [], ◌∷◌, ◌++◌, length, get_or, ap, subst, arith, length-append}
-use Rattle.std.specs.Prelude.{All}
-use Rattle.std.proofs.lemmas.List.Folds.{length-flat_map-take}
-use Rattle.pop_lines.specs.Lines.{lines_of}
-use Rattle.pop_lines.proofs.Joined.{lines-joined, length-completed, length-lines}
-
-pub more_few : (bytes first second : List ℕ) (more : List (List ℕ)) → lines_of bytes ≡ first ∷ second ∷ more → length more ≤ length bytes
-more_few bytes first second more is = omega (arith, length-lines bytes, ap length is)

@@ -1,5 +1,0 @@
-use Rattle.std.proofs.Common.{arith}
-use Rattle.pop_tool.proofs.play.end_of.Goals as goal
-
-pub overflow_add-number : goal.overflow_add-number
-overflow_add-number c = omega (arith, c.lines.invariant.counted_lines, c.requires.few)

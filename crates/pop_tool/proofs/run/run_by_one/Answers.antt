@@ -1,4 +1,0 @@
-use Rattle.pop_tool.proofs.run.run_by_one.Goals as goal
-
-pub returns : goal.returns
-returns g c = rw c.as_slice.ensures at c.told.ensures

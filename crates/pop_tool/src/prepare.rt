@@ -1,0 +1,56 @@
+//! From words and input to a text, or to a run that is still to be made.
+
+ghost use Rattle.std.specs.Prelude.{◌≡◌, ◌<◌, ◌^◌, length, map, is_err, true, IfOk};
+ghost use Rattle.pop_lines.specs.Lines.{lines_of};
+ghost use Rattle.pop_words.specs.Words.{meaning_of, HasLimits};
+ghost use Rattle.tool_commands.specs.Prepared.{LeadsTo, NeedsNoThreads};
+ghost use Rattle.tool_commands.specs.Commands.{IsPlain};
+ghost use Rattle.pop_tool.specs.Plain.{ArePlain};
+ghost use Rattle.pop_tool.specs.Answer.{IsOfCommand};
+ghost use Rattle.pop_tool.specs.Source.{HasSuffix};
+ghost use Rattle.pop_tool.specs.Written.{IsRightOutput};
+
+use pop_io::{NoMemory, ReadAll, Source, read_all};
+use pop_words::{Command, read_words};
+use std::alloc::Global;
+use tool_commands::{Prepared, prepare_command};
+use tool_texts::{Output, Refusal, Stop};
+
+/// What a command prepares, or the line that says why the input is refused.
+fn prepare_for(alloc: Global, command: Command, input: &[u8]) -> Result<Prepared, NoMemory>
+    requires short { length input.now < 2 ^ 32 }
+    requires limits { HasLimits command }
+    ensures leads { IfOk result (LeadsTo (IsOfCommand command (lines_of input.now))) }
+    ensures plain { IsPlain command → IfOk result NeedsNoThreads }
+{
+    match prepare_command(alloc, command, input) {
+        Ok(prepared) => Ok(prepared),
+        Err(Stop::Refused(refusal)) => Ok(Prepared::Text(Output::of_refusal(alloc, &refusal)?)),
+        Err(Stop::NoMemory) => Err(NoMemory),
+    }
+}
+
+/// What is written for the words and what the source has left, or what is still to be made for it.
+pub(crate) fn prepare<S: Source>(
+    alloc: Global,
+    words: &[&str],
+    source: &mut S,
+) -> Result<Prepared, NoMemory>
+    requires { length words.now < 2 ^ 32 }
+    ensures leads { IfOk result (LeadsTo (IsRightOutput (map (λ w. w.now) words.now) (S.left source.old) (S.left source.new)
+        (S.faults source.old) (S.faults source.new))) }
+    ensures plain { ArePlain (map (λ w. w.now) words.now) → IfOk result NeedsNoThreads }
+    ensures suffix { HasSuffix (S.left source.old) (S.left source.new) }
+    ensures untouched { is_err (meaning_of (map (λ w. w.now) words.now)) ≡ true → source.new ≡ source.old }
+{
+    let command = match read_words(words) {
+        Ok(command) => command,
+        Err(usage) => return Ok(Prepared::Text(Output::of_usage(alloc, &usage)?)),
+    };
+    match read_all(alloc, source) {
+        Ok(input) => prepare_for(alloc, command, input.as_slice()),
+        Err(ReadAll::TooLong) => Ok(Prepared::Text(Output::of_refusal(alloc, &Refusal::TooLong)?)),
+        Err(ReadAll::ReadFault) => Ok(Prepared::Text(Output::of_read_fault(alloc)?)),
+        Err(ReadAll::NoMemory) => Err(NoMemory),
+    }
+}

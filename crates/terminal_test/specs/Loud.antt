@@ -1,0 +1,13 @@
+-- Loud: the pairs of states that react.
+use Rattle.std.specs.Prelude.{ℕ, ◌<◌, if◌then◌else◌, List, [], ◌∷◌, All}
+use Rattle.pop_net.specs.declared.leaf.Move.{Move}
+use Rattle.pop_net.specs.LeafModel.{is_silent}
+
+-- the two states of each move that is not silent
+abbrev pub pairs_of : List Move → List (ℕ × ℕ)
+pairs_of [] = []
+pairs_of (t ∷ moves) = if is_silent t then pairs_of moves else (t.p, t.q) ∷ pairs_of moves
+
+-- states with numbers below n
+abbrev pub ArePairsBelow : ℕ → List (ℕ × ℕ) → Type 0
+ArePairsBelow n pairs = All (λ (z : ℕ × ℕ). (z.0 < n) × (z.1 < n)) pairs

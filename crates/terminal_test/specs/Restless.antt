@@ -1,0 +1,59 @@
+-- Restless: the states in which an agent may change, by what a crowd has.
+use Rattle.std.specs.Prelude.{◌≡◌, ◌≢◌, ℕ, ◌<◌, ◌≤◌, Bool, true, false, ◌&&◌, ◌==◌, nat_le, if◌then◌else◌, List, length, Some, slice_get, slice_index_or}
+use Rattle.pop_net.specs.LeafModel.{LeafModel}
+use Rattle.pop_net.specs.NetModel.{NetModel, Tuple, CrowdModel, state_of}
+use Rattle.pop_net.proofs.Projection.{component}
+use Rattle.pop_net.proofs.Quiet.{leaf_quiet}
+
+-- the entry of a state is at least how many of the first n agents stand in it, counted up to two
+pub record CountsTo (states seen : List ℕ) (n : ℕ) : Type 0 where
+  pub once : (a x : ℕ) → a < n → slice_get states a ≡ Some x → 1 ≤ slice_index_or seen x 0
+  pub twice : (a b x : ℕ) → a < b → b < n → slice_get states a ≡ Some x → slice_get states b ≡ Some x → 2 ≤ slice_index_or seen x 0
+
+pub record AreSeen (net : NetModel) (i : ℕ) (crowd : CrowdModel) (seen : List ℕ) : Type 0 where
+  pub size : (leaf : LeafModel) → slice_get net.leaves i ≡ Some leaf → length seen ≡ length leaf.states
+  pub counted : CountsTo (component i crowd) seen (length crowd)
+
+-- whether two different agents stand in these states
+abbrev pub can_meet_by : List ℕ → ℕ → ℕ → Bool
+can_meet_by seen p q =
+    if p == q
+    then nat_le 2 (slice_index_or seen p 0)
+    else (nat_le 1 (slice_index_or seen p 0) && nat_le 1 (slice_index_or seen q 0))
+
+-- the states of the first k pairs are marked where they can meet
+pub record AreMarkedTo (pairs : List (ℕ × ℕ)) (seen : List ℕ) (marks : List Bool) (k : ℕ) : Type 0 where
+  pub size : length marks ≡ length seen
+  pub first : (j p q : ℕ) → j < k → slice_get pairs j ≡ Some (p, q) → can_meet_by seen p q ≡ true → slice_get marks p ≡ Some true
+  pub second : (j p q : ℕ) → j < k → slice_get pairs j ≡ Some (p, q) → can_meet_by seen p q ≡ true → slice_get marks q ≡ Some true
+
+abbrev pub AreMarked : List (ℕ × ℕ) → List ℕ → List Bool → Type 0
+AreMarked pairs seen marks = AreMarkedTo pairs seen marks (length pairs)
+
+-- a state in which some agent reacts with another one is marked
+pub record IsMarked (leaf : LeafModel) (states : List ℕ) (marks : List Bool) : Type 0 where
+  pub size : length marks ≡ length leaf.states
+  pub marked : (a b x y : ℕ) → a ≢ b → slice_get states a ≡ Some x → slice_get states b ≡ Some y → leaf_quiet leaf x y ≡ false → slice_get marks x ≡ Some true
+
+-- what holds of the leaf with this number
+abbrev pub IsLeafOf : NetModel → ℕ → (LeafModel → Type 0) → Type 0
+IsLeafOf net i P = (leaf : LeafModel) → slice_get net.leaves i ≡ Some leaf → P leaf
+
+-- such marks for each of the first n leaves
+pub record AreRestlessTo (net : NetModel) (crowd : CrowdModel) (marks : List (List Bool)) (n : ℕ) : Type 0 where
+  pub one_each : length marks ≡ n
+  pub each : (i : ℕ) (leaf : LeafModel) (here : List Bool) → slice_get net.leaves i ≡ Some leaf → slice_get marks i ≡ Some here → IsMarked leaf (component i crowd) here
+
+abbrev pub AreRestless : NetModel → CrowdModel → List (List Bool) → Type 0
+AreRestless net crowd marks = AreRestlessTo net crowd marks (length net.leaves)
+
+-- no state of a tuple is marked in the first n leaves
+abbrev pub IsCalmTo : List (List Bool) → Tuple → ℕ → Type 0
+IsCalmTo marks tuple n = (i : ℕ) (here : List Bool) → i < n → slice_get marks i ≡ Some here → slice_get here (state_of tuple i) ≡ Some false
+
+abbrev pub IsCalm : List (List Bool) → Tuple → Type 0
+IsCalm marks tuple = IsCalmTo marks tuple (length marks)
+
+-- one mark for each state of each leaf
+abbrev pub AreSizes : NetModel → List (List Bool) → Type 0
+AreSizes net marks = (i : ℕ) (leaf : LeafModel) (here : List Bool) → slice_get net.leaves i ≡ Some leaf → slice_get marks i ≡ Some here → length here ≡ length leaf.states

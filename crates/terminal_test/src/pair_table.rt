@@ -1,0 +1,60 @@
+//! The least pair of agents whose meeting changes a word, in a time that grows with the agents alone.
+
+ghost use Rattle.std.specs.Prelude.{◌≡◌, ◌<◌, ◌↔◌, length, map, None, IfOk, IfSome};
+ghost use Rattle.pop_net.specs.Lanes.{crowd_of, AreValid};
+ghost use Rattle.pop_net.specs.Step.{Step};
+ghost use Rattle.pop_net.specs.Terminal.{IsTerminal};
+ghost use Rattle.terminal_test.specs.Loud.{pairs_of};
+ghost use Rattle.terminal_test.specs.Pairs.{IsLeastPair, MovesOn};
+
+use crate::loud::loud_pairs;
+use crate::partner::partner;
+use crate::restless::{is_restless, restless_states};
+use pop_crowd::Crowd;
+use pop_io::{List, NoMemory};
+use pop_net::Net;
+use std::alloc::Global;
+
+/// What reacts in a net, made once and asked for many crowds.
+#[derive(Drop)]
+pub struct PairTable<'n> {
+    pub(crate) net: &'n Net,
+    /// For each leaf the pairs of states that react.
+    loud: Vec<List<(u16, u16)>>,
+    ghost pairs: { loud.items ≡ map (λ leaf. pairs_of leaf.moves) net.now.leaves },
+}
+
+impl<'n> PairTable<'n> {
+    ghost use Rattle.terminal_test.specs.TableNet.{net_of};
+
+    /// The pairs of states that react in each leaf of the net.
+    pub fn new(alloc: Global, net: &'n Net) -> Result<PairTable<'n>, NoMemory>
+        ensures { IfOk result (λ table. net_of table ≡ net.now) }
+    {
+        let mut loud = Vec::new(alloc);
+        for leaf in 0..net.leaf_count() {
+            loud.push(loud_pairs(alloc, net.leaf(leaf))?)?;
+        }
+        Ok(PairTable { net, loud })
+    }
+
+    /// `None` exactly when the crowd is terminal, else the pair `(a, b)` with `a < b` whose meeting changes a
+    /// word, the least by `a` and then by `b`.
+    pub fn enabled_pair(&self, alloc: Global, crowd: &Crowd) -> Result<Option<(u32, u32)>, NoMemory>
+        requires { AreValid (net_of self.now) crowd.now }
+        ensures none { IfOk result (λ found. (found ≡ None) ↔ IsTerminal (Step (net_of self.now)) (crowd_of (net_of self.now) crowd.now)) }
+        ensures least { IfOk result (λ found. IfSome found (λ pair. IsLeastPair (net_of self.now) (crowd_of (net_of self.now) crowd.now) pair.0 pair.1)) }
+        // Where a pair is enabled, a step of the model leads to another crowd.
+        ensures moves { IfOk result (λ found. IfSome found (λ _. MovesOn (net_of self.now) (crowd_of (net_of self.now) crowd.now))) }
+    {
+        let restless = restless_states(alloc, self.net, self.loud.as_slice(), crowd)?;
+        for a in 0..crowd.len() {
+            if is_restless(self.net, restless.as_slice(), crowd.word(a)) {
+                if let Some(b) = partner(self.net, crowd, a) {
+                    return Ok(Some((a, b)));
+                }
+            }
+        }
+        Ok(None)
+    }
+}

@@ -1,0 +1,41 @@
+//! The first agent that another one can react with.
+
+ghost use Rattle.std.specs.Prelude.{◌≡◌, ◌<◌, ◌==◌, ◌||◌, not, length};
+ghost use Rattle.pop_net.specs.Lanes.{tuple_of, crowd_of, IsValid, AreValid};
+ghost use Rattle.pop_crowd.specs.Replay.{reacts};
+ghost use Rattle.terminal_test.specs.Pairs.{IsPartner};
+
+use pop_crowd::Crowd;
+use pop_net::{Net, Word};
+
+/// The first agent after a whose meeting with a changes a word.
+pub(crate) fn partner(net: &Net, crowd: &Crowd, a: u32) -> Option<u32>
+    requires valid { AreValid net.now crowd.now }
+    requires a_in { a < length crowd.now }
+    ensures { IsPartner net.now (crowd_of net.now crowd.now) a result }
+{
+    let x = crowd.word(a);
+    let agents = crowd.len();
+    for b in a + 1..agents {
+        if is_enabled(net, x, crowd.word(b)) {
+            return Some(b);
+        }
+    }
+    None
+}
+
+/// Whether the reaction of two words changes one of them.
+fn is_enabled(net: &Net, x: Word, y: Word) -> bool
+    requires x_valid { IsValid net.now x }
+    requires y_valid { IsValid net.now y }
+    ensures { result ≡ reacts net.now (tuple_of net.now x) (tuple_of net.now y) }
+{
+    let (first, second) = net.react(x, y);
+    differ((x, y), (first, second))
+}
+
+fn differ(old: (Word, Word), new: (Word, Word)) -> bool
+    ensures { result ≡ (not (new.0.0 == old.0.0) || not (new.1.0 == old.1.0)) }
+{
+    new.0 != old.0 || new.1 != old.1
+}

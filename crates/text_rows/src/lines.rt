@@ -1,0 +1,100 @@
+//! Lines, their pieces and numbers.
+
+use pop_lines::{
+    LineFault, line_count, next_line, number, number_within, one_line, printed_number,
+    printed_within, push_number, push_wide_number, small_number, three_lines, two_lines,
+};
+use std::test::Fail;
+
+fn same_lines(bytes: &[u8], wanted: &[&[u8]]) -> bool {
+    let mut rest = bytes;
+    for want in wanted {
+        match next_line(rest) {
+            Some((line, more)) => {
+                if line != *want {
+                    return false;
+                }
+                rest = more;
+            }
+            None => return false,
+        }
+    }
+    next_line(rest).is_none()
+}
+
+// Texts, and their lines.
+const LINES: [(&[u8], &[&[u8]]); 7] = [
+    (b"", &[]),
+    (b"ab\n\nc", &[b"ab", b"", b"c"]),
+    (b"ab\n", &[b"ab"]),
+    (b"\n", &[b""]),
+    (b"a\r\n", &[b"a\r"]),
+    (b"a\nb\n", &[b"a", b"b"]),
+    (b"a\nb\n\n", &[b"a", b"b", b""]),
+];
+
+#[test]
+fn cut_at_line_feeds(rt: HostRuntime) {
+    for (text, lines) in LINES {
+        assert!(rt; same_lines(text, lines), "at {text:?}");
+        assert_eq!(rt; line_count(text), lines.len());
+    }
+}
+
+#[test]
+fn so_many_lines(rt: HostRuntime) {
+    assert!(rt; matches!(one_line(b""), Err(LineFault::Missing(1))));
+    assert!(rt; matches!(one_line(b"a\n"), Ok(b"a")));
+    assert!(rt; matches!(one_line(b"a\n\n"), Err(LineFault::Extra(2))));
+    assert!(rt; matches!(two_lines(b"a"), Err(LineFault::Missing(2))));
+    assert!(rt; matches!(three_lines(b"a\n\n"), Err(LineFault::Missing(3))));
+    assert!(rt; matches!(three_lines(b"a\nb\nc\nd"), Err(LineFault::Extra(4))));
+}
+
+// Texts, and the numbers that they are.
+const NUMBERS: [(&[u8], Option<u128>); 8] = [
+    (b"007", Some(7)),
+    (b"0", Some(0)),
+    (b"18446744073709551616", Some(18_446_744_073_709_551_616)),
+    (b"99999999999999999999", Some(99_999_999_999_999_999_999)),
+    (b"000000000000000000001", None),
+    (b"", None),
+    (b"+1", None),
+    (b"1 ", None),
+];
+
+// Texts, and whether they are numbers below 2^64, from 1 to 64, in their printed form, and both of these.
+const BOUNDED: [(&[u8], bool, bool, bool, bool); 7] = [
+    (b"18446744073709551615", true, false, true, false),
+    (b"18446744073709551616", false, false, true, false),
+    (b"064", true, true, false, false),
+    (b"64", true, true, true, true),
+    (b"65", true, false, true, false),
+    (b"0", true, false, true, false),
+    (b"07", true, true, false, false),
+];
+
+#[test]
+fn numbers_of_digits(rt: HostRuntime) {
+    for (text, value) in NUMBERS {
+        assert_eq!(rt; number(text), value, "at {text:?}");
+    }
+    for (text, small, within, printed, both) in BOUNDED {
+        assert_eq!(rt; small_number(text).is_some(), small, "at {text:?}");
+        assert_eq!(rt; number_within(text, 1, 64).is_some(), within, "at {text:?}");
+        assert_eq!(rt; printed_number(text).is_some(), printed, "at {text:?}");
+        assert_eq!(rt; printed_within(text, 1, 64).is_some(), both, "at {text:?}");
+    }
+}
+
+#[test]
+fn numbers_printed(rt: HostRuntime) -> Result<(), Fail> {
+    let mut out = Vec::new(rt.alloc());
+    push_number(&mut out, u64::MAX)?;
+    push_wide_number(&mut out, 18_446_744_073_709_551_616)?;
+    assert_eq!(rt;
+        out.as_slice(),
+        b"1844674407370955161518446744073709551616".as_slice()
+    );
+    Ok(())
+}

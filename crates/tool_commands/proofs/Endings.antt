@@ -1,0 +1,71 @@
+-- No command ends by a fault of reading.
+use Rattle.std.proofs.Common.{ℕ, List, Option, Some, None, Result, Ok, Err, sym, ap, subst, ◌∙◌}
+use Rattle.std.specs.Prelude.{◌≢◌}
+use Rattle.pres_read.specs.Reading.{pred_read}
+use Rattle.pop_words.specs.Vars.{vars_of}
+use Rattle.pop_words.specs.Counts.{counts_of}
+use Rattle.pop_words.specs.declared.command.Command.{Command}
+use Rattle.pop_words.specs.declared.command.Command.TheVariants.{Play, Eval, Check, Run}
+use Rattle.pop_words.specs.declared.spec.RunSpec.{RunSpec}
+use Rattle.cert_json.specs.declared.bundle.Bundle.{Bundle}
+use Rattle.pop_checker.specs.declared.fault.Rejected.{Rejected}
+use Rattle.tool_texts.specs.declared.refusal.Refusal.{Refusal}
+use Rattle.tool_texts.specs.declared.output.Output.{Output}
+use Rattle.tool_texts.specs.declared.output.Ending.TheVariants.{ReadFault}
+use Rattle.tool_texts.specs.Lines.{just_one, just_two, just_three, two_and_more}
+use Rattle.tool_texts.specs.Refusals.{output_for}
+use Rattle.tool_texts.proofs.Goes.{bind_keeps, after_keeps}
+use Rattle.tool_commands.specs.Eval.{named, understood, counted, eval_output}
+use Rattle.tool_commands.specs.Play.{end_crowd, OfEnd, OfLines, PlayGives}
+use Rattle.tool_commands.specs.Check.{judgement, OfBundle, OfLine, CheckGives}
+use Rattle.tool_commands.specs.Run.{run_ending, OfJudged, OfLines as OfRunLines, RunGives}
+use Rattle.tool_commands.specs.Commands.{CommandGives}
+
+abbrev IsOther : Result Output Refusal → Type 0
+IsOther given = (output_for given).ending ≢ ReadFault
+
+refused : (r : Refusal) → IsOther (Err r)
+refused r e = absurd cc
+
+eval_other : (lines : List (List ℕ)) → IsOther (eval_output lines)
+unfolding eval_output
+eval_other lines =
+    bind_keeps IsOther refused (just_three lines) _
+    (λ three. bind_keeps IsOther refused (named (vars_of three.0)) _
+    (λ names. bind_keeps IsOther refused (understood (pred_read names three.1)) _
+    (λ pred. bind_keeps IsOther refused (counted (counts_of names three.2)) _
+    (λ counts e. absurd cc))))
+
+play_other : (lines : List (List ℕ)) (given : Result Output Refusal) → PlayGives lines given → IsOther given
+play_other lines =
+    after_keeps IsOther refused (two_and_more lines) OfLines
+    (λ found given is. after_keeps IsOther refused (end_crowd is.0 found.1 found.2) OfEnd (λ end given is. subst IsOther (sym is.2) (λ e. absurd cc)) given is.2)
+
+judgement_other : (bundle : Bundle) (judged : Option Rejected) → IsOther (Ok (judgement bundle judged))
+judgement_other bundle None e = absurd cc
+judgement_other bundle (Some rejected) e = absurd cc
+
+check_other : (lines : List (List ℕ)) (given : Result Output Refusal) → CheckGives lines given → IsOther given
+check_other lines =
+    after_keeps IsOther refused (just_one lines) OfLine
+    (λ line given is. after_keeps IsOther refused is.0 OfBundle (λ bundle given is. subst IsOther (sym is.2) (judgement_other bundle is.0)) given is.2)
+
+run_ending_other : (pair : Option (ℕ × ℕ)) → run_ending pair ≢ ReadFault
+run_ending_other None e = absurd cc
+run_ending_other (Some pair) e = absurd cc
+
+judged_other : (spec : RunSpec) (lines : List ℕ) (bundle : Bundle) (counts : List ℕ) (judged : Option Rejected) (output : Output) → OfJudged spec lines bundle counts judged output → IsOther (Ok output)
+judged_other spec lines bundle counts None output is e = run_ending_other is.pair (sym is.ending ∙ e)
+judged_other spec lines bundle counts (Some rejected) output is e = absurd (cc (ap (λ (o : Output). o.ending) is, e))
+
+run_other : (spec : RunSpec) (lines : List (List ℕ)) (given : Result Output Refusal) → RunGives spec lines given → IsOther given
+run_other spec lines =
+    after_keeps IsOther refused (just_two lines) (OfRunLines spec)
+    (λ found given is. after_keeps IsOther refused is.0 _
+    (λ begin given is. subst IsOther (sym is.4) (judged_other spec _ begin.0 begin.1 is.0 is.1 is.3)) given is.2)
+
+pub given_ending : (command : Command) (lines : List (List ℕ)) (given : Result Output Refusal) → CommandGives command lines given → (output_for given).ending ≢ ReadFault
+given_ending Play lines given is = play_other lines given is
+given_ending Eval lines given is = subst IsOther (sym is) (eval_other lines)
+given_ending Check lines given is = check_other lines given is
+given_ending (Run spec) lines given is = run_other spec lines given is

@@ -1,0 +1,23 @@
+-- The last line of a play and of a run.
+use Rattle.std.proofs.Common.{◌≡◌, ℕ, Option, Some, None, refl}
+use Rattle.std.specs.Prelude.{◌↔◌, IfSome, option_map}
+use Rattle.pop_net.specs.NetModel.{NetModel, CrowdModel}
+use Rattle.pop_net.specs.Step.{Step}
+use Rattle.pop_net.specs.Terminal.{IsTerminal}
+use Rattle.terminal_test.specs.Pairs.{IsLeastPair}
+use Rattle.pop_words.specs.declared.spec.RunSpec.{RunSpec}
+use Rattle.pair_workers.specs.Ends.{EndsBy}
+use Rattle.pair_workers.specs.declared.alone.End.{End}
+use Rattle.pair_workers.specs.declared.alone.End.TheVariants.{Terminal, Open}
+use Rattle.tool_commands.specs.Play.{IsLast}
+use Rattle.tool_commands.specs.Run.{open_pair}
+
+pub last_is : (net : NetModel) (crowd : CrowdModel) (pair : Option (ℕ × ℕ)) → (pair ≡ None) ↔ IsTerminal (Step net) crowd → IfSome pair (λ p. IsLeastPair net crowd p.0 p.1)
+    → IsLast net crowd (option_map (λ p. (p.0, p.1)) pair)
+last_is net crowd None terminal least = terminal.0 refl
+last_is net crowd (Some (a, b)) terminal least = least
+
+-- why a run ended says whether its last crowd is terminal
+pub run_last : (net : NetModel) (crowd : CrowdModel) (spec : RunSpec) (rounds : ℕ) (end : End) → EndsBy net crowd spec rounds end → IsLast net crowd (open_pair end)
+run_last net crowd spec rounds Terminal by = by
+run_last net crowd spec rounds (Open a b) by = by.0

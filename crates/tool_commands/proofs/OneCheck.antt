@@ -1,0 +1,35 @@
+-- A check has one output.
+use Rattle.std.proofs.Common.{◌≡◌, ℕ, List, Option, Some, None, Result, Ok, refl, sym, ap, subst, ◌∙◌}
+use Rattle.cert_json.specs.declared.bundle.Bundle.{Bundle}
+use Rattle.pop_checker.specs.declared.fault.Rejected.{Rejected}
+use Rattle.pop_checker.proofs.OneFault.{one_rejected, none_rejected}
+use Rattle.tool_texts.specs.declared.refusal.Refusal.{Refusal}
+use Rattle.tool_texts.specs.declared.output.Output.{Output}
+use Rattle.tool_texts.specs.Steps.{After}
+use Rattle.tool_texts.specs.Lines.{just_one}
+use Rattle.tool_texts.proofs.Goes.{one_after}
+use Rattle.tool_texts.proofs.OneValue.{one_value}
+use Rattle.tool_commands.specs.Bundles.{bundle_in, IsBundleOf, IsJudged}
+use Rattle.tool_commands.specs.Check.{judgement, OfBundle, OfLine, CheckGives}
+
+pub one_judged : (bundle : Bundle) (v w : Option Rejected) → IsJudged bundle v → IsJudged bundle w → v ≡ w
+one_judged bundle None None p q = refl
+one_judged bundle None (Some rejected) p q = absurd (none_rejected bundle.net bundle.pred bundle.proof rejected p.0 q)
+one_judged bundle (Some rejected) None p q = absurd (none_rejected bundle.net bundle.pred bundle.proof rejected q.0 p)
+one_judged bundle (Some v) (Some w) p q =
+    ap (λ (r : Rejected). Some r) (one_rejected bundle.net bundle.pred bundle.proof v w p q)
+
+pub one_bundle : (line : List ℕ) (r s : Result Bundle Refusal) → IsBundleOf line r → IsBundleOf line s → r ≡ s
+one_bundle line r s p q = p.2 ∙ ap bundle_in (one_value line p.0 q.0 p.1 q.1) ∙ sym q.2
+
+of_bundle : (bundle : Bundle) (x y : Result Output Refusal) → OfBundle bundle x → OfBundle bundle y → x ≡ y
+of_bundle bundle x y p q =
+    p.2 ∙ ap (λ (o : Option Rejected). Ok (judgement bundle o)) (one_judged bundle p.0 q.0 p.1 q.1) ∙ sym q.2
+
+of_line : (line : List ℕ) (x y : Result Output Refusal) → OfLine line x → OfLine line y → x ≡ y
+of_line line x y p q =
+    let same = one_bundle line p.0 q.0 p.1 q.1 in
+    one_after q.0 OfBundle (λ bundle is. of_bundle bundle) x y (subst (λ (r : Result Bundle Refusal). After r OfBundle x) same p.2) q.2
+
+pub one_check : (lines : List (List ℕ)) (x y : Result Output Refusal) → CheckGives lines x → CheckGives lines y → x ≡ y
+one_check lines x y p q = one_after (just_one lines) OfLine (λ line is. of_line line) x y p q

@@ -1,0 +1,55 @@
+-- Starting a crowd, and meetings line by line.
+use Rattle.std.proofs.Common.{◌≡◌, ℕ, ◌+◌, ◌≤◌, List, ◌∷◌, length, Result, Ok, Err, refl, sym, ap, ◌∙◌}
+use Rattle.std.proofs.lemmas.Bool.{le-leb}
+use Rattle.std.proofs.lemmas.List.{length-map}
+use Rattle.pop_net.specs.declared.net.Word.{Word}
+use Rattle.pop_net.specs.NetModel.{NetModel, CrowdModel}
+use Rattle.pop_net.specs.InputCrowd.{input_crowd}
+use Rattle.pop_net.specs.Lanes.{crowd_of}
+use Rattle.pop_net.specs.Reaction.{after_meeting}
+use Rattle.pop_crowd.specs.declared.crowd.Meeting.{Meeting}
+use Rattle.pop_crowd.specs.Crowds.{input_size}
+use Rattle.pop_crowd.specs.declared.limits.TheConstants.{AGENT_LEAST, AGENT_LIMIT}
+use Rattle.pop_crowd.specs.Replay.{replay}
+use Rattle.pop_words.specs.Counts.{counts_of}
+use Rattle.pop_words.specs.Meetings.{meeting_of}
+use Rattle.tool_texts.specs.declared.refusal.Refusal.{Refusal}
+use Rattle.tool_texts.specs.declared.stop.Stop.{Stop}
+use Rattle.tool_texts.specs.declared.stop.Stop.TheVariants.{Refused, NoMemory}
+use Rattle.tool_texts.specs.Steps.{◌>>=◌, Stops}
+use Rattle.tool_commands.specs.Eval.{counted}
+use Rattle.tool_commands.specs.Start.{fitting_in}
+use Rattle.tool_commands.proofs.InputSize.{length-input_crowd}
+use Rattle.tool_commands.specs.Play.{between, paired, meetings_in}
+
+-- the crowd of some counts has as many agents
+pub agents_counted : (net : NetModel) (counts : List ℕ) (crowd : List Word) → crowd_of net crowd ≡ input_crowd net counts → input_size net counts ≡ length crowd
+agents_counted net counts crowd start = sym (length-input_crowd net counts) ∙ sym (ap length start) ∙ rw length-map refl
+
+pub fits : (net : NetModel) (line : List ℕ) (counts : List ℕ) → counted (counts_of net.variables line) ≡ Ok counts → AGENT_LEAST ≤ input_size net counts → input_size net counts ≤ AGENT_LIMIT → fitting_in net line ≡ Ok counts
+unfolding fitting_in
+fits net line counts read lo hi = rw (read, le-leb AGENT_LEAST (input_size net counts) lo, le-leb (input_size net counts) AGENT_LIMIT hi) refl
+
+-- the crowd after the meetings of the lines from a number on
+abbrev pub on_from : NetModel → ℕ → ℕ → CrowdModel → List (List ℕ) → Result CrowdModel Refusal
+on_from net agents number crowd lines = meetings_in agents number lines >>= λ meetings. Ok (replay net meetings crowd)
+
+-- what the loop over the lines keeps
+pub record Playing (same : Type 0) (valid : Type 0) (agents n number left lines : ℕ) : Type 0 where
+  pub so_far : same
+  pub words : valid
+  pub crowd : n ≡ agents
+  pub counted_lines : number + left ≡ 3 + lines
+
+nested : (net : NetModel) (crowd : CrowdModel) (pair : ℕ × ℕ) (r : Result (List Meeting) Refusal)
+    → ((r >>= λ more. Ok (between pair ∷ more)) >>= λ meetings. Ok (replay net meetings crowd)) ≡ (r >>= λ meetings. Ok (replay net meetings (after_meeting net pair.0 pair.1 crowd)))
+nested net crowd pair (Ok meetings) = refl
+nested net crowd pair (Err r) = refl
+
+module _ (net : NetModel) (agents number : ℕ) (crowd : CrowdModel) (line : List ℕ) (lines : List (List ℕ)) where
+  pub goes_on : (pair : ℕ × ℕ) → paired number (meeting_of agents line) ≡ Ok pair → on_from net agents number crowd (line ∷ lines) ≡ on_from net agents (number + 1) (after_meeting net pair.0 pair.1 crowd) lines
+  goes_on pair is = rw is (nested net crowd pair (meetings_in agents (number + 1) lines))
+
+  pub stops_at : (e : Stop) → Stops e (paired number (meeting_of agents line)) → Stops e (on_from net agents number crowd (line ∷ lines))
+  stops_at NoMemory stopped = tt
+  stops_at (Refused r) stopped = rw stopped refl

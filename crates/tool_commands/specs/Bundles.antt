@@ -1,0 +1,50 @@
+-- The bundle of a line, how its net starts, and what the check says of its proof.
+use Rattle.std.specs.Prelude.{◌≡◌, ℕ, List, length, Option, Some, None, Result, Ok, Err}
+use Rattle.serde_json.specs.Data.{Data}
+use Rattle.cert_base.specs.ProofBound.{proof_bound}
+use Rattle.cert_base.specs.ProofLimits.{IsProofWithin}
+use Rattle.cert_base.specs.ValidProof.{ValidProof}
+use Rattle.cert_json.specs.Bundles.{bundle_at}
+use Rattle.cert_json.specs.declared.bundle.Bundle.{Bundle}
+use Rattle.pop_checker.specs.CheckedModel.{CheckedModel, IsChecked}
+use Rattle.pop_checker.specs.declared.fault.Rejected.{Rejected}
+use Rattle.pop_checker.specs.Rejections.{IsRejected}
+use Rattle.tool_texts.specs.declared.refusal.Refusal.{Refusal}
+use Rattle.tool_texts.specs.declared.refusal.Refusal.TheVariants.{NotJson}
+use Rattle.tool_texts.specs.Steps.{◌>>=◌}
+use Rattle.tool_texts.specs.Json.{HasValue}
+use Rattle.tool_commands.specs.Start.{formatted, fitting_in}
+
+-- the bundle of a line that has this value, or no JSON
+abbrev pub bundle_in : Option Data → Result Bundle Refusal
+bundle_in None = Err NotJson
+bundle_in (Some d) = formatted (bundle_at d)
+
+-- the bundle of this line, or why it is refused
+abbrev pub IsBundleOf : List ℕ → Result Bundle Refusal → Type 0
+IsBundleOf line bundle = (value : Option Data) × HasValue line value × (bundle ≡ bundle_in value)
+
+-- the bundle, and the counts of a crowd line with which its net starts
+unfoldable pub begun : Option Data → List ℕ → Result (Bundle × List ℕ) Refusal
+begun value line = do
+  bundle ← bundle_in value
+  counts ← fitting_in bundle.net line
+  Ok (bundle, counts)
+
+-- the bundle of the first line with the counts of the second, or why one of them is refused
+abbrev pub IsBegunBy : List ℕ → List ℕ → Result (Bundle × List ℕ) Refusal → Type 0
+IsBegunBy first second begin = (value : Option Data) × HasValue first value × (begin ≡ begun value second)
+
+-- the limits that the check needs
+pub record HasLimits (bundle : Bundle) : Type 0 where
+  pub variables : bundle.pred.variables ≡ length bundle.net.variables
+  pub within : IsProofWithin (length bundle.net.variables) (length bundle.net.leaves) bundle.proof
+
+-- a bundle's net and predicate with the bound of its proof
+abbrev pub bounded : Bundle → CheckedModel
+bounded bundle = record { net = bundle.net; pred = bundle.pred; bound = proof_bound bundle.proof }
+
+-- The proof is valid, and then the net computes the predicate; or this is the first part that is not valid.
+abbrev pub IsJudged : Bundle → Option Rejected → Type 0
+IsJudged bundle None = ValidProof bundle.net bundle.pred bundle.proof × IsChecked (bounded bundle)
+IsJudged bundle (Some rejected) = IsRejected bundle.net bundle.pred bundle.proof rejected

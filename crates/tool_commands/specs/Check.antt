@@ -1,0 +1,32 @@
+-- What `check` makes of the line of its input: a bundle.
+use Rattle.std.specs.Prelude.{◌≡◌, ℕ, List, ◌++◌, codes, decimal, Option, Some, None, Result, Ok}
+use Rattle.pop_lines.specs.Lines.{ended}
+use Rattle.cert_base.specs.ProofBound.{proof_bound}
+use Rattle.cert_json.specs.declared.bundle.Bundle.{Bundle}
+use Rattle.pop_checker.specs.declared.fault.Rejected.{Rejected}
+use Rattle.tool_texts.specs.declared.refusal.Refusal.{Refusal}
+use Rattle.tool_texts.specs.declared.output.Output.{Output}
+use Rattle.tool_texts.specs.declared.output.Ending.TheVariants.{Done}
+use Rattle.tool_texts.specs.Steps.{After}
+use Rattle.tool_texts.specs.Lines.{just_one}
+use Rattle.tool_texts.specs.Rejections.{rejection_output}
+use Rattle.tool_commands.specs.Bundles.{IsBundleOf, IsJudged}
+
+-- the line of a valid proof, with its bound per agent
+abbrev pub certified_text : ℕ → List ℕ
+certified_text bound = codes "certified " ++ decimal bound
+
+-- `certified` with the bound, or the first part of the proof that is not valid
+abbrev pub judgement : Bundle → Option Rejected → Output
+judgement bundle None = record { text = ended (certified_text (proof_bound bundle.proof)); ending = Done }
+judgement bundle (Some rejected) = rejection_output rejected
+
+abbrev pub OfBundle : Bundle → Result Output Refusal → Type 0
+OfBundle bundle given = (judged : Option Rejected) × IsJudged bundle judged × (given ≡ Ok (judgement bundle judged))
+
+abbrev pub OfLine : List ℕ → Result Output Refusal → Type 0
+OfLine line given = (bundle : Result Bundle Refusal) × IsBundleOf line bundle × After bundle OfBundle given
+
+-- what `check` gives for the lines of its input
+abbrev pub CheckGives : List (List ℕ) → Result Output Refusal → Type 0
+CheckGives lines given = After (just_one lines) OfLine given

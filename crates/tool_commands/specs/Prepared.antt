@@ -1,0 +1,52 @@
+-- What is prepared, and the outputs that it leads to.
+use Rattle.std.specs.Prelude.{◌≡◌, Result, Ok, Err}
+use Rattle.pop_words.specs.Options.{IsWithinLimits}
+use Rattle.tool_texts.specs.declared.refusal.Refusal.{Refusal}
+use Rattle.tool_texts.specs.declared.stop.Stop.{Stop}
+use Rattle.tool_texts.specs.declared.output.Output.{Output}
+use Rattle.tool_texts.specs.Steps.{MayStop}
+use Rattle.tool_commands.specs.declared.prepared.PendingRun.{PendingRun}
+use Rattle.tool_commands.specs.declared.prepared.Prepared.{Prepared}
+use Rattle.tool_commands.specs.declared.prepared.Prepared.TheVariants.{Text, Alone, Threads}
+use Rattle.tool_commands.specs.Start.{IsStart}
+use Rattle.tool_commands.specs.Run.{IsRunOutput}
+
+-- a run that can be made
+pub record CanRun (run : PendingRun) : Type 0 where
+  pub limits : IsWithinLimits run.spec
+  pub start : IsStart run.checked.net run.start
+
+abbrev pub IsOutputOfRun : PendingRun → Output → Type 0
+IsOutputOfRun run output = IsRunOutput run.spec run.lines run.checked.net run.checked.pred run.start.counts output
+
+abbrev pub CanBeMade : Prepared → Type 0
+CanBeMade (Text output) = Unit {0}
+CanBeMade (Alone run) = CanRun run × (run.spec.workers ≡ 1)
+CanBeMade (Threads run) = CanRun run
+
+-- an output of what is prepared: the text itself, or that of the run
+abbrev pub IsOutputOf : Prepared → Output → Type 0
+IsOutputOf (Text whole) output = output ≡ whole
+IsOutputOf (Alone run) output = IsOutputOfRun run output
+IsOutputOf (Threads run) output = IsOutputOfRun run output
+
+abbrev pub NeedsNoThreads : Prepared → Type 0
+NeedsNoThreads (Text output) = Unit {0}
+NeedsNoThreads (Alone run) = Unit {0}
+NeedsNoThreads (Threads run) = ⊥
+
+-- it can be made, and the rule allows each of its outputs
+pub record LeadsTo (rule : Output → Type 0) (prepared : Prepared) : Type 0 where
+  pub can : CanBeMade prepared
+  pub allowed : (output : Output) → IsOutputOf prepared output → rule output
+
+-- the rule allows a refusal and each output of what is prepared, unless out of memory
+abbrev pub Prepares : (Result Output Refusal → Type 0) → Result Prepared Stop → Type 0
+Prepares rule (Ok prepared) = LeadsTo (λ output. rule (Ok output)) prepared
+Prepares rule (Err stop) = MayStop rule stop
+
+-- this run is what is prepared: alone just if it has one worker
+abbrev pub IsPending : PendingRun → Prepared → Type 0
+IsPending run (Text output) = ⊥
+IsPending run (Alone other) = (other ≡ run) × (run.spec.workers ≡ 1)
+IsPending run (Threads other) = (other ≡ run) × (run.spec.workers ≡ 1 → ⊥)

@@ -1,0 +1,67 @@
+-- What `run` makes of the lines of its input: a bundle and a crowd line.
+use Rattle.std.specs.Prelude.{◌≡◌, ℕ, Bool, List, ◌++◌, Option, Some, None, Result, Ok}
+use Rattle.pop_lines.specs.Lines.{ended}
+use Rattle.pres_ast.specs.PredModel.{PredModel}
+use Rattle.pres_ast.specs.PredicateValue.{predicate_value}
+use Rattle.pop_net.specs.NetModel.{NetModel, CrowdModel}
+use Rattle.pop_net.specs.InputCrowd.{input_crowd}
+use Rattle.pop_crowd.specs.declared.crowd.Meeting.{Meeting}
+use Rattle.pop_words.specs.declared.spec.RunSpec.{RunSpec}
+use Rattle.pair_workers.specs.Run.{IsRun}
+use Rattle.pair_workers.specs.declared.alone.End.{End}
+use Rattle.pair_workers.specs.declared.alone.End.TheVariants.{Terminal, Open}
+use Rattle.pop_journal.specs.Journal.{journal_text}
+use Rattle.pop_journal.specs.declared.last.Last.{Last}
+use Rattle.pop_journal.specs.declared.last.Last.TheVariants as last
+use Rattle.cert_json.specs.declared.bundle.Bundle.{Bundle}
+use Rattle.pop_checker.specs.declared.fault.Rejected.{Rejected}
+use Rattle.tool_texts.specs.declared.refusal.Refusal.{Refusal}
+use Rattle.tool_texts.specs.declared.output.Ending.{Ending}
+use Rattle.tool_texts.specs.declared.output.Ending.TheVariants.{Done, Undecided}
+use Rattle.tool_texts.specs.declared.output.Output.{Output}
+use Rattle.tool_texts.specs.Steps.{After}
+use Rattle.tool_texts.specs.Lines.{just_two}
+use Rattle.tool_commands.specs.Play.{IsLast}
+use Rattle.tool_texts.specs.Rejections.{rejection_output}
+use Rattle.tool_commands.specs.Bundles.{IsBegunBy, IsJudged}
+
+-- the journal's last line: the predicate's value if the crowd is terminal, and else the least pair that changes a tuple
+abbrev pub journal_end : Bool → Option (ℕ × ℕ) → Last
+journal_end value None = last.Verdict value
+journal_end value (Some (a, b)) = last.Undecided a b
+
+abbrev pub run_ending : Option (ℕ × ℕ) → Ending
+run_ending None = Done
+run_ending (Some pair) = Undecided
+
+-- the pair that the end of a run names
+abbrev pub open_pair : End → Option (ℕ × ℕ)
+open_pair Terminal = None
+open_pair (Open a b) = Some (a, b)
+
+-- the input lines, and the journal of a run of the net from the input crowd
+pub record IsRunOutput (spec : RunSpec) (lines : List ℕ) (net : NetModel) (pred : PredModel) (counts : List ℕ) (output : Output) : Type 0 where
+  pub rounds : List (List Meeting)
+  pub end : CrowdModel
+  pub run : IsRun net (input_crowd net counts) spec rounds end
+  pub pair : Option (ℕ × ℕ)
+  pub last : IsLast net end pair
+  pub text : output.text ≡ lines ++ journal_text net spec rounds end (journal_end (predicate_value pred.tree counts) pair)
+  pub ending : output.ending ≡ run_ending pair
+
+-- a valid proof lets its net run
+abbrev pub OfJudged : RunSpec → List ℕ → Bundle → List ℕ → Option Rejected → Output → Type 0
+OfJudged spec lines bundle counts None output = IsRunOutput spec lines bundle.net bundle.pred counts output
+OfJudged spec lines bundle counts (Some rejected) output = output ≡ rejection_output rejected
+
+abbrev pub OfBegun : RunSpec → List ℕ → Bundle × List ℕ → Result Output Refusal → Type 0
+OfBegun spec lines begin given =
+    (judged : Option Rejected) × (output : Output) × IsJudged begin.0 judged × OfJudged spec lines begin.0 begin.1 judged output × (given ≡ Ok output)
+
+abbrev pub OfLines : RunSpec → List ℕ × List ℕ → Result Output Refusal → Type 0
+OfLines spec lines given =
+    (begin : Result (Bundle × List ℕ) Refusal) × IsBegunBy lines.0 lines.1 begin × After begin (OfBegun spec (ended lines.0 ++ ended lines.1)) given
+
+-- what `run` gives for the lines of its input
+abbrev pub RunGives : RunSpec → List (List ℕ) → Result Output Refusal → Type 0
+RunGives spec lines given = After (just_two lines) (OfLines spec) given

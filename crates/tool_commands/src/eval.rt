@@ -1,0 +1,78 @@
+//! The command `eval`.
+
+ghost use Rattle.std.specs.Prelude.{◌≡◌, length, IfOk};
+ghost use Rattle.pop_lines.specs.Lines.{lines_of};
+ghost use Rattle.pop_words.specs.Vars.{vars_of, AreVariables};
+ghost use Rattle.pop_words.specs.Counts.{counts_of};
+ghost use Rattle.pres_read.specs.Reading.{pred_read};
+ghost use Rattle.tool_texts.specs.Steps.{Gives};
+ghost use Rattle.tool_commands.specs.Eval.{named, understood, counted, truth_line, eval_output};
+
+use json_shape::PredWhy;
+use pop_io::{List, Text};
+use pop_words::{CountFault, VarsFault, read_counts, read_vars};
+use pres_ast::Pred;
+use pres_read::{ReadPred, read_pred};
+use std::alloc::{AllocError, Global};
+use tool_texts::{Ending, LineWhy, Output, Refusal, Stop, just_three_lines};
+
+fn names_of(alloc: Global, line: &[u8]) -> Result<List<Text>, Stop>
+    ensures names { Gives (λ names. names) result (named (vars_of line.now)) }
+    ensures formed { IfOk result AreVariables }
+{
+    match read_vars(alloc, line) {
+        Ok(names) => Ok(names),
+        Err(VarsFault::Form) => Err(Stop::Refused(Refusal::Line(1, LineWhy::Form))),
+        Err(VarsFault::NoMemory) => Err(Stop::NoMemory),
+    }
+}
+
+fn pred_of(alloc: Global, line: &[u8], names: &List<Text>) -> Result<Pred, Stop>
+    requires { AreVariables names.now }
+    ensures pred { Gives (λ pred. pred) result (understood (pred_read names.now line.now)) }
+    ensures variables { IfOk result (λ pred. pred.variables ≡ length names.now) }
+{
+    let why = match read_pred(alloc, line, names) {
+        Ok(pred) => return Ok(pred),
+        Err(ReadPred::Syntax(at)) => PredWhy::Syntax(at),
+        Err(ReadPred::UnknownName(at)) => PredWhy::UnknownName(at),
+        Err(ReadPred::TooLarge(at)) => PredWhy::TooLarge(at),
+        Err(ReadPred::TooDeep(at)) => PredWhy::TooDeep(at),
+        Err(ReadPred::LongText(length)) => PredWhy::LongText(length),
+        Err(ReadPred::NoMemory) => return Err(Stop::NoMemory),
+    };
+    Err(Stop::Refused(Refusal::Pred(why)))
+}
+
+/// The counts of a crowd line, one per variable.
+pub(crate) fn counts_in(alloc: Global, line: &[u8], names: &List<Text>) -> Result<List<u64>, Stop>
+    requires { AreVariables names.now }
+    ensures counts { Gives (λ counts. counts) result (counted (counts_of names.now line.now)) }
+    ensures len { IfOk result (λ counts. length counts ≡ length names.now) }
+{
+    match read_counts(alloc, line, names) {
+        Ok(counts) => Ok(counts),
+        Err(CountFault::Count(word)) => Err(Stop::Refused(Refusal::Count(word))),
+        Err(CountFault::NoMemory) => Err(Stop::NoMemory),
+    }
+}
+
+fn truth_text(alloc: Global, truth: bool) -> Result<Vec<u8>, AllocError>
+    ensures { IfOk result (λ text. text.items ≡ truth_line truth) }
+{
+    let line = if truth { "true\n" } else { "false\n" };
+    Vec::from_slice(alloc, line.as_bytes())
+}
+
+/// What `eval` gives for an input.
+#[tactic(auto, unfolding(crate::specs::Eval::eval_output))]
+pub(crate) fn eval(alloc: Global, input: &[u8]) -> Result<Output, Stop>
+    ensures { Gives (λ output. output) result (eval_output (lines_of input.now)) }
+{
+    let (vars, pred, crowd) = just_three_lines(input)?;
+    let names = names_of(alloc, vars)?;
+    let pred = pred_of(alloc, pred, &names)?;
+    let counts = counts_in(alloc, crowd, &names)?;
+    let text = truth_text(alloc, pred.eval(counts.as_slice()))?;
+    Ok(Output::new(text, Ending::Done))
+}

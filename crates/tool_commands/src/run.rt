@@ -1,0 +1,181 @@
+//! The command `run`.
+
+ghost use Rattle.std.specs.Prelude.{◌≡◌, ◌↔◌, ◌++◌, length, IfOk, IsTrue};
+ghost use Rattle.pop_lines.specs.Lines.{lines_of, ended};
+ghost use Rattle.pres_ast.specs.PredicateValue.{predicate_value};
+ghost use Rattle.pop_net.specs.NetModel.{helper_count};
+ghost use Rattle.pop_net.specs.InputCrowd.{IsInput, input_crowd};
+ghost use Rattle.pop_net.specs.Lanes.{crowd_of, AreValid};
+ghost use Rattle.pop_words.specs.Options.{IsWithinLimits};
+ghost use Rattle.pair_workers.specs.Run.{IsRun};
+ghost use Rattle.pair_workers.specs.Ends.{EndsBy};
+ghost use Rattle.tool_commands.specs.Start.{IsStart};
+ghost use Rattle.tool_commands.specs.Bundles.{HasLimits};
+ghost use Rattle.tool_commands.specs.Run.{journal_end, run_ending, open_pair, IsRunOutput, OfBegun, RunGives};
+ghost use Rattle.tool_commands.specs.Prepared.{CanRun, IsOutputOfRun, NeedsNoThreads, Prepares, IsPending};
+
+use crate::bundle::begin;
+use crate::prepared::{PendingRun, Prepared};
+use crate::start::Start;
+use cert_json::Bundle;
+use pair_workers::{End, RunEnd, run_all, run_alone};
+use pop_checker::{CheckFault, Checked, check};
+use pop_io::{Gate, List, NoMemory};
+use pop_journal::{Last, write_journal};
+use pop_words::RunSpec;
+use std::alloc::{AllocError, Global};
+use std::sync::Wait;
+use std::thread::Threads;
+use tool_texts::{Ending, Output, Stop, just_two_lines};
+
+/// Whether a run has one worker. Nothing else decides whether it is made on threads.
+pub(crate) fn is_by_one(spec: &RunSpec) -> bool
+    ensures { IsTrue result ↔ (spec.now.workers ≡ 1) }
+{
+    spec.workers == 1
+}
+
+/// The journal's last line for the end of a run from these counts, and how the command ends.
+fn last_and_ending(
+    checked: &Checked,
+    counts: &[u64],
+    spec: &RunSpec,
+    run: &RunEnd,
+) -> (Last, Ending)
+    requires input { IsInput (length checked.now.net.variables) (helper_count checked.now.net) counts.now }
+    requires valid { AreValid checked.now.net run.now.crowd }
+    requires run { IsRun checked.now.net (input_crowd checked.now.net counts.now) spec.now run.now.rounds (crowd_of checked.now.net run.now.crowd) }
+    requires end { EndsBy checked.now.net (crowd_of checked.now.net run.now.crowd) spec.now (length run.now.rounds) run.now.end }
+    ensures { result ≡ (journal_end (predicate_value checked.now.pred.tree counts.now) (open_pair run.now.end), run_ending (open_pair run.now.end)) }
+{
+    match run.end {
+        End::Terminal => {
+            let verdict = checked.verdict(counts, &run.crowd);
+            (Last::Verdict(verdict), Ending::Done)
+        }
+        End::Open(a, b) => (Last::Undecided(a, b), Ending::Undecided),
+    }
+}
+
+/// Two lines, each with its line feed.
+fn both_lines(alloc: Global, first: &[u8], second: &[u8]) -> Result<List<u8>, AllocError>
+    ensures { IfOk result (λ text. text ≡ ended first.now ++ ended second.now) }
+{
+    let mut text = Vec::from_slice(alloc, first)?;
+    text.extend_from_slice(b"\n")?;
+    text.extend_from_slice(second)?;
+    text.extend_from_slice(b"\n")?;
+    Ok(List::from_vec(text))
+}
+
+/// The output of a run: the input lines, and its journal.
+fn run_output(
+    alloc: Global,
+    spec: &RunSpec,
+    lines: List<u8>,
+    checked: &Checked,
+    counts: &[u64],
+    run: &RunEnd,
+) -> Result<Output, NoMemory>
+    requires input { IsInput (length checked.now.net.variables) (helper_count checked.now.net) counts.now }
+    requires valid { AreValid checked.now.net run.now.crowd }
+    requires run { IsRun checked.now.net (input_crowd checked.now.net counts.now) spec.now run.now.rounds (crowd_of checked.now.net run.now.crowd) }
+    requires end { EndsBy checked.now.net (crowd_of checked.now.net run.now.crowd) spec.now (length run.now.rounds) run.now.end }
+    ensures { IfOk result (IsRunOutput spec.now lines checked.now.net checked.now.pred counts.now) }
+{
+    let (last, ending) = last_and_ending(checked, counts, spec, run);
+    let mut text = lines.into_vec();
+    let journal = write_journal(alloc, checked.net(), spec, run, last)?;
+    text.extend_from_slice(journal.as_slice())?;
+    Ok(Output::new(text, ending))
+}
+
+/// Makes a run by one worker. It waits for no thread.
+pub fn make_alone<G: Gate>(alloc: Global, run: PendingRun, gate: &G) -> Result<Output, NoMemory>
+    requires can { CanRun run }
+    requires alone { run.spec.workers ≡ 1 }
+    ensures { IfOk result (IsOutputOfRun run) }
+{
+    let PendingRun {
+        spec,
+        lines,
+        checked,
+        start: Start { counts, crowd },
+    } = run;
+    let end = run_alone(alloc, checked.net(), crowd, &spec, gate)?;
+    run_output(alloc, &spec, lines, &checked, counts.as_slice(), &end)
+}
+
+/// Makes a run by workers on threads, which may wait for one another.
+pub fn make_on_threads<R: Threads + Wait + Sync, G: Gate>(
+    rt: &R,
+    alloc: Global,
+    run: PendingRun,
+    gate: &G,
+) -> Result<Output, NoMemory>
+    requires { CanRun run }
+    ensures { IfOk result (IsOutputOfRun run) }
+{
+    let PendingRun {
+        spec,
+        lines,
+        checked,
+        start: Start { counts, crowd },
+    } = run;
+    let end = run_all(rt, alloc, checked.net(), crowd, &spec, gate)?;
+    run_output(alloc, &spec, lines, &checked, counts.as_slice(), &end)
+}
+
+/// The run that is still to be made, alone or on threads.
+fn pending(run: PendingRun) -> Prepared
+    ensures { IsPending run result }
+{
+    if is_by_one(&run.spec) {
+        Prepared::Alone(run)
+    } else {
+        Prepared::Threads(run)
+    }
+}
+
+/// The run of a bundle's net, if its proof is valid.
+fn prepare_begun(
+    alloc: Global,
+    spec: RunSpec,
+    lines: (&[u8], &[u8]),
+    bundle: Bundle,
+    start: Start,
+) -> Result<Prepared, Stop>
+    requires spec { IsWithinLimits spec }
+    requires limits { HasLimits bundle }
+    requires start { IsStart bundle.net start }
+    ensures leads { Prepares (OfBegun spec (ended lines.entry.0.now ++ ended lines.entry.1.now) (bundle, start.counts)) result }
+    ensures plain { spec.workers ≡ 1 → IfOk result NeedsNoThreads }
+{
+    let Bundle { net, pred, proof } = bundle;
+    match check(alloc, net, pred, &proof) {
+        Ok(checked) => {
+            let lines = both_lines(alloc, lines.0, lines.1)?;
+            Ok(pending(PendingRun {
+                spec,
+                lines,
+                checked,
+                start,
+            }))
+        }
+        Err(CheckFault::Rejected(rejected)) => {
+            Ok(Prepared::Text(Output::of_rejection(alloc, rejected)?))
+        }
+        Err(CheckFault::NoMemory) => Err(Stop::NoMemory),
+    }
+}
+
+/// What `run` prepares for an input that isn't too long.
+pub(crate) fn prepare_run(alloc: Global, spec: RunSpec, input: &[u8]) -> Result<Prepared, Stop>
+    requires { IsWithinLimits spec }
+    ensures leads { Prepares (RunGives spec (lines_of input.now)) result }
+    ensures plain { spec.workers ≡ 1 → IfOk result NeedsNoThreads }
+{
+    let lines = just_two_lines(input)?;
+    let (bundle, start) = begin(alloc, lines)?;
+    prepare_begun(alloc, spec, lines, bundle, start)
+}

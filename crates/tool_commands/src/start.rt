@@ -1,0 +1,67 @@
+//! The net of a net line, and the crowd in which a net starts.
+
+ghost use Rattle.std.specs.Prelude.{option_map, IfOk};
+ghost use Rattle.serde_json.specs.View.{view};
+ghost use Rattle.pop_net.specs.Lanes.{crowd_of, AreValid};
+ghost use Rattle.tool_texts.specs.Steps.{Gives};
+ghost use Rattle.tool_commands.specs.Start.{net_in, fitting_in, start_in, IsStart};
+
+use crate::eval::counts_in;
+use net_json::{FormatFault, read_net};
+use pop_crowd::{Crowd, CrowdFault};
+use pop_io::List;
+use pop_net::Net;
+use serde_json::Value;
+use std::alloc::Global;
+use tool_texts::{Refusal, Stop};
+
+/// The net of a line that has this value.
+fn net_of(alloc: Global, value: &Option<Value>) -> Result<Net, Stop>
+    ensures { Gives (λ net. net) result (net_in (option_map view value.now)) }
+{
+    let Some(value) = value else {
+        return Err(Stop::Refused(Refusal::NotJson));
+    };
+    match read_net(alloc, value) {
+        Ok(net) => Ok(net),
+        Err(FormatFault::Broken { path, why }) => Err(Stop::Refused(Refusal::Format(path, why))),
+        Err(FormatFault::NoMemory) => Err(Stop::NoMemory),
+    }
+}
+
+/// How a net starts: the counts of a crowd line, and the crowd that has them.
+#[derive(Drop)]
+pub struct Start {
+    pub counts: List<u64>,
+    pub crowd: Crowd,
+}
+
+/// How a net starts at a crowd line.
+#[tactic(auto, unfolding(crate::specs::Start::fitting_in))]
+pub(crate) fn start_of(alloc: Global, net: &Net, line: &[u8]) -> Result<Start, Stop>
+    ensures counts { Gives (λ start. start.counts) result (fitting_in net.now line.now) }
+    ensures start { IfOk result (IsStart net.now) }
+{
+    let counts = counts_in(alloc, line, net.var_names())?;
+    match Crowd::of_counts(alloc, net, counts.as_slice()) {
+        Ok(crowd) => Ok(Start { counts, crowd }),
+        Err(CrowdFault::Size(agents)) => Err(Stop::Refused(Refusal::Size(agents))),
+        Err(CrowdFault::NoMemory) => Err(Stop::NoMemory),
+    }
+}
+
+/// The net of a net line that has this value, and the crowd in which it starts.
+#[tactic(auto, unfolding(crate::specs::Start::start_in))]
+pub(crate) fn net_and_start(
+    alloc: Global,
+    value: &Option<Value>,
+    crowd: &[u8],
+) -> Result<(Net, Crowd), Stop>
+    ensures start { Gives (λ start. (start.0, crowd_of start.0 start.1)) result
+        (start_in (option_map view value.now) crowd.now) }
+    ensures valid { IfOk result (λ start. AreValid start.0 start.1) }
+{
+    let net = net_of(alloc, value)?;
+    let start = start_of(alloc, &net, crowd)?;
+    Ok((net, start.crowd))
+}

@@ -1,0 +1,41 @@
+//! The table of commands.
+
+ghost use Rattle.std.specs.Prelude.{◌↔◌, ◌<◌, ◌^◌, length, IfOk, IsTrue};
+ghost use Rattle.pop_lines.specs.Lines.{lines_of};
+ghost use Rattle.pop_words.specs.Words.{HasLimits};
+ghost use Rattle.tool_commands.specs.Prepared.{Prepares, NeedsNoThreads};
+ghost use Rattle.tool_commands.specs.Commands.{CommandGives, IsPlain};
+
+use crate::check::check;
+use crate::eval::eval;
+use crate::play::play;
+use crate::prepared::Prepared;
+use crate::run::{is_by_one, prepare_run};
+use pop_words::Command;
+use std::alloc::Global;
+use tool_texts::Stop;
+
+/// What a command prepares for an input that isn't too long.
+pub fn prepare_command(alloc: Global, command: Command, input: &[u8]) -> Result<Prepared, Stop>
+    requires short { length input.now < 2 ^ 32 }
+    requires limits { HasLimits command }
+    ensures leads { Prepares (CommandGives command (lines_of input.now)) result }
+    ensures plain { IsPlain command → IfOk result NeedsNoThreads }
+{
+    match command {
+        Command::Play => Ok(Prepared::Text(play(alloc, input)?)),
+        Command::Eval => Ok(Prepared::Text(eval(alloc, input)?)),
+        Command::Check => Ok(Prepared::Text(check(alloc, input)?)),
+        Command::Run(spec) => prepare_run(alloc, spec, input),
+    }
+}
+
+/// Whether a command needs no threads.
+pub fn is_plain_command(command: &Command) -> bool
+    ensures { IsTrue result ↔ IsPlain command.now }
+{
+    match command {
+        Command::Run(spec) => is_by_one(spec),
+        _ => true,
+    }
+}

@@ -1,0 +1,4 @@
+pub mod Goes
+pub mod OneValue
+pub mod Short
+pub mod Lined

@@ -1,0 +1,36 @@
+-- The steps of a command: each gives a value, or the refusal of the input.
+use Rattle.std.specs.Prelude.{◌≡◌, Result, Ok, Err}
+use Rattle.tool_texts.specs.declared.refusal.Refusal.{Refusal}
+use Rattle.tool_texts.specs.declared.stop.Stop.{Stop}
+use Rattle.tool_texts.specs.declared.stop.Stop.TheVariants.{Refused, NoMemory}
+
+infixl 10 ◌>>=◌
+-- then go on with the value, or hand the refusal on
+abbrev pub ◌>>=◌ : {A B : Type 0} → Result A Refusal → (A → Result B Refusal) → Result B Refusal
+(Ok x) >>= f = f x
+(Err r) >>= f = Err r
+
+-- the same where the next step is a rule that allows more than one outcome
+abbrev pub After : {A B : Type 0} → Result A Refusal → (A → Result B Refusal → Type 0) → Result B Refusal → Type 0
+After (Ok x) next given = next x given
+After (Err r) next given = given ≡ Err r
+
+-- the stop is this refusal, unless out of memory
+abbrev pub Stops : {B : Type 0} → Stop → Result B Refusal → Type 0
+Stops NoMemory step = Unit {0}
+Stops (Refused r) step = step ≡ Err r
+
+-- what a function returned, seen by `view`, is what the step gives, unless out of memory
+abbrev pub Gives : {A B : Type 0} → (A → B) → Result A Stop → Result B Refusal → Type 0
+Gives view (Ok x) step = step ≡ Ok (view x)
+Gives view (Err stop) step = Stops stop step
+
+-- the rule allows this refusal, unless out of memory
+abbrev pub MayStop : {B : Type 0} → (Result B Refusal → Type 0) → Stop → Type 0
+MayStop rule NoMemory = Unit {0}
+MayStop rule (Refused r) = rule (Err r)
+
+-- the rule allows what a function returned, seen by `view`, unless out of memory
+abbrev pub Obeys : {A B : Type 0} → (Result B Refusal → Type 0) → (A → B) → Result A Stop → Type 0
+Obeys rule view (Ok x) = rule (Ok (view x))
+Obeys rule view (Err stop) = MayStop rule stop

@@ -1,0 +1,104 @@
+//! Why a proof is not valid, and the line that says so.
+
+ghost use Rattle.std.specs.Prelude.{Some};
+ghost use Rattle.tool_texts.specs.Rejections.{layer_words, tree_reason, tree_words, rejected_text};
+
+use crate::output::{Ending, Output};
+use cert_layers::LayerFault;
+use cert_tree::{TreeFault, TreeWhy};
+use pop_checker::Rejected;
+use std::alloc::{AllocError, Global};
+use std::fmt;
+
+/// What is wrong with the layers of a leaf.
+#[derive(Clone, Copy)]
+struct LayerWords(LayerFault);
+
+/// What is wrong with a node.
+#[derive(Clone, Copy)]
+struct NodeWords(TreeWhy);
+
+/// What is wrong with a tree of a leaf.
+#[derive(Clone, Copy)]
+struct TreeWords(TreeFault);
+
+/// The line without its line feed.
+#[derive(Clone, Copy)]
+struct Rejection(Rejected);
+
+impl fmt::Display for LayerWords {
+    ghost output = { λ words. Some (layer_words words.0) };
+
+    fn fmt<W: fmt::Write>(&self, f: &mut fmt::Formatter<W>) -> fmt::Result {
+        match self.0 {
+            LayerFault::Shape(number) => write!(f, "shape {number}"),
+            LayerFault::NoLayer(number) => write!(f, "no-layer {number}"),
+            LayerFault::NotLower(number) => write!(f, "not-lower {number}"),
+            LayerFault::Wakes(number, woken) => write!(f, "wakes {number} {woken}"),
+            LayerFault::NoMemory => Ok(()),
+        }
+    }
+}
+
+impl fmt::Display for NodeWords {
+    ghost output = { λ words. Some (tree_reason words.0) };
+
+    fn fmt<W: fmt::Write>(&self, f: &mut fmt::Formatter<W>) -> fmt::Result {
+        match self.0 {
+            TreeWhy::Missing => write!(f, "missing"),
+            TreeWhy::TooDeep => write!(f, "too-deep"),
+            TreeWhy::BadIndex => write!(f, "bad-index"),
+            TreeWhy::NoTwin => write!(f, "no-twin"),
+            TreeWhy::NotOpen => write!(f, "not-open"),
+            TreeWhy::NotClosed => write!(f, "not-closed"),
+            TreeWhy::TooManyFacts => write!(f, "too-many-facts"),
+            TreeWhy::Rest => write!(f, "rest"),
+        }
+    }
+}
+
+impl fmt::Display for TreeWords {
+    ghost output = { λ words. Some (tree_words words.0) };
+
+    fn fmt<W: fmt::Write>(&self, f: &mut fmt::Formatter<W>) -> fmt::Result {
+        match self.0 {
+            TreeFault::Broken { node, why } => {
+                let why = NodeWords(why);
+                write!(f, "{node} {why}")
+            }
+            TreeFault::NoMemory => Ok(()),
+        }
+    }
+}
+
+impl fmt::Display for Rejection {
+    ghost output = { λ words. Some (rejected_text words.0) };
+
+    fn fmt<W: fmt::Write>(&self, f: &mut fmt::Formatter<W>) -> fmt::Result {
+        match self.0 {
+            Rejected::Layers { leaf, fault } => {
+                let fault = LayerWords(fault);
+                write!(f, "rejected leaf {leaf} layers {fault}")
+            }
+            Rejected::Tree { leaf, value, fault } => {
+                let fault = TreeWords(fault);
+                write!(f, "rejected leaf {leaf} {value} {fault}")
+            }
+            Rejected::Predicate => write!(f, "rejected predicate"),
+        }
+    }
+}
+
+impl Output {
+    ghost use Rattle.std.specs.Prelude.{◌≡◌, IfOk};
+    ghost use Rattle.tool_texts.specs.Rejections.{rejection_output};
+
+    /// What is written for a proof that is not valid: the line that names the first part that fails.
+    pub fn of_rejection(alloc: Global, rejected: Rejected) -> Result<Output, AllocError>
+        ensures { IfOk result (λ output. output ≡ rejection_output rejected) }
+    {
+        let rejected = Rejection(rejected);
+        let text = format!(in alloc; "{rejected}\n")?;
+        Ok(Output::new(text.into_bytes(), Ending::Rejected))
+    }
+}
