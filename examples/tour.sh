@@ -1,0 +1,14 @@
+# The command lines of the README's tour, one a line, from the top of the repository. bin/gallery runs them.
+bin/pop check < examples/majority/bundle.json
+cat examples/majority/bundle.json examples/majority/crowd.txt | bin/pop run | tail -n 1
+bin/pop play < examples/majority/play.txt
+bin/pop check < examples/flock/bundle.json
+(cat examples/flock/bundle.json; echo 'crowd x=2 y=58') | bin/pop run | tail -n 1
+bin/pop check < examples/remainder/bundle.json
+(cat examples/remainder/bundle.json; echo 'crowd x=20 y=10') | bin/pop run --seed 7 | tail -n 4
+printf 'vars x y\nx + 2*y = 1 mod 3\ncrowd x=20 y=10\n' | bin/pop eval
+bin/pop check < examples/and/bundle.json
+(cat examples/and/bundle.json; echo 'crowd x=20 y=10') | bin/pop run --workers 4 --shards 2 | tail -n 1
+bin/pop check < examples/helper/bundle.json
+bin/pop check < examples/rejected/wrong-trap.json
+(cat examples/majority/bundle.json; echo 'crowd x=120 y=80') | bin/pop run --turns 100 | tail -n 1
