@@ -135,7 +135,7 @@ def main():
             f.write(PLAIN + generator.WORDS)
         subprocess.run(["rustc", "-O", "--edition", "2021", "-o", plain, source], check=True)
         given = os.path.join(folder, "input")
-        with open(os.path.join(TOP, "examples/majority-bundle.json")) as f, open(given, "w") as to:
+        with open(os.path.join(TOP, "examples/majority/bundle.json")) as f, open(given, "w") as to:
             to.write(f.read().rstrip("\n") + "\ncrowd x=501 y=499\n")
         print("| Workers | Shards | Meetings | pop, per second | plain program, per second |")
         print("|---|---|---|---|---|")

@@ -1,5 +1,5 @@
 #!/usr/bin/env python3
-"""Times `run` of the built program beside a plain Rust program that does the same work.
+"""Takes the processor time of `run` of the built program beside a plain Rust program that does the same work.
 
 Run from the top of the repository: python3 bench/runs.py
 Both run 1,000,000 turns of one worker, on majority with 1,000 agents and on a threshold leaf of 255 states, and
@@ -12,7 +12,6 @@ import resource
 import subprocess
 import sys
 import tempfile
-import time
 
 import generator
 import tree
@@ -22,41 +21,50 @@ PROGRAM = os.path.join(TOP, "crates/pop_main/out/pop_main")
 TURNS = 1_000_000
 
 PLAIN = r"""
-use std::collections::{BTreeMap, BTreeSet};
+use std::collections::BTreeMap;
 use std::io::Write;
 
-fn react(moves: &[[u16; 4]], x: u16, y: u16) -> (u16, u16) {
-    for m in moves {
-        let silent = (m[0] == m[2] && m[1] == m[3]) || (m[0] == m[3] && m[1] == m[2]);
-        if m[0] == x && m[1] == y && !silent {
-            return (m[2], m[3]);
-        }
-        if m[0] == y && m[1] == x && !silent {
-            return (m[3], m[2]);
-        }
-    }
-    (x, y)
+/// What two states become, for each pair of states: the first move of the list that matches and is not silent.
+struct Table {
+    states: usize,
+    after: Vec<(u16, u16)>,
 }
 
-fn enabled(moves: &[[u16; 4]], crowd: &[u16]) -> Option<(usize, usize)> {
-    let mut quiet = BTreeSet::new();
-    for a in 0..crowd.len() {
-        if quiet.contains(&crowd[a]) {
-            continue;
-        }
-        let mut dull = BTreeSet::new();
-        for b in a + 1..crowd.len() {
-            if dull.contains(&crowd[b]) {
-                continue;
+impl Table {
+    fn new(states: usize, moves: &[[u16; 4]]) -> Table {
+        let mut after: Vec<(u16, u16)> = (0..states * states)
+            .map(|pair| ((pair / states) as u16, (pair % states) as u16))
+            .collect();
+        for m in moves.iter().rev() {
+            let silent = (m[0] == m[2] && m[1] == m[3]) || (m[0] == m[3] && m[1] == m[2]);
+            if !silent {
+                after[m[1] as usize * states + m[0] as usize] = (m[3], m[2]);
+                after[m[0] as usize * states + m[1] as usize] = (m[2], m[3]);
             }
-            if react(moves, crowd[a], crowd[b]) != (crowd[a], crowd[b]) {
-                return Some((a, b));
-            }
-            dull.insert(crowd[b]);
         }
-        quiet.insert(crowd[a]);
+        Table { states, after }
     }
-    None
+
+    fn react(&self, x: u16, y: u16) -> (u16, u16) {
+        self.after[x as usize * self.states + y as usize]
+    }
+}
+
+/// The least pair of agents that changes: the states that are there, which of them can react, then one walk.
+fn enabled(table: &Table, crowd: &[u16]) -> Option<(usize, usize)> {
+    let mut counts = vec![0u32; table.states];
+    for state in crowd {
+        counts[*state as usize] += 1;
+    }
+    let there: Vec<u16> = (0..table.states as u16).filter(|q| counts[*q as usize] > 0).collect();
+    let can: Vec<bool> = (0..table.states as u16)
+        .map(|p| {
+            there.iter().any(|q| table.react(p, *q) != (p, *q) && (p != *q || counts[p as usize] > 1))
+        })
+        .collect();
+    let a = crowd.iter().position(|state| can[*state as usize])?;
+    let b = (a + 1..crowd.len()).find(|b| table.react(crowd[a], crowd[*b]) != (crowd[a], crowd[*b]))?;
+    Some((a, b))
 }
 
 fn number(out: &mut Vec<u8>, mut n: u64) {
@@ -86,14 +94,15 @@ fn main() {
         let (state, count) = word.split_once(',').unwrap();
         crowd.resize(crowd.len() + count.parse::<usize>().unwrap(), state.parse().unwrap());
     }
+    let table = Table::new(names.len(), &moves);
     let turns: u64 = lines.next().unwrap().parse().unwrap();
     let outputs: Vec<&str> = lines.next().unwrap().split(' ').collect();
     let mut words = Words::new(0);
     let mut rounds: Vec<Vec<(u16, u32, u32, bool)>> = Vec::new();
     let mut left = turns;
-    let mut open = None;
+    let mut open;
     loop {
-        open = enabled(&moves, &crowd).or(None);
+        open = enabled(&table, &crowd);
         if open.is_none() || left == 0 {
             break;
         }
@@ -108,7 +117,7 @@ fn main() {
                 b += 1;
             }
             let (x, y) = (crowd[a as usize], crowd[b as usize]);
-            let (r, s) = react(&moves, x, y);
+            let (r, s) = table.react(x, y);
             crowd[a as usize] = r;
             crowd[b as usize] = s;
             log.push((0u16, a as u32, b as u32, (x, y) != (r, s)));
@@ -147,7 +156,7 @@ fn main() {
 
 
 def majority():
-    with open(os.path.join(TOP, "examples/majority-bundle.json")) as f:
+    with open(os.path.join(TOP, "examples/majority/bundle.json")) as f:
         return json.load(f)
 
 
@@ -157,11 +166,10 @@ def threshold():
 
 
 def timed(command, standard_input):
-    start = time.perf_counter()
     child = subprocess.Popen(command, stdin=open(standard_input), stdout=subprocess.PIPE)
     out = child.stdout.read()
     _, _, usage = os.wait4(child.pid, 0)
-    return out, time.perf_counter() - start, usage.ru_maxrss * 1024
+    return out, usage.ru_utime + usage.ru_stime, usage.ru_maxrss * 1024
 
 
 def measure(name, bundle, counts, plain, folder):
@@ -192,7 +200,7 @@ def measure(name, bundle, counts, plain, folder):
 
 def main():
     if not os.path.exists(PROGRAM):
-        sys.exit("build the program first: bin/pop play < examples/majority-play.txt")
+        sys.exit("build the program first: bin/pop play < examples/majority/play.txt")
     resource.setrlimit(resource.RLIMIT_CORE, (0, 0))
     with tempfile.TemporaryDirectory() as folder:
         source = os.path.join(folder, "plain.rs")

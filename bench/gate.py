@@ -1,0 +1,99 @@
+"""Runs the merge gate from nothing in a clone, and prints the processor minutes of each crate's proofs, tests and edits.
+
+Usage: python3 bench/gate.py [FOLDER]
+
+The clone is made in FOLDER, or in a new temporary folder. `rt ci --anew` proves and tries all, whatever earlier runs kept.
+A process counts for the crate that its command line names. Times are read twice a second, so the last half second of each
+process is missing; what a process took that names no crate stands in the last line.
+"""
+
+import os
+import subprocess
+import sys
+import tempfile
+import time
+from collections import defaultdict
+from pathlib import Path
+
+TICKS = os.sysconf("SC_CLK_TCK")
+KINDS = ["proofs", "tests", "edits", "other"]
+
+
+def children():
+    """Maps each process to its children."""
+    table = defaultdict(list)
+    for entry in Path("/proc").iterdir():
+        if entry.name.isdigit():
+            try:
+                stat = (entry / "stat").read_text().rsplit(")", 1)[1].split()
+            except OSError:
+                continue
+            table[int(stat[1])].append(int(entry.name))
+    return table
+
+
+def below(root):
+    """All processes that descend from this one, itself among them."""
+    table, found, left = children(), [], [root]
+    while left:
+        process = left.pop()
+        found.append(process)
+        left.extend(table[process])
+    return found
+
+
+def place(process):
+    """The crate and the kind of work of a process, its start and its seconds so far."""
+    folder = Path(f"/proc/{process}")
+    words = (folder / "cmdline").read_bytes().decode(errors="replace").split("\0")
+    stat = (folder / "stat").read_text().rsplit(")", 1)[1].split()
+    crate = words[words.index("--crate-name") + 1] if "--crate-name" in words else ""
+    if not crate:
+        kind = "other"
+    elif "rt-edit" in os.readlink(folder / "cwd"):
+        kind = "edits"
+    elif "--test" in words:
+        kind = "tests"
+    else:
+        kind = "proofs"
+    return crate, kind, stat[19], (int(stat[11]) + int(stat[12])) / TICKS
+
+
+def watch(gate):
+    """The seconds of each process of the gate, by its number and start."""
+    seconds = {}
+    while gate.poll() is None:
+        for process in below(gate.pid):
+            try:
+                crate, kind, start, taken = place(process)
+            except (OSError, ValueError, IndexError):
+                continue
+            seconds[(process, start)] = (crate, kind, taken)
+        time.sleep(0.5)
+    return seconds.values()
+
+
+def report(seconds):
+    minutes = defaultdict(lambda: dict.fromkeys(KINDS, 0.0))
+    for crate, kind, taken in seconds:
+        minutes[crate or "no crate"][kind] += taken / 60
+    print(f"{'crate':16}" + "".join(f"{kind:>10}" for kind in KINDS))
+    for crate, row in sorted(minutes.items(), key=lambda item: -sum(item[1].values())):
+        print(f"{crate:16}" + "".join(f"{row[kind]:10.1f}" for kind in KINDS))
+    print(f"{'all':16}" + "".join(f"{sum(row[kind] for row in minutes.values()):10.1f}" for kind in KINDS))
+
+
+def main():
+    top = Path(__file__).resolve().parent.parent
+    folder = sys.argv[1] if len(sys.argv) > 1 else tempfile.mkdtemp()
+    subprocess.run(["git", "clone", "-q", str(top), folder], check=True)
+    start = time.time()
+    gate = subprocess.Popen(["rt", "ci", "--anew"], cwd=folder, stdout=sys.stderr)
+    seconds = watch(gate)
+    report(seconds)
+    print(f"wall clock {(time.time() - start) / 60:.1f} minutes, status {gate.returncode}")
+    return gate.returncode
+
+
+if __name__ == "__main__":
+    sys.exit(main())
