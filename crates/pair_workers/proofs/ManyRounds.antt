@@ -65,6 +65,11 @@ all_no_rounds net start spec pickers first =
       unspent = omega arith;
     }
 
+-- one picker stands for one worker
+pub first_alone : (spec : RunSpec) (picker : List ℕ) → spec.workers ≡ 1 → picker ≡ first_state spec.seed 0 → (w : ℕ) (d : List ℕ) → w < spec.workers → get_or (picker ∷ []) w d ≡ first_state spec.seed w
+first_alone spec picker one is zero d l = is
+first_alone spec picker one is (suc w) d l = absurd (omega (arith, l, one))
+
 module _ (net : NetModel) (start : CrowdModel) (spec : RunSpec) (rounds : List (List Meeting)) (crowd : CrowdModel) (pickers : List (List ℕ)) (left : ℕ) (h : AreOnTheRun net start spec rounds crowd pickers left) where
   -- the turns of the next round
   next_turns : turns_in spec (length rounds + 1) ≡ min 4096 left

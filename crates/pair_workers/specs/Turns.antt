@@ -1,8 +1,11 @@
 -- The turns of many workers in one round.
 use Rattle.std.specs.Prelude.{◌≡◌, ℕ, ◌+◌, ◌<◌, List, ◌++◌, length, All, slice_index_or}
 use Rattle.pop_net.specs.NetModel.{NetModel, CrowdModel}
+use Rattle.pop_net.specs.Lanes.{crowd_of, AreValid}
+use Rattle.pop_net.specs.declared.net.Word.{Word}
 use Rattle.pop_crowd.specs.declared.crowd.Meeting.{Meeting}
 use Rattle.pop_crowd.specs.Replay.{replay, AreMarked}
+use Rattle.agent_field.specs.declared.close.Round.{Round}
 use Rattle.pair_workers.specs.Picks.{picks_from, words_from}
 use Rattle.pair_workers.specs.Run.{meetings_of, pairs}
 
@@ -17,3 +20,10 @@ pub record ArePlayed (net : NetModel) (start : CrowdModel) (workers turns : ℕ)
   pub replays : replay net meetings start ≡ end
   pub picked : (w : ℕ) (d : List ℕ) → w < workers → HasPicked (length start) turns (slice_index_or before w d) (slice_index_or after w d) (pairs (meetings_of w meetings))
   pub nobody_else : All (λ m. m.worker < workers) meetings
+
+-- a round from this crowd: each worker makes its turns by its picker, and the pickers stand after them
+pub record IsRoundFrom (net : NetModel) (crowd : List Word) (workers turns : ℕ) (before after : List (List ℕ)) (round : Round) : Type 0 where
+  pub played : ArePlayed net (crowd_of net crowd) workers turns before after round.meetings (crowd_of net round.words)
+  pub valid : AreValid net round.words
+  pub agents : length round.words ≡ length crowd
+  pub pickers : length after ≡ length before

@@ -2,19 +2,19 @@
 
 ghost use Rattle.std.specs.Prelude.{◌≡◌, ℕ, ◌-◌, ◌*◌, ◌^◌, ◌<◌, ◌≤◌, length, IfOk, slice_index_or};
 ghost use Rattle.pop_net.specs.Lanes.{crowd_of, AreValid};
+ghost use Rattle.pop_words.specs.Options.{IsWithinLimits};
 ghost use Rattle.pair_workers.specs.Picks.{first_state};
-ghost use Rattle.pair_workers.specs.Run.{IsRun};
 ghost use Rattle.pair_workers.specs.OneRun.{IsOnlyRun};
-ghost use Rattle.pair_workers.specs.Ends.{EndsBy};
+ghost use Rattle.pair_workers.specs.Ends.{IsRunFrom};
 
 use crate::alone::{End, ROUND_TURNS, RunEnd, run_alone};
 use crate::picker::Picker;
 use crate::round::run_round;
 use agent_field::Round;
 use pop_crowd::Crowd;
-use pop_io::{Gate, List, NoMemory, SHARD_LIMIT, WORKER_LIMIT};
+use pop_io::{Gate, List, NoMemory};
 use pop_net::{Net, Word};
-use pop_words::{RunSpec, SEED_LIMIT, TURN_LIMIT};
+use pop_words::{RunSpec, SEED_LIMIT};
 use std::alloc::Global;
 use std::sync::Wait;
 use std::thread::Threads;
@@ -52,15 +52,9 @@ fn run_many<R: Threads + Wait + Sync, G: Gate>(
     spec: &RunSpec,
     gate: &G,
 ) -> Result<RunEnd, NoMemory>
-    requires workers { (1 ≤ spec.now.workers) × (spec.now.workers ≤ WORKER_LIMIT) }
-    requires shards { (1 ≤ spec.now.shards) × (spec.now.shards ≤ SHARD_LIMIT) }
-    requires turns { spec.now.turns ≤ TURN_LIMIT }
-    requires seed { spec.now.seed ≤ SEED_LIMIT }
+    requires limits { IsWithinLimits spec.now }
     requires valid { AreValid net.now crowd }
-    ensures run { IfOk result (λ run. IsRun net.now (crowd_of net.now crowd) spec.now run.rounds (crowd_of net.now run.crowd)) }
-    ensures end { IfOk result (λ run. EndsBy net.now (crowd_of net.now run.crowd) spec.now (length run.rounds) run.end) }
-    ensures valid { IfOk result (λ run. AreValid net.now run.crowd) }
-    ensures agents { IfOk result (λ run. length run.crowd ≡ length crowd) }
+    ensures run { IfOk result (IsRunFrom net.now crowd spec.now) }
 {
     let mut crowd = crowd;
     let mut pickers = first_pickers(alloc, spec)?;
@@ -98,15 +92,9 @@ pub fn run_all<R: Threads + Wait + Sync, G: Gate>(
     spec: &RunSpec,
     gate: &G,
 ) -> Result<RunEnd, NoMemory>
-    requires workers { (1 ≤ spec.now.workers) × (spec.now.workers ≤ WORKER_LIMIT) }
-    requires shards { (1 ≤ spec.now.shards) × (spec.now.shards ≤ SHARD_LIMIT) }
-    requires turns { spec.now.turns ≤ TURN_LIMIT }
-    requires seed { spec.now.seed ≤ SEED_LIMIT }
+    requires limits { IsWithinLimits spec.now }
     requires valid { AreValid net.now crowd }
-    ensures run { IfOk result (λ run. IsRun net.now (crowd_of net.now crowd) spec.now run.rounds (crowd_of net.now run.crowd)) }
-    ensures end { IfOk result (λ run. EndsBy net.now (crowd_of net.now run.crowd) spec.now (length run.rounds) run.end) }
-    ensures valid { IfOk result (λ run. AreValid net.now run.crowd) }
-    ensures agents { IfOk result (λ run. length run.crowd ≡ length crowd) }
+    ensures run { IfOk result (IsRunFrom net.now crowd spec.now) }
     // No other rounds and no other end are a run by one worker.
     ensures only { spec.now.workers ≡ 1 → IfOk result (λ run. IsOnlyRun net.now (crowd_of net.now crowd) spec.now run.rounds (crowd_of net.now run.crowd)) }
 {

@@ -2,17 +2,17 @@
 
 ghost use Rattle.std.specs.Prelude.{◌≡◌, ◌-◌, ◌^◌, ◌≤◌, [], ◌∷◌, length, IfOk};
 ghost use Rattle.pop_net.specs.Lanes.{crowd_of, AreValid};
+ghost use Rattle.pop_words.specs.Options.{IsWithinLimits};
 ghost use Rattle.pair_workers.specs.Picks.{words_from};
-ghost use Rattle.pair_workers.specs.Run.{IsRun};
 ghost use Rattle.pair_workers.specs.OneRun.{IsOnlyRun};
 ghost use Rattle.pair_workers.specs.Played.{IsPlayed};
-ghost use Rattle.pair_workers.specs.Ends.{EndsBy};
+ghost use Rattle.pair_workers.specs.Ends.{IsRunFrom};
 
 use crate::picker::Picker;
 use pop_crowd::{Crowd, Meeting};
 use pop_io::{Gate, List, NoMemory};
 use pop_net::Net;
-use pop_words::{RunSpec, SEED_LIMIT, TURN_LIMIT};
+use pop_words::RunSpec;
 use std::alloc::Global;
 use terminal_test::PairTable;
 
@@ -46,13 +46,9 @@ pub fn run_alone<G: Gate>(
     gate: &G,
 ) -> Result<RunEnd, NoMemory>
     requires alone { spec.now.workers ≡ 1 }
-    requires turns { spec.now.turns ≤ TURN_LIMIT }
-    requires seed { spec.now.seed ≤ SEED_LIMIT }
+    requires limits { IsWithinLimits spec.now }
     requires valid { AreValid net.now crowd }
-    ensures run { IfOk result (λ run. IsRun net.now (crowd_of net.now crowd) spec.now run.rounds (crowd_of net.now run.crowd)) }
-    ensures end { IfOk result (λ run. EndsBy net.now (crowd_of net.now run.crowd) spec.now (length run.rounds) run.end) }
-    ensures valid { IfOk result (λ run. AreValid net.now run.crowd) }
-    ensures agents { IfOk result (λ run. length run.crowd ≡ length crowd) }
+    ensures run { IfOk result (IsRunFrom net.now crowd spec.now) }
     // No other rounds and no other end are a run.
     ensures only { IfOk result (λ run. IsOnlyRun net.now (crowd_of net.now crowd) spec.now run.rounds (crowd_of net.now run.crowd)) }
 {

@@ -1,9 +1,10 @@
 //! A round: seats are dealt, all workers make their turns, and the field is closed.
 
-ghost use Rattle.std.specs.Prelude.{◌≡◌, ℕ, ◌+◌, ◌<◌, ◌≤◌, length, [], All, IfOk, OnErr, slice_index_or};
+ghost use Rattle.std.specs.Prelude.{◌≡◌, ℕ, ◌+◌, ◌<◌, ◌≤◌, length, [], All, IfOk, IfErr, slice_index_or};
 ghost use Rattle.pop_net.specs.Lanes.{crowd_of, AreValid};
 ghost use Rattle.agent_field.specs.Seats.{IsSeatOf, KeepsOwn, number_of, next_of, left_of, log_of, opening_of, taken_of, seats_of};
-ghost use Rattle.pair_workers.specs.Turns.{ArePlayed, HasPicked};
+ghost use Rattle.pop_words.specs.Options.{IsWithinLimits};
+ghost use Rattle.pair_workers.specs.Turns.{HasPicked, IsRoundFrom};
 ghost use Rattle.pair_workers.specs.Work.{MayWork, HasWorked, AreReady, AreDone, HasAll, agents_of};
 
 use crate::alone::{ROUND_TURNS, play_round};
@@ -11,7 +12,7 @@ use crate::picker::Picker;
 use crate::work::{Worker, work, work_all};
 use agent_field::{Field, FieldSeat, Round};
 use pop_crowd::{AGENT_LEAST, AGENT_LIMIT, Crowd};
-use pop_io::{Gate, List, NoMemory, SHARD_LIMIT, WORKER_LIMIT};
+use pop_io::{Gate, List, NoMemory};
 use pop_net::{Net, Word};
 use pop_words::RunSpec;
 use std::alloc::Global;
@@ -124,14 +125,10 @@ fn field_round<R: Threads + Wait + Sync, G: Gate>(
     gate: &G,
 ) -> Result<Round, NoMemory>
     requires valid { AreValid net.now crowd.now }
-    requires shards { (1 ≤ spec.now.shards) × (spec.now.shards ≤ SHARD_LIMIT) }
-    requires workers { (1 ≤ spec.now.workers) × (spec.now.workers ≤ WORKER_LIMIT) }
+    requires limits { IsWithinLimits spec.now }
     requires pickers { length pickers.old ≡ spec.now.workers }
     requires turns { turns ≤ ROUND_TURNS }
-    ensures played { IfOk result (λ round. ArePlayed net.now (crowd_of net.now crowd.now) spec.now.workers turns pickers.old pickers.new round.meetings (crowd_of net.now round.words)) }
-    ensures valid { IfOk result (λ round. AreValid net.now round.words) }
-    ensures agents { IfOk result (λ round. length round.words ≡ length crowd.now) }
-    ensures pickers { length pickers.new ≡ length pickers.old }
+    ensures { IfOk result (IsRoundFrom net.now crowd.now spec.now.workers turns pickers.old pickers.new) }
 {
     let words = words_of(alloc, crowd)?;
     let (field, mut seat) = Field::open(rt, alloc, net, words, spec.shards, spec.workers)?;
@@ -159,10 +156,7 @@ fn plain_round<G: Gate>(
     requires valid { AreValid net.now crowd.now }
     requires pickers { length pickers.old ≡ 1 }
     requires turns { turns ≤ ROUND_TURNS }
-    ensures played { IfOk result (λ round. ArePlayed net.now (crowd_of net.now crowd.now) 1 turns pickers.old pickers.new round.meetings (crowd_of net.now round.words)) }
-    ensures valid { IfOk result (λ round. AreValid net.now round.words) }
-    ensures agents { IfOk result (λ round. length round.words ≡ length crowd.now) }
-    ensures pickers { length pickers.new ≡ length pickers.old }
+    ensures { IfOk result (IsRoundFrom net.now crowd.now 1 turns pickers.old pickers.new) }
 {
     let mut end = crowd.copy(alloc)?;
     let mut picker = pickers[0].copy()?;
@@ -173,6 +167,40 @@ fn plain_round<G: Gate>(
         words,
         meetings: List::from_vec(meetings),
     })
+}
+
+/// A round of one worker on the plain crowd, or of more on a field.
+fn round_of<R: Threads + Wait + Sync, G: Gate>(
+    rt: &R,
+    alloc: Global,
+    net: &Net,
+    crowd: &Crowd,
+    spec: &RunSpec,
+    pickers: &mut [Picker],
+    turns: u64,
+    gate: &G,
+) -> Result<Round, NoMemory>
+    requires valid { AreValid net.now crowd.now }
+    requires limits { IsWithinLimits spec.now }
+    requires pickers { length pickers.old ≡ spec.now.workers }
+    requires turns { turns ≤ ROUND_TURNS }
+    ensures { IfOk result (IsRoundFrom net.now crowd.now spec.now.workers turns pickers.old pickers.new) }
+{
+    if spec.workers == 1 {
+        return plain_round(alloc, net, crowd, pickers, turns, gate);
+    }
+    field_round(rt, alloc, net, crowd, spec, pickers, turns, gate)
+}
+
+/// Copies of the pickers, which make the same picks.
+fn copies(alloc: Global, pickers: &[Picker]) -> Result<Vec<Picker>, NoMemory>
+    ensures { IfOk result (λ copies. copies.items ≡ pickers.now) }
+{
+    let mut copies = Vec::with_capacity(alloc, pickers.len())?;
+    'pickers: for picker in pickers {
+        copies.push(picker.copy()?)?;
+    }
+    Ok(copies)
 }
 
 /// Each worker makes its next picks and meetings, beside the others: one worker on the plain crowd,
@@ -188,17 +216,15 @@ pub fn run_round<R: Threads + Wait + Sync, G: Gate>(
     gate: &G,
 ) -> Result<Round, NoMemory>
     requires valid { AreValid net.now crowd.now }
-    requires shards { (1 ≤ spec.now.shards) × (spec.now.shards ≤ SHARD_LIMIT) }
-    requires workers { (1 ≤ spec.now.workers) × (spec.now.workers ≤ WORKER_LIMIT) }
+    requires limits { IsWithinLimits spec.now }
     requires pickers { length pickers.old ≡ spec.now.workers }
     requires turns { turns ≤ ROUND_TURNS }
-    ensures played { IfOk result (λ round. ArePlayed net.now (crowd_of net.now crowd.now) spec.now.workers turns pickers.old pickers.new round.meetings (crowd_of net.now round.words)) }
-    ensures valid { IfOk result (λ round. AreValid net.now round.words) }
-    ensures agents { IfOk result (λ round. length round.words ≡ length crowd.now) }
-    ensures pickers { length pickers.new ≡ length pickers.old }
+    ensures round { IfOk result (IsRoundFrom net.now crowd.now spec.now.workers turns pickers.old pickers.new) }
+    // Out of memory leaves the pickers as they were.
+    ensures kept { IfErr result (λ _. pickers.new ≡ pickers.old) }
 {
-    if spec.workers == 1 {
-        return plain_round(alloc, net, crowd, pickers, turns, gate);
-    }
-    field_round(rt, alloc, net, crowd, spec, pickers, turns, gate)
+    let mut moved = copies(alloc, pickers)?;
+    let round = round_of(rt, alloc, net, crowd, spec, moved.as_mut_slice(), turns, gate)?;
+    pickers.swap_with_slice(moved.as_mut_slice());
+    Ok(round)
 }

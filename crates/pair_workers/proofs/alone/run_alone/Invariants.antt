@@ -1,12 +1,11 @@
-use Rattle.std.proofs.Common.{◌≡◌, ◌≤◌, length}
+use Rattle.std.proofs.Common.{◌≡◌, ◌≤◌, [], ◌∷◌, length}
 use Rattle.pop_net.specs.Lanes.{crowd_of, AreValid}
-use Rattle.pair_workers.specs.Picks.{words_from}
-use Rattle.pair_workers.proofs.Rounds.{IsOnTheRun}
+use Rattle.pair_workers.proofs.ManyRounds.{AreOnTheRun}
 use Rattle.pair_workers.proofs.alone.run_alone.Given as goal
 
 abbrev pub invariant-rounds : goal.invariant-rounds
 invariant-rounds g l = record {
-  run : IsOnTheRun l.net (crowd_of l.net l.fn.crowd) l.spec l.rounds.items (crowd_of l.net l.crowd) (words_from l.picker) l.left;
+  run : AreOnTheRun l.net (crowd_of l.net l.fn.crowd) l.spec l.rounds.items (crowd_of l.net l.crowd) (l.picker ∷ []) l.left;
   valid : AreValid l.net l.crowd;
   agents : length l.crowd ≡ length l.fn.crowd;
   few : l.left ≤ 1000000;

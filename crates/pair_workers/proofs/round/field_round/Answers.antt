@@ -1,4 +1,4 @@
-use Rattle.std.proofs.Common.{ℕ, ◌<◌, ◌≤◌, get_or, set, List, [], length, sym, ap, ◌∙◌, subst, arith}
+use Rattle.std.proofs.Common.{ℕ, ◌<◌, ◌≤◌, get_or, set, List, [], length, sym, ap, ◌∙◌, subst, arith, rules}
 use Rattle.std.specs.Prelude.{All}
 use Rattle.std.proofs.lemmas.List.{get_or_default}
 use Rattle.pop_net.specs.declared.net.Word.{Word}
@@ -38,8 +38,8 @@ take_in-requires-clause-others g c =
     (are_done f c.args.turns c.args.pickers.now old new c.in_ok-others.ensures.ready.1 same worked) in
     λ i d h. ((done.1 i d [] h).ours, (done.1 i d [] h).numbered)
 
-pub returns-clause-played : goal.returns-clause-played
-returns-clause-played g c =
+pub returns : goal.returns
+returns g c =
     let f = c.in_ok-field.field in
     let turns = c.args.turns in
     let pickers = c.args.pickers.now in
@@ -52,7 +52,7 @@ returns-clause-played g c =
     (are_done f turns pickers old new c.in_ok-others.ensures.ready.1 same worked) in
     let first = c.work_beside.new.first in
     let is = c.in_ok-field.ensures.field in
-    let some : 0 < length pickers = omega (arith, c.requires.pickers, c.requires.workers.0) in
+    let some : 0 < length pickers = omega (arith, c.requires.pickers, c.requires.limits.workers.0) in
     let mine : (d : List ℕ) → HasPicked (agents_of f) turns (get_or pickers 0 d) first.picker (pairs_of (log_of first.seat)) = (λ d.
     subst (λ (p : List ℕ). HasPicked (agents_of f) turns p first.picker (pairs_of (log_of first.seat))) (c.in_ok-picker.ensures ∙ get_or_default pickers 0 c.index-pickers-0.result d some) c.work_beside.ensures.first.picked) in
     let closed = c.in_ok-round.ensures in
@@ -60,13 +60,14 @@ returns-clause-played g c =
     let round = c.in_ok-round.round in
     let opening = is.1 ∙ c.in_ok-words.ensures.words in
     let after : List (List ℕ) = set c.take_in.new.pickers 0 first.picker in
-    subst (λ (t : NetModel × List Word × ℕ). ArePlayed t.0 (crowd_of t.0 t.1) t.2 turns pickers after round.meetings (crowd_of t.0 round.words)) (λ i. (is.0 i, opening i, is.2 i))
-    (are_played (net_of f) (opening_of f) round.words (seats_of f) turns pickers after round.meetings closed.words closed.history
-    (λ w d h. all_picked f turns pickers _ _ first _ round.meetings mine done taken.all taken.long taken.moved closed.own closed.taken w d (omega (arith, h, is.2, c.requires.pickers))))
-
-pub returns-clause-agents : goal.returns-clause-agents
-returns-clause-agents g c =
-    let f = c.in_ok-field.field in
-    let round = c.in_ok-round.round in
-    as_long (net_of f) (opening_of f) round.words round.meetings c.in_ok-round.ensures.words
-    ∙ ap (length {A = Word}) (c.in_ok-field.ensures.field.1 ∙ c.in_ok-words.ensures.words)
+    record {
+      played =
+          subst (λ (t : NetModel × List Word × ℕ). ArePlayed t.0 (crowd_of t.0 t.1) t.2 turns pickers after round.meetings (crowd_of t.0 round.words)) (λ i. (is.0 i, opening i, is.2 i))
+          (are_played (net_of f) (opening_of f) round.words (seats_of f) turns pickers after round.meetings closed.words closed.history
+          (λ w d h. all_picked f turns pickers _ _ first _ round.meetings mine done taken.all taken.long taken.moved closed.own closed.taken w d (omega (arith, h, is.2, c.requires.pickers))));
+      valid = search rules;
+      agents =
+          as_long (net_of f) (opening_of f) round.words round.meetings closed.words
+          ∙ ap (length {A = Word}) (is.1 ∙ c.in_ok-words.ensures.words);
+      pickers = search rules;
+    }
