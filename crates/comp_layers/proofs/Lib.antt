@@ -1,0 +1,6 @@
+pub mod SortedLayers
+pub mod LeaderLayers
+pub mod PlacesMore
+pub mod Members
+pub mod Single
+pub mod LayerLimits

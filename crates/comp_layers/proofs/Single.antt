@@ -1,0 +1,22 @@
+-- Lists made of ranges, of which each two items are related.
+use Rattle.std.proofs.Common.{ℕ, zero, suc, ◌+◌, ◌<◌, ◌≤◌, List, map, get_or, arith}
+use Rattle.std.specs.Prelude.{All, AllPairs, flat_map}
+use Rattle.std.specs.List.{range_with_len}
+use Rattle.std.proofs.lemmas.List.Elements.{All-map}
+use Rattle.std.proofs.lemmas.List.Kept.{AllPairs-cons}
+use Rattle.comp_layers.proofs.Members.{all_range, all_flat}
+use Rattle.comp_layers.proofs.SortedLayers.{AllPairs-append}
+
+pub pairs_map : {A : Type 0} (R : A → A → Type 0) (g : ℕ → A) (a n : ℕ) → ((i j : ℕ) → a ≤ i → i < j → j < a + n → R (g i) (g j)) → AllPairs R (map g (range_with_len a n))
+pairs_map R g a zero f = λ i j d l m. absurd (omega (arith, m))
+pairs_map R g a (suc n) f =
+    AllPairs-cons R (g a) (map g (range_with_len (a + 1) n))
+    (All-map (R (g a)) g (range_with_len (a + 1) n) (all_range (λ j. R (g a) (g j)) (a + 1) n (λ j l m. f a j (omega arith) (omega arith) (omega arith))))
+    (pairs_map R g (a + 1) n (λ i j l m k. f i j (omega arith) m (omega arith)))
+
+pub pairs_flat : {A : Type 0} (R : A → A → Type 0) (g : ℕ → List A) (a n : ℕ) → ((i : ℕ) → a ≤ i → i < a + n → AllPairs R (g i)) → ((i j : ℕ) → a ≤ i → i < j → j < a + n → All (λ x. All (R x) (g j)) (g i)) → AllPairs R (flat_map g (range_with_len a n))
+pairs_flat R g a zero f h = λ i j d l m. absurd (omega (arith, m))
+pairs_flat R g a (suc n) f h =
+    AllPairs-append R (g a) (flat_map g (range_with_len (a + 1) n)) (f a (omega arith) (omega arith))
+    (pairs_flat R g (a + 1) n (λ i l m. f i (omega arith) (omega arith)) (λ i j l m k. h i j (omega arith) m (omega arith)))
+    (λ k d l. all_flat (R (get_or (g a) k d)) g (range_with_len (a + 1) n) (all_range (λ j. All (R (get_or (g a) k d)) (g j)) (a + 1) n (λ j p q. h a j (omega arith) (omega arith) (omega arith) k d l)))
