@@ -1,0 +1,154 @@
+-- The whole tree of a leaf with leaders closes its base facts, where the node of each leader closes.
+use Rattle.std.proofs.Common.{◌≡◌, subst, ℕ, zero, suc, ◌+◌, ◌<◌, ◌≤◌, Bool, true, false, ◌&&◌, List, [], ◌∷◌, ◌++◌, length, map, append_assoc, refl, ap, sym, ◌∙◌, zero-add, arith, length-append}
+use Rattle.std.specs.Prelude.{pos, negsuc, if◌then◌else◌, not, ◌==◌, Some, slice_get, nat_lt, count_by}
+use Rattle.std.specs.List.{range_with_len, list_all}
+use Rattle.std.proofs.lemmas.Bool.{lt-ltb}
+use Rattle.std.proofs.lemmas.List.{length-map, append-nil}
+use Rattle.std.proofs.lemmas.List.Sums.{length-filter, count_by-le-length}
+use Rattle.std.proofs.lemmas.List.FromFn.{length-range_with_len, length-map-range_with_len, map-range_with_len_more}
+use Rattle.pop_net.specs.LeafModel.{LeafModel, IsLeaf}
+use Rattle.pres_ast.specs.PredModel.{PredModel}
+use Rattle.cert_base.specs.declared.fact.Fact.{Fact}
+use Rattle.cert_base.specs.declared.fact.Fact.TheVariants.{Ge, Eq, Holds}
+use Rattle.cert_base.specs.declared.node.Node.{Node}
+use Rattle.cert_base.specs.declared.node.Node.TheVariants.{Present, Trap, Open}
+use Rattle.cert_base.specs.FactsAndCases.{states_of, flow, base_facts, two_agents, wrong_output, absent, occurs, alone, can_meet, present_cases, trap_cases, open_cases, some_taken, none_taken, none_started, count_in, takes_from, puts_into, is_in, none_helps}
+use Rattle.cert_base.specs.Rows.{constant_row}
+use Rattle.cert_base.specs.Closes.{refutes, cases_of, ClosesUnder, refuted, by_cases, no_case, next_case, Closes}
+use Rattle.comp_trees.specs.LeaderTree.{leaders, company, facts_of_trap, facts_without, facts_of_leader, leader_nodes, leader_tree, weighed, no_leader_by, no_leak_by, no_start_by, IsLed}
+use Rattle.comp_trees.proofs.TrapNodes.{no_leak_closes, no_start_closes, no_leader_closes, length_opened, length_taken, length_started}
+
+-- the second case of a leader
+abbrev present_case : LeafModel → ℕ → List Fact
+present_case leaf p = (occurs leaf p ∷ map (absent leaf) (company leaf p)) ++ (if can_meet leaf p p then (alone leaf p ∷ []) else [])
+
+all_below : (a n m : ℕ) → a + n ≤ m → list_all (λ q. nat_lt q m) (range_with_len a n) ≡ true
+all_below a zero m l = refl
+all_below a (suc n) m l =
+    let here : nat_lt a m ≡ true = lt-ltb a m (omega arith) in
+    let rest = all_below (a + 1) n m (omega arith) in
+    rw (here, rest) refl
+
+at_end : {A : Type 0} (xs ys : List A) (n k : ℕ) → length xs ≡ n → slice_get (xs ++ ys) (n + k) ≡ slice_get ys k
+at_end [] ys n k e = ap (slice_get ys) (let f : n + k ≡ k = omega arith in f)
+at_end (x ∷ xs) ys zero k e = absurd (omega arith)
+at_end (x ∷ xs) ys (suc n) k e = ap (slice_get (x ∷ (xs ++ ys))) (let f : suc n + k ≡ suc (n + k) = omega arith in f) ∙ at_end xs ys n k (omega arith)
+
+-- no helper is in a set
+no_helps : (leaf : LeafModel) (set : List ℕ) → leaf.helpers ≡ [] → none_helps leaf set ≡ []
+no_helps leaf set e =
+    ap (λ (hs : List ℕ). if count_by (is_in set) hs == 0 then [] else (Eq (constant_row (pos (count_by (is_in set) hs))) ∷ [])) e
+
+module _ (leaf : LeafModel) (pred : PredModel) (b : Bool) (opened : Fact) (n : ℕ) (is : IsLed leaf n) (formed : IsLeaf leaf) (opens : open_cases pred b ≡ (opened ∷ []) ∷ []) (ends : ℕ → Node) where
+  abbrev base : List Fact
+  base = base_facts leaf pred b
+
+  abbrev trap_facts : List Fact
+  trap_facts = facts_of_trap leaf base opened n
+
+  abbrev last : Node
+  last = weighed (no_leader_by leaf n)
+
+  length_trap : length trap_facts ≡ length leaf.states + 5
+  length_trap = omega (arith, length-append (base ++ opened ∷ []) (Ge (count_in leaf (leaders n) (negsuc 0)) ∷ []), length_opened leaf pred b opened n is)
+
+  length_without : (p : ℕ) → length (facts_without leaf trap_facts p) ≡ length leaf.states + 5 + p
+  length_without p = omega (arith, length-append trap_facts (map (absent leaf) (range_with_len 0 p)), length_trap, length-map-range_with_len (absent leaf) 0 p)
+
+  one_more : (p : ℕ) → facts_without leaf trap_facts p ++ absent leaf p ∷ [] ≡ facts_without leaf trap_facts (p + 1)
+  one_more p =
+      append_assoc trap_facts (map (absent leaf) (range_with_len 0 p)) (absent leaf p ∷ [])
+      ∙ ap (λ fs. trap_facts ++ fs) (sym (map-range_with_len_more (absent leaf) 0 p p (zero-add p)))
+
+  length_partners : (p : ℕ) → length (company leaf p) ≤ length leaf.states
+  length_partners p =
+      let few = count_by-le-length (λ q. not (q == p) && can_meet leaf p q) (states_of leaf) in
+      omega (arith, length-filter (λ q. not (q == p) && can_meet leaf p q) (states_of leaf), few, length-range_with_len 0 (length leaf.states))
+
+  length_leader : (p : ℕ) → length (facts_of_leader leaf trap_facts p) ≤ length leaf.states + 5 + p + length leaf.states + 2
+  length_leader p =
+      let own = (occurs leaf p ∷ map (absent leaf) (company leaf p)) in
+      let few = length_partners p in
+      let tail = short (can_meet leaf p p) in
+      omega (arith, length-append (facts_without leaf trap_facts p) (own ++ (if can_meet leaf p p then (alone leaf p ∷ []) else [])), length-append own (if can_meet leaf p p then (alone leaf p ∷ []) else []), length_without p, length-map (company leaf p) (absent leaf), few, tail)
+    where
+      short : (c : Bool) → length (if c then (alone leaf p ∷ []) else []) ≤ 1
+      short true = omega arith
+      short false = omega arith
+
+  in_range : (p : ℕ) → p < length leaf.states → cases_of leaf (facts_without leaf trap_facts p) (Present p) ≡ Some (present_cases leaf p)
+  in_range p l = let here : nat_lt p (length leaf.states) ≡ true = lt-ltb p (length leaf.states) l in rw here refl
+
+  -- the nodes for the leaders from p on
+  close_leaders : ((p : ℕ) → p < n → refutes (facts_of_leader leaf trap_facts p) (ends p) ≡ true) → (k p : ℕ) (rest : List Node) → p + k ≡ n → ClosesUnder leaf (p + 2) (facts_without leaf trap_facts p) (leader_nodes ends last p k ++ rest) rest
+  close_leaders each zero p rest e =
+      let few = formed.states in
+      let all = is.leaders in
+      let same : p ≡ n = omega arith in
+      refuted (p + 2) (facts_without leaf trap_facts p) last rest
+      (record { depth = omega arith; fact_count = omega (arith, length_without p) })
+      (ap (λ k. refutes (facts_without leaf trap_facts k) last) same ∙ no_leader_closes leaf pred b opened n is)
+  close_leaders each (suc k) p rest e =
+      let few = formed.states in
+      let all = is.leaders in
+      let nodes = leader_nodes ends last (p + 1) k in
+      let more = close_leaders each k (p + 1) (ends p ∷ rest) (omega arith) in
+      let above : p + 1 + 2 ≡ p + 2 + 1 = omega arith in
+      let first : ClosesUnder leaf (p + 2 + 1) (facts_without leaf trap_facts p ++ absent leaf p ∷ []) ((nodes ++ ends p ∷ []) ++ rest) (ends p ∷ rest) =
+      subst (λ fs. ClosesUnder leaf (p + 2 + 1) fs ((nodes ++ ends p ∷ []) ++ rest) (ends p ∷ rest)) (sym (one_more p))
+      (subst (λ ns. ClosesUnder leaf (p + 2 + 1) (facts_without leaf trap_facts (p + 1)) ns (ends p ∷ rest)) (sym (append_assoc nodes (ends p ∷ []) rest))
+      (subst (λ a. ClosesUnder leaf a (facts_without leaf trap_facts (p + 1)) (nodes ++ (ends p ∷ rest)) (ends p ∷ rest)) above more)) in
+      let second : ClosesUnder leaf (p + 2 + 1) (facts_of_leader leaf trap_facts p) (ends p ∷ rest) rest =
+      refuted (p + 2 + 1) (facts_of_leader leaf trap_facts p) (ends p) rest
+      (record { depth = omega arith; fact_count = omega (arith, length_leader p) })
+      (each p (omega arith)) in
+      by_cases (p + 2) (facts_without leaf trap_facts p) (Present p) ((nodes ++ ends p ∷ []) ++ rest) rest (present_cases leaf p)
+      (record { depth = omega arith; fact_count = omega (arith, length_without p) })
+      (in_range p (omega arith))
+      (next_case (p + 2 + 1) (facts_without leaf trap_facts p) (absent leaf p ∷ []) (present_case leaf p ∷ []) ((nodes ++ ends p ∷ []) ++ rest) (ends p ∷ rest) rest first
+      (next_case (p + 2 + 1) (facts_without leaf trap_facts p) (present_case leaf p) [] (ends p ∷ rest) rest rest second
+      (no_case (p + 2 + 1) (facts_without leaf trap_facts p) rest)))
+
+  -- the whole tree
+  pub leader_tree-closes : ((p : ℕ) → p < n → refutes (facts_of_leader leaf trap_facts p) (ends p) ≡ true) → Closes leaf base (leader_tree leaf n ends) []
+  leader_tree-closes each =
+      let few = formed.states in
+      let longest = is.few in
+      let all = is.leaders in
+      let facts = base ++ opened ∷ [] in
+      let own = leader_nodes ends last 0 n in
+      let leak = some_taken leaf (λ t. takes_from (leaders n) t && not (puts_into (leaders n) t)) in
+      let start = (none_taken leaf (puts_into (leaders n)) ++ none_started leaf (leaders n)) ++ Eq (count_in leaf (leaders n) (pos 0)) ∷ [] in
+      let trap = Ge (count_in leaf (leaders n) (negsuc 0)) in
+      let length_facts = length_opened leaf pred b opened n is in
+      let length_base : length base ≡ length leaf.states + 3 = omega (arith, length-append base (opened ∷ []), length_facts) in
+      let length_start : length (facts ++ start) ≡ length leaf.states + length leaf.moves + length leaf.inputs + 5 =
+      omega (arith, length-append facts start, length_facts, length-append (none_taken leaf (puts_into (leaders n)) ++ none_started leaf (leaders n)) (Eq (count_in leaf (leaders n) (pos 0)) ∷ []), length-append (none_taken leaf (puts_into (leaders n))) (none_started leaf (leaders n)), length_taken leaf pred b opened n is, length_started leaf pred b opened n is) in
+      let length_leak : length (facts ++ leak ∷ []) ≡ length leaf.states + 5 = omega (arith, length-append facts (leak ∷ []), length_facts) in
+      let first : ClosesUnder leaf 2 (facts ++ leak ∷ []) (weighed (no_leak_by leaf) ∷ weighed (no_start_by leaf) ∷ own) (weighed (no_start_by leaf) ∷ own) =
+      refuted 2 (facts ++ leak ∷ []) (weighed (no_leak_by leaf)) (weighed (no_start_by leaf) ∷ own) (record { depth = omega arith; fact_count = omega arith }) (no_leak_closes leaf pred b opened n is) in
+      let second : ClosesUnder leaf 2 (facts ++ start) (weighed (no_start_by leaf) ∷ own) own =
+      refuted 2 (facts ++ start) (weighed (no_start_by leaf)) own (record { depth = omega arith; fact_count = omega arith }) (no_start_closes leaf pred b opened n is) in
+      let third : ClosesUnder leaf 2 (facts ++ trap ∷ []) own [] =
+      subst (λ ns. ClosesUnder leaf 2 trap_facts ns []) (append-nil own)
+      (subst (λ fs. ClosesUnder leaf 2 fs (own ++ []) []) (append-nil trap_facts) (close_leaders each n 0 [] (zero-add n))) in
+      let cases : ClosesUnder leaf 1 facts (Trap (leaders n) ∷ weighed (no_leak_by leaf) ∷ weighed (no_start_by leaf) ∷ own) [] =
+      by_cases 1 facts (Trap (leaders n)) (weighed (no_leak_by leaf) ∷ weighed (no_start_by leaf) ∷ own) [] ((leak ∷ []) ∷ start ∷ (trap ∷ []) ∷ [])
+      (record { depth = omega arith; fact_count = omega arith })
+      ((let here = all_below 0 n (length leaf.states) (omega arith) in rw here refl) ∙ ap Some trap_is)
+      (next_case 2 facts (leak ∷ []) (start ∷ (trap ∷ []) ∷ []) _ _ [] first
+      (next_case 2 facts start ((trap ∷ []) ∷ []) _ _ [] second
+      (next_case 2 facts (trap ∷ []) [] own [] [] third (no_case 2 facts [])))) in
+      by_cases 0 base (Open (length leaf.states + 1)) _ [] ((opened ∷ []) ∷ [])
+      (record { depth = omega arith; fact_count = omega arith })
+      (open_is ∙ ap Some opens)
+      (next_case 1 base (opened ∷ []) [] _ [] [] cases (no_case 1 base []))
+    where
+      open_is : cases_of leaf base (Open (length leaf.states + 1)) ≡ Some (open_cases pred b)
+      open_is =
+          let at = at_end (map (flow leaf) (states_of leaf)) (two_agents leaf ∷ Holds pred b ∷ wrong_output leaf b ∷ []) (length leaf.states) 1 (length-map-range_with_len (flow leaf) 0 (length leaf.states)) in
+          rw at refl
+
+      trap_is : trap_cases leaf (leaders n) ≡ (some_taken leaf (λ t. takes_from (leaders n) t && not (puts_into (leaders n) t)) ∷ []) ∷ ((none_taken leaf (puts_into (leaders n)) ++ none_started leaf (leaders n)) ++ Eq (count_in leaf (leaders n) (pos 0)) ∷ []) ∷ (Ge (count_in leaf (leaders n) (negsuc 0)) ∷ []) ∷ []
+      trap_is =
+          ap (λ fs. (some_taken leaf (λ t. takes_from (leaders n) t && not (puts_into (leaders n) t)) ∷ []) ∷ ((none_taken leaf (puts_into (leaders n)) ++ none_started leaf (leaders n)) ++ Eq (count_in leaf (leaders n) (pos 0)) ∷ fs) ∷ (Ge (count_in leaf (leaders n) (negsuc 0)) ∷ []) ∷ []) (no_helps leaf (leaders n) is.helpers)

@@ -1,0 +1,9 @@
+pub mod LeaderSums
+pub mod LeaderEnds
+pub mod TrapNodes
+pub mod LeaderClosing
+pub mod ValueNodes
+pub mod TreeOfEnds
+pub mod SameMix
+pub mod Limits
+pub mod CanMeet

@@ -1,0 +1,16 @@
+//! Trees of cases for a leaf in which leaders turn the others.
+//! It stands on `cert_base`, and on the lists of `comp_layers`.
+//! The layer above uses: `tree` and `multipliers` are the defined ones; `leader_tree-closes` says when such a tree closes.
+//!
+//! Agents start as leaders, and each move leaves a leader. So the leaders are a trap that is marked at the start, and
+//! one is left at the end. Any two leaders can meet, so at a terminal end there is no other. Each leader in turn is
+//! absent or that one; then what can meet it is absent, and what is left has its output, or the values at the end
+//! don't agree with the input.
+#![tactic(auto)]
+
+mod mixing;
+mod others;
+mod preorder;
+
+pub use mixing::{multipliers, terms, weighed};
+pub use preorder::tree;

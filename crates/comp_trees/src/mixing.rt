@@ -1,0 +1,105 @@
+//! The multipliers of a leader's node.
+
+ghost use Rattle.std.specs.Prelude.{◌≡◌, ◌∷◌, ◌++◌, [], pos, map, All, slice_index_or, ◌<◌, ◌≤◌, ◌^◌, length, IfOk};
+ghost use Rattle.cert_base.specs.Rows.{terms_from};
+ghost use Rattle.comp_trees.specs.LeaderTree.{weighed as weighed_by, mix_by, mix_of_leader, company as company_of, above as above_list};
+
+use crate::others::company;
+use cert_base::{Node, Row, Term};
+use pop_io::{List, NoMemory};
+use pop_net::Leaf;
+use std::alloc::Global;
+
+/// The facts that are named by the multipliers other than 0.
+pub fn terms(alloc: Global, multipliers: &[i64]) -> Result<List<Term>, NoMemory>
+    requires { length multipliers.now ≤ 2 ^ 32 }
+    ensures { IfOk result (λ terms. terms ≡ terms_from 0 multipliers.now) }
+{
+    let row = Row::dense(alloc, 0, multipliers, 0)?;
+    Ok(row.terms)
+}
+
+/// The node that these multipliers close.
+pub fn weighed(alloc: Global, multipliers: &[i64]) -> Result<Node, NoMemory>
+    requires { length multipliers.now ≤ 2 ^ 32 }
+    ensures { IfOk result (λ node. node ≡ weighed_by multipliers.now) }
+{
+    Ok(Node::Linear(terms(alloc, multipliers)?))
+}
+
+/// The multipliers of the facts above the node of a leader that is present.
+pub fn multipliers(
+    alloc: Global,
+    leaf: &Leaf,
+    leader: u16,
+    flows: &[i64],
+    wrong: i64,
+    opened: i64,
+    out: &[i64],
+    alone: i64,
+) -> Result<Vec<i64>, NoMemory>
+    requires leader { leader < length leaf.now.states }
+    requires flows { length flows.now ≡ length leaf.now.states }
+    requires out { length out.now ≡ length leaf.now.states }
+    ensures mix { IfOk result (λ multipliers. multipliers.items
+        ≡ mix_of_leader leaf.now (company_of leaf.now leader) (mix_by flows.now wrong opened out.now alone) leader) }
+    ensures short { IfOk result (λ multipliers. length multipliers.items ≤ 2 ^ 32) }
+{
+    let _states = leaf.state_count();
+    let mut multipliers = above(alloc, leader, flows, wrong, opened)?;
+    let own = own(alloc, leaf, leader, out, alone)?;
+    multipliers.extend_from_slice(own.as_slice())?;
+    Ok(multipliers)
+}
+
+/// Those of the leader's own facts.
+fn own(
+    alloc: Global,
+    leaf: &Leaf,
+    leader: u16,
+    out: &[i64],
+    alone: i64,
+) -> Result<Vec<i64>, NoMemory>
+    requires leader { leader < length leaf.now.states }
+    requires out { length out.now ≡ length leaf.now.states }
+    ensures { IfOk result (λ multipliers. multipliers.items
+        ≡ (pos 0 ∷ map (λ q. slice_index_or out.now q (pos 0)) (company_of leaf.now leader)) ++ alone ∷ []) }
+{
+    let states = company(alloc, leaf, leader)?;
+    let mut multipliers = Vec::from_slice(alloc, &[0i64])?;
+    let picked = picked(alloc, out, states.as_slice())?;
+    multipliers.extend_from_slice(picked.as_slice())?;
+    multipliers.extend_from_slice(&[alone])?;
+    Ok(multipliers)
+}
+
+/// The multipliers of these states.
+fn picked(alloc: Global, out: &[i64], states: &[u16]) -> Result<Vec<i64>, NoMemory>
+    requires { All (λ q. q < length out.now) states.now }
+    ensures { IfOk result (λ multipliers. multipliers.items ≡ map (λ q. slice_index_or out.now q (pos 0)) states.now) }
+{
+    let mut multipliers = Vec::new(alloc);
+    for q in states {
+        multipliers.push(out[usize::from(*q)])?;
+    }
+    Ok(multipliers)
+}
+
+/// Those of the base facts, the opened fact, the trap's and the earlier leaders'.
+fn above(
+    alloc: Global,
+    leader: u16,
+    flows: &[i64],
+    wrong: i64,
+    opened: i64,
+) -> Result<Vec<i64>, NoMemory>
+    ensures { IfOk result (λ multipliers. multipliers.items ≡ above_list flows.now wrong opened leader) }
+{
+    let mut multipliers = Vec::from_slice(alloc, flows)?;
+    multipliers.extend_from_slice(&[0, 0, wrong])?;
+    multipliers.extend_from_slice(&[opened])?;
+    multipliers.extend_from_slice(&[0])?;
+    let none = vec![in alloc; 0i64; usize::from(leader)]?;
+    multipliers.extend_from_slice(none.as_slice())?;
+    Ok(multipliers)
+}
