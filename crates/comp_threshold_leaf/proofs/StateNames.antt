@@ -1,0 +1,118 @@
+-- The names of a built leaf's states are in form, and no two are equal.
+use Rattle.std.proofs.Common.{◌≡◌, ◌≢◌, ◌⊎◌, inl, inr, subst, ℕ, suc, ◌+◌, ◌<◌, ◌≤◌, ◌^◌, ◌%◌, Bool, true, false, ◌&&◌, List, [], ◌∷◌, ◌++◌, length, map, get_or, refl, ap, sym, ◌∙◌, zero-add, arith}
+use Rattle.std.specs.Prelude.{ℤ, pos, negsuc, neg_ℤ, ◌-ℤ◌, ◌<ℤ◌, if◌then◌else◌, ◌==◌, nat_lt, nat_le, All, AllPairs, IsTrue}
+use Rattle.std.specs.List.{range_with_len, list_all}
+use Rattle.std.specs.Fmt.{decimal, signed_decimal}
+use Rattle.std.proofs.lemmas.Int.{ints}
+use lib.Signed.{mag}
+use Rattle.std.proofs.lemmas.Fmt.{signed_decimal_injective, decimal_by_steps, length_signed_le}
+use Rattle.std.proofs.lemmas.Bool.{lt-ltb, le-ltb, le-leb, ne_eqb, cases_lt, and_parts}
+use Rattle.std.proofs.lemmas.List.FromFn.{get_or-map-range_with_len, length-map-range_with_len}
+use Rattle.pop_io.specs.Names.{is_printed, is_state_name, AreNames}
+use Rattle.comp_threshold_leaf.specs.ThresholdLeaf.{span, place_in, letter, name_of, state_count}
+use Rattle.comp_threshold_leaf.proofs.Places.{Kind, kind_of, place-below}
+
+-- ---- the bytes of a name
+
+printed : (c : ℕ) → 48 ≤ c → c ≤ 126 → is_printed c ≡ true
+printed c l m =
+    let a : nat_le 33 c ≡ true = le-leb 33 c (omega arith) in
+    let d : nat_le c 126 ≡ true = le-leb c 126 m in
+    let e : (c == 47) ≡ false = ne_eqb c 47 (λ f. omega arith) in
+    rw (a, d, e) refl
+
+all_one : (ds : List ℕ) (c : ℕ) → list_all is_printed ds ≡ true → is_printed c ≡ true → list_all is_printed (ds ++ c ∷ []) ≡ true
+all_one [] c e f = rw f refl
+all_one (d ∷ ds) c e f =
+    let both = and_parts (is_printed d) (list_all is_printed ds) e in
+    let first = both.0 in
+    let rest = all_one ds c both.1 f in
+    rw (first, rest) refl
+
+decimal-printed : (n : ℕ) → n < 2 ^ 64 → list_all is_printed (decimal n) ≡ true
+decimal-printed n l =
+    decimal_by_steps (λ n ds. list_all is_printed ds ≡ true) (λ n m. let e = printed (48 + n) (omega arith) (omega arith) in rw e refl) (λ n ds m e. all_one ds (48 + n % 10) e (printed (48 + n % 10) (omega arith) (omega arith))) n l
+
+signed-printed : (z : ℤ) → mag z < 1000 → list_all is_printed (signed_decimal z) ≡ true
+signed-printed (pos n) l = decimal-printed n (omega arith)
+signed-printed (negsuc n) l = decimal-printed (suc n) (omega arith)
+
+small : (p s : ℕ) → p < 1000 → s < 1000 → mag (pos p -ℤ pos s) < 1000
+small p s l m = go (pos p -ℤ pos s) (omega (arith, ints)) (omega (arith, ints))
+  where
+    go : (z : ℤ) → z <ℤ pos 1000 → neg_ℤ (pos 1000) <ℤ z → mag z < 1000
+    go (pos n) a b = omega (arith, ints)
+    go (negsuc n) a b = omega (arith, ints)
+
+name-form : (s q : ℕ) → s < 400 → Kind s q → IsTrue (is_state_name (name_of s q))
+name-form s q few kind =
+    let below = place-below s q kind in
+    let z = pos (place_in s q) -ℤ pos s in
+    let size = small (place_in s q) s (omega arith) (omega arith) in
+    let long = length_signed_le 4 z (omega arith) (omega arith) in
+    let a : nat_le 1 (length (name_of s q)) ≡ true = le-leb 1 (length (name_of s q)) (omega arith) in
+    let b : is_printed (letter s q) ≡ true = letter-printed (nat_lt q (span s)) (nat_lt q (span s + span s)) in
+    let c : list_all is_printed (signed_decimal z) ≡ true = signed-printed z size in
+    let d : nat_le (length (name_of s q)) 32 ≡ true = le-leb (length (name_of s q)) 32 (omega arith) in
+    from_true (is_state_name (name_of s q)) (and_all a b c d)
+  where
+    letter-printed : (x y : Bool) → is_printed (if x then 76 else (if y then 102 else 116)) ≡ true
+    letter-printed true y = refl
+    letter-printed false true = refl
+    letter-printed false false = refl
+
+    from_true : (b : Bool) → b ≡ true → IsTrue b
+    from_true b e = e
+
+    and_all : {a b c d : Bool} → a ≡ true → b ≡ true → c ≡ true → d ≡ true → ((a && (b && c)) && d) ≡ true
+    and_all e f g h = rw (e, f, g, h) refl
+
+-- ---- distinct names
+
+-- the state with this letter and this place
+abbrev back : ℕ → ℕ → ℕ → ℕ
+back s l v = if l == 76 then v else (if l == 102 then span s + v else span s + span s + v)
+
+state-back : (s q : ℕ) → back s (letter s q) (place_in s q) ≡ q
+state-back s q = first (cases_lt q (span s))
+  where
+    second : (q < span s + span s) ⊎ (span s + span s ≤ q) → span s ≤ q → back s (letter s q) (place_in s q) ≡ q
+    second (inl l) k = let a = le-ltb q (span s) k in let b = lt-ltb q (span s + span s) l in rw (a, b) (omega arith)
+    second (inr l) k = let a = le-ltb q (span s) k in let b = le-ltb q (span s + span s) l in rw (a, b) (omega arith)
+
+    first : (q < span s) ⊎ (span s ≤ q) → back s (letter s q) (place_in s q) ≡ q
+    first (inl l) = let a = lt-ltb q (span s) l in rw a refl
+    first (inr l) = second (cases_lt q (span s + span s)) l
+
+name-injective : (s p q : ℕ) → s < 400 → Kind s p → Kind s q → name_of s p ≡ name_of s q → p ≡ q
+name-injective s p q few kp kq e =
+    let bp = place-below s p kp in
+    let bq = place-below s q kq in
+    let letters : letter s p ≡ letter s q = cc in
+    let texts : signed_decimal (pos (place_in s p) -ℤ pos s) ≡ signed_decimal (pos (place_in s q) -ℤ pos s) = cc in
+    let sp = small (place_in s p) s (omega arith) (omega arith) in
+    let sq = small (place_in s q) s (omega arith) (omega arith) in
+    let values = signed_decimal_injective (pos (place_in s p) -ℤ pos s) (pos (place_in s q) -ℤ pos s) (omega arith) (omega arith) texts in
+    let places : place_in s p ≡ place_in s q = omega (arith, ints, values) in
+    sym (state-back s p) ∙ ap (λ l. back s l (place_in s p)) letters ∙ ap (back s (letter s q)) places ∙ state-back s q
+
+pub names-formed : (s : ℕ) → s < 400 → AreNames is_state_name (map (name_of s) (range_with_len 0 (state_count s)))
+names-formed s few = (forms, apart)
+  where
+    names : List (List ℕ)
+    names = map (name_of s) (range_with_len 0 (state_count s))
+
+    at : (i : ℕ) (d : List ℕ) → i < state_count s → get_or (map (name_of s) (range_with_len 0 (state_count s))) i d ≡ name_of s i
+    at i d l = get_or-map-range_with_len (name_of s) 0 (state_count s) i i d l (zero-add i)
+
+    forms : All (λ name. IsTrue (is_state_name name)) (map (name_of s) (range_with_len 0 (state_count s)))
+    forms k d l =
+        let m : k < state_count s = omega (arith, length-map-range_with_len (name_of s) 0 (state_count s)) in
+        subst (λ name. IsTrue (is_state_name name)) (sym (at k d m)) (name-form s k few (kind_of s k m))
+
+    apart : AllPairs ◌≢◌ (map (name_of s) (range_with_len 0 (state_count s)))
+    apart i j d l m e =
+        let mj : j < state_count s = omega (arith, length-map-range_with_len (name_of s) 0 (state_count s)) in
+        let mi : i < state_count s = omega arith in
+        let same = name-injective s i j few (kind_of s i mi) (kind_of s j mj) (sym (at i d mi) ∙ e ∙ at j d mj) in
+        omega arith

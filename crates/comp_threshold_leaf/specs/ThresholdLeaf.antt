@@ -1,0 +1,96 @@
+-- ThresholdLeaf: the built leaf of `Less`. With s as its width, a leader `L(u)` or a follower `F(bit,v)` has a value from -s to s;
+-- the value u stands at place u + s. The leaders come first, then the followers with the bit false, then those with the bit true
+-- (Angluin, Aspnes, Diamadi, Fischer, Peralta 2006).
+use Rattle.std.specs.Prelude.{ℕ, ◌+◌, ◌-◌, Bool, not, ◌&&◌, ◌==◌, nat_lt, if◌then◌else◌, List, [], ◌∷◌, ◌++◌, map, filter, flat_map, fold, ℤ, pos, ◌+ℤ◌, ◌-ℤ◌, nat_abs}
+use Rattle.std.specs.List.{range_with_len}
+use Rattle.std.specs.Fmt.{signed_decimal}
+use Rattle.pop_net.specs.declared.leaf.Move.{Move}
+use Rattle.pop_net.specs.LeafModel.{LeafModel}
+
+-- the greater one, and the smaller one
+abbrev pub greater : ℕ → ℕ → ℕ
+greater a b = if nat_lt a b then b else a
+
+abbrev pub smaller : ℕ → ℕ → ℕ
+smaller a b = if nat_lt a b then a else b
+
+-- the greatest size of a coefficient, or the bound's and 1
+abbrev pub width : List ℤ → ℤ → ℕ
+width coefs bound = fold (λ s a. greater s (nat_abs a)) (nat_abs bound + 1) coefs
+
+-- the number of values from -s to s
+abbrev pub span : ℕ → ℕ
+span s = s + s + 1
+
+abbrev pub place : ℕ → ℤ → ℕ
+place s u = nat_abs (u +ℤ pos s)
+
+-- the place of a state's value
+abbrev pub place_in : ℕ → ℕ → ℕ
+place_in s q = if nat_lt q (span s) then q else (if nat_lt q (span s + span s) then q - span s else q - (span s + span s))
+
+-- the value of a state
+abbrev pub value_of : ℕ → ℕ → ℤ
+value_of s q = pos (place_in s q) -ℤ pos s
+
+-- the state F(bit,v), for the place of v
+abbrev pub follower : ℕ → Bool → ℕ → ℕ
+follower s bit v = if bit then span s + span s + v else span s + v
+
+-- the sum of two values, cut to the range, and what is left of it, as places
+abbrev pub joined : ℕ → ℕ → ℕ → ℕ
+joined s u v = smaller (s + s) (u + v - s)
+
+abbrev pub leftover : ℕ → ℕ → ℕ → ℕ
+leftover s u v = u + v - joined s u v
+
+-- what a leader makes of a state; the bound stands at place t
+abbrev pub leader_move : (s t p q : ℕ) → Move
+leader_move s t p q =
+    record {
+      p = p;
+      q = q;
+      r = joined s p (place_in s q);
+      s = follower s (nat_lt (joined s p (place_in s q)) t) (leftover s p (place_in s q));
+    }
+
+-- whether a state changes
+abbrev pub alters : Move → Bool
+alters m = not ((m.r == m.p) && (m.s == m.q))
+
+abbrev pub pairs_of : (s t p : ℕ) → List Move
+pairs_of s t p = map (leader_move s t p) (range_with_len p (span s - p))
+
+abbrev pub turns_of : (s t p : ℕ) → List Move
+turns_of s t p = filter alters (map (leader_move s t p) (range_with_len (span s) (span s + span s)))
+
+abbrev pub moves_of : (s t : ℕ) → List Move
+moves_of s t =
+    flat_map (pairs_of s t) (range_with_len 0 (span s)) ++ flat_map (turns_of s t) (range_with_len 0 (span s))
+
+abbrev pub state_count : ℕ → ℕ
+state_count s = span s + span s + span s
+
+-- `L`, `f` or `t`, and the value
+abbrev pub letter : ℕ → ℕ → ℕ
+letter s q = if nat_lt q (span s) then 76 else (if nat_lt q (span s + span s) then 102 else 116)
+
+abbrev pub name_of : ℕ → ℕ → List ℕ
+name_of s q = letter s q ∷ signed_decimal (value_of s q)
+
+abbrev pub output_of : (s t q : ℕ) → Bool
+output_of s t q = if nat_lt q (span s) then nat_lt q t else not (nat_lt q (span s + span s))
+
+abbrev pub built : (s t : ℕ) → List ℕ → LeafModel
+built s t inputs =
+    record {
+      states = map (name_of s) (range_with_len 0 (state_count s));
+      moves = moves_of s t;
+      inputs = inputs;
+      outputs = map (output_of s t) (range_with_len 0 (state_count s));
+      helpers = [];
+    }
+
+abbrev pub threshold_leaf : List ℤ → ℤ → LeafModel
+threshold_leaf coefs bound =
+    built (width coefs bound) (place (width coefs bound) bound) (map (place (width coefs bound)) coefs)

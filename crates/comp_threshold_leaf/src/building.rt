@@ -1,0 +1,74 @@
+//! The leaf.
+
+ghost use Rattle.std.specs.Prelude.{◌≡◌, ◌≤◌, map, nat_abs, All, AllPairs, length, IfOk};
+ghost use Rattle.std.specs.List.{range_with_len};
+ghost use Rattle.pop_io.specs.declared.names.TheConstants.{VARIABLE_LIMIT};
+ghost use Rattle.pop_net.specs.LeafModel.{IsLeaf};
+ghost use Rattle.pop_net.specs.Reaction.{Differ};
+ghost use Rattle.comp_threshold_leaf.specs.ThresholdLeaf.{width as width_of, place as place_of_value, output_of, state_count, built, threshold_leaf as leaf_of};
+ghost use Rattle.comp_threshold_leaf.specs.declared.limits.TheConstants.{WIDTH_LIMIT};
+
+use crate::listing::moves;
+use crate::naming::names;
+use crate::values::{place, span};
+use pop_io::{List, NoMemory};
+use pop_net::Leaf;
+use std::alloc::Global;
+
+/// A state's output, where the bound stands at place t. Allocates nothing.
+pub fn output(s: u16, t: u16, q: u16) -> bool
+    requires { s ≤ WIDTH_LIMIT }
+    ensures { result ≡ output_of s t q }
+{
+    let n = span(s);
+    if q < n { q < t } else { !(q < n + n) }
+}
+
+fn outputs(alloc: Global, s: u16, t: u16) -> Result<Vec<bool>, NoMemory>
+    requires { s ≤ WIDTH_LIMIT }
+    ensures { IfOk result (λ outputs. outputs.items ≡ map (output_of s t) (range_with_len 0 (state_count s))) }
+{
+    let outputs = (0..3 * span(s)).map(|q| output(s, t, q)).collect(alloc)?;
+    Ok(outputs)
+}
+
+fn inputs(alloc: Global, s: u16, coefs: &[i64]) -> Result<Vec<u16>, NoMemory>
+    requires narrow { s ≤ WIDTH_LIMIT }
+    requires within { All (λ a. nat_abs a ≤ s) coefs.now }
+    ensures { IfOk result (λ inputs. inputs.items ≡ map (place_of_value s) coefs.now) }
+{
+    let mut inputs = Vec::new(alloc);
+    for a in coefs {
+        inputs.push(place(s, *a))?;
+    }
+    Ok(inputs)
+}
+
+/// The leaf, where it is in form.
+fn built_leaf(alloc: Global, s: u16, t: u16, coefs: &[i64]) -> Result<Leaf, NoMemory>
+    requires narrow { s ≤ WIDTH_LIMIT }
+    requires within { All (λ a. nat_abs a ≤ s) coefs.now }
+    requires formed { IsLeaf (built s t (map (place_of_value s) coefs.now)) }
+    ensures { IfOk result (λ leaf. leaf ≡ built s t (map (place_of_value s) coefs.now)) }
+{
+    let names = names(alloc, s)?;
+    let moves = List::from_vec(moves(alloc, s, t)?);
+    let inputs = List::from_vec(inputs(alloc, s, coefs)?);
+    let outputs = List::from_vec(outputs(alloc, s, t)?);
+    let helpers = List::from_vec(Vec::new(alloc));
+    Leaf::of_valid(alloc, names, moves, inputs, outputs, helpers)
+}
+
+/// The built leaf of these coefficients and this bound, which are of this width.
+pub fn threshold_leaf(alloc: Global, coefs: &[i64], bound: i64, s: u16) -> Result<Leaf, NoMemory>
+    requires width { s ≡ width_of coefs.now bound }
+    requires narrow { s ≤ WIDTH_LIMIT }
+    requires some { 1 ≤ length coefs.now }
+    requires few { length coefs.now ≤ VARIABLE_LIMIT }
+    ensures leaf { IfOk result (λ leaf. leaf ≡ leaf_of coefs.now bound) }
+    // No two of its moves take the same states.
+    ensures single { IfOk result (λ leaf. AllPairs Differ leaf.moves) }
+{
+    let t = place(s, bound);
+    built_leaf(alloc, s, t, coefs)
+}
