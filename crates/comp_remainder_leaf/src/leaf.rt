@@ -1,0 +1,78 @@
+//! The whole leaf.
+
+ghost use Rattle.std.specs.Prelude.{◌≡◌, ◌<◌, ◌≤◌, AllPairs, map, length, IfOk};
+ghost use Rattle.std.specs.List.{range_with_len};
+ghost use Rattle.pop_io.specs.declared.names.TheConstants.{VARIABLE_LIMIT};
+ghost use Rattle.pres_ast.specs.declared.limits.TheConstants.{MODULUS_LIMIT};
+ghost use Rattle.pop_net.specs.Reaction.{Differ};
+ghost use Rattle.comp_remainder_leaf.specs.RemainderLeaf.{residue as residue_of, state_count, output_of as output_in, remainder_leaf as built_leaf};
+
+use crate::listing::moves;
+use crate::naming::names;
+use pop_io::{List, NoMemory};
+use pop_net::Leaf;
+use std::alloc::Global;
+
+/// What an agent in a state answers.
+pub fn output(modulus: u16, rest: u16, q: u16) -> bool
+    requires { modulus ≤ MODULUS_LIMIT }
+    ensures { result ≡ output_in modulus rest q }
+{
+    if q < modulus {
+        q == rest
+    } else {
+        q == modulus + 1
+    }
+}
+
+fn outputs(alloc: Global, modulus: u16, rest: u16) -> Result<Vec<bool>, NoMemory>
+    requires { modulus ≤ MODULUS_LIMIT }
+    ensures { IfOk result (λ outputs. outputs.items ≡ map (output_in modulus rest) (range_with_len 0 (state_count modulus))) }
+{
+    let outputs = (0..modulus + 2)
+        .map(|q| output(modulus, rest, q))
+        .collect(alloc)?;
+    Ok(outputs)
+}
+
+/// The leader that stands for one agent of a variable.
+fn residue(modulus: u16, coef: i64) -> u16
+    requires { 1 ≤ modulus }
+    ensures { result ≡ residue_of modulus coef }
+{
+    coef.rem_euclid(i64::from(modulus)).unsigned_abs() as u16
+}
+
+fn inputs(alloc: Global, modulus: u16, coefs: &[i64]) -> Result<Vec<u16>, NoMemory>
+    requires { 1 ≤ modulus }
+    ensures { IfOk result (λ inputs. inputs.items ≡ map (residue_of modulus) coefs.now) }
+{
+    let mut inputs = Vec::new(alloc);
+    for coef in coefs {
+        inputs.push(residue(modulus, *coef))?;
+    }
+    Ok(inputs)
+}
+
+/// The leaf of `Rest` with these numbers. It has no helpers.
+pub fn remainder_leaf(
+    alloc: Global,
+    coefs: &[i64],
+    modulus: u16,
+    rest: u16,
+) -> Result<Leaf, NoMemory>
+    requires some { 1 ≤ length coefs.now }
+    requires few { length coefs.now ≤ VARIABLE_LIMIT }
+    requires low { 1 ≤ modulus }
+    requires high { modulus ≤ MODULUS_LIMIT }
+    ensures built { IfOk result (λ leaf. leaf ≡ built_leaf coefs.now modulus rest) }
+    // No two of its moves take the same states.
+    ensures single { IfOk result (λ leaf. AllPairs Differ leaf.moves) }
+{
+    let names = names(alloc, modulus)?;
+    let moves = List::from_vec(moves(alloc, modulus, rest)?);
+    let inputs = List::from_vec(inputs(alloc, modulus, coefs)?);
+    let outputs = List::from_vec(outputs(alloc, modulus, rest)?);
+    let helpers = List::from_vec(Vec::new(alloc));
+    Leaf::of_valid(alloc, names, moves, inputs, outputs, helpers)
+}

@@ -1,0 +1,35 @@
+//! The names of states.
+
+ghost use Rattle.std.specs.Prelude.{◌≡◌, ◌≤◌, map, IfOk};
+ghost use Rattle.std.specs.List.{range_with_len};
+ghost use Rattle.pres_ast.specs.declared.limits.TheConstants.{MODULUS_LIMIT};
+ghost use Rattle.comp_remainder_leaf.specs.RemainderLeaf.{state_count, name_of as name_bytes};
+
+use pop_io::{List, NoMemory, Text};
+use std::alloc::Global;
+
+/// `N` and the number for a leader, `f` or `t` for a follower.
+fn name_of(alloc: Global, modulus: u16, q: u16) -> Result<Text, NoMemory>
+    ensures { IfOk result (λ name. name ≡ name_bytes modulus q) }
+{
+    let text = if q < modulus {
+        format!(in alloc; "N{q}")?
+    } else if q == modulus {
+        format!(in alloc; "f")?
+    } else {
+        format!(in alloc; "t")?
+    };
+    Ok(Text::from_string(text))
+}
+
+/// The names of all states.
+pub(crate) fn names(alloc: Global, modulus: u16) -> Result<List<Text>, NoMemory>
+    requires { modulus ≤ MODULUS_LIMIT }
+    ensures { IfOk result (λ names. names ≡ map (name_bytes modulus) (range_with_len 0 (state_count modulus))) }
+{
+    let mut names = Vec::new(alloc);
+    for q in 0..modulus + 2 {
+        names.push(name_of(alloc, modulus, q)?)?;
+    }
+    Ok(List::from_vec(names))
+}
