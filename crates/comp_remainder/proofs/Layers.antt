@@ -1,0 +1,101 @@
+-- The layers of a built leaf of `Rest` are valid.
+use Rattle.std.proofs.Common.{◌≡◌, ◌≢◌, inl, inr, subst, ℕ, ◌+◌, ◌%◌, ◌<◌, ◌≤◌, Bool, true, false, List, [], ◌∷◌, length, get_or, refl, ap, sym, ◌∙◌, zero-add, arith}
+use Rattle.std.specs.Prelude.{ℤ, pos, not, ◌==◌, nat_lt, All, Contains}
+use Rattle.std.proofs.lemmas.Int.{ints}
+use Rattle.std.proofs.Math.Nat.{mod-lt}
+use Rattle.std.proofs.lemmas.Bool.{lt-ltb, le-ltb, cases_lt, eq-eqb, ne_eqb}
+use Rattle.std.proofs.lemmas.List.Elements.{All-nil, All-cons, All-contains}
+use Rattle.std.proofs.lemmas.List.FromFn.{length-map-range_with_len, get_or-map-range_with_len}
+use Rattle.pop_net.specs.declared.leaf.Move.{Move}
+use Rattle.pop_net.specs.LeafModel.{LeafModel, is_silent}
+use Rattle.cert_base.specs.FactsAndCases.{indicator}
+use Rattle.cert_base.specs.ValidLayers.{weight_at, IsLower, ValidLayers}
+use Rattle.comp_layers.specs.SortedLayers.{leader_kind, IsLeaderProtocol}
+use Rattle.comp_layers.proofs.SortedLayers.{AreKinds, sorted_layers-valid}
+use Rattle.comp_layers.proofs.LeaderLayers.{kind-pair, kind-below, kind-up, kind-down, leader_wakes}
+use Rattle.comp_remainder_leaf.specs.RemainderLeaf.{follower, meeting, turn, moves_of, name_of, remainder_leaf}
+use Rattle.comp_remainder.specs.RemainderLayers.{weights_by, all_weights, remainder_layers}
+use Rattle.comp_remainder_leaf.proofs.MoveLists.{all_moves, has_pair, follower-above, follower-below, followers-apart, pair-loud, turn-loud}
+
+weight-is : (m : ℕ) (test : ℕ → Bool) (q : ℕ) (b : Bool) → q < m + 2 → test q ≡ b → weight_at (weights_by m test) q ≡ indicator b
+weight-is m test q b l e = get_or-map-range_with_len (λ q. indicator (test q)) 0 (m + 2) q q (pos 0) l (zero-add q) ∙ ap indicator e
+
+lower_of : (m : ℕ) (t : Move) (k : ℕ) (weights : List ℤ) → leader_kind m t ≡ k → get_or (all_weights m) k [] ≡ weights → IsLower weights t → IsLower (get_or (all_weights m) (leader_kind m t) []) t
+lower_of m t k weights e f h = subst (λ w. IsLower w t) (sym (ap (λ i. get_or (all_weights m) i []) e ∙ f)) h
+
+-- two leaders are more than a leader and a follower
+lower-pair : (m rest p q : ℕ) → p < m → q < m → IsLower (get_or (all_weights m) (leader_kind m (meeting m rest p q)) []) (meeting m rest p q)
+lower-pair m rest p q l k =
+    let test : ℕ → Bool = λ q. nat_lt q m in
+    let bit = ((p + q) % m) == rest in
+    let r_below = mod-lt (p + q) (let some : 0 < m = omega arith in some) in
+    let p_is = weight-is m test p true (omega arith) (lt-ltb p m l) in
+    let q_is = weight-is m test q true (omega arith) (lt-ltb q m k) in
+    let r_is = weight-is m test ((p + q) % m) true (omega arith) (lt-ltb ((p + q) % m) m r_below) in
+    let s_is = weight-is m test (follower m bit) false (follower-below m bit) (le-ltb (follower m bit) m (follower-above m bit)) in
+    lower_of m (meeting m rest p q) 0 (weights_by m test) (kind-pair m (meeting m rest p q) k) refl (omega (arith, ints, p_is, q_is, r_is, s_is))
+
+-- a turn
+a_turn : ℕ → ℕ → Bool → Move
+a_turn m p bit = record { p = p; q = follower m (not bit); r = p; s = follower m bit }
+
+lower-turn : (m p : ℕ) (bit : Bool) → p < m → IsLower (get_or (all_weights m) (leader_kind m (record { p = p; q = follower m (not bit); r = p; s = follower m bit })) []) (record { p = p; q = follower m (not bit); r = p; s = follower m bit })
+lower-turn m p true l =
+    let test : ℕ → Bool = λ q. q == m in
+    let p_is = weight-is m test p false (omega arith) (ne_eqb p m (λ e. omega arith)) in
+    let q_is = weight-is m test m true (omega arith) (eq-eqb m m refl) in
+    let s_is = weight-is m test (m + 1) false (omega arith) (ne_eqb (m + 1) m (λ e. omega arith)) in
+    lower_of m (record { p = p; q = m; r = p; s = m + 1 }) 1 (weights_by m test) (kind-up m (record { p = p; q = m; r = p; s = m + 1 }) (omega arith) refl (omega arith)) refl (omega (arith, ints, p_is, q_is, s_is))
+lower-turn m p false l =
+    let test : ℕ → Bool = λ q. q == m + 1 in
+    let p_is = weight-is m test p false (omega arith) (ne_eqb p (m + 1) (λ e. omega arith)) in
+    let q_is = weight-is m test (m + 1) true (omega arith) (eq-eqb (m + 1) (m + 1) refl) in
+    let s_is = weight-is m test m false (omega arith) (ne_eqb m (m + 1) (λ e. omega arith)) in
+    lower_of m (record { p = p; q = m + 1; r = p; s = m }) 2 (weights_by m test) (kind-down m (record { p = p; q = m + 1; r = p; s = m }) (omega arith) refl (omega arith)) refl (omega (arith, ints, p_is, q_is, s_is))
+
+-- a move that makes a follower of this bit, and a move with a follower second
+pub record IsSettled (m rest : ℕ) (t : Move) : Type 0 where
+  pub turns : m ≤ t.q → (t.q ≡ follower m (not (t.p == rest))) × (t.s ≡ follower m (t.p == rest))
+
+all_settled : (m rest : ℕ) → All (IsSettled m rest) (moves_of m rest)
+all_settled m rest =
+    all_moves m rest (IsSettled m rest) (λ p q l k. record { turns = λ h. absurd (omega arith) }) (λ p l. record { turns = λ h. (refl, refl) })
+
+module _ (coefs : List ℤ) (m rest : ℕ) where
+  abbrev leaf : LeafModel
+  leaf = remainder_leaf coefs m rest
+
+  settled : (t u : Move) → Contains leaf.moves t → Contains leaf.moves u → m ≤ t.q → t.r ≡ t.p → u.q ≡ t.s → u.p ≢ t.p
+  settled t u ct cu above e f g =
+      let x = (All-contains (IsSettled m rest) leaf.moves t (all_settled m rest) ct).turns above in
+      let late : m ≤ u.q = subst (λ z. m ≤ z) (sym (f ∙ x.1)) (follower-above m (t.p == rest)) in
+      let y = (All-contains (IsSettled m rest) leaf.moves u (all_settled m rest) cu).turns late in
+      followers-apart m (t.p == rest) (ap (λ p. follower m (not (p == rest))) (sym g) ∙ sym y.0 ∙ f ∙ x.1)
+
+  is_protocol : IsLeaderProtocol leaf m
+  is_protocol = record {
+    loud = all_moves m rest (λ t. is_silent t ≡ false) (λ p q l k. pair-loud m rest p q l k) (λ p l. turn-loud m rest p l);
+    leads = all_moves m rest (λ t. t.p < m) (λ p q l k. l) (λ p l. l);
+    follows = all_moves m rest (λ t. m ≤ t.s) (λ p q l k. follower-above m (((p + q) % m) == rest)) (λ p l. follower-above m (p == rest));
+    meet = λ p q l k ne. elim (cases_lt p q) [
+      | inl h ↦ (meeting m rest p q, has_pair m rest p q (omega arith) k, k, inl (refl, refl))
+      | inr h ↦ (meeting m rest q p, has_pair m rest q p h l, l, inr (refl, refl))
+    ];
+    settled = settled;
+  }
+
+  long : (test : ℕ → Bool) → length (weights_by m test) ≡ length leaf.states
+  long test = length-map-range_with_len (λ q. indicator (test q)) 0 (m + 2) ∙ sym (length-map-range_with_len (name_of m) 0 (m + 2))
+
+  are_kinds : AreKinds leaf (leader_kind m) (all_weights m)
+  are_kinds = record {
+    long = All-cons (λ w. length w ≡ length leaf.states) (weights_by m (λ q. nat_lt q m)) (weights_by m (λ q. q == m) ∷ weights_by m (λ q. q == m + 1) ∷ []) (long (λ q. nat_lt q m))
+        (All-cons (λ w. length w ≡ length leaf.states) (weights_by m (λ q. q == m)) (weights_by m (λ q. q == m + 1) ∷ []) (long (λ q. q == m))
+        (All-cons (λ w. length w ≡ length leaf.states) (weights_by m (λ q. q == m + 1)) [] (long (λ q. q == m + 1)) (All-nil (λ w. length w ≡ length leaf.states))));
+    kinds = all_moves m rest (λ t. leader_kind m t < length (all_weights m)) (λ p q l k. let h = kind-below m (meeting m rest p q) in omega arith) (λ p l. let h = kind-below m (turn m rest p) in omega arith);
+    lower = all_moves m rest (λ t. IsLower (get_or (all_weights m) (leader_kind m t) []) t) (λ p q l k. lower-pair m rest p q l k) (λ p l. lower-turn m p (p == rest) l);
+    wakes = leader_wakes leaf m is_protocol;
+  }
+
+  pub layers-valid : ValidLayers leaf (remainder_layers leaf m)
+  layers-valid = sorted_layers-valid leaf (leader_kind m) (all_weights m) are_kinds

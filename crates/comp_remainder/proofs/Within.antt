@@ -1,0 +1,82 @@
+-- The proof of a built leaf of `Rest` is within the limits.
+use Rattle.std.proofs.Common.{◌≡◌, ◌⊎◌, inl, inr, ℕ, ◌+◌, ◌<◌, ◌≤◌, Bool, true, false, List, [], ◌∷◌, length, arith}
+use Rattle.std.specs.Prelude.{ℤ, neg_ℤ, All, if◌then◌else◌, nat_lt, ◌==◌, slice_index_or}
+use Rattle.std.specs.List.{range_with_len}
+use Rattle.std.proofs.lemmas.Bool.{lt-ltb, le-ltb, cases_lt}
+use Rattle.std.proofs.lemmas.List.FromFn.{length-map-range_with_len}
+use Rattle.std.proofs.lemmas.List.Elements.{All-nil, All-cons, All-map}
+use Rattle.pop_net.specs.LeafModel.{LeafModel, IsLeaf}
+use Rattle.cert_base.specs.declared.layer.Layer.{Layer}
+use Rattle.cert_base.specs.declared.node.Node.TheVariants.{Residue}
+use Rattle.cert_base.specs.Rows.{terms_from}
+use Rattle.cert_base.specs.FactsAndCases.{differs, indicator}
+use Rattle.cert_base.specs.ProofLimits.{IsSmall, IsNodeWithin, IsLayerWithin, AreNodesWithin}
+use Rattle.comp_trees.specs.LeaderTree.{company, mix_of_leader, value_mix, wrong_mix, weighed}
+use Rattle.comp_layers.specs.SortedLayers.{leader_kind, layer_of}
+use Rattle.comp_layers.proofs.Members.{all_range}
+use Rattle.comp_trees.proofs.Limits.{mix-small, leader-within, leader-within_terms, tree-within}
+use Rattle.comp_layers.proofs.LayerLimits.{layer-within}
+use Rattle.comp_remainder_leaf.specs.RemainderLeaf.{output_of, name_of, remainder_leaf}
+use Rattle.comp_remainder.proofs.Trees.{is_led}
+use Rattle.comp_remainder.specs.RemainderProof.{value_of, opened_by, leader_node, remainder_tree}
+use Rattle.comp_remainder.specs.RemainderLayers.{weights_by, remainder_layers}
+
+value-small : (m q : ℕ) → m ≤ 200 → IsSmall (value_of m q)
+value-small m q few = go (cases_lt q m)
+  where
+    go : (q < m) ⊎ (m ≤ q) → IsSmall (value_of m q)
+    go (inl l) = let e = lt-ltb q m l in rw e (omega arith)
+    go (inr l) = let e = le-ltb q m l in rw e (omega arith)
+
+opened-small : (b : Bool) → IsSmall (opened_by b)
+opened-small true = omega arith
+opened-small false = omega arith
+
+sign-small : (b : Bool) → IsSmall (neg_ℤ (indicator b))
+sign-small true = omega arith
+sign-small false = omega arith
+
+bit-small : (b : Bool) → IsSmall (indicator b)
+bit-small true = omega arith
+bit-small false = omega arith
+
+module _ (coefs : List ℤ) (m rest : ℕ) (low : 2 ≤ m) (high : m ≤ 200) (below : rest < m) (formed : IsLeaf (remainder_leaf coefs m rest)) where
+  abbrev leaf : LeafModel
+  leaf = remainder_leaf coefs m rest
+
+  states_long : length leaf.states ≡ m + 2
+  states_long = length-map-range_with_len (name_of m) 0 (m + 2)
+
+  abbrev one : ℕ → (ℕ → Bool) → Layer
+  one i test = layer_of leaf.moves (leader_kind m) i (weights_by m test)
+
+  within : (i : ℕ) (test : ℕ → Bool) → IsLayerWithin (one i test)
+  within i test =
+      layer-within leaf.moves (leader_kind m) i (weights_by m test) formed.move_count (omega (arith, length-map-range_with_len (λ q. indicator (test q)) 0 (m + 2)))
+      (All-map IsSmall (λ q. indicator (test q)) (range_with_len 0 (m + 2)) (all_range (λ q. IsSmall (indicator (test q))) 0 (m + 2) (λ q l k. bit-small (test q))))
+
+  value-node : (b : Bool) (p : ℕ) → p < m → IsNodeWithin (Residue m (terms_from 0 (mix_of_leader leaf (company leaf p) (value_mix (value_of m) (opened_by b) p) p)))
+  value-node b p l =
+      let mix = value_mix (value_of m) (opened_by b) p in
+      (low, high, leader-within_terms leaf p mix formed (omega (arith, states_long)) (mix-small leaf p mix (λ q k. value-small m q high) (omega arith) (opened-small b) (λ q k. value-small m q high) (value-small m p high)))
+
+  wrong-node : (b : Bool) (p : ℕ) → p < m → IsNodeWithin (weighed (mix_of_leader leaf (company leaf p) (wrong_mix leaf b) p))
+  wrong-node b p l =
+      let mix = wrong_mix leaf b in
+      leader-within leaf p mix formed (omega (arith, states_long)) (mix-small leaf p mix (λ q k. omega arith) (omega arith) (omega arith) (λ q k. sign-small (differs b (slice_index_or leaf.outputs q false))) (omega arith))
+
+  node : (b : Bool) (p : ℕ) → p < m → IsNodeWithin (leader_node leaf m rest b p)
+  node b p l = go (differs b (output_of m rest p)) (value-node b p l) (wrong-node b p l)
+    where
+      go : (c : Bool) → IsNodeWithin (Residue m (terms_from 0 (mix_of_leader leaf (company leaf p) (value_mix (value_of m) (opened_by b) p) p))) → IsNodeWithin (weighed (mix_of_leader leaf (company leaf p) (wrong_mix leaf b) p)) → IsNodeWithin (if c then Residue m (terms_from 0 (mix_of_leader leaf (company leaf p) (value_mix (value_of m) (opened_by b) p) p)) else weighed (mix_of_leader leaf (company leaf p) (wrong_mix leaf b) p))
+      go true v w = v
+      go false v w = w
+
+  pub layers-within : All IsLayerWithin (remainder_layers leaf m)
+  layers-within =
+      All-cons IsLayerWithin (one 0 (λ q. nat_lt q m)) (one 1 (λ q. q == m) ∷ one 2 (λ q. q == m + 1) ∷ []) (within 0 (λ q. nat_lt q m))
+      (All-cons IsLayerWithin (one 1 (λ q. q == m)) (one 2 (λ q. q == m + 1) ∷ []) (within 1 (λ q. q == m))
+      (All-cons IsLayerWithin (one 2 (λ q. q == m + 1)) [] (within 2 (λ q. q == m + 1)) (All-nil IsLayerWithin)))
+
+  pub nodes-within : (b : Bool) → AreNodesWithin (remainder_tree leaf m rest b)
+  nodes-within b = tree-within leaf m (leader_node leaf m rest b) formed (is_led coefs m rest low high below formed) (node b)

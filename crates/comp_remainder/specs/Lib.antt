@@ -1,0 +1,2 @@
+pub mod RemainderLayers
+pub mod RemainderProof

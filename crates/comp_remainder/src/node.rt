@@ -1,0 +1,150 @@
+//! The node of a leader that is present.
+
+ghost use Rattle.std.specs.Prelude.{◌≡◌, ◌<◌, ◌≤◌, map, neg_ℤ, length, slice_index_or, false, IfOk};
+ghost use Rattle.std.specs.List.{range_with_len};
+ghost use Rattle.pres_ast.specs.declared.limits.TheConstants.{MODULUS_LIMIT};
+ghost use Rattle.cert_base.specs.FactsAndCases.{states_of, indicator, differs};
+ghost use Rattle.comp_remainder_leaf.specs.RemainderLeaf.{state_count};
+ghost use Rattle.comp_remainder.specs.RemainderProof.{value_of, opened_by, value_node as value_node_of, wrong_node as wrong_node_of, leader_node as node_of, remainder_tree};
+
+use cert_base::Node;
+use comp_remainder_leaf::output;
+use comp_trees::{multipliers, terms, tree, weighed};
+use pop_io::{List, NoMemory};
+use pop_net::Leaf;
+use std::alloc::Global;
+
+/// What a state counts for.
+fn value(modulus: u16, q: u16) -> i64
+    ensures { result ≡ value_of modulus q }
+{
+    if q < modulus { i64::from(q) } else { 0 }
+}
+
+fn values(alloc: Global, modulus: u16) -> Result<Vec<i64>, NoMemory>
+    requires { modulus ≤ MODULUS_LIMIT }
+    ensures { IfOk result (λ values. values.items ≡ map (value_of modulus) (range_with_len 0 (state_count modulus))) }
+{
+    let values = (0..modulus + 2).map(|q| value(modulus, q)).collect(alloc)?;
+    Ok(values)
+}
+
+/// -1 for a state with another output.
+fn sign(leaf: &Leaf, answer: bool, q: u16) -> i64
+    requires { q < length leaf.now.states }
+    ensures { result ≡ neg_ℤ (indicator (differs answer (slice_index_or leaf.now.outputs q false))) }
+{
+    if leaf.output(q) == answer { 0 } else { -1 }
+}
+
+fn signs(alloc: Global, leaf: &Leaf, answer: bool) -> Result<Vec<i64>, NoMemory>
+    ensures { IfOk result (λ signs. signs.items
+        ≡ map (λ q. neg_ℤ (indicator (differs answer (slice_index_or leaf.now.outputs q false)))) (states_of leaf.now)) }
+{
+    let signs = (0..leaf.state_count())
+        .map(|q| sign(leaf, answer, q))
+        .collect(alloc)?;
+    Ok(signs)
+}
+
+/// How often the opened predicate is added.
+fn opened(answer: bool) -> i64
+    ensures { result ≡ opened_by answer }
+{
+    if answer { -1 } else { 0 }
+}
+
+/// The leader's remainder doesn't agree with the opened predicate.
+fn value_node(
+    alloc: Global,
+    leaf: &Leaf,
+    modulus: u16,
+    answer: bool,
+    p: u16,
+) -> Result<Node, NoMemory>
+    requires few { modulus ≤ MODULUS_LIMIT }
+    requires leader { p < modulus }
+    requires states { length leaf.now.states ≡ state_count modulus }
+    ensures { IfOk result (λ node. node ≡ value_node_of leaf.now modulus answer p) }
+{
+    let values = values(alloc, modulus)?;
+    let added = opened(answer);
+    let alone = value(modulus, p);
+    let mixed = multipliers(
+        alloc,
+        leaf,
+        p,
+        values.as_slice(),
+        0,
+        added,
+        values.as_slice(),
+        alone,
+    )?;
+    Ok(Node::Residue(u32::from(modulus), terms(alloc, mixed.as_slice())?))
+}
+
+/// No state with another output is left.
+fn wrong_node(alloc: Global, leaf: &Leaf, answer: bool, p: u16) -> Result<Node, NoMemory>
+    requires { p < length leaf.now.states }
+    ensures { IfOk result (λ node. node ≡ wrong_node_of leaf.now answer p) }
+{
+    let none = vec![in alloc; 0i64; usize::from(leaf.state_count())]?;
+    let signs = signs(alloc, leaf, answer)?;
+    let mixed = multipliers(alloc, leaf, p, none.as_slice(), 1, 0, signs.as_slice(), 0)?;
+    weighed(alloc, mixed.as_slice())
+}
+
+fn leader_node(
+    alloc: Global,
+    leaf: &Leaf,
+    modulus: u16,
+    rest: u16,
+    answer: bool,
+    p: u16,
+) -> Result<Node, NoMemory>
+    requires few { modulus ≤ MODULUS_LIMIT }
+    requires leader { p < modulus }
+    requires states { length leaf.now.states ≡ state_count modulus }
+    ensures { IfOk result (λ node. node ≡ node_of leaf.now modulus rest answer p) }
+{
+    if output(modulus, rest, p) == answer {
+        wrong_node(alloc, leaf, answer, p)
+    } else {
+        value_node(alloc, leaf, modulus, answer, p)
+    }
+}
+
+/// The nodes of all leaders, in order.
+fn ends(
+    alloc: Global,
+    leaf: &Leaf,
+    modulus: u16,
+    rest: u16,
+    answer: bool,
+) -> Result<Vec<Node>, NoMemory>
+    requires few { modulus ≤ MODULUS_LIMIT }
+    requires states { length leaf.now.states ≡ state_count modulus }
+    ensures { IfOk result (λ nodes. nodes.items ≡ map (node_of leaf.now modulus rest answer) (range_with_len 0 modulus)) }
+{
+    let mut nodes = Vec::new(alloc);
+    for p in 0..modulus {
+        nodes.push(leader_node(alloc, leaf, modulus, rest, answer, p)?)?;
+    }
+    Ok(nodes)
+}
+
+/// The tree for an answer.
+pub(crate) fn leaf_tree(
+    alloc: Global,
+    leaf: &Leaf,
+    modulus: u16,
+    rest: u16,
+    answer: bool,
+) -> Result<List<Node>, NoMemory>
+    requires few { modulus ≤ MODULUS_LIMIT }
+    requires states { length leaf.now.states ≡ state_count modulus }
+    ensures { IfOk result (λ nodes. nodes ≡ remainder_tree leaf.now modulus rest answer) }
+{
+    let nodes = ends(alloc, leaf, modulus, rest, answer)?;
+    tree(alloc, leaf, nodes)
+}
