@@ -1,0 +1,4 @@
+pub mod Trees
+pub mod Layers
+pub mod Within
+pub mod Valid

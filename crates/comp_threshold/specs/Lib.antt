@@ -1,0 +1,2 @@
+pub mod ThresholdProof
+pub mod Built

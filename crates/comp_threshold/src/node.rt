@@ -1,0 +1,137 @@
+//! The node of a leader that is present.
+
+ghost use Rattle.std.specs.Prelude.{◌≡◌, ◌<◌, ◌≤◌, ℕ, List, map, neg_ℤ, pos, length, IfOk};
+ghost use Rattle.std.specs.List.{range_with_len};
+ghost use Rattle.cert_base.specs.FactsAndCases.{states_of, indicator, differs};
+ghost use Rattle.comp_threshold_leaf.specs.ThresholdLeaf.{span as span_of, state_count, output_of, built};
+ghost use Rattle.comp_threshold_leaf.specs.declared.limits.TheConstants.{WIDTH_LIMIT};
+ghost use Rattle.comp_threshold.specs.ThresholdProof.{signed_value, leader_node as node_of, wrong_sign, value_node as value_node_of, wrong_node as wrong_node_of, threshold_tree};
+
+use cert_base::Node;
+use comp_threshold_leaf::{output, place_in, span};
+use comp_trees::{multipliers, tree, weighed};
+use pop_io::{List, NoMemory};
+use pop_net::Leaf;
+use std::alloc::Global;
+
+/// The value of a state, with its sign turned in the tree for false.
+fn signed(s: u16, b: bool, q: u16) -> i64
+    requires { s ≤ WIDTH_LIMIT }
+    ensures { result ≡ signed_value b s q }
+{
+    let value = i64::from(place_in(s, q)) - i64::from(s);
+    if b { value } else { -value }
+}
+
+/// The values of all states.
+fn values(alloc: Global, s: u16, b: bool) -> Result<Vec<i64>, NoMemory>
+    requires { s ≤ WIDTH_LIMIT }
+    ensures { IfOk result (λ values. values.items ≡ map (signed_value b s) (range_with_len 0 (state_count s))) }
+{
+    let values = (0..3 * span(s)).map(|q| signed(s, b, q)).collect(alloc)?;
+    Ok(values)
+}
+
+/// -1 for a state with another output than b.
+fn sign(s: u16, t: u16, b: bool, q: u16) -> i64
+    requires { s ≤ WIDTH_LIMIT }
+    ensures { result ≡ wrong_sign s t b q }
+{
+    if output(s, t, q) == b { 0 } else { -1 }
+}
+
+fn signs(alloc: Global, s: u16, t: u16, b: bool) -> Result<Vec<i64>, NoMemory>
+    requires { s ≤ WIDTH_LIMIT }
+    ensures { IfOk result (λ signs. signs.items ≡ map (wrong_sign s t b) (range_with_len 0 (state_count s))) }
+{
+    let signs = (0..3 * span(s)).map(|q| sign(s, t, b, q)).collect(alloc)?;
+    Ok(signs)
+}
+
+/// The leader's value doesn't agree with the opened fact.
+fn value_node(alloc: Global, leaf: &Leaf, s: u16, b: bool, p: u16) -> Result<Node, NoMemory>
+    requires narrow { s ≤ WIDTH_LIMIT }
+    requires leader { p < span_of s }
+    requires states { length leaf.now.states ≡ state_count s }
+    ensures { IfOk result (λ node. node ≡ value_node_of leaf.now s b p) }
+{
+    let values = values(alloc, s, b)?;
+    let alone = signed(s, b, p);
+    let multipliers = multipliers(
+        alloc,
+        leaf,
+        p,
+        values.as_slice(),
+        0,
+        1,
+        values.as_slice(),
+        alone,
+    )?;
+    weighed(alloc, multipliers.as_slice())
+}
+
+/// All states with a wrong output are ruled out.
+fn wrong_node(alloc: Global, leaf: &Leaf, s: u16, t: u16, b: bool, p: u16) -> Result<Node, NoMemory>
+    requires narrow { s ≤ WIDTH_LIMIT }
+    requires leader { p < span_of s }
+    requires states { length leaf.now.states ≡ state_count s }
+    requires outputs { leaf.now.outputs ≡ map (output_of s t) (range_with_len 0 (state_count s)) }
+    ensures { IfOk result (λ node. node ≡ wrong_node_of leaf.now b p) }
+{
+    let none = vec![in alloc; 0i64; usize::from(3 * span(s))]?;
+    let signs = signs(alloc, s, t, b)?;
+    let multipliers = multipliers(alloc, leaf, p, none.as_slice(), 1, 0, signs.as_slice(), 0)?;
+    weighed(alloc, multipliers.as_slice())
+}
+
+fn leader_node(
+    alloc: Global,
+    leaf: &Leaf,
+    s: u16,
+    t: u16,
+    b: bool,
+    p: u16,
+) -> Result<Node, NoMemory>
+    requires narrow { s ≤ WIDTH_LIMIT }
+    requires leader { p < span_of s }
+    requires states { length leaf.now.states ≡ state_count s }
+    requires outputs { leaf.now.outputs ≡ map (output_of s t) (range_with_len 0 (state_count s)) }
+    ensures { IfOk result (λ node. node ≡ node_of leaf.now s t b p) }
+{
+    if output(s, t, p) == b {
+        wrong_node(alloc, leaf, s, t, b, p)
+    } else {
+        value_node(alloc, leaf, s, b, p)
+    }
+}
+
+/// The nodes of all leaders, in order.
+fn ends(alloc: Global, leaf: &Leaf, s: u16, t: u16, b: bool) -> Result<Vec<Node>, NoMemory>
+    requires narrow { s ≤ WIDTH_LIMIT }
+    requires states { length leaf.now.states ≡ state_count s }
+    requires outputs { leaf.now.outputs ≡ map (output_of s t) (range_with_len 0 (state_count s)) }
+    ensures { IfOk result (λ nodes. nodes.items ≡ map (node_of leaf.now s t b) (range_with_len 0 (span_of s))) }
+{
+    let mut nodes = Vec::new(alloc);
+    for p in 0..span(s) {
+        nodes.push(leader_node(alloc, leaf, s, t, b, p)?)?;
+    }
+    Ok(nodes)
+}
+
+/// The tree for b.
+pub(crate) fn leaf_tree(
+    alloc: Global,
+    leaf: &Leaf,
+    s: u16,
+    t: u16,
+    b: bool,
+) -> Result<List<Node>, NoMemory>
+    requires narrow { s ≤ WIDTH_LIMIT }
+    requires states { length leaf.now.states ≡ state_count s }
+    requires outputs { leaf.now.outputs ≡ map (output_of s t) (range_with_len 0 (state_count s)) }
+    ensures { IfOk result (λ nodes. nodes ≡ threshold_tree leaf.now s t b) }
+{
+    let nodes = ends(alloc, leaf, s, t, b)?;
+    tree(alloc, leaf, nodes)
+}

@@ -1,0 +1,78 @@
+//! The leaf with its proof.
+
+ghost use Rattle.std.specs.Prelude.{◌≡◌, ◌≤◌, nat_abs, All, length, IfOk, IfErr};
+ghost use Rattle.pop_io.specs.declared.names.TheConstants.{VARIABLE_LIMIT};
+ghost use Rattle.pres_ast.specs.PredTree.{LessThan};
+ghost use Rattle.pres_ast.specs.declared.limits.TheConstants.{COEFFICIENT_LIMIT, BOUND_LIMIT};
+ghost use Rattle.comp_threshold_leaf.specs.ThresholdLeaf.{width as width_of};
+ghost use Rattle.comp_threshold.specs.Built.{IsThreshold, IsWidthFault};
+
+use crate::fault::ThresholdFault;
+use crate::node::leaf_tree;
+use crate::weights::leaf_layers;
+use cert_base::LeafProof;
+use comp_threshold_leaf::{WIDTH_LIMIT, place, threshold_leaf, width};
+use pop_io::{List, NoMemory};
+use pop_net::Leaf;
+use pres_ast::{Pred, Tree};
+use std::alloc::Global;
+
+fn less(alloc: Global, coefs: &[i64], bound: i64) -> Result<Pred, NoMemory>
+    requires some { 1 ≤ length coefs.now }
+    requires few { length coefs.now ≤ VARIABLE_LIMIT }
+    requires coefs { All (λ a. nat_abs a ≤ COEFFICIENT_LIMIT) coefs.now }
+    requires bound { nat_abs bound ≤ BOUND_LIMIT }
+    ensures { IfOk result (λ pred. pred ≡ record { variables = length coefs.now; tree = LessThan coefs.now bound }) }
+{
+    let tree = Tree::Less {
+        coefs: List::from_vec(Vec::from_slice(alloc, coefs)?),
+        bound,
+    };
+    Ok(Pred::new(coefs.len() as u16, tree))
+}
+
+/// A leaf of this width.
+fn narrow(alloc: Global, coefs: &[i64], bound: i64, s: u16) -> Result<(Leaf, LeafProof), NoMemory>
+    requires width { s ≡ width_of coefs.now bound }
+    requires narrow { s ≤ WIDTH_LIMIT }
+    requires some { 1 ≤ length coefs.now }
+    requires few { length coefs.now ≤ VARIABLE_LIMIT }
+    requires coefs { All (λ a. nat_abs a ≤ COEFFICIENT_LIMIT) coefs.now }
+    requires bound { nat_abs bound ≤ BOUND_LIMIT }
+    ensures { IfOk result (λ both. IsThreshold coefs.now bound both.0 both.1) }
+{
+    let t = place(s, bound);
+    let leaf = threshold_leaf(alloc, coefs, bound, s)?;
+    let pred = less(alloc, coefs, bound)?;
+    let layers = leaf_layers(alloc, &leaf, s)?;
+    let on_true = leaf_tree(alloc, &leaf, s, t, true)?;
+    let on_false = leaf_tree(alloc, &leaf, s, t, false)?;
+    let proof = LeafProof {
+        pred,
+        layers,
+        on_true,
+        on_false,
+    };
+    Ok((leaf, proof))
+}
+
+/// The leaf of `Less` with these coefficients and this bound, and its proof.
+pub fn threshold(
+    alloc: Global,
+    coefs: &[i64],
+    bound: i64,
+) -> Result<(Leaf, LeafProof), ThresholdFault>
+    requires some { 1 ≤ length coefs.now }
+    requires few { length coefs.now ≤ VARIABLE_LIMIT }
+    requires coefs { All (λ a. nat_abs a ≤ COEFFICIENT_LIMIT) coefs.now }
+    requires bound { nat_abs bound ≤ BOUND_LIMIT }
+    ensures built { IfOk result (λ both. IsThreshold coefs.now bound both.0 both.1) }
+    ensures narrow { IfOk result (λ both. width_of coefs.now bound ≤ WIDTH_LIMIT) }
+    ensures wide { IfErr result (IsWidthFault coefs.now bound) }
+{
+    let s = width(coefs, bound);
+    if WIDTH_LIMIT < s {
+        return Err(ThresholdFault::TooWide(s));
+    }
+    Ok(narrow(alloc, coefs, bound, s as u16)?)
+}
