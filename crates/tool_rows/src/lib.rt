@@ -8,6 +8,8 @@ mod check_rows;
 #[cfg(test)]
 mod eval_rows;
 #[cfg(test)]
+mod helper_rows;
+#[cfg(test)]
 mod play_rows;
 #[cfg(test)]
 mod rows;

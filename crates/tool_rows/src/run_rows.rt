@@ -8,7 +8,7 @@ use std::test::Fail;
 /// The words, the crowd line, the journal behind the two input lines, and the status.
 type Run = (&'static str, &'static str, &'static str, Status);
 
-const RUNS: [Run; 7] = [
+const RUNS: [Run; 8] = [
     (
         "run --turns 2",
         "crowd x=1 y=1",
@@ -34,10 +34,16 @@ const RUNS: [Run; 7] = [
         Status::Done,
     ),
     (
-        "run",
-        "crowd y=65536",
-        "run workers 1 shards 16 turns 10000 seed 0\nend\nB 65536\nverdict false\n",
+        "run --turns 0",
+        "crowd x=65536",
+        "run workers 1 shards 16 turns 0 seed 0\nend\nA 65536\nverdict true\n",
         Status::Done,
+    ),
+    (
+        "run --turns 0",
+        "crowd x=65535 y=1",
+        "run workers 1 shards 16 turns 0 seed 0\nend\nA 65535\nB 1\nundecided 0 65535\n",
+        Status::Undecided,
     ),
     (
         "run --seed 9223372036854775807 --shards 1024 --turns 0001 --workers 01",
