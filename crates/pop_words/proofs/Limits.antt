@@ -91,4 +91,4 @@ behind_within (Some WithOptions) words is =
 pub meaning_limits : (words : List (List ℕ)) → IfOk (meaning_of words) HasLimits
 meaning_limits [] = tt
 meaning_limits (first ∷ words) =
-    behind_within (form_named first) words (found (λ row. bytes_eq first row.0) commands (tt, (tt, (tt, (tt, tt)))))
+    behind_within (form_named first) words (found (λ row. bytes_eq first row.0) commands (tt, (tt, (tt, (tt, (tt, (tt, tt)))))))

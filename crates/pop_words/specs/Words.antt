@@ -2,7 +2,7 @@
 use Rattle.std.specs.Prelude.{ℕ, List, [], ◌∷◌, codes, Option, Some, None, option_map, find, Result, Ok, Err}
 use Rattle.std.specs.Str.{bytes_eq}
 use Rattle.pop_words.specs.declared.command.Command.{Command}
-use Rattle.pop_words.specs.declared.command.Command.TheVariants.{Play, Eval, Check, Run}
+use Rattle.pop_words.specs.declared.command.Command.TheVariants.{Play, Eval, Check, Run, Replay, Compile}
 use Rattle.pop_words.specs.declared.command.Usage.{Usage}
 use Rattle.pop_words.specs.declared.command.UsageWhy.TheVariants.{Missing, Unknown}
 use Rattle.pop_words.specs.declared.words.Form.{Form}
@@ -13,7 +13,13 @@ use Rattle.pop_words.specs.declared.spec.RunSpec.{RunSpec}
 -- the words of the commands, and what stands behind each
 abbrev pub commands : List (List ℕ × Form)
 commands =
-    (codes "play", Alone Play) ∷ (codes "eval", Alone Eval) ∷ (codes "check", Alone Check) ∷ (codes "run", WithOptions) ∷ []
+    (codes "play", Alone Play)
+    ∷ (codes "eval", Alone Eval)
+    ∷ (codes "check", Alone Check)
+    ∷ (codes "run", WithOptions)
+    ∷ (codes "replay", Alone Replay)
+    ∷ (codes "compile", Alone Compile)
+    ∷ []
 
 -- the form that a word names, compared whole
 abbrev pub form_named : List ℕ → Option Form
@@ -45,6 +51,8 @@ HasLimits Play = Unit {0}
 HasLimits Eval = Unit {0}
 HasLimits Check = Unit {0}
 HasLimits (Run spec) = IsWithinLimits spec
+HasLimits Replay = Unit {0}
+HasLimits Compile = Unit {0}
 
 abbrev pub FormHasLimits : Form → Type 0
 FormHasLimits (Alone command) = HasLimits command

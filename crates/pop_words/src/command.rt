@@ -10,6 +10,8 @@ pub enum Command {
     Eval,
     Check,
     Run(RunSpec),
+    Replay,
+    Compile,
 }
 
 /// The first bad word, counted from 0, and what is wrong there.

@@ -40,6 +40,8 @@ fn form_of(word: &str) -> Option<Form>
         "eval" => Some(Form::Alone(Command::Eval)),
         "check" => Some(Form::Alone(Command::Check)),
         "run" => Some(Form::WithOptions),
+        "replay" => Some(Form::Alone(Command::Replay)),
+        "compile" => Some(Form::Alone(Command::Compile)),
         _ => None,
     }
 }

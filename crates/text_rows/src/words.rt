@@ -41,11 +41,12 @@ const COMMANDS: [(&[&str], Command); 6] = [
 ];
 
 // Words, the first bad one, and what is wrong there.
-const BAD: [(&[&str], u32, UsageWhy); 14] = [
+const BAD: [(&[&str], u32, UsageWhy); 15] = [
     (&[], 0, UsageWhy::Missing),
     (&["Play"], 0, UsageWhy::Unknown),
     (&["play "], 0, UsageWhy::Unknown),
-    (&["replay"], 0, UsageWhy::Unknown),
+    (&["replays"], 0, UsageWhy::Unknown),
+    (&["compile", "x"], 1, UsageWhy::Unknown),
     (&["eval", "eval"], 1, UsageWhy::Unknown),
     (&["", "play"], 0, UsageWhy::Unknown),
     (&["run", "--turns"], 2, UsageWhy::Missing),
