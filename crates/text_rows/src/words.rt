@@ -25,10 +25,12 @@ const WIDE_RUN: RunSpec = RunSpec {
 
 const SEED: &str = "9223372036854775807";
 
-const COMMANDS: [(&[&str], Command); 6] = [
+const COMMANDS: [(&[&str], Command); 8] = [
     (&["play"], Command::Play),
     (&["eval"], Command::Eval),
     (&["check"], Command::Check),
+    (&["replay"], Command::Replay),
+    (&["compile"], Command::Compile),
     (&["run"], Command::Run(PLAIN_RUN)),
     (
         &["run", "--seed", SEED, "--turns", "00", "--shards", "1024"],
