@@ -1,0 +1,4 @@
+pub mod Postfix
+pub mod Narrow
+pub mod Valid
+pub mod Adding

@@ -1,0 +1,84 @@
+-- Where nothing is wrong with a predicate, its atoms can be built, and they are few enough, also for a wide leaf.
+use Rattle.std.proofs.Common.{◌≡◌, ℕ, ◌+◌, ◌<◌, ◌≤◌, Bool, true, false, not, List, ◌++◌, length, map, subst, refl, ap, sym, ◌∙◌, arith}
+use Rattle.std.specs.Prelude.{None, All, nat_lt, if◌then◌else◌, position}
+use Rattle.std.proofs.lemmas.Bool.{ltb-true, ltb-false, le-ltb, not-true}
+use Rattle.std.proofs.lemmas.List.{length-append, length-map, get_or-map, get_or_append_left, get_or-append-add}
+use Rattle.pop_net.specs.declared.limits.TheConstants.{LEAF_LIMIT, WIDE_LEAF_LIMIT}
+use Rattle.pop_io.specs.declared.names.TheConstants.{VARIABLE_LIMIT}
+use Rattle.pop_net.proofs.FirstFault.{NoneIff, first_of-nil, first_of-cons, none_unless, none_map, none_position}
+use Rattle.pop_net.proofs.LeafFaults.{Decides-le}
+use Rattle.pres_ast.specs.PredTree.{PredTree, LessThan, Congruent, Negation, Conjunction, Disjunction}
+use Rattle.pres_ast.specs.PredModel.{HasAtoms}
+use Rattle.comp_threshold_leaf.specs.declared.limits.TheConstants.{WIDTH_LIMIT}
+use Rattle.comp_net.specs.declared.limits.TheConstants.{NARROW_WIDTH_LIMIT}
+use Rattle.comp_net.specs.declared.fault.CompileFault.TheVariants as fault
+use Rattle.comp_net.specs.Atoms.{atoms, AreBuildable}
+use Rattle.comp_net.specs.CompileFaults.{width_of, widths, first_over, first_wide, fault_by, fault_of}
+
+twice : (b : Bool) → not (not b) ≡ b
+twice true = refl
+twice false = refl
+
+-- no width is over the limit
+none_over : (limit : ℕ) (ws : List ℕ) → NoneIff (first_over limit ws) (All (λ w. w ≤ limit) ws)
+none_over limit ws = (λ e. all.0 (same ∙ e), λ h. sym same ∙ all.1 h)
+  where
+    all : NoneIff (position (λ w. not (not (nat_lt limit w))) ws) (All (λ w. w ≤ limit) ws)
+    all = none_position (λ w. not (nat_lt limit w)) (λ w. w ≤ limit) (λ w. (λ e. ltb-false limit w (not-true _ e), λ l. ap not (le-ltb limit w l))) ws
+
+    same : position (λ w. not (not (nat_lt limit w))) ws ≡ position (λ w. nat_lt limit w) ws
+    same = ap (λ p. position p ws) (λ i w. twice (nat_lt limit w) i)
+
+none_wide : (ws : List ℕ) → NoneIff (first_wide ws) (WIDE_LEAF_LIMIT < length ws → All (λ w. w ≤ NARROW_WIDTH_LIMIT) ws)
+none_wide ws = go (nat_lt WIDE_LEAF_LIMIT (length ws)) refl
+  where
+    go : (many : Bool) → nat_lt WIDE_LEAF_LIMIT (length ws) ≡ many → NoneIff (if many then first_over NARROW_WIDTH_LIMIT ws else None) (WIDE_LEAF_LIMIT < length ws → All (λ w. w ≤ NARROW_WIDTH_LIMIT) ws)
+    go true e = (λ none many. (none_over NARROW_WIDTH_LIMIT ws).0 none, λ h. (none_over NARROW_WIDTH_LIMIT ws).1 (h (ltb-true WIDE_LEAF_LIMIT (length ws) e)))
+    go false e = (λ _ many. absurd (let few = ltb-false WIDE_LEAF_LIMIT (length ws) e in omega (arith, few, many)), λ _. refl)
+
+abbrev KeepsLimits : List ℕ → Type 0
+KeepsLimits ws =
+    (length ws ≤ LEAF_LIMIT) × (All (λ w. w ≤ WIDTH_LIMIT) ws × ((WIDE_LEAF_LIMIT < length ws → All (λ w. w ≤ NARROW_WIDTH_LIMIT) ws) × Unit {0}))
+
+limits_of : (ws : List ℕ) → NoneIff (fault_by ws) (KeepsLimits ws)
+limits_of ws =
+    first_of-cons _ _ (none_unless _ _ (Decides-le (length ws) LEAF_LIMIT))
+    (first_of-cons _ _ (none_map _ _ (none_over WIDTH_LIMIT ws))
+    (first_of-cons _ _ (none_map fault.WideNet _ (none_wide ws)) first_of-nil))
+
+of_atoms : (limit : ℕ) (xs : List PredTree) → All (λ w. w ≤ limit) (map width_of xs) → All (λ a. width_of a ≤ limit) xs
+of_atoms limit xs h k d l =
+    subst (λ w. w ≤ limit) (get_or-map width_of xs k d (width_of d) l) (h k (width_of d) (omega (arith, length-map xs width_of)))
+
+-- what is known of a tree with which nothing is wrong
+pub record KeepsWidths (tree : PredTree) : Type 0 where
+  pub few : length (atoms tree) ≤ LEAF_LIMIT
+  pub narrow : All (λ a. width_of a ≤ WIDTH_LIMIT) (atoms tree)
+  pub not_wide : WIDE_LEAF_LIMIT < length (atoms tree) → All (λ a. width_of a ≤ NARROW_WIDTH_LIMIT) (atoms tree)
+
+pub keeps_widths : (tree : PredTree) → fault_of tree ≡ None → KeepsWidths tree
+keeps_widths tree e =
+    let keeps = (limits_of (widths tree)).0 e in
+    let long = length-map (atoms tree) width_of in
+    record {
+      few = (let l = keeps.0 in omega (arith, long, l));
+      narrow = of_atoms WIDTH_LIMIT (atoms tree) keeps.1.0;
+      not_wide = λ many. of_atoms NARROW_WIDTH_LIMIT (atoms tree) (keeps.1.1.0 (omega (arith, long, many)));
+    }
+
+all_left : {A : Type 0} (P : A → Type 0) (xs ys : List A) → All P (xs ++ ys) → All P xs
+all_left P xs ys h k d l = subst P (get_or_append_left xs ys d k l) (h k d (omega (arith, length-append xs ys)))
+
+all_right : {A : Type 0} (P : A → Type 0) (xs ys : List A) → All P (xs ++ ys) → All P ys
+all_right P xs ys h k d l = subst P (get_or-append-add xs ys k d) (h (length xs + k) d (omega (arith, length-append xs ys)))
+
+pub buildable : (n : ℕ) (tree : PredTree) → 1 ≤ n → n ≤ VARIABLE_LIMIT → HasAtoms n tree → All (λ a. width_of a ≤ WIDTH_LIMIT) (atoms tree) → AreBuildable tree
+buildable n (LessThan coefs bound) some few has narrow =
+    let long = has.0.0 in (((omega arith), (omega arith), has.0.1), has.1, narrow 0 (LessThan coefs bound) (omega arith))
+buildable n (Congruent coefs m rest) some few has narrow =
+    let long = has.0.0 in (((omega arith), (omega arith), has.0.1), has.1, has.2, has.3)
+buildable n (Negation p) some few has narrow = buildable n p some few has narrow
+buildable n (Conjunction p q) some few has narrow =
+    (buildable n p some few has.0 (all_left (λ a. width_of a ≤ WIDTH_LIMIT) (atoms p) (atoms q) narrow), buildable n q some few has.1 (all_right (λ a. width_of a ≤ WIDTH_LIMIT) (atoms p) (atoms q) narrow))
+buildable n (Disjunction p q) some few has narrow =
+    (buildable n p some few has.0 (all_left (λ a. width_of a ≤ WIDTH_LIMIT) (atoms p) (atoms q) narrow), buildable n q some few has.1 (all_right (λ a. width_of a ≤ WIDTH_LIMIT) (atoms p) (atoms q) narrow))

@@ -1,0 +1,47 @@
+-- CompileFaults: which predicates have no built net.
+use Rattle.std.specs.Prelude.{◌≡◌, ◌⊎◌, ℕ, nat_lt, nat_le, if◌then◌else◌, List, [], ◌∷◌, length, map, Option, Some, None, position, slice_index}
+use Rattle.std.specs.Option.{option_map}
+use Rattle.pres_ast.specs.PredTree.{PredTree, LessThan, Congruent, Negation, Conjunction, Disjunction}
+use Rattle.pop_net.specs.declared.limits.TheConstants.{LEAF_LIMIT, WIDE_LEAF_LIMIT}
+use Rattle.pop_net.specs.FirstFault.{unless, first_of}
+use Rattle.comp_threshold_leaf.specs.declared.limits.TheConstants.{WIDTH_LIMIT}
+use Rattle.comp_threshold_leaf.specs.ThresholdLeaf.{width}
+use Rattle.comp_net.specs.Atoms.{atoms}
+use Rattle.comp_net.specs.declared.limits.TheConstants.{NARROW_WIDTH_LIMIT}
+use Rattle.comp_net.specs.declared.fault.CompileFault.{CompileFault}
+use Rattle.comp_net.specs.declared.fault.CompileFault.TheVariants as fault
+
+-- the width of an atom; a remainder has none
+abbrev pub width_of : PredTree → ℕ
+width_of (LessThan coefs bound) = width coefs bound
+width_of (Congruent coefs m rest) = 0
+width_of (Negation p) = 0
+width_of (Conjunction p q) = 0
+width_of (Disjunction p q) = 0
+
+abbrev pub widths : PredTree → List ℕ
+widths tree = map width_of (atoms tree)
+
+-- the first atom whose width is over a limit
+abbrev pub first_over : ℕ → List ℕ → Option ℕ
+first_over limit ws = position (λ w. nat_lt limit w) ws
+
+-- among too many atoms for a wide leaf, the first that makes one
+abbrev pub first_wide : List ℕ → Option ℕ
+first_wide ws = if nat_lt WIDE_LEAF_LIMIT (length ws) then first_over NARROW_WIDTH_LIMIT ws else None
+
+-- the first that is wrong with atoms of these widths
+abbrev pub fault_by : List ℕ → Option CompileFault
+fault_by ws =
+    first_of
+    (unless (nat_le (length ws) LEAF_LIMIT) (fault.ManyAtoms (length ws))
+    ∷ option_map (λ i. fault.TooWide i (slice_index ws i)) (first_over WIDTH_LIMIT ws)
+    ∷ option_map fault.WideNet (first_wide ws)
+    ∷ [])
+
+abbrev pub fault_of : PredTree → Option CompileFault
+fault_of tree = fault_by (widths tree)
+
+-- the fault is the first that the predicate has, unless memory ran out
+abbrev pub RefusesTree : PredTree → CompileFault → Type 0
+RefusesTree tree f = (f ≡ fault.NoMemory) ⊎ (fault_of tree ≡ Some f)

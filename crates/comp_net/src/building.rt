@@ -1,0 +1,160 @@
+//! The net and its proof, put together.
+
+ghost use Rattle.std.specs.Prelude.{◌≡◌, ◌≤◌, ◌<◌, ◌+◌, ◌++◌, ◌∷◌, [], None, map, length, OnOk, IfOk};
+ghost use Rattle.pop_io.specs.Names.{AreNames, is_variable_name};
+ghost use Rattle.pres_ast.specs.TreeOf.{tree_of};
+ghost use Rattle.pres_ast.specs.PredTree.{LessThan, Congruent};
+ghost use Rattle.pop_net.specs.declared.limits.TheConstants.{LEAF_LIMIT};
+ghost use Rattle.pop_net.specs.declared.net.Item.TheVariants.{Leaf as leaf_item};
+ghost use Rattle.pop_net.specs.Reaction.{IsSingle};
+ghost use Rattle.cert_base.specs.ProofLimits.{IsProofWithin};
+ghost use Rattle.cert_base.specs.ValidProof.{ValidProof};
+ghost use Rattle.comp_net.specs.Atoms.{atoms, postfix, AreBuildable};
+ghost use Rattle.comp_net.specs.BuiltNet.{leaf_of, built_net, AddProofs};
+ghost use Rattle.comp_net.specs.CompileFaults.{fault_of as fault_of_tree};
+
+use cert_base::{LeafProof, Proof};
+use comp_remainder::remainder;
+use comp_threshold::{ThresholdFault, threshold};
+use pop_io::{List, NoMemory, Text};
+use pop_net::{Item, Leaf, Net};
+use pres_ast::{Pred, Tree};
+use std::alloc::Global;
+
+/// What was built of the atoms so far: a leaf and a proof for each, and the items that combine them.
+#[derive(Drop)]
+struct Built {
+    leaves: Vec<Leaf>,
+    parts: Vec<LeafProof>,
+    items: Vec<Item>,
+}
+
+impl Built {
+    fn push_atom(&mut self, leaf: Leaf, part: LeafProof) -> Result<(), NoMemory>
+        requires { length self.old.leaves.items < LEAF_LIMIT }
+        ensures leaves { OnOk result (self.new.leaves.items ≡ self.old.leaves.items ++ leaf ∷ []) }
+        ensures parts { OnOk result (self.new.parts.items ≡ self.old.parts.items ++ part ∷ []) }
+        ensures items { OnOk result (self.new.items.items
+            ≡ self.old.items.items ++ leaf_item (length self.old.leaves.items) ∷ []) }
+    {
+        self.items.push(Item::Leaf(self.leaves.len() as u8))?;
+        self.leaves.push(leaf)?;
+        self.parts.push(part)?;
+        Ok(())
+    }
+
+    fn push_less(&mut self, alloc: Global, coefs: &[i64], bound: i64) -> Result<(), NoMemory>
+        requires few { length self.old.leaves.items < LEAF_LIMIT }
+        requires atom { AreBuildable (LessThan coefs.now bound) }
+        ensures leaves { OnOk result (self.new.leaves.items
+            ≡ self.old.leaves.items ++ leaf_of (LessThan coefs.now bound) ∷ []) }
+        ensures parts { OnOk result
+            (AddProofs (LessThan coefs.now bound ∷ []) self.old.parts.items self.new.parts.items) }
+        ensures items { OnOk result (self.new.items.items
+            ≡ self.old.items.items ++ leaf_item (length self.old.leaves.items) ∷ []) }
+    {
+        match threshold(alloc, coefs, bound) {
+            Ok((leaf, part)) => self.push_atom(leaf, part),
+            Err(ThresholdFault::TooWide(_)) => unreachable!(),
+            Err(ThresholdFault::NoMemory) => Err(NoMemory),
+        }
+    }
+
+    fn push_rest(
+        &mut self,
+        alloc: Global,
+        coefs: &[i64],
+        modulus: u32,
+        rest: u32,
+    ) -> Result<(), NoMemory>
+        requires few { length self.old.leaves.items < LEAF_LIMIT }
+        requires atom { AreBuildable (Congruent coefs.now modulus rest) }
+        ensures leaves { OnOk result (self.new.leaves.items
+            ≡ self.old.leaves.items ++ leaf_of (Congruent coefs.now modulus rest) ∷ []) }
+        ensures parts { OnOk result
+            (AddProofs (Congruent coefs.now modulus rest ∷ []) self.old.parts.items self.new.parts.items) }
+        ensures items { OnOk result (self.new.items.items
+            ≡ self.old.items.items ++ leaf_item (length self.old.leaves.items) ∷ []) }
+    {
+        let (leaf, part) = remainder(alloc, coefs, modulus, rest)?;
+        self.push_atom(leaf, part)
+    }
+
+    /// The atoms of a tree from left to right, and the tree in postfix.
+    fn push_tree(&mut self, alloc: Global, tree: &Tree) -> Result<(), NoMemory>
+        requires few { length self.old.leaves.items + length (atoms (tree_of tree.now)) ≤ LEAF_LIMIT }
+        requires atoms { AreBuildable (tree_of tree.now) }
+        ensures leaves { OnOk result (self.new.leaves.items
+            ≡ self.old.leaves.items ++ map leaf_of (atoms (tree_of tree.now))) }
+        ensures parts { OnOk result (AddProofs (atoms (tree_of tree.now)) self.old.parts.items self.new.parts.items) }
+        ensures items { OnOk result (self.new.items.items
+            ≡ self.old.items.items ++ postfix (length self.old.leaves.items) (tree_of tree.now)) }
+    {
+        match tree {
+            Tree::Less { coefs, bound } => self.push_less(alloc, coefs.as_slice(), *bound)?,
+            Tree::Rest {
+                coefs,
+                modulus,
+                rest,
+            } => self.push_rest(alloc, coefs.as_slice(), *modulus, *rest)?,
+            Tree::Not(p) => {
+                self.push_tree(alloc, p)?;
+                self.items.push(Item::Not)?;
+            }
+            Tree::And(p, q) => {
+                self.push_tree(alloc, p)?;
+                self.push_tree(alloc, q)?;
+                self.items.push(Item::And)?;
+            }
+            Tree::Or(p, q) => {
+                self.push_tree(alloc, p)?;
+                self.push_tree(alloc, q)?;
+                self.items.push(Item::Or)?;
+            }
+        }
+        Ok(())
+    }
+}
+
+fn copy_names(alloc: Global, names: &List<Text>) -> Result<List<Text>, NoMemory>
+    ensures { IfOk result (λ copies. copies ≡ names.now) }
+{
+    let mut copies = Vec::new(alloc);
+    for name in names.as_slice() {
+        copies.push(name.copy(alloc)?)?;
+    }
+    Ok(List::from_vec(copies))
+}
+
+/// The built net and its proof, for a predicate that has one.
+pub(crate) fn build(
+    alloc: Global,
+    pred: &Pred,
+    names: &List<Text>,
+) -> Result<(Net, Proof), NoMemory>
+    requires formed { AreNames is_variable_name names.now }
+    requires count { length names.now ≡ pred.now.variables }
+    requires none { fault_of_tree pred.now.tree ≡ None }
+    ensures net { IfOk result (λ both. both.0 ≡ built_net names.now pred.now.tree) }
+    ensures valid { IfOk result (λ both. ValidProof both.0 pred.now both.1) }
+    ensures within { IfOk result (λ both. IsProofWithin pred.now.variables (length both.0.leaves) both.1) }
+    ensures single { IfOk result (λ both. IsSingle both.0) }
+{
+    let mut built = Built {
+        leaves: Vec::new(alloc),
+        parts: Vec::new(alloc),
+        items: Vec::new(alloc),
+    };
+    built.push_tree(alloc, pred.tree())?;
+    let names = copy_names(alloc, names)?;
+    let Built {
+        leaves,
+        parts,
+        items,
+    } = built;
+    let net = Net::of_valid(names, List::from_vec(leaves), List::from_vec(items));
+    let proof = Proof {
+        leaves: List::from_vec(parts),
+    };
+    Ok((net, proof))
+}

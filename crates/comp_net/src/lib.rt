@@ -1,0 +1,17 @@
+//! The compiler: a predicate in, a certified protocol out.
+//! It stands on `comp_threshold` and `comp_remainder`.
+//! The layer above uses: the net is exactly the built one and single, its proof is valid, a refusal has its cause.
+//!
+//! Each atom has a leaf of its own, and all leaves run side by side on the same agents. A leaf computes its atom by its
+//! own proof, and the net's combination of the atoms is the predicate's tree, so the net computes the predicate.
+#![tactic(auto)]
+
+mod building;
+mod fault;
+mod limits;
+mod whole;
+mod widths;
+
+pub use fault::CompileFault;
+pub use limits::NARROW_WIDTH_LIMIT;
+pub use whole::compile;

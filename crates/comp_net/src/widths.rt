@@ -1,0 +1,81 @@
+//! Which predicates have no built net.
+
+ghost use Rattle.std.specs.Prelude.{◌≡◌, ◌≤◌, ◌<◌, ◌++◌, length, OnOk, IfOk, IfSome};
+ghost use Rattle.pres_ast.specs.PredModel.{IsPred};
+ghost use Rattle.pres_ast.specs.TreeOf.{tree_of};
+ghost use Rattle.comp_net.specs.CompileFaults.{widths as widths_of, first_over as first_width, first_wide as first_wide_width, fault_by as fault_in, fault_of as fault_of_tree};
+
+use crate::fault::CompileFault;
+use crate::limits::NARROW_WIDTH_LIMIT;
+use comp_threshold_leaf::{WIDTH_LIMIT, width};
+use pop_io::NoMemory;
+use pop_net::{LEAF_LIMIT, WIDE_LEAF_LIMIT};
+use pres_ast::{Pred, Tree};
+use std::alloc::Global;
+
+/// The first reason not to build a net, if there is one.
+pub(crate) fn fault_of(alloc: Global, pred: &Pred) -> Result<Option<CompileFault>, NoMemory>
+    ensures { IfOk result (λ fault. fault ≡ fault_of_tree pred.now.tree) }
+{
+    let mut widths = Vec::new(alloc);
+    push_widths(&mut widths, pred.tree())?;
+    Ok(fault_by(widths.as_slice()))
+}
+
+/// Adds the width of each atom, from left to right.
+fn push_widths(widths: &mut Vec<u64>, tree: &Tree) -> Result<(), NoMemory>
+    ensures { OnOk result (widths.new.items ≡ widths.old.items ++ widths_of (tree_of tree.now)) }
+{
+    match tree {
+        Tree::Less { coefs, bound } => widths.push(width(coefs.as_slice(), *bound))?,
+        Tree::Rest { .. } => widths.push(0)?,
+        Tree::Not(p) => push_widths(widths, p)?,
+        Tree::And(p, q) => {
+            push_widths(widths, p)?;
+            push_widths(widths, q)?;
+        }
+        Tree::Or(p, q) => {
+            push_widths(widths, p)?;
+            push_widths(widths, q)?;
+        }
+    }
+    Ok(())
+}
+
+/// What is wrong with atoms of these widths.
+fn fault_by(widths: &[u64]) -> Option<CompileFault>
+    requires { length widths.now ≤ 4294967295 }
+    ensures { result ≡ fault_in widths.now }
+{
+    if LEAF_LIMIT < widths.len() {
+        return Some(CompileFault::ManyAtoms(widths.len() as u32));
+    }
+    if let Some(atom) = first_over(widths, WIDTH_LIMIT) {
+        return Some(CompileFault::TooWide {
+            atom: atom as u32,
+            s: widths[atom],
+        });
+    }
+    let atom = first_wide(widths)?;
+    Some(CompileFault::WideNet(atom as u32))
+}
+
+/// The first width over a limit.
+fn first_over(widths: &[u64], limit: u64) -> Option<usize>
+    ensures first { result ≡ first_width limit widths.now }
+    ensures bound { IfSome result (λ i. i < length widths.now) }
+{
+    widths.iter().position(|s| limit < *s)
+}
+
+/// Among too many atoms for a wide leaf, the first that makes one.
+fn first_wide(widths: &[u64]) -> Option<usize>
+    ensures first { result ≡ first_wide_width widths.now }
+    ensures bound { IfSome result (λ i. i < length widths.now) }
+{
+    if WIDE_LEAF_LIMIT < widths.len() {
+        first_over(widths, NARROW_WIDTH_LIMIT)
+    } else {
+        None
+    }
+}
