@@ -1,0 +1,14 @@
+//! A bundle as one line of JSON text, written piece by piece behind what stands in a buffer.
+//! It stands on `net_json` and `cert_json`, whose data it writes, and on `pop_lines`.
+//! The layer above uses: `write_bundle` adds exactly the compact text of the bundle's data.
+#![tactic(auto)]
+
+mod bundle;
+mod leaf;
+mod list;
+mod net;
+mod node;
+mod pieces;
+mod proof;
+
+pub use bundle::write_bundle;
