@@ -1,1 +1,16 @@
 pub mod Texts
+pub mod Due
+pub mod Looks
+pub mod Spelled
+pub mod Holds
+pub mod Steps
+pub mod Walk
+pub mod Counts
+pub mod RoundAt
+pub mod Verdicts
+pub mod FormLaws
+pub mod ReadBack
+pub mod OneSpelling
+pub mod RunLine
+pub mod Feeds
+pub mod Written

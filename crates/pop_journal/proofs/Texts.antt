@@ -38,7 +38,7 @@ next_meeting old meetings i d less =
     ∙ ap text_of (map-append meeting_line (take i meetings) (get_or meetings i d ∷ []))
     ∙ flat_map-append ended (map meeting_line (take i meetings)) (meeting_line (get_or meetings i d) ∷ [])))
 
-round_lines-push : (k : ℕ) (rounds : List (List Meeting)) (meetings : List Meeting) → round_lines k (rounds ++ meetings ∷ []) ≡ round_lines k rounds ++ (round_line (k + length rounds) ∷ map meeting_line meetings)
+pub round_lines-push : (k : ℕ) (rounds : List (List Meeting)) (meetings : List Meeting) → round_lines k (rounds ++ meetings ∷ []) ≡ round_lines k rounds ++ (round_line (k + length rounds) ∷ map meeting_line meetings)
 round_lines-push k [] meetings =
     append-nil (round_line k ∷ map meeting_line meetings) ∙ ap (λ n. round_line n ∷ map meeting_line meetings) (let e : k ≡ k + 0 = omega arith in e)
 round_lines-push k (first ∷ rounds) meetings =

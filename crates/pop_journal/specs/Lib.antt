@@ -1,1 +1,9 @@
 pub mod Journal
+pub mod Ending
+pub mod Expected
+pub mod Rounds
+pub mod Standing
+pub mod Form
+pub mod ReadLines
+pub mod Laws
+pub mod Reasons

@@ -1,10 +1,22 @@
 //! Journals: the lines that tell a run.
 //! It stands on `pair_workers`, `pop_crowd` and `pop_lines`.
-//! The layer above uses: `write_journal` writes exactly `journal_text`.
+//! The layer above uses: `write_journal` writes exactly `journal_text`, `read_journal` reads exactly `journal_in`, `verify` passes exactly if `Holds`.
 #![tactic(auto)]
 
+mod fault;
+mod form;
+mod journal;
 mod last;
+mod law;
+mod read;
+mod replayer;
+mod verdict;
 mod write;
 
+pub use fault::{JournalFault, JournalWhy, VerifyFault};
+pub use journal::{Journal, LINE_LIMIT};
 pub use last::Last;
+pub use law::{one_spelling, written_holds};
+pub use read::read_journal;
+pub use verdict::verify;
 pub use write::write_journal;

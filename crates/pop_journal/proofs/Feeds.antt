@@ -1,0 +1,110 @@
+-- Lines that are ended by line feeds, and cut again.
+use Rattle.std.proofs.Common.{◌≡◌, ℕ, ◌+◌, ◌<◌, ◌≤◌, ◌^◌, ◌==◌, Bool, true, false, List, [], ◌∷◌, ◌++◌, length, map, codes, decimal, All, refl, sym, ap, subst, ◌∙◌, arith, append_assoc, if◌then◌else◌}
+use Rattle.std.specs.Char.{is_ascii_digit}
+use Rattle.std.specs.Str.{all_ascii_digits}
+use Rattle.std.specs.Str.Parse.{digits_value}
+use Rattle.std.specs.List.{list_any, onto_first}
+use Rattle.std.proofs.lemmas.Bool.{and_parts, or_parts, or_from, ne_eqb, false≢true}
+use Rattle.std.proofs.lemmas.Fmt.{digits_decimal}
+use Rattle.std.proofs.lemmas.Str.Parse.{IsNumeralModel, numerals_by_value, tells_all_ascii_digits}
+use Rattle.std.proofs.lemmas.List.Folds.{list_any-append}
+use Rattle.std.proofs.lemmas.List.Elements.{All-head, All-tail}
+use Rattle.std.proofs.lemmas.List.Splits.{slice_split-cons_no, length-slice_split}
+use Rattle.pop_lines.specs.Lines.{pieces, without_last_empty, lines_of, ended}
+use Rattle.pop_lines.proofs.Pieces.{goes_on}
+use Rattle.pop_crowd.specs.declared.crowd.Meeting.{Meeting}
+use Rattle.pop_words.specs.declared.spec.RunSpec.{RunSpec}
+use Rattle.pop_words.specs.Options.{IsWithinLimits}
+use Rattle.pair_workers.specs.Run.{joined}
+use Rattle.pop_journal.specs.Journal.{run_line, round_line, meeting_line, round_lines, run_lines, text_of}
+use Rattle.pop_journal.proofs.Spelled.{IsSmall, mark_of}
+use Rattle.pop_journal.proofs.Holds.{all_parts}
+
+abbrev feed : ℕ → Bool
+feed b = b == 10
+
+-- no line feed stands in these bytes
+abbrev pub IsUnbroken : List ℕ → Type 0
+IsUnbroken line = list_any feed line ≡ false
+
+abbrev pub AreUnbroken : List (List ℕ) → Type 0
+AreUnbroken [] = Unit {0}
+AreUnbroken (line ∷ lines) = IsUnbroken line × AreUnbroken lines
+
+piece_ended : (line rest : List ℕ) → IsUnbroken line → pieces 10 (line ++ 10 ∷ rest) ≡ line ∷ pieces 10 rest
+piece_ended [] rest none = refl
+piece_ended (b ∷ line) rest none =
+    let parts = or_parts (feed b) (list_any feed line) none in
+    slice_split-cons_no feed b (line ++ 10 ∷ rest) parts.0 ∙ ap (onto_first b) (piece_ended line rest parts.1)
+
+line_first : (line rest : List ℕ) → IsUnbroken line → lines_of (ended line ++ rest) ≡ line ∷ lines_of rest
+unfolding lines_of
+line_first line rest none =
+    ap (λ (t : List ℕ). without_last_empty (pieces 10 t)) (append_assoc line (10 ∷ []) rest)
+    ∙ ap without_last_empty (piece_ended line rest none)
+    ∙ goes_on line (pieces 10 rest) (let l = length-slice_split feed rest in omega (arith, l))
+
+-- the lines of a text are those that it was made of
+pub lines_text : (lines : List (List ℕ)) (rest : List ℕ) → AreUnbroken lines → lines_of (text_of lines ++ rest) ≡ lines ++ lines_of rest
+lines_text [] rest all = refl
+lines_text (line ∷ lines) rest all =
+    ap lines_of (append_assoc (ended line) (text_of lines) rest)
+    ∙ line_first line (text_of lines ++ rest) all.0 ∙ ap (λ (ls : List (List ℕ)). line ∷ ls) (lines_text lines rest all.1)
+
+pub unbroken_append : (xs ys : List (List ℕ)) → AreUnbroken xs → AreUnbroken ys → AreUnbroken (xs ++ ys)
+unbroken_append [] ys all more = more
+unbroken_append (x ∷ xs) ys all more = (all.0, unbroken_append xs ys all.1 more)
+
+both_unbroken : (xs ys : List ℕ) → IsUnbroken xs → IsUnbroken ys → IsUnbroken (xs ++ ys)
+both_unbroken xs ys none more = list_any-append feed xs ys ∙ or_from (list_any feed xs) (list_any feed ys) none more
+
+own : IsNumeralModel (λ ds. all_ascii_digits ds ≡ true) (digits_value 10)
+own = numerals_by_value (λ ds. all_ascii_digits ds ≡ true) tells_all_ascii_digits
+
+digits_unbroken : (text : List ℕ) → all_ascii_digits text ≡ true → IsUnbroken text
+digits_unbroken [] digits = refl
+digits_unbroken (c ∷ text) digits =
+    let both = and_parts (is_ascii_digit c) (all_ascii_digits text) digits in
+    or_from (feed c) (list_any feed text) (ne_eqb c 10 (λ same. false≢true (subst (λ (x : ℕ). is_ascii_digit x ≡ true) same both.0))) (digits_unbroken text both.1)
+
+decimal_unbroken : (n : ℕ) → n < 2 ^ 64 → IsUnbroken (decimal n)
+decimal_unbroken n small = digits_unbroken (decimal n) (digits_decimal own n small)
+
+mark_unbroken : (mark : Bool) → IsUnbroken (if mark then codes " *" else [])
+mark_unbroken true = refl
+mark_unbroken false = refl
+
+meeting_unbroken : (m : Meeting) → IsSmall m → IsUnbroken (meeting_line m)
+meeting_unbroken m small =
+    both_unbroken (decimal m.worker ++ (codes " " ++ decimal m.a) ++ (codes " " ++ decimal m.b)) (mark_of m)
+    (both_unbroken (decimal m.worker ++ (codes " " ++ decimal m.a)) (codes " " ++ decimal m.b)
+    (both_unbroken (decimal m.worker) (codes " " ++ decimal m.a) (decimal_unbroken m.worker small.worker) (decimal_unbroken m.a small.a))
+    (decimal_unbroken m.b small.b))
+    (mark_unbroken m.changed)
+
+meetings_unbroken : (ms : List Meeting) → All IsSmall ms → AreUnbroken (map meeting_line ms)
+meetings_unbroken [] all = tt
+meetings_unbroken (m ∷ ms) all = (meeting_unbroken m (All-head IsSmall m ms all), meetings_unbroken ms (All-tail IsSmall m ms all))
+
+rounds_unbroken : (k : ℕ) (rounds : List (List Meeting)) → k + length rounds ≤ 2 ^ 63 → All IsSmall (joined rounds) → AreUnbroken (round_lines k rounds)
+rounds_unbroken k [] few all = tt
+rounds_unbroken k (r ∷ rounds) few all =
+    let parts = all_parts IsSmall r (joined rounds) all in
+    unbroken_append (round_line k ∷ map meeting_line r) (round_lines (k + 1) rounds)
+    (decimal_unbroken k (omega (arith, few)), meetings_unbroken r parts.0)
+    (rounds_unbroken (k + 1) rounds (omega (arith, few)) parts.1)
+
+run_unbroken : (spec : RunSpec) → IsWithinLimits spec → IsUnbroken (run_line spec)
+run_unbroken spec limits =
+    both_unbroken ((codes "run workers " ++ decimal spec.workers) ++ (codes " shards " ++ decimal spec.shards) ++ (codes " turns " ++ decimal spec.turns)) (codes " seed " ++ decimal spec.seed)
+    (both_unbroken ((codes "run workers " ++ decimal spec.workers) ++ (codes " shards " ++ decimal spec.shards)) (codes " turns " ++ decimal spec.turns)
+    (both_unbroken (codes "run workers " ++ decimal spec.workers) (codes " shards " ++ decimal spec.shards)
+    (decimal_unbroken spec.workers (omega (arith, limits.workers.1))) (decimal_unbroken spec.shards (omega (arith, limits.shards.1))))
+    (decimal_unbroken spec.turns (omega (arith, limits.turns.1))))
+    (decimal_unbroken spec.seed (omega (arith, limits.seed.1)))
+
+-- the lines up to `end`
+pub lines_unbroken : (spec : RunSpec) (rounds : List (List Meeting)) → IsWithinLimits spec → length rounds ≤ 2 ^ 62 → All IsSmall (joined rounds) → AreUnbroken (run_lines spec rounds)
+lines_unbroken spec rounds limits few all =
+    unbroken_append (run_line spec ∷ round_lines 1 rounds) (codes "end" ∷ [])
+    (run_unbroken spec limits, rounds_unbroken 1 rounds (omega (arith, few)) all) (refl, tt)

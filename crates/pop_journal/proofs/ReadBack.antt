@@ -1,0 +1,146 @@
+-- What is written is read.
+use Rattle.std.proofs.Common.{◌≡◌, ◌≢◌, ◌⊎◌, inl, inr, ℕ, ◌+◌, ◌*◌, ◌<◌, ◌≤◌, ◌^◌, ◌==◌, ◌&&◌, Bool, true, false, not, nat_lt, List, [], ◌∷◌, ◌++◌, length, map, codes, decimal, Option, Some, None, Result, Ok, Err, All, refl, sym, ap, subst, ◌∙◌, arith, append_assoc, append-nil, length-append, if◌then◌else◌, get_or, set, get_or-set_same, get_or-set_other}
+use Rattle.std.specs.Prelude.{slice_get}
+use Rattle.std.specs.Str.{bytes_eq}
+use Rattle.std.proofs.lemmas.Bool.{and_from, lt-ltb, eq-eqb, ne_eqb, cond-true, cond-false, cases_eq}
+use Rattle.std.proofs.lemmas.Slice.Eq.{bytes_eq-Decides}
+use Rattle.std.proofs.lemmas.List.Elements.{All-head, filter-append}
+use Rattle.std.proofs.Math.Nat.{mul-le-mul}
+use Rattle.pop_lines.proofs.Printed.{printed_number_of-decimal}
+use Rattle.pop_crowd.specs.declared.crowd.Meeting.{Meeting}
+use Rattle.pop_crowd.specs.Replay.{IsMeeting}
+use Rattle.pop_words.specs.declared.spec.RunSpec.{RunSpec}
+use Rattle.pair_workers.specs.Run.{meetings_of, turns_in, joined, IsRound}
+use Rattle.pop_journal.specs.declared.fault.JournalWhy.{JournalWhy}
+use Rattle.pop_journal.specs.declared.fault.JournalWhy.TheVariants.{Form, Worker, Agents, Round}
+use Rattle.pop_journal.specs.Journal.{round_line, meeting_line, round_lines}
+use Rattle.pop_journal.specs.Rounds.{AreRounds}
+use Rattle.pop_journal.specs.Form.{three_numbers, told_words, told_in, Reading, wanted, settled, meeting_told, line_read, Parts, follow, lines_read}
+use Rattle.pop_journal.proofs.Spelled.{IsSmall, meeting_words, mark_words}
+use Rattle.pop_journal.proofs.Counts.{sum_all, sum_each}
+use Rattle.pop_journal.proofs.Due.{own_first, own_last, other_last}
+use Rattle.pop_journal.proofs.Holds.{all_parts}
+
+three_back : (w a b : ℕ) (mark : Bool) → w < 2 ^ 64 → a < 2 ^ 64 → b < 2 ^ 64 → three_numbers (decimal w) (decimal a) (decimal b) mark ≡ Some (w, a, b, mark)
+three_back w a b mark lw la lb = rw (printed_number_of-decimal w lw, printed_number_of-decimal a la, printed_number_of-decimal b lb) refl
+
+words_back : (w a b : ℕ) (mark : Bool) → w < 2 ^ 64 → a < 2 ^ 64 → b < 2 ^ 64 → told_words (decimal w ∷ decimal a ∷ decimal b ∷ mark_words mark) ≡ Some (w, a, b, mark)
+words_back w a b true lw la lb = three_back w a b true lw la lb
+words_back w a b false lw la lb = three_back w a b false lw la lb
+
+-- a meeting line tells its meeting
+pub told_back : (m : Meeting) → IsSmall m → told_in (meeting_line m) ≡ Some (m.worker, m.a, m.b, m.changed)
+unfolding told_in
+told_back m small = ap told_words (meeting_words m small) ∙ words_back m.worker m.a m.b m.changed small.worker small.a small.b
+
+not_end : (k : ℕ) → bytes_eq (round_line k) (codes "end") ≡ false
+not_end k = by_test (bytes_eq (round_line k) (codes "end")) refl
+  where
+    by_test : (b : Bool) → bytes_eq (round_line k) (codes "end") ≡ b → bytes_eq (round_line k) (codes "end") ≡ false
+    by_test false e = e
+    by_test true e = absurd (let same : round_line k ≡ codes "end" = (bytes_eq-Decides (round_line k) (codes "end")).0 e in cc)
+
+slice_get-middle : (done : List (List Meeting)) (r : List Meeting) (rest : List (List Meeting)) → slice_get (done ++ r ∷ rest) (length done) ≡ Some r
+slice_get-middle [] r rest = refl
+slice_get-middle (d ∷ done) r rest = slice_get-middle done r rest
+
+module _ (spec : RunSpec) (agents : ℕ) (some_worker : 1 ≤ spec.workers) (workers : spec.workers ≤ 64) (few : agents < 2 ^ 32) where
+  abbrev InRange : Meeting → Type 0
+  InRange m = IsMeeting agents m
+
+  joined_middle : (done : List (List Meeting)) (r : List Meeting) (rest : List (List Meeting)) → All InRange (joined (done ++ r ∷ rest)) → All InRange r
+  joined_middle [] r rest h = (all_parts InRange r (joined rest) h).0
+  joined_middle (d ∷ done) r rest h = joined_middle done r rest (all_parts InRange d (joined (done ++ r ∷ rest)) h).1
+
+  round_long : (k : ℕ) (r : List Meeting) → IsRound spec k r → length r ≡ spec.workers * turns_in spec k
+  round_long k r h = sym (sum_all spec.workers r h.nobody_else) ∙ sum_each spec.workers (turns_in spec k) r h.each_worker
+
+  -- a meeting of a round, behind those before it
+  meeting_read : (rounds : List (List Meeting)) (pre post : List Meeting) (m : Meeting) → IsRound spec (length rounds + 1) (pre ++ m ∷ post) → All InRange (pre ++ m ∷ post)
+      → line_read spec agents (rounds, Some pre) (meeting_line m) ≡ Ok (Some (settled spec rounds (pre ++ m ∷ [])))
+  meeting_read rounds pre post m round range =
+      let turns = turns_in spec (length rounds + 1) in
+      let meets = All-head InRange m post (all_parts InRange pre (m ∷ post) range).1 in
+      let below : m.worker < spec.workers = All-head (λ (o : Meeting). o.worker < spec.workers) m post (all_parts (λ (o : Meeting). o.worker < spec.workers) pre (m ∷ post) round.nobody_else).1 in
+      let small : IsSmall m = record { worker = omega (arith, below, workers); a = (let l : m.a < agents = meets.first in omega (arith, l, few)); b = (let l : m.b < agents = meets.second in omega (arith, l, few)) } in
+      let mine = meetings_of m.worker pre in
+      let whole : length (mine ++ meetings_of m.worker (m ∷ post)) ≡ turns = ap length (sym (filter-append (λ (o : Meeting). o.worker == m.worker) pre (m ∷ post))) ∙ round.each_worker m.worker below in
+      let first = ap length (own_first m.worker m post refl) in
+      let room : length mine < turns = omega (arith, whole, first, length-append mine (meetings_of m.worker (m ∷ post))) in
+      let done : Result (Option Reading) JournalWhy = Ok (Some (settled spec rounds (pre ++ m ∷ []))) in
+      let apart = not (m.a == m.b) && (nat_lt m.a agents && nat_lt m.b agents) in
+      ap (meeting_told spec agents rounds pre) (told_back m small)
+      ∙ cond-true (nat_lt m.worker spec.workers && nat_lt (length mine) turns) (if apart then done else Err Agents) (Err Worker)
+      (and_from (nat_lt m.worker spec.workers) (nat_lt (length mine) turns) (lt-ltb m.worker spec.workers below) (lt-ltb (length mine) turns room))
+      ∙ cond-true apart done (Err Agents)
+      (and_from (not (m.a == m.b)) (nat_lt m.a agents && nat_lt m.b agents) (ap not (ne_eqb m.a m.b meets.different))
+      (and_from (nat_lt m.a agents) (nat_lt m.b agents) (lt-ltb m.a agents meets.first) (lt-ltb m.b agents meets.second)))
+
+  pub settled_full : (rounds : List (List Meeting)) (r : List Meeting) → length r ≡ wanted spec rounds → settled spec rounds r ≡ (rounds ++ r ∷ [], None)
+  settled_full rounds r e = cond-true (length r == wanted spec rounds) (let d : Reading = (rounds ++ r ∷ [], None) in d) (rounds, Some r) (eq-eqb (length r) (wanted spec rounds) e)
+
+  pub settled_open : (rounds : List (List Meeting)) (r : List Meeting) → length r < wanted spec rounds → settled spec rounds r ≡ (rounds, Some r)
+  settled_open rounds r l = cond-false (length r == wanted spec rounds) (let d : Reading = (rounds ++ r ∷ [], None) in d) (rounds, Some r) (ne_eqb (length r) (wanted spec rounds) (λ e. omega (arith, e, l)))
+
+  -- the lines behind a line that was read
+  pub on_with : (number : ℕ) (reading next : Reading) (line : List ℕ) (lines : List (List ℕ)) → line_read spec agents reading line ≡ Ok (Some next) → lines_read spec agents number reading (line ∷ lines) ≡ lines_read spec agents (number + 1) next lines
+  on_with number reading next line lines e = ap (follow number (reading.0, lines) (λ n. lines_read spec agents (number + 1) n lines)) e
+
+  -- the rest of a round
+  rest_read : (number : ℕ) (rounds : List (List Meeting)) (pre : List Meeting) (m : Meeting) (post : List Meeting) (lines : List (List ℕ)) → IsRound spec (length rounds + 1) (pre ++ m ∷ post) → All InRange (pre ++ m ∷ post)
+      → lines_read spec agents number (rounds, Some pre) (map meeting_line (m ∷ post) ++ lines) ≡ lines_read spec agents (number + length (m ∷ post)) (rounds ++ (pre ++ m ∷ post) ∷ [], None) lines
+  rest_read number rounds pre m [] lines round range =
+      on_with number (rounds, Some pre) (rounds ++ (pre ++ m ∷ []) ∷ [], None) (meeting_line m) lines
+      (meeting_read rounds pre [] m round range ∙ ap (λ (n : Reading). Ok (Some n)) (settled_full rounds (pre ++ m ∷ []) (round_long (length rounds + 1) (pre ++ m ∷ []) round)))
+  rest_read number rounds pre m (o ∷ post) lines round range =
+      let long = round_long (length rounds + 1) (pre ++ m ∷ o ∷ post) round in
+      let short : length (pre ++ m ∷ []) < wanted spec rounds = omega (arith, long, length-append pre (m ∷ o ∷ post), length-append pre (m ∷ [])) in
+      let same : pre ++ m ∷ [] ++ o ∷ post ≡ pre ++ m ∷ o ∷ post = append_assoc pre (m ∷ []) (o ∷ post) in
+      on_with number (rounds, Some pre) (rounds, Some (pre ++ m ∷ [])) (meeting_line m) (map meeting_line (o ∷ post) ++ lines)
+      (meeting_read rounds pre (o ∷ post) m round range ∙ ap (λ (n : Reading). Ok (Some n)) (settled_open rounds (pre ++ m ∷ []) short))
+      ∙ rest_read (number + 1) rounds (pre ++ m ∷ []) o post lines (subst (IsRound spec (length rounds + 1)) (sym same) round) (subst (All InRange) (sym same) range)
+      ∙ ap (λ (t : ℕ × List Meeting). lines_read spec agents t.0 (rounds ++ t.1 ∷ [], None) lines) (λ i. ((let e : number + 1 + length (o ∷ post) ≡ number + length (m ∷ o ∷ post) = omega arith in e) i, same i))
+
+  -- a whole round
+  round_read : (number : ℕ) (rounds : List (List Meeting)) (r : List Meeting) (lines : List (List ℕ)) → IsRound spec (length rounds + 1) r → All InRange r
+      → lines_read spec agents number (rounds, None) ((round_line (length rounds + 1) ∷ map meeting_line r) ++ lines) ≡ lines_read spec agents (number + 1 + length r) (rounds ++ r ∷ [], None) lines
+  round_read number rounds [] lines round range =
+      let none = round_long (length rounds + 1) [] round in
+      absurd (omega (arith, none, mul-le-mul some_worker round.some_turn))
+  round_read number rounds (m ∷ r) lines round range =
+      let k = length rounds + 1 in
+      let opened : Result (Option Reading) JournalWhy = Ok (Some (rounds, Some [])) in
+      on_with number (rounds, None) (rounds, Some []) (round_line k) (map meeting_line (m ∷ r) ++ lines)
+      (cond-false (bytes_eq (round_line k) (codes "end")) (Ok None) (if bytes_eq (round_line k) (round_line k) then if turns_in spec k == 0 then Err Round else opened else Err Form) (not_end k)
+      ∙ cond-true (bytes_eq (round_line k) (round_line k)) (if turns_in spec k == 0 then Err Round else opened) (Err Form) ((bytes_eq-Decides (round_line k) (round_line k)).1 refl)
+      ∙ cond-false (turns_in spec k == 0) (Err Round) opened (ne_eqb (turns_in spec k) 0 (λ e. omega (arith, e, round.some_turn))))
+      ∙ rest_read (number + 1) rounds [] m r lines round range
+
+  -- all rounds, `end`, and the tail
+  pub rounds_read : (number : ℕ) (done rest : List (List Meeting)) (tail : List (List ℕ)) → AreRounds spec agents (done ++ rest) → lines_read spec agents number (done, None) (round_lines (length done + 1) rest ++ codes "end" ∷ tail) ≡ Ok (done ++ rest, tail)
+  rounds_read number done [] tail form = ap (λ (d : List (List Meeting)). Ok (let p : Parts = (d, tail) in p)) (sym (append-nil done))
+  rounds_read number done (r ∷ rest) tail form =
+      let k = length done + 1 in
+      let same : done ++ r ∷ [] ++ rest ≡ done ++ r ∷ rest = append_assoc done (r ∷ []) rest in
+      let next : length (done ++ r ∷ []) + 1 ≡ k + 1 = (let l = length-append done (r ∷ []) in omega (arith, l)) in
+      ap (lines_read spec agents number (done, None)) (append_assoc (round_line k ∷ map meeting_line r) (round_lines (k + 1) rest) (codes "end" ∷ tail))
+      ∙ round_read number done r (round_lines (k + 1) rest ++ codes "end" ∷ tail) (form.whole (length done) r (slice_get-middle done r rest)) (joined_middle done r rest form.meetings)
+      ∙ ap (λ (n : ℕ). lines_read spec agents (number + 1 + length r) (done ++ r ∷ [], None) (round_lines n rest ++ codes "end" ∷ tail)) (sym next)
+      ∙ rounds_read (number + 1 + length r) (done ++ r ∷ []) rest tail (subst (AreRounds spec agents) (sym same) form)
+      ∙ ap (λ (d : List (List Meeting)). Ok (let p : Parts = (d, tail) in p)) same
+
+  -- one line more of an open round
+  pub read_next : (number : ℕ) (rounds : List (List Meeting)) (ms : List Meeting) (next : Reading) (line : List ℕ) (lines : List (List ℕ)) → length ms < wanted spec rounds → line_read spec agents (rounds, Some ms) line ≡ Ok (Some next)
+      → lines_read spec agents number (settled spec rounds ms) (line ∷ lines) ≡ lines_read spec agents (number + 1) next lines
+  read_next number rounds ms next line lines short e =
+      ap (λ (r : Reading). lines_read spec agents number r (line ∷ lines)) (settled_open rounds ms short) ∙ on_with number (rounds, Some ms) next line lines e
+
+pub counts_next : (workers : ℕ) (ms : List Meeting) (m : Meeting) (old : List ℕ) (v : ℕ) → m.worker < length old → ((w d : ℕ) → w < workers → get_or old w d ≡ length (meetings_of w ms)) → v ≡ get_or old m.worker v → (w d : ℕ) → w < workers → get_or (set old m.worker (v + 1)) w d ≡ length (meetings_of w (ms ++ m ∷ []))
+counts_next workers ms m old v within counts is w d l = by_worker (cases_eq m.worker w)
+  where
+    by_worker : (m.worker ≡ w) ⊎ (m.worker ≢ w) → get_or (set old m.worker (v + 1)) w d ≡ length (meetings_of w (ms ++ m ∷ []))
+    by_worker (inl e) =
+        let here : get_or (set old m.worker (v + 1)) w d ≡ v + 1 = ap (λ (u : ℕ). get_or (set old m.worker (v + 1)) u d) (sym e) ∙ get_or-set_same old m.worker (v + 1) d within in
+        let was : v ≡ length (meetings_of w ms) = is ∙ ap (λ (u : ℕ). get_or old u v) e ∙ counts w v l in
+        let more = own_last w m ms e in omega (arith, here, was, more)
+    by_worker (inr e) = get_or-set_other old m.worker w (v + 1) d (λ g. e (sym g)) ∙ counts w d l ∙ sym (other_last w m ms e)

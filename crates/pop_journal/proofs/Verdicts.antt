@@ -1,0 +1,67 @@
+-- A journal passes exactly where it holds.
+use Rattle.std.proofs.Common.{◌≡◌, ◌≤◌, ◌+◌, ℕ, length, subst, sym, ap, refl, ◌∙◌, arith, List, All}
+use Rattle.std.specs.Prelude.{Some, None, Result, Ok, Err, IfOk, IfErr}
+use Rattle.std.proofs.lemmas.List.{length-map}
+use Rattle.pop_net.specs.declared.net.Word.{Word}
+use Rattle.pop_io.specs.declared.gate.TheConstants.{WORKER_LIMIT}
+use Rattle.pop_net.specs.NetModel.{NetModel, CrowdModel, IsTuple}
+use Rattle.pop_net.specs.Lanes.{crowd_of, tuple_of}
+use Rattle.pop_lines.specs.Lines.{lines_of}
+use Rattle.pop_crowd.specs.declared.limits.TheConstants.{AGENT_LEAST, AGENT_LIMIT}
+use Rattle.pop_crowd.proofs.Words.{crowd_tuples}
+use Rattle.pop_words.specs.Options.{IsWithinLimits}
+use Rattle.pop_journal.specs.declared.fault.VerifyFault.{VerifyFault}
+use Rattle.pop_journal.specs.declared.fault.VerifyFault.TheVariants.{Differs, NoMemory}
+use Rattle.pop_journal.specs.declared.journal.Journal.{Journal}
+use Rattle.pop_journal.specs.Rounds.{AreRounds}
+use Rattle.pop_journal.specs.Expected.{Difference, first_difference, journal_compared, tail_text, Holds}
+use Rattle.pop_journal.specs.Standing.{Passes}
+use Rattle.pop_journal.proofs.Holds.{run_of_none, none_of_run}
+
+module _ (net : NetModel) (start : CrowdModel) (journal : Journal) (two : AGENT_LEAST ≤ length start) (few : length start ≤ AGENT_LIMIT) (workers : journal.spec.workers ≤ WORKER_LIMIT) (tuples : All (IsTuple net) start) (form : AreRounds journal.spec (length start) journal.rounds) where
+  -- a journal in form without a difference holds
+  pub none_held : first_difference (journal.first + 1) (journal_compared net start journal) ≡ None → Holds net start journal
+  none_held e =
+      let both = run_of_none net start journal.spec two few workers tuples journal.rounds form (journal.first + 1) journal.tail e in (_, both.0, both.1)
+
+  pub held_none : Holds net start journal → first_difference (journal.first + 1) (journal_compared net start journal) ≡ None
+  held_none holds =
+      none_of_run net start journal.spec two few workers tuples journal.rounds form (journal.first + 1) journal.tail holds.0 holds.1
+      (holds.2 ∙ ap (λ (c : CrowdModel). lines_of (tail_text net c)) (sym holds.1.replays))
+
+module _ (net : NetModel) (words : List Word) (journal : Journal) (r : Result ℕ VerifyFault) (limits : IsWithinLimits journal.spec) (form : AreRounds journal.spec (length words) journal.rounds) (two : AGENT_LEAST ≤ length words) (few : length words ≤ AGENT_LIMIT) where
+  abbrev start : CrowdModel
+  start = crowd_of net words
+
+  same : length start ≡ length words
+  same = length-map words (tuple_of net)
+
+  rounds_form : AreRounds journal.spec (length start) journal.rounds
+  rounds_form = subst (λ (n : ℕ). AreRounds journal.spec n journal.rounds) (sym same) form
+
+  more : AGENT_LEAST ≤ length start
+  more = omega (arith, same, two)
+
+  fewer : length start ≤ AGENT_LIMIT
+  fewer = omega (arith, same, few)
+
+  pub holds_where : Passes (journal.first + 1) (journal_compared net start journal) r → IfOk r (λ _. Holds net start journal)
+  holds_where h = by_result r h
+    where
+      by_result : (s : Result ℕ VerifyFault) → Passes (journal.first + 1) (journal_compared net start journal) s → IfOk s (λ _. Holds net start journal)
+      by_result (Ok n) e =
+          none_held net start journal more fewer limits.workers.1 (crowd_tuples net words) rounds_form e
+      by_result (Err (Differs line kept found)) e = tt
+      by_result (Err NoMemory) e = tt
+
+  pub fails_where : Passes (journal.first + 1) (journal_compared net start journal) r → Holds net start journal → IfErr r (λ fault. fault ≡ NoMemory)
+  fails_where h holds = by_result r h
+    where
+      none : first_difference (journal.first + 1) (journal_compared net start journal) ≡ None
+      none =
+          held_none net start journal more fewer limits.workers.1 (crowd_tuples net words) rounds_form holds
+
+      by_result : (s : Result ℕ VerifyFault) → Passes (journal.first + 1) (journal_compared net start journal) s → IfErr s (λ fault. fault ≡ NoMemory)
+      by_result (Ok n) e = tt
+      by_result (Err (Differs line kept found)) e = let both : None ≡ Some (let d : Difference = record { line = line; kept = kept; found = found } in d) = sym none ∙ e in absurd cc
+      by_result (Err NoMemory) e = refl

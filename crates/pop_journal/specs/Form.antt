@@ -1,0 +1,121 @@
+-- The form of a journal, line by line.
+use Rattle.std.specs.Prelude.{ℕ, ◌+◌, ◌*◌, ◌==◌, ◌&&◌, not, nat_lt, nat_le, Bool, true, false, List, [], ◌∷◌, ◌++◌, length, codes, Option, Some, None, option_map, option_and_then, Result, Ok, Err, if◌then◌else◌}
+use Rattle.std.specs.Str.{bytes_eq}
+use Rattle.pop_lines.specs.Lines.{pieces}
+use Rattle.pop_lines.specs.Numbers.{printed_number_of, printed_within}
+use Rattle.pop_crowd.specs.declared.crowd.Meeting.{Meeting}
+use Rattle.pop_io.specs.declared.gate.TheConstants.{WORKER_LIMIT, SHARD_LIMIT}
+use Rattle.pop_words.specs.declared.spec.TheConstants.{TURN_LIMIT, MEETING_LIMIT, SEED_LIMIT}
+use Rattle.pop_words.specs.declared.spec.RunSpec.{RunSpec}
+use Rattle.pair_workers.specs.Run.{meetings_of, turns_in}
+use Rattle.pop_journal.specs.Journal.{round_line}
+use Rattle.pop_journal.specs.declared.fault.JournalWhy.{JournalWhy}
+use Rattle.pop_journal.specs.declared.fault.JournalWhy.TheVariants.{Missing, Form, Worker, Agents, Round}
+
+-- a name, and behind it a number in its printed form and within these limits, with the words behind both
+abbrev pub number_named : List ℕ → ℕ → ℕ → List (List ℕ) → Option (ℕ × List (List ℕ))
+number_named name least most (word ∷ number ∷ more) = if bytes_eq word name then option_map (λ n. (n, more)) (printed_within least most number) else None
+number_named name least most _ = None
+
+abbrev pub at_the_end : RunSpec → List (List ℕ) → Option RunSpec
+at_the_end spec [] = if nat_le (spec.workers * spec.turns) MEETING_LIMIT then Some spec else None
+at_the_end spec (word ∷ more) = None
+
+-- the numbers of the first line; workers times turns are within their limit
+abbrev pub spec_words : List (List ℕ) → Option RunSpec
+spec_words [] = None
+spec_words (first ∷ words) =
+    if bytes_eq first (codes "run")
+    then option_and_then
+    (λ w. option_and_then
+    (λ s. option_and_then
+    (λ t. option_and_then
+    (λ n. at_the_end (record { workers = w.0; shards = s.0; turns = t.0; seed = n.0 }) n.1)
+    (number_named (codes "seed") 0 SEED_LIMIT t.1))
+    (number_named (codes "turns") 0 TURN_LIMIT s.1))
+    (number_named (codes "shards") 1 SHARD_LIMIT w.1))
+    (number_named (codes "workers") 1 WORKER_LIMIT words)
+    else None
+
+unfoldable pub spec_in : List ℕ → Option RunSpec
+spec_in line = spec_words (pieces 32 line)
+
+-- the three numbers of a meeting line, of any value, and whether there is a mark
+abbrev pub Told : Type 0
+Told = ℕ × ℕ × ℕ × Bool
+
+abbrev pub three_numbers : List ℕ → List ℕ → List ℕ → Bool → Option Told
+three_numbers w a b mark =
+    option_and_then (λ worker. option_and_then (λ first. option_map (λ second. (worker, first, second, mark)) (printed_number_of b)) (printed_number_of a)) (printed_number_of w)
+
+abbrev pub told_words : List (List ℕ) → Option Told
+told_words (w ∷ a ∷ b ∷ []) = three_numbers w a b false
+told_words (w ∷ a ∷ b ∷ star ∷ []) = if bytes_eq star (codes "*") then three_numbers w a b true else None
+told_words _ = None
+
+unfoldable pub told_in : List ℕ → Option Told
+told_in line = told_words (pieces 32 line)
+
+-- the whole rounds so far, and the meetings of a round that lacks some
+abbrev pub Reading : Type 0
+Reading = List (List Meeting) × Option (List Meeting)
+
+-- how many meetings the round behind these has
+abbrev pub wanted : RunSpec → List (List Meeting) → ℕ
+wanted spec rounds = spec.workers * turns_in spec (length rounds + 1)
+
+abbrev pub settled : RunSpec → List (List Meeting) → List Meeting → Reading
+settled spec rounds meetings = if length meetings == wanted spec rounds then (rounds ++ meetings ∷ [], None) else (rounds, Some meetings)
+
+-- a worker that lacks meetings of this round, and then two different agents
+abbrev pub meeting_told : RunSpec → ℕ → List (List Meeting) → List Meeting → Option Told → Result (Option Reading) JournalWhy
+meeting_told spec agents rounds meetings None = Err Form
+meeting_told spec agents rounds meetings (Some (w, a, b, mark)) =
+    if nat_lt w spec.workers && nat_lt (length (meetings_of w meetings)) (turns_in spec (length rounds + 1))
+    then if not (a == b) && (nat_lt a agents && nat_lt b agents) then Ok (Some (settled spec rounds (meetings ++ record { worker = w; a = a; b = b; changed = mark } ∷ []))) else Err Agents
+    else Err Worker
+
+-- a reading with one meeting more, where a line gave one
+abbrev pub onward : RunSpec → List (List Meeting) → List Meeting → Result Meeting JournalWhy → Result (Option Reading) JournalWhy
+onward spec rounds meetings (Ok m) = Ok (Some (settled spec rounds (meetings ++ m ∷ [])))
+onward spec rounds meetings (Err why) = Err why
+
+-- what one line makes of a reading: nothing more where it is `end`
+abbrev pub line_read : RunSpec → ℕ → Reading → List ℕ → Result (Option Reading) JournalWhy
+line_read spec agents (rounds, None) line =
+    if bytes_eq line (codes "end")
+    then Ok None
+    else if bytes_eq line (round_line (length rounds + 1)) then if turns_in spec (length rounds + 1) == 0 then Err Round else Ok (Some (rounds, Some [])) else Err Form
+line_read spec agents (rounds, Some meetings) line = meeting_told spec agents rounds meetings (told_in line)
+
+-- the first line out of form, and why
+abbrev pub Out : Type 0
+Out = ℕ × JournalWhy
+
+-- the rounds, and the lines behind `end`
+abbrev pub Parts : Type 0
+Parts = List (List Meeting) × List (List ℕ)
+
+abbrev pub follow : ℕ → Parts → (Reading → Result Parts Out) → Result (Option Reading) JournalWhy → Result Parts Out
+follow number ended on (Err why) = Err (number, why)
+follow number ended on (Ok None) = Ok ended
+follow number ended on (Ok (Some next)) = on next
+
+-- the lines from this number on
+abbrev pub lines_read : RunSpec → ℕ → ℕ → Reading → List (List ℕ) → Result Parts Out
+lines_read spec agents number reading [] = Err (number, Missing)
+lines_read spec agents number reading (line ∷ lines) =
+    follow number (reading.0, lines) (λ next. lines_read spec agents (number + 1) next lines) (line_read spec agents reading line)
+
+abbrev pub under : RunSpec → Result Parts Out → Result (RunSpec × Parts) Out
+under spec (Ok parts) = Ok (spec, parts)
+under spec (Err out) = Err out
+
+abbrev pub with_spec : ℕ → ℕ → List (List ℕ) → Option RunSpec → Result (RunSpec × Parts) Out
+with_spec agents first lines None = Err (first, Form)
+with_spec agents first lines (Some spec) = under spec (lines_read spec agents (first + 1) ([], None) lines)
+
+-- what a text's lines tell
+abbrev pub journal_in : ℕ → ℕ → List (List ℕ) → Result (RunSpec × Parts) Out
+journal_in agents first [] = Err (first, Missing)
+journal_in agents first (line ∷ lines) = with_spec agents first lines (spec_in line)

@@ -1,0 +1,45 @@
+-- Laws on journals: a text that is read and holds has one spelling, and the text that is written of a run is read and holds.
+use Rattle.std.specs.Prelude.{◌≡◌, ℕ, ◌*◌, ◌<◌, ◌≤◌, ◌^◌, List, [], ◌∷◌, ◌++◌, length, Ok}
+use Rattle.pop_lines.specs.Lines.{lines_of}
+use Rattle.pop_net.specs.NetModel.{NetModel, CrowdModel}
+use Rattle.pop_crowd.specs.declared.limits.TheConstants.{AGENT_LEAST, AGENT_LIMIT}
+use Rattle.pop_crowd.specs.declared.crowd.Meeting.{Meeting}
+use Rattle.pop_crowd.specs.Replay.{replay}
+use Rattle.pop_words.specs.declared.spec.TheConstants.{MEETING_LIMIT}
+use Rattle.pop_words.specs.declared.spec.RunSpec.{RunSpec}
+use Rattle.pop_words.specs.Options.{IsWithinLimits}
+use Rattle.pair_workers.specs.Run.{joined, IsRun}
+use Rattle.pop_journal.specs.declared.journal.Journal.{Journal}
+use Rattle.pop_journal.specs.Journal.{journal_text}
+use Rattle.pop_journal.specs.Ending.{ending_of}
+use Rattle.pop_journal.specs.Expected.{tail_text, Holds}
+use Rattle.pop_journal.specs.Form.{journal_in}
+use Rattle.pop_journal.specs.ReadLines.{ReadsJournal}
+
+-- the text that is written of a run with this end
+abbrev pub text_ended : NetModel → RunSpec → List (List Meeting) → CrowdModel → List ℕ
+text_ended net spec rounds end = journal_text net spec rounds end (ending_of net end)
+
+-- the text that is written of a journal's run
+abbrev pub text_held : NetModel → CrowdModel → Journal → List ℕ
+text_held net start journal = text_ended net journal.spec journal.rounds (replay net (joined journal.rounds) start)
+
+-- A journal that was read from a text with a line feed at its end, and that holds, has no other text.
+abbrev pub IsOneSpelling : Type 0
+IsOneSpelling =
+    (net : NetModel) (start : CrowdModel) (agents first : ℕ) (body : List ℕ) (journal : Journal) → agents < 2 ^ 32
+    → ReadsJournal agents first (lines_of (body ++ 10 ∷ [])) (Ok journal) → Holds net start journal → body ++ 10 ∷ [] ≡ text_held net start journal
+
+-- the text that is written of a run is read back
+abbrev pub IsReadBack : NetModel → CrowdModel → RunSpec → List (List Meeting) → CrowdModel → ℕ → Type 0
+IsReadBack net start spec rounds end first =
+    journal_in (length start) first (lines_of (text_ended net spec rounds end)) ≡ Ok (spec, (rounds, lines_of (tail_text net end)))
+
+-- The text that is written of a run is read back to a journal that holds.
+abbrev pub IsWrittenHeld : Type 0
+IsWrittenHeld =
+    (net : NetModel) (start : CrowdModel) (spec : RunSpec) (rounds : List (List Meeting)) (end : CrowdModel) (first : ℕ)
+    → AGENT_LEAST ≤ length start → length start ≤ AGENT_LIMIT → IsWithinLimits spec → spec.workers * spec.turns ≤ MEETING_LIMIT
+    → IsRun net start spec rounds end
+    → IsReadBack net start spec rounds end first
+    × Holds net start (record { spec = spec; rounds = rounds; tail = lines_of (tail_text net end); first = first })

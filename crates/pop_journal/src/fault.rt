@@ -1,0 +1,104 @@
+//! What is wrong with a journal.
+
+ghost use Rattle.std.specs.Prelude.{◌≡◌};
+ghost use Rattle.pop_journal.specs.declared.fault.JournalFault.TheVariants.{NoMemory as ReadNoMemory};
+ghost use Rattle.pop_journal.specs.declared.fault.VerifyFault.TheVariants.{NoMemory as OutOfMemory};
+
+use pop_io::{List, NoMemory};
+use std::alloc::{AllocError, AllocFailed};
+use std::fmt;
+
+/// Why a line is out of form.
+#[derive(Clone, Copy, Debug, PartialEq, Eq)]
+pub enum JournalWhy {
+    /// There is no such line.
+    Missing,
+    /// The line is malformed.
+    Form,
+    /// A meeting line names a worker that is not there, or that has all its meetings of the round.
+    Worker,
+    /// A meeting line names agents that are not there, or one agent twice.
+    Agents,
+    /// A round begins after all turns are spent.
+    Round,
+}
+
+/// One word.
+impl fmt::Display for JournalWhy {
+    ghost use Rattle.std.specs.Prelude.{Some};
+    ghost use Rattle.pop_journal.specs.Reasons.{journal_reason};
+
+    ghost output = { λ why. Some (journal_reason why) };
+
+    fn fmt<W: fmt::Write>(&self, f: &mut fmt::Formatter<W>) -> fmt::Result {
+        match self {
+            JournalWhy::Missing => write!(f, "missing"),
+            JournalWhy::Form => write!(f, "form"),
+            JournalWhy::Worker => write!(f, "worker"),
+            JournalWhy::Agents => write!(f, "agents"),
+            JournalWhy::Round => write!(f, "round"),
+        }
+    }
+}
+
+/// Why a text is no journal.
+#[derive(Clone, Copy, Debug, PartialEq, Eq)]
+pub enum JournalFault {
+    /// The first line out of form.
+    Out { line: u64, why: JournalWhy },
+    /// Out of memory.
+    NoMemory,
+}
+
+/// Why a journal doesn't hold.
+#[derive(Debug, Drop)]
+pub enum VerifyFault {
+    /// The first line that isn't the expected one.
+    Differs {
+        line: u64,
+        kept: List<u8>,
+        found: List<u8>,
+    },
+    /// Out of memory.
+    NoMemory,
+}
+
+impl From<NoMemory> for JournalFault {
+    ghost from_gives = { λ _ f. f ≡ ReadNoMemory };
+
+    fn from(_fault: NoMemory) -> JournalFault {
+        JournalFault::NoMemory
+    }
+}
+
+impl From<AllocError> for JournalFault {
+    ghost from_gives = { λ _ f. f ≡ ReadNoMemory };
+
+    fn from(_fault: AllocError) -> JournalFault {
+        JournalFault::NoMemory
+    }
+}
+
+impl<T: Drop> From<AllocFailed<T>> for JournalFault {
+    ghost from_gives = { λ _ f. f ≡ ReadNoMemory };
+
+    fn from(_fault: AllocFailed<T>) -> JournalFault {
+        JournalFault::NoMemory
+    }
+}
+
+impl From<NoMemory> for VerifyFault {
+    ghost from_gives = { λ _ f. f ≡ OutOfMemory };
+
+    fn from(_fault: NoMemory) -> VerifyFault {
+        VerifyFault::NoMemory
+    }
+}
+
+impl From<AllocError> for VerifyFault {
+    ghost from_gives = { λ _ f. f ≡ OutOfMemory };
+
+    fn from(_fault: AllocError) -> VerifyFault {
+        VerifyFault::NoMemory
+    }
+}

@@ -1,0 +1,132 @@
+//! The numbers of a journal's lines.
+
+ghost use Rattle.std.specs.Prelude.{◌≡◌, ◌+◌, ◌<◌, ◌≤◌, ℕ, IfOk, IfSome, MatchOption, None, List as Items, length, Some, slice_index_or};
+ghost use Rattle.pair_workers.specs.Run.{meetings_of, turns_in};
+ghost use Rattle.pop_journal.specs.Form.{told_in, three_numbers, line_read, onward, number_named, spec_in, at_the_end};
+ghost use Rattle.pop_words.specs.Walk.{words_after};
+ghost use Rattle.pop_words.specs.Options.{IsWithinLimits};
+ghost use Rattle.std.specs.Option.{option_copied};
+
+use crate::fault::JournalWhy;
+use pop_crowd::Meeting;
+use pop_io::{SHARD_LIMIT, WORKER_LIMIT};
+use pop_lines::{cut, printed_number, printed_within};
+use pop_words::{MEETING_LIMIT, RunSpec, SEED_LIMIT, TURN_LIMIT};
+
+/// The worker, the two agents and the mark of a meeting line, before they are looked at.
+#[tactic(auto, using(crate::proofs::FormLaws::told_five), unfolding(crate::specs::Form::told_in))]
+pub(crate) fn told(line: &[u8]) -> Option<(u128, u128, u128, bool)>
+    ensures { result ≡ told_in line.now }
+{
+    let (worker, rest) = cut(line, b' ');
+    let (first, rest) = cut(rest?, b' ');
+    let (second, rest) = cut(rest?, b' ');
+    let Some(rest) = rest else {
+        return three(worker, first, second, false);
+    };
+    match cut(rest, b' ') {
+        (mark, None) if mark == b"*".as_slice() => three(worker, first, second, true),
+        (_mark, None) => None,
+        (_mark, Some(_more)) => None,
+    }
+}
+
+fn three(worker: &[u8], first: &[u8], second: &[u8], mark: bool) -> Option<(u128, u128, u128, bool)>
+    ensures { result ≡ three_numbers worker.now first.now second.now mark }
+{
+    let worker = printed_number(worker)?;
+    let first = printed_number(first)?;
+    let second = printed_number(second)?;
+    Some((worker, first, second, mark))
+}
+
+/// The meeting of a line, by a worker that has fewer meetings of this round than its turns.
+pub(crate) fn checked(
+    line: &[u8],
+    spec: &RunSpec,
+    agents: u32,
+    made: &[u64],
+    turns: u64,
+) -> Result<Meeting, JournalWhy>
+    requires workers { length made.now ≡ spec.now.workers }
+    requires few { spec.now.workers ≤ WORKER_LIMIT }
+    ensures worker { IfOk result (λ m. (m.worker < spec.now.workers) × (slice_index_or made.now m.worker 0 < turns)) }
+    ensures read { (rounds : Items (Items Meeting)) (meetings : Items Meeting) → turns ≡ turns_in spec.now (length rounds + 1)
+        → ((w : ℕ) (d : ℕ) → w < spec.now.workers → slice_index_or made.now w d ≡ length (meetings_of w meetings))
+        → line_read spec.now agents (rounds, Some meetings) line.now ≡ onward spec.now rounds meetings result }
+{
+    let Some((worker, first, second, mark)) = told(line) else {
+        return Err(JournalWhy::Form);
+    };
+    let workers = spec.workers;
+    if u128::from(workers) <= worker || turns <= made[worker as usize] {
+        return Err(JournalWhy::Worker);
+    }
+    let below = u128::from(agents);
+    if first == second || below <= first || below <= second {
+        return Err(JournalWhy::Agents);
+    }
+    Ok(Meeting {
+        worker: worker as u16,
+        a: first as u32,
+        b: second as u32,
+        changed: mark,
+    })
+}
+
+/// A number behind its name, and what stands behind a space after it.
+fn number_behind<'t>(
+    words: Option<&'t [u8]>,
+    name: &[u8],
+    least: u64,
+    most: u64,
+) -> Option<(u64, Option<&'t [u8]>)>
+    ensures read { MatchOption result (number_named name.now least most (words_after (option_copied words.entry)) ≡ None)
+        (λ found. number_named name.now least most (words_after (option_copied words.entry)) ≡ Some (found.0, words_after (option_copied found.1))) }
+    ensures within { IfSome result (λ found. (least ≤ found.0) × (found.0 ≤ most)) }
+{
+    let (word, rest) = cut(words?, b' ');
+    if word != name {
+        return None;
+    }
+    let (number, rest) = cut(rest?, b' ');
+    let number = printed_within(number, least, most)?;
+    Some((number, rest))
+}
+
+/// The numbers of a journal's first line.
+#[tactic(auto, unfolding(crate::specs::Form::spec_in))]
+pub(crate) fn spec_of(line: &[u8]) -> Option<RunSpec>
+    ensures spec { result ≡ spec_in line.now }
+    ensures limits { IfSome result IsWithinLimits }
+{
+    let (first, rest) = cut(line, b' ');
+    if first != b"run".as_slice() {
+        return None;
+    }
+    let (workers, rest) = number_behind(rest, b"workers".as_slice(), 1, u64::from(WORKER_LIMIT))?;
+    let (shards, rest) = number_behind(rest, b"shards".as_slice(), 1, u64::from(SHARD_LIMIT))?;
+    let (turns, rest) = number_behind(rest, b"turns".as_slice(), 0, TURN_LIMIT)?;
+    let (seed, rest) = number_behind(rest, b"seed".as_slice(), 0, SEED_LIMIT)?;
+    let spec = RunSpec {
+        workers: workers as u16,
+        shards: shards as u32,
+        turns,
+        seed,
+    };
+    at_end(spec, rest)
+}
+
+/// The run, where no words are left and its meetings are few enough.
+#[tactic(auto, using(crate::proofs::FormLaws::no_end_before))]
+fn at_end(spec: RunSpec, rest: Option<&[u8]>) -> Option<RunSpec>
+    requires { IsWithinLimits spec }
+    ensures spec { result ≡ at_the_end spec (words_after (option_copied rest.entry)) }
+    ensures limits { IfSome result IsWithinLimits }
+{
+    match rest {
+        Some(_) => None,
+        None if MEETING_LIMIT < u64::from(spec.workers) * spec.turns => None,
+        None => Some(spec),
+    }
+}

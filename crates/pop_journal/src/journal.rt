@@ -1,0 +1,17 @@
+//! A journal that was read.
+
+use pop_crowd::Meeting;
+use pop_io::List;
+use pop_words::RunSpec;
+
+/// The greatest number of a journal's first line.
+pub const LINE_LIMIT: u64 = 1_099_511_627_776;
+
+/// A run's options and rounds, the lines behind `end`, and the number of the first line.
+#[derive(Debug, Drop)]
+pub struct Journal {
+    pub spec: RunSpec,
+    pub rounds: List<List<Meeting>>,
+    pub tail: List<List<u8>>,
+    pub first: u64,
+}

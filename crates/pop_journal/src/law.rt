@@ -1,0 +1,13 @@
+//! Laws of the definitions. A call does nothing: it is its contract.
+
+ghost use Rattle.pop_journal.specs.Laws.{IsOneSpelling, IsWrittenHeld};
+
+/// A text that ends with a line feed, is read and holds is the text that `write_journal` writes of its run.
+pub fn one_spelling()
+    ensures { IsOneSpelling }
+{}
+
+/// What `write_journal` writes of a run with the right last line is read by `read_journal` and passes `verify`.
+pub fn written_holds()
+    ensures { IsWrittenHeld }
+{}

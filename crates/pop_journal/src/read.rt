@@ -1,0 +1,185 @@
+//! Journals read from their lines.
+
+ghost use Rattle.std.specs.Prelude.{◌≡◌, ◌+◌, ◌*◌, ◌<◌, ◌≤◌, ◌^◌, ℕ, List as Items, [], ◌∷◌, ◌++◌, length, codes, Some, None, Ok, Err, IfOk, IfErr};
+ghost use Rattle.std.specs.Str.{bytes_eq};
+ghost use Rattle.pop_journal.specs.Journal.{run_line, round_line, round_lines};
+ghost use Rattle.pop_journal.specs.Rounds.{AreRounds};
+ghost use Rattle.pop_lines.specs.Lines.{lines_of};
+ghost use Rattle.pop_words.specs.Options.{IsWithinLimits};
+ghost use Rattle.pair_workers.specs.Run.{turns_in};
+ghost use Rattle.pop_journal.specs.declared.fault.JournalFault.TheVariants.{NoMemory as OutOfMemory};
+ghost use Rattle.pop_journal.specs.ReadLines.{ReadsRound, ReadsRounds, ReadsJournal};
+
+use crate::fault::{JournalFault, JournalWhy};
+use crate::form::{checked, spec_of};
+use crate::journal::{Journal, LINE_LIMIT};
+use itoa::Buffer;
+use pair_workers::ROUND_TURNS;
+use pop_crowd::Meeting;
+use pop_io::{List, WORKER_LIMIT};
+use pop_lines::next_line;
+use pop_words::RunSpec;
+use std::alloc::Global;
+
+/// Reads the meeting lines of a round, of which the first has this number. The answer are the bytes behind them.
+fn read_round<'t>(
+    alloc: Global,
+    spec: &RunSpec,
+    agents: u32,
+    turns: u64,
+    text: &'t [u8],
+    number: u64,
+    meetings: &mut Vec<Meeting>,
+) -> Result<&'t [u8], JournalFault>
+    requires spec { IsWithinLimits spec.now }
+    requires turns { (1 ≤ turns) × (turns ≤ ROUND_TURNS) }
+    requires none { meetings.old.items ≡ [] }
+    requires number { number ≤ 2 ^ 50 }
+    ensures long { IfOk result (λ _. length meetings.new.items ≤ WORKER_LIMIT * turns) }
+    ensures read { (rounds : Items (Items Meeting)) → turns ≡ turns_in spec.now (length rounds + 1)
+        → ReadsRound spec.now agents number rounds (lines_of text.now) meetings.new.items result }
+{
+    let wanted = usize::from(spec.workers) * turns as usize;
+    let mut made = vec![in alloc; 0u64; usize::from(spec.workers)]?;
+    let mut rest = text;
+    while meetings.len() < wanted {
+        let line = number + meetings.len() as u64;
+        let Some((first, more)) = next_line(rest) else {
+            return Err(JournalFault::Out {
+                line,
+                why: JournalWhy::Missing,
+            });
+        };
+        let meeting = match checked(first, spec, agents, &made, turns) {
+            Ok(meeting) => meeting,
+            Err(why) => return Err(JournalFault::Out { line, why }),
+        };
+        made[meeting.worker as usize] += 1;
+        meetings.push(meeting)?;
+        rest = more;
+    }
+    Ok(rest)
+}
+
+/// Reads the rounds of a journal up to `end`. The answer are the bytes behind it.
+fn read_rounds<'t>(
+    alloc: Global,
+    spec: &RunSpec,
+    agents: u32,
+    text: &'t [u8],
+    number: u64,
+    rounds: &mut Vec<List<Meeting>>,
+) -> Result<&'t [u8], JournalFault>
+    requires spec { IsWithinLimits spec.now }
+    requires none { rounds.old.items ≡ [] }
+    requires number { number ≤ 2 ^ 41 }
+    ensures { ReadsRounds spec.now agents number (lines_of text.now) rounds.new.items result }
+{
+    let mut rest = text;
+    let mut line = number;
+    let mut left = spec.turns;
+    'rounds: while let Some((first, more)) = next_line(rest) {
+        if first == b"end".as_slice() {
+            return Ok(more);
+        }
+        let round = rounds.len() as u64 + 1;
+        if !is_round_line(first, round) {
+            return Err(JournalFault::Out {
+                line,
+                why: JournalWhy::Form,
+            });
+        }
+        if left == 0 {
+            return Err(JournalFault::Out {
+                line,
+                why: JournalWhy::Round,
+            });
+        }
+        let turns = ROUND_TURNS.min(left);
+        let mut meetings = Vec::new(alloc);
+        rest = read_round(alloc, spec, agents, turns, more, line + 1, &mut meetings)?;
+        line += 1 + meetings.len() as u64;
+        left -= turns;
+        rounds.push(List::from_vec(meetings))?;
+    }
+    Err(JournalFault::Out {
+        line,
+        why: JournalWhy::Missing,
+    })
+}
+
+/// Whether a line is that of the round with this number.
+fn is_round_line(line: &[u8], round: u64) -> bool
+    ensures { result ≡ bytes_eq line.now (round_line round) }
+{
+    match line.strip_prefix(b"round ".as_slice()) {
+        Some(text) => {
+            let mut digits = Buffer::new();
+            text == digits.format(round).as_bytes()
+        }
+        None => false,
+    }
+}
+
+/// The lines of a text.
+fn take_lines(alloc: Global, text: &[u8]) -> Result<Vec<List<u8>>, JournalFault>
+    ensures lines { IfOk result (λ lines. lines.items ≡ lines_of text.now) }
+    ensures memory { IfErr result (λ fault. fault ≡ OutOfMemory) }
+{
+    let mut lines = Vec::new(alloc);
+    let mut rest = text;
+    'lines: while let Some((line, more)) = next_line(rest) {
+        lines.push(List::from_vec(Vec::from_slice(alloc, line)?))?;
+        rest = more;
+    }
+    Ok(lines)
+}
+
+/// Reads the lines of a journal.
+fn read_lines(alloc: Global, text: &[u8], first: u64, agents: u32) -> Result<Journal, JournalFault>
+    requires first { first ≤ LINE_LIMIT }
+    ensures read { ReadsJournal agents first (lines_of text.now) result }
+    ensures first { IfOk result (λ journal. journal.first ≡ first) }
+    ensures limits { IfOk result (λ journal. IsWithinLimits journal.spec) }
+{
+    let Some((line, rest)) = next_line(text) else {
+        return Err(JournalFault::Out {
+            line: first,
+            why: JournalWhy::Missing,
+        });
+    };
+    let Some(spec) = spec_of(line) else {
+        return Err(JournalFault::Out {
+            line: first,
+            why: JournalWhy::Form,
+        });
+    };
+    let mut rounds = Vec::new(alloc);
+    let behind = read_rounds(alloc, &spec, agents, rest, first + 1, &mut rounds)?;
+    let tail = take_lines(alloc, behind)?;
+    Ok(Journal {
+        spec,
+        rounds: List::from_vec(rounds),
+        tail: List::from_vec(tail),
+        first,
+    })
+}
+
+/// Reads a journal for so many agents, of which the first line has this number.
+pub fn read_journal(
+    alloc: Global,
+    text: &[u8],
+    first: u64,
+    agents: u32,
+) -> Result<Journal, JournalFault>
+    requires first { first ≤ LINE_LIMIT }
+    ensures read { ReadsJournal agents first (lines_of text.now) result }
+    ensures first { IfOk result (λ journal. journal.first ≡ first) }
+    ensures limits { IfOk result (λ journal. IsWithinLimits journal.spec) }
+    // The rounds are what `verify` asks for.
+    ensures rounds { IfOk result (λ journal. AreRounds journal.spec agents journal.rounds) }
+    // The lines of the text are those of the journal.
+    ensures spelled { IfOk result (λ journal. lines_of text.now ≡ run_line journal.spec ∷ (round_lines 1 journal.rounds ++ codes "end" ∷ journal.tail)) }
+{
+    read_lines(alloc, text, first, agents)
+}

@@ -1,0 +1,304 @@
+//! The replay of a journal, line by line.
+
+ghost use Rattle.std.specs.Prelude.{◌≡◌, ◌≢◌, true, false, ◌∷◌, [], ◌++◌, ◌+◌, ◌<◌, ◌≤◌, ◌^◌, length, codes, All, IfOk};
+ghost use Rattle.pop_net.specs.NetModel.{CrowdModel};
+ghost use Rattle.pop_net.specs.Lanes.{crowd_of, AreValid};
+ghost use Rattle.pop_crowd.specs.Replay.{AreMeetings};
+ghost use Rattle.pair_workers.specs.Picks.{first_state, words_from};
+ghost use Rattle.pop_lines.specs.Lines.{lines_of, ended};
+ghost use Rattle.pop_crowd.specs.Tally.{crowd_lines};
+ghost use Rattle.pop_journal.specs.Journal.{meeting_line, round_line, last_line};
+ghost use Rattle.pop_journal.specs.Ending.{is_terminal, ending_of, ending_for, is_undecided as last_is_undecided};
+ghost use Rattle.pop_journal.specs.Expected.{next_meeting, meetings_compared, tail_compared};
+ghost use Rattle.pop_journal.specs.Standing.{IsReplaying, Passes};
+ghost use Rattle.pop_journal.specs.declared.fault.VerifyFault.TheVariants.{Differs};
+
+use crate::fault::VerifyFault;
+use crate::last::Last;
+use crate::write::push_last_line;
+use pair_workers::{Picker, ROUND_TURNS};
+use pop_crowd::{AGENT_LEAST, AGENT_LIMIT, Crowd, Meeting};
+use pop_io::{List, NoMemory, WORKER_LIMIT};
+use pop_lines::{next_line, push_number};
+use pop_net::Net;
+use pop_words::RunSpec;
+use std::alloc::{AllocError, Global};
+use terminal_test::{agreed, enabled_pair};
+
+/// A crowd in the middle of a journal, and each worker before its next pick.
+#[derive(Debug, Drop)]
+pub(crate) struct Replayer {
+    pub(crate) crowd: Crowd,
+    pub(crate) pickers: Vec<Picker>,
+}
+
+/// A meeting line.
+fn meeting_text(alloc: Global, meeting: &Meeting) -> Result<List<u8>, AllocError>
+    ensures { IfOk result (λ text. text ≡ meeting_line meeting.now) }
+{
+    let mut text = Vec::new(alloc);
+    push_number(&mut text, u64::from(meeting.worker))?;
+    text.extend_from_slice(b" ")?;
+    push_number(&mut text, u64::from(meeting.a))?;
+    text.extend_from_slice(b" ")?;
+    push_number(&mut text, u64::from(meeting.b))?;
+    text.extend_from_slice(if meeting.changed { b" *" } else { b"" })?;
+    Ok(List::from_vec(text))
+}
+
+fn is_same_meeting(kept: &Meeting, found: &Meeting) -> bool
+    ensures same { result ≡ true → kept.now ≡ found.now }
+    ensures other { result ≡ false → found.now ≢ kept.now }
+{
+    *kept == *found
+}
+
+/// A meeting line that isn't the expected one.
+fn differs(
+    alloc: Global,
+    line: u64,
+    kept: &Meeting,
+    found: &Meeting,
+) -> Result<VerifyFault, AllocError>
+    ensures { IfOk result (λ fault. fault ≡ Differs line (meeting_line kept.now) (meeting_line found.now)) }
+{
+    let kept = meeting_text(alloc, kept)?;
+    let found = meeting_text(alloc, found)?;
+    Ok(VerifyFault::Differs { line, kept, found })
+}
+
+impl Replayer {
+    ghost use Rattle.std.specs.Prelude.{◌≡◌, ◌∷◌, [], ◌++◌, ◌+◌, ◌<◌, ◌≤◌, ◌^◌, length, List, All, IfOk, OnOk};
+    ghost use Rattle.pop_net.specs.NetModel.{CrowdModel};
+    ghost use Rattle.pop_net.specs.Lanes.{crowd_of, AreValid};
+    ghost use Rattle.pop_crowd.specs.Replay.{AreMeetings};
+    ghost use Rattle.pop_crowd.specs.declared.crowd.Meeting.{Meeting};
+    ghost use Rattle.pop_words.specs.declared.spec.RunSpec.{RunSpec};
+    ghost use Rattle.pop_journal.specs.Ending.{is_terminal};
+    ghost use Rattle.pair_workers.specs.Run.{turns_in};
+    ghost use Rattle.pop_journal.specs.Journal.{round_line};
+    ghost use Rattle.std.specs.Prelude.{codes};
+    ghost use Rattle.pop_lines.specs.Lines.{lines_of};
+    ghost use Rattle.pop_crowd.specs.Replay.{replay};
+    ghost use Rattle.pop_journal.specs.Expected.{next_meeting, meetings_compared, tail_compared, both, line_between, tail_text as whole_tail};
+    ghost use Rattle.pop_journal.specs.Standing.{IsReplaying, Passes};
+
+    /// The next meeting of a worker.
+    fn meet_next(&mut self, net: &Net, worker: u16) -> Meeting
+        requires valid { AreValid net.now self.old.crowd }
+        requires worker { worker < length self.old.pickers.items }
+        ensures next { (start : CrowdModel) (spec : RunSpec) (before : List Meeting) → IsReplaying net.now start spec before self.old
+            → (result ≡ next_meeting net.now start spec before worker) × IsReplaying net.now start spec (before ++ result ∷ []) self.new }
+        ensures valid { AreValid net.now self.new.crowd }
+        ensures agents { length self.new.crowd ≡ length self.old.crowd }
+        ensures workers { length self.new.pickers.items ≡ length self.old.pickers.items }
+    {
+        let (a, b) = self.pickers[worker as usize].pick(self.crowd.len());
+        let changed = self.crowd.meet(net, a, b);
+        Meeting {
+            worker,
+            a,
+            b,
+            changed,
+        }
+    }
+
+    /// Compares meeting lines, of which the first has this number, with the expected ones.
+    fn compare_meetings(
+        &mut self,
+        alloc: Global,
+        net: &Net,
+        meetings: &[Meeting],
+        line: u64,
+    ) -> Result<(), VerifyFault>
+        requires valid { AreValid net.now self.old.crowd }
+        requires meetings { AreMeetings (length self.old.crowd) meetings.now }
+        requires workers { All (λ m. m.worker < length self.old.pickers.items) meetings.now }
+        requires few { (AGENT_LEAST ≤ length self.old.crowd) × (length self.old.crowd ≤ AGENT_LIMIT) × (length self.old.pickers.items ≤ WORKER_LIMIT) }
+        requires line { line + length meetings.now < 2 ^ 64 }
+        ensures passes { (start : CrowdModel) (spec : RunSpec) (before : List Meeting) → IsReplaying net.now start spec before self.old
+            → Passes line (meetings_compared net.now start spec before meetings.now) result × IfOk result (λ _. IsReplaying net.now start spec (before ++ meetings.now) self.new) }
+        ensures valid { AreValid net.now self.new.crowd }
+        ensures agents { length self.new.crowd ≡ length self.old.crowd }
+        ensures workers { length self.new.pickers.items ≡ length self.old.pickers.items }
+    {
+        for (i, meeting) in meetings.iter().enumerate() {
+            let found = self.meet_next(net, meeting.worker);
+            if !is_same_meeting(meeting, &found) {
+                return Err(differs(alloc, line + i as u64, meeting, &found)?);
+            }
+        }
+        Ok(())
+    }
+
+    /// Compares the line of a round, which has this number, and the round's meeting lines.
+    pub(crate) fn compare_round(
+        &mut self,
+        alloc: Global,
+        net: &Net,
+        round: u64,
+        meetings: &[Meeting],
+        line: u64,
+    ) -> Result<(), VerifyFault>
+        requires valid { AreValid net.now self.old.crowd }
+        requires meetings { AreMeetings (length self.old.crowd) meetings.now }
+        requires workers { All (λ m. m.worker < length self.old.pickers.items) meetings.now }
+        requires few { (AGENT_LEAST ≤ length self.old.crowd) × (length self.old.crowd ≤ AGENT_LIMIT) × (length self.old.pickers.items ≤ WORKER_LIMIT) }
+        requires line { line + 1 + length meetings.now < 2 ^ 64 }
+        ensures passes { (start : CrowdModel) (spec : RunSpec) (before : List Meeting) → IsReplaying net.now start spec before self.old → 1 ≤ turns_in spec round
+            → Passes line (both (round_line round) (line_between net.now start spec before round) ∷ meetings_compared net.now start spec before meetings.now) result
+            × IfOk result (λ _. IsReplaying net.now start spec (before ++ meetings.now) self.new) }
+        ensures valid { AreValid net.now self.new.crowd }
+        ensures agents { length self.new.crowd ≡ length self.old.crowd }
+        ensures workers { length self.new.pickers.items ≡ length self.old.pickers.items }
+    {
+        if is_quiet(alloc, net, &self.crowd)? {
+            return Err(round_for_end(alloc, line, round)?);
+        }
+        self.compare_meetings(alloc, net, meetings, line + 1)
+    }
+
+    /// Compares `end`, where a round with this number might begin, and the lines behind it.
+    pub(crate) fn compare_end(
+        &self,
+        alloc: Global,
+        net: &Net,
+        spec: &RunSpec,
+        round: u64,
+        tail: &[List<u8>],
+        line: u64,
+    ) -> Result<(), VerifyFault>
+        requires valid { AreValid net.now self.now.crowd }
+        requires round { (1 ≤ round) × (round ≤ 1000) }
+        requires line { line + 1 + length tail.now < 2 ^ 64 }
+        ensures { (start : CrowdModel) (before : List Meeting) → IsReplaying net.now start spec.now before self.now
+            → Passes line (both (codes "end") (line_between net.now start spec.now before round) ∷ tail_compared tail.now (lines_of (whole_tail net.now (replay net.now before start)))) result }
+    {
+        let last = ending(alloc, net, &self.crowd)?;
+        if is_undecided(last) && ROUND_TURNS * (round - 1) < spec.turns {
+            return Err(end_for_round(alloc, line, round)?);
+        }
+        let wanted = tail_text(alloc, net, &self.crowd, last)?;
+        compare_tail(alloc, tail, &wanted, line + 1)
+    }
+}
+
+fn is_undecided(last: Last) -> bool
+    ensures { result ≡ last_is_undecided last }
+{
+    match last {
+        Last::Undecided(_, _) => true,
+        Last::Verdict(_) | Last::Terminal => false,
+    }
+}
+
+/// The crowd lines, and the last line.
+fn tail_text(alloc: Global, net: &Net, crowd: &Crowd, last: Last) -> Result<Vec<u8>, NoMemory>
+    requires { AreValid net.now crowd.now }
+    ensures { IfOk result (λ text. text.items ≡ crowd_lines net.now (crowd_of net.now crowd.now) ++ ended (last_line last)) }
+{
+    let mut text = crowd.tally(alloc, net)?.into_vec();
+    push_last_line(&mut text, last)?;
+    Ok(text)
+}
+
+/// Whether a crowd is terminal.
+fn is_quiet(alloc: Global, net: &Net, crowd: &Crowd) -> Result<bool, NoMemory>
+    requires { AreValid net.now crowd.now }
+    ensures { IfOk result (λ quiet. quiet ≡ is_terminal net.now (crowd_of net.now crowd.now)) }
+{
+    let found = enabled_pair(alloc, net, crowd)?;
+    Ok(found.is_none())
+}
+
+/// The last line for a crowd.
+fn ending(alloc: Global, net: &Net, crowd: &Crowd) -> Result<Last, NoMemory>
+    requires { AreValid net.now crowd.now }
+    ensures { IfOk result (λ last. last ≡ ending_of net.now (crowd_of net.now crowd.now)) }
+{
+    let found = enabled_pair(alloc, net, crowd)?;
+    let _ = crowd.len();
+    Ok(last_for(found, agreed(net, crowd)))
+}
+
+fn last_for(found: Option<(u32, u32)>, output: Option<bool>) -> Last
+    ensures { result ≡ ending_for found output }
+{
+    match (found, output) {
+        (Some((a, b)), _) => Last::Undecided(a, b),
+        (None, Some(value)) => Last::Verdict(value),
+        (None, None) => Last::Terminal,
+    }
+}
+
+fn round_text(alloc: Global, round: u64) -> Result<List<u8>, AllocError>
+    ensures { IfOk result (λ text. text ≡ round_line round) }
+{
+    let mut text = Vec::from_slice(alloc, b"round ")?;
+    push_number(&mut text, round)?;
+    Ok(List::from_vec(text))
+}
+
+fn end_text(alloc: Global) -> Result<List<u8>, AllocError>
+    ensures { IfOk result (λ text. text ≡ codes "end") }
+{
+    Ok(List::from_vec(Vec::from_slice(alloc, b"end")?))
+}
+
+/// A round line where `end` is expected.
+fn round_for_end(alloc: Global, line: u64, round: u64) -> Result<VerifyFault, AllocError>
+    ensures { IfOk result (λ fault. fault ≡ Differs line (round_line round) (codes "end")) }
+{
+    let kept = round_text(alloc, round)?;
+    let found = end_text(alloc)?;
+    Ok(VerifyFault::Differs { line, kept, found })
+}
+
+/// `end` where a round line is expected.
+fn end_for_round(alloc: Global, line: u64, round: u64) -> Result<VerifyFault, AllocError>
+    ensures { IfOk result (λ fault. fault ≡ Differs line (codes "end") (round_line round)) }
+{
+    let kept = end_text(alloc)?;
+    let found = round_text(alloc, round)?;
+    Ok(VerifyFault::Differs { line, kept, found })
+}
+
+/// A line of the tail that isn't the expected one.
+fn tail_differs(
+    alloc: Global,
+    line: u64,
+    kept: &[u8],
+    found: &[u8],
+) -> Result<VerifyFault, AllocError>
+    ensures { IfOk result (λ fault. fault ≡ Differs line kept.now found.now) }
+{
+    let kept = List::from_vec(Vec::from_slice(alloc, kept)?);
+    let found = List::from_vec(Vec::from_slice(alloc, found)?);
+    Ok(VerifyFault::Differs { line, kept, found })
+}
+
+/// Compares the lines behind `end`, of which the first has this number, with the lines of a text.
+fn compare_tail(
+    alloc: Global,
+    tail: &[List<u8>],
+    wanted: &[u8],
+    line: u64,
+) -> Result<(), VerifyFault>
+    requires { line + length tail.now < 2 ^ 64 }
+    ensures { Passes line (tail_compared tail.now (lines_of wanted.now)) result }
+{
+    let mut rest = wanted;
+    for (i, kept) in tail.iter().enumerate() {
+        let Some((found, more)) = next_line(rest) else {
+            return Err(tail_differs(alloc, line + i as u64, kept.as_slice(), &[])?);
+        };
+        if kept.as_slice() != found {
+            return Err(tail_differs(alloc, line + i as u64, kept.as_slice(), found)?);
+        }
+        rest = more;
+    }
+    match next_line(rest) {
+        None => Ok(()),
+        Some((found, _more)) => Err(tail_differs(alloc, line + tail.len() as u64, &[], found)?),
+    }
+}

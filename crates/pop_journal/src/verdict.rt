@@ -1,0 +1,94 @@
+//! The check of a journal against the run that it tells.
+
+ghost use Rattle.std.specs.Prelude.{◌≡◌, ℕ, ◌<◌, ◌≤◌, ◌^◌, ◌+◌, [], length, IfOk, IfErr, slice_index_or};
+ghost use Rattle.pop_net.specs.Lanes.{crowd_of, AreValid};
+ghost use Rattle.pop_words.specs.Options.{IsWithinLimits};
+ghost use Rattle.pair_workers.specs.Picks.{first_state};
+ghost use Rattle.pair_workers.specs.Run.{joined};
+ghost use Rattle.pop_journal.specs.Rounds.{AreRounds};
+ghost use Rattle.pop_journal.specs.Expected.{journal_compared, Holds};
+ghost use Rattle.pop_journal.specs.Standing.{IsReplaying, Passes};
+ghost use Rattle.pop_journal.specs.declared.fault.VerifyFault.TheVariants.{NoMemory as OutOfMemory};
+
+use crate::fault::VerifyFault;
+use crate::journal::{Journal, LINE_LIMIT};
+use crate::replayer::Replayer;
+use pair_workers::Picker;
+use pop_crowd::{AGENT_LEAST, AGENT_LIMIT, Crowd};
+use pop_net::Net;
+use pop_words::{RunSpec, SEED_LIMIT};
+use std::alloc::{AllocError, Global};
+
+/// The pickers of all workers, of which none has made a pick.
+fn first_pickers(alloc: Global, spec: &RunSpec) -> Result<Vec<Picker>, AllocError>
+    requires seed { spec.now.seed ≤ SEED_LIMIT }
+    ensures long { IfOk result (λ pickers. length pickers.items ≡ spec.now.workers) }
+    ensures first { IfOk result (λ pickers. (w : ℕ) (d : _) → w < spec.now.workers → slice_index_or pickers.items w d ≡ first_state spec.now.seed w) }
+{
+    let mut pickers = Vec::new(alloc);
+    'workers: for worker in 0..spec.workers {
+        pickers.push(Picker::new(spec.seed, worker))?;
+    }
+    Ok(pickers)
+}
+
+/// A crowd and its workers before the first round.
+fn first_replayer(
+    alloc: Global,
+    net: &Net,
+    crowd: Crowd,
+    spec: &RunSpec,
+) -> Result<Replayer, AllocError>
+    requires seed { spec.now.seed ≤ SEED_LIMIT }
+    requires valid { AreValid net.now crowd }
+    ensures stands { IfOk result (IsReplaying net.now (crowd_of net.now crowd) spec.now []) }
+    ensures crowd { IfOk result (λ r. r.crowd ≡ crowd) }
+    ensures few { (AGENT_LEAST ≤ length crowd) × (length crowd ≤ AGENT_LIMIT) }
+{
+    let _ = net;
+    let _ = crowd.len();
+    let pickers = first_pickers(alloc, spec)?;
+    Ok(Replayer { crowd, pickers })
+}
+
+/// Compares all lines of a journal behind the first.
+fn compare(alloc: Global, net: &Net, crowd: Crowd, journal: &Journal) -> Result<u64, VerifyFault>
+    requires valid { AreValid net.now crowd }
+    requires first { journal.now.first ≤ LINE_LIMIT }
+    requires spec { IsWithinLimits journal.now.spec }
+    requires rounds { AreRounds journal.now.spec (length crowd) journal.now.rounds }
+    ensures passes { Passes (journal.now.first + 1) (journal_compared net.now (crowd_of net.now crowd) journal.now) result }
+    ensures meetings { IfOk result (λ k. k ≡ length (joined journal.now.rounds)) }
+    ensures agents { (AGENT_LEAST ≤ length crowd) × (length crowd ≤ AGENT_LIMIT) }
+{
+    let mut replayer = first_replayer(alloc, net, crowd, &journal.spec)?;
+    let mut line = journal.first + 1;
+    let mut total = 0u64;
+    for (k, meetings) in journal.rounds.as_slice().iter().enumerate() {
+        let meetings = meetings.as_slice();
+        replayer.compare_round(alloc, net, k as u64 + 1, meetings, line)?;
+        line += 1 + meetings.len() as u64;
+        total += meetings.len() as u64;
+    }
+    let round = journal.rounds.as_slice().len() as u64 + 1;
+    let tail = journal.tail.as_slice();
+    replayer.compare_end(alloc, net, &journal.spec, round, tail, line)?;
+    Ok(total)
+}
+
+/// Compares the lines of a journal behind the first with the ones that are expected after the lines before them.
+/// The answer is the number of meetings.
+pub fn verify(alloc: Global, net: &Net, crowd: Crowd, journal: &Journal) -> Result<u64, VerifyFault>
+    requires valid { AreValid net.now crowd }
+    requires first { journal.now.first ≤ LINE_LIMIT }
+    requires spec { IsWithinLimits journal.now.spec }
+    requires rounds { AreRounds journal.now.spec (length crowd) journal.now.rounds }
+    // The first line that isn't the expected one is the refusal.
+    ensures passes { Passes (journal.now.first + 1) (journal_compared net.now (crowd_of net.now crowd) journal.now) result }
+    ensures meetings { IfOk result (λ k. k ≡ length (joined journal.now.rounds)) }
+    // It passes exactly where the rounds are a run and the tail tells its end.
+    ensures holds { IfOk result (λ _. Holds net.now (crowd_of net.now crowd) journal.now) }
+    ensures accepts { Holds net.now (crowd_of net.now crowd) journal.now → IfErr result (λ fault. fault ≡ OutOfMemory) }
+{
+    compare(alloc, net, crowd, journal)
+}
