@@ -1,10 +1,11 @@
 -- What an answer says of a protocol.
-use Rattle.std.proofs.Common.{◌≡◌, ℕ, List, ◌++◌, Option, Some, Result, Ok, sym, subst}
+use Rattle.std.proofs.Common.{◌≡◌, ◌<◌, ◌^◌, ℕ, List, ◌++◌, Option, Some, Result, Ok, sym, ap, subst, ◌∙◌}
+use Rattle.std.specs.Prelude.{◌↔◌}
 use Rattle.std.specs.Io.KnownBytes.{Appends}
 use Rattle.std.proofs.lemmas.List.{append_cancel_left}
 use Rattle.pop_lines.specs.Lines.{ended}
 use Rattle.pop_words.specs.declared.command.Command.{Command}
-use Rattle.pop_words.specs.declared.command.Command.TheVariants.{Check, Run}
+use Rattle.pop_words.specs.declared.command.Command.TheVariants.{Check, Run, Replay}
 use Rattle.pop_words.specs.declared.command.Usage.{Usage as BadWord}
 use Rattle.pop_words.specs.declared.spec.RunSpec.{RunSpec}
 use Rattle.pop_words.specs.Words.{meaning_of}
@@ -18,11 +19,13 @@ use Rattle.tool_texts.specs.declared.status.Status.TheVariants.{Done, Usage, Ref
 use Rattle.tool_texts.specs.Statuses.{status_of}
 use Rattle.tool_texts.specs.Refusals.{output_for}
 use Rattle.tool_commands.specs.Check.{certified_text}
+use Rattle.tool_commands.specs.Replay.{holds_text, holds_output}
 use Rattle.pop_tool.specs.Answer.{InputGives, OfMeaning, Answer}
 use Rattle.pop_tool.specs.Outcome.{HasLeft, Wrote, Outcome}
-use Rattle.pop_tool.specs.Headline.{IsBundleLine, CheckSays, IsValidLine, RunSays, WasRun, Headline, IsHeadline}
+use Rattle.pop_tool.specs.Headline.{IsBundleLine, CheckSays, IsValidLine, IsHeldInput, RunSays, WasRun, Headline, IsHeadline}
 use Rattle.pop_tool.proofs.CheckHeadline.{check_says, check_only}
 use Rattle.pop_tool.proofs.RunHeadline.{run_says}
+use Rattle.pop_tool.proofs.ReplayHeadline.{held_given, replay_only}
 
 module _ (words : List (List ℕ)) (input : List ℕ) (output : Output) (answer : Answer words input output) where
   given_for : (command : Command) → meaning_of words ≡ Ok command → (given : Result Output Refusal) × InputGives command input given × (output ≡ output_for given)
@@ -43,8 +46,17 @@ module _ (words : List (List ℕ)) (input : List ℕ) (output : Output) (answer 
       let a = given_for (Run spec) is in
       subst (λ (o : Output). RunSays spec input o.text) (sym a.2) (run_says spec input a.0 a.1 (subst (λ (o : Output). WasRun (status_of o.ending)) a.2 ran))
 
+  replay_headline : meaning_of words ≡ Ok Replay → (k : ℕ) → k < 2 ^ 64 → ((output.text ≡ ended (holds_text k)) × (status_of output.ending ≡ Done)) ↔ IsHeldInput input k
+  replay_headline is k small =
+      let a = given_for Replay is in (
+        λ printed. replay_only k small input a.0 a.1 (subst (λ (o : Output). o.text ≡ ended (holds_text k)) a.2 printed.0),
+        λ held.
+            let out : output ≡ holds_output k = a.2 ∙ ap output_for (held_given input k held a.0 a.1) in
+            (ap (λ (o : Output). o.text) out, ap (λ (o : Output). status_of o.ending) out),
+      )
+
   answer_says : Headline words input output.text (status_of output.ending)
-  answer_says = record { check = check_headline; only = only_headline; run = run_headline }
+  answer_says = record { check = check_headline; only = only_headline; run = run_headline; replay = replay_headline }
 
 -- a text that answers what was left, and that the sink took
 module _ (words : List (List ℕ)) (left old new : Option (List ℕ)) (input before text : List ℕ) (left_is : left ≡ Some input) (old_is : old ≡ Some before) (new_is : new ≡ Some (before ++ text)) where

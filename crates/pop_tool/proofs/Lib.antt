@@ -3,4 +3,7 @@ mod Puts
 mod One
 mod CheckHeadline
 mod RunHeadline
+mod ReplayHeadline
+mod Spent
+mod RunHeld
 mod Headlines

@@ -60,49 +60,65 @@ Ran given = WasRun (status_of (output_for given).ending)
 refused : (refusal : Refusal) (given : Result Output Refusal) → given ≡ Err refusal → Ran given → ⊥
 refused refusal given is ran = not_refused (subst Ran is ran)
 
+-- a run that was made: its bundle, whose proof is valid, its counts, and its output
+pub record IsMade (spec : RunSpec) (input : List ℕ) (output : Output) : Type 0 where
+  pub first : List ℕ
+  pub second : List ℕ
+  pub lines : lines_of input ≡ first ∷ second ∷ []
+  pub bundle : Bundle
+  pub counts : List ℕ
+  pub begins : IsBegunBy first second (Ok (bundle, counts))
+  pub judged : IsJudged bundle None
+  pub is : IsRunOutput spec (ended first ++ ended second) bundle.net bundle.pred counts output
+
 module _ (spec : RunSpec) (input : List ℕ) where
   module _ (first second : List ℕ) (lines : lines_of input ≡ first ∷ second ∷ []) where
-    output_says : (bundle : Bundle) (counts : List ℕ) → IsBegunBy first second (Ok (bundle, counts)) → IsJudged bundle None → (output : Output) → IsRunOutput spec (ended first ++ ended second) bundle.net bundle.pred counts output → RunSays spec input output.text
-    output_says bundle counts begins judged output is =
-        let tuples = run_tuples bundle.net counts (begun_two begins.0 second bundle counts (sym begins.2)) spec is.rounds is.end is.run in
-        let truth = predicate_value bundle.pred.tree counts in
-        record {
-          first = first;
-          second = second;
-          lines = lines;
-          bundle = bundle;
-          counts = counts;
-          begins = begins;
-          computes = judged.1.computes;
-          rounds = is.rounds;
-          end = is.end;
-          run = is.run;
-          last = journal_end truth is.pair;
-          printed = is.text;
-          verdict = ends_by_verdict bundle.net is.end tuples truth is.pair is.last;
-          terminal = λ v. verdict_ends bundle.net is.end tuples truth is.pair v is.last;
-        }
-
-    judged_says : (bundle : Bundle) (counts : List ℕ) → IsBegunBy first second (Ok (bundle, counts)) → (judged : Option Rejected) → IsJudged bundle judged → (output : Output)
-        → OfJudged spec (ended first ++ ended second) bundle counts judged output → WasRun (status_of output.ending) → RunSays spec input output.text
-    judged_says bundle counts begins None is output of ran = output_says bundle counts begins is output of
-    judged_says bundle counts begins (Some rejected) is output of ran =
+    judged_made : (bundle : Bundle) (counts : List ℕ) → IsBegunBy first second (Ok (bundle, counts)) → (judged : Option Rejected) → IsJudged bundle judged → (output : Output)
+        → OfJudged spec (ended first ++ ended second) bundle counts judged output → WasRun (status_of output.ending) → IsMade spec input output
+    judged_made bundle counts begins None is output of ran =
+        record { first = first; second = second; lines = lines; bundle = bundle; counts = counts; begins = begins; judged = is; is = of }
+    judged_made bundle counts begins (Some rejected) is output of ran =
         absurd (not_rejected (status_of output.ending) (ap (λ (o : Output). status_of o.ending) of) ran)
 
-    begun_says : (r : Result (Bundle × List ℕ) Refusal) → IsBegunBy first second r → (given : Result Output Refusal) → After r (OfBegun spec (ended first ++ ended second)) given → Ran given → RunSays spec input (output_for given).text
-    begun_says (Err refusal) begins given of ran = absurd (refused refusal given of ran)
-    begun_says (Ok begin) begins given of ran =
-        subst (λ (g : Result Output Refusal). RunSays spec input (output_for g).text) (sym of.4)
-        (judged_says begin.0 begin.1 begins of.0 of.2 of.1 of.3 (subst Ran of.4 ran))
+    begun_made : (r : Result (Bundle × List ℕ) Refusal) → IsBegunBy first second r → (given : Result Output Refusal) → After r (OfBegun spec (ended first ++ ended second)) given → Ran given → IsMade spec input (output_for given)
+    begun_made (Err refusal) begins given of ran = absurd (refused refusal given of ran)
+    begun_made (Ok begin) begins given of ran =
+        subst (λ (g : Result Output Refusal). IsMade spec input (output_for g)) (sym of.4)
+        (judged_made begin.0 begin.1 begins of.0 of.2 of.1 of.3 (subst Ran of.4 ran))
 
-  lines_say : (r : Result (List ℕ × List ℕ) Refusal) → just_two (lines_of input) ≡ r → (given : Result Output Refusal) → After r (OfLines spec) given → Ran given → RunSays spec input (output_for given).text
-  lines_say (Err refusal) is given of ran = absurd (refused refusal given of ran)
-  lines_say (Ok found) is given of ran =
-      begun_says found.0 found.1 (two_lines (lines_of input) found is) of.0 of.1 given of.2 ran
+  lines_made : (r : Result (List ℕ × List ℕ) Refusal) → just_two (lines_of input) ≡ r → (given : Result Output Refusal) → After r (OfLines spec) given → Ran given → IsMade spec input (output_for given)
+  lines_made (Err refusal) is given of ran = absurd (refused refusal given of ran)
+  lines_made (Ok found) is given of ran =
+      begun_made found.0 found.1 (two_lines (lines_of input) found is) of.0 of.1 given of.2 ran
 
-  by_length : (long : Bool) (given : Result Output Refusal) → MatchBool long (given ≡ Err TooLong) (RunGives spec (lines_of input) given) → Ran given → RunSays spec input (output_for given).text
+  by_length : (long : Bool) (given : Result Output Refusal) → MatchBool long (given ≡ Err TooLong) (RunGives spec (lines_of input) given) → Ran given → IsMade spec input (output_for given)
   by_length true given of ran = absurd (refused TooLong given of ran)
-  by_length false given of ran = lines_say (just_two (lines_of input)) refl given of ran
+  by_length false given of ran = lines_made (just_two (lines_of input)) refl given of ran
+
+  pub run_made : (given : Result Output Refusal) → InputGives (Run spec) input given → Ran given → IsMade spec input (output_for given)
+  run_made given of ran = by_length (nat_lt INPUT_LIMIT (length input)) given of ran
+
+  made_says : (output : Output) → IsMade spec input output → RunSays spec input output.text
+  made_says output made =
+      let net = made.bundle.net in
+      let tuples = run_tuples net made.counts (begun_two made.begins.0 made.second made.bundle made.counts (sym made.begins.2)) spec made.is.rounds made.is.end made.is.run in
+      let truth = predicate_value made.bundle.pred.tree made.counts in
+      record {
+        first = made.first;
+        second = made.second;
+        lines = made.lines;
+        bundle = made.bundle;
+        counts = made.counts;
+        begins = made.begins;
+        computes = made.judged.1.computes;
+        rounds = made.is.rounds;
+        end = made.is.end;
+        run = made.is.run;
+        last = journal_end truth made.is.pair;
+        printed = made.is.text;
+        verdict = ends_by_verdict net made.is.end tuples truth made.is.pair made.is.last;
+        terminal = λ v. verdict_ends net made.is.end tuples truth made.is.pair v made.is.last;
+      }
 
   pub run_says : (given : Result Output Refusal) → InputGives (Run spec) input given → Ran given → RunSays spec input (output_for given).text
-  run_says given of ran = by_length (nat_lt INPUT_LIMIT (length input)) given of ran
+  run_says given of ran = made_says (output_for given) (run_made given of ran)

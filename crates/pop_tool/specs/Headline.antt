@@ -1,5 +1,5 @@
 -- Headline: what a printed text says of a protocol.
-use Rattle.std.specs.Prelude.{◌≡◌, ◌↔◌, ◌⊎◌, ◌≤◌, ℕ, Bool, List, [], ◌∷◌, ◌++◌, length, Option, Some, Ok}
+use Rattle.std.specs.Prelude.{◌≡◌, ◌↔◌, ◌⊎◌, ◌≤◌, ◌<◌, ◌^◌, ℕ, Bool, List, [], ◌∷◌, ◌++◌, length, Option, Some, Ok}
 use Rattle.serde_json.specs.Data.{Data}
 use Rattle.pop_io.specs.declared.whole.TheConstants.{INPUT_LIMIT}
 use Rattle.pop_lines.specs.Lines.{lines_of, ended}
@@ -10,10 +10,13 @@ use Rattle.pop_net.specs.Step.{Step}
 use Rattle.pop_net.specs.Terminal.{IsTerminal}
 use Rattle.pop_crowd.specs.declared.crowd.Meeting.{Meeting}
 use Rattle.pop_words.specs.declared.spec.RunSpec.{RunSpec}
-use Rattle.pop_words.specs.declared.command.Command.TheVariants.{Check, Run}
+use Rattle.pop_words.specs.declared.command.Command.TheVariants.{Check, Run, Replay}
 use Rattle.pop_words.specs.Words.{meaning_of}
-use Rattle.pair_workers.specs.Run.{IsRun}
+use Rattle.pair_workers.specs.Run.{joined, IsRun}
 use Rattle.pop_journal.specs.Journal.{journal_text}
+use Rattle.pop_journal.specs.Form.{journal_in}
+use Rattle.pop_journal.specs.Expected.{Holds}
+use Rattle.pop_journal.specs.declared.journal.Journal.{Journal}
 use Rattle.pop_journal.specs.declared.last.Last.{Last}
 use Rattle.pop_journal.specs.declared.last.Last.TheVariants.{Verdict}
 use Rattle.cert_base.specs.ProofBound.{proof_bound}
@@ -26,6 +29,8 @@ use Rattle.tool_texts.specs.declared.status.Status.TheVariants.{Done, Undecided}
 use Rattle.tool_texts.specs.Json.{HasValue}
 use Rattle.tool_commands.specs.Bundles.{IsBegunBy}
 use Rattle.tool_commands.specs.Check.{certified_text}
+use Rattle.tool_commands.specs.declared.replay.TheConstants.{JOURNAL_LINE}
+use Rattle.tool_commands.specs.Replay.{holds_text, journal_read}
 use Rattle.pop_tool.specs.Outcome.{IsAnswered}
 
 -- the input, within its limit, is one line, which is this bundle
@@ -69,6 +74,23 @@ pub record RunSays (spec : RunSpec) (input text : List ℕ) : Type 0 where
   pub verdict : IsTerminal (Step bundle.net) end → last ≡ Verdict (predicate_value bundle.pred.tree counts)
   pub terminal : (value : Bool) → last ≡ Verdict value → IsTerminal (Step bundle.net) end
 
+-- The input is a bundle whose proof is valid, a crowd line, and a journal: as it is read, its rounds are a run of the bundle's net
+-- from the input crowd with so many meetings, and it tells the crowd in which they end.
+pub record IsHeldInput (input : List ℕ) (meetings : ℕ) : Type 0 where
+  pub short : length input ≤ INPUT_LIMIT
+  pub first : List ℕ
+  pub second : List ℕ
+  pub more : List (List ℕ)
+  pub lines : lines_of input ≡ first ∷ second ∷ more
+  pub bundle : Bundle
+  pub counts : List ℕ
+  pub begins : IsBegunBy first second (Ok (bundle, counts))
+  pub valid : IsValid bundle
+  pub journal : Journal
+  pub read : journal_read (journal_in (length (input_crowd bundle.net counts)) JOURNAL_LINE more) ≡ Ok journal
+  pub holds : Holds bundle.net (input_crowd bundle.net counts) journal
+  pub all : length (joined journal.rounds) ≡ meetings
+
 -- the run was made
 abbrev pub WasRun : Status → Type 0
 WasRun status = (status ≡ Done) ⊎ (status ≡ Undecided)
@@ -78,6 +100,8 @@ pub record Headline (words : List (List ℕ)) (input text : List ℕ) (status : 
   -- `certified`, with whatever number, is printed only for a valid proof
   pub only : meaning_of words ≡ Ok Check → (k : ℕ) → text ≡ ended (certified_text k) → IsValidLine input
   pub run : (spec : RunSpec) → meaning_of words ≡ Ok (Run spec) → WasRun status → RunSays spec input text
+  -- `holds`, with a number of 64 bits, is printed exactly for a journal of a run with so many meetings
+  pub replay : meaning_of words ≡ Ok Replay → (k : ℕ) → k < 2 ^ 64 → ((text ≡ ended (holds_text k)) × (status ≡ Done)) ↔ IsHeldInput input k
 
 -- if it is known what the source had left and what the sink holds, then what the sink gained says so
 abbrev pub IsHeadline : List (List ℕ) → Option (List ℕ) → Option (List ℕ) → Option (List ℕ) → Status → Type 0

@@ -5,3 +5,4 @@ pub mod Source
 pub mod Written
 pub mod OneAnswer
 pub mod Headline
+pub mod ReplayHeld

@@ -1,8 +1,14 @@
 //! Laws of the definitions.
 
 ghost use Rattle.pop_tool.specs.OneAnswer.{IsOneAnswer};
+ghost use Rattle.pop_tool.specs.ReplayHeld.{IsReplayHeld};
 
 /// The output is a function of the words and the input, but for a run with two or more workers. The call does nothing: it is its contract.
 pub fn one_answer()
     ensures { IsOneAnswer }
+{}
+
+/// What `run` wrote, if its run was made, holds for `replay`, unless it is too long for an input. The call does nothing: it is its contract.
+pub fn replay_holds()
+    ensures { IsReplayHeld }
 {}

@@ -9,6 +9,6 @@ mod prepare;
 mod tool;
 mod write;
 
-pub use law::one_answer;
+pub use law::{one_answer, replay_holds};
 pub use tool::{is_plain, run_plain, run_tool};
 pub use tool_texts::Status;

@@ -1,24 +1,30 @@
 -- No command ends by a fault of reading.
 use Rattle.std.proofs.Common.{ℕ, List, Option, Some, None, Result, Ok, Err, sym, ap, subst, ◌∙◌}
-use Rattle.std.specs.Prelude.{◌≢◌}
+use Rattle.std.specs.Prelude.{◌≢◌, ◌+◌, length}
 use Rattle.pres_read.specs.Reading.{pred_read}
 use Rattle.pop_words.specs.Vars.{vars_of}
 use Rattle.pop_words.specs.Counts.{counts_of}
 use Rattle.pop_words.specs.declared.command.Command.{Command}
-use Rattle.pop_words.specs.declared.command.Command.TheVariants.{Play, Eval, Check, Run}
+use Rattle.pop_words.specs.declared.command.Command.TheVariants.{Play, Eval, Check, Run, Replay}
 use Rattle.pop_words.specs.declared.spec.RunSpec.{RunSpec}
+use Rattle.pop_net.specs.InputCrowd.{input_crowd}
+use Rattle.pair_workers.specs.Run.{joined}
+use Rattle.pop_journal.specs.Form.{journal_in}
+use Rattle.pop_journal.specs.Expected.{Difference, first_difference, journal_compared}
 use Rattle.cert_json.specs.declared.bundle.Bundle.{Bundle}
 use Rattle.pop_checker.specs.declared.fault.Rejected.{Rejected}
 use Rattle.tool_texts.specs.declared.refusal.Refusal.{Refusal}
 use Rattle.tool_texts.specs.declared.output.Output.{Output}
 use Rattle.tool_texts.specs.declared.output.Ending.TheVariants.{ReadFault}
-use Rattle.tool_texts.specs.Lines.{just_one, just_two, just_three, two_and_more}
+use Rattle.tool_texts.specs.Lines.{just_one, just_two, just_three, two_and_more, two_and_some}
 use Rattle.tool_texts.specs.Refusals.{output_for}
 use Rattle.tool_texts.proofs.Goes.{bind_keeps, after_keeps}
 use Rattle.tool_commands.specs.Eval.{named, understood, counted, eval_output}
 use Rattle.tool_commands.specs.Play.{end_crowd, OfEnd, OfLines, PlayGives}
 use Rattle.tool_commands.specs.Check.{judgement, OfBundle, OfLine, CheckGives}
 use Rattle.tool_commands.specs.Run.{run_ending, OfJudged, OfLines as OfRunLines, RunGives}
+use Rattle.tool_commands.specs.declared.replay.TheConstants.{JOURNAL_LINE}
+use Rattle.tool_commands.specs.Replay.{journal_read, compared_output, journal_output, judged_output, OfBegun as OfReplayBegun, OfLines as OfReplayLines, ReplayGives}
 use Rattle.tool_commands.specs.Commands.{CommandGives}
 
 abbrev IsOther : Result Output Refusal → Type 0
@@ -64,8 +70,26 @@ run_other spec lines =
     (λ found given is. after_keeps IsOther refused is.0 _
     (λ begin given is. subst IsOther (sym is.4) (judged_other spec _ begin.0 begin.1 is.0 is.1 is.3)) given is.2)
 
+compared_other : (meetings : ℕ) (found : Option Difference) → IsOther (Ok (compared_output meetings found))
+compared_other meetings None e = absurd cc
+compared_other meetings (Some difference) e = absurd cc
+
+replay_judged_other : (bundle : Bundle) (counts : List ℕ) (lines : List (List ℕ)) (judged : Option Rejected) → IsOther (judged_output bundle counts lines judged)
+replay_judged_other bundle counts lines None =
+    let start = input_crowd bundle.net counts in
+    bind_keeps IsOther refused (journal_read (journal_in (length start) JOURNAL_LINE lines)) (λ journal. Ok (journal_output bundle.net start journal))
+    (λ journal. compared_other (length (joined journal.rounds)) (first_difference (journal.first + 1) (journal_compared bundle.net start journal)))
+replay_judged_other bundle counts lines (Some rejected) = λ e. absurd cc
+
+replay_other : (lines : List (List ℕ)) (given : Result Output Refusal) → ReplayGives lines given → IsOther given
+replay_other lines =
+    after_keeps IsOther refused (two_and_some lines) OfReplayLines
+    (λ found given is. after_keeps IsOther refused is.0 (OfReplayBegun found.2)
+    (λ begin given is. subst IsOther (sym is.2) (replay_judged_other begin.0 begin.1 found.2 is.0)) given is.2)
+
 pub given_ending : (command : Command) (lines : List (List ℕ)) (given : Result Output Refusal) → CommandGives command lines given → (output_for given).ending ≢ ReadFault
 given_ending Play lines given is = play_other lines given is
 given_ending Eval lines given is = subst IsOther (sym is) (eval_other lines)
 given_ending Check lines given is = check_other lines given is
 given_ending (Run spec) lines given is = run_other spec lines given is
+given_ending Replay lines given is = replay_other lines given is

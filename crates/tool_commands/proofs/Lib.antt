@@ -1,4 +1,4 @@
-mod InputSize
+pub mod InputSize
 pub mod Begun
 pub mod Ran
 pub mod Played
@@ -11,4 +11,5 @@ pub mod OneLast
 pub mod OnePlay
 pub mod OneCheck
 pub mod OneRun
+pub mod OneReplay
 pub mod One

@@ -9,7 +9,7 @@ use Rattle.tool_texts.specs.Steps.{After}
 use Rattle.tool_texts.specs.Lines.{just_one}
 use Rattle.tool_texts.proofs.Goes.{one_after}
 use Rattle.tool_texts.proofs.OneValue.{one_value}
-use Rattle.tool_commands.specs.Bundles.{bundle_in, IsBundleOf, IsJudged}
+use Rattle.tool_commands.specs.Bundles.{bundle_in, begun, IsBundleOf, IsBegunBy, IsJudged}
 use Rattle.tool_commands.specs.Check.{judgement, OfBundle, OfLine, CheckGives}
 
 pub one_judged : (bundle : Bundle) (v w : Option Rejected) → IsJudged bundle v → IsJudged bundle w → v ≡ w
@@ -21,6 +21,9 @@ one_judged bundle (Some v) (Some w) p q =
 
 pub one_bundle : (line : List ℕ) (r s : Result Bundle Refusal) → IsBundleOf line r → IsBundleOf line s → r ≡ s
 one_bundle line r s p q = p.2 ∙ ap bundle_in (one_value line p.0 q.0 p.1 q.1) ∙ sym q.2
+
+pub one_begin : (first second : List ℕ) (r s : Result (Bundle × List ℕ) Refusal) → IsBegunBy first second r → IsBegunBy first second s → r ≡ s
+one_begin first second r s p q = p.2 ∙ ap (λ v. begun v second) (one_value first p.0 q.0 p.1 q.1) ∙ sym q.2
 
 of_bundle : (bundle : Bundle) (x y : Result Output Refusal) → OfBundle bundle x → OfBundle bundle y → x ≡ y
 of_bundle bundle x y p q =

@@ -19,14 +19,12 @@ use Rattle.tool_texts.specs.declared.output.Ending.{Ending}
 use Rattle.tool_texts.specs.Steps.{After}
 use Rattle.tool_texts.specs.Lines.{just_two}
 use Rattle.tool_texts.proofs.Goes.{one_after}
-use Rattle.tool_texts.proofs.OneValue.{one_value}
-use Rattle.tool_commands.specs.Bundles.{begun, IsBegunBy}
 use Rattle.tool_commands.specs.Play.{IsLast}
 use Rattle.tool_commands.specs.Run.{journal_end, run_ending, IsRunOutput, OfJudged, OfBegun, OfLines, RunGives}
 use Rattle.tool_commands.proofs.Begun.{begun_two}
 use Rattle.tool_commands.proofs.Ran.{run_tuples}
 use Rattle.tool_commands.proofs.OneLast.{one_last}
-use Rattle.tool_commands.proofs.OneCheck.{one_judged}
+use Rattle.tool_commands.proofs.OneCheck.{one_judged, one_begin}
 
 same_output : (x y : Output) → x.text ≡ y.text → x.ending ≡ y.ending → x ≡ y
 same_output x y text ending =
@@ -61,9 +59,6 @@ module _ (spec : RunSpec) (alone : spec.workers ≡ 1) where
         let judged = one_judged begin.0 p.0 q.0 p.2 q.2 in
         let same = of_judged begin.0 begin.1 two q.0 p.1 q.1 (subst (λ (o : Option Rejected). OfJudged spec lines begin.0 begin.1 o p.1) judged p.3) q.3 in
         p.4 ∙ ap (λ (o : Output). Ok o) same ∙ sym q.4
-
-  one_begin : (first second : List ℕ) (r s : Result (Bundle × List ℕ) Refusal) → IsBegunBy first second r → IsBegunBy first second s → r ≡ s
-  one_begin first second r s p q = p.2 ∙ ap (λ v. begun v second) (one_value first p.0 q.0 p.1 q.1) ∙ sym q.2
 
   of_lines : (lines : List ℕ × List ℕ) (x y : Result Output Refusal) → OfLines spec lines x → OfLines spec lines y → x ≡ y
   of_lines lines x y p q =

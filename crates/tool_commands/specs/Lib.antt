@@ -4,5 +4,6 @@ pub mod Bundles
 pub mod Check
 pub mod Play
 pub mod Run
+pub mod Replay
 pub mod Prepared
 pub mod Commands

@@ -1,10 +1,10 @@
 -- What `run` makes of the lines of its input: a bundle and a crowd line.
-use Rattle.std.specs.Prelude.{◌≡◌, ℕ, Bool, List, ◌++◌, Option, Some, None, Result, Ok}
+use Rattle.std.specs.Prelude.{◌≡◌, ℕ, Bool, List, length, ◌++◌, Option, Some, None, Result, Ok}
 use Rattle.pop_lines.specs.Lines.{ended}
 use Rattle.pres_ast.specs.PredModel.{PredModel}
 use Rattle.pres_ast.specs.PredicateValue.{predicate_value}
-use Rattle.pop_net.specs.NetModel.{NetModel, CrowdModel}
-use Rattle.pop_net.specs.InputCrowd.{input_crowd}
+use Rattle.pop_net.specs.NetModel.{NetModel, CrowdModel, helper_count}
+use Rattle.pop_net.specs.InputCrowd.{IsInput, input_crowd}
 use Rattle.pop_crowd.specs.declared.crowd.Meeting.{Meeting}
 use Rattle.pop_words.specs.declared.spec.RunSpec.{RunSpec}
 use Rattle.pair_workers.specs.Run.{IsRun}
@@ -41,6 +41,7 @@ open_pair (Open a b) = Some (a, b)
 
 -- the input lines, and the journal of a run of the net from the input crowd
 pub record IsRunOutput (spec : RunSpec) (lines : List ℕ) (net : NetModel) (pred : PredModel) (counts : List ℕ) (output : Output) : Type 0 where
+  pub input : IsInput (length net.variables) (helper_count net) counts
   pub rounds : List (List Meeting)
   pub end : CrowdModel
   pub run : IsRun net (input_crowd net counts) spec rounds end

@@ -8,11 +8,13 @@ mod check;
 mod eval;
 mod play;
 mod prepared;
+mod replay;
 mod run;
 mod start;
 mod table;
 
 pub use prepared::{PendingRun, Prepared};
+pub use replay::JOURNAL_LINE;
 pub use run::{make_alone, make_on_threads};
 pub use start::Start;
 pub use table::{is_plain_command, prepare_command};

@@ -10,6 +10,7 @@ use crate::check::check;
 use crate::eval::eval;
 use crate::play::play;
 use crate::prepared::Prepared;
+use crate::replay::replay;
 use crate::run::{is_by_one, prepare_run};
 use pop_words::Command;
 use std::alloc::Global;
@@ -27,6 +28,7 @@ pub fn prepare_command(alloc: Global, command: Command, input: &[u8]) -> Result<
         Command::Eval => Ok(Prepared::Text(eval(alloc, input)?)),
         Command::Check => Ok(Prepared::Text(check(alloc, input)?)),
         Command::Run(spec) => prepare_run(alloc, spec, input),
+        Command::Replay => Ok(Prepared::Text(replay(alloc, input)?)),
     }
 }
 

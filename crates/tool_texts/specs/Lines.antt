@@ -24,6 +24,13 @@ two_and_more [] = missing 1
 two_and_more (first ∷ []) = missing 2
 two_and_more (first ∷ second ∷ more) = Ok (first, second, more)
 
+-- at least three lines: the first two, and all the others
+abbrev pub two_and_some : List (List ℕ) → Result (List ℕ × List ℕ × List (List ℕ)) Refusal
+two_and_some [] = missing 1
+two_and_some (first ∷ []) = missing 2
+two_and_some (first ∷ second ∷ []) = missing 3
+two_and_some (first ∷ second ∷ third ∷ more) = Ok (first, second, third ∷ more)
+
 -- just two lines
 abbrev pub just_two : List (List ℕ) → Result (List ℕ × List ℕ) Refusal
 just_two [] = missing 1

@@ -4,10 +4,11 @@ use Rattle.pop_lines.specs.Lines.{ended}
 use Rattle.json_shape.specs.Reasons.{pred_reason, reason}
 use Rattle.pop_words.specs.declared.command.Usage.{Usage}
 use Rattle.pop_words.specs.Reasons.{bad_word}
+use Rattle.pop_journal.specs.Reasons.{journal_reason}
 use Rattle.tool_texts.specs.declared.refusal.LineWhy.{LineWhy}
 use Rattle.tool_texts.specs.declared.refusal.LineWhy.TheVariants as line
 use Rattle.tool_texts.specs.declared.refusal.Refusal.{Refusal}
-use Rattle.tool_texts.specs.declared.refusal.Refusal.TheVariants.{TooLong, Line, NotJson, Format, Pred, Count, Size}
+use Rattle.tool_texts.specs.declared.refusal.Refusal.TheVariants.{TooLong, Line, NotJson, Format, Pred, Count, Size, Journal}
 use Rattle.tool_texts.specs.declared.output.Output.{Output}
 use Rattle.tool_texts.specs.declared.output.Ending.TheVariants as ending
 
@@ -28,6 +29,7 @@ refusal_text (Format path why) = codes "fault: format " ++ path ++ codes " " ++ 
 refusal_text (Pred why) = codes "fault: pred " ++ pred_reason why
 refusal_text (Count word) = codes "fault: count " ++ decimal word
 refusal_text (Size agents) = codes "fault: size " ++ decimal agents
+refusal_text (Journal number why) = codes "fault: journal " ++ decimal number ++ codes " " ++ journal_reason why
 
 -- for words without a command
 abbrev pub usage_output : Usage → Output

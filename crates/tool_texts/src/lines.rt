@@ -3,12 +3,12 @@
 ghost use Rattle.std.specs.Prelude.{◌≡◌, ◌≤◌, length, IfOk};
 ghost use Rattle.pop_lines.specs.Lines.{lines_of};
 ghost use Rattle.tool_texts.specs.Steps.{Gives};
-ghost use Rattle.tool_texts.specs.Lines.{line_refusal, two_and_more, just_one, just_two, just_three};
+ghost use Rattle.tool_texts.specs.Lines.{line_refusal, two_and_more, two_and_some, just_one, just_two, just_three};
 ghost use Rattle.tool_texts.specs.declared.stop.Stop.TheVariants.{Refused};
 
 use crate::refusal::{LineWhy, Refusal};
 use crate::stop::Stop;
-use pop_lines::{LineFault, one_line, three_lines, two_lines, two_lines_and_more};
+use pop_lines::{LineFault, next_line, one_line, three_lines, two_lines, two_lines_and_more};
 
 fn refused(fault: LineFault) -> Stop
     ensures { result ≡ Refused (line_refusal fault) }
@@ -38,6 +38,18 @@ pub fn two_and_more_lines(input: &[u8]) -> Result<(&[u8], &[u8], &[u8]), Stop>
     match two_lines_and_more(input) {
         Ok(found) => Ok(found),
         Err(fault) => Err(refused(fault)),
+    }
+}
+
+/// The first two lines, and the bytes after them, which have a line at least.
+pub fn two_and_some_lines(input: &[u8]) -> Result<(&[u8], &[u8], &[u8]), Stop>
+    ensures lines { Gives (λ found. (found.0.now, found.1.now, lines_of found.2.now)) result
+        (two_and_some (lines_of input.now)) }
+{
+    let (first, second, rest) = two_and_more_lines(input)?;
+    match next_line(rest) {
+        Some(_third) => Ok((first, second, rest)),
+        None => Err(refused(LineFault::Missing(3))),
     }
 }
 

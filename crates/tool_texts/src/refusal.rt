@@ -6,6 +6,7 @@ ghost use Rattle.tool_texts.specs.Refusals.{line_reason, refusal_text};
 use crate::output::{Ending, Output};
 use json_shape::{PredWhy, Why};
 use pop_io::Text;
+use pop_journal::JournalWhy;
 use pop_words::Usage;
 use std::alloc::{AllocError, Global};
 use std::fmt;
@@ -40,6 +41,8 @@ pub enum Refusal {
     Count(u32),
     /// A crowd of so many agents is not run.
     Size(u128),
+    /// What is wrong with the line of this number, in a journal.
+    Journal(u64, JournalWhy),
 }
 
 impl fmt::Display for LineWhy {
@@ -71,6 +74,7 @@ impl fmt::Display for Refusal {
             Refusal::Pred(why) => write!(f, "fault: pred {why}"),
             Refusal::Count(word) => write!(f, "fault: count {word}"),
             Refusal::Size(agents) => write!(f, "fault: size {agents}"),
+            Refusal::Journal(number, why) => write!(f, "fault: journal {number} {why}"),
         }
     }
 }

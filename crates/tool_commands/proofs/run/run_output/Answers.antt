@@ -24,6 +24,7 @@ returns c =
     let net = c.args.checked.now.net in
     let run = c.args.run.now in
     let last = c.last_and_ending-last.ensures in record {
+      input = c.requires.input;
       rounds = run.rounds;
       end = crowd_of net run.crowd;
       run = c.requires.run;

@@ -1,0 +1,209 @@
+-- What a printed text of `replay` says of a journal.
+use Rattle.std.proofs.Common.{◌≡◌, ℕ, ◌+◌, ◌<◌, ◌≤◌, ◌^◌, Bool, true, false, nat_lt, List, [], ◌∷◌, ◌++◌, get_or, length, decimal, Option, Some, None, Result, Ok, Err, refl, sym, ap, subst, ◌∙◌, arith}
+use Rattle.std.specs.Prelude.{MatchBool}
+use Rattle.std.proofs.lemmas.Bool.{le-ltb, ltb-false}
+use Rattle.std.proofs.lemmas.Fmt.{decimal_injective}
+use Rattle.std.proofs.lemmas.List.{append_cancel_right}
+use Rattle.pop_io.specs.declared.whole.TheConstants.{INPUT_LIMIT}
+use Rattle.pop_lines.specs.Lines.{lines_of, ended}
+use Rattle.pop_net.specs.NetModel.{NetModel, CrowdModel}
+use Rattle.pop_net.specs.InputCrowd.{input_crowd}
+use Rattle.pop_net.proofs.Tuples.{input_tuples}
+use Rattle.pop_crowd.specs.declared.limits.TheConstants.{AGENT_LEAST, AGENT_LIMIT}
+use Rattle.pop_words.specs.declared.command.Command.TheVariants.{Replay}
+use Rattle.pop_words.specs.declared.spec.RunSpec.{RunSpec}
+use Rattle.pop_words.specs.Options.{IsWithinLimits}
+use Rattle.pair_workers.specs.Run.{joined}
+use Rattle.pop_journal.specs.declared.journal.Journal.{Journal}
+use Rattle.pop_journal.specs.Rounds.{AreRounds}
+use Rattle.pop_journal.specs.Form.{Parts, Out, journal_in}
+use Rattle.pop_journal.specs.Expected.{Difference, first_difference, journal_compared, Holds}
+use Rattle.pop_journal.proofs.Written.{journal_form, few_meetings}
+use Rattle.pop_journal.proofs.Verdicts.{none_held, held_none}
+use Rattle.cert_json.specs.declared.bundle.Bundle.{Bundle}
+use Rattle.pop_checker.specs.declared.fault.Rejected.{Rejected}
+use Rattle.pop_checker.specs.declared.fault.Rejected.TheVariants.{Layers, Tree, Predicate}
+use Rattle.pop_checker.proofs.OneFault.{none_rejected}
+use Rattle.tool_texts.specs.declared.refusal.Refusal.{Refusal}
+use Rattle.tool_texts.specs.declared.refusal.Refusal.TheVariants.{TooLong, Line, NotJson, Format, Pred, Count, Size, Journal as OfJournal}
+use Rattle.tool_texts.specs.declared.output.Output.{Output}
+use Rattle.tool_texts.specs.declared.status.Status.TheVariants.{Done}
+use Rattle.tool_texts.specs.Statuses.{status_of}
+use Rattle.tool_texts.specs.Steps.{◌>>=◌, After}
+use Rattle.tool_texts.specs.Lines.{two_and_some}
+use Rattle.tool_texts.specs.Differences.{difference_text}
+use Rattle.tool_texts.specs.Refusals.{refusal_text, output_for}
+use Rattle.tool_texts.specs.Rejections.{rejected_text}
+use Rattle.tool_commands.specs.declared.replay.TheConstants.{JOURNAL_LINE}
+use Rattle.tool_commands.specs.Bundles.{IsBegunBy, IsJudged}
+use Rattle.tool_commands.specs.Replay.{holds_text, holds_output, journal_read, compared_output, journal_output, replay_output, judged_output, OfBegun, OfLines, ReplayGives}
+use Rattle.tool_commands.proofs.OneCheck.{one_begin}
+use Rattle.tool_commands.proofs.InputSize.{length-input_crowd}
+use Rattle.tool_commands.proofs.Begun.{begun_two, begun_few}
+use Rattle.pop_tool.specs.Answer.{InputGives}
+use Rattle.pop_tool.specs.Headline.{IsValid, IsHeldInput}
+
+first_byte : List ℕ → ℕ
+first_byte bytes = get_or bytes 0 0
+
+-- a refusal begins with an f, a rejection with an r, a difference with a d, and `holds` with an h
+not_refusal : (refusal : Refusal) (k : ℕ) → ended (refusal_text refusal) ≡ ended (holds_text k) → ⊥
+unfolding first_byte
+not_refusal TooLong k e = let b : 102 ≡ 104 = ap first_byte e in absurd (omega (arith, b))
+not_refusal (Line number why) k e = let b : 102 ≡ 104 = ap first_byte e in absurd (omega (arith, b))
+not_refusal NotJson k e = let b : 102 ≡ 104 = ap first_byte e in absurd (omega (arith, b))
+not_refusal (Format path why) k e = let b : 102 ≡ 104 = ap first_byte e in absurd (omega (arith, b))
+not_refusal (Pred why) k e = let b : 102 ≡ 104 = ap first_byte e in absurd (omega (arith, b))
+not_refusal (Count word) k e = let b : 102 ≡ 104 = ap first_byte e in absurd (omega (arith, b))
+not_refusal (Size agents) k e = let b : 102 ≡ 104 = ap first_byte e in absurd (omega (arith, b))
+not_refusal (OfJournal number why) k e = let b : 102 ≡ 104 = ap first_byte e in absurd (omega (arith, b))
+
+not_rejection : (rejected : Rejected) (k : ℕ) → ended (rejected_text rejected) ≡ ended (holds_text k) → ⊥
+unfolding first_byte
+not_rejection (Layers leaf fault) k e = let b : 114 ≡ 104 = ap first_byte e in absurd (omega (arith, b))
+not_rejection (Tree leaf value fault) k e = let b : 114 ≡ 104 = ap first_byte e in absurd (omega (arith, b))
+not_rejection Predicate k e = let b : 114 ≡ 104 = ap first_byte e in absurd (omega (arith, b))
+
+not_difference : (difference : Difference) (k : ℕ) → difference_text difference ≡ ended (holds_text k) → ⊥
+unfolding first_byte
+not_difference difference k e = let b : 100 ≡ 104 = ap first_byte e in absurd (omega (arith, b))
+
+tail_of : List ℕ → List ℕ
+tail_of [] = []
+tail_of (b ∷ bytes) = bytes
+
+-- the number that is printed
+one_number : (n k : ℕ) → n < 2 ^ 64 → k < 2 ^ 64 → ended (holds_text n) ≡ ended (holds_text k) → n ≡ k
+unfolding tail_of
+one_number n k small few e =
+    let text = append_cancel_right (holds_text n) (holds_text k) (10 ∷ []) e in
+    decimal_injective n k small few (ap (λ (t : List ℕ). tail_of (tail_of (tail_of (tail_of (tail_of (tail_of t)))))) text)
+
+abbrev Printed : Result Output Refusal → ℕ → Type 0
+Printed given k = (output_for given).text ≡ ended (holds_text k)
+
+-- how a bundle and its counts begin
+module _ (first second : List ℕ) (bundle : Bundle) (counts : List ℕ) (begins : IsBegunBy first second (Ok (bundle, counts))) where
+  abbrev start : CrowdModel
+  start = input_crowd bundle.net counts
+
+  two : AGENT_LEAST ≤ length start
+  two =
+      let l = begun_two begins.0 second bundle counts (sym begins.2) in
+      let e = length-input_crowd bundle.net counts in omega (arith, l, e)
+
+  few : length start ≤ AGENT_LIMIT
+  few =
+      let l = begun_few begins.0 second bundle counts (sym begins.2) in
+      let e = length-input_crowd bundle.net counts in omega (arith, l, e)
+
+  read_ok : (r : Result (RunSpec × Parts) Out) (journal : Journal) → journal_read r ≡ Ok journal → (r ≡ Ok (journal.spec, (journal.rounds, journal.tail))) × (journal.first ≡ JOURNAL_LINE)
+  read_ok (Ok (spec, parts)) journal e =
+      let made : Journal = record { spec = spec; rounds = parts.0; tail = parts.1; first = JOURNAL_LINE } in
+      let same : made ≡ journal = (let ok : ◌≡◌ {A = Result Journal Refusal} (Ok made) (Ok journal) = e in cc) in
+      (ap (λ (j : Journal). Ok (j.spec, (j.rounds, j.tail))) same, sym (ap (λ (j : Journal). j.first) same))
+  read_ok (Err out) journal e = absurd cc
+
+  module _ (more : List (List ℕ)) (journal : Journal) (read : journal_read (journal_in (length start) JOURNAL_LINE more) ≡ Ok journal) where
+    formed : IsWithinLimits journal.spec × AreRounds journal.spec (length start) journal.rounds
+    formed =
+        let form = journal_form (length start) JOURNAL_LINE more journal.spec (journal.rounds, journal.tail) (omega (arith, few)) (read_ok (journal_in (length start) JOURNAL_LINE more) journal read).0 in
+        (form.1, form.2)
+
+    none_differs : Holds bundle.net start journal → first_difference (journal.first + 1) (journal_compared bundle.net start journal) ≡ None
+    none_differs = held_none bundle.net start journal two few formed.0.workers.1 (input_tuples bundle.net counts) formed.1
+
+    none_is_held : first_difference (journal.first + 1) (journal_compared bundle.net start journal) ≡ None → Holds bundle.net start journal
+    none_is_held = none_held bundle.net start journal two few formed.0.workers.1 (input_tuples bundle.net counts) formed.1
+
+    -- a journal that holds is said to hold
+    pub held_output : Holds bundle.net start journal → replay_output bundle.net start more ≡ Ok (holds_output (length (joined journal.rounds)))
+    held_output holds =
+        ap (λ (r : Result Journal Refusal). r >>= λ j. Ok (journal_output bundle.net start j)) read
+        ∙ ap (λ (d : Option Difference). Ok (compared_output (length (joined journal.rounds)) d)) (none_differs holds)
+
+    compared_held : (k : ℕ) → k < 2 ^ 64 → (found : Option Difference) → first_difference (journal.first + 1) (journal_compared bundle.net start journal) ≡ found
+        → (compared_output (length (joined journal.rounds)) found).text ≡ ended (holds_text k) → Holds bundle.net start journal × (length (joined journal.rounds) ≡ k)
+    compared_held k small None is printed =
+        (none_is_held is, one_number (length (joined journal.rounds)) k (few_meetings journal.spec (length start) journal.rounds formed.0 formed.1) small printed)
+    compared_held k small (Some difference) is printed = absurd (not_difference difference k printed)
+
+    -- and no other one
+    pub output_held : (k : ℕ) → k < 2 ^ 64 → (journal_output bundle.net start journal).text ≡ ended (holds_text k) → Holds bundle.net start journal × (length (joined journal.rounds) ≡ k)
+    output_held k small printed = compared_held k small (first_difference (journal.first + 1) (journal_compared bundle.net start journal)) refl printed
+
+short_lines : (input : List ℕ) (given : Result Output Refusal) → length input ≤ INPUT_LIMIT → InputGives Replay input given → ReplayGives (lines_of input) given
+short_lines input given short is = rw (le-ltb INPUT_LIMIT (length input) short) at is
+
+-- there is a journal only where there is a line
+some_more : (agents : ℕ) (first second : List ℕ) (more : List (List ℕ)) (journal : Journal) (given : Result Output Refusal) → journal_read (journal_in agents JOURNAL_LINE more) ≡ Ok journal
+    → After (two_and_some (first ∷ second ∷ more)) OfLines given → OfLines (first, second, more) given
+some_more agents first second [] journal given read of = absurd cc
+some_more agents first second (third ∷ more) journal given read of = of
+
+judged_given : (bundle : Bundle) (counts : List ℕ) (lines : List (List ℕ)) (judged : Option Rejected) → IsJudged bundle judged → IsValid bundle → judged_output bundle counts lines judged ≡ replay_output bundle.net (input_crowd bundle.net counts) lines
+judged_given bundle counts lines None is valid = refl
+judged_given bundle counts lines (Some rejected) is valid = absurd (none_rejected bundle.net bundle.pred bundle.proof rejected valid is)
+
+-- a journal that holds is answered by `holds`
+pub held_given : (input : List ℕ) (k : ℕ) → IsHeldInput input k → (given : Result Output Refusal) → InputGives Replay input given → given ≡ Ok (holds_output k)
+held_given input k held given is =
+    let start = input_crowd held.bundle.net held.counts in
+    let lines : After (two_and_some (held.first ∷ held.second ∷ held.more)) OfLines given = subst (λ (ls : List (List ℕ)). After (two_and_some ls) OfLines given) held.lines (short_lines input given held.short is) in
+    let of = some_more (length start) held.first held.second held.more held.journal given held.read lines in
+    let begin = one_begin held.first held.second of.0 (Ok (held.bundle, held.counts)) of.1 held.begins in
+    let begun : OfBegun held.more (held.bundle, held.counts) given = subst (λ (r : Result (Bundle × List ℕ) Refusal). After r (OfBegun held.more) given) begin of.2 in
+    begun.2 ∙ judged_given held.bundle held.counts held.more begun.0 begun.1 held.valid
+    ∙ held_output held.first held.second held.bundle held.counts held.begins held.more held.journal held.read held.holds
+    ∙ ap (λ (n : ℕ). Ok (holds_output n)) held.all
+
+module _ (k : ℕ) (small : k < 2 ^ 64) where
+  refused : (refusal : Refusal) (given : Result Output Refusal) → given ≡ Err refusal → Printed given k → ⊥
+  refused refusal given is printed = not_refusal refusal k (subst (λ (g : Result Output Refusal). Printed g k) is printed)
+
+  module _ (input first second : List ℕ) (more : List (List ℕ)) (short : length input ≤ INPUT_LIMIT) (lines : lines_of input ≡ first ∷ second ∷ more) where
+    read_only : (bundle : Bundle) (counts : List ℕ) → IsBegunBy first second (Ok (bundle, counts)) → IsValid bundle → (r : Result Journal Refusal) → journal_read (journal_in (length (input_crowd bundle.net counts)) JOURNAL_LINE more) ≡ r
+        → Printed (r >>= λ journal. Ok (journal_output bundle.net (input_crowd bundle.net counts) journal)) k → IsHeldInput input k
+    read_only bundle counts begins valid (Err refusal) read printed = absurd (not_refusal refusal k printed)
+    read_only bundle counts begins valid (Ok journal) read printed =
+        let held = output_held first second bundle counts begins more journal read k small printed in
+        record {
+          short = short;
+          first = first;
+          second = second;
+          more = more;
+          lines = lines;
+          bundle = bundle;
+          counts = counts;
+          begins = begins;
+          valid = valid;
+          journal = journal;
+          read = read;
+          holds = held.0;
+          all = held.1;
+        }
+
+    judged_only : (bundle : Bundle) (counts : List ℕ) → IsBegunBy first second (Ok (bundle, counts)) → (judged : Option Rejected) → IsJudged bundle judged → Printed (judged_output bundle counts more judged) k → IsHeldInput input k
+    judged_only bundle counts begins None is printed =
+        read_only bundle counts begins is.0 (journal_read (journal_in (length (input_crowd bundle.net counts)) JOURNAL_LINE more)) refl printed
+    judged_only bundle counts begins (Some rejected) is printed = absurd (not_rejection rejected k printed)
+
+    begun_only : (r : Result (Bundle × List ℕ) Refusal) → IsBegunBy first second r → (given : Result Output Refusal) → After r (OfBegun more) given → Printed given k → IsHeldInput input k
+    begun_only (Err refusal) begins given of printed = absurd (refused refusal given of printed)
+    begun_only (Ok begin) begins given of printed =
+        judged_only begin.0 begin.1 begins of.0 of.1 (subst (λ (g : Result Output Refusal). Printed g k) of.2 printed)
+
+  lines_only : (input : List ℕ) (lines : List (List ℕ)) → length input ≤ INPUT_LIMIT → lines_of input ≡ lines → (given : Result Output Refusal) → ReplayGives lines given → Printed given k → IsHeldInput input k
+  lines_only input [] short is given of printed = absurd (refused _ given of printed)
+  lines_only input (first ∷ []) short is given of printed = absurd (refused _ given of printed)
+  lines_only input (first ∷ second ∷ []) short is given of printed = absurd (refused _ given of printed)
+  lines_only input (first ∷ second ∷ third ∷ more) short is given of printed =
+      begun_only input first second (third ∷ more) short is of.0 of.1 given of.2 printed
+
+  by_length : (input : List ℕ) (long : Bool) → nat_lt INPUT_LIMIT (length input) ≡ long → (given : Result Output Refusal) → MatchBool long (given ≡ Err TooLong) (ReplayGives (lines_of input) given) → Printed given k → IsHeldInput input k
+  by_length input true is given of printed = absurd (refused TooLong given of printed)
+  by_length input false is given of printed = lines_only input (lines_of input) (ltb-false INPUT_LIMIT (length input) is) refl given of printed
+
+  -- `holds` is given for a journal that holds alone
+  pub replay_only : (input : List ℕ) (given : Result Output Refusal) → InputGives Replay input given → Printed given k → IsHeldInput input k
+  replay_only input given is printed = by_length input (nat_lt INPUT_LIMIT (length input)) refl given is printed

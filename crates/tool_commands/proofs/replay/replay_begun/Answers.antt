@@ -1,0 +1,30 @@
+use Rattle.std.proofs.Common.{◌≡◌, ℕ, List, Some, None, Result, Ok, refl, sym, ap, subst, ◌∙◌}
+use Rattle.pop_lines.specs.Lines.{lines_of}
+use Rattle.pop_net.specs.NetModel.{NetModel, CrowdModel}
+use Rattle.pop_net.specs.InputCrowd.{input_crowd}
+use Rattle.pop_net.specs.Lanes.{crowd_of}
+use Rattle.pop_checker.specs.CheckedModel.{CheckedModel, IsChecked}
+use Rattle.tool_texts.specs.declared.refusal.Refusal.{Refusal}
+use Rattle.tool_texts.specs.declared.output.Output.{Output}
+use Rattle.tool_texts.specs.Steps.{Gives}
+use Rattle.tool_texts.proofs.Goes.{gives_obeys}
+use Rattle.tool_commands.specs.Replay.{replay_output, judged_output, OfBegun}
+use Rattle.tool_commands.proofs.replay.replay_begun.Goals as goal
+
+pub returns-in-Ok : goal.returns-in-Ok
+returns-in-Ok c =
+    let kept = c.in-Ok.ensures.kept in
+    let checked = subst IsChecked kept (subst IsChecked c.checked.view_is c.checked.invariant) in
+    let bundle = c.args.bundle in
+    let start = c.args.start in
+    let lines = lines_of c.args.text.now in
+    let net : c.net.result.now ≡ bundle.net = c.net.ensures ∙ ap (λ (m : CheckedModel). m.net) kept in
+    let same : replay_output c.net.result.now (crowd_of c.net.result.now start.crowd) lines ≡ judged_output bundle start.counts lines None =
+    ap (λ (n : NetModel). replay_output n (crowd_of n start.crowd) lines) net ∙ ap (λ (s : CrowdModel). replay_output bundle.net s lines) c.requires.start.crowd in
+    gives_obeys (OfBegun lines (bundle, start.counts)) (λ (o : Output). o) c.replay_from.result (judged_output bundle start.counts lines None)
+    (None, (c.in-Ok.ensures.valid, checked), refl)
+    (subst (λ (r : Result Output Refusal). Gives (λ (o : Output). o) c.replay_from.result r) same c.replay_from.ensures)
+
+pub returns-in-Err-Rejected : goal.returns-in-Err-Rejected
+returns-in-Err-Rejected c =
+    (Some c.in-Err-Rejected.rejected, rw c.in-Err-Rejected.field-0-is at c.in-Err-Rejected.ensures.fault, ap (λ (o : Output). Ok o) c.in_ok-of_rejection-in-Err-Rejected.ensures)

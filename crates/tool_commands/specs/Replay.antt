@@ -1,0 +1,62 @@
+-- What `replay` makes of the lines of its input: a bundle, a crowd line, and a journal.
+use Rattle.std.specs.Prelude.{◌≡◌, ℕ, ◌+◌, List, ◌++◌, length, codes, decimal, Option, Some, None, Result, Ok, Err}
+use Rattle.pop_lines.specs.Lines.{ended}
+use Rattle.pop_net.specs.NetModel.{NetModel, CrowdModel}
+use Rattle.pop_net.specs.InputCrowd.{input_crowd}
+use Rattle.pop_words.specs.declared.spec.RunSpec.{RunSpec}
+use Rattle.pair_workers.specs.Run.{joined}
+use Rattle.pop_journal.specs.declared.journal.Journal.{Journal}
+use Rattle.pop_journal.specs.Form.{Parts, Out, journal_in}
+use Rattle.pop_journal.specs.Expected.{Difference, first_difference, journal_compared}
+use Rattle.cert_json.specs.declared.bundle.Bundle.{Bundle}
+use Rattle.pop_checker.specs.declared.fault.Rejected.{Rejected}
+use Rattle.tool_texts.specs.declared.refusal.Refusal.{Refusal}
+use Rattle.tool_texts.specs.declared.refusal.Refusal.TheVariants as refusal
+use Rattle.tool_texts.specs.declared.output.Output.{Output}
+use Rattle.tool_texts.specs.declared.output.Ending.TheVariants.{Done}
+use Rattle.tool_texts.specs.Steps.{◌>>=◌, After}
+use Rattle.tool_texts.specs.Lines.{two_and_some}
+use Rattle.tool_texts.specs.Differences.{difference_output}
+use Rattle.tool_texts.specs.Rejections.{rejection_output}
+use Rattle.tool_commands.specs.declared.replay.TheConstants.{JOURNAL_LINE}
+use Rattle.tool_commands.specs.Bundles.{IsBegunBy, IsJudged}
+
+-- the line of a journal that holds, with its number of meetings
+abbrev pub holds_text : ℕ → List ℕ
+holds_text meetings = codes "holds " ++ decimal meetings
+
+abbrev pub holds_output : ℕ → Output
+holds_output meetings = record { text = ended (holds_text meetings); ending = Done }
+
+-- the journal that these lines tell, of which the first has the number JOURNAL_LINE
+abbrev pub journal_read : Result (RunSpec × Parts) Out → Result Journal Refusal
+journal_read (Ok (spec, parts)) = Ok (record { spec = spec; rounds = parts.0; tail = parts.1; first = JOURNAL_LINE })
+journal_read (Err out) = Err (refusal.Journal out.0 out.1)
+
+abbrev pub compared_output : ℕ → Option Difference → Output
+compared_output meetings None = holds_output meetings
+compared_output meetings (Some difference) = difference_output difference
+
+-- `holds` with the number of meetings, or the first line that isn't the expected one
+abbrev pub journal_output : NetModel → CrowdModel → Journal → Output
+journal_output net start journal =
+    compared_output (length (joined journal.rounds)) (first_difference (journal.first + 1) (journal_compared net start journal))
+
+-- the same for the journal of these lines, if there is one
+abbrev pub replay_output : NetModel → CrowdModel → List (List ℕ) → Result Output Refusal
+replay_output net start lines = journal_read (journal_in (length start) JOURNAL_LINE lines) >>= λ journal. Ok (journal_output net start journal)
+
+-- a valid proof lets its net's journal be replayed
+abbrev pub judged_output : Bundle → List ℕ → List (List ℕ) → Option Rejected → Result Output Refusal
+judged_output bundle counts lines None = replay_output bundle.net (input_crowd bundle.net counts) lines
+judged_output bundle counts lines (Some rejected) = Ok (rejection_output rejected)
+
+abbrev pub OfBegun : List (List ℕ) → Bundle × List ℕ → Result Output Refusal → Type 0
+OfBegun lines begin given = (judged : Option Rejected) × IsJudged begin.0 judged × (given ≡ judged_output begin.0 begin.1 lines judged)
+
+abbrev pub OfLines : List ℕ × List ℕ × List (List ℕ) → Result Output Refusal → Type 0
+OfLines lines given = (begin : Result (Bundle × List ℕ) Refusal) × IsBegunBy lines.0 lines.1 begin × After begin (OfBegun lines.2) given
+
+-- what `replay` gives for the lines of its input
+abbrev pub ReplayGives : List (List ℕ) → Result Output Refusal → Type 0
+ReplayGives lines given = After (two_and_some lines) OfLines given
