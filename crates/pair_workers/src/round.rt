@@ -224,7 +224,16 @@ pub fn run_round<R: Threads + Wait + Sync, G: Gate>(
     ensures kept { IfErr result (λ _. pickers.new ≡ pickers.old) }
 {
     let mut moved = copies(alloc, pickers)?;
-    let round = round_of(rt, alloc, net, crowd, spec, moved.as_mut_slice(), turns, gate)?;
+    let round = round_of(
+        rt,
+        alloc,
+        net,
+        crowd,
+        spec,
+        moved.as_mut_slice(),
+        turns,
+        gate,
+    )?;
     pickers.swap_with_slice(moved.as_mut_slice());
     Ok(round)
 }

@@ -50,23 +50,27 @@ returns-then-left-eq0 g c =
     let found = c.in_ok-a.field-0 in
     let none = subst (λ (n : NetModel). (found ≡ None) ↔ IsTerminal (Step n) (crowd_of n c.rounds.crowd)) c.in_ok-table.ensures c.in_ok-a.ensures.none in
     let least = subst (λ (n : NetModel). IfSome found (λ (pair : ℕ × ℕ). IsLeastPair n (crowd_of n c.rounds.crowd) pair.0 pair.1)) c.in_ok-table.ensures c.in_ok-a.ensures.least in
-    record { run = record {
-      run = subst (λ (rounds : List (List Meeting)). IsRun net (crowd_of net c.args.crowd) c.args.spec.now rounds (crowd_of net c.rounds.crowd)) (sym c.from_vec.ensures)
-          (all_run_over net _ c.args.spec.now c.rounds.rounds.items _ _ c.rounds.left c.rounds.invariant.run (inr (search rules)));
-      ends = open_end net (crowd_of net c.rounds.crowd) c.args.spec.now (length c.from_vec.result) found c.in-Some.a c.in-Some.b c.in-Some.is none least (search rules);
-      valid = c.rounds.invariant.valid;
-      agents = c.rounds.invariant.agents;
-    } }
+    record {
+      run = record {
+        run = subst (λ (rounds : List (List Meeting)). IsRun net (crowd_of net c.args.crowd) c.args.spec.now rounds (crowd_of net c.rounds.crowd)) (sym c.from_vec.ensures)
+            (all_run_over net _ c.args.spec.now c.rounds.rounds.items _ _ c.rounds.left c.rounds.invariant.run (inr (search rules)));
+        ends = open_end net (crowd_of net c.rounds.crowd) c.args.spec.now (length c.from_vec.result) found c.in-Some.a c.in-Some.b c.in-Some.is none least (search rules);
+        valid = c.rounds.invariant.valid;
+        agents = c.rounds.invariant.agents;
+      };
+    }
 
 pub returns : goal.returns
 returns g c =
     let net = c.args.net.now in
     let e : c.in_ok-a.field-0 ≡ None = search rules in
     let terminal = (subst (λ (n : NetModel). (c.in_ok-a.field-0 ≡ None) ↔ IsTerminal (Step n) (crowd_of n c.rounds.crowd)) c.in_ok-table.ensures c.in_ok-a.ensures.none).0 e in
-    record { run = record {
-      run = subst (λ (rounds : List (List Meeting)). IsRun net (crowd_of net c.args.crowd) c.args.spec.now rounds (crowd_of net c.rounds.crowd)) (sym c.from_vec-2.ensures)
-          (all_run_over net _ c.args.spec.now c.rounds.rounds.items _ _ c.rounds.left c.rounds.invariant.run (inl terminal));
-      ends = terminal;
-      valid = c.rounds.invariant.valid;
-      agents = c.rounds.invariant.agents;
-    } }
+    record {
+      run = record {
+        run = subst (λ (rounds : List (List Meeting)). IsRun net (crowd_of net c.args.crowd) c.args.spec.now rounds (crowd_of net c.rounds.crowd)) (sym c.from_vec-2.ensures)
+            (all_run_over net _ c.args.spec.now c.rounds.rounds.items _ _ c.rounds.left c.rounds.invariant.run (inl terminal));
+        ends = terminal;
+        valid = c.rounds.invariant.valid;
+        agents = c.rounds.invariant.agents;
+      };
+    }
