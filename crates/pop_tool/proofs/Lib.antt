@@ -6,4 +6,5 @@ mod RunHeadline
 mod ReplayHeadline
 mod Spent
 mod RunHeld
+mod CompileHeadline
 mod Headlines

@@ -10,7 +10,7 @@ use Rattle.tool_texts.specs.declared.refusal.Refusal.{Refusal}
 use Rattle.tool_texts.specs.declared.refusal.Refusal.TheVariants.{TooLong}
 use Rattle.tool_texts.specs.declared.output.Output.{Output}
 use Rattle.tool_texts.specs.Refusals.{output_for}
-use Rattle.tool_commands.specs.Commands.{CommandGives, IsPlain}
+use Rattle.tool_commands.specs.Commands.{CommandGives, IsDetermined}
 use Rattle.tool_commands.proofs.One.{one_given}
 use Rattle.pop_tool.specs.Answer.{InputGives, OfMeaning}
 use Rattle.pop_tool.specs.OneAnswer.{IsOneAnswer}
@@ -19,11 +19,11 @@ by_length : (P Q : Result Output Refusal → Type 0) (b : Bool) → ((x y : Resu
 by_length P Q true one other x y p q = one x y p q
 by_length P Q false one other x y p q = other x y p q
 
-one_input : (command : Command) → IsPlain command → (input : List ℕ) (x y : Result Output Refusal) → InputGives command input x → InputGives command input y → x ≡ y
+one_input : (command : Command) → IsDetermined command → (input : List ℕ) (x y : Result Output Refusal) → InputGives command input x → InputGives command input y → x ≡ y
 one_input command plain input x y p q =
     by_length (λ r. r ≡ Err TooLong) (CommandGives command (lines_of input)) (nat_lt INPUT_LIMIT (length input)) (λ x y p q. p ∙ sym q) (one_given command plain (lines_of input)) x y p q
 
-one_meaning : (m : Result Command Usage) → IfOk m IsPlain → (input : List ℕ) (one other : Output) → OfMeaning m input one → OfMeaning m input other → one ≡ other
+one_meaning : (m : Result Command Usage) → IfOk m IsDetermined → (input : List ℕ) (one other : Output) → OfMeaning m input one → OfMeaning m input other → one ≡ other
 one_meaning (Err usage) plain input one other p q = p ∙ sym q
 one_meaning (Ok command) plain input one other p q = p.2 ∙ ap output_for (one_input command plain input p.0 q.0 p.1 q.1) ∙ sym q.2
 

@@ -6,7 +6,7 @@ use Rattle.std.proofs.lemmas.Bool.{ltb-false}
 use Rattle.pop_words.specs.declared.spec.TheConstants.{MEETING_LIMIT}
 use Rattle.pop_words.specs.declared.spec.RunSpec.{RunSpec}
 use Rattle.pop_words.specs.declared.command.Command.{Command}
-use Rattle.pop_words.specs.declared.command.Command.TheVariants.{Play, Eval, Check, Run, Replay}
+use Rattle.pop_words.specs.declared.command.Command.TheVariants.{Play, Eval, Check, Run, Replay, Compile}
 use Rattle.pop_words.specs.declared.command.Usage.{Usage}
 use Rattle.pop_words.specs.declared.command.UsageWhy.{UsageWhy}
 use Rattle.pop_words.specs.declared.command.UsageWhy.TheVariants.{Missing, Product}
@@ -46,9 +46,14 @@ abbrev IsWord : List ℕ → List ℕ → Bool → Type 0
 IsWord first word b = bytes_eq first word ≡ b
 
 module _ (first : List ℕ) (words : List (List ℕ)) (spec : RunSpec) (e : meaning_of (first ∷ words) ≡ Ok (Run spec)) where
+  by_compile : IsWord first (codes "play") false → IsWord first (codes "eval") false → IsWord first (codes "check") false → IsWord first (codes "run") false → IsWord first (codes "replay") false → (b : Bool)
+      → IsWord first (codes "compile") b → IsSpent spec
+  by_compile p v c r l true is = absurd (let same = no_more_is Compile words spec (rw (p, v, c, r, l, is) at e) in cc same)
+  by_compile p v c r l false is = absurd (let none = rw (p, v, c, r, l, is) at e in cc none)
+
   by_replay : IsWord first (codes "play") false → IsWord first (codes "eval") false → IsWord first (codes "check") false → IsWord first (codes "run") false → (b : Bool) → IsWord first (codes "replay") b → IsSpent spec
   by_replay p v c r true is = absurd (let same = no_more_is Replay words spec (rw (p, v, c, r, is) at e) in cc same)
-  by_replay p v c r false is = absurd (let none = rw (p, v, c, r, is) at e in cc none)
+  by_replay p v c r false is = by_compile p v c r is (bytes_eq first (codes "compile")) refl
 
   by_run : IsWord first (codes "play") false → IsWord first (codes "eval") false → IsWord first (codes "check") false → (b : Bool) → IsWord first (codes "run") b → IsSpent spec
   by_run p v c true is = options_spent words spec (rw (p, v, c, is) at e)

@@ -4,13 +4,14 @@ use Rattle.serde_json.specs.Data.{Data}
 use Rattle.pop_io.specs.declared.whole.TheConstants.{INPUT_LIMIT}
 use Rattle.pop_lines.specs.Lines.{lines_of, ended}
 use Rattle.pres_ast.specs.PredicateValue.{predicate_value}
+use Rattle.pres_ast.specs.PredModel.{PredModel}
 use Rattle.pop_net.specs.NetModel.{CrowdModel}
 use Rattle.pop_net.specs.InputCrowd.{input_crowd}
 use Rattle.pop_net.specs.Step.{Step}
 use Rattle.pop_net.specs.Terminal.{IsTerminal}
 use Rattle.pop_crowd.specs.declared.crowd.Meeting.{Meeting}
 use Rattle.pop_words.specs.declared.spec.RunSpec.{RunSpec}
-use Rattle.pop_words.specs.declared.command.Command.TheVariants.{Check, Run, Replay}
+use Rattle.pop_words.specs.declared.command.Command.TheVariants.{Check, Run, Replay, Compile}
 use Rattle.pop_words.specs.Words.{meaning_of}
 use Rattle.pair_workers.specs.Run.{joined, IsRun}
 use Rattle.pop_journal.specs.Journal.{journal_text}
@@ -31,6 +32,7 @@ use Rattle.tool_commands.specs.Bundles.{IsBegunBy}
 use Rattle.tool_commands.specs.Check.{certified_text}
 use Rattle.tool_commands.specs.declared.replay.TheConstants.{JOURNAL_LINE}
 use Rattle.tool_commands.specs.Replay.{holds_text, journal_read}
+use Rattle.tool_commands.specs.Compile.{asked, bundle_line, IsCompiled}
 use Rattle.pop_tool.specs.Outcome.{IsAnswered}
 
 -- the input, within its limit, is one line, which is this bundle
@@ -91,6 +93,16 @@ pub record IsHeldInput (input : List ℕ) (meetings : ℕ) : Type 0 where
   pub holds : Holds bundle.net (input_crowd bundle.net counts) journal
   pub all : length (joined journal.rounds) ≡ meetings
 
+-- The input tells a predicate over some names, and the printed line is a bundle of its built net, the predicate and a valid proof, so
+-- that `check` accepts it.
+pub record CompileSays (input text : List ℕ) : Type 0 where
+  pub names : List (List ℕ)
+  pub pred : PredModel
+  pub tells : asked (lines_of input) ≡ Ok (names, pred)
+  pub bundle : Bundle
+  pub compiled : IsCompiled names pred bundle
+  pub printed : text ≡ bundle_line bundle
+
 -- the run was made
 abbrev pub WasRun : Status → Type 0
 WasRun status = (status ≡ Done) ⊎ (status ≡ Undecided)
@@ -100,6 +112,7 @@ pub record Headline (words : List (List ℕ)) (input text : List ℕ) (status : 
   -- `certified`, with whatever number, is printed only for a valid proof
   pub only : meaning_of words ≡ Ok Check → (k : ℕ) → text ≡ ended (certified_text k) → IsValidLine input
   pub run : (spec : RunSpec) → meaning_of words ≡ Ok (Run spec) → WasRun status → RunSays spec input text
+  pub compile : meaning_of words ≡ Ok Compile → status ≡ Done → CompileSays input text
   -- `holds`, with a number of 64 bits, is printed exactly for a journal of a run with so many meetings
   pub replay : meaning_of words ≡ Ok Replay → (k : ℕ) → k < 2 ^ 64 → ((text ≡ ended (holds_text k)) × (status ≡ Done)) ↔ IsHeldInput input k
 

@@ -3,7 +3,8 @@
 ghost use Rattle.pop_tool.specs.OneAnswer.{IsOneAnswer};
 ghost use Rattle.pop_tool.specs.ReplayHeld.{IsReplayHeld};
 
-/// The output is a function of the words and the input, but for a run with two or more workers. The call does nothing: it is its contract.
+/// The output is a function of the words and the input, but for a run with two or more workers and for `compile`, of which any
+/// valid proof will do. The call does nothing: it is its contract.
 pub fn one_answer()
     ensures { IsOneAnswer }
 {}

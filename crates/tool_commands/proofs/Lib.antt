@@ -12,4 +12,5 @@ pub mod OnePlay
 pub mod OneCheck
 pub mod OneRun
 pub mod OneReplay
+pub mod Compiled
 pub mod One

@@ -1,18 +1,19 @@
--- A command that needs no threads gives one output for its input.
+-- A command that leaves no choice gives one output for its input.
 use Rattle.std.proofs.Common.{◌≡◌, ℕ, List, Result, sym, ◌∙◌}
 use Rattle.pop_words.specs.declared.command.Command.{Command}
-use Rattle.pop_words.specs.declared.command.Command.TheVariants.{Play, Eval, Check, Run, Replay}
+use Rattle.pop_words.specs.declared.command.Command.TheVariants.{Play, Eval, Check, Run, Replay, Compile}
 use Rattle.tool_texts.specs.declared.refusal.Refusal.{Refusal}
 use Rattle.tool_texts.specs.declared.output.Output.{Output}
-use Rattle.tool_commands.specs.Commands.{CommandGives, IsPlain}
+use Rattle.tool_commands.specs.Commands.{CommandGives, IsDetermined}
 use Rattle.tool_commands.proofs.OnePlay.{one_play}
 use Rattle.tool_commands.proofs.OneCheck.{one_check}
 use Rattle.tool_commands.proofs.OneRun.{one_run}
 use Rattle.tool_commands.proofs.OneReplay.{one_replay}
 
-pub one_given : (command : Command) → IsPlain command → (lines : List (List ℕ)) (x y : Result Output Refusal) → CommandGives command lines x → CommandGives command lines y → x ≡ y
+pub one_given : (command : Command) → IsDetermined command → (lines : List (List ℕ)) (x y : Result Output Refusal) → CommandGives command lines x → CommandGives command lines y → x ≡ y
 one_given Play plain lines x y p q = one_play lines x y p q
 one_given Eval plain lines x y p q = p ∙ sym q
 one_given Check plain lines x y p q = one_check lines x y p q
 one_given (Run spec) plain lines x y p q = one_run spec plain lines x y p q
 one_given Replay plain lines x y p q = one_replay lines x y p q
+one_given Compile plain lines x y p q = absurd plain

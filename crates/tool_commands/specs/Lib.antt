@@ -5,5 +5,6 @@ pub mod Check
 pub mod Play
 pub mod Run
 pub mod Replay
+pub mod Compile
 pub mod Prepared
 pub mod Commands

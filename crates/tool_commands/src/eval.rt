@@ -16,7 +16,8 @@ use pres_read::{ReadPred, read_pred};
 use std::alloc::{AllocError, Global};
 use tool_texts::{Ending, LineWhy, Output, Refusal, Stop, just_three_lines};
 
-fn names_of(alloc: Global, line: &[u8]) -> Result<List<Text>, Stop>
+/// The names of a vars line.
+pub(crate) fn names_of(alloc: Global, line: &[u8]) -> Result<List<Text>, Stop>
     ensures names { Gives (λ names. names) result (named (vars_of line.now)) }
     ensures formed { IfOk result AreVariables }
 {
@@ -27,7 +28,8 @@ fn names_of(alloc: Global, line: &[u8]) -> Result<List<Text>, Stop>
     }
 }
 
-fn pred_of(alloc: Global, line: &[u8], names: &List<Text>) -> Result<Pred, Stop>
+/// The predicate of a line, over these names.
+pub(crate) fn pred_of(alloc: Global, line: &[u8], names: &List<Text>) -> Result<Pred, Stop>
     requires { AreVariables names.now }
     ensures pred { Gives (λ pred. pred) result (understood (pred_read names.now line.now)) }
     ensures variables { IfOk result (λ pred. pred.variables ≡ length names.now) }

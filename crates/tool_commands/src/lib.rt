@@ -5,6 +5,7 @@
 
 mod bundle;
 mod check;
+mod compile;
 mod eval;
 mod play;
 mod prepared;

@@ -7,6 +7,7 @@ ghost use Rattle.tool_commands.specs.Prepared.{Prepares, NeedsNoThreads};
 ghost use Rattle.tool_commands.specs.Commands.{CommandGives, IsPlain};
 
 use crate::check::check;
+use crate::compile::compile;
 use crate::eval::eval;
 use crate::play::play;
 use crate::prepared::Prepared;
@@ -29,6 +30,7 @@ pub fn prepare_command(alloc: Global, command: Command, input: &[u8]) -> Result<
         Command::Check => Ok(Prepared::Text(check(alloc, input)?)),
         Command::Run(spec) => prepare_run(alloc, spec, input),
         Command::Replay => Ok(Prepared::Text(replay(alloc, input)?)),
+        Command::Compile => Ok(Prepared::Text(compile(alloc, input)?)),
     }
 }
 

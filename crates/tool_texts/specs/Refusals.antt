@@ -8,7 +8,7 @@ use Rattle.pop_journal.specs.Reasons.{journal_reason}
 use Rattle.tool_texts.specs.declared.refusal.LineWhy.{LineWhy}
 use Rattle.tool_texts.specs.declared.refusal.LineWhy.TheVariants as line
 use Rattle.tool_texts.specs.declared.refusal.Refusal.{Refusal}
-use Rattle.tool_texts.specs.declared.refusal.Refusal.TheVariants.{TooLong, Line, NotJson, Format, Pred, Count, Size, Journal}
+use Rattle.tool_texts.specs.declared.refusal.Refusal.TheVariants.{TooLong, Line, NotJson, Format, Pred, Count, Size, Journal, Atoms, Width, Wide}
 use Rattle.tool_texts.specs.declared.output.Output.{Output}
 use Rattle.tool_texts.specs.declared.output.Ending.TheVariants as ending
 
@@ -30,6 +30,9 @@ refusal_text (Pred why) = codes "fault: pred " ++ pred_reason why
 refusal_text (Count word) = codes "fault: count " ++ decimal word
 refusal_text (Size agents) = codes "fault: size " ++ decimal agents
 refusal_text (Journal number why) = codes "fault: journal " ++ decimal number ++ codes " " ++ journal_reason why
+refusal_text (Atoms count) = codes "fault: atoms " ++ decimal count
+refusal_text (Width atom width) = codes "fault: width " ++ decimal atom ++ codes " " ++ decimal width
+refusal_text (Wide atom) = codes "fault: wide " ++ decimal atom
 
 -- for words without a command
 abbrev pub usage_output : Usage → Output

@@ -24,7 +24,7 @@ pub enum LineWhy {
     Agents,
 }
 
-/// Why an input is refused. Lines are counted from 1, the words of a crowd line from 0.
+/// Why an input is refused. Lines are counted from 1, the words of a crowd line and the atoms of a predicate from 0.
 #[derive(Debug, Drop)]
 pub enum Refusal {
     /// The input has too many bytes.
@@ -43,6 +43,12 @@ pub enum Refusal {
     Size(u128),
     /// What is wrong with the line of this number, in a journal.
     Journal(u64, JournalWhy),
+    /// A predicate with so many atoms is not compiled.
+    Atoms(u32),
+    /// The atom has this width, too much for a leaf.
+    Width(u32, u64),
+    /// The atom makes a wide leaf, and there are too many atoms for one.
+    Wide(u32),
 }
 
 impl fmt::Display for LineWhy {
@@ -75,6 +81,9 @@ impl fmt::Display for Refusal {
             Refusal::Count(word) => write!(f, "fault: count {word}"),
             Refusal::Size(agents) => write!(f, "fault: size {agents}"),
             Refusal::Journal(number, why) => write!(f, "fault: journal {number} {why}"),
+            Refusal::Atoms(count) => write!(f, "fault: atoms {count}"),
+            Refusal::Width(atom, width) => write!(f, "fault: width {atom} {width}"),
+            Refusal::Wide(atom) => write!(f, "fault: wide {atom}"),
         }
     }
 }

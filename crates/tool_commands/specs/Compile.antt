@@ -1,0 +1,69 @@
+-- What `compile` makes of the lines of its input: a vars line and a predicate.
+use Rattle.std.specs.Prelude.{◌≡◌, ℕ, List, length, Option, Some, None, option_and_then, Result, Ok, Err}
+use Rattle.pop_lines.specs.Lines.{ended}
+use Rattle.pres_ast.specs.PredTree.{PredTree}
+use Rattle.pres_ast.specs.PredModel.{PredModel}
+use Rattle.pres_read.specs.Reading.{pred_read}
+use Rattle.pop_net.specs.Reaction.{IsSingle}
+use Rattle.pop_words.specs.Vars.{vars_of}
+use Rattle.serde_json.specs.Written.{compact_text}
+use Rattle.cert_base.specs.ProofLimits.{IsProofWithin}
+use Rattle.cert_base.specs.ValidProof.{ValidProof}
+use Rattle.cert_json.specs.declared.bundle.Bundle.{Bundle}
+use Rattle.bundle_text.specs.Bundle.{bundle_data}
+use Rattle.comp_net.specs.declared.fault.CompileFault.{CompileFault}
+use Rattle.comp_net.specs.declared.fault.CompileFault.TheVariants.{ManyAtoms, TooWide, WideNet, NoMemory}
+use Rattle.comp_net.specs.CompileFaults.{fault_of}
+use Rattle.comp_net.specs.BuiltNet.{built_net}
+use Rattle.tool_texts.specs.declared.refusal.Refusal.{Refusal}
+use Rattle.tool_texts.specs.declared.refusal.Refusal.TheVariants.{Atoms, Width, Wide}
+use Rattle.tool_texts.specs.Steps.{◌>>=◌, After}
+use Rattle.tool_texts.specs.Lines.{just_two}
+use Rattle.tool_texts.specs.declared.output.Output.{Output}
+use Rattle.tool_texts.specs.declared.output.Ending.TheVariants.{Done}
+use Rattle.tool_commands.specs.Eval.{named, understood}
+
+-- the names and the predicate that the lines tell
+unfoldable pub asked : List (List ℕ) → Result (List (List ℕ) × PredModel) Refusal
+asked lines = do
+  two ← just_two lines
+  names ← named (vars_of two.0)
+  pred ← understood (pred_read names two.1)
+  Ok (names, pred)
+
+-- how a predicate without a built net is refused; out of memory is no refusal
+abbrev pub refusal_of : CompileFault → Option Refusal
+refusal_of (ManyAtoms atoms) = Some (Atoms atoms)
+refusal_of (TooWide atom s) = Some (Width atom s)
+refusal_of (WideNet atom) = Some (Wide atom)
+refusal_of NoMemory = None
+
+abbrev pub unless_refused : Option Refusal → Result (Unit {0}) Refusal
+unless_refused None = Ok tt
+unless_refused (Some refusal) = Err refusal
+
+-- the predicate has a built net, or it is refused
+abbrev pub fitting : PredTree → Result (Unit {0}) Refusal
+fitting tree = unless_refused (option_and_then refusal_of (fault_of tree))
+
+-- a bundle of the predicate's built net over these names, the predicate, and a valid proof within the limits of its file. No
+-- leaf has two moves for the same states.
+pub record IsCompiled (names : List (List ℕ)) (pred : PredModel) (bundle : Bundle) : Type 0 where
+  pub net_is : bundle.net ≡ built_net names pred.tree
+  pub pred_is : bundle.pred ≡ pred
+  pub valid : ValidProof bundle.net bundle.pred bundle.proof
+  pub within : IsProofWithin (length bundle.net.variables) (length bundle.net.leaves) bundle.proof
+  pub single : IsSingle bundle.net
+
+abbrev pub bundle_line : Bundle → List ℕ
+bundle_line bundle = ended (compact_text (bundle_data bundle))
+
+abbrev pub OfFitting : List (List ℕ) → PredModel → Unit {0} → Result Output Refusal → Type 0
+OfFitting names pred fits given = (bundle : Bundle) × IsCompiled names pred bundle × (given ≡ Ok (record { text = bundle_line bundle; ending = Done }))
+
+abbrev pub OfAsked : List (List ℕ) × PredModel → Result Output Refusal → Type 0
+OfAsked asked = After (fitting asked.1.tree) (OfFitting asked.0 asked.1)
+
+-- what `compile` gives for the lines of its input
+abbrev pub CompileGives : List (List ℕ) → Result Output Refusal → Type 0
+CompileGives lines = After (asked lines) OfAsked

@@ -1,0 +1,68 @@
+//! The command `compile`.
+
+ghost use Rattle.std.specs.Prelude.{◌≡◌, length, IfOk};
+ghost use Rattle.pop_lines.specs.Lines.{lines_of};
+ghost use Rattle.pop_words.specs.Vars.{AreVariables};
+ghost use Rattle.tool_texts.specs.Steps.{Gives, Obeys};
+ghost use Rattle.tool_commands.specs.Compile.{asked as asked_by, fitting, bundle_line, IsCompiled, CompileGives};
+
+use crate::eval::{names_of, pred_of};
+use bundle_text::write_bundle;
+use cert_json::Bundle;
+use comp_net::CompileFault;
+use pop_io::{List, NoMemory, Text};
+use pres_ast::Pred;
+use std::alloc::Global;
+use tool_texts::{Ending, Output, Refusal, Stop, just_two_lines};
+
+/// The names and the predicate that an input tells.
+#[tactic(auto, unfolding(crate::specs::Compile::asked))]
+fn asked(alloc: Global, input: &[u8]) -> Result<(List<Text>, Pred), Stop>
+    ensures asked { Gives (λ asked. asked) result (asked_by (lines_of input.now)) }
+    ensures formed { IfOk result (λ asked. AreVariables asked.0) }
+    ensures count { IfOk result (λ asked. asked.1.variables ≡ length asked.0) }
+{
+    let (vars, pred) = just_two_lines(input)?;
+    let names = names_of(alloc, vars)?;
+    let pred = pred_of(alloc, pred, &names)?;
+    Ok((names, pred))
+}
+
+/// The bundle of a predicate over these names: its built net, and a proof that the net computes it.
+fn bundle_of(alloc: Global, pred: Pred, names: &List<Text>) -> Result<Bundle, Stop>
+    requires formed { AreVariables names.now }
+    requires count { pred.variables ≡ length names.now }
+    ensures fits { Gives (λ _. tt) result (fitting pred.tree) }
+    ensures compiled { IfOk result (IsCompiled names.now pred) }
+{
+    let refusal = match comp_net::compile(alloc, &pred, names) {
+        Ok((net, proof)) => return Ok(Bundle { net, pred, proof }),
+        Err(CompileFault::ManyAtoms(atoms)) => Refusal::Atoms(atoms),
+        Err(CompileFault::TooWide { atom, s }) => Refusal::Width(atom, s),
+        Err(CompileFault::WideNet(atom)) => Refusal::Wide(atom),
+        Err(CompileFault::NoMemory) => return Err(Stop::NoMemory),
+    };
+    Err(Stop::Refused(refusal))
+}
+
+/// The line of a bundle that was built, with its line feed.
+fn line_of(alloc: Global, names: &List<Text>, bundle: &Bundle) -> Result<Vec<u8>, NoMemory>
+    requires count { bundle.now.pred.variables ≡ length names.now }
+    requires compiled { IsCompiled names.now bundle.now.pred bundle.now }
+    ensures { IfOk result (λ line. line.items ≡ bundle_line bundle.now) }
+{
+    let mut line = Vec::new(alloc);
+    write_bundle(alloc, &mut line, bundle)?;
+    line.push(b'\n')?;
+    Ok(line)
+}
+
+/// What `compile` gives for an input.
+pub(crate) fn compile(alloc: Global, input: &[u8]) -> Result<Output, Stop>
+    ensures { Obeys (CompileGives (lines_of input.now)) (λ output. output) result }
+{
+    let (names, pred) = asked(alloc, input)?;
+    let bundle = bundle_of(alloc, pred, &names)?;
+    let line = line_of(alloc, &names, &bundle)?;
+    Ok(Output::new(line, Ending::Done))
+}
