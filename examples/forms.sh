@@ -25,3 +25,7 @@ awk '{ for (i = 0; i < 1111; i++) c = c "[\"trap\",[0,1,2,3,4,5,6,7,8,9,10,11,12
 bin/pop "$(printf '\377')"
 # a bundle over many lines is made one line
 jq . examples/some-agent/bundle.json | jq -c . | bin/pop check
+# journals: a worker that is not there, a line that is missing, and no journal at all
+sed '5s/^0/1/' examples/replays/held.txt | bin/pop replay
+head -n 6 examples/replays/held.txt | bin/pop replay
+head -n 2 examples/replays/held.txt | bin/pop replay

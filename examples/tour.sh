@@ -12,3 +12,6 @@ bin/pop check < examples/and/bundle.json
 bin/pop check < examples/helper/bundle.json
 bin/pop check < examples/rejected/wrong-trap.json
 (cat examples/majority/bundle.json; echo 'crowd x=120 y=80') | bin/pop run --turns 100 | tail -n 1
+bin/pop replay < examples/replays/held.txt
+bin/pop replay < examples/replays/changed-mark.txt
+cat examples/majority/bundle.json examples/majority/crowd.txt | bin/pop run --workers 4 | bin/pop replay | cut -d ' ' -f 1
