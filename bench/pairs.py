@@ -65,7 +65,7 @@ fn is_terminal(alloc: Global, input: &[u8]) -> Option<bool> {
     let agents = std::str::from_utf8(agents).ok()?.parse::<u32>().ok()?;
     let words = words_of(alloc, &net, agents)?;
     let count = words.as_slice().len();
-    if count < AGENT_LEAST as usize || AGENT_LIMIT as usize < count {
+    if count < AGENT_LEAST as usize || (AGENT_LIMIT as usize) < count {
         return None;
     }
     let crowd = Crowd::of_words(&net, words);
