@@ -1,12 +1,16 @@
 -- What a list of words means.
-use Rattle.std.specs.Prelude.{ℕ, List, [], ◌∷◌, codes, Option, Some, None, option_map, find, Result, Ok, Err}
+use Rattle.std.specs.Prelude.{ℕ, ◌≤◌, List, [], ◌∷◌, codes, Option, Some, None, option_map, find, Result, Ok, Err, if◌then◌else◌}
 use Rattle.std.specs.Str.{bytes_eq}
 use Rattle.pop_words.specs.declared.command.Command.{Command}
-use Rattle.pop_words.specs.declared.command.Command.TheVariants.{Play, Eval, Check, Run, Replay, Compile}
+use Rattle.pop_words.specs.declared.command.Command.TheVariants.{Play, Eval, Check, Run, Replay, Settle, Compile, Flocks, Demo}
 use Rattle.pop_words.specs.declared.command.Usage.{Usage}
-use Rattle.pop_words.specs.declared.command.UsageWhy.TheVariants.{Missing, Unknown}
+use Rattle.pop_words.specs.declared.command.UsageWhy.TheVariants.{Missing, Unknown, Value}
 use Rattle.pop_words.specs.declared.words.Form.{Form}
-use Rattle.pop_words.specs.declared.words.Form.TheVariants.{Alone, WithOptions}
+use Rattle.pop_words.specs.declared.words.Flag.{Flag}
+use Rattle.pop_words.specs.declared.words.Flag.TheVariants.{OfCompile}
+use Rattle.pop_words.specs.declared.words.Form.TheVariants.{Alone, WithOptions, WithNumber, WithFlag}
+use Rattle.pop_lines.specs.Numbers.{number_within}
+use Rattle.pop_words.specs.declared.spec.TheConstants.{DEMO_LIMIT}
 use Rattle.pop_words.specs.Options.{bad_at, options_meaning, IsWithinLimits}
 use Rattle.pop_words.specs.declared.spec.RunSpec.{RunSpec}
 
@@ -18,7 +22,9 @@ commands =
     ∷ (codes "check", Alone Check)
     ∷ (codes "run", WithOptions)
     ∷ (codes "replay", Alone Replay)
-    ∷ (codes "compile", Alone Compile)
+    ∷ (codes "settle", Alone Settle)
+    ∷ (codes "compile", WithFlag OfCompile)
+    ∷ (codes "demo", WithNumber)
     ∷ []
 
 -- the form that a word names, compared whole
@@ -34,26 +40,61 @@ abbrev pub to_run : Result RunSpec Usage → Result Command Usage
 to_run (Ok spec) = Ok (Run spec)
 to_run (Err usage) = Err usage
 
+abbrev pub demo_with : Option ℕ → List (List ℕ) → Result Command Usage
+demo_with None rest = bad_at 1 Value
+demo_with (Some number) [] = Ok (Demo number)
+demo_with (Some number) (word ∷ rest) = bad_at 2 Unknown
+
+-- one number of a demo case stands behind `demo`
+abbrev pub demo_meaning : List (List ℕ) → Result Command Usage
+demo_meaning [] = bad_at 1 Missing
+demo_meaning (number ∷ rest) = demo_with (number_within 0 DEMO_LIMIT number) rest
+
+abbrev pub flag_name : Flag → List ℕ
+flag_name OfCompile = codes "--flocks"
+
+abbrev pub unflagged : Flag → Command
+unflagged OfCompile = Compile
+
+abbrev pub flagged : Flag → Command
+flagged OfCompile = Flocks
+
+abbrev pub behind_flag : Command → List (List ℕ) → Result Command Usage
+behind_flag command [] = Ok command
+behind_flag command (word ∷ rest) = bad_at 2 Unknown
+
+-- no word stands behind the plain command's own, and just the flag behind that of the other one
+abbrev pub flag_meaning : Flag → List (List ℕ) → Result Command Usage
+flag_meaning flag [] = Ok (unflagged flag)
+flag_meaning flag (word ∷ rest) = if bytes_eq word (flag_name flag) then behind_flag (flagged flag) rest else bad_at 1 Unknown
+
 -- what the words behind the command's own mean
 abbrev pub meaning_behind : Option Form → List (List ℕ) → Result Command Usage
 meaning_behind None words = bad_at 0 Unknown
 meaning_behind (Some (Alone command)) words = no_more command words
 meaning_behind (Some WithOptions) words = to_run (options_meaning words)
+meaning_behind (Some WithNumber) words = demo_meaning words
+meaning_behind (Some (WithFlag flag)) words = flag_meaning flag words
 
 -- What the words mean: a command, or the first bad word, counted from 0, and its reason.
 abbrev pub meaning_of : List (List ℕ) → Result Command Usage
 meaning_of [] = bad_at 0 Missing
 meaning_of (first ∷ words) = meaning_behind (form_named first) words
 
--- the numbers of a run are within their limits
+-- the numbers of a run or of a demo case are within their limits
 abbrev pub HasLimits : Command → Type 0
 HasLimits Play = Unit {0}
 HasLimits Eval = Unit {0}
 HasLimits Check = Unit {0}
 HasLimits (Run spec) = IsWithinLimits spec
 HasLimits Replay = Unit {0}
+HasLimits Settle = Unit {0}
 HasLimits Compile = Unit {0}
+HasLimits Flocks = Unit {0}
+HasLimits (Demo number) = number ≤ DEMO_LIMIT
 
 abbrev pub FormHasLimits : Form → Type 0
 FormHasLimits (Alone command) = HasLimits command
 FormHasLimits WithOptions = Unit {0}
+FormHasLimits WithNumber = Unit {0}
+FormHasLimits (WithFlag flag) = Unit {0}

@@ -11,7 +11,13 @@ pub enum Command {
     Check,
     Run(RunSpec),
     Replay,
+    /// Settles a crowd by the layers of a proof.
+    Settle,
     Compile,
+    /// Compiles, with succinct leaves for flock atoms.
+    Flocks,
+    /// Compiles, checks and runs the case with this number.
+    Demo(u32),
 }
 
 /// The first bad word, counted from 0, and what is wrong there.

@@ -14,6 +14,6 @@ mod words;
 pub use command::{Command, Usage, UsageWhy};
 pub use counts::{CountFault, read_counts};
 pub use meeting::{MeetingFault, read_meeting};
-pub use spec::{MEETING_LIMIT, RunSpec, SEED_LIMIT, TURN_LIMIT};
+pub use spec::{DEMO_LIMIT, MEETING_LIMIT, RunSpec, SEED_LIMIT, TURN_LIMIT};
 pub use vars::{VarsFault, read_vars};
 pub use words::read_words;

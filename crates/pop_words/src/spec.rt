@@ -9,6 +9,9 @@ pub const MEETING_LIMIT: u64 = 2_000_000;
 /// The greatest seed, 2^63 - 1.
 pub const SEED_LIMIT: u64 = 9_223_372_036_854_775_807;
 
+/// The greatest number of a demo case.
+pub const DEMO_LIMIT: u32 = 9_999;
+
 /// The options of a run: how many workers and shards, how many meetings each worker may make at
 /// most, and the seed of their picks.
 #[derive(Debug, Clone, Copy, PartialEq, Eq)]

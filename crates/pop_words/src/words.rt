@@ -1,10 +1,12 @@
 //! The words of the command line.
 
 ghost use Rattle.std.specs.Prelude.{◌≡◌, ◌<◌, ◌^◌, ◌+◌, length, map, Some, IfSome, IfOk};
-ghost use Rattle.pop_words.specs.Words.{meaning_of, meaning_behind, form_named, HasLimits, FormHasLimits};
+ghost use Rattle.pop_words.specs.Words.{meaning_of, meaning_behind, form_named, demo_meaning, flag_meaning, HasLimits, FormHasLimits};
 
 use crate::command::{Command, Usage, UsageWhy};
 use crate::options::read_options;
+use crate::spec::DEMO_LIMIT;
+use pop_lines::number_within;
 
 /// What stands behind a command's own word.
 #[derive(Clone, Copy, Debug, PartialEq, Eq)]
@@ -13,6 +15,47 @@ pub(crate) enum Form {
     Alone(Command),
     /// The options of a run, each with its number.
     WithOptions,
+    /// The number of a demo case.
+    WithNumber,
+    /// Nothing, or the flag that makes another command of it.
+    WithFlag(Flag),
+}
+
+/// A flag that makes another command of the one before it.
+#[derive(Clone, Copy, Debug, PartialEq, Eq)]
+pub(crate) enum Flag {
+    OfCompile,
+}
+
+impl Flag {
+    ghost use Rattle.std.specs.Prelude.{◌≡◌};
+    ghost use Rattle.pop_words.specs.Words.{flag_name, unflagged, flagged as flagged_command};
+
+    fn name(self) -> &'static str
+        ensures { result.now ≡ flag_name self }
+    {
+        match self {
+            Flag::OfCompile => "--flocks",
+        }
+    }
+
+    /// The command without the flag.
+    fn plain(self) -> Command
+        ensures { result ≡ unflagged self }
+    {
+        match self {
+            Flag::OfCompile => Command::Compile,
+        }
+    }
+
+    /// The command with the flag.
+    fn flagged(self) -> Command
+        ensures { result ≡ flagged_command self }
+    {
+        match self {
+            Flag::OfCompile => Command::Flocks,
+        }
+    }
 }
 
 /// The command that the words ask for. Allocates nothing.
@@ -41,7 +84,9 @@ fn form_of(word: &str) -> Option<Form>
         "check" => Some(Form::Alone(Command::Check)),
         "run" => Some(Form::WithOptions),
         "replay" => Some(Form::Alone(Command::Replay)),
-        "compile" => Some(Form::Alone(Command::Compile)),
+        "settle" => Some(Form::Alone(Command::Settle)),
+        "compile" => Some(Form::WithFlag(Flag::OfCompile)),
+        "demo" => Some(Form::WithNumber),
         _ => None,
     }
 }
@@ -56,6 +101,38 @@ fn read_behind(form: Form, words: &[&str]) -> Result<Command, Usage>
         Form::Alone(command) if words.is_empty() => Ok(command),
         Form::Alone(_) => Err(bad(1, UsageWhy::Unknown)),
         Form::WithOptions => Ok(Command::Run(read_options(words)?)),
+        Form::WithNumber => read_number(words),
+        Form::WithFlag(flag) => read_flag(flag, words),
+    }
+}
+
+/// One number of a demo case, and no more.
+fn read_number(words: &[&str]) -> Result<Command, Usage>
+    ensures meaning { result ≡ demo_meaning (map (λ w. w.now) words.now) }
+    ensures limits { IfOk result HasLimits }
+{
+    let [first, rest @ ..] = words else {
+        return Err(bad(1, UsageWhy::Missing));
+    };
+    let Some(number) = number_within(first.as_bytes(), 0, u64::from(DEMO_LIMIT)) else {
+        return Err(bad(1, UsageWhy::Value));
+    };
+    if !rest.is_empty() {
+        return Err(bad(2, UsageWhy::Unknown));
+    }
+    Ok(Command::Demo(number as u32))
+}
+
+/// The plain command where no word stands behind its own, and the other one behind the flag alone.
+fn read_flag(flag: Flag, words: &[&str]) -> Result<Command, Usage>
+    ensures meaning { result ≡ flag_meaning flag (map (λ w. w.now) words.now) }
+    ensures limits { IfOk result HasLimits }
+{
+    match words {
+        [] => Ok(flag.plain()),
+        [first, ..] if *first != flag.name() => Err(bad(1, UsageWhy::Unknown)),
+        [_] => Ok(flag.flagged()),
+        _ => Err(bad(2, UsageWhy::Unknown)),
     }
 }
 
