@@ -25,12 +25,16 @@ const WIDE_RUN: RunSpec = RunSpec {
 
 const SEED: &str = "9223372036854775807";
 
-const COMMANDS: [(&[&str], Command); 8] = [
+const COMMANDS: [(&[&str], Command); 12] = [
     (&["play"], Command::Play),
     (&["eval"], Command::Eval),
     (&["check"], Command::Check),
     (&["replay"], Command::Replay),
+    (&["settle"], Command::Settle),
     (&["compile"], Command::Compile),
+    (&["compile", "--flocks"], Command::Flocks),
+    (&["demo", "0"], Command::Demo(0)),
+    (&["demo", "09999"], Command::Demo(9_999)),
     (&["run"], Command::Run(PLAIN_RUN)),
     (
         &["run", "--seed", SEED, "--turns", "00", "--shards", "1024"],
@@ -43,12 +47,19 @@ const COMMANDS: [(&[&str], Command); 8] = [
 ];
 
 // Words, the first bad one, and what is wrong there.
-const BAD: [(&[&str], u32, UsageWhy); 15] = [
+const BAD: [(&[&str], u32, UsageWhy); 22] = [
     (&[], 0, UsageWhy::Missing),
     (&["Play"], 0, UsageWhy::Unknown),
     (&["play "], 0, UsageWhy::Unknown),
     (&["replays"], 0, UsageWhy::Unknown),
     (&["compile", "x"], 1, UsageWhy::Unknown),
+    (&["compile", "x", "--flocks"], 1, UsageWhy::Unknown),
+    (&["compile", "--flocks", "x"], 2, UsageWhy::Unknown),
+    (&["settle", "--flocks"], 1, UsageWhy::Unknown),
+    (&["demo"], 1, UsageWhy::Missing),
+    (&["demo", "10000"], 1, UsageWhy::Value),
+    (&["demo", "--flocks", "1"], 1, UsageWhy::Value),
+    (&["demo", "1", "2"], 2, UsageWhy::Unknown),
     (&["eval", "eval"], 1, UsageWhy::Unknown),
     (&["", "play"], 0, UsageWhy::Unknown),
     (&["run", "--turns"], 2, UsageWhy::Missing),
