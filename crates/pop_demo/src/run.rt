@@ -1,0 +1,22 @@
+//! The run of a case.
+
+ghost use Rattle.std.specs.Prelude.{◌≡◌, ◌≤◌};
+ghost use Rattle.pop_words.specs.Options.{IsWithinLimits};
+ghost use Rattle.pop_words.specs.declared.spec.TheConstants.{DEMO_LIMIT};
+ghost use Rattle.pop_demo.specs.DemoCase.{demo_spec};
+
+use pop_words::{DEMO_LIMIT, RunSpec};
+
+/// The run of the case with this number: by one worker, with the number as its seed.
+pub fn demo_run(number: u32) -> RunSpec
+    requires { number ≤ DEMO_LIMIT }
+    ensures run { result ≡ demo_spec number }
+    ensures limits { IsWithinLimits result }
+{
+    RunSpec {
+        workers: 1,
+        shards: 16,
+        turns: 200_000,
+        seed: u64::from(number),
+    }
+}
