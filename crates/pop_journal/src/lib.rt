@@ -19,4 +19,4 @@ pub use last::Last;
 pub use law::{one_spelling, written_holds};
 pub use read::read_journal;
 pub use verdict::verify;
-pub use write::write_journal;
+pub use write::{push_last_line, write_journal};

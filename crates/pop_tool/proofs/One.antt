@@ -1,5 +1,5 @@
 -- The words and the input have one answer.
-use Rattle.std.proofs.Common.{◌≡◌, ℕ, Bool, true, false, nat_lt, List, length, Result, Ok, Err, sym, ap, ◌∙◌}
+use Rattle.std.proofs.Common.{◌≡◌, ℕ, ◌&&◌, Bool, true, false, nat_lt, List, length, Result, Ok, Err, sym, ap, ◌∙◌}
 use Rattle.std.specs.Prelude.{MatchBool, IfOk}
 use Rattle.pop_io.specs.declared.whole.TheConstants.{INPUT_LIMIT}
 use Rattle.pop_lines.specs.Lines.{lines_of}
@@ -10,7 +10,7 @@ use Rattle.tool_texts.specs.declared.refusal.Refusal.{Refusal}
 use Rattle.tool_texts.specs.declared.refusal.Refusal.TheVariants.{TooLong}
 use Rattle.tool_texts.specs.declared.output.Output.{Output}
 use Rattle.tool_texts.specs.Refusals.{output_for}
-use Rattle.tool_commands.specs.Commands.{CommandGives, IsDetermined}
+use Rattle.tool_commands.specs.Commands.{CommandGives, IsDetermined, reads}
 use Rattle.tool_commands.proofs.One.{one_given}
 use Rattle.pop_tool.specs.Answer.{InputGives, OfMeaning}
 use Rattle.pop_tool.specs.OneAnswer.{IsOneAnswer}
@@ -21,7 +21,7 @@ by_length P Q false one other x y p q = other x y p q
 
 one_input : (command : Command) → IsDetermined command → (input : List ℕ) (x y : Result Output Refusal) → InputGives command input x → InputGives command input y → x ≡ y
 one_input command plain input x y p q =
-    by_length (λ r. r ≡ Err TooLong) (CommandGives command (lines_of input)) (nat_lt INPUT_LIMIT (length input)) (λ x y p q. p ∙ sym q) (one_given command plain (lines_of input)) x y p q
+    by_length (λ r. r ≡ Err TooLong) (CommandGives command (lines_of input)) (reads command && nat_lt INPUT_LIMIT (length input)) (λ x y p q. p ∙ sym q) (one_given command plain (lines_of input)) x y p q
 
 one_meaning : (m : Result Command Usage) → IfOk m IsDetermined → (input : List ℕ) (one other : Output) → OfMeaning m input one → OfMeaning m input other → one ≡ other
 one_meaning (Err usage) plain input one other p q = p ∙ sym q

@@ -1,9 +1,8 @@
 -- What a sink did with an output is the call's outcome.
 use Rattle.std.proofs.Common.{◌≡◌, inl, inr, ℕ, List, Option, Result, Ok, Err, refl, sym, ap, subst, ◌∙◌}
-use Rattle.std.specs.Prelude.{◌≢◌, true, is_err, IfOk, MatchResult}
+use Rattle.std.specs.Prelude.{◌≢◌, true, false, IfOk, MatchResult}
 use Rattle.std.specs.Io.KnownBytes.{Appends, Keeps}
 use Rattle.pop_io.specs.Causes.{HasRisen}
-use Rattle.pop_words.specs.Words.{meaning_of}
 use Rattle.tool_texts.specs.declared.output.Output.{Output}
 use Rattle.tool_texts.specs.declared.output.Ending.{Ending}
 use Rattle.tool_texts.specs.declared.output.Ending.TheVariants as ending
@@ -11,7 +10,7 @@ use Rattle.tool_texts.specs.declared.status.Status.{Status}
 use Rattle.tool_texts.specs.declared.status.Status.TheVariants.{ReadFault, WriteFault, NoMemory}
 use Rattle.tool_texts.specs.Statuses.{status_of}
 use Rattle.pop_tool.specs.Outcome.{IsAnswer, IsReply, Outcome, IsAnswered}
-use Rattle.pop_tool.specs.Source.{IsReadToEnd}
+use Rattle.pop_tool.specs.Source.{IsReadToEnd, words_read}
 use Rattle.pop_tool.specs.Written.{ReadFailed, IsRightOutput, IsWritten}
 
 no_write_fault : (end : Ending) → status_of end ≡ WriteFault → ⊥
@@ -97,8 +96,8 @@ module _ {E : Type 0} (old new : Option (List ℕ)) (low high : ℕ) (result : S
     pub written_read : (output : Result Output E) → IfOk output (IsRightOutput words left rest before after) → WasWritten output → result ≡ ReadFault → HasRisen before after
     written_read output right written e = (failed output right written e).1.rose
 
-    pub written_unread : (output : Result Output E) → IfOk output (IsRightOutput words left rest before after) → WasWritten output → is_err (meaning_of words) ≡ true → result ≢ ReadFault
-    written_unread output right written without e = (failed output right written e).1.command without
+    pub written_unread : (output : Result Output E) → IfOk output (IsRightOutput words left rest before after) → WasWritten output → words_read words ≡ false → result ≢ ReadFault
+    written_unread output right written without e = cc ((failed output right written e).1.read, without)
 
     pub written_end : (output : Result Output E) → IfOk output (IsRightOutput words left rest before after) → WasWritten output → IsAnswered result → IsReadToEnd words left rest
     written_end (Ok output) right written whole = put_end words left rest old new output before after low high result right written whole

@@ -1,5 +1,5 @@
 -- Answer: which output answers the words and the input.
-use Rattle.std.specs.Prelude.{◌≡◌, ℕ, nat_lt, List, length, MatchBool, Result, Ok, Err}
+use Rattle.std.specs.Prelude.{◌≡◌, ℕ, ◌&&◌, nat_lt, List, length, MatchBool, Result, Ok, Err}
 use Rattle.pop_io.specs.declared.whole.TheConstants.{INPUT_LIMIT}
 use Rattle.pop_lines.specs.Lines.{lines_of}
 use Rattle.pop_words.specs.declared.command.Command.{Command}
@@ -9,11 +9,12 @@ use Rattle.tool_texts.specs.declared.refusal.Refusal.{Refusal}
 use Rattle.tool_texts.specs.declared.refusal.Refusal.TheVariants.{TooLong}
 use Rattle.tool_texts.specs.declared.output.Output.{Output}
 use Rattle.tool_texts.specs.Refusals.{usage_output, output_for}
-use Rattle.tool_commands.specs.Commands.{CommandGives}
+use Rattle.tool_commands.specs.Commands.{CommandGives, reads}
 
--- what a command gives for an input, which has a limit
+-- what a command gives for an input, which has a limit where it is read
 abbrev pub InputGives : Command → List ℕ → Result Output Refusal → Type 0
-InputGives command input given = MatchBool (nat_lt INPUT_LIMIT (length input)) (given ≡ Err TooLong) (CommandGives command (lines_of input) given)
+InputGives command input given =
+    MatchBool (reads command && nat_lt INPUT_LIMIT (length input)) (given ≡ Err TooLong) (CommandGives command (lines_of input) given)
 
 -- the output is for what the command gives for these lines
 abbrev pub IsOfCommand : Command → List (List ℕ) → Output → Type 0

@@ -7,7 +7,7 @@ use pop_io::{Gate, NoMemory};
 use std::alloc::Global;
 use std::sync::Wait;
 use std::thread::Threads;
-use tool_commands::{Prepared, make_alone, make_on_threads};
+use tool_commands::{Prepared, make_alone, make_demo, make_on_threads};
 use tool_texts::Output;
 
 /// Makes what needs no threads. It waits for nobody.
@@ -23,6 +23,7 @@ pub(crate) fn perform_alone<G: Gate>(
     match prepared {
         Prepared::Text(output) => Ok(output),
         Prepared::Alone(run) => make_alone(alloc, run, gate),
+        Prepared::Demo(demo) => make_demo(alloc, demo, gate),
         Prepared::Threads(_run) => unreachable!(),
     }
 }

@@ -1,19 +1,19 @@
 //! From words and input to a text, or to a run that is still to be made.
 
-ghost use Rattle.std.specs.Prelude.{◌≡◌, ◌<◌, ◌^◌, length, map, is_err, true, IfOk};
+ghost use Rattle.std.specs.Prelude.{◌≡◌, ◌<◌, ◌^◌, length, map, false, IfOk};
 ghost use Rattle.pop_lines.specs.Lines.{lines_of};
-ghost use Rattle.pop_words.specs.Words.{meaning_of, HasLimits};
+ghost use Rattle.pop_words.specs.Words.{HasLimits};
 ghost use Rattle.tool_commands.specs.Prepared.{LeadsTo, NeedsNoThreads};
 ghost use Rattle.tool_commands.specs.Commands.{IsPlain};
 ghost use Rattle.pop_tool.specs.Plain.{ArePlain};
 ghost use Rattle.pop_tool.specs.Answer.{IsOfCommand};
-ghost use Rattle.pop_tool.specs.Source.{HasSuffix};
+ghost use Rattle.pop_tool.specs.Source.{HasSuffix, words_read};
 ghost use Rattle.pop_tool.specs.Written.{IsRightOutput};
 
 use pop_io::{NoMemory, ReadAll, Source, read_all};
 use pop_words::{Command, read_words};
 use std::alloc::Global;
-use tool_commands::{Prepared, prepare_command};
+use tool_commands::{Prepared, prepare_command, reads_input};
 use tool_texts::{Output, Refusal, Stop};
 
 /// What a command prepares, or the line that says why the input is refused.
@@ -41,12 +41,15 @@ pub(crate) fn prepare<S: Source>(
         (S.faults source.old) (S.faults source.new))) }
     ensures plain { ArePlain (map (λ w. w.now) words.now) → IfOk result NeedsNoThreads }
     ensures suffix { HasSuffix (S.left source.old) (S.left source.new) }
-    ensures untouched { is_err (meaning_of (map (λ w. w.now) words.now)) ≡ true → source.new ≡ source.old }
+    ensures untouched { words_read (map (λ w. w.now) words.now) ≡ false → source.new ≡ source.old }
 {
     let command = match read_words(words) {
         Ok(command) => command,
         Err(usage) => return Ok(Prepared::Text(Output::of_usage(alloc, &usage)?)),
     };
+    if !reads_input(&command) {
+        return prepare_for(alloc, command, &[]);
+    }
     match read_all(alloc, source) {
         Ok(input) => prepare_for(alloc, command, input.as_slice()),
         Err(ReadAll::TooLong) => Ok(Prepared::Text(Output::of_refusal(alloc, &Refusal::TooLong)?)),

@@ -1,12 +1,11 @@
 //! The top call: words, then what they prepare, then what is still to be made, then one write.
 
-ghost use Rattle.std.specs.Prelude.{◌≡◌, ◌≢◌, ◌↔◌, ◌<◌, ◌^◌, length, map, is_err, true, IfOk, IsTrue};
+ghost use Rattle.std.specs.Prelude.{◌≡◌, ◌≢◌, ◌↔◌, ◌<◌, ◌^◌, length, map, false, IfOk, IsTrue};
 ghost use Rattle.pop_io.specs.Causes.{HasRisen};
-ghost use Rattle.pop_words.specs.Words.{meaning_of};
 ghost use Rattle.tool_texts.specs.declared.output.Output.{Output as Written};
 ghost use Rattle.pop_tool.specs.Plain.{ArePlain};
 ghost use Rattle.pop_tool.specs.Outcome.{IsReply, Outcome, IsAnswered};
-ghost use Rattle.pop_tool.specs.Source.{HasSuffix, IsReadToEnd};
+ghost use Rattle.pop_tool.specs.Source.{HasSuffix, IsReadToEnd, words_read};
 ghost use Rattle.pop_tool.specs.Written.{IsRightOutput};
 ghost use Rattle.pop_tool.specs.Headline.{IsHeadline};
 
@@ -45,10 +44,10 @@ pub fn run_plain<S: Source, K: Sink, G: Gate>(
     // What `certified`, a journal and a verdict say of a bundle's net.
     ensures headline { IsHeadline (map (λ w. w.now) words.now) (S.left source.old)
         (K.holds sink.old) (K.holds sink.new) result }
-    ensures unread { is_err (meaning_of (map (λ w. w.now) words.now)) ≡ true → result ≢ Status.ReadFault }
-    // The source has a suffix of what it had. Words without a command leave it as it was.
+    ensures unread { words_read (map (λ w. w.now) words.now) ≡ false → result ≢ Status.ReadFault }
+    // The source has a suffix of what it had. Words without a command that reads leave it as it was.
     ensures suffix { HasSuffix (S.left source.old) (S.left source.new) }
-    ensures untouched { is_err (meaning_of (map (λ w. w.now) words.now)) ≡ true → source.new ≡ source.old }
+    ensures untouched { words_read (map (λ w. w.now) words.now) ≡ false → source.new ≡ source.old }
     // Where the whole answer was written, the source was read to its end, unless the input is too long.
     ensures end { IsAnswered result → IsReadToEnd (map (λ w. w.now) words.now) (S.left source.old) (S.left source.new) }
 {
@@ -74,9 +73,9 @@ pub fn run_tool<R: Threads + Wait + Sync, S: Source, K: Sink, G: Gate>(
     ensures write { result ≡ Status.WriteFault → HasRisen (K.faults sink.old) (K.faults sink.new) }
     ensures headline { IsHeadline (map (λ w. w.now) words.now) (S.left source.old)
         (K.holds sink.old) (K.holds sink.new) result }
-    ensures unread { is_err (meaning_of (map (λ w. w.now) words.now)) ≡ true → result ≢ Status.ReadFault }
+    ensures unread { words_read (map (λ w. w.now) words.now) ≡ false → result ≢ Status.ReadFault }
     ensures suffix { HasSuffix (S.left source.old) (S.left source.new) }
-    ensures untouched { is_err (meaning_of (map (λ w. w.now) words.now)) ≡ true → source.new ≡ source.old }
+    ensures untouched { words_read (map (λ w. w.now) words.now) ≡ false → source.new ≡ source.old }
     ensures end { IsAnswered result → IsReadToEnd (map (λ w. w.now) words.now) (S.left source.old) (S.left source.new) }
 {
     let output = any_output(rt, alloc, words, source, gate);
@@ -106,7 +105,7 @@ fn plain_output<S: Source, G: Gate>(
     ensures output { IfOk result (IsRightOutput (map (λ w. w.now) words.now) (S.left source.old) (S.left source.new)
         (S.faults source.old) (S.faults source.new)) }
     ensures suffix { HasSuffix (S.left source.old) (S.left source.new) }
-    ensures untouched { is_err (meaning_of (map (λ w. w.now) words.now)) ≡ true → source.new ≡ source.old }
+    ensures untouched { words_read (map (λ w. w.now) words.now) ≡ false → source.new ≡ source.old }
 {
     let prepared = prepare(alloc, words, source)?;
     perform_alone(alloc, prepared, gate)
@@ -124,7 +123,7 @@ fn any_output<R: Threads + Wait + Sync, S: Source, G: Gate>(
     ensures output { IfOk result (IsRightOutput (map (λ w. w.now) words.now) (S.left source.old) (S.left source.new)
         (S.faults source.old) (S.faults source.new)) }
     ensures suffix { HasSuffix (S.left source.old) (S.left source.new) }
-    ensures untouched { is_err (meaning_of (map (λ w. w.now) words.now)) ≡ true → source.new ≡ source.old }
+    ensures untouched { words_read (map (λ w. w.now) words.now) ≡ false → source.new ≡ source.old }
 {
     let prepared = prepare(alloc, words, source)?;
     perform(rt, alloc, prepared, gate)

@@ -5,7 +5,7 @@ use Rattle.pres_read.specs.Reading.{pred_read}
 use Rattle.pop_words.specs.Vars.{vars_of}
 use Rattle.pop_words.specs.Counts.{counts_of}
 use Rattle.pop_words.specs.declared.command.Command.{Command}
-use Rattle.pop_words.specs.declared.command.Command.TheVariants.{Play, Eval, Check, Run, Replay, Compile}
+use Rattle.pop_words.specs.declared.command.Command.TheVariants.{Play, Eval, Check, Run, Replay, Settle, Compile, Flocks, Demo}
 use Rattle.pop_words.specs.declared.spec.RunSpec.{RunSpec}
 use Rattle.pop_net.specs.InputCrowd.{input_crowd}
 use Rattle.pair_workers.specs.Run.{joined}
@@ -26,6 +26,7 @@ use Rattle.tool_commands.specs.Run.{run_ending, OfJudged, OfLines as OfRunLines,
 use Rattle.tool_commands.specs.declared.replay.TheConstants.{JOURNAL_LINE}
 use Rattle.tool_commands.specs.Replay.{journal_read, compared_output, journal_output, judged_output, OfBegun as OfReplayBegun, OfLines as OfReplayLines, ReplayGives}
 use Rattle.tool_commands.specs.Compile.{asked, fitting, OfFitting, OfAsked, CompileGives}
+use Rattle.tool_commands.specs.Demo.{DemoGives}
 use Rattle.tool_commands.specs.Commands.{CommandGives}
 
 abbrev IsOther : Result Output Refusal → Type 0
@@ -93,10 +94,16 @@ compile_other lines =
     after_keeps IsOther refused (asked lines) OfAsked
     (λ found given is. after_keeps IsOther refused (fitting found.1.tree) (OfFitting found.0 found.1) (λ fits given is. subst IsOther (sym is.2) (λ e. absurd cc)) given is)
 
+demo_other : (number : ℕ) (given : Result Output Refusal) → DemoGives number given → IsOther given
+demo_other number given is = subst IsOther (sym is.2) (λ e. run_ending_other is.1.pair (sym is.1.ending ∙ e))
+
 pub given_ending : (command : Command) (lines : List (List ℕ)) (given : Result Output Refusal) → CommandGives command lines given → (output_for given).ending ≢ ReadFault
 given_ending Play lines given is = play_other lines given is
 given_ending Eval lines given is = subst IsOther (sym is) (eval_other lines)
 given_ending Check lines given is = check_other lines given is
 given_ending (Run spec) lines given is = run_other spec lines given is
 given_ending Replay lines given is = replay_other lines given is
+given_ending Settle lines given is = replay_other lines given is
 given_ending Compile lines given is = compile_other lines given is
+given_ending Flocks lines given is = compile_other lines given is
+given_ending (Demo number) lines given is = demo_other number given is

@@ -6,7 +6,7 @@ use Rattle.tool_texts.specs.declared.stop.Stop.TheVariants.{Refused, NoMemory}
 use Rattle.tool_texts.specs.declared.output.Output.{Output}
 use Rattle.tool_commands.specs.declared.prepared.PendingRun.{PendingRun}
 use Rattle.tool_commands.specs.declared.prepared.Prepared.{Prepared}
-use Rattle.tool_commands.specs.declared.prepared.Prepared.TheVariants.{Text, Alone, Threads}
+use Rattle.tool_commands.specs.declared.prepared.Prepared.TheVariants.{Text, Alone, Threads, Demo}
 use Rattle.tool_commands.specs.Prepared.{CanRun, IsOutputOfRun, NeedsNoThreads, LeadsTo, Prepares, IsPending}
 
 pub text_leads : (rule : Output → Type 0) (output : Output) → rule output → LeadsTo rule (Text output)
@@ -19,11 +19,13 @@ pending_leads rule run can so (Alone other) is =
     subst (λ (r : PendingRun). LeadsTo rule (Alone r)) (sym is.0) (record { can = (can, is.1); allowed = so })
 pending_leads rule run can so (Threads other) is =
     subst (λ (r : PendingRun). LeadsTo rule (Threads r)) (sym is.0) (record { can = can; allowed = so })
+pending_leads rule run can so (Demo demo) is = absurd is
 
 pub pending_plain : (run : PendingRun) (prepared : Prepared) → IsPending run prepared → run.spec.workers ≡ 1 → NeedsNoThreads prepared
 pending_plain run (Text output) is one = absurd is
 pending_plain run (Alone other) is one = tt
 pending_plain run (Threads other) is one = is.1 one
+pending_plain run (Demo demo) is one = absurd is
 
 pub leads_wider : (rule wider : Output → Type 0) → ((output : Output) → rule output → wider output) → (prepared : Prepared) → LeadsTo rule prepared → LeadsTo wider prepared
 leads_wider rule wider so prepared leads = record { can = leads.can; allowed = λ output is. so output (leads.allowed output is) }

@@ -13,4 +13,6 @@ pub mod OneCheck
 pub mod OneRun
 pub mod OneReplay
 pub mod Compiled
+pub mod DemoCases
+pub mod OneDemo
 pub mod One

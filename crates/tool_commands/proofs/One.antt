@@ -1,7 +1,7 @@
 -- A command that leaves no choice gives one output for its input.
 use Rattle.std.proofs.Common.{◌≡◌, ℕ, List, Result, sym, ◌∙◌}
 use Rattle.pop_words.specs.declared.command.Command.{Command}
-use Rattle.pop_words.specs.declared.command.Command.TheVariants.{Play, Eval, Check, Run, Replay, Compile}
+use Rattle.pop_words.specs.declared.command.Command.TheVariants.{Play, Eval, Check, Run, Replay, Settle, Compile, Flocks, Demo}
 use Rattle.tool_texts.specs.declared.refusal.Refusal.{Refusal}
 use Rattle.tool_texts.specs.declared.output.Output.{Output}
 use Rattle.tool_commands.specs.Commands.{CommandGives, IsDetermined}
@@ -9,6 +9,7 @@ use Rattle.tool_commands.proofs.OnePlay.{one_play}
 use Rattle.tool_commands.proofs.OneCheck.{one_check}
 use Rattle.tool_commands.proofs.OneRun.{one_run}
 use Rattle.tool_commands.proofs.OneReplay.{one_replay}
+use Rattle.tool_commands.proofs.OneDemo.{one_demo}
 
 pub one_given : (command : Command) → IsDetermined command → (lines : List (List ℕ)) (x y : Result Output Refusal) → CommandGives command lines x → CommandGives command lines y → x ≡ y
 one_given Play plain lines x y p q = one_play lines x y p q
@@ -16,4 +17,7 @@ one_given Eval plain lines x y p q = p ∙ sym q
 one_given Check plain lines x y p q = one_check lines x y p q
 one_given (Run spec) plain lines x y p q = one_run spec plain lines x y p q
 one_given Replay plain lines x y p q = one_replay lines x y p q
+one_given Settle plain lines x y p q = one_replay lines x y p q
 one_given Compile plain lines x y p q = absurd plain
+one_given Flocks plain lines x y p q = absurd plain
+one_given (Demo number) plain lines x y p q = one_demo number x y p q

@@ -26,7 +26,7 @@ use Rattle.tool_commands.proofs.Ran.{run_tuples}
 use Rattle.tool_commands.proofs.OneLast.{one_last}
 use Rattle.tool_commands.proofs.OneCheck.{one_judged, one_begin}
 
-same_output : (x y : Output) → x.text ≡ y.text → x.ending ≡ y.ending → x ≡ y
+pub same_output : (x y : Output) → x.text ≡ y.text → x.ending ≡ y.ending → x ≡ y
 same_output x y text ending =
     ap (λ (t : List ℕ). let o : Output = record { text = t; ending = x.ending } in o) text
     ∙ ap (λ (e : Ending). let o : Output = record { text = y.text; ending = e } in o) ending

@@ -1,7 +1,7 @@
 -- The table of commands.
-use Rattle.std.specs.Prelude.{◌≡◌, ℕ, List, Result}
+use Rattle.std.specs.Prelude.{◌≡◌, ℕ, Bool, true, false, List, Result}
 use Rattle.pop_words.specs.declared.command.Command.{Command}
-use Rattle.pop_words.specs.declared.command.Command.TheVariants.{Play, Eval, Check, Run, Replay, Compile}
+use Rattle.pop_words.specs.declared.command.Command.TheVariants.{Play, Eval, Check, Run, Replay, Settle, Compile, Flocks, Demo}
 use Rattle.tool_texts.specs.declared.refusal.Refusal.{Refusal}
 use Rattle.tool_texts.specs.declared.output.Output.{Output}
 use Rattle.tool_commands.specs.Eval.{eval_output}
@@ -10,6 +10,7 @@ use Rattle.tool_commands.specs.Check.{CheckGives}
 use Rattle.tool_commands.specs.Run.{RunGives}
 use Rattle.tool_commands.specs.Replay.{ReplayGives}
 use Rattle.tool_commands.specs.Compile.{CompileGives}
+use Rattle.tool_commands.specs.Demo.{DemoGives}
 
 -- what each gives for the lines of its input
 abbrev pub CommandGives : Command → List (List ℕ) → Result Output Refusal → Type 0
@@ -18,7 +19,22 @@ CommandGives Eval lines given = given ≡ eval_output lines
 CommandGives Check lines given = CheckGives lines given
 CommandGives (Run spec) lines given = RunGives spec lines given
 CommandGives Replay lines given = ReplayGives lines given
+CommandGives Settle lines given = ReplayGives lines given
 CommandGives Compile lines given = CompileGives lines given
+CommandGives Flocks lines given = CompileGives lines given
+CommandGives (Demo number) lines given = DemoGives number given
+
+-- which read an input: all but `demo`
+abbrev pub reads : Command → Bool
+reads Play = true
+reads Eval = true
+reads Check = true
+reads (Run spec) = true
+reads Replay = true
+reads Settle = true
+reads Compile = true
+reads Flocks = true
+reads (Demo number) = false
 
 -- which need no threads: all but a run by two or more workers
 abbrev pub IsPlain : Command → Type 0
@@ -27,7 +43,10 @@ IsPlain Eval = Unit {0}
 IsPlain Check = Unit {0}
 IsPlain (Run spec) = spec.workers ≡ 1
 IsPlain Replay = Unit {0}
+IsPlain Settle = Unit {0}
 IsPlain Compile = Unit {0}
+IsPlain Flocks = Unit {0}
+IsPlain (Demo number) = Unit {0}
 
 -- Which leave no choice: all but a run by two or more workers, and `compile`, of which any valid proof will do.
 abbrev pub IsDetermined : Command → Type 0
@@ -36,4 +55,7 @@ IsDetermined Eval = Unit {0}
 IsDetermined Check = Unit {0}
 IsDetermined (Run spec) = spec.workers ≡ 1
 IsDetermined Replay = Unit {0}
+IsDetermined Settle = Unit {0}
 IsDetermined Compile = ⊥
+IsDetermined Flocks = ⊥
+IsDetermined (Demo number) = Unit {0}

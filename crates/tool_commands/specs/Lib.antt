@@ -8,3 +8,4 @@ pub mod Replay
 pub mod Compile
 pub mod Prepared
 pub mod Commands
+pub mod Demo

@@ -7,9 +7,10 @@ use Rattle.tool_texts.specs.declared.output.Output.{Output}
 use Rattle.tool_texts.specs.Steps.{MayStop}
 use Rattle.tool_commands.specs.declared.prepared.PendingRun.{PendingRun}
 use Rattle.tool_commands.specs.declared.prepared.Prepared.{Prepared}
-use Rattle.tool_commands.specs.declared.prepared.Prepared.TheVariants.{Text, Alone, Threads}
+use Rattle.tool_commands.specs.declared.prepared.Prepared.TheVariants.{Text, Alone, Threads, Demo}
 use Rattle.tool_commands.specs.Start.{IsStart}
 use Rattle.tool_commands.specs.Run.{IsRunOutput}
+use Rattle.tool_commands.specs.Demo.{CanDemo, IsDemoOutput}
 
 -- a run that can be made
 pub record CanRun (run : PendingRun) : Type 0 where
@@ -23,17 +24,20 @@ abbrev pub CanBeMade : Prepared → Type 0
 CanBeMade (Text output) = Unit {0}
 CanBeMade (Alone run) = CanRun run × (run.spec.workers ≡ 1)
 CanBeMade (Threads run) = CanRun run
+CanBeMade (Demo demo) = CanDemo demo
 
 -- an output of what is prepared: the text itself, or that of the run
 abbrev pub IsOutputOf : Prepared → Output → Type 0
 IsOutputOf (Text whole) output = output ≡ whole
 IsOutputOf (Alone run) output = IsOutputOfRun run output
 IsOutputOf (Threads run) output = IsOutputOfRun run output
+IsOutputOf (Demo demo) output = IsDemoOutput demo.number output
 
 abbrev pub NeedsNoThreads : Prepared → Type 0
 NeedsNoThreads (Text output) = Unit {0}
 NeedsNoThreads (Alone run) = Unit {0}
 NeedsNoThreads (Threads run) = ⊥
+NeedsNoThreads (Demo demo) = Unit {0}
 
 -- it can be made, and the rule allows each of its outputs
 pub record LeadsTo (rule : Output → Type 0) (prepared : Prepared) : Type 0 where
@@ -50,3 +54,4 @@ abbrev pub IsPending : PendingRun → Prepared → Type 0
 IsPending run (Text output) = ⊥
 IsPending run (Alone other) = (other ≡ run) × (run.spec.workers ≡ 1)
 IsPending run (Threads other) = (other ≡ run) × (run.spec.workers ≡ 1 → ⊥)
+IsPending run (Demo demo) = ⊥

@@ -6,6 +6,7 @@
 mod bundle;
 mod check;
 mod compile;
+mod demo;
 mod eval;
 mod play;
 mod prepared;
@@ -14,8 +15,9 @@ mod run;
 mod start;
 mod table;
 
+pub use demo::{PendingDemo, make_demo};
 pub use prepared::{PendingRun, Prepared};
 pub use replay::JOURNAL_LINE;
 pub use run::{make_alone, make_on_threads};
 pub use start::Start;
-pub use table::{is_plain_command, prepare_command};
+pub use table::{is_plain_command, prepare_command, reads_input};

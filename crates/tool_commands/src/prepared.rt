@@ -1,5 +1,6 @@
 //! What a command prepares.
 
+use crate::demo::PendingDemo;
 use crate::start::Start;
 use pop_checker::Checked;
 use pop_io::List;
@@ -24,4 +25,6 @@ pub enum Prepared {
     Alone(PendingRun),
     /// A run by two or more workers, which wait for one another.
     Threads(PendingRun),
+    /// The run of a demo case.
+    Demo(PendingDemo),
 }

@@ -36,7 +36,7 @@ pub(crate) fn is_by_one(spec: &RunSpec) -> bool
 }
 
 /// The journal's last line for the end of a run from these counts, and how the command ends.
-fn last_and_ending(
+pub(crate) fn last_and_ending(
     checked: &Checked,
     counts: &[u64],
     spec: &RunSpec,

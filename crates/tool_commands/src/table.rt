@@ -1,13 +1,14 @@
 //! The table of commands.
 
-ghost use Rattle.std.specs.Prelude.{◌↔◌, ◌<◌, ◌^◌, length, IfOk, IsTrue};
+ghost use Rattle.std.specs.Prelude.{◌≡◌, ◌↔◌, ◌<◌, ◌^◌, length, IfOk, IsTrue};
 ghost use Rattle.pop_lines.specs.Lines.{lines_of};
 ghost use Rattle.pop_words.specs.Words.{HasLimits};
 ghost use Rattle.tool_commands.specs.Prepared.{Prepares, NeedsNoThreads};
-ghost use Rattle.tool_commands.specs.Commands.{CommandGives, IsPlain};
+ghost use Rattle.tool_commands.specs.Commands.{CommandGives, IsPlain, reads};
 
 use crate::check::check;
 use crate::compile::compile;
+use crate::demo::prepare_demo;
 use crate::eval::eval;
 use crate::play::play;
 use crate::prepared::Prepared;
@@ -31,6 +32,19 @@ pub fn prepare_command(alloc: Global, command: Command, input: &[u8]) -> Result<
         Command::Run(spec) => prepare_run(alloc, spec, input),
         Command::Replay => Ok(Prepared::Text(replay(alloc, input)?)),
         Command::Compile => Ok(Prepared::Text(compile(alloc, input)?)),
+        Command::Settle => Ok(Prepared::Text(replay(alloc, input)?)),
+        Command::Flocks => Ok(Prepared::Text(compile(alloc, input)?)),
+        Command::Demo(number) => Ok(prepare_demo(alloc, number)?),
+    }
+}
+
+/// Whether a command reads an input.
+pub fn reads_input(command: &Command) -> bool
+    ensures { result ≡ reads command.now }
+{
+    match command {
+        Command::Demo(_) => false,
+        _ => true,
     }
 }
 

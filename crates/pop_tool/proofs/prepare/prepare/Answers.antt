@@ -21,10 +21,10 @@ returns-in_ok-of_refusal-in-Err-TooLong-clause-leads g c =
     let taken = c.in-Err-TooLong.ensures.long in
     let some = long_input (g.S.Source.left c.args.source.now) taken.0 (taken.2.0 is) (c.in-Err-TooLong.ensures.too_long is) in
     text_leads _ c.in_ok-of_refusal-in-Err-TooLong.field-0
-    (long_right (map (λ w. w.now) c.args.words.now) (g.S.Source.left c.args.source.now) _ _ _ c.in-Ok.command (sym c.in-Ok.ensures.meaning) some.0 some.1 some.2 (c.in-Err-TooLong.ensures.too_long is) _ c.in_ok-of_refusal-in-Err-TooLong.ensures)
+    (long_right (map (λ w. w.now) c.args.words.now) (g.S.Source.left c.args.source.now) _ _ _ c.in-Ok.command (sym c.in-Ok.ensures.meaning) some.0 some.1 (search rules) some.2 (c.in-Err-TooLong.ensures.too_long is) _ c.in_ok-of_refusal-in-Err-TooLong.ensures)
 
 pub returns-in_ok-of_read_fault-in-Err-ReadFault-clause-leads : goal.returns-in_ok-of_read_fault-in-Err-ReadFault-clause-leads
 returns-in_ok-of_read_fault-in-Err-ReadFault-clause-leads g c =
     let rose = c.in-Err-ReadFault.ensures.fault (ap (λ e. Err e) c.in-Err-ReadFault.field-0-is) in
     text_leads _ c.in_ok-of_read_fault-in-Err-ReadFault.field-0
-    (fault_right (map (λ w. w.now) c.args.words.now) (g.S.Source.left c.args.source.now) _ _ _ c.in-Ok.command (sym c.in-Ok.ensures.meaning) rose _ c.in_ok-of_read_fault-in-Err-ReadFault.ensures)
+    (fault_right (map (λ w. w.now) c.args.words.now) (g.S.Source.left c.args.source.now) _ _ _ c.in-Ok.command (sym c.in-Ok.ensures.meaning) (search rules) rose _ c.in_ok-of_read_fault-in-Err-ReadFault.ensures)

@@ -1,0 +1,68 @@
+-- What `demo` makes of a number: the summary of a run of its case.
+use Rattle.std.specs.Prelude.{◌≡◌, ℕ, ◌≤◌, List, [], ◌∷◌, ◌++◌, codes, decimal, length, count_by, Option, Result, Ok}
+use Rattle.pres_ast.specs.PredModel.{PredModel}
+use Rattle.pres_ast.specs.PredicateValue.{predicate_value}
+use Rattle.pres_read.specs.Canonical.{tree_text}
+use Rattle.pop_net.specs.NetModel.{NetModel, CrowdModel}
+use Rattle.pop_net.specs.InputCrowd.{input_crowd}
+use Rattle.pop_crowd.specs.declared.crowd.Meeting.{Meeting}
+use Rattle.pop_words.specs.declared.spec.TheConstants.{DEMO_LIMIT}
+use Rattle.pair_workers.specs.Run.{joined, IsRun}
+use Rattle.pop_journal.specs.Journal.{last_line, text_of}
+use Rattle.pop_journal.specs.declared.last.Last.{Last}
+use Rattle.pop_demo.specs.DemoCase.{names, demo_tree, demo_pred, demo_counts, demo_spec}
+use Rattle.comp_net.specs.BuiltNet.{built_net}
+use Rattle.pop_checker.specs.CheckedModel.{CheckedModel}
+use Rattle.tool_texts.specs.declared.refusal.Refusal.{Refusal}
+use Rattle.tool_texts.specs.declared.output.Output.{Output}
+use Rattle.tool_commands.specs.declared.demo.PendingDemo.{PendingDemo}
+use Rattle.tool_commands.specs.Play.{IsLast}
+use Rattle.tool_commands.specs.Run.{journal_end, run_ending}
+use Rattle.tool_commands.specs.Start.{IsStart}
+
+-- the net that `compile` builds of the case's predicate, and its input crowd
+abbrev pub demo_net : ℕ → NetModel
+demo_net number = built_net names (demo_tree number)
+
+abbrev pub demo_start : ℕ → CrowdModel
+demo_start number = input_crowd (demo_net number) (demo_counts number)
+
+-- how many meetings changed a tuple
+abbrev pub changed : List (List Meeting) → ℕ
+changed rounds = count_by (λ m. m.changed) (joined rounds)
+
+abbrev pub summary_lines : ℕ → List (List Meeting) → Last → List (List ℕ)
+summary_lines number rounds last =
+    (codes "demo " ++ decimal number)
+    ∷ (codes "pred " ++ tree_text names (demo_tree number))
+    ∷ (codes "agents " ++ decimal (length (demo_start number)))
+    ∷ (codes "rounds " ++ decimal (length rounds))
+    ∷ (codes "changed " ++ decimal (changed rounds))
+    ∷ last_line last
+    ∷ []
+
+-- the summary of a run of the case
+pub record IsDemoOutput (number : ℕ) (output : Output) : Type 0 where
+  pub rounds : List (List Meeting)
+  pub end : CrowdModel
+  pub run : IsRun (demo_net number) (demo_start number) (demo_spec number) rounds end
+  pub pair : Option (ℕ × ℕ)
+  pub last : IsLast (demo_net number) end pair
+  pub text : output.text ≡ text_of (summary_lines number rounds (journal_end (predicate_value (demo_tree number) (demo_counts number)) pair))
+  pub ending : output.ending ≡ run_ending pair
+
+-- what `demo` gives; its number is within the limit
+abbrev pub DemoGives : ℕ → Result Output Refusal → Type 0
+DemoGives number given = (output : Output) × IsDemoOutput number output × (given ≡ Ok output)
+
+-- the net and the predicate of the case
+pub record IsCheckedCase (number : ℕ) (checked : CheckedModel) : Type 0 where
+  pub net : checked.net ≡ demo_net number
+  pub pred : checked.pred ≡ demo_pred number
+
+-- a run of the case that can be made
+pub record CanDemo (demo : PendingDemo) : Type 0 where
+  pub few : demo.number ≤ DEMO_LIMIT
+  pub checked : IsCheckedCase demo.number demo.checked
+  pub counts : demo.start.counts ≡ demo_counts demo.number
+  pub start : IsStart demo.checked.net demo.start

@@ -1,0 +1,167 @@
+//! The command `demo`.
+
+ghost use Rattle.std.specs.Prelude.{◌≡◌, ◌++◌, ◌<◌, ◌≤◌, ◌^◌, codes, count_by, decimal, length, IfOk, OnOk};
+ghost use Rattle.pres_ast.specs.PredicateValue.{predicate_value};
+ghost use Rattle.pop_lines.specs.Lines.{ended};
+ghost use Rattle.pop_net.specs.Lanes.{crowd_of};
+ghost use Rattle.pop_words.specs.declared.spec.TheConstants.{DEMO_LIMIT};
+ghost use Rattle.pair_workers.specs.Run.{joined};
+ghost use Rattle.pair_workers.specs.Ends.{IsRunFrom};
+ghost use Rattle.pop_journal.specs.Journal.{text_of};
+ghost use Rattle.pop_demo.specs.DemoCase.{demo_counts, demo_spec};
+ghost use Rattle.tool_commands.specs.Prepared.{LeadsTo};
+ghost use Rattle.tool_commands.specs.Start.{IsStart};
+ghost use Rattle.tool_commands.specs.Demo.{changed, demo_start, summary_lines, DemoGives, IsCheckedCase, IsDemoOutput, CanDemo};
+
+use crate::prepared::Prepared;
+use crate::run::last_and_ending;
+use crate::start::Start;
+use comp_net::{CompileFault, compile};
+use pair_workers::{RunEnd, run_alone};
+use pop_checker::{CheckFault, Checked, check};
+use pop_crowd::{Crowd, CrowdFault, Meeting};
+use pop_demo::{demo_case, demo_names, demo_run};
+use pop_io::{Gate, List, NoMemory};
+use pop_journal::{Last, push_last_line};
+use pop_lines::push_number;
+use pres_read::print_pred;
+use std::alloc::{AllocError, Global};
+use tool_texts::Output;
+
+/// The run of a case that is still to be made.
+#[derive(Drop)]
+pub struct PendingDemo {
+    pub number: u32,
+    pub checked: Checked,
+    pub start: Start,
+}
+
+/// The net of a case, which was checked, and the counts with which it starts.
+fn checked_case(alloc: Global, number: u32) -> Result<(Checked, List<u64>), NoMemory>
+    ensures checked { IfOk result (λ case. IsCheckedCase number case.0) }
+    ensures counts { IfOk result (λ case. case.1 ≡ demo_counts number) }
+{
+    let names = demo_names(alloc)?;
+    let (pred, counts) = demo_case(alloc, number)?;
+    let (net, proof) = match compile(alloc, &pred, &names) {
+        Ok(built) => built,
+        Err(CompileFault::NoMemory) => return Err(NoMemory),
+        Err(_) => unreachable!(),
+    };
+    match check(alloc, net, pred, &proof) {
+        Ok(checked) => Ok((checked, counts)),
+        Err(CheckFault::NoMemory) => Err(NoMemory),
+        Err(CheckFault::Rejected(_)) => unreachable!(),
+    }
+}
+
+/// The crowd in which the net of a case starts.
+fn start_case(
+    alloc: Global,
+    number: u32,
+    checked: &Checked,
+    counts: List<u64>,
+) -> Result<Start, NoMemory>
+    requires checked { IsCheckedCase number checked.now }
+    requires counts { counts ≡ demo_counts number }
+    ensures counts { IfOk result (λ start. start.counts ≡ demo_counts number) }
+    ensures start { IfOk result (IsStart checked.now.net) }
+{
+    match Crowd::of_counts(alloc, checked.net(), counts.as_slice()) {
+        Ok(crowd) => Ok(Start { counts, crowd }),
+        Err(CrowdFault::NoMemory) => Err(NoMemory),
+        Err(CrowdFault::Size(_)) => unreachable!(),
+    }
+}
+
+/// What `demo` prepares for a number. It reads nothing.
+pub(crate) fn prepare_demo(alloc: Global, number: u32) -> Result<Prepared, NoMemory>
+    requires { number ≤ DEMO_LIMIT }
+    ensures { IfOk result (LeadsTo (λ output. DemoGives number (Ok output))) }
+{
+    let (checked, counts) = checked_case(alloc, number)?;
+    let start = start_case(alloc, number, &checked, counts)?;
+    Ok(Prepared::Demo(PendingDemo {
+        number,
+        checked,
+        start,
+    }))
+}
+
+fn changed_in(meetings: &[Meeting]) -> usize
+    ensures count { result ≡ count_by (λ m. m.changed) meetings.now }
+{
+    meetings.iter().filter(|m| m.changed).count()
+}
+
+/// How many meetings changed a tuple.
+fn changed_of(rounds: &[List<Meeting>]) -> u64
+    requires { length (joined rounds.now) < 2 ^ 64 }
+    ensures { result ≡ changed rounds.now }
+{
+    let mut total = 0u64;
+    for meetings in rounds {
+        total += changed_in(meetings.as_slice()) as u64;
+    }
+    total
+}
+
+/// Adds a line of a word and a number.
+fn push_count(text: &mut Vec<u8>, name: &str, number: u64) -> Result<(), AllocError>
+    ensures { OnOk result (text.new.items ≡ text.old.items ++ ended (name.now ++ decimal number)) }
+{
+    text.extend_from_slice(name.as_bytes())?;
+    push_number(text, number)?;
+    text.extend_from_slice(b"\n")
+}
+
+/// Adds the line of a text behind a word.
+fn push_text(text: &mut Vec<u8>, name: &str, line: &str) -> Result<(), AllocError>
+    ensures { OnOk result (text.new.items ≡ text.old.items ++ ended (name.now ++ line.now)) }
+{
+    text.extend_from_slice(name.as_bytes())?;
+    text.extend_from_slice(line.as_bytes())?;
+    text.extend_from_slice(b"\n")
+}
+
+/// The summary of a run of a case.
+fn summary_of(
+    alloc: Global,
+    number: u32,
+    checked: &Checked,
+    run: &RunEnd,
+    last: Last,
+) -> Result<Vec<u8>, NoMemory>
+    requires case { IsCheckedCase number checked.now }
+    requires agents { length run.now.crowd ≡ length (demo_start number) }
+    requires few { length (joined run.now.rounds) < 2 ^ 64 }
+    ensures { IfOk result (λ text. text.items ≡ text_of (summary_lines number run.now.rounds last)) }
+{
+    let pred = print_pred(alloc, checked.pred(), checked.net().var_names())?;
+    let rounds = run.rounds.as_slice();
+    let mut text = Vec::new(alloc);
+    push_count(&mut text, "demo ", u64::from(number))?;
+    push_text(&mut text, "pred ", pred.as_str())?;
+    push_count(&mut text, "agents ", u64::from(run.crowd.len()))?;
+    push_count(&mut text, "rounds ", rounds.len() as u64)?;
+    push_count(&mut text, "changed ", changed_of(rounds))?;
+    push_last_line(&mut text, last)?;
+    Ok(text)
+}
+
+/// Makes the run of a case. It waits for no thread.
+pub fn make_demo<G: Gate>(alloc: Global, demo: PendingDemo, gate: &G) -> Result<Output, NoMemory>
+    requires { CanDemo demo }
+    ensures { IfOk result (IsDemoOutput demo.number) }
+{
+    let PendingDemo {
+        number,
+        checked,
+        start: Start { counts, crowd },
+    } = demo;
+    let spec = demo_run(number);
+    let run = run_alone(alloc, checked.net(), crowd, &spec, gate)?;
+    let (last, ending) = last_and_ending(&checked, counts.as_slice(), &spec, &run);
+    let text = summary_of(alloc, number, &checked, &run, last)?;
+    Ok(Output::new(text, ending))
+}
