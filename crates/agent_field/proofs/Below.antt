@@ -3,7 +3,7 @@ use Rattle.std.proofs.Common.{◌≡◌, ◌≢◌, ℕ, zero, suc, ◌+◌, ◌
 use Rattle.std.proofs.lemmas.Bool.{cases_eq, cases_lt}
 use Rattle.std.proofs.lemmas.List.{get_or_append_left, get_or-append-add}
 use Rattle.pop_net.specs.declared.net.Word.{Word}
-use Rattle.agent_field.specs.declared.view.About.{About}
+use Rattle.agent_field.specs.declared.view.Setup.{Setup}
 use Rattle.agent_field.specs.Standing.{In, agents_of}
 use Rattle.agent_field.specs.Steps.{Mine, below, seen, with_known, with_locks, HasReadAll, HasSeenAll}
 
@@ -33,12 +33,12 @@ read-more known out now a x longer long each i d h =
 -- a seat in other words: with its own locks and words, where nothing is due
 pub held_again : (m : Mine) (held : List ℕ) → m.0.held ≡ held → m.0.due ≡ [] → m ≡ (with_known m.0.known (with_locks held m.0), m.1)
 held_again m held locks due i = (
-  record { about = m.0.about; founding = m.0.founding; live = m.0.live; number = m.0.number; held = locks i; known = m.0.known; due = due i; log = m.0.log; next = m.0.next; taken = m.0.taken; looks = m.0.looks },
+  record { setup = m.0.setup; founding = m.0.founding; live = m.0.live; number = m.0.number; held = locks i; known = m.0.known; due = due i; log = m.0.log; next = m.0.next; taken = m.0.taken; looks = m.0.looks },
   m.1,
 )
 
 -- all words were read under all locks
-pub saw_all : (k : About) (m m₁ m₂ : Mine) (shards agents : ℕ) (words : List Word) → m.0.number ≡ 0 → m₁ ≡ (with_locks (below shards) m.0, m.1) → HasReadAll agents words m₁ m₂ → length words ≡ agents → k.shards ≡ shards → agents_of k ≡ agents → HasSeenAll k m₂.0
+pub saw_all : (k : Setup) (m m₁ m₂ : Mine) (shards agents : ℕ) (words : List Word) → m.0.number ≡ 0 → m₁ ≡ (with_locks (below shards) m.0, m.1) → HasReadAll agents words m₁ m₂ → length words ≡ agents → k.shards ≡ shards → agents_of k ≡ agents → HasSeenAll k m₂.0
 saw_all k m m₁ m₂ shards agents words zeroth locked h long all_shards all_agents =
     let now : m₂ ≡ (with_known h.known (with_locks (below shards) m.0), m.1) = h.read ∙ ap (λ (n : Mine). (with_known h.known n.0, n.1)) locked in
     let same : seen m₂.0.known ≡ words = ap (λ (n : Mine). seen n.0.known) now ∙ h.these in record {

@@ -12,7 +12,7 @@ use Rattle.pop_net.specs.Lanes.{tuple_of, crowd_of, IsValid, AreValid}
 use Rattle.pop_crowd.specs.declared.crowd.Meeting.{Meeting}
 use Rattle.agent_field.specs.declared.view.Logged.{Logged}
 use Rattle.agent_field.specs.declared.view.Look.{Look}
-use Rattle.agent_field.specs.declared.view.About.{About}
+use Rattle.agent_field.specs.declared.view.Setup.{Setup}
 use Rattle.agent_field.specs.declared.view.View.{View}
 use Rattle.agent_field.specs.declared.field.Field.{Field}
 use Rattle.agent_field.specs.declared.field.FieldSeat.{FieldSeat}
@@ -29,10 +29,10 @@ some_value None h = absurd (true≢false (sym h))
 some_value (Some a) h = (a, refl)
 
 -- the agents' words of a table
-abbrev pub agent_words : About → List ℕ → List Word
+abbrev pub agent_words : Setup → List ℕ → List Word
 agent_words k words = map packed (drop (2 + k.shards) words)
 
-module _ (k : About) (words : List ℕ) (views : List View) (history : List Meeting) (seat : ℕ → Seated ℕ) (st : StandsAt k words views history seat) (id : ℕ) (v : View) (at : get_elem? views id ≡ some v) (live : v.live ≡ true) (zeroth : v.number ≡ 0)
+module _ (k : Setup) (words : List ℕ) (views : List View) (history : List Meeting) (seat : ℕ → Seated ℕ) (st : StandsAt k words views history seat) (id : ℕ) (v : View) (at : get_elem? views id ≡ some v) (live : v.live ≡ true) (zeroth : v.number ≡ 0)
     (whole : (w : ℕ) → 0 < w → w < v.next → IsSome (get_or v.taken w None)) (none_due : v.due ≡ []) where
   -- no other seat is live
   alone : (j : ℕ) (u : View) → get_elem? views j ≡ some u → u.live ≡ true → u ≡ v
@@ -106,7 +106,7 @@ module _ (k : About) (words : List ℕ) (views : List View) (history : List Meet
       }
 
 -- the words of a closed field, with the logs and looks of its last seat, are those of a history
-pub record Ended (k : About) (words : List ℕ) (own : List Logged) (taken : List (Option (List Logged))) (looks : List Look) : Type 0 where
+pub record Ended (k : Setup) (words : List ℕ) (own : List Logged) (taken : List (Option (List Logged))) (looks : List Look) : Type 0 where
   pub history : List Meeting
   pub count : get_or words 0 0 ≡ length history
   pub agents : crowd_of k.net.value (agent_words k words) ≡ crowd_after k history
@@ -116,8 +116,8 @@ pub record Ended (k : About) (words : List ℕ) (own : List Logged) (taken : Lis
   pub rest : (w : ℕ) → w ≢ 0 → get_or taken w None ≡ None → calls w history ≡ []
   pub looked : (look : Look) → In look looks → IsLook k.net.value k.opening.value history look
 
-ended : (k : About) (words : List ℕ) (slots : List (Unit {0})) (id : ℕ) (v : View) (number : ℕ) (own : List Logged) (next : ℕ) (taken : List (Option (List Logged))) (looks : List Look)
-    → Final (Seen (FieldStands k) id v) words slots → v ≡ idle v.about number own next taken looks → number ≡ 0 → ((w : ℕ) → 0 < w → w < next → IsSome (get_or taken w None)) → Ended k words own taken looks
+ended : (k : Setup) (words : List ℕ) (slots : List (Unit {0})) (id : ℕ) (v : View) (number : ℕ) (own : List Logged) (next : ℕ) (taken : List (Option (List Logged))) (looks : List Look)
+    → Final (Seen (FieldStands k) id v) words slots → v ≡ idle v.setup number own next taken looks → number ≡ 0 → ((w : ℕ) → 0 < w → w < next → IsSome (get_or taken w None)) → Ended k words own taken looks
 ended k words slots id v number own next taken looks final is zeroth whole =
     let s = final.0 in
     let live : v.live ≡ true = ap (λ (u : View). u.live) is in
@@ -153,7 +153,7 @@ tickets_below number count history log is long i d h =
     let b = calls_from-below number 0 history (get_or log i d) (subst (In (get_or log i d)) is (get_or-in log i d h)) in omega arith
 
 -- what a closed field gives
-pub record IsRoundOf (k : About) (own : List Logged) (taken : List (Option (List Logged))) (looks : List Look) (words : List Word) (meetings : List Meeting) : Type 0 where
+pub record IsRoundOf (k : Setup) (own : List Logged) (taken : List (Option (List Logged))) (looks : List Look) (words : List Word) (meetings : List Meeting) : Type 0 where
   pub replayed : crowd_of k.net.value words ≡ crowd_after k meetings
   pub valid : AreValid k.net.value words
   pub right : IsHistory k.net.value k.seats k.opening.value meetings
@@ -163,7 +163,7 @@ pub record IsRoundOf (k : About) (own : List Logged) (taken : List (Option (List
   pub looked : All (IsLook k.net.value k.opening.value meetings) looks
 
 -- what is read from the words and put together from the logs is the history and its replay
-pub rounds : (k : About) (all : List ℕ) (own : List Logged) (taken : List (Option (List Logged))) (looks : List Look) (count : ℕ) (words : List Word) (meetings : List Meeting)
+pub rounds : (k : Setup) (all : List ℕ) (own : List Logged) (taken : List (Option (List Logged))) (looks : List Look) (count : ℕ) (words : List Word) (meetings : List Meeting)
     → Ended k all own taken looks → get_elem? all 0 ≡ some count → words ≡ agent_words k all → meetings ≡ placed_logs (0, placed 0 (replicate count nobody) own) taken → IsRoundOf k own taken looks words meetings
 rounds k all own taken looks count words meetings e first are put =
     let long : length (replicate count nobody) ≡ length e.history = length-replicate count nobody ∙ sym (at_value all 0 count first) ∙ e.count in

@@ -19,7 +19,7 @@ module _ (net : NetModel) (x y x' y' u v u' v' : Word) (r : IsReaction net x y x
   same_second : y' ≡ v'
   same_second = same_word net y' v' r.second s.second (ap (λ (p : Tuple × Tuple). p.1) both)
 
-pub drawn_is : (ticket : ℕ) (m m' : Mine) (a b : ℕ) (x y x' y' : Word) → m.0.known ≡ (b, y) ∷ (a, x) ∷ [] → IsReaction m.0.about.net.value x y x' y' → HasDrawn ticket m m' → m' ≡ (meeting ticket a b x y x' y' m.0, m.1)
+pub drawn_is : (ticket : ℕ) (m m' : Mine) (a b : ℕ) (x y x' y' : Word) → m.0.known ≡ (b, y) ∷ (a, x) ∷ [] → IsReaction m.0.setup.net.value x y x' y' → HasDrawn ticket m m' → m' ≡ (meeting ticket a b x y x' y' m.0, m.1)
 drawn_is ticket m m' a b x y x' y' known reacted h =
     let none : ℕ × Word = (0, packed 0) in
     let same = sym h.known ∙ known in
@@ -27,17 +27,17 @@ drawn_is ticket m m' a b x y x' y' known reacted h =
     let first = ap (λ (l : List (ℕ × Word)). get_or l 1 none) same in
     let is_x : h.x ≡ x = ap (λ (p : ℕ × Word). p.1) first in
     let is_y : h.y ≡ y = ap (λ (p : ℕ × Word). p.1) second in
-    let net = m.0.about.net.value in
+    let net = m.0.setup.net.value in
     let is_x' = same_first net h.x h.y h.x' h.y' x y x' y' h.reacted reacted is_x is_y in
     let is_y' = same_second net h.x h.y h.x' h.y' x y x' y' h.reacted reacted is_x is_y in
     h.met ∙ (λ i. (meeting ticket (first i).0 (second i).0 (is_x i) (is_y i) (is_x' i) (is_y' i) m.0, m.1))
 
 -- the same from before the two reads on, where nothing was known
-pub pair_drawn : (ticket : ℕ) (m m₁ m₂ m₃ : Mine) (a b : ℕ) (x y x' y' : Word) → m₁ ≡ (knowing a x m.0, m.1) → m₂ ≡ (knowing b y m₁.0, m₁.1) → m.0.known ≡ [] → IsReaction m.0.about.net.value x y x' y' → HasDrawn ticket m₂ m₃
+pub pair_drawn : (ticket : ℕ) (m m₁ m₂ m₃ : Mine) (a b : ℕ) (x y x' y' : Word) → m₁ ≡ (knowing a x m.0, m.1) → m₂ ≡ (knowing b y m₁.0, m₁.1) → m.0.known ≡ [] → IsReaction m.0.setup.net.value x y x' y' → HasDrawn ticket m₂ m₃
     → m₃ ≡ (meeting ticket a b x y x' y' m.0, m.1)
 pair_drawn ticket m m₁ m₂ m₃ a b x y x' y' read_a read_b none reacted h =
     let read : m₂ ≡ (knowing b y (knowing a x m.0), m.1) = read_b ∙ ap (λ (n : Mine). (knowing b y n.0, n.1)) read_a in
     let known : m₂.0.known ≡ (b, y) ∷ (a, x) ∷ [] = ap (λ (n : Mine). n.0.known) read ∙ ap (λ (l : List (ℕ × Word)). (b, y) ∷ (a, x) ∷ l) none in
-    let net : m.0.about.net.value ≡ m₂.0.about.net.value = ap (λ (n : Mine). n.0.about.net.value) (sym read) in
+    let net : m.0.setup.net.value ≡ m₂.0.setup.net.value = ap (λ (n : Mine). n.0.setup.net.value) (sym read) in
     drawn_is ticket m₂ m₃ a b x y x' y' known (subst (λ (n : NetModel). IsReaction n x y x' y') net reacted) h
     ∙ ap (λ (n : Mine). (meeting ticket a b x y x' y' n.0, n.1)) read

@@ -14,7 +14,7 @@ use Rattle.pop_crowd.specs.declared.crowd.Meeting.{Meeting}
 use Rattle.pop_crowd.specs.Replay.{replay, reacts}
 use Rattle.agent_field.specs.declared.view.Logged.{Logged}
 use Rattle.agent_field.specs.declared.view.Look.{Look}
-use Rattle.agent_field.specs.declared.view.About.{About}
+use Rattle.agent_field.specs.declared.view.Setup.{Setup}
 use Rattle.agent_field.specs.declared.view.View.{View}
 use Rattle.agent_field.specs.History.{IsHistory, logged, calls, made}
 use Rattle.agent_field.specs.Standing.{agents_of, lock_at, agent_at, shard_of, packed, crowd_after, tuple_after, In, locks_of, spent, IsFirst, IsLook, LooksPart, Agrees, IsHeldBySome, StandsAt}
@@ -31,7 +31,7 @@ look_later net opening history m look h = (
   h.2,
 )
 
-looks_later : (k : About) (history : List Meeting) (m : Meeting) (looks : List Look) → LooksPart k history looks → LooksPart k (history ++ m ∷ []) looks
+looks_later : (k : Setup) (history : List Meeting) (m : Meeting) (looks : List Look) → LooksPart k history looks → LooksPart k (history ++ m ∷ []) looks
 looks_later k history m looks h = record {
   each = λ look i. look_later k.net.value k.opening.value history m look (h.each look i);
   ascending = h.ascending;
@@ -48,7 +48,7 @@ module _ (net : NetModel) (crowd : CrowdModel) (a b : ℕ) (x y x' y' : Word) (r
   met_second =
       ap (λ (p : Tuple × Tuple). p.1) reacted.tuples ∙ (λ i. (reaction net (sym is_a i) (sym is_b i)).1) ∙ sym (after_meeting-second net crowd a b fits_b)
 
-module _ (k : About) (words : List ℕ) (views : List View) (history : List Meeting) (seat : ℕ → Option ℕ) (st : StandsAt k words views history seat) (id : ℕ) (v : View) (at : get_elem? views id ≡ some v) (live : v.live ≡ true) where
+module _ (k : Setup) (words : List ℕ) (views : List View) (history : List Meeting) (seat : ℕ → Option ℕ) (st : StandsAt k words views history seat) (id : ℕ) (v : View) (at : get_elem? views id ≡ some v) (live : v.live ≡ true) where
   mine : Agrees k words history seat id v
   mine = st.each id v at live
 
@@ -87,18 +87,18 @@ module _ (k : About) (words : List ℕ) (views : List View) (history : List Meet
       let f = mine in record {
         history = history;
         long = refl;
-        right = subst (λ (z : About). IsHistory z.net.value z.seats z.opening.value history) (sym f.about) st.right;
+        right = subst (λ (z : Setup). IsHistory z.net.value z.seats z.opening.value history) (sym f.setup) st.right;
         logs = f.logs;
-        known = λ a x h. subst (λ (z : About). tuple_after z history a ≡ tuple_of z.net.value x) (sym f.about) (known_after none_due a x h);
+        known = λ a x h. subst (λ (z : Setup). tuple_after z history a ≡ tuple_of z.net.value x) (sym f.setup) (known_after none_due a x h);
       }
 
-  pub draws_keep : (a b : ℕ) (x y x' y' : Word) → v.known ≡ (b, y) ∷ (a, x) ∷ [] → IsReaction v.about.net.value x y x' y' → v.due ≡ [] → a ≢ b → length v.log < 2 ^ 40 → v.held ≡ locks_of k a b
-      → StandsAt k (set words 0 (length history + 1)) (set views id (meeting (length history) a b x y x' y' v)) (history ++ made v.number a b (reacts v.about.net.value (tuple_of v.about.net.value x) (tuple_of v.about.net.value y)) ∷ []) seat
+  pub draws_keep : (a b : ℕ) (x y x' y' : Word) → v.known ≡ (b, y) ∷ (a, x) ∷ [] → IsReaction v.setup.net.value x y x' y' → v.due ≡ [] → a ≢ b → length v.log < 2 ^ 40 → v.held ≡ locks_of k a b
+      → StandsAt k (set words 0 (length history + 1)) (set views id (meeting (length history) a b x y x' y' v)) (history ++ made v.number a b (reacts v.setup.net.value (tuple_of v.setup.net.value x) (tuple_of v.setup.net.value y)) ∷ []) seat
   draws_keep a b x y x' y' known reacted none_due apart room exactly =
       let net = k.net.value in
       let f = mine in
-      let same_net : v.about.net.value ≡ net = ap (λ (z : About). z.net.value) f.about in
-      let changed = reacts v.about.net.value (tuple_of v.about.net.value x) (tuple_of v.about.net.value y) in
+      let same_net : v.setup.net.value ≡ net = ap (λ (z : Setup). z.net.value) f.setup in
+      let changed = reacts v.setup.net.value (tuple_of v.setup.net.value x) (tuple_of v.setup.net.value y) in
       let m = made v.number a b changed in
       let ticket = length history in
       let w = meeting ticket a b x y x' y' v in
@@ -127,7 +127,7 @@ module _ (k : About) (words : List ℕ) (views : List View) (history : List Meet
       let owes_b : (p : ℕ × Word) → p ≡ (b, y') → (p.0 < agents_of k) × In (shard_of k p.0) v.held × (tuple_of net p.1 ≡ tuple_after k later p.0) × IsValid net p.1 = λ p same.
       subst (λ (p : ℕ × Word). (p.0 < agents_of k) × In (shard_of k p.0) v.held × (tuple_of net p.1 ≡ tuple_after k later p.0) × IsValid net p.1) (sym same) (know_b.0, know_b.1, new_b, reacts_so.second) in
       let new : Agrees k words' later seat id w = record {
-        about = f.about;
+        setup = f.setup;
         seated = f.seated;
         numbered = f.numbered;
         first = λ zeroth. first_later m refl v.next v.taken (f.first zeroth);
@@ -136,8 +136,9 @@ module _ (k : About) (words : List ℕ) (views : List View) (history : List Meet
         knows = λ c z h. absurd h;
         owes = λ c z h. ⊎_elim (owes_a (c, z)) (λ (rest : In (c, z) ((b, y') ∷ [])). ⊎_elim (owes_b (c, z)) (λ (none : ⊥). absurd none) rest) h;
         tight = λ c z h. (
-          a,
-          b,
+          v.log,
+          logged ticket a b changed,
+          refl,
           exactly,
           ⊎_elim (λ (same : (c, z) ≡ (a, x')). inl (ap (λ (p : ℕ × Word). p.0) same)) (λ (rest : In (c, z) ((b, y') ∷ [])). ⊎_elim (λ (same : (c, z) ≡ (b, y')). inr (ap (λ (p : ℕ × Word). p.0) same)) (λ (none : ⊥). absurd none) rest) h,
         );
@@ -173,7 +174,7 @@ module _ (k : About) (words : List ℕ) (views : List View) (history : List Meet
         each = set_each views id w (λ j u. u.live ≡ true → Agrees k words' later seat j u) (λ _. new)
             (λ j u other e alive. let g = st.each j u e alive in
             let not_theirs : (c : ℕ) → In (shard_of k c) v.held → (z : ℕ) → In (shard_of k z) u.held → z ≢ c = λ c ours z theirs same. other (one_holder k words history seat id j v u f g (shard_of k c) ours (subst (λ (t : ℕ). In (shard_of k t) u.held) same theirs)) in record {
-              about = g.about;
+              setup = g.setup;
               seated = g.seated;
               numbered = g.numbered;
               first = λ zeroth. first_later m refl u.next u.taken (g.first zeroth);

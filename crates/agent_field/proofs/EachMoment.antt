@@ -15,7 +15,7 @@ use Rattle.std.specs.Prelude.{Some}
 use Rattle.std.proofs.lemmas.Option.{slice_get-get_or}
 use Rattle.pop_crowd.specs.declared.crowd.Meeting.{Meeting}
 use Rattle.pop_crowd.specs.Replay.{reacts}
-use Rattle.agent_field.specs.declared.view.About.{About}
+use Rattle.agent_field.specs.declared.view.Setup.{Setup}
 use Rattle.agent_field.specs.declared.view.View.{View}
 use Rattle.agent_field.specs.History.{made}
 use Rattle.agent_field.specs.Standing.{agents_of, crowd_after, Stands, In, StandsAt, IsUnfounded, founder, spent}
@@ -29,10 +29,10 @@ use Rattle.agent_field.proofs.Seating.{splits_keep, joins_keep}
 use Rattle.agent_field.proofs.Founding.{founds_keep}
 use Rattle.agent_field.proofs.OneHistory.{one_history}
 
-abbrev At : About → List ℕ → List View → List Meeting → Type 0
+abbrev At : Setup → List ℕ → List View → List Meeting → Type 0
 At k words views history = (seat : ℕ → Option ℕ) × StandsAt k words views history seat
 
-module _ (k : About) where
+module _ (k : Setup) where
   -- where a seat is live, the field is founded
   is_founded : (words : List ℕ) (views : List View) (history : List Meeting) (id : ℕ) (v : View) → HasHistory k words views history → Sits views id v → At k words views history
   is_founded words views history id v h s =
@@ -90,10 +90,10 @@ module _ (k : About) where
       → HasHistory k words' views' (history ++ m ∷ []) × Step k.net.value (crowd_after k history) (crowd_after k (history ++ m ∷ []))
   draw _ _ _ _ _ history (draws words views id v a b x y x' y' is may) h =
       let t = is_founded words views history id v h is in
-      let same : v.about.net.value ≡ k.net.value = ap (λ (z : About). z.net.value) (t.1.each id v is.at is.live).about in
+      let same : v.setup.net.value ≡ k.net.value = ap (λ (z : Setup). z.net.value) (t.1.each id v is.at is.live).setup in
       let met : NetModel → Meeting = λ net. made v.number a b (reacts net (tuple_of net x) (tuple_of net y)) in
       let kept = draws_keep k words views history t.0 t.1 id v is.at is.live a b x y x' y' may.known (subst (λ (net : NetModel). IsReaction net x y x' y') (sym same) may.reacted) may.due may.apart may.room may.exactly in
-      let at_ticket = subst (λ (n : ℕ). StandsAt k (set words 0 (n + 1)) (set views id (meeting n a b x y x' y' v)) (history ++ met v.about.net.value ∷ []) t.0) (sym t.1.clock) kept in (
+      let at_ticket = subst (λ (n : ℕ). StandsAt k (set words 0 (n + 1)) (set views id (meeting n a b x y x' y' v)) (history ++ met v.setup.net.value ∷ []) t.0) (sym t.1.clock) kept in (
         inr (t.0, subst (λ (net : NetModel). StandsAt k (set words 0 (get_or words 0 0 + 1)) (set views id (meeting (get_or words 0 0) a b x y x' y' v)) (history ++ met net ∷ []) t.0) same at_ticket),
         drawn_step words views history t.0 t.1 id v is a b x y may.known may.due may.apart (met k.net.value) refl refl,
       )
@@ -113,7 +113,7 @@ module _ (k : About) where
       each zero v e = inl (refl, sym (some-injective (founder k) v e))
       each (suc id) v e = absurd (some-ne-none v (sym e))
 
-found : (k : About) (words : List ℕ) (views : List View) → Stands k words views → (history : List Meeting) × HasHistory k words views history
+found : (k : Setup) (words : List ℕ) (views : List View) → Stands k words views → (history : List Meeting) × HasHistory k words views history
 found k words views h =
     ⊎_elim
     {C = (history : List Meeting) × HasHistory k words views history}

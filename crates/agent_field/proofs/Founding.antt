@@ -12,7 +12,7 @@ use Rattle.pop_net.specs.declared.net.Word.{Word}
 use Rattle.pop_net.specs.Lanes.{tuple_of, IsValid}
 use Rattle.pop_crowd.specs.declared.crowd.Meeting.{Meeting}
 use Rattle.pop_crowd.specs.Replay.{IsMeeting}
-use Rattle.agent_field.specs.declared.view.About.{About}
+use Rattle.agent_field.specs.declared.view.Setup.{Setup}
 use Rattle.agent_field.specs.declared.view.View.{View}
 use Rattle.agent_field.specs.Standing.{agents_of, lock_at, agent_at, packed, agent_word, founder, spent, Agrees, StandsAt, IsUnfounded}
 use Rattle.agent_field.specs.Steps.{first_seat}
@@ -24,7 +24,7 @@ nothing_there a zero w = refl
 nothing_there a (suc n) zero = refl
 nothing_there a (suc n) (suc w) = nothing_there a n w
 
-module _ (k : About) (words : List ℕ) (views : List View) (un : IsUnfounded k words views) where
+module _ (k : Setup) (words : List ℕ) (views : List View) (un : IsUnfounded k words views) where
   zeros : List ℕ
   zeros = replicate (2 + k.shards) 0
 
@@ -73,7 +73,7 @@ module _ (k : About) (words : List ℕ) (views : List View) (un : IsUnfounded k 
       let seat = seat_for (λ n. none) 0 (some id) in
       let seated : seat 0 ≡ some id = seat_for-same (λ n. none) 0 (some id) in
       let new : Agrees k words' [] seat id w = record {
-        about = refl;
+        setup = refl;
         seated = seated;
         numbered = lims.1;
         first = λ _. record {

@@ -7,13 +7,13 @@ use Rattle.atomic_table.proofs.Lists.{set_here}
 use Rattle.pop_net.specs.declared.net.Word.{Word}
 use Rattle.pop_net.specs.Lanes.{tuple_of, IsValid}
 use Rattle.pop_crowd.specs.declared.crowd.Meeting.{Meeting}
-use Rattle.agent_field.specs.declared.view.About.{About}
+use Rattle.agent_field.specs.declared.view.Setup.{Setup}
 use Rattle.agent_field.specs.declared.view.View.{View}
 use Rattle.agent_field.specs.Standing.{agents_of, lock_at, agent_at, shard_of, packed, agent_word, tuple_after, In, spent, Agrees, IsOwedByNone, IsHeldBySome, StandsAt}
 use Rattle.agent_field.specs.Steps.{holding, rest_of, releasing, knowing, writing}
 use Rattle.agent_field.proofs.Views.{at_length, set_each, agrees_word, one_holder, lock_is_no_agent, owed_back, held_after, sits_set, not_dead}
 
-module _ (k : About) (words : List ℕ) (views : List View) (history : List Meeting) (seat : ℕ → Option ℕ) (st : StandsAt k words views history seat) (id : ℕ) (v : View) (at : get_elem? views id ≡ some v) (live : v.live ≡ true) where
+module _ (k : Setup) (words : List ℕ) (views : List View) (history : List Meeting) (seat : ℕ → Option ℕ) (st : StandsAt k words views history seat) (id : ℕ) (v : View) (at : get_elem? views id ≡ some v) (live : v.live ≡ true) where
   mine : Agrees k words history seat id v
   mine = st.each id v at live
 
@@ -26,7 +26,7 @@ module _ (k : About) (words : List ℕ) (views : List View) (history : List Meet
       let words' = set words (lock_at s) n in
       let no_agent : (a : ℕ) → get_or words' (agent_at k a) 0 ≡ get_or words (agent_at k a) 0 = λ a. get_or-set_other words (lock_at s) (agent_at k a) n 0 (λ e. lock_is_no_agent k s a inside (sym e)) in
       let new : Agrees k words' history seat id w = record {
-        about = f.about;
+        setup = f.setup;
         seated = f.seated;
         numbered = f.numbered;
         first = f.first;
@@ -75,7 +75,7 @@ module _ (k : About) (words : List ℕ) (views : List View) (history : List Meet
       let left : (t : ℕ) → In t (rest_of v.held) → In t held = λ t h. subst (In t) (ap rest_of is) h in
       let no_agent : (a : ℕ) → get_or words' (agent_at k a) 0 ≡ get_or words (agent_at k a) 0 = λ a. get_or-set_other words (lock_at s) (agent_at k a) 0 0 (λ e. lock_is_no_agent k s a inside (sym e)) in
       let new : Agrees k words' history seat id w = record {
-        about = f.about;
+        setup = f.setup;
         seated = f.seated;
         numbered = f.numbered;
         first = f.first;
@@ -139,7 +139,7 @@ module _ (k : About) (words : List ℕ) (views : List View) (history : List Meet
       let f = mine in
       views_keep (knowing a (agent_word k words a) v) live refl refl refl
       (record {
-        about = f.about;
+        setup = f.setup;
         seated = f.seated;
         numbered = f.numbered;
         first = f.first;
@@ -167,7 +167,7 @@ module _ (k : About) (words : List ℕ) (views : List View) (history : List Meet
       let written : (b : ℕ) → b ≡ a → agent_word k words' b ≡ y = λ b same. ap (λ (z : ℕ). agent_word k words' z) same ∙ ap packed (get_or-set_same words (agent_at k a) y.0 0 fits) in
       let other : (b : ℕ) → b ≢ a → agent_word k words' b ≡ agent_word k words b = λ b apart. ap packed (get_or-set_other words (agent_at k a) (agent_at k b) y.0 0 (λ e. let q : b ≡ a = omega arith in apart q)) in
       let new : Agrees k words' history seat id w = record {
-        about = f.about;
+        setup = f.setup;
         seated = f.seated;
         numbered = f.numbered;
         first = f.first;

@@ -12,7 +12,7 @@ use Rattle.pop_net.specs.declared.net.Word.{Word}
 use Rattle.pop_net.specs.Lanes.{tuple_of, IsValid}
 use Rattle.pop_crowd.specs.declared.crowd.Meeting.{Meeting}
 use Rattle.pop_crowd.specs.Replay.{reacts}
-use Rattle.agent_field.specs.declared.view.About.{About}
+use Rattle.agent_field.specs.declared.view.Setup.{Setup}
 use Rattle.agent_field.specs.declared.view.View.{View}
 use Rattle.agent_field.specs.History.{made}
 use Rattle.agent_field.specs.Standing.{agents_of, lock_at, agent_at, agent_word, shard_of, In, founder, spent, StandsAt, IsUnfounded, FieldStands}
@@ -26,10 +26,10 @@ use Rattle.agent_field.proofs.Founding.{founds_keep, founder_word}
 abbrev pub St : Type 0
 St = State (Unit {0}) View
 
-abbrev pub Standing : About → List ℕ → List View → Type 0
+abbrev pub Standing : Setup → List ℕ → List View → Type 0
 Standing k words views = (history : List Meeting) × (seat : ℕ → Option ℕ) × StandsAt k words views history seat
 
-module _ (k : About) where
+module _ (k : Setup) where
   -- where a seat is live, the field is founded
   pub founded : (s : St) → FieldStands k s → (id : ℕ) (v : View) → get_elem? s.views id ≡ some v → v.live ≡ true → Standing k s.words s.views
   founded s h id v at live =
@@ -74,27 +74,27 @@ module _ (k : About) where
       let t = founded state h id me.0 at live in
       (releasing me.0, keeps, tt, inr (t.0, t.1, releases_keep k state.words state.views t.0 t.1 t.2 id me.0 at live s held is once none_due), refl)
 
-  reads : (slots id : ℕ) (me : Mine) (a : ℕ) → me.0.live ≡ true → me.0.about ≡ k → a < agents_of k → In (shard_of k a) me.0.held → ((y : Word) → In (a, y) me.0.due → ⊥)
+  reads : (slots id : ℕ) (me : Mine) (a : ℕ) → me.0.live ≡ true → me.0.setup ≡ k → a < agents_of k → In (shard_of k a) me.0.held → ((y : Word) → In (a, y) me.0.due → ⊥)
       → Allows (FieldStands k) slots id me (agent_at k a) (λ r. r) (Reads (step slots (agent_at k a) 0 0 none) me)
-  reads slots id me a live about in_range held not_due state h _ at _ =
+  reads slots id me a live setup in_range held not_due state h _ at _ =
       let t = founded state h id me.0 at live in
       let x : Word = agent_word k state.words a in (
         knowing a x me.0,
         keeps,
         tt,
         inr (t.0, t.1, subst (λ (ws : List ℕ). StandsAt k ws (set state.views id (knowing a x me.0)) t.0 t.1) (sym (set-get_or state.words (agent_at k a) 0)) (reads_keep k state.words state.views t.0 t.1 t.2 id me.0 at live a in_range held not_due)),
-        (ap (λ (z : ℕ). (knowing z x me.0, me.1)) (let same : me.0.about.shards ≡ k.shards = ap (λ (z : About). z.shards) about in omega arith), subst (λ (z : About). IsValid z.net.value x) (sym about) (t.2.valid a in_range)),
+        (ap (λ (z : ℕ). (knowing z x me.0, me.1)) (let same : me.0.setup.shards ≡ k.shards = ap (λ (z : Setup). z.shards) setup in omega arith), subst (λ (z : Setup). IsValid z.net.value x) (sym setup) (t.2.valid a in_range)),
       )
 
-  pub draws : (slots id : ℕ) (me : Mine) (a b : ℕ) (x y x' y' : Word) → me.0.live ≡ true → me.0.about ≡ k → MayDraw k me.0 a b x y x' y'
+  pub draws : (slots id : ℕ) (me : Mine) (a b : ℕ) (x y x' y' : Word) → me.0.live ≡ true → me.0.setup ≡ k → MayDraw k me.0 a b x y x' y'
       → Allows (FieldStands k) slots id me 0 (λ r. (r + 1) % 2 ^ 64) (Draws (step slots 0 1 0 none) me)
-  draws slots id me a b x y x' y' live about may state h _ at _ =
+  draws slots id me a b x y x' y' live setup may state h _ at _ =
       let t = founded state h id me.0 at live in
       let st = t.2 in
       let n : ℕ = get_or state.words 0 0 in
       let w = meeting (length t.0) a b x y x' y' me.0 in
-      let net = me.0.about.net.value in
-      let reacted = subst (λ (z : About). IsReaction z.net.value x y x' y') (sym about) may.reacted in
+      let net = me.0.setup.net.value in
+      let reacted = subst (λ (z : Setup). IsReaction z.net.value x y x' y') (sym setup) may.reacted in
       let later = t.0 ++ made me.0.number a b (reacts net (tuple_of net x) (tuple_of net y)) ∷ [] in
       let next : length t.0 + 1 ≡ (n + 1) % 2 ^ 64 = let few = history_fits k state.words state.views t.0 t.1 st id me.0 at live in let is = st.clock in omega arith in (
         w,
@@ -163,17 +163,17 @@ module _ (k : About) where
         keeps,
         tt,
         inr ([], t.0, t.1),
-        (founder_word k state.words state.views un, ap (λ (v : View). (first_seat v.about, me.1)) (sym is)),
+        (founder_word k state.words state.views un, ap (λ (v : View). (first_seat v.setup, me.1)) (sym is)),
       ))
       (λ (t : Standing k state.words state.views).
       absurd (true≢false (ap (λ (v : View). v.founding) (sym is) ∙ ap (λ (v : View). v.founding) (t.2.others id me.0 at (ap (λ (v : View). v.live) is)))))
       h
 
   -- the same, where the word's place is written in another way
-  pub reads_at : (slots id : ℕ) (me : Mine) (a i : ℕ) → i ≡ agent_at k a → me.0.live ≡ true → me.0.about ≡ k → a < agents_of k → In (shard_of k a) me.0.held → ((y : Word) → In (a, y) me.0.due → ⊥)
+  pub reads_at : (slots id : ℕ) (me : Mine) (a i : ℕ) → i ≡ agent_at k a → me.0.live ≡ true → me.0.setup ≡ k → a < agents_of k → In (shard_of k a) me.0.held → ((y : Word) → In (a, y) me.0.due → ⊥)
       → Allows (FieldStands k) slots id me i (λ r. r) (Reads (step slots i 0 0 none) me)
-  reads_at slots id me a i is live about in_range held not_due =
-      subst (λ (j : ℕ). Allows (FieldStands k) slots id me j (λ r. r) (Reads (step slots j 0 0 none) me)) (sym is) (reads slots id me a live about in_range held not_due)
+  reads_at slots id me a i is live setup in_range held not_due =
+      subst (λ (j : ℕ). Allows (FieldStands k) slots id me j (λ r. r) (Reads (step slots j 0 0 none) me)) (sym is) (reads slots id me a live setup in_range held not_due)
 
   pub writes_at : (slots id : ℕ) (me : Mine) (a : ℕ) (y : Word) (i : ℕ) (due : List (ℕ × Word)) → i ≡ agent_at k a → me.0.live ≡ true → me.0.due ≡ (a, y) ∷ due → ((x : Word) → In (a, x) due → ⊥)
       → Allows (FieldStands k) slots id me i (λ _. y.0) (λ _. Writes (step slots i y.0 0 none) me y.0)

@@ -4,7 +4,7 @@ use Rattle.std.proofs.lemmas.Bool.{cases_lt}
 use Rattle.std.proofs.lemmas.List.{ext_get_or}
 use mathlib.Core.Option.{Option, none, some}
 use Rattle.pop_crowd.specs.declared.crowd.Meeting.{Meeting}
-use Rattle.agent_field.specs.declared.view.About.{About}
+use Rattle.agent_field.specs.declared.view.Setup.{Setup}
 use Rattle.agent_field.specs.declared.view.View.{View}
 use Rattle.agent_field.specs.History.{logged, calls}
 use Rattle.agent_field.specs.Standing.{In, IsUnfounded, StandsAt}
@@ -13,7 +13,7 @@ use Rattle.agent_field.proofs.Arranged.{nobody, calls-are_true, calls_from-has}
 use Rattle.agent_field.proofs.Closing.{some_value}
 use Rattle.agent_field.proofs.Founding.{founder_word}
 
-module _ (k : About) (words : List ℕ) (views : List View) (first second : List Meeting) (seat seat' : ℕ → Option ℕ) (s : StandsAt k words views first seat) (t : StandsAt k words views second seat') where
+module _ (k : Setup) (words : List ℕ) (views : List View) (first second : List Meeting) (seat seat' : ℕ → Option ℕ) (s : StandsAt k words views first seat) (t : StandsAt k words views second seat') where
   -- what a number has called stands in its log, wherever that is
   same_calls : (w : ℕ) → calls w first ≡ calls w second
   same_calls w = go (seat w) (λ i. seat w)
@@ -44,7 +44,7 @@ module _ (k : About) (words : List ℕ) (views : List View) (first second : List
       let found = calls-are_true second m.worker e (subst (In e) (same_calls m.worker) (calls_from-has m.worker 0 first i h (λ j. m.worker))) in
       sym (ap (λ (n : ℕ). get_or second n nobody) (let at : i ≡ 0 + i = omega arith in at) ∙ found.1))
 
-pub one_history : (k : About) (words : List ℕ) (views : List View) (first second : List Meeting) → HasHistory k words views first → HasHistory k words views second → first ≡ second
+pub one_history : (k : Setup) (words : List ℕ) (views : List View) (first second : List Meeting) → HasHistory k words views first → HasHistory k words views second → first ≡ second
 one_history k words views first second g h =
     ⊎_elim
     (λ (un : IsUnfounded k words views × (first ≡ [])).

@@ -6,7 +6,7 @@ use mathlib.Core.Option.{Option, none, some, some-injective, some-ne-none}
 use lib.ListN.{get_elem?}
 use Rattle.atomic_table.proofs.Lists.{at_longer, at_last, set_else}
 use Rattle.pop_crowd.specs.declared.crowd.Meeting.{Meeting}
-use Rattle.agent_field.specs.declared.view.About.{About}
+use Rattle.agent_field.specs.declared.view.Setup.{Setup}
 use Rattle.agent_field.specs.declared.view.View.{View}
 use Rattle.agent_field.specs.History.{calls}
 use Rattle.agent_field.specs.Standing.{lock_at, In, spent, IsFirst, Agrees, IsHeldBySome, StandsAt}
@@ -33,9 +33,9 @@ at_push (x ∷ xs) a b zero e = inl e
 at_push (x ∷ xs) a b (suc j) e = ⊎_elim (λ was. inl was) (λ (t : (j ≡ length xs) × (a ≡ b)). inr (ap suc t.0, t.1)) (at_push xs a b j e)
 
 -- what stands of a view where only the seats of other numbers change
-reseated : (k : About) (words : List ℕ) (history : List Meeting) (seat seat' : ℕ → Option ℕ) (id : ℕ) (u : View) → Agrees k words history seat id u → seat' u.number ≡ some id → (u.number ≡ 0 → IsFirst k history seat' u.next u.taken) → Agrees k words history seat' id u
+reseated : (k : Setup) (words : List ℕ) (history : List Meeting) (seat seat' : ℕ → Option ℕ) (id : ℕ) (u : View) → Agrees k words history seat id u → seat' u.number ≡ some id → (u.number ≡ 0 → IsFirst k history seat' u.next u.taken) → Agrees k words history seat' id u
 reseated k words history seat seat' id u g seated first = record {
-  about = g.about;
+  setup = g.setup;
   seated = seated;
   numbered = g.numbered;
   first = first;
@@ -47,7 +47,7 @@ reseated k words history seat seat' id u g seated first = record {
   looked = g.looked;
 }
 
-module _ (k : About) (words : List ℕ) (views : List View) (history : List Meeting) (seat : ℕ → Option ℕ) (st : StandsAt k words views history seat) (id : ℕ) (v : View) (at : get_elem? views id ≡ some v) (live : v.live ≡ true) (zeroth : v.number ≡ 0) where
+module _ (k : Setup) (words : List ℕ) (views : List View) (history : List Meeting) (seat : ℕ → Option ℕ) (st : StandsAt k words views history seat) (id : ℕ) (v : View) (at : get_elem? views id ≡ some v) (live : v.live ≡ true) (zeroth : v.number ≡ 0) where
   only : (j : ℕ) (u : View) → j ≢ id → Agrees k words history seat j u → (A : Type 0) → u.number ≡ 0 → A
   only j u apart g A zero_too = absurd (apart (one_seat k words history seat id j v u (st.each id v at live) g (zero_too ∙ sym zeroth)))
 
@@ -62,7 +62,7 @@ module _ (k : About) (words : List ℕ) (views : List View) (history : List Meet
       let vacant : seat n ≡ none = (first.fresh n (omega arith)).0 in
       let same_seat : (m j : ℕ) → seat m ≡ some j → seat' m ≡ some j = λ m j there. seat_for-other seat n m (some i) (λ is. some-ne-none j (sym there ∙ ap seat is ∙ vacant)) ∙ there in
       let mine' : Agrees k words history seat' id w = record {
-        about = f.about;
+        setup = f.setup;
         seated = same_seat v.number id f.seated;
         numbered = f.numbered;
         first = λ _. record {
@@ -83,7 +83,7 @@ module _ (k : About) (words : List ℕ) (views : List View) (history : List Meet
         looked = f.looked;
       } in
       let new : (j : ℕ) → j ≡ i → Agrees k words history seat' j (newcomer v) = λ j there. record {
-        about = f.about;
+        setup = f.setup;
         seated = seat_for-same seat n (some i) ∙ ap (λ (m : ℕ). some m) (sym there);
         numbered = room;
         first = λ is. let b = first.some_next.0 in absurd (omega arith);
@@ -150,7 +150,7 @@ module _ (k : About) (words : List ℕ) (views : List View) (history : List Meet
       let vacant : (m : ℕ) → seat m ≡ none → seat' m ≡ none = λ m is. ⊎_elim (λ (same : m ≡ n). ap seat' same ∙ seat_for-same seat n none) (λ (apart : m ≢ n). seat_for-other seat n m none apart ∙ is) (cases_eq m n) in
       let fits : n < length v.taken = subst (λ (c : ℕ). n < c) (sym first.places) g.numbered in
       let mine' : Agrees k words history seat' id w = record {
-        about = f.about;
+        setup = f.setup;
         seated = stays v.number id (λ is. not_first (sym is ∙ zeroth)) f.seated;
         numbered = f.numbered;
         first = λ _. record {

@@ -6,7 +6,7 @@ use lib.ListN.{get_elem?}
 use Rattle.atomic_table.proofs.Lists.{at_set, set_here, set_else}
 use Rattle.pop_net.specs.declared.net.Word.{Word}
 use Rattle.pop_crowd.specs.declared.crowd.Meeting.{Meeting}
-use Rattle.agent_field.specs.declared.view.About.{About}
+use Rattle.agent_field.specs.declared.view.Setup.{Setup}
 use Rattle.agent_field.specs.declared.view.View.{View}
 use Rattle.agent_field.specs.Standing.{lock_at, agent_at, packed, In, Agrees, IsOwedByNone, IsHeldBySome}
 
@@ -24,10 +24,10 @@ set_each views id w P mine others j u e =
     (at_set views id j w u e)
 
 -- a word is changed that this view says nothing of
-pub agrees_word : (k : About) (words : List ℕ) (history : List Meeting) (seat : ℕ → Option ℕ) (id : ℕ) (u : View) (i n : ℕ) → Agrees k words history seat id u
+pub agrees_word : (k : Setup) (words : List ℕ) (history : List Meeting) (seat : ℕ → Option ℕ) (id : ℕ) (u : View) (i n : ℕ) → Agrees k words history seat id u
     → ((s : ℕ) → In s u.held → lock_at s ≢ i) → ((a : ℕ) (x : Word) → In (a, x) u.known → agent_at k a ≢ i) → Agrees k (set words i n) history seat id u
 agrees_word k words history seat id u i n f locks agents = record {
-  about = f.about;
+  setup = f.setup;
   seated = f.seated;
   numbered = f.numbered;
   first = f.first;
@@ -39,7 +39,7 @@ agrees_word k words history seat id u i n f locks agents = record {
   looked = f.looked;
 }
 
-module _ (k : About) (words : List ℕ) (history : List Meeting) (seat : ℕ → Option ℕ) where
+module _ (k : Setup) (words : List ℕ) (history : List Meeting) (seat : ℕ → Option ℕ) where
   -- a number has one seat, and a shard one holder
   pub one_seat : (i j : ℕ) (v u : View) → Agrees k words history seat i v → Agrees k words history seat j u → u.number ≡ v.number → j ≡ i
   one_seat i j v u f g same = some-injective j i (sym g.seated ∙ ap seat same ∙ f.seated)
@@ -48,7 +48,7 @@ module _ (k : About) (words : List ℕ) (history : List Meeting) (seat : ℕ →
   one_holder i j v u f g s mine theirs =
       let a = (f.locks s mine).1 in let b = (g.locks s theirs).1 in one_seat i j v u f g (omega arith)
 
-pub lock_is_no_agent : (k : About) (s a : ℕ) → s < k.shards → lock_at s ≢ agent_at k a
+pub lock_is_no_agent : (k : Setup) (s a : ℕ) → s < k.shards → lock_at s ≢ agent_at k a
 lock_is_no_agent k s a h e = omega arith
 
 -- an agent that no seat owes after a step of one seat was owed by none before it, where that seat owed no less

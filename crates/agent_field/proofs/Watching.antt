@@ -8,7 +8,7 @@ use Rattle.pop_net.specs.Lanes.{tuple_of, crowd_of, IsValid}
 use Rattle.pop_crowd.specs.declared.crowd.Meeting.{Meeting}
 use Rattle.pop_crowd.specs.Replay.{replay}
 use Rattle.agent_field.specs.declared.view.Look.{Look}
-use Rattle.agent_field.specs.declared.view.About.{About}
+use Rattle.agent_field.specs.declared.view.Setup.{Setup}
 use Rattle.agent_field.specs.declared.view.View.{View}
 use Rattle.agent_field.specs.Standing.{agents_of, packed, crowd_after, In, IsLook, AreAscending, StandsAt}
 use Rattle.agent_field.specs.History.{IsHistory}
@@ -28,7 +28,7 @@ ascending-push (look ∷ looks) new h late = (
   ascending-push looks new h.1 (λ other i. late other (inr i)),
 )
 
-module _ (k : About) (words : List ℕ) (views : List View) (history : List Meeting) (seat : ℕ → Option ℕ) (st : StandsAt k words views history seat) (id : ℕ) (v : View) (at : get_elem? views id ≡ some v) (live : v.live ≡ true) where
+module _ (k : Setup) (words : List ℕ) (views : List View) (history : List Meeting) (seat : ℕ → Option ℕ) (st : StandsAt k words views history seat) (id : ℕ) (v : View) (at : get_elem? views id ≡ some v) (live : v.live ≡ true) where
   -- all words that were read under all locks are those after the history so far
   is_look : length (seen v.known) ≡ agents_of k → ((a : ℕ) (d : Word) → a < agents_of k → In (a, get_or (seen v.known) a d) v.known) → v.due ≡ []
       → IsLook k.net.value k.opening.value history (look_of (length history) (seen v.known))
@@ -52,7 +52,7 @@ module _ (k : About) (words : List ℕ) (views : List View) (history : List Meet
       let new = look_of (length history) (seen v.known) in
       views_keep k words views history seat st id v at live (looking (length history) v) live refl refl refl
       (record {
-        about = f.about;
+        setup = f.setup;
         seated = f.seated;
         numbered = f.numbered;
         first = f.first;
@@ -75,7 +75,7 @@ module _ (k : About) (words : List ℕ) (views : List View) (history : List Meet
       let f = st.each id v at live in record {
         history = history;
         long = refl;
-        right = subst (λ (z : About). IsHistory z.net.value z.seats z.opening.value history) (sym f.about) st.right;
+        right = subst (λ (z : Setup). IsHistory z.net.value z.seats z.opening.value history) (sym f.setup) st.right;
         logs = f.logs;
-        look = subst (λ (z : About). IsLook z.net.value z.opening.value history (look_of (length history) (seen v.known))) (sym f.about) (is_look whole all none_due);
+        look = subst (λ (z : Setup). IsLook z.net.value z.opening.value history (look_of (length history) (seen v.known))) (sym f.setup) (is_look whole all none_due);
       }

@@ -7,8 +7,9 @@ use Rattle.pop_net.specs.Lanes.{tuple_of, AreValid}
 use Rattle.pop_net.specs.Step.{Step}
 use Rattle.pop_crowd.specs.declared.crowd.Meeting.{Meeting}
 use Rattle.pop_crowd.specs.Replay.{reacts}
+use Rattle.agent_field.specs.declared.places.TheConstants.{CLOCK, FOUNDER, LOCKS}
 use Rattle.agent_field.specs.declared.limits.TheConstants.{SEAT_LIMIT}
-use Rattle.agent_field.specs.declared.view.About.{About}
+use Rattle.agent_field.specs.declared.view.Setup.{Setup}
 use Rattle.agent_field.specs.declared.view.View.{View}
 use Rattle.agent_field.specs.History.{made}
 use Rattle.agent_field.specs.Standing.{In, agents_of, lock_at, agent_at, agent_word, shard_of, crowd_after, founder, spent, IsUnfounded, StandsAt, Stands}
@@ -20,8 +21,8 @@ pub record Sits (views : List View) (id : ℕ) (v : View) : Type 0 where
   pub live : v.live ≡ true
 
 -- every kind of step but the draw
-pub data QuietStep (k : About) : List ℕ → List View → List ℕ → List View → Type 0 where
-  makes : (words : List ℕ) (views : List View) (id : ℕ) → get_elem? views id ≡ some (founder k) → QuietStep k words views (slice_set words 1 1) (slice_set views id (first_seat k))
+pub data QuietStep (k : Setup) : List ℕ → List View → List ℕ → List View → Type 0 where
+  makes : (words : List ℕ) (views : List View) (id : ℕ) → get_elem? views id ≡ some (founder k) → QuietStep k words views (slice_set words FOUNDER 1) (slice_set views id (first_seat k))
   locks : (words : List ℕ) (views : List View) (id : ℕ) (v : View) (s : ℕ) → Sits views id v → s < k.shards → v.due ≡ [] → slice_index words (lock_at s) ≡ 0
       → QuietStep k words views (slice_set words (lock_at s) (v.number + 1)) (slice_set views id (holding s v))
   finds_locked : (words : List ℕ) (views : List View) (id : ℕ) (v : View) (s : ℕ) → Sits views id v → s < k.shards → slice_index words (lock_at s) ≢ 0 → QuietStep k words views words views
@@ -36,15 +37,15 @@ pub data QuietStep (k : About) : List ℕ → List View → List ℕ → List Vi
   joins : (words : List ℕ) (views : List View) (id other : ℕ) (v w : View) → Sits views id v → v.number ≡ 0 → other ≢ id → Sits views other w → w.due ≡ [] → w.held ≡ []
       → QuietStep k words views words (slice_set (slice_set views id (taking_in v w)) other spent)
   looks : (words : List ℕ) (views : List View) (id : ℕ) (v : View) → Sits views id v → HasSeenAll k v
-      → QuietStep k words views words (slice_set views id (looking (slice_index words 0) v))
+      → QuietStep k words views words (slice_set views id (looking (slice_index words CLOCK) v))
 
 -- the draw, and the meeting that it makes
-pub data DrawStep (k : About) : List ℕ → List View → Meeting → List ℕ → List View → Type 0 where
+pub data DrawStep (k : Setup) : List ℕ → List View → Meeting → List ℕ → List View → Type 0 where
   draws : (words : List ℕ) (views : List View) (id : ℕ) (v : View) (a b : ℕ) (x y x' y' : Word) → Sits views id v → MayDraw k v a b x y x' y'
-      → DrawStep k words views (made v.number a b (reacts k.net.value (tuple_of k.net.value x) (tuple_of k.net.value y))) (slice_set words 0 (slice_index words 0 + 1)) (slice_set views id (meeting (slice_index words 0) a b x y x' y' v))
+      → DrawStep k words views (made v.number a b (reacts k.net.value (tuple_of k.net.value x) (tuple_of k.net.value y))) (slice_set words CLOCK (slice_index words CLOCK + 1)) (slice_set views id (meeting (slice_index words CLOCK) a b x y x' y' v))
 
 -- any number of steps, with the meetings that they make
-pub data FieldRun (k : About) : List ℕ → List View → List Meeting → List ℕ → List View → Type 0 where
+pub data FieldRun (k : Setup) : List ℕ → List View → List Meeting → List ℕ → List View → Type 0 where
   stays : (words : List ℕ) (views : List View) → FieldRun k words views [] words views
   goes : (words : List ℕ) (views : List View) (words' : List ℕ) (views' : List View) (meetings : List Meeting) (words'' : List ℕ) (views'' : List View)
       → QuietStep k words views words' views' → FieldRun k words' views' meetings words'' views'' → FieldRun k words views meetings words'' views''
@@ -52,16 +53,16 @@ pub data FieldRun (k : About) : List ℕ → List View → List Meeting → List
       → DrawStep k words views m words' views' → FieldRun k words' views' meetings words'' views'' → FieldRun k words views (m ∷ meetings) words'' views''
 
 -- the field stands at this history: none before it is founded
-abbrev pub HasHistory : About → List ℕ → List View → List Meeting → Type 0
+abbrev pub HasHistory : Setup → List ℕ → List View → List Meeting → Type 0
 HasHistory k words views history =
     (IsUnfounded k words views × (history ≡ [])) ⊎ ((seat : ℕ → Option ℕ) × StandsAt k words views history seat)
 
 -- the words and views with which a field is opened
-abbrev pub opening_words : About → List ℕ
-opening_words k = replicate (2 + k.shards) 0 ++ map (λ w. w.0) k.opening.value
+abbrev pub opening_words : Setup → List ℕ
+opening_words k = replicate (LOCKS + k.shards) 0 ++ map (λ w. w.0) k.opening.value
 
 -- the field stands at every moment, and its history is what the draws made
-pub record MomentsStand (k : About) : Type 0 where
+pub record MomentsStand (k : Setup) : Type 0 where
   pub opened : (0 < k.shards) → (0 < k.seats) → k.seats ≤ SEAT_LIMIT → AreValid k.net.value k.opening.value → HasHistory k (opening_words k) (founder k ∷ []) []
   pub stands : (words : List ℕ) (views : List View) (history : List Meeting) → HasHistory k words views history → Stands k words views
   pub has_history : (words : List ℕ) (views : List View) → Stands k words views → (history : List Meeting) × HasHistory k words views history
@@ -78,4 +79,4 @@ pub record MomentsStand (k : About) : Type 0 where
       → FieldRun k words views meetings words' views' → HasHistory k words views history → HasHistory k words' views' (history ++ meetings)
 
 abbrev pub EachMomentStands : Type 0
-EachMomentStands = (k : About) → MomentsStand k
+EachMomentStands = (k : Setup) → MomentsStand k

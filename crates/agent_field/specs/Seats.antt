@@ -1,15 +1,18 @@
 -- Which field a seat is of, what it keeps, and what its calls say.
-use Rattle.std.specs.Prelude.{◌≡◌, ℕ, ◌<◌, ◌≤◌, Bool, List, [], length, IsSome, None, Some, Option, slice_index_or}
+use Rattle.std.specs.Prelude.{◌≡◌, ◌≢◌, All, ℕ, ◌<◌, ◌≤◌, Bool, true, List, [], length, IsSome, None, Some, Option, slice_index_or}
+use Rattle.atomic_table.specs.Seated.{TableId}
 use Rattle.pop_net.specs.declared.net.Word.{Word}
 use Rattle.pop_net.specs.NetModel.{NetModel, CrowdModel}
-use Rattle.pop_net.specs.Lanes.{crowd_of}
+use Rattle.pop_net.specs.Lanes.{crowd_of, AreValid}
 use Rattle.pop_crowd.specs.declared.crowd.Meeting.{Meeting}
 use Rattle.pop_crowd.specs.Replay.{replay, changes}
 use Rattle.agent_field.specs.declared.field.Field.{Field}
 use Rattle.agent_field.specs.declared.field.FieldSeat.{FieldSeat}
 use Rattle.agent_field.specs.declared.field.Met.{Met}
+use Rattle.agent_field.specs.declared.close.Round.{Round}
 use Rattle.agent_field.specs.declared.view.Logged.{Logged}
 use Rattle.agent_field.specs.declared.view.Look.{Look}
+use Rattle.agent_field.specs.declared.view.View.{View}
 use Rattle.agent_field.specs.History.{IsHistory, calls}
 use Rattle.agent_field.specs.Standing.{In, IsLook}
 
@@ -23,17 +26,33 @@ opening_of f = f.table.shared.key.opening.value
 abbrev pub seats_of : Field → ℕ
 seats_of f = f.table.shared.key.seats
 
+abbrev pub shards_of : Field → ℕ
+shards_of f = f.table.shared.key.shards
+
+-- the field was opened with these
+pub record IsOpened (f : Field) (net : NetModel) (words : List Word) (shards seats : ℕ) : Type 0 where
+  pub net_is : net_of f ≡ net
+  pub opening_is : opening_of f ≡ words
+  pub shards_are : shards_of f ≡ shards
+  pub seats_are : seats_of f ≡ seats
+
 -- the crowd with which it is opened
 abbrev pub start_of : Field → CrowdModel
 start_of f = crowd_of (net_of f) (opening_of f)
 
 -- the seat is of this field
 abbrev pub IsSeatOf : Field → FieldSeat → Type 0
-IsSeatOf f s = (s.seat.table_id ≡ f.table.shared.table_id) × (s.seat.me.0.about ≡ f.table.shared.key)
+IsSeatOf f s = (s.seat.table_id ≡ f.table.shared.table_id) × (s.seat.me.0.setup ≡ f.table.shared.key)
+
+-- a token of the field's table, with which its seat may take steps
+pub record IsUsable (f : Field) (id : TableId) (v : View) : Type 0 where
+  pub table : id ≡ f.table.shared.table_id
+  pub live : v.live ≡ true
+  pub ours : v.setup ≡ f.table.shared.key
 
 -- the seat is still of the same field
 abbrev pub KeepsField : FieldSeat → FieldSeat → Type 0
-KeepsField s t = (t.seat.table_id ≡ s.seat.table_id) × (t.seat.me.0.about ≡ s.seat.me.0.about)
+KeepsField s t = (t.seat.table_id ≡ s.seat.table_id) × (t.seat.me.0.setup ≡ s.seat.me.0.setup)
 
 abbrev pub number_of : FieldSeat → ℕ
 number_of s = s.number
@@ -116,3 +135,16 @@ IsMoment f s a b met = IsMetAt f (number_of s) (log_of s) a b met.ticket met.cha
 abbrev pub IsGlance : Field → FieldSeat → Look → Type 0
 IsGlance f s look =
     (history : List Meeting) × IsSoFar f (number_of s) (log_of s) look.ticket history × IsLook (net_of f) (opening_of f) history look
+
+-- what the field is closed with, once this seat is whole: the words, and the history that they are the replay of
+pub record IsRoundOf (f : Field) (s : FieldSeat) (r : Round) : Type 0 where
+  pub words : crowd_of (net_of f) r.words ≡ replay (net_of f) r.meetings (start_of f)
+  pub valid : AreValid (net_of f) r.words
+  -- meetings of different agents, by seats of the field, each with the right mark
+  pub history : IsHistory (net_of f) (seats_of f) (opening_of f) r.meetings
+  -- each number's meetings are its log, with the places as tickets; a number without a log has none
+  pub own : calls 0 r.meetings ≡ log_of s
+  pub taken : (w : ℕ) (l : List Logged) → slice_index_or (taken_of s) w None ≡ Some l → calls w r.meetings ≡ l
+  pub others : (w : ℕ) → w ≢ 0 → slice_index_or (taken_of s) w None ≡ None → calls w r.meetings ≡ []
+  -- each look shows the replay of the meetings before its ticket
+  pub looks : All (IsLook (net_of f) (opening_of f) r.meetings) (looks_of s)

@@ -1,5 +1,5 @@
 -- FieldStands: the rule of the field's table, over its words and the views of all seats.
--- Word 0 is the clock and word 1 the founder word. Then come the lock words of the shards and the words of the agents.
+-- The clock and the founder word come first, then the lock words of the shards and the words of the agents.
 use Rattle.std.specs.Prelude.{◌≡◌, ℕ, ◌+◌, ◌<◌, ◌≤◌, ◌%◌, ◌^◌, ◌⊎◌, ◌==◌, min, max, IsSome, Bool, true, false, List, [], ◌∷◌, ◌++◌, length, map, take, replicate, slice_index, slice_index_or, Option as Maybe, Some as Given, None as Missing}
 use mathlib.Core.Option.{Option, none, some}
 use lib.ListN.{get_elem?}
@@ -10,37 +10,38 @@ use Rattle.pop_net.specs.Lanes.{tuple_of, crowd_of, IsValid, AreValid}
 use Rattle.pop_crowd.specs.declared.crowd.Meeting.{Meeting}
 use Rattle.pop_crowd.specs.Replay.{replay}
 use Rattle.agent_field.specs.declared.limits.TheConstants.{SEAT_LIMIT, LOG_LIMIT}
+use Rattle.agent_field.specs.declared.places.TheConstants.{CLOCK, FOUNDER, LOCKS}
 use Rattle.agent_field.specs.declared.view.Logged.{Logged}
 use Rattle.agent_field.specs.declared.view.Look.{Look}
-use Rattle.agent_field.specs.declared.view.About.{About}
+use Rattle.agent_field.specs.declared.view.Setup.{Setup}
 use Rattle.agent_field.specs.declared.view.View.{View}
 use Rattle.agent_field.specs.History.{IsHistory, calls}
 
-abbrev pub agents_of : About → ℕ
+abbrev pub agents_of : Setup → ℕ
 agents_of k = length k.opening.value
 
 abbrev pub lock_at : ℕ → ℕ
-lock_at s = 2 + s
+lock_at s = LOCKS + s
 
-abbrev pub agent_at : About → ℕ → ℕ
-agent_at k a = 2 + k.shards + a
+abbrev pub agent_at : Setup → ℕ → ℕ
+agent_at k a = LOCKS + k.shards + a
 
-abbrev pub shard_of : About → ℕ → ℕ
+abbrev pub shard_of : Setup → ℕ → ℕ
 shard_of k a = a % k.shards
 
 abbrev pub packed : ℕ → Word
 packed number = record { 0 = number }
 
 -- an agent's word in the table
-abbrev pub agent_word : About → List ℕ → ℕ → Word
+abbrev pub agent_word : Setup → List ℕ → ℕ → Word
 agent_word k words a = packed (slice_index words (agent_at k a))
 
 -- the crowd after the replay of a history from the opening words
-abbrev pub crowd_after : About → List Meeting → CrowdModel
+abbrev pub crowd_after : Setup → List Meeting → CrowdModel
 crowd_after k history = replay k.net.value history (crowd_of k.net.value k.opening.value)
 
 -- an agent's tuple after it
-abbrev pub tuple_after : About → List Meeting → ℕ → Tuple
+abbrev pub tuple_after : Setup → List Meeting → ℕ → Tuple
 tuple_after k history a = slice_index_or (crowd_after k history) a []
 
 -- x is one of the list
@@ -53,29 +54,29 @@ abbrev pub pair_locks : ℕ → ℕ → Bool → List ℕ
 pair_locks low high true = low ∷ []
 pair_locks low high false = high ∷ low ∷ []
 
-abbrev pub locks_of : About → ℕ → ℕ → List ℕ
+abbrev pub locks_of : Setup → ℕ → ℕ → List ℕ
 locks_of k a b =
     let low = min (shard_of k a) (shard_of k b) in
     let high = max (shard_of k a) (shard_of k b) in pair_locks low high (low == high)
 
 -- the seat that founds the field, before it does
-abbrev pub founder : About → View
-founder k = record { about = k; founding = true; live = false; number = 0; held = []; known = []; due = []; log = []; next = 0; taken = []; looks = [] }
+abbrev pub founder : Setup → View
+founder k = record { setup = k; founding = true; live = false; number = 0; held = []; known = []; due = []; log = []; next = 0; taken = []; looks = [] }
 
-abbrev pub no_field : About
+abbrev pub no_field : Setup
 no_field = record { net = record { marker = record {}; value = record { variables = []; leaves = []; combine = [] } }; opening = record { marker = record {}; value = [] }; shards = 0; seats = 0 }
 
 -- a seat that was joined away
 abbrev pub spent : View
-spent = record { about = no_field; founding = false; live = false; number = 0; held = []; known = []; due = []; log = []; next = 0; taken = []; looks = [] }
+spent = record { setup = no_field; founding = false; live = false; number = 0; held = []; known = []; due = []; log = []; next = 0; taken = []; looks = [] }
 
 -- a seat between its calls
-abbrev pub idle : About → ℕ → List Logged → ℕ → List (Maybe (List Logged)) → List Look → View
+abbrev pub idle : Setup → ℕ → List Logged → ℕ → List (Maybe (List Logged)) → List Look → View
 idle k number log next taken looks =
-    record { about = k; founding = false; live = true; number = number; held = []; known = []; due = []; log = log; next = next; taken = taken; looks = looks }
+    record { setup = k; founding = false; live = true; number = number; held = []; known = []; due = []; log = log; next = next; taken = taken; looks = looks }
 
 -- NumbersPart, of number 0's view: the numbers from `next` on are fresh and have made no meeting; each number below it has a seat, or its log was taken in and is whole
-pub record IsFirst (k : About) (history : List Meeting) (seat : ℕ → Option ℕ) (next : ℕ) (taken : List (Maybe (List Logged))) : Type 0 where
+pub record IsFirst (k : Setup) (history : List Meeting) (seat : ℕ → Option ℕ) (next : ℕ) (taken : List (Maybe (List Logged))) : Type 0 where
   pub some_next : (0 < next) × (next ≤ k.seats)
   pub places : length taken ≡ k.seats
   pub fresh : (w : ℕ) → next ≤ w → (seat w ≡ none) × (calls w history ≡ [])
@@ -83,22 +84,24 @@ pub record IsFirst (k : About) (history : List Meeting) (seat : ℕ → Option �
   pub whole : (w : ℕ) (l : List Logged) → slice_index_or taken w Missing ≡ Given l → (w < next) × (seat w ≡ none) × (l ≡ calls w history)
 
 -- LocksPart, of a view: the lock words of the shards that it holds name it
-abbrev pub LocksPart : About → List ℕ → View → Type 0
+abbrev pub LocksPart : Setup → List ℕ → View → Type 0
 LocksPart k words v = (s : ℕ) → In s v.held → (s < k.shards) × (slice_index words (lock_at s) ≡ v.number + 1)
 
 -- KnownPart: of whom it knows the word, it holds the shard, that agent is not due, and that is the agent's word
-abbrev pub KnownPart : About → List ℕ → View → Type 0
+abbrev pub KnownPart : Setup → List ℕ → View → Type 0
 KnownPart k words v =
     (a : ℕ) (x : Word) → In (a, x) v.known → (a < agents_of k) × In (shard_of k a) v.held × (agent_word k words a ≡ x) × ((y : Word) → In (a, y) v.due → ⊥)
 
 -- DuePart and ValidPart: of whom a word is due, it holds the shard, and the due word is what the history gives, and valid
-abbrev pub DuePart : About → List Meeting → View → Type 0
+abbrev pub DuePart : Setup → List Meeting → View → Type 0
 DuePart k history v =
     (a : ℕ) (x : Word) → In (a, x) v.due → (a < agents_of k) × In (shard_of k a) v.held × (tuple_of k.net.value x ≡ tuple_after k history a) × IsValid k.net.value x
 
--- while words of a pair are due, the view holds that pair's shards and no other
-abbrev pub TightPart : About → View → Type 0
-TightPart k v = (c : ℕ) (x : Word) → In (c, x) v.due → (a : ℕ) × (b : ℕ) × (v.held ≡ locks_of k a b) × ((c ≡ a) ⊎ (c ≡ b))
+-- while words of a pair are due, that pair made the view's last meeting, and the view holds the pair's shards and no other
+abbrev pub TightPart : Setup → View → Type 0
+TightPart k v =
+    (c : ℕ) (x : Word) → In (c, x) v.due → (earlier : List Logged) × (last : Logged) × (v.log ≡ earlier ++ last ∷ [])
+    × (v.held ≡ locks_of k last.a last.b) × ((c ≡ last.a) ⊎ (c ≡ last.b))
 
 -- the look shows what the meetings before its ticket lead to
 abbrev pub IsLook : NetModel → List Word → List Meeting → Look → Type 0
@@ -113,13 +116,13 @@ AreAscending [] = Unit {0}
 AreAscending (look ∷ looks) = ((later : Look) → In later looks → look.ticket ≤ later.ticket) × AreAscending looks
 
 -- LooksPart
-pub record LooksPart (k : About) (history : List Meeting) (looks : List Look) : Type 0 where
+pub record LooksPart (k : Setup) (history : List Meeting) (looks : List Look) : Type 0 where
   pub each : (look : Look) → In look looks → IsLook k.net.value k.opening.value history look
   pub ascending : AreAscending looks
 
 -- what stands of the view of the seat `id`
-pub record Agrees (k : About) (words : List ℕ) (history : List Meeting) (seat : ℕ → Option ℕ) (id : ℕ) (v : View) : Type 0 where
-  pub about : v.about ≡ k
+pub record Agrees (k : Setup) (words : List ℕ) (history : List Meeting) (seat : ℕ → Option ℕ) (id : ℕ) (v : View) : Type 0 where
+  pub setup : v.setup ≡ k
   -- NumbersPart
   pub seated : seat v.number ≡ some id
   pub numbered : v.number < k.seats
@@ -141,23 +144,23 @@ abbrev pub IsHeldBySome : List View → ℕ → Type 0
 IsHeldBySome views s = (id : ℕ) × (v : View) × (get_elem? views id ≡ some v) × (v.live ≡ true) × In s v.held
 
 -- ValidPart: an agent's word
-abbrev pub ValidPart : About → List ℕ → Type 0
+abbrev pub ValidPart : Setup → List ℕ → Type 0
 ValidPart k words = (a : ℕ) → a < agents_of k → IsValid k.net.value (agent_word k words a)
 
 -- SettledPart: the word of an agent that is due nowhere is what the history gives
-abbrev pub SettledPart : About → List ℕ → List View → List Meeting → Type 0
+abbrev pub SettledPart : Setup → List ℕ → List View → List Meeting → Type 0
 SettledPart k words views history =
     (a : ℕ) → a < agents_of k → IsOwedByNone views a → tuple_of k.net.value (agent_word k words a) ≡ tuple_after k history a
 
 -- the field stands at a history, where `seat` gives the seat of each number that has one
-pub record StandsAt (k : About) (words : List ℕ) (views : List View) (history : List Meeting) (seat : ℕ → Option ℕ) : Type 0 where
-  pub wide : length words ≡ 2 + k.shards + agents_of k
+pub record StandsAt (k : Setup) (words : List ℕ) (views : List View) (history : List Meeting) (seat : ℕ → Option ℕ) : Type 0 where
+  pub wide : length words ≡ LOCKS + k.shards + agents_of k
   pub some_shard : 0 < k.shards
   pub few_seats : k.seats ≤ SEAT_LIMIT
   -- FounderPart
-  pub founded : slice_index words 1 ≡ 1
+  pub founded : slice_index words FOUNDER ≡ 1
   -- TicketsPart: the clock is the number of meetings, and no number has made too many
-  pub clock : slice_index words 0 ≡ length history
+  pub clock : slice_index words CLOCK ≡ length history
   pub right : IsHistory k.net.value k.seats k.opening.value history
   pub short : (w : ℕ) → length (calls w history) ≤ LOG_LIMIT
   -- NumbersPart
@@ -171,16 +174,16 @@ pub record StandsAt (k : About) (words : List ℕ) (views : List View) (history 
   pub others : (id : ℕ) (v : View) → get_elem? views id ≡ some v → v.live ≡ false → v ≡ spent
 
 -- FounderPart, where the founder word is 0: nothing has happened
-pub record IsUnfounded (k : About) (words : List ℕ) (views : List View) : Type 0 where
+pub record IsUnfounded (k : Setup) (words : List ℕ) (views : List View) : Type 0 where
   pub limits : (0 < k.shards) × (0 < k.seats) × (k.seats ≤ SEAT_LIMIT)
   pub valid : AreValid k.net.value k.opening.value
-  pub fresh : words ≡ replicate (2 + k.shards) 0 ++ map (λ w. w.0) k.opening.value
+  pub fresh : words ≡ replicate (LOCKS + k.shards) 0 ++ map (λ w. w.0) k.opening.value
   pub each : (id : ℕ) (v : View) → get_elem? views id ≡ some v → ((id ≡ 0) × (v ≡ founder k)) ⊎ (v ≡ spent)
 
-abbrev pub Stands : About → List ℕ → List View → Type 0
+abbrev pub Stands : Setup → List ℕ → List View → Type 0
 Stands k words views =
     IsUnfounded k words views
     ⊎ ((history : List Meeting) × (seat : ℕ → Option ℕ) × StandsAt k words views history seat)
 
-abbrev pub FieldStands : About → State (Unit {0}) View → Type 0
+abbrev pub FieldStands : Setup → State (Unit {0}) View → Type 0
 FieldStands k s = Stands k s.words s.views

@@ -8,9 +8,10 @@ use Rattle.pop_net.specs.Reaction.{reaction}
 use Rattle.pop_crowd.specs.declared.crowd.Meeting.{Meeting}
 use Rattle.pop_crowd.specs.Replay.{reacts}
 use Rattle.agent_field.specs.declared.limits.TheConstants.{LOG_LIMIT}
+use Rattle.agent_field.specs.declared.places.TheConstants.{LOCKS}
 use Rattle.agent_field.specs.declared.view.Logged.{Logged}
 use Rattle.agent_field.specs.declared.view.Look.{Look}
-use Rattle.agent_field.specs.declared.view.About.{About}
+use Rattle.agent_field.specs.declared.view.Setup.{Setup}
 use Rattle.agent_field.specs.declared.view.View.{View}
 use Rattle.agent_field.specs.History.{logged, calls, IsHistory}
 use Rattle.agent_field.specs.Standing.{In, agents_of, locks_of, idle, packed, tuple_after, IsLook}
@@ -18,15 +19,15 @@ use Rattle.agent_field.specs.Standing.{In, agents_of, locks_of, idle, packed, tu
 abbrev pub Mine : Type 0
 Mine = Me (Unit {0}) View
 
-abbrev pub nothing_taken : About → List (Maybe (List Logged))
+abbrev pub nothing_taken : Setup → List (Maybe (List Logged))
 nothing_taken k = replicate k.seats Missing
 
 -- number 0, when the field is founded
-abbrev pub first_seat : About → View
+abbrev pub first_seat : Setup → View
 first_seat k = idle k 0 [] 1 (nothing_taken k) []
 
 abbrev pub holding : ℕ → View → View
-holding s v = record { about = v.about; founding = v.founding; live = v.live; number = v.number; held = s ∷ v.held; known = v.known; due = v.due; log = v.log; next = v.next; taken = v.taken; looks = v.looks }
+holding s v = record v { held = s ∷ v.held }
 
 abbrev pub rest_of : {X : Type 0} → List X → List X
 rest_of [] = []
@@ -34,10 +35,10 @@ rest_of (x ∷ xs) = xs
 
 -- the lock that was taken last is given back, and the seat forgets the words that it read
 abbrev pub releasing : View → View
-releasing v = record { about = v.about; founding = v.founding; live = v.live; number = v.number; held = rest_of v.held; known = []; due = v.due; log = v.log; next = v.next; taken = v.taken; looks = v.looks }
+releasing v = record v { held = rest_of v.held; known = [] }
 
 abbrev pub knowing : ℕ → Word → View → View
-knowing a x v = record { about = v.about; founding = v.founding; live = v.live; number = v.number; held = v.held; known = (a, x) ∷ v.known; due = v.due; log = v.log; next = v.next; taken = v.taken; looks = v.looks }
+knowing a x v = record v { known = (a, x) ∷ v.known }
 
 -- x' and y' are valid words of what the tuples of x and y react to
 pub record IsReaction (net : NetModel) (x y x' y' : Word) : Type 0 where
@@ -47,22 +48,10 @@ pub record IsReaction (net : NetModel) (x y x' y' : Word) : Type 0 where
 
 -- the agents a and b, with the words x and y, meet, and x' and y' are due
 abbrev pub meeting : ℕ → ℕ → ℕ → Word → Word → Word → Word → View → View
-meeting ticket a b x y x' y' v = record {
-  about = v.about;
-  founding = v.founding;
-  live = v.live;
-  number = v.number;
-  held = v.held;
-  known = [];
-  due = (a, x') ∷ (b, y') ∷ [];
-  log = v.log ++ logged ticket a b (reacts v.about.net.value (tuple_of v.about.net.value x) (tuple_of v.about.net.value y)) ∷ [];
-  next = v.next;
-  taken = v.taken;
-  looks = v.looks;
-}
+meeting ticket a b x y x' y' v = record v { known = []; due = (a, x') ∷ (b, y') ∷ []; log = v.log ++ logged ticket a b (reacts v.setup.net.value (tuple_of v.setup.net.value x) (tuple_of v.setup.net.value y)) ∷ [] }
 
 abbrev pub writing : View → View
-writing v = record { about = v.about; founding = v.founding; live = v.live; number = v.number; held = v.held; known = v.known; due = rest_of v.due; log = v.log; next = v.next; taken = v.taken; looks = v.looks }
+writing v = record v { due = rest_of v.due }
 
 -- the known words, in the order in which they were read
 abbrev pub seen : List (ℕ × Word) → List Word
@@ -82,12 +71,12 @@ pub record IsNewest (ticket : ℕ) (v : View) : Type 0 where
 pub record IsDrawnAt (ticket : ℕ) (v : View) : Type 0 where
   pub history : List Meeting
   pub long : length history ≡ ticket
-  pub right : IsHistory v.about.net.value v.about.seats v.about.opening.value history
+  pub right : IsHistory v.setup.net.value v.setup.seats v.setup.opening.value history
   pub logs : v.log ≡ calls v.number history
-  pub known : (a : ℕ) (x : Word) → In (a, x) v.known → tuple_after v.about history a ≡ tuple_of v.about.net.value x
+  pub known : (a : ℕ) (x : Word) → In (a, x) v.known → tuple_after v.setup history a ≡ tuple_of v.setup.net.value x
 
 -- what a draw needs: the words of two agents were read, under the locks of their shards and no other
-pub record MayDraw (k : About) (v : View) (a b : ℕ) (x y x' y' : Word) : Type 0 where
+pub record MayDraw (k : Setup) (v : View) (a b : ℕ) (x y x' y' : Word) : Type 0 where
   pub known : v.known ≡ (b, y) ∷ (a, x) ∷ []
   pub reacted : IsReaction k.net.value x y x' y'
   pub due : v.due ≡ []
@@ -96,7 +85,7 @@ pub record MayDraw (k : About) (v : View) (a b : ℕ) (x y x' y' : Word) : Type 
   pub exactly : v.held ≡ locks_of k a b
 
 -- all words, read under all locks
-pub record HasSeenAll (k : About) (v : View) : Type 0 where
+pub record HasSeenAll (k : Setup) (v : View) : Type 0 where
   pub first : v.number ≡ 0
   pub locked : (s : ℕ) → s < k.shards → In s v.held
   pub whole : length (seen v.known) ≡ agents_of k
@@ -104,16 +93,16 @@ pub record HasSeenAll (k : About) (v : View) : Type 0 where
   pub due : v.due ≡ []
 
 abbrev pub Founds : Step (Unit {0}) → Mine → ℕ → Mine → Type 0
-Founds st m r m' = (r ≡ 0) × (m' ≡ (first_seat m.0.about, m.1))
+Founds st m r m' = (r ≡ 0) × (m' ≡ (first_seat m.0.setup, m.1))
 
 abbrev pub Locks : Step (Unit {0}) → Mine → ℕ → Mine → Type 0
-Locks st m r m' = (r ≡ 0 → m' ≡ (holding (st.word - 2) m.0, m.1)) × (r ≢ 0 → m' ≡ m)
+Locks st m r m' = (r ≡ 0 → m' ≡ (holding (st.word - LOCKS) m.0, m.1)) × (r ≢ 0 → m' ≡ m)
 
 abbrev pub Unlocks : Step (Unit {0}) → Mine → ℕ → Mine → Type 0
 Unlocks st m r m' = m' ≡ (releasing m.0, m.1)
 
 abbrev pub Reads : Step (Unit {0}) → Mine → ℕ → Mine → Type 0
-Reads st m r m' = (m' ≡ (knowing (st.word - (2 + m.0.about.shards)) (packed r) m.0, m.1)) × IsValid m.0.about.net.value (packed r)
+Reads st m r m' = (m' ≡ (knowing (st.word - (LOCKS + m.0.setup.shards)) (packed r) m.0, m.1)) × IsValid m.0.setup.net.value (packed r)
 
 -- the pair whose words were read meets, and its new words are due
 pub record HasDrawn (ticket : ℕ) (m m' : Mine) : Type 0 where
@@ -124,7 +113,7 @@ pub record HasDrawn (ticket : ℕ) (m m' : Mine) : Type 0 where
   pub x' : Word
   pub y' : Word
   pub known : m.0.known ≡ (b, y) ∷ (a, x) ∷ []
-  pub reacted : IsReaction m.0.about.net.value x y x' y'
+  pub reacted : IsReaction m.0.setup.net.value x y x' y'
   pub met : m' ≡ (meeting ticket a b x y x' y' m.0, m.1)
 
 abbrev pub Draws : Step (Unit {0}) → Mine → ℕ → Mine → Type 0
@@ -135,36 +124,36 @@ Writes st m r m' = m' ≡ (writing m.0, m.1)
 
 -- a look: the clock, and all words
 abbrev pub looking : ℕ → View → View
-looking ticket v = record { about = v.about; founding = v.founding; live = v.live; number = v.number; held = v.held; known = v.known; due = v.due; log = v.log; next = v.next; taken = v.taken; looks = v.looks ++ look_of ticket (seen v.known) ∷ [] }
+looking ticket v = record v { looks = v.looks ++ look_of ticket (seen v.known) ∷ [] }
 
 -- at the ticket there is a history, with just this log for the seat's number, after which the known words stand
 pub record IsSeenAt (ticket : ℕ) (v : View) : Type 0 where
   pub history : List Meeting
   pub long : length history ≡ ticket
-  pub right : IsHistory v.about.net.value v.about.seats v.about.opening.value history
+  pub right : IsHistory v.setup.net.value v.setup.seats v.setup.opening.value history
   pub logs : v.log ≡ calls v.number history
-  pub look : IsLook v.about.net.value v.about.opening.value history (look_of ticket (seen v.known))
+  pub look : IsLook v.setup.net.value v.setup.opening.value history (look_of ticket (seen v.known))
 
 abbrev pub Watches : Step (Unit {0}) → Mine → ℕ → Mine → Type 0
 Watches st m r m' = (m' ≡ (looking r m.0, m.1)) × IsNewest r m.0 × IsSeenAt r m.0
 
 -- number 0 gives its least fresh number away
 abbrev pub kept_back : View → View
-kept_back v = record { about = v.about; founding = v.founding; live = v.live; number = v.number; held = v.held; known = v.known; due = v.due; log = v.log; next = v.next + 1; taken = v.taken; looks = v.looks }
+kept_back v = record v { next = v.next + 1 }
 
 abbrev pub newcomer : View → View
-newcomer v = idle v.about v.next [] 0 [] []
+newcomer v = idle v.setup v.next [] 0 [] []
 
 -- number 0 takes in another seat's log
 abbrev pub taking_in : View → View → View
-taking_in v w = record { about = v.about; founding = v.founding; live = v.live; number = v.number; held = v.held; known = v.known; due = v.due; log = v.log; next = v.next; taken = slice_set v.taken w.number (Given w.log); looks = v.looks }
+taking_in v w = record v { taken = slice_set v.taken w.number (Given w.log) }
 
 -- one more meeting stands in the seat's log
 abbrev pub recorded : Logged → View → View
-recorded e v = record { about = v.about; founding = v.founding; live = v.live; number = v.number; held = v.held; known = []; due = []; log = v.log ++ e ∷ []; next = v.next; taken = v.taken; looks = v.looks }
+recorded e v = record v { known = []; due = []; log = v.log ++ e ∷ [] }
 
 abbrev pub with_locks : List ℕ → View → View
-with_locks held v = record { about = v.about; founding = v.founding; live = v.live; number = v.number; held = held; known = []; due = []; log = v.log; next = v.next; taken = v.taken; looks = v.looks }
+with_locks held v = record v { held = held; known = []; due = [] }
 
 -- all shards below n, the last one first
 abbrev pub below : ℕ → List ℕ
@@ -172,7 +161,7 @@ below zero = []
 below (suc n) = n ∷ below n
 
 abbrev pub with_known : List (ℕ × Word) → View → View
-with_known known v = record { about = v.about; founding = v.founding; live = v.live; number = v.number; held = v.held; known = known; due = v.due; log = v.log; next = v.next; taken = v.taken; looks = v.looks }
+with_known known v = record v { known = known }
 
 -- these are the known words, of all agents below so many
 pub record HasReadAll (agents : ℕ) (words : List Word) (m m' : Mine) : Type 0 where

@@ -1,12 +1,13 @@
 //! The end of a field: its words and its history.
 
-ghost use Rattle.std.specs.Prelude.{◌≡◌, ◌≢◌, ℕ, ◌+◌, ◌<◌, ◌≤◌, false, List as Items, length, map, [], ◌∷◌, IfOk, IsTrue, ◌↔◌, All, None, Some, drop, replicate, slice_index_or, vec_capacity};
+ghost use Rattle.std.specs.Prelude.{◌≡◌, ℕ, ◌+◌, ◌<◌, ◌≤◌, false, List as Items, length, map, [], IfOk, IsTrue, ◌↔◌, All, None, Some, drop, replicate, slice_index_or, vec_capacity};
 ghost use Rattle.std.specs.Mem.Slots.{slots_items, slots_len, IsFull};
-ghost use Rattle.agent_field.specs.History.{calls, placed, placed_some, placed_logs, made, IsHistory};
-ghost use Rattle.agent_field.specs.Standing.{packed, IsLook};
+ghost use Rattle.agent_field.specs.History.{placed, placed_some, placed_logs, made};
+ghost use Rattle.agent_field.specs.Standing.{packed};
 
 use crate::field::{Field, FieldSeat};
 use crate::limits::SEAT_LIMIT;
+use crate::places::{CLOCK, LOCKS};
 use crate::view::Logged;
 use atomic_table::Closed;
 use pop_crowd::Meeting;
@@ -115,27 +116,16 @@ impl FieldSeat {
 }
 
 impl<'n> Field<'n> {
-    ghost use Rattle.pop_net.specs.Lanes.{crowd_of, AreValid};
-    ghost use Rattle.pop_crowd.specs.Replay.{replay};
-    ghost use Rattle.agent_field.specs.Seats.{net_of, opening_of, seats_of, start_of, IsSeatOf, IsWhole, log_of, taken_of, looks_of};
+    ghost use Rattle.agent_field.specs.Seats.{IsRoundOf, IsSeatOf, IsWhole};
 
     /// The words, and the history that they are the replay of.
     pub fn close(self, alloc: Global, seat: FieldSeat) -> Result<Round, NoMemory>
         requires ours { IsSeatOf self seat }
         requires whole { IsWhole seat }
-        ensures words { IfOk result (λ r. crowd_of (net_of self.entry) r.words ≡ replay (net_of self.entry) r.meetings (start_of self.entry)) }
-        ensures valid { IfOk result (λ r. AreValid (net_of self.entry) r.words) }
-        // The meetings are of different agents, by seats of the field, and each says rightly whether it changed a tuple.
-        ensures history { IfOk result (λ r. IsHistory (net_of self.entry) (seats_of self.entry) (opening_of self.entry) r.meetings) }
-        // Each number's meetings are its log, with the places as tickets; a number without a log has none.
-        ensures own { IfOk result (λ r. calls 0 r.meetings ≡ log_of seat) }
-        ensures taken { IfOk result (λ r. (w : ℕ) (l : Items Logged) → slice_index_or (taken_of seat) w None ≡ Some l → calls w r.meetings ≡ l) }
-        ensures others { IfOk result (λ r. (w : ℕ) → w ≢ 0 → slice_index_or (taken_of seat) w None ≡ None → calls w r.meetings ≡ []) }
-        // Each look shows the replay of the meetings before its ticket.
-        ensures looks { IfOk result (λ r. All (IsLook (net_of self.entry) (opening_of self.entry) r.meetings) (looks_of seat)) }
+        ensures { IfOk result (IsRoundOf self.entry seat) }
     {
         let agents = self.agents as usize;
-        let from = 2 + self.shards as usize;
+        let from = LOCKS + self.shards as usize;
         let room = Vec::with_capacity(alloc, agents)?;
         let Field {
             table,
@@ -156,7 +146,7 @@ impl<'n> Field<'n> {
             rooms: _,
         } = seat;
         let closed = table.close_with(token);
-        let count = closed.word(0) as usize;
+        let count = closed.word(CLOCK) as usize;
         let words = agent_words(&closed, from, agents, room);
         closed.free();
         let meetings = arrange(alloc, count, log.as_slice(), taken.as_slice())?;

@@ -1,10 +1,11 @@
 //! The field and its seats.
 
-ghost use Rattle.std.specs.Prelude.{◌≡◌, ◌≢◌, ℕ, ◌+◌, ◌<◌, ◌≤◌, ◌^◌, length, [], ◌∷◌, All, Some, OnOk, OnErr, vec_len, vec_capacity, slice_get};
+ghost use Rattle.std.specs.Prelude.{◌≡◌, ◌+◌, ◌<◌, ◌≤◌, length, [], All, Some, OnOk, OnErr, vec_len, vec_capacity, slice_get};
+ghost use Rattle.agent_field.specs.declared.places.TheConstants.{LOCKS};
 ghost use Rattle.agent_field.specs.declared.limits.TheConstants.{LOG_LIMIT, LOOK_LIMIT, SEAT_LIMIT};
 ghost use Rattle.agent_field.specs.Standing.{idle};
 
-use crate::view::{About, Logged, Look, Rule, View};
+use crate::view::{Logged, Look, Rule, Setup, View};
 use atomic_table::{Seat, Table};
 use pop_io::{List, NoMemory};
 use pop_net::{Net, Word};
@@ -13,7 +14,7 @@ use std::alloc::Global;
 /// The words of a crowd, which threads share.
 #[derive(Drop)]
 pub struct Field<'n> {
-    pub(crate) table: Table<(), View, About, Rule, Global>,
+    pub(crate) table: Table<(), View, Setup, Rule, Global>,
     pub(crate) net: &'n Net,
     pub(crate) shards: u32,
     pub(crate) seats: u16,
@@ -22,7 +23,7 @@ pub struct Field<'n> {
     ghost shards_are: { table.shared.key.shards ≡ shards },
     ghost seats_are: { table.shared.key.seats ≡ seats },
     ghost agents_are: { length table.shared.key.opening.value ≡ agents },
-    ghost words_are: { table.shared.table_id.words ≡ 2 + shards + agents },
+    ghost words_are: { table.shared.table_id.words ≡ LOCKS + shards + agents },
     ghost no_slots: { table.shared.table_id.slots ≡ 0 },
     ghost limits: { (0 < shards) × (0 < seats) × (seats ≤ SEAT_LIMIT) },
 }
@@ -41,11 +42,11 @@ pub struct FieldSeat {
     /// Empty, and each with room for all agents: one for each look to come.
     pub(crate) rooms: Vec<Vec<Word>>,
     ghost room: { (vec_len log + spare ≤ vec_capacity log) × (vec_len log + spare ≤ LOG_LIMIT) },
-    ghost known: { number < seat.me.0.about.seats },
-    ghost places: { number ≡ 0 → (0 < next) × (next + left ≡ seat.me.0.about.seats) × (vec_len taken ≡ seat.me.0.about.seats) },
+    ghost known: { number < seat.me.0.setup.seats },
+    ghost places: { number ≡ 0 → (0 < next) × (next + left ≡ seat.me.0.setup.seats) × (vec_len taken ≡ seat.me.0.setup.seats) },
     ghost looks_fit: { (vec_len looks + vec_len rooms ≤ vec_capacity looks) × (vec_len looks + vec_len rooms ≤ LOOK_LIMIT) },
-    ghost rooms_fit: { All (λ room. (room.items ≡ []) × (length seat.me.0.about.opening.value ≤ vec_capacity room)) rooms.items },
-    ghost is_idle: { seat.me ≡ (idle seat.me.0.about number log.items next taken.items looks.items, []) },
+    ghost rooms_fit: { All (λ room. (room.items ≡ []) × (length seat.me.0.setup.opening.value ≤ vec_capacity room)) rooms.items },
+    ghost is_idle: { seat.me ≡ (idle seat.me.0.setup number log.items next taken.items looks.items, []) },
 }
 
 /// What a meeting answers.

@@ -10,6 +10,7 @@ mod limits;
 mod looks;
 mod meet;
 mod moments;
+mod places;
 mod steps;
 mod view;
 

@@ -1,10 +1,12 @@
 //! How a field begins, and how its seats are dealt and taken in.
 
-ghost use Rattle.std.specs.Prelude.{◌≡◌, ◌+◌, ◌<◌, ◌≤◌, length, map, [], ◌++◌, IfOk, IfErr, OnOk, OnErr, replicate, slice_set, slice_index_or, None, Some};
+ghost use Rattle.agent_field.specs.declared.places.TheConstants.{LOCKS as LOCKS_AT};
+ghost use Rattle.std.specs.Prelude.{◌≡◌, ◌+◌, ◌<◌, ◌≤◌, length, map, ◌++◌, IfOk, IfErr, OnOk, OnErr, replicate, slice_set, slice_index_or, None, Some};
 
 use crate::field::{Field, FieldSeat};
 use crate::limits::SEAT_LIMIT;
-use crate::view::{About, Deal, Found, Logged, Rule, View};
+use crate::places::{FOUNDER, LOCKS};
+use crate::view::{Deal, Found, Logged, Rule, Setup, View};
 use atomic_table::Table;
 use pop_crowd::{AGENT_LEAST, AGENT_LIMIT};
 use pop_io::{List, NoMemory, SHARD_LIMIT};
@@ -15,9 +17,9 @@ use std::sync::Wait;
 
 /// The words of a table before its field is founded.
 fn layout(alloc: Global, words: &[Word], shards: u32) -> Result<Vec<u64>, NoMemory>
-    ensures { IfOk result (λ all. all.items ≡ replicate (2 + shards) 0 ++ map (λ w. w.0) words.now) }
+    ensures { IfOk result (λ all. all.items ≡ replicate (LOCKS_AT + shards) 0 ++ map (λ w. w.0) words.now) }
 {
-    let mut all = vec![in alloc; 0u64; 2 + shards as usize]?;
+    let mut all = vec![in alloc; 0u64; LOCKS + shards as usize]?;
     for word in words {
         all.push(word.0)?;
     }
@@ -36,7 +38,7 @@ fn no_logs(alloc: Global, seats: u16) -> Result<Vec<Option<List<Logged>>>, NoMem
 
 impl<'n> Field<'n> {
     ghost use Rattle.pop_net.specs.Lanes.{AreValid};
-    ghost use Rattle.agent_field.specs.Seats.{net_of, opening_of, seats_of, IsSeatOf, number_of, log_of, next_of, left_of, taken_of, IsFresh, KeepsOwn};
+    ghost use Rattle.agent_field.specs.Seats.{IsOpened, IsSeatOf, number_of, log_of, next_of, left_of, taken_of, IsFresh, KeepsOwn};
 
     /// A field with these words, and its seat with the number 0.
     pub fn open<R: Wait>(
@@ -51,7 +53,7 @@ impl<'n> Field<'n> {
         requires agents { (AGENT_LEAST ≤ length words) × (length words ≤ AGENT_LIMIT) }
         requires shards { (1 ≤ shards) × (shards ≤ SHARD_LIMIT) }
         requires seats { (1 ≤ seats) × (seats ≤ SEAT_LIMIT) }
-        ensures field { IfOk result (λ r. (net_of r.0 ≡ net.now) × (opening_of r.0 ≡ words) × (seats_of r.0 ≡ seats)) }
+        ensures field { IfOk result (λ r. IsOpened r.0 net.now words shards seats) }
         ensures ours { IfOk result (λ r. IsSeatOf r.0 r.1) }
         ensures first { IfOk result (λ r. (number_of r.1 ≡ 0) × (next_of r.1 ≡ 1) × (left_of r.1 + 1 ≡ seats)) }
         ensures fresh { IfOk result (λ r. IsFresh r.1 × (taken_of r.1 ≡ replicate seats None)) }
@@ -61,18 +63,18 @@ impl<'n> Field<'n> {
         let agents = words.as_slice().len() as u32;
         let all = layout(alloc, words.as_slice(), shards)?;
         let taken = no_logs(alloc, seats)?;
-        let about = About {
+        let setup = Setup {
             net: Snapshot::of(net),
             opening: Snapshot::of(&words),
             shards,
             seats,
         };
-        let (table, mut seat) = Table::<(), View, About, Rule, Global>::of_words(
+        let (table, mut seat) = Table::<(), View, Setup, Rule, Global>::of_words(
             alloc,
             all.as_slice(),
-            &about,
+            &setup,
         )?;
-        table.shared.swap::<Found>(&mut seat, 1, 1);
+        table.shared.swap::<Found>(&mut seat, FOUNDER, 1);
         let field = Field {
             table,
             net,

@@ -1,6 +1,6 @@
 //! Looks at all agents at once.
 
-ghost use Rattle.std.specs.Prelude.{◌≡◌, ℕ, ◌+◌, ◌<◌, ◌≤◌, List as Items, length, [], ◌∷◌, ◌++◌, true, vec_capacity, All, IfOk, OnOk, OnErr};
+ghost use Rattle.std.specs.Prelude.{◌≡◌, ◌+◌, ◌<◌, ◌≤◌, List as Items, length, [], ◌∷◌, ◌++◌, vec_capacity, All, IfOk, OnOk, OnErr};
 ghost use Rattle.pop_net.specs.declared.net.Word.{Word as WordModel};
 ghost use Rattle.agent_field.specs.Steps.{below, with_locks, look_of, HasReadAll};
 
@@ -26,12 +26,11 @@ fn look_rooms(alloc: Global, looks: u16, agents: u32) -> Result<Vec<Vec<Word>>, 
 }
 
 impl<'n> Field<'n> {
-    ghost use Rattle.agent_field.specs.Seats.{opening_of, IsSeatOf, number_of, looks_of, spare_looks_of, KeepsLogs, IsNewestOf, IsGlance};
+    ghost use Rattle.agent_field.specs.Seats.{opening_of, IsUsable, IsSeatOf, number_of, looks_of, spare_looks_of, KeepsLogs, IsNewestOf, IsGlance};
 
     /// Takes the locks of all shards, in ascending order.
     pub(crate) fn lock_all<R: Wait>(&self, rt: &R, token: &mut Seat<(), View>, number: u16)
-        requires table { token.old.table_id ≡ self.now.table.shared.table_id }
-        requires live { token.old.me.0.live ≡ true }
+        requires usable { IsUsable self.now token.old.table_id token.old.me.0 }
         requires number { token.old.me.0.number ≡ number }
         requires clear { (token.old.me.0.held ≡ []) × (token.old.me.0.known ≡ []) × (token.old.me.0.due ≡ []) }
         ensures table { token.new.table_id ≡ token.old.table_id }
@@ -44,9 +43,7 @@ impl<'n> Field<'n> {
 
     /// Reads all words, under the locks of all shards, into a list that has the room.
     fn read_all(&self, token: &mut Seat<(), View>, mut out: Vec<Word>) -> Vec<Word>
-        requires table { token.old.table_id ≡ self.now.table.shared.table_id }
-        requires live { token.old.me.0.live ≡ true }
-        requires ours { token.old.me.0.about ≡ self.now.table.shared.key }
+        requires usable { IsUsable self.now token.old.table_id token.old.me.0 }
         requires held { token.old.me.0.held ≡ below self.now.shards }
         requires clear { (token.old.me.0.known ≡ []) × (token.old.me.0.due ≡ []) }
         requires room { (out.items ≡ []) × (self.now.agents ≤ vec_capacity out) }
@@ -62,8 +59,7 @@ impl<'n> Field<'n> {
 
     /// Gives the locks of all shards back, in descending order.
     fn unlock_all(&self, token: &mut Seat<(), View>)
-        requires table { token.old.table_id ≡ self.now.table.shared.table_id }
-        requires live { token.old.me.0.live ≡ true }
+        requires usable { IsUsable self.now token.old.table_id token.old.me.0 }
         requires held { token.old.me.0.held ≡ below self.now.shards }
         requires due { token.old.me.0.due ≡ [] }
         requires some { 0 < self.now.shards }

@@ -1,6 +1,6 @@
 //! A meeting: two agents react under the locks of their shards.
 
-ghost use Rattle.std.specs.Prelude.{◌≡◌, ◌≢◌, ℕ, ◌+◌, ◌<◌, ◌≤◌, ◌^◌, ◌==◌, ◌||◌, not, List, length, [], ◌∷◌, ◌++◌, true};
+ghost use Rattle.std.specs.Prelude.{◌≡◌, ◌≢◌, ◌+◌, ◌<◌, ◌≤◌, ◌==◌, ◌||◌, not, length, [], ◌∷◌, ◌++◌};
 ghost use Rattle.pop_net.specs.Lanes.{tuple_of, IsValid};
 ghost use Rattle.pop_crowd.specs.Replay.{reacts};
 ghost use Rattle.agent_field.specs.History.{logged};
@@ -34,7 +34,7 @@ fn reacted(net: &Net, x: Word, y: Word) -> (Word, Word, bool)
 }
 
 impl<'n> Field<'n> {
-    ghost use Rattle.agent_field.specs.Seats.{net_of, opening_of, IsSeatOf, log_of, spare_of, KeepsRest, IsMoment, IsNewestOf, IsMetAt};
+    ghost use Rattle.agent_field.specs.Seats.{opening_of, IsUsable, IsSeatOf, log_of, spare_of, KeepsRest, IsMoment, IsNewestOf, IsMetAt};
 
     /// Takes the locks of a pair's shards, the lower one first.
     fn lock_pair<R: Wait>(
@@ -45,8 +45,7 @@ impl<'n> Field<'n> {
         low: u32,
         high: u32,
     )
-        requires table { token.old.table_id ≡ self.now.table.shared.table_id }
-        requires live { token.old.me.0.live ≡ true }
+        requires usable { IsUsable self.now token.old.table_id token.old.me.0 }
         requires number { token.old.me.0.number ≡ number }
         requires shards { (low ≤ high) × (high < self.now.shards) }
         requires clear { (token.old.me.0.held ≡ []) × (token.old.me.0.known ≡ []) × (token.old.me.0.due ≡ []) }
@@ -63,8 +62,7 @@ impl<'n> Field<'n> {
 
     /// Gives the locks back, the higher one first.
     fn unlock_pair(&self, token: &mut Seat<(), View>, low: u32, high: u32)
-        requires table { token.old.table_id ≡ self.now.table.shared.table_id }
-        requires live { token.old.me.0.live ≡ true }
+        requires usable { IsUsable self.now token.old.table_id token.old.me.0 }
         requires shards { (low ≤ high) × (high < self.now.shards) }
         requires locked { token.old.me.0.held ≡ pair_locks low high (low == high) }
         requires due { token.old.me.0.due ≡ [] }
@@ -81,9 +79,7 @@ impl<'n> Field<'n> {
 
     /// Under the locks of both agents: reads both words, draws a ticket, and writes both words.
     fn react_pair(&self, token: &mut Seat<(), View>, a: u32, b: u32) -> (u64, bool)
-        requires table { token.old.table_id ≡ self.now.table.shared.table_id }
-        requires live { token.old.me.0.live ≡ true }
-        requires ours { token.old.me.0.about ≡ self.now.table.shared.key }
+        requires usable { IsUsable self.now token.old.table_id token.old.me.0 }
         requires agents { (a < self.now.agents) × (b < self.now.agents) × (a ≢ b) }
         requires held { token.old.me.0.held ≡ locks_of self.now.table.shared.key a b }
         requires clear { (token.old.me.0.known ≡ []) × (token.old.me.0.due ≡ []) }

@@ -1,12 +1,13 @@
 //! The atomic steps of a meeting and of a look, each through the seat's token.
 
-ghost use Rattle.std.specs.Prelude.{◌≡◌, ℕ, ◌<◌, List, [], ◌∷◌, true};
+ghost use Rattle.std.specs.Prelude.{◌≡◌, ℕ, ◌<◌, List, [], ◌∷◌};
 ghost use Rattle.pop_net.specs.declared.net.Word.{Word as WordModel};
 ghost use Rattle.pop_net.specs.Lanes.{IsValid};
 ghost use Rattle.agent_field.specs.Standing.{In, shard_of};
 ghost use Rattle.agent_field.specs.Steps.{holding, releasing, knowing, writing, looking, MayDraw, HasDrawn, HasSeenAll, IsNewest, IsDrawnAt, IsSeenAt};
 
 use crate::field::Field;
+use crate::places::{CLOCK, LOCKS};
 use crate::view::{Draw, Lock, Read, Unlock, View, Watch, Write};
 use atomic_table::Seat;
 use pop_net::Word;
@@ -14,10 +15,11 @@ use std::sync::Wait;
 use std::thread;
 
 impl<'n> Field<'n> {
+    ghost use Rattle.agent_field.specs.Seats.{IsUsable};
+
     /// Takes a shard's lock.
     pub(crate) fn lock<R: Wait>(&self, rt: &R, token: &mut Seat<(), View>, number: u16, s: u32)
-        requires table { token.old.table_id ≡ self.now.table.shared.table_id }
-        requires live { token.old.me.0.live ≡ true }
+        requires usable { IsUsable self.now token.old.table_id token.old.me.0 }
         requires number { token.old.me.0.number ≡ number }
         requires shard { s < self.now.shards }
         requires due { token.old.me.0.due ≡ [] }
@@ -28,7 +30,7 @@ impl<'n> Field<'n> {
             let found = self
                 .table
                 .shared
-                .compare_exchange::<Lock>(token, 2 + s as usize, 0, number as u64 + 1);
+                .compare_exchange::<Lock>(token, LOCKS + s as usize, 0, number as u64 + 1);
             if found == 0 {
                 return;
             }
@@ -39,22 +41,21 @@ impl<'n> Field<'n> {
 
     /// Gives back the lock that was taken last.
     pub(crate) fn unlock(&self, token: &mut Seat<(), View>, s: u32)
-        requires table { token.old.table_id ≡ self.now.table.shared.table_id }
-        requires live { token.old.me.0.live ≡ true }
+        requires usable { IsUsable self.now token.old.table_id token.old.me.0 }
         requires shard { s < self.now.shards }
         requires held { (held : List ℕ) × (token.old.me.0.held ≡ s ∷ held) × (In s held → ⊥) }
         requires due { token.old.me.0.due ≡ [] }
         ensures table { token.new.table_id ≡ token.old.table_id }
         ensures freed { token.new.me ≡ (releasing token.old.me.0, token.old.me.1) }
     {
-        self.table.shared.store::<Unlock>(token, 2 + s as usize, 0);
+        self.table
+            .shared
+            .store::<Unlock>(token, LOCKS + s as usize, 0);
     }
 
     /// Reads an agent's word, under its shard's lock.
     pub(crate) fn read(&self, token: &mut Seat<(), View>, a: u32) -> Word
-        requires table { token.old.table_id ≡ self.now.table.shared.table_id }
-        requires live { token.old.me.0.live ≡ true }
-        requires ours { token.old.me.0.about ≡ self.now.table.shared.key }
+        requires usable { IsUsable self.now token.old.table_id token.old.me.0 }
         requires agent { a < self.now.agents }
         requires held { In (shard_of self.now.table.shared.key a) token.old.me.0.held }
         requires due { token.old.me.0.due ≡ [] }
@@ -62,47 +63,43 @@ impl<'n> Field<'n> {
         ensures known { token.new.me ≡ (knowing a result token.old.me.0, token.old.me.1) }
         ensures valid { IsValid self.now.net.now result }
     {
-        let word = 2 + self.shards as usize + a as usize;
+        let word = LOCKS + self.shards as usize + a as usize;
         Word(self.table.shared.load::<Read>(token, word))
     }
 
     /// Draws a ticket for the pair whose words were read.
     pub(crate) fn draw(&self, token: &mut Seat<(), View>) -> u64
-        requires table { token.old.table_id ≡ self.now.table.shared.table_id }
-        requires live { token.old.me.0.live ≡ true }
-        requires ours { token.old.me.0.about ≡ self.now.table.shared.key }
+        requires usable { IsUsable self.now token.old.table_id token.old.me.0 }
         requires pair { (a b : ℕ) × (x y x' y' : WordModel) × MayDraw self.now.table.shared.key token.old.me.0 a b x y x' y' }
         ensures table { token.new.table_id ≡ token.old.table_id }
         ensures drawn { HasDrawn result token.old.me token.new.me }
         ensures newest { IsNewest result token.old.me.0 }
         ensures moment { IsDrawnAt result token.old.me.0 }
     {
-        self.table.shared.fetch_add::<Draw>(token, 0, 1)
+        self.table.shared.fetch_add::<Draw>(token, CLOCK, 1)
     }
 
     /// Writes the word of the agent that is due first.
     pub(crate) fn write(&self, token: &mut Seat<(), View>, a: u32, word: Word)
-        requires table { token.old.table_id ≡ self.now.table.shared.table_id }
-        requires live { token.old.me.0.live ≡ true }
+        requires usable { IsUsable self.now token.old.table_id token.old.me.0 }
         requires agent { a < self.now.agents }
         requires due { (due : List (ℕ × WordModel)) × (token.old.me.0.due ≡ (a, word) ∷ due) × ((x : WordModel) → In (a, x) due → ⊥) }
         ensures table { token.new.table_id ≡ token.old.table_id }
         ensures written { token.new.me ≡ (writing token.old.me.0, token.old.me.1) }
     {
-        let at = 2 + self.shards as usize + a as usize;
+        let at = LOCKS + self.shards as usize + a as usize;
         self.table.shared.store::<Write>(token, at, word.0);
     }
 
     /// Reads the clock, where all words were read under all locks.
     pub(crate) fn watch(&self, token: &mut Seat<(), View>) -> u64
-        requires table { token.old.table_id ≡ self.now.table.shared.table_id }
-        requires live { token.old.me.0.live ≡ true }
+        requires usable { IsUsable self.now token.old.table_id token.old.me.0 }
         requires all { HasSeenAll self.now.table.shared.key token.old.me.0 }
         ensures table { token.new.table_id ≡ token.old.table_id }
         ensures seen { token.new.me ≡ (looking result token.old.me.0, token.old.me.1) }
         ensures newest { IsNewest result token.old.me.0 }
         ensures moment { IsSeenAt result token.old.me.0 }
     {
-        self.table.shared.load::<Watch>(token, 0)
+        self.table.shared.load::<Watch>(token, CLOCK)
     }
 }

@@ -23,7 +23,7 @@ pub struct Look {
 
 /// What is fixed when a field is opened.
 #[derive(Drop)]
-pub struct About {
+pub struct Setup {
     pub net: Snapshot<Net>,
     pub opening: Snapshot<List<Word>>,
     pub shards: u32,
@@ -32,7 +32,7 @@ pub struct About {
 
 /// What a seat knows. No value of it is made.
 pub struct View {
-    pub about: About,
+    pub setup: Setup,
     /// The field is not founded, and this seat will found it.
     pub founding: bool,
     /// The seat is neither spent nor founding.
@@ -55,7 +55,7 @@ pub struct View {
 
 pub struct Rule;
 
-impl TableRule<(), View, About> for Rule {
+impl TableRule<(), View, Setup> for Rule {
     ghost use Rattle.agent_field.specs.Standing.{FieldStands, founder};
 
     ghost holds = { FieldStands };

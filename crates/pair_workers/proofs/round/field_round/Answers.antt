@@ -19,7 +19,7 @@ open-requires-clause-agents g c =
 pub work_beside-requires-clause-agents : goal.work_beside-requires-clause-agents
 work_beside-requires-clause-agents g c κs within =
     let e = c.in_ok-words.ensures in
-    subst (λ (l : List Word). (2 ≤ length l) × (length l ≤ 65536)) (sym (c.in_ok-field.ensures.field.1 ∙ e.words)) e.agents
+    subst (λ (l : List Word). (2 ≤ length l) × (length l ≤ 65536)) (sym (c.in_ok-field.ensures.field.opening_is ∙ e.words)) e.agents
 
 pub work_beside-requires-clause-others : goal.work_beside-requires-clause-others
 work_beside-requires-clause-others g c κs within =
@@ -58,16 +58,16 @@ returns g c =
     let closed = c.in_ok-round.ensures in
     let taken = c.in_ok-whole.ensures in
     let round = c.in_ok-round.round in
-    let opening = is.1 ∙ c.in_ok-words.ensures.words in
+    let opening = is.opening_is ∙ c.in_ok-words.ensures.words in
     let after : List (List ℕ) = set c.take_in.new.pickers 0 first.picker in
     record {
       played =
-          subst (λ (t : NetModel × List Word × ℕ). ArePlayed t.0 (crowd_of t.0 t.1) t.2 turns pickers after round.meetings (crowd_of t.0 round.words)) (λ i. (is.0 i, opening i, is.2 i))
+          subst (λ (t : NetModel × List Word × ℕ). ArePlayed t.0 (crowd_of t.0 t.1) t.2 turns pickers after round.meetings (crowd_of t.0 round.words)) (λ i. (is.net_is i, opening i, is.seats_are i))
           (are_played (net_of f) (opening_of f) round.words (seats_of f) turns pickers after round.meetings closed.words closed.history
-          (λ w d h. all_picked f turns pickers _ _ first _ round.meetings mine done taken.all taken.long taken.moved closed.own closed.taken w d (omega (arith, h, is.2, c.requires.pickers))));
+          (λ w d h. all_picked f turns pickers _ _ first _ round.meetings mine done taken.all taken.long taken.moved closed.own closed.taken w d (omega (arith, h, is.seats_are, c.requires.pickers))));
       valid = search rules;
       agents =
           as_long (net_of f) (opening_of f) round.words round.meetings closed.words
-          ∙ ap (length {A = Word}) (is.1 ∙ c.in_ok-words.ensures.words);
+          ∙ ap (length {A = Word}) (is.opening_is ∙ c.in_ok-words.ensures.words);
       pickers = search rules;
     }

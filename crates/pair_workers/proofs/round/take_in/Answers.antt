@@ -1,7 +1,7 @@
 use Rattle.std.proofs.Common.{◌≡◌, ℕ, zero, suc, ◌+◌, ◌<◌, ◌≤◌, get_or, set, length, arith, sym, ap, ◌∙◌, subst, ⊎_elim, length-append, length-set, List, [], ◌∷◌, Some, None, Option, get_or-set_same, get_or-set_other, rules}
 use Rattle.std.proofs.lemmas.Bool.{cases_eq}
 use Rattle.std.specs.Prelude.{is_some, IsSome}
-use Rattle.agent_field.specs.declared.view.About.{About}
+use Rattle.agent_field.specs.declared.view.Setup.{Setup}
 use Rattle.agent_field.specs.declared.view.Logged.{Logged}
 use Rattle.agent_field.specs.Seats.{IsSeatOf, number_of, next_of, log_of, taken_of}
 use Rattle.pair_workers.specs.declared.work.Worker.{Worker}
@@ -24,7 +24,7 @@ workers-preserved c =
     let number = worker.seat.number in
     let log = log_of worker.seat in
     let before = taken_of c.workers.first in
-    let fits : number < length before = (let places = c.workers.first.places was.number in subst (λ (n : ℕ). number < n) (sym places.2 ∙ search rules) (subst (λ (k : About). number < k.seats) (mine.0.1 ∙ sym was.ours.1) worker.seat.known)) in
+    let fits : number < length before = (let places = c.workers.first.places was.number in subst (λ (n : ℕ). number < n) (sym places.2 ∙ search rules) (subst (λ (k : Setup). number < k.seats) (mine.0.1 ∙ sym was.ours.1) worker.seat.known)) in
     let place : c.len.result + 1 ≡ length rest + 1 = search rules in
     let in_range : c.len.result + 1 < length c.workers.pickers = omega (arith, place, last, was.long, c.requires.pickers) in
     let taken : (i : ℕ) (d : Worker) → length rest ≤ i → i < length init → get_or (taken_of c.join.new.seat) (i + 1) None ≡ Some (log_of (get_or init i d).seat) = λ i d late within. ⊎_elim

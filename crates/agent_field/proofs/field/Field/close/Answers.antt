@@ -29,23 +29,14 @@ round_of c =
     let read = c.from_vec.ensures ∙ c.agent_words-words.ensures ∙ ap (λ (n : ℕ). map packed (drop (2 + n) (slots_items c.close_with-closed.result.words))) (sym c.args.self.shards_are) in
     rounds c.args.self.table.shared.key _ s.log.items s.taken.items s.looks.items c.word-count.result c.from_vec.result c.from_vec-2.result e c.word-count.ensures read put
 
-pub returns-clause-words : goal.returns-clause-words
-returns-clause-words c = (round_of c).replayed
-
-pub returns-clause-valid : goal.returns-clause-valid
-returns-clause-valid c = (round_of c).valid
-
-pub returns-clause-history : goal.returns-clause-history
-returns-clause-history c = (round_of c).right
-
-pub returns-clause-own : goal.returns-clause-own
-returns-clause-own c = (round_of c).own_log
-
-pub returns-clause-taken : goal.returns-clause-taken
-returns-clause-taken c = (round_of c).taken_logs
-
-pub returns-clause-others : goal.returns-clause-others
-returns-clause-others c = (round_of c).no_others
-
-pub returns-clause-looks : goal.returns-clause-looks
-returns-clause-looks c = (round_of c).looked
+pub returns : goal.returns
+returns c =
+    let r = round_of c in record {
+      words = r.replayed;
+      valid = r.valid;
+      history = r.right;
+      own = r.own_log;
+      taken = r.taken_logs;
+      others = r.no_others;
+      looks = r.looked;
+    }

@@ -9,7 +9,7 @@ compare_exchange-found-requires g c =
       search rules,
       search rules,
       locks c.args.self.now.table.shared.key _ _ c.loop.token.me c.args.s (c.args.number + 1)
-          (ap (λ (m : Mine). m.0.live) same ∙ c.requires.live)
+          (ap (λ (m : Mine). m.0.live) same ∙ c.requires.usable.live)
           (ap (λ (m : Mine). m.0.number + 1) same ∙ ap (λ (n : ℕ). n + 1) c.requires.number)
           (subst (λ (n : ℕ). c.args.s < n) (sym c.args.self.now.shards_are) c.requires.shard)
           (ap (λ (m : Mine). m.0.due) same ∙ c.requires.due),

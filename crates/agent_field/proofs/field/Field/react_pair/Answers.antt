@@ -1,7 +1,7 @@
 use Rattle.std.proofs.Common.{◌≡◌, ℕ, [], ◌∷◌, ⊎_elim, sym, ap, ◌∙◌, subst}
 use Rattle.pop_net.specs.declared.net.Word.{Word}
 use Rattle.pop_net.specs.NetModel.{NetModel}
-use Rattle.agent_field.specs.declared.view.About.{About}
+use Rattle.agent_field.specs.declared.view.Setup.{Setup}
 use Rattle.agent_field.specs.Steps.{Mine, knowing, writing, IsReaction, IsNewest}
 use Rattle.agent_field.proofs.Drawn.{pair_drawn}
 use Rattle.agent_field.proofs.field.Field.react_pair.Goals as goal
@@ -11,7 +11,7 @@ write-requires-clause-due c =
     let x = c.read-x.result in
     let y = c.read-y.result in
     let r = c.reacted-changed.result in
-    let net = ap (λ (k : About). k.net.value) c.requires.ours ∙ c.args.self.now.net_is in
+    let net = ap (λ (k : Setup). k.net.value) c.requires.usable.ours ∙ c.args.self.now.net_is in
     let reacted = subst (λ (n : NetModel). IsReaction n x y r.0 r.1) (sym net) c.reacted-changed.ensures.reacted in
     let drawn = pair_drawn c.draw-ticket.result c.args.token.now.me c.read-x.new.token.me c.read-y.new.token.me c.draw-ticket.new.token.me c.args.a c.args.b x y r.0 r.1 c.read-x.ensures.known c.read-y.ensures.known c.requires.clear.0 reacted c.draw-ticket.ensures.drawn in (
       (c.args.b, r.1) ∷ [],
@@ -24,7 +24,7 @@ write-requires-2-clause-due c =
     let x = c.read-x.result in
     let y = c.read-y.result in
     let r = c.reacted-changed.result in
-    let net = ap (λ (k : About). k.net.value) c.requires.ours ∙ c.args.self.now.net_is in
+    let net = ap (λ (k : Setup). k.net.value) c.requires.usable.ours ∙ c.args.self.now.net_is in
     let reacted = subst (λ (n : NetModel). IsReaction n x y r.0 r.1) (sym net) c.reacted-changed.ensures.reacted in
     let drawn = pair_drawn c.draw-ticket.result c.args.token.now.me c.read-x.new.token.me c.read-y.new.token.me c.draw-ticket.new.token.me c.args.a c.args.b x y r.0 r.1 c.read-x.ensures.known c.read-y.ensures.known c.requires.clear.0 reacted c.draw-ticket.ensures.drawn in (
       [],

@@ -8,5 +8,5 @@ store-requires c =
     let f = c.args.self.now in (
       search rules,
       search rules,
-      writes_at f.table.shared.key _ _ c.args.token.now.me c.args.a c.args.word _ d.0 (ap (λ (n : ℕ). (2 + n) + c.args.a) (sym f.shards_are)) c.requires.live d.1 d.2,
+      writes_at f.table.shared.key _ _ c.args.token.now.me c.args.a c.args.word _ d.0 (ap (λ (n : ℕ). (2 + n) + c.args.a) (sym f.shards_are)) c.requires.usable.live d.1 d.2,
     )
