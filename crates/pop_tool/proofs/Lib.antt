@@ -8,3 +8,4 @@ mod Spent
 mod RunHeld
 mod CompileHeadline
 mod Headlines
+pub mod Complete

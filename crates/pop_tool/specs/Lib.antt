@@ -6,3 +6,4 @@ pub mod Written
 pub mod OneAnswer
 pub mod Headline
 pub mod ReplayHeld
+pub mod Complete

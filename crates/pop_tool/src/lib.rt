@@ -3,12 +3,14 @@
 //! The layer above uses: what the sink gains and the status are those of an answer of `specs/Answer.antt`.
 #![tactic(auto)]
 
+mod calm;
 mod law;
 mod perform;
 mod prepare;
 mod tool;
 mod write;
 
+pub use calm::run_calm;
 pub use law::{one_answer, replay_holds};
 pub use tool::{is_plain, run_plain, run_tool};
 pub use tool_texts::Status;

@@ -1,0 +1,31 @@
+//! The top call over a source and a sink in memory that never fail.
+
+ghost use Rattle.std.specs.Prelude.{◌≢◌, ◌<◌, ◌≤◌, ◌^◌, length, map, Some};
+ghost use Rattle.tool_texts.specs.declared.output.Output.{Output as Written};
+ghost use Rattle.pop_tool.specs.Plain.{ArePlain};
+ghost use Rattle.pop_tool.specs.Outcome.{IsReply, Outcome};
+ghost use Rattle.pop_tool.specs.Complete.{IsValidInput, IsCarriedOut};
+
+use crate::tool::run_plain;
+use pop_io::{CalmSink, CalmSource, Gate};
+use std::alloc::Global;
+use tool_texts::Status;
+
+/// `run_plain` where nothing can fail but memory: valid input is answered.
+pub fn run_calm<G: Gate>(
+    alloc: Global,
+    words: &[&str],
+    source: &mut CalmSource,
+    sink: &mut CalmSink,
+    gate: &G,
+) -> Status
+    requires few { length words.now < 2 ^ 32 }
+    requires plain { ArePlain (map (λ w. w.now) words.now) }
+    requires room { (output : Written) → IsReply (map (λ w. w.now) words.now) (Some source.old) output
+        → length output.text ≤ sink.old.spare }
+    ensures outcome { Outcome (map (λ w. w.now) words.now) (Some source.old) (Some sink.old.held) (Some sink.new.held) result }
+    ensures calm { (result ≢ Status.ReadFault) × (result ≢ Status.WriteFault) }
+    ensures complete { IsValidInput (map (λ w. w.now) words.now) source.old → IsCarriedOut result }
+{
+    run_plain(alloc, words, source, sink, gate)
+}
