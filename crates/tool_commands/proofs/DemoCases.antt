@@ -32,35 +32,6 @@ each_case : (P : PredTree → Type 0) → ((i : ℕ) → P (threshold i)) → ((
 each_case P first second both either number =
     let i = number / 4 in each_form P (threshold i) (remainder i) (first i) (second i) (both i) (either i) (number % 4)
 
--- the widths
-small_bound : (n : ℕ) → n < 41 → nat_abs (pos n -ℤ pos 20) ≤ 20
-small_bound n few = omega (arith, few)
-
-greater_within : (a b n : ℕ) (c : Bool) → a ≤ n → b ≤ n → (if c then b else a) ≤ n
-greater_within a b n true first second = second
-greater_within a b n false first second = first
-
-narrow : (i : ℕ) → nat_lt WIDTH_LIMIT (width (pos 1 ∷ negsuc 0 ∷ []) (bound i)) ≡ false
-narrow i =
-    let size = nat_abs (bound i) + 1 in
-    let few : size ≤ WIDTH_LIMIT = (let small = small_bound (i % 41) (omega arith) in omega (arith, small)) in
-    let one : 1 ≤ WIDTH_LIMIT = omega arith in
-    le-ltb WIDTH_LIMIT _ (greater_within (greater size 1) 1 WIDTH_LIMIT _ (greater_within size 1 WIDTH_LIMIT _ few one) one)
-
-one_width : (w : ℕ) → nat_lt WIDTH_LIMIT w ≡ false → fault_by (w ∷ []) ≡ None
-one_width w is = rw is refl
-
-two_widths : (w : ℕ) → nat_lt WIDTH_LIMIT w ≡ false → fault_by (w ∷ 0 ∷ []) ≡ None
-two_widths w is = rw is refl
-
-pub no_fault : (number : ℕ) → fault_of (demo_tree number) ≡ None
-no_fault =
-    each_case (λ tree. fault_of tree ≡ None) (λ i. one_width _ (narrow i)) (λ i. refl) (λ i. two_widths _ (narrow i)) (λ i. two_widths _ (narrow i))
-
-pub only_memory : (number : ℕ) (f : CompileFault) → RefusesTree (demo_tree number) f → f ≡ fault.NoMemory
-only_memory number f (inl is) = is
-only_memory number f (inr is) = absurd (let e : None ≡ Some f = sym (no_fault number) ∙ is in cc)
-
 no_helpers : (number : ℕ) → helper_count (demo_net number) ≡ 0
 no_helpers = each_case (λ tree. helper_count (built_net names tree) ≡ 0) (λ i. refl) (λ i. refl) (λ i. refl) (λ i. refl)
 
@@ -69,6 +40,3 @@ some_agents number = omega (arith, no_helpers number)
 
 pub few_agents : (number : ℕ) → input_size (demo_net number) (demo_counts number) ≤ AGENT_LIMIT
 few_agents number = omega (arith, no_helpers number)
-
-pub names_formed : AreNames is_variable_name names
-names_formed = search rules

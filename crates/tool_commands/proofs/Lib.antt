@@ -14,5 +14,6 @@ pub mod OneRun
 pub mod OneReplay
 pub mod Compiled
 pub mod DemoCases
+pub mod Changed
 pub mod OneDemo
 pub mod One

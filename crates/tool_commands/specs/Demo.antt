@@ -1,5 +1,5 @@
 -- What `demo` makes of a number: the summary of a run of its case.
-use Rattle.std.specs.Prelude.{◌≡◌, ℕ, ◌≤◌, List, [], ◌∷◌, ◌++◌, codes, decimal, length, count_by, Option, Result, Ok}
+use Rattle.std.specs.Prelude.{◌≡◌, ℕ, ◌+◌, ◌≤◌, List, [], ◌∷◌, ◌++◌, codes, decimal, length, count_by, Option, Result, Ok}
 use Rattle.pres_ast.specs.PredModel.{PredModel}
 use Rattle.pres_ast.specs.PredicateValue.{predicate_value}
 use Rattle.pres_read.specs.Canonical.{tree_text}
@@ -7,7 +7,7 @@ use Rattle.pop_net.specs.NetModel.{NetModel, CrowdModel}
 use Rattle.pop_net.specs.InputCrowd.{input_crowd}
 use Rattle.pop_crowd.specs.declared.crowd.Meeting.{Meeting}
 use Rattle.pop_words.specs.declared.spec.TheConstants.{DEMO_LIMIT}
-use Rattle.pair_workers.specs.Run.{joined, IsRun}
+use Rattle.pair_workers.specs.Run.{IsRun}
 use Rattle.pop_journal.specs.Journal.{last_line, text_of}
 use Rattle.pop_journal.specs.declared.last.Last.{Last}
 use Rattle.pop_demo.specs.DemoCase.{names, demo_tree, demo_pred, demo_counts, demo_spec}
@@ -29,7 +29,8 @@ demo_start number = input_crowd (demo_net number) (demo_counts number)
 
 -- how many meetings changed a tuple
 abbrev pub changed : List (List Meeting) → ℕ
-changed rounds = count_by (λ m. m.changed) (joined rounds)
+changed [] = 0
+changed (meetings ∷ rounds) = count_by (λ m. m.changed) meetings + changed rounds
 
 abbrev pub summary_lines : ℕ → List (List Meeting) → Last → List (List ℕ)
 summary_lines number rounds last =

@@ -9,7 +9,7 @@ ghost use Rattle.pair_workers.specs.Run.{joined};
 ghost use Rattle.pair_workers.specs.Ends.{IsRunFrom};
 ghost use Rattle.pop_journal.specs.Journal.{text_of};
 ghost use Rattle.pop_demo.specs.DemoCase.{demo_counts, demo_spec};
-ghost use Rattle.tool_commands.specs.Prepared.{LeadsTo};
+ghost use Rattle.tool_commands.specs.Prepared.{LeadsTo, NeedsNoThreads};
 ghost use Rattle.tool_commands.specs.Start.{IsStart};
 ghost use Rattle.tool_commands.specs.Demo.{changed, demo_start, summary_lines, DemoGives, IsCheckedCase, IsDemoOutput, CanDemo};
 
@@ -77,7 +77,8 @@ fn start_case(
 /// What `demo` prepares for a number. It reads nothing.
 pub(crate) fn prepare_demo(alloc: Global, number: u32) -> Result<Prepared, NoMemory>
     requires { number ≤ DEMO_LIMIT }
-    ensures { IfOk result (LeadsTo (λ output. DemoGives number (Ok output))) }
+    ensures leads { IfOk result (LeadsTo (λ output. DemoGives number (Ok output))) }
+    ensures plain { IfOk result NeedsNoThreads }
 {
     let (checked, counts) = checked_case(alloc, number)?;
     let start = start_case(alloc, number, &checked, counts)?;

@@ -1,0 +1,59 @@
+use Rattle.std.proofs.Common.{◌≡◌, ℕ, ◌≤◌, Bool, List, length, ap, sym, subst, ◌∙◌, arith}
+use Rattle.std.proofs.lemmas.List.{length-map}
+use Rattle.pres_ast.specs.PredTree.{PredTree}
+use Rattle.pres_ast.specs.PredModel.{PredModel}
+use Rattle.pres_ast.specs.PredicateValue.{predicate_value}
+use Rattle.pop_net.specs.NetModel.{NetModel, CrowdModel}
+use Rattle.pop_net.specs.Lanes.{crowd_of, tuple_of}
+use Rattle.pop_net.specs.InputCrowd.{input_crowd}
+use Rattle.pop_words.specs.declared.spec.RunSpec.{RunSpec}
+use Rattle.pair_workers.specs.Run.{IsRun}
+use Rattle.pop_journal.specs.Journal.{text_of}
+use Rattle.pop_journal.specs.declared.last.Last.{Last}
+use Rattle.pop_demo.specs.DemoCase.{demo_tree, demo_counts}
+use Rattle.tool_texts.specs.declared.output.Output.{Output}
+use Rattle.tool_texts.specs.declared.output.Ending.{Ending}
+use Rattle.tool_commands.specs.Play.{IsLast}
+use Rattle.tool_commands.specs.Run.{open_pair, journal_end, run_ending}
+use Rattle.tool_commands.specs.Demo.{demo_start, demo_net, summary_lines}
+use Rattle.tool_commands.proofs.InputSize.{length-input_crowd}
+use Rattle.tool_commands.proofs.DemoCases.{some_agents}
+use Rattle.tool_commands.proofs.Changed.{run_small}
+use Rattle.tool_commands.proofs.Ends.{run_last}
+use Rattle.tool_commands.proofs.demo.make_demo.Goals as goal
+
+pub summary_of-requires-clause-agents : goal.summary_of-requires-clause-agents
+summary_of-requires-clause-agents g c =
+    let demo = c.args.demo in
+    let start = c.requires.start.crowd ∙ (λ i. input_crowd (c.requires.checked.net i) (c.requires.counts i)) in
+    c.in_ok-run.ensures.run.agents ∙ sym (length-map demo.start.crowd (tuple_of demo.checked.net)) ∙ ap (length {A = List ℕ}) start
+
+pub summary_of-requires-clause-few : goal.summary_of-requires-clause-few
+summary_of-requires-clause-few g c =
+    let demo = c.args.demo in
+    let run = rw c.net.ensures at c.in_ok-run.ensures.run in
+    let start = c.requires.start.crowd ∙ (λ i. input_crowd (c.requires.checked.net i) (c.requires.counts i)) in
+    let two : 2 ≤ length (crowd_of demo.checked.net demo.start.crowd) = (let long = ap (length {A = List ℕ}) start ∙ length-input_crowd (demo_net demo.number) (demo_counts demo.number) in omega (arith, long, some_agents demo.number)) in
+    run_small demo.checked.net (crowd_of demo.checked.net demo.start.crowd) c.demo_run-spec.result c.in_ok-run.run'.rounds _ two c.demo_run-spec.ensures.limits run.run
+
+pub returns : goal.returns
+returns g c =
+    let demo = c.args.demo in
+    let net = demo.checked.net in
+    let ran = c.in_ok-run.run' in
+    let run = rw c.net.ensures at c.in_ok-run.ensures.run in
+    let is = c.requires.checked.net in
+    let start = c.requires.start.crowd ∙ (λ i. input_crowd (is i) (c.requires.counts i)) in
+    let end = crowd_of net ran.crowd in
+    let truth : predicate_value demo.checked.pred.tree demo.start.counts ≡ predicate_value (demo_tree demo.number) (demo_counts demo.number) = (λ i. predicate_value (c.requires.checked.pred i).tree (c.requires.counts i)) in
+    let last = c.last_and_ending-last.ensures in record {
+      rounds = ran.rounds;
+      end = end;
+      run = subst (λ (t : NetModel × CrowdModel × RunSpec). IsRun t.0 t.1 t.2 ran.rounds end) (λ i. (is i, start i, c.demo_run-spec.ensures.run i)) run.run;
+      pair = open_pair ran.end;
+      last = subst (λ (n : NetModel). IsLast n end (open_pair ran.end)) is (run_last net end c.demo_run-spec.result (length ran.rounds) ran.end run.ends);
+      text = ap (λ (o : Output). o.text) c.new.ensures ∙ c.in_ok-text.ensures
+          ∙ ap (λ (l : Last × Ending). text_of (summary_lines demo.number ran.rounds l.0)) (rw c.as_slice.ensures at last)
+          ∙ ap (λ (b : Bool). text_of (summary_lines demo.number ran.rounds (journal_end b (open_pair ran.end)))) truth;
+      ending = ap (λ (o : Output). o.ending) c.new.ensures ∙ ap (λ (l : Last × Ending). l.1) last;
+    }
