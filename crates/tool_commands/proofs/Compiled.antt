@@ -1,5 +1,5 @@
 -- What the compiler built, as a bundle.
-use Rattle.std.proofs.Common.{◌≡◌, inl, inr, ℕ, List, [], ◌∷◌, map, Bool, false, Option, Some, None, Result, Ok, Err, refl, ap, subst, sym, ◌∙◌, length}
+use Rattle.std.proofs.Common.{◌≡◌, inl, inr, ℕ, List, [], ◌∷◌, map, false, Option, Some, None, Ok, Err, refl, ap, sym, ◌∙◌, length}
 use Rattle.std.specs.Prelude.{All, nat_lt, option_and_then}
 use Rattle.std.proofs.lemmas.List.Elements.{All-weaker}
 use Rattle.pres_ast.specs.PredTree.{PredTree, LessThan, Congruent, Negation, Conjunction, Disjunction}
@@ -10,7 +10,7 @@ use Rattle.cert_base.specs.declared.proof.LeafProof.{LeafProof}
 use Rattle.cert_base.specs.ProofLimits.{IsLeafProofWithin}
 use Rattle.cert_json.specs.declared.bundle.Bundle.{Bundle}
 use Rattle.comp_net.specs.Atoms.{atoms}
-use Rattle.comp_net.specs.BuiltNet.{leaf_of, built_net}
+use Rattle.comp_net.specs.BuiltNet.{leaf_of}
 use Rattle.comp_net.specs.CompileFaults.{fault_of, RefusesTree}
 use Rattle.comp_net.specs.declared.fault.CompileFault.{CompileFault}
 use Rattle.comp_net.specs.declared.fault.CompileFault.TheVariants.{NoMemory}

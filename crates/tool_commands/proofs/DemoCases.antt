@@ -1,20 +1,12 @@
 -- Every demo case has a built net, and starts with a crowd that can be run.
-use Rattle.std.proofs.Common.{◌≡◌, ◌⊎◌, inl, inr, ℕ, ◌+◌, ◌≤◌, ◌<◌, Bool, true, false, List, [], ◌∷◌, Option, Some, None, refl, sym, ap, subst, ◌∙◌, arith, rules, All}
-use Rattle.std.specs.Prelude.{◌≢◌, ◌==◌, ◌%◌, ◌/◌, codes, if◌then◌else◌, nat_lt, nat_abs, pos, negsuc, ◌-ℤ◌, length, sum, AllPairs}
-use Rattle.std.proofs.lemmas.Bool.{le-ltb}
-use Rattle.std.proofs.lemmas.List.Elements.{All-nil, All-cons}
-use Rattle.pop_io.specs.Names.{AreNames, is_variable_name}
+use Rattle.std.proofs.Common.{◌≡◌, ℕ, ◌≤◌, Bool, true, false, refl, arith}
+use Rattle.std.specs.Prelude.{◌==◌, ◌%◌, ◌/◌, if◌then◌else◌}
 use Rattle.pres_ast.specs.PredTree.{PredTree, Negation, Conjunction, Disjunction}
-use Rattle.pop_net.specs.NetModel.{NetModel, helper_count}
+use Rattle.pop_net.specs.NetModel.{helper_count}
 use Rattle.pop_crowd.specs.Crowds.{input_size}
 use Rattle.pop_crowd.specs.declared.limits.TheConstants.{AGENT_LEAST, AGENT_LIMIT}
-use Rattle.comp_threshold_leaf.specs.declared.limits.TheConstants.{WIDTH_LIMIT}
-use Rattle.comp_threshold_leaf.specs.ThresholdLeaf.{width, greater}
 use Rattle.comp_net.specs.BuiltNet.{built_net}
-use Rattle.comp_net.specs.CompileFaults.{fault_by, fault_of, RefusesTree}
-use Rattle.comp_net.specs.declared.fault.CompileFault.{CompileFault}
-use Rattle.comp_net.specs.declared.fault.CompileFault.TheVariants as fault
-use Rattle.pop_demo.specs.DemoCase.{names, bound, threshold, remainder, of_form, demo_tree, demo_counts}
+use Rattle.pop_demo.specs.DemoCase.{names, threshold, remainder, of_form, demo_tree, demo_counts}
 use Rattle.tool_commands.specs.Demo.{demo_net}
 
 -- what holds of the four forms holds of each case

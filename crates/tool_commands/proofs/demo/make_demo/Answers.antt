@@ -1,7 +1,5 @@
 use Rattle.std.proofs.Common.{◌≡◌, ℕ, ◌≤◌, Bool, List, length, ap, sym, subst, ◌∙◌, arith}
 use Rattle.std.proofs.lemmas.List.{length-map}
-use Rattle.pres_ast.specs.PredTree.{PredTree}
-use Rattle.pres_ast.specs.PredModel.{PredModel}
 use Rattle.pres_ast.specs.PredicateValue.{predicate_value}
 use Rattle.pop_net.specs.NetModel.{NetModel, CrowdModel}
 use Rattle.pop_net.specs.Lanes.{crowd_of, tuple_of}
@@ -14,8 +12,8 @@ use Rattle.pop_demo.specs.DemoCase.{demo_tree, demo_counts}
 use Rattle.tool_texts.specs.declared.output.Output.{Output}
 use Rattle.tool_texts.specs.declared.output.Ending.{Ending}
 use Rattle.tool_commands.specs.Play.{IsLast}
-use Rattle.tool_commands.specs.Run.{open_pair, journal_end, run_ending}
-use Rattle.tool_commands.specs.Demo.{demo_start, demo_net, summary_lines}
+use Rattle.tool_commands.specs.Run.{open_pair, journal_end}
+use Rattle.tool_commands.specs.Demo.{demo_net, summary_lines}
 use Rattle.tool_commands.proofs.InputSize.{length-input_crowd}
 use Rattle.tool_commands.proofs.DemoCases.{some_agents}
 use Rattle.tool_commands.proofs.Changed.{run_small}

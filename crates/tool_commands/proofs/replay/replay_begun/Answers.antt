@@ -1,7 +1,6 @@
-use Rattle.std.proofs.Common.{◌≡◌, ℕ, List, Some, None, Result, Ok, refl, sym, ap, subst, ◌∙◌}
+use Rattle.std.proofs.Common.{◌≡◌, Some, None, Result, Ok, refl, ap, subst, ◌∙◌}
 use Rattle.pop_lines.specs.Lines.{lines_of}
 use Rattle.pop_net.specs.NetModel.{NetModel, CrowdModel}
-use Rattle.pop_net.specs.InputCrowd.{input_crowd}
 use Rattle.pop_net.specs.Lanes.{crowd_of}
 use Rattle.pop_checker.specs.CheckedModel.{CheckedModel, IsChecked}
 use Rattle.tool_texts.specs.declared.refusal.Refusal.{Refusal}
