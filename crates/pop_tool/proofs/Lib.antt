@@ -4,7 +4,6 @@ mod One
 mod CheckHeadline
 mod RunHeadline
 mod ReplayHeadline
-mod Spent
 mod RunHeld
 mod CompileHeadline
 mod Headlines

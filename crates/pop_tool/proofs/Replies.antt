@@ -48,15 +48,15 @@ never_short left input is long short =
 
 -- what a command gives that reads nothing doesn't depend on the lines
 unread_given : (command : Command) → reads command ≡ false → (lines others : List (List ℕ)) (given : Result Output Refusal) → CommandGives command lines given → CommandGives command others given
-unread_given Play no lines others given is = absurd cc
-unread_given Eval no lines others given is = absurd cc
-unread_given Check no lines others given is = absurd cc
-unread_given (Run spec) no lines others given is = absurd cc
-unread_given Replay no lines others given is = absurd cc
-unread_given Settle no lines others given is = absurd cc
-unread_given Compile no lines others given is = absurd cc
-unread_given Flocks no lines others given is = absurd cc
-unread_given (Demo number) no lines others given is = is
+unread_given Play unread lines others given is = absurd cc
+unread_given Eval unread lines others given is = absurd cc
+unread_given Check unread lines others given is = absurd cc
+unread_given (Run spec) unread lines others given is = absurd cc
+unread_given Replay unread lines others given is = absurd cc
+unread_given Settle unread lines others given is = absurd cc
+unread_given Compile unread lines others given is = absurd cc
+unread_given Flocks unread lines others given is = absurd cc
+unread_given (Demo number) unread lines others given is = is
 
 read_given : (command : Command) (input : List ℕ) (given : Result Output Refusal) → length input ≤ INPUT_LIMIT → CommandGives command (lines_of input) given → (b : Bool)
     → MatchBool (b && nat_lt INPUT_LIMIT (length input)) (given ≡ Err TooLong) (CommandGives command (lines_of input) given)
@@ -83,9 +83,9 @@ module _ (words : List (List ℕ)) (left rest : Option (List ℕ)) (before after
 
   -- what a command comes to that reads nothing
   pub unread_right : reads command ≡ false → (lines : List (List ℕ)) (output : Output) → IsOfCommand command lines output → IsRightOutput words left rest before after output
-  unread_right no lines output of =
+  unread_right unread lines output of =
       let some = some_input left in
-      given_right some.0 some.1 of.0 output (rw no (unread_given command no lines (lines_of some.0) of.0 of.1)) of.2 (given_ending command lines of.0 of.1) (λ has. absurd (cc (sym (ap meaning_reads means ∙ no) ∙ has)))
+      given_right some.0 some.1 of.0 output (rw unread (unread_given command unread lines (lines_of some.0) of.0 of.1)) of.2 (given_ending command lines of.0 of.1) (λ has. absurd (cc (sym (ap meaning_reads means ∙ unread) ∙ has)))
 
 -- some input that is too long
 pub long_input : (left : Option (List ℕ)) (taken : List ℕ) → INPUT_LIMIT < length taken → IfSome left (λ input. INPUT_LIMIT < length input) → (input : List ℕ) × HasLeft left input × (INPUT_LIMIT < length input)

@@ -53,7 +53,7 @@ use Rattle.pop_tool.specs.Headline.{WasRun, IsHeldInput}
 use Rattle.pop_tool.specs.ReplayHeld.{IsReplayHeld}
 use Rattle.pop_tool.proofs.RunHeadline.{IsMade, run_made}
 use Rattle.pop_tool.proofs.ReplayHeadline.{held_given}
-use Rattle.pop_tool.proofs.Spent.{run_spent}
+use Rattle.pop_words.proofs.Spent.{run_spent}
 
 all_unbroken : (line : List ℕ) → All (λ b. b ≢ 10) line → IsUnbroken line
 all_unbroken [] all = refl

@@ -3,3 +3,4 @@ pub mod NameLists
 pub mod Once
 pub mod Firsts
 pub mod Limits
+pub mod Spent
