@@ -5,3 +5,7 @@
 
 #[cfg(test)]
 mod journals;
+#[cfg(test)]
+mod reads;
+#[cfg(test)]
+mod verdicts;

@@ -10,6 +10,7 @@ pub mod RoundAt
 pub mod Verdicts
 pub mod FormLaws
 pub mod ReadBack
+pub mod Leading
 pub mod OneSpelling
 pub mod RunLine
 pub mod Feeds

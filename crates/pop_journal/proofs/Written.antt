@@ -8,22 +8,22 @@ use Rattle.pop_lines.specs.Lines.{lines_of, ended}
 use Rattle.pop_net.specs.NetModel.{NetModel, CrowdModel}
 use Rattle.pop_crowd.specs.declared.limits.TheConstants.{AGENT_LIMIT}
 use Rattle.pop_crowd.specs.declared.crowd.Meeting.{Meeting}
-use Rattle.pop_crowd.specs.Replay.{IsMeeting, AreMeetings, replay}
+use Rattle.pop_crowd.specs.Replay.{IsMeeting}
 use Rattle.pop_crowd.specs.Tally.{crowd_lines}
 use Rattle.pop_words.specs.declared.spec.TheConstants.{MEETING_LIMIT}
 use Rattle.pop_words.specs.declared.spec.RunSpec.{RunSpec}
 use Rattle.pop_words.specs.Options.{IsWithinLimits}
-use Rattle.pair_workers.specs.Run.{turns_in, joined, IsRound, IsRun}
+use Rattle.pair_workers.specs.Run.{joined, IsRound, IsRun}
 use Rattle.pair_workers.proofs.AllMeet.{joined_below, all_run_meets}
 use Rattle.pop_journal.specs.declared.journal.Journal.{Journal}
 use Rattle.pop_journal.specs.Journal.{run_line, round_lines, run_lines, last_line, text_of, journal_text}
 use Rattle.pop_journal.specs.Rounds.{AreRounds}
 use Rattle.pop_journal.specs.Ending.{ending_of}
-use Rattle.pop_journal.specs.Expected.{tail_text, Holds}
+use Rattle.pop_journal.specs.Expected.{tail_text}
 use Rattle.pop_journal.specs.Form.{spec_in, Reading, Parts, Out, lines_read, under, with_spec, journal_in}
 use Rattle.pop_journal.specs.declared.fault.JournalFault.{JournalFault}
 use Rattle.pop_journal.specs.ReadLines.{ReadsJournal}
-use Rattle.pop_journal.specs.Laws.{text_held, IsOneSpelling, IsReadBack, IsWrittenHeld}
+use Rattle.pop_journal.specs.Laws.{IsOneSpelling, IsReadBack, IsWrittenHeld}
 use Rattle.pop_journal.proofs.Spelled.{IsSmall}
 use Rattle.pop_journal.proofs.Counts.{round_bound}
 use Rattle.pop_journal.proofs.FormLaws.{read_spelled}

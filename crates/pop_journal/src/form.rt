@@ -8,14 +8,30 @@ ghost use Rattle.pop_words.specs.Options.{IsWithinLimits};
 ghost use Rattle.std.specs.Option.{option_copied};
 
 use crate::fault::JournalWhy;
+use crate::short::short_meeting;
 use pop_crowd::Meeting;
 use pop_io::{SHARD_LIMIT, WORKER_LIMIT};
 use pop_lines::{cut, printed_number, printed_within};
 use pop_words::{MEETING_LIMIT, RunSpec, SEED_LIMIT, TURN_LIMIT};
 
 /// The worker, the two agents and the mark of a meeting line, before they are looked at.
-#[tactic(auto, using(crate::proofs::FormLaws::told_five), unfolding(crate::specs::Form::told_in))]
 pub(crate) fn told(line: &[u8]) -> Option<(u128, u128, u128, bool)>
+    ensures { result ≡ told_in line.now }
+{
+    match short_meeting(line) {
+        Some((worker, first, second, mark)) => Some((
+            u128::from(worker),
+            u128::from(first),
+            u128::from(second),
+            mark,
+        )),
+        None => long_told(line),
+    }
+}
+
+/// The same of numbers of any length.
+#[tactic(auto, using(crate::proofs::FormLaws::told_five), unfolding(crate::specs::Form::told_in))]
+fn long_told(line: &[u8]) -> Option<(u128, u128, u128, bool)>
     ensures { result ≡ told_in line.now }
 {
     let (worker, rest) = cut(line, b' ');

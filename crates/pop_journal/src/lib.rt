@@ -10,6 +10,7 @@ mod last;
 mod law;
 mod read;
 mod replayer;
+mod short;
 mod verdict;
 mod write;
 

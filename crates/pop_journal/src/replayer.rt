@@ -12,6 +12,7 @@ ghost use Rattle.pop_journal.specs.Ending.{is_terminal, ending_of, ending_for, i
 ghost use Rattle.pop_journal.specs.Expected.{next_meeting, meetings_compared, tail_compared};
 ghost use Rattle.pop_journal.specs.Standing.{IsReplaying, Passes};
 ghost use Rattle.pop_journal.specs.declared.fault.VerifyFault.TheVariants.{Differs};
+ghost use Rattle.terminal_test.specs.TableNet.{net_of};
 
 use crate::fault::VerifyFault;
 use crate::last::Last;
@@ -23,7 +24,7 @@ use pop_lines::{next_line, push_number};
 use pop_net::Net;
 use pop_words::RunSpec;
 use std::alloc::{AllocError, Global};
-use terminal_test::{agreed, enabled_pair};
+use terminal_test::{PairTable, agreed};
 
 /// A crowd in the middle of a journal, and each worker before its next pick.
 #[derive(Debug, Drop)]
@@ -82,6 +83,7 @@ impl Replayer {
     ghost use Rattle.pop_crowd.specs.Replay.{replay};
     ghost use Rattle.pop_journal.specs.Expected.{next_meeting, meetings_compared, tail_compared, both, line_between, tail_text as whole_tail};
     ghost use Rattle.pop_journal.specs.Standing.{IsReplaying, Passes};
+    ghost use Rattle.terminal_test.specs.TableNet.{net_of};
 
     /// The next meeting of a worker.
     fn meet_next(&mut self, net: &Net, worker: u16) -> Meeting
@@ -136,10 +138,12 @@ impl Replayer {
         &mut self,
         alloc: Global,
         net: &Net,
+        table: &PairTable,
         round: u64,
         meetings: &[Meeting],
         line: u64,
     ) -> Result<(), VerifyFault>
+        requires table { net_of table.now ≡ net.now }
         requires valid { AreValid net.now self.old.crowd }
         requires meetings { AreMeetings (length self.old.crowd) meetings.now }
         requires workers { All (λ m. m.worker < length self.old.pickers.items) meetings.now }
@@ -152,7 +156,7 @@ impl Replayer {
         ensures agents { length self.new.crowd ≡ length self.old.crowd }
         ensures workers { length self.new.pickers.items ≡ length self.old.pickers.items }
     {
-        if is_quiet(alloc, net, &self.crowd)? {
+        if is_quiet(alloc, table, &self.crowd)? {
             return Err(round_for_end(alloc, line, round)?);
         }
         self.compare_meetings(alloc, net, meetings, line + 1)
@@ -163,18 +167,20 @@ impl Replayer {
         &self,
         alloc: Global,
         net: &Net,
+        table: &PairTable,
         spec: &RunSpec,
         round: u64,
         tail: &[List<u8>],
         line: u64,
     ) -> Result<(), VerifyFault>
+        requires table { net_of table.now ≡ net.now }
         requires valid { AreValid net.now self.now.crowd }
         requires round { (1 ≤ round) × (round ≤ 1000) }
         requires line { line + 1 + length tail.now < 2 ^ 64 }
         ensures { (start : CrowdModel) (before : List Meeting) → IsReplaying net.now start spec.now before self.now
             → Passes line (both (codes "end") (line_between net.now start spec.now before round) ∷ tail_compared tail.now (lines_of (whole_tail net.now (replay net.now before start)))) result }
     {
-        let last = ending(alloc, net, &self.crowd)?;
+        let last = ending(alloc, net, table, &self.crowd)?;
         if is_undecided(last) && ROUND_TURNS * (round - 1) < spec.turns {
             return Err(end_for_round(alloc, line, round)?);
         }
@@ -203,20 +209,21 @@ fn tail_text(alloc: Global, net: &Net, crowd: &Crowd, last: Last) -> Result<Vec<
 }
 
 /// Whether a crowd is terminal.
-fn is_quiet(alloc: Global, net: &Net, crowd: &Crowd) -> Result<bool, NoMemory>
-    requires { AreValid net.now crowd.now }
-    ensures { IfOk result (λ quiet. quiet ≡ is_terminal net.now (crowd_of net.now crowd.now)) }
+fn is_quiet(alloc: Global, table: &PairTable, crowd: &Crowd) -> Result<bool, NoMemory>
+    requires { AreValid (net_of table.now) crowd.now }
+    ensures { IfOk result (λ quiet. quiet ≡ is_terminal (net_of table.now) (crowd_of (net_of table.now) crowd.now)) }
 {
-    let found = enabled_pair(alloc, net, crowd)?;
+    let found = table.enabled_pair(alloc, crowd)?;
     Ok(found.is_none())
 }
 
 /// The last line for a crowd.
-fn ending(alloc: Global, net: &Net, crowd: &Crowd) -> Result<Last, NoMemory>
-    requires { AreValid net.now crowd.now }
+fn ending(alloc: Global, net: &Net, table: &PairTable, crowd: &Crowd) -> Result<Last, NoMemory>
+    requires table { net_of table.now ≡ net.now }
+    requires valid { AreValid net.now crowd.now }
     ensures { IfOk result (λ last. last ≡ ending_of net.now (crowd_of net.now crowd.now)) }
 {
-    let found = enabled_pair(alloc, net, crowd)?;
+    let found = table.enabled_pair(alloc, crowd)?;
     let _ = crowd.len();
     Ok(last_for(found, agreed(net, crowd)))
 }

@@ -18,6 +18,7 @@ use pop_crowd::{AGENT_LEAST, AGENT_LIMIT, Crowd};
 use pop_net::Net;
 use pop_words::{RunSpec, SEED_LIMIT};
 use std::alloc::{AllocError, Global};
+use terminal_test::PairTable;
 
 /// The pickers of all workers, of which none has made a pick.
 fn first_pickers(alloc: Global, spec: &RunSpec) -> Result<Vec<Picker>, AllocError>
@@ -61,18 +62,19 @@ fn compare(alloc: Global, net: &Net, crowd: Crowd, journal: &Journal) -> Result<
     ensures meetings { IfOk result (λ k. k ≡ length (joined journal.now.rounds)) }
     ensures agents { (AGENT_LEAST ≤ length crowd) × (length crowd ≤ AGENT_LIMIT) }
 {
+    let table = PairTable::new(alloc, net)?;
     let mut replayer = first_replayer(alloc, net, crowd, &journal.spec)?;
     let mut line = journal.first + 1;
     let mut total = 0u64;
     for (k, meetings) in journal.rounds.as_slice().iter().enumerate() {
         let meetings = meetings.as_slice();
-        replayer.compare_round(alloc, net, k as u64 + 1, meetings, line)?;
+        replayer.compare_round(alloc, net, &table, k as u64 + 1, meetings, line)?;
         line += 1 + meetings.len() as u64;
         total += meetings.len() as u64;
     }
     let round = journal.rounds.as_slice().len() as u64 + 1;
     let tail = journal.tail.as_slice();
-    replayer.compare_end(alloc, net, &journal.spec, round, tail, line)?;
+    replayer.compare_end(alloc, net, &table, &journal.spec, round, tail, line)?;
     Ok(total)
 }
 

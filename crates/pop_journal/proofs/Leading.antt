@@ -1,0 +1,109 @@
+-- Meeting lines of short numbers.
+use Rattle.std.proofs.Common.{◌≡◌, ◌≢◌, ◌⊎◌, inl, inr, ℕ, ◌+◌, ◌-◌, ◌*◌, ◌^◌, ◌<◌, ◌≤◌, Bool, List, [], ◌∷◌, ◌++◌, length, codes, decimal, take, drop, get_or, Some, refl, sym, ap, subst, ◌∙◌, arith, if◌then◌else◌, pow-add}
+use Rattle.std.specs.Char.{digit_value}
+use Rattle.std.specs.Int.{IsInRange}
+use Rattle.std.specs.Str.Parse.{digits_value}
+use Rattle.std.proofs.Math.Nat.{pow-le-pow_right}
+use Rattle.std.proofs.lemmas.Bool.{cases_eq}
+use Rattle.std.proofs.lemmas.List.{take-append-drop, get_or-take, length-take-le}
+use Rattle.std.proofs.lemmas.Fmt.{decimal-digits_value}
+use Rattle.std.proofs.lemmas.Str.{digit_value_digit}
+use Rattle.std.proofs.lemmas.Str.Parse.{IsNumeralModel, numerals_by_value, tells_by_index}
+use Rattle.std.proofs.lemmas.Int.Digits.{digits_value_more}
+use Rattle.pop_crowd.specs.declared.crowd.Meeting.{Meeting}
+use Rattle.pop_journal.specs.Form.{told_in}
+use Rattle.pop_journal.proofs.Spelled.{joined_right}
+use Rattle.pop_journal.proofs.ReadBack.{told_back}
+
+abbrev AreDigits : List ℕ → Type 0
+AreDigits ds = (k : ℕ) → k < length ds → IsInRange 48 57 (get_or ds k 0)
+
+own : IsNumeralModel AreDigits (digits_value 10)
+own = numerals_by_value AreDigits tells_by_index
+
+-- the first i bytes are digits without a leading zero, and have this value
+pub record IsLead (text : List ℕ) (i value : ℕ) : Type 0 where
+  pub value_is : digits_value 10 (take i text) ≡ value
+  pub digits : (k : ℕ) → k < i → IsInRange 48 57 (get_or text k 0)
+  pub below : value < 10 ^ i
+  pub few : i ≤ 9
+  pub lead : 2 ≤ i → get_or text 0 0 ≢ 48
+
+-- before the first digit
+pub lead_none : (text : List ℕ) → IsLead text 0 0
+lead_none text =
+    record { value_is = refl; digits = λ k l. absurd (omega (arith, l)); below = omega arith; few = omega arith; lead = λ two. absurd (omega (arith, two)) }
+
+-- one more digit stays below the next power
+digit_more : (value digit i : ℕ) → value < 10 ^ i → digit < 10 → value * 10 + digit < 10 ^ (i + 1)
+digit_more value digit i h small = omega (arith, pow-add 10 i 1)
+
+pub below_top : (value digit i : ℕ) → value < 10 ^ i → digit < 10 → i < 9 → value * 10 + digit < 2 ^ 32
+below_top value digit i h small few =
+    let top : 10 ^ (i + 1) ≤ 10 ^ 9 = pow-le-pow_right {n = 10} (omega arith) {j = 9} (omega (arith, few)) in
+    omega (arith, digit_more value digit i h small, top)
+
+-- at most nine digits
+pub below_all : (text : List ℕ) (i value : ℕ) → IsLead text i value → value < 2 ^ 64
+below_all text i value h =
+    let top : 10 ^ i ≤ 10 ^ 9 = pow-le-pow_right {n = 10} (omega arith) {j = 9} h.few in
+    let below = h.below in
+    omega (arith, below, top)
+
+first_zero : (text : List ℕ) (value : ℕ) → 0 < length text → digits_value 10 (take 1 text) ≡ value → get_or text 0 0 ≡ 48 → value ≡ 0
+first_zero [] value some is e = absurd (omega (arith, some))
+first_zero (x ∷ xs) value some is e =
+    let one : 0 * 10 + digit_value x ≡ value = is in
+    let zero_digit : digit_value x ≡ digit_value 48 = ap digit_value e in
+    let of_zero : digit_value 48 + 48 ≡ 48 = digit_value_digit 48 (omega arith, omega arith) in
+    omega (arith, one, zero_digit, of_zero)
+
+-- one digit more
+pub lead_more : (text : List ℕ) (i value c : ℕ) → IsLead text i value → i < length text → get_or text i 0 ≡ c → IsInRange 48 57 c → i ≢ 9 → (i ≡ 1 → value ≢ 0) → IsLead text (i + 1) (value * 10 + (c - 48))
+lead_more text i value c h within at digit short no_zero =
+    record {
+      value_is = digits_value_more 10 text i within ∙ (λ j. h.value_is j * 10 + last j);
+      digits = λ k l. by_place k l (cases_eq k i);
+      below = digit_more value (c - 48) i h.below (omega (arith, digit.0, digit.1));
+      few = omega (arith, h.few, short);
+      lead = λ two e. by_first two e (cases_eq i 1);
+    }
+  where
+    last : digit_value (get_or text i 0) ≡ c - 48
+    last = ap digit_value at ∙ (let v = digit_value_digit c digit in omega (arith, v))
+
+    by_place : (k : ℕ) → k < i + 1 → (k ≡ i) ⊎ (k ≢ i) → IsInRange 48 57 (get_or text k 0)
+    by_place k l (inl same) = subst (IsInRange 48 57) (sym at ∙ ap (λ (j : ℕ). get_or text j 0) (sym same)) digit
+    by_place k l (inr other) = h.digits k (omega (arith, l, other))
+
+    by_first : 2 ≤ i + 1 → get_or text 0 0 ≡ 48 → (i ≡ 1) ⊎ (i ≢ 1) → ⊥
+    by_first two e (inl one) = no_zero one (first_zero text value (omega (arith, within)) (subst (λ (j : ℕ). digits_value 10 (take j text) ≡ value) one h.value_is) e)
+    by_first two e (inr other) = h.lead (omega (arith, two, other)) e
+
+-- a text that begins with a number
+pub lead_number : (text : List ℕ) (i value : ℕ) → IsLead text i value → 0 < i → i ≤ length text → value < 2 ^ 64 → text ≡ decimal value ++ drop i text
+lead_number text i value h some within small =
+    let long : length (take i text) ≡ i = length-take-le i text within in
+    let digits : AreDigits (take i text) = λ k l. let m : k < i = omega (arith, l, long) in subst (IsInRange 48 57) (sym (get_or-take i text k 0 m)) (h.digits k m) in
+    let alone : get_or (take i text) 0 0 ≡ 48 → length (take i text) ≡ 1 =
+    λ e. let first : get_or text 0 0 ≡ 48 = sym (get_or-take i text 0 0 some) ∙ e in let not_two : 2 ≤ i → ⊥ = λ two. h.lead two first in omega (arith, long, some, not_two) in
+    let fits : digits_value 10 (take i text) < 2 ^ 64 = subst (λ (v : ℕ). v < 2 ^ 64) (sym h.value_is) small in
+    let told : decimal (digits_value 10 (take i text)) ≡ take i text = decimal-digits_value own (take i text) digits (omega (arith, long, some)) alone fits in
+    sym (take-append-drop i text) ∙ ap (λ (l : List ℕ). l ++ drop i text) (sym told ∙ ap decimal h.value_is)
+
+pub wider : (n : ℕ) → n < 2 ^ 32 → n < 2 ^ 64
+wider n h = omega (arith, h)
+
+-- a line of three numbers and a mark
+pub short_told : (line r s t u v : List ℕ) (w a b : ℕ) (mark : Bool) → line ≡ decimal w ++ r → r ≡ 32 ∷ s → s ≡ decimal a ++ t → t ≡ 32 ∷ u → u ≡ decimal b ++ v
+    → v ≡ (if mark then codes " *" else []) → w < 2 ^ 64 → a < 2 ^ 64 → b < 2 ^ 64 → told_in line ≡ Some (w, a, b, mark)
+short_told line r s t u v w a b mark e f g h k l lw la lb =
+    let m : Meeting = record { worker = w; a = a; b = b; changed = mark } in
+    let spelled : line ≡ decimal w ++ 32 ∷ (decimal a ++ 32 ∷ (decimal b ++ (if mark then codes " *" else []))) =
+    e
+    ∙ ap (λ (x : List ℕ). decimal w ++ x) f
+    ∙ ap (λ (x : List ℕ). decimal w ++ 32 ∷ x) g
+    ∙ ap (λ (x : List ℕ). decimal w ++ 32 ∷ (decimal a ++ x)) h
+    ∙ ap (λ (x : List ℕ). decimal w ++ 32 ∷ (decimal a ++ 32 ∷ x)) k
+    ∙ ap (λ (x : List ℕ). decimal w ++ 32 ∷ (decimal a ++ 32 ∷ (decimal b ++ x))) l in
+    ap told_in (spelled ∙ sym (joined_right m)) ∙ told_back m (record { worker = lw; a = la; b = lb })
