@@ -1,6 +1,8 @@
 # The command lines of the README's tour, one a line, from the top of the repository. bin/gallery runs them.
 printf 'vars x y\nx - y < 3 || x + y = 1 mod 2\n' | bin/pop compile | bin/pop check
 (printf 'vars x y\nx - y < 3 || x + y = 1 mod 2\n' | bin/pop compile; echo 'crowd x=12 y=7') | bin/pop run | tail -n 1
+printf 'vars x\nx >= 1024\n' | bin/pop compile
+printf 'vars x\nx >= 1024\n' | bin/pop compile --flocks | bin/pop check
 bin/pop check < examples/majority/bundle.json
 cat examples/majority/bundle.json examples/majority/crowd.txt | bin/pop run | tail -n 1
 bin/pop play < examples/majority/play.txt

@@ -1,6 +1,6 @@
 -- The built net is a net, and its proof is valid.
 use Rattle.std.proofs.Common.{◌≡◌, inl, inr, true, false, subst, ℕ, zero, suc, ◌+◌, ◌≤◌, List, [], ◌∷◌, length, map, get_or, refl, ap, sym, ◌∙◌, zero-add, arith}
-use Rattle.std.specs.Prelude.{pos, Some, None, IsSomeAnd, All, AllPairs, slice_get}
+use Rattle.std.specs.Prelude.{ℤ, pos, Option, Some, None, IsSomeAnd, All, AllPairs, slice_get}
 use Rattle.std.proofs.lemmas.Bool.{le-ltb, cases_lt, false≢true}
 use Rattle.std.proofs.lemmas.List.{length-map}
 use Rattle.std.proofs.lemmas.List.Folds.{list_any_none}
@@ -24,40 +24,66 @@ use Rattle.comp_threshold_leaf.proofs.Single.{moves-single as threshold_single}
 use Rattle.comp_remainder_leaf.specs.RemainderLeaf.{name_of as remainder_name}
 use Rattle.comp_remainder_leaf.proofs.Formed.{remainder-formed}
 use Rattle.comp_remainder_leaf.proofs.SingleMoves.{moves-single as remainder_single}
+use Rattle.comp_threshold_leaf.specs.declared.limits.TheConstants.{WIDTH_LIMIT}
+use Rattle.comp_flock_leaf.specs.FlockLeaf.{start_of, name_of as flock_name}
+use Rattle.comp_flock_leaf.proofs.Formed.{flock-formed}
+use Rattle.comp_flock_leaf.proofs.SingleMoves.{moves-single as flock_single}
+use Rattle.comp_flock_leaf.proofs.PowerFound.{IsPower, power_is}
+use Rattle.comp_net.specs.declared.choice.LeafChoice.{LeafChoice}
+use Rattle.comp_net.specs.declared.choice.LeafChoice.TheVariants.{Plain, Flocks}
 use Rattle.comp_net.specs.declared.limits.TheConstants.{NARROW_WIDTH_LIMIT}
-use Rattle.comp_net.specs.Atoms.{atoms, postfix, AreBuildable}
-use Rattle.comp_net.specs.BuiltNet.{leaf_of, built_net, AreAtomProofs}
-use Rattle.comp_net.specs.CompileFaults.{width_of, fault_of}
+use Rattle.comp_net.specs.Atoms.{atoms, postfix, flock_in, less_width, width_of, IsSum, AreBuildable}
+use Rattle.comp_net.specs.BuiltNet.{less_leaf, leaf_of, net_with, AreAtomProofs}
+use Rattle.comp_net.specs.CompileFaults.{fault_with}
 use Rattle.comp_net.proofs.Postfix.{value_at, combined-postfix, tree-again, depth-most, items-most, some_atom, names-below}
 use Rattle.comp_net.proofs.Narrow.{KeepsWidths, keeps_widths, buildable}
 
 -- ---- all atoms
 
--- the leaf of an atom
-pub record IsBuilt (n : ℕ) (atom : PredTree) : Type 0 where
-  pub formed : IsLeaf (leaf_of atom)
-  pub inputs : length (leaf_of atom).inputs ≡ n
-  pub helpers : (leaf_of atom).helpers ≡ []
-  pub narrow : width_of atom ≤ NARROW_WIDTH_LIMIT → is_wide_leaf (leaf_of atom) ≡ false
-  pub single : AllPairs Differ (leaf_of atom).moves
+-- the leaf of an atom with this width
+pub record IsBuiltLeaf (n w : ℕ) (leaf : LeafModel) : Type 0 where
+  pub formed : IsLeaf leaf
+  pub inputs : length leaf.inputs ≡ n
+  pub helpers : leaf.helpers ≡ []
+  pub narrow : w ≤ NARROW_WIDTH_LIMIT → is_wide_leaf leaf ≡ false
+  pub single : AllPairs Differ leaf.moves
 
-pub all_built : (n : ℕ) (tree : PredTree) → HasAtoms n tree → AreBuildable tree → All (IsBuilt n) (atoms tree)
-all_built n (LessThan coefs bound) has can =
-    let long = has.0.0 in
-    All-cons (IsBuilt n) (LessThan coefs bound) []
-    (subst (λ k. IsBuilt k (LessThan coefs bound)) long
-    (record {
-      formed = threshold-formed coefs bound can.0.0 can.0.1 can.2;
-      inputs = length-map coefs (place (width coefs bound));
+abbrev IsBuilt : LeafChoice → ℕ → PredTree → Type 0
+IsBuilt choice n atom = IsBuiltLeaf n (width_of choice atom) (leaf_of choice atom)
+
+-- a flock atom that has the leaf of a flock
+pub flock_found : (choice : LeafChoice) (coefs : List ℤ) (bound : ℤ) (k : ℕ) → flock_in choice coefs bound ≡ Some k → IsPower coefs bound k
+flock_found Plain coefs bound k e = cc
+flock_found Flocks coefs bound k e = power_is coefs bound k e
+
+less_built : (choice : LeafChoice) (coefs : List ℤ) (bound : ℤ) (o : Option ℕ) → flock_in choice coefs bound ≡ o → IsSum coefs → less_width coefs bound o ≤ WIDTH_LIMIT → IsBuiltLeaf (length coefs) (less_width coefs bound o) (less_leaf coefs bound o)
+less_built choice coefs bound None e sum few = record {
+  formed = threshold-formed coefs bound sum.0 sum.1 few;
+  inputs = length-map coefs (place (width coefs bound));
+  helpers = refl;
+  narrow = λ l. le-ltb NARROW_STATE_LIMIT _ (omega (arith, length-map-range_with_len (name_of (width coefs bound)) 0 (state_count (width coefs bound)), l));
+  single = threshold_single (width coefs bound) (place (width coefs bound) bound);
+}
+less_built choice coefs bound (Some k) e sum few =
+    let is = flock_found choice coefs bound k e in
+    record {
+      formed = flock-formed coefs k sum.0 sum.1 is.low is.high;
+      inputs = length-map coefs start_of;
       helpers = refl;
-      narrow = λ l. le-ltb NARROW_STATE_LIMIT _ (omega (arith, length-map-range_with_len (name_of (width coefs bound)) 0 (state_count (width coefs bound)), l));
-      single = threshold_single (width coefs bound) (place (width coefs bound) bound);
-    }))
-    (All-nil (IsBuilt n))
-all_built n (Congruent coefs m rest) has can =
+      narrow = λ l. le-ltb NARROW_STATE_LIMIT _ (let high = is.high in omega (arith, length-map-range_with_len flock_name 0 (k + 2), high));
+      single = flock_single k;
+    }
+
+pub all_built : (choice : LeafChoice) (n : ℕ) (tree : PredTree) → HasAtoms n tree → AreBuildable choice tree → All (IsBuilt choice n) (atoms tree)
+all_built choice n (LessThan coefs bound) has can =
     let long = has.0.0 in
-    All-cons (IsBuilt n) (Congruent coefs m rest) []
-    (subst (λ k. IsBuilt k (Congruent coefs m rest)) long
+    All-cons (IsBuilt choice n) (LessThan coefs bound) []
+    (subst (λ m. IsBuilt choice m (LessThan coefs bound)) long (less_built choice coefs bound (flock_in choice coefs bound) refl can.0 can.2))
+    (All-nil (IsBuilt choice n))
+all_built choice n (Congruent coefs m rest) has can =
+    let long = has.0.0 in
+    All-cons (IsBuilt choice n) (Congruent coefs m rest) []
+    (subst (λ k. IsBuilt choice k (Congruent coefs m rest)) long
     (record {
       formed = remainder-formed coefs m rest can.0.0 can.0.1 (let low = can.1 in omega arith) can.2;
       inputs = length-map coefs _;
@@ -65,106 +91,106 @@ all_built n (Congruent coefs m rest) has can =
       narrow = λ l. le-ltb NARROW_STATE_LIMIT _ (let high = can.2 in omega (arith, length-map-range_with_len (remainder_name m) 0 (m + 2), high));
       single = remainder_single m rest;
     }))
-    (All-nil (IsBuilt n))
-all_built n (Negation p) has can = all_built n p has can
-all_built n (Conjunction p q) has can = All-append (IsBuilt n) (atoms p) (atoms q) (all_built n p has.0 can.0) (all_built n q has.1 can.1)
-all_built n (Disjunction p q) has can = All-append (IsBuilt n) (atoms p) (atoms q) (all_built n p has.0 can.0) (all_built n q has.1 can.1)
+    (All-nil (IsBuilt choice n))
+all_built choice n (Negation p) has can = all_built choice n p has can
+all_built choice n (Conjunction p q) has can = All-append (IsBuilt choice n) (atoms p) (atoms q) (all_built choice n p has.0 can.0) (all_built choice n q has.1 can.1)
+all_built choice n (Disjunction p q) has can = All-append (IsBuilt choice n) (atoms p) (atoms q) (all_built choice n p has.0 can.0) (all_built choice n q has.1 can.1)
 
-pub pred_buildable : (n : ℕ) (tree : PredTree) → IsPred n tree → fault_of tree ≡ None → AreBuildable tree
-pred_buildable n tree is none = buildable n tree is.some_variable is.variables is.atoms (keeps_widths tree none).narrow
+pub pred_buildable : (choice : LeafChoice) (n : ℕ) (tree : PredTree) → IsPred n tree → fault_with choice tree ≡ None → AreBuildable choice tree
+pred_buildable choice n tree is none = buildable choice n tree is.some_variable is.variables is.atoms (keeps_widths choice tree none).narrow
 
-pub pred_built : (n : ℕ) (tree : PredTree) → IsPred n tree → fault_of tree ≡ None → All (IsBuilt n) (atoms tree)
-pred_built n tree is none = all_built n tree is.atoms (pred_buildable n tree is none)
+pub pred_built : (choice : LeafChoice) (n : ℕ) (tree : PredTree) → IsPred n tree → fault_with choice tree ≡ None → All (IsBuilt choice n) (atoms tree)
+pred_built choice n tree is none = all_built choice n tree is.atoms (pred_buildable choice n tree is none)
 
 -- ---- the whole proof
 
-parts-long : (xs : List PredTree) (parts : List LeafProof) → AreAtomProofs xs parts → length parts ≡ length xs
-parts-long [] [] h = refl
-parts-long [] (part ∷ parts) h = absurd h
-parts-long (a ∷ xs) [] h = absurd h
-parts-long (a ∷ xs) (part ∷ parts) h = ap suc (parts-long xs parts h.1)
+parts-long : (choice : LeafChoice) (xs : List PredTree) (parts : List LeafProof) → AreAtomProofs choice xs parts → length parts ≡ length xs
+parts-long choice [] [] h = refl
+parts-long choice [] (part ∷ parts) h = absurd h
+parts-long choice (a ∷ xs) [] h = absurd h
+parts-long choice (a ∷ xs) (part ∷ parts) h = ap suc (parts-long choice xs parts h.1)
 
-parts-trees : (xs : List PredTree) (parts : List LeafProof) → AreAtomProofs xs parts → map (λ (part : LeafProof). part.pred.tree) parts ≡ xs
-parts-trees [] [] h = refl
-parts-trees [] (part ∷ parts) h = absurd h
-parts-trees (a ∷ xs) [] h = absurd h
-parts-trees (a ∷ xs) (part ∷ parts) h = ap (λ t. t ∷ map (λ (part : LeafProof). part.pred.tree) parts) h.0.tree_is ∙ ap (λ ts. a ∷ ts) (parts-trees xs parts h.1)
+parts-trees : (choice : LeafChoice) (xs : List PredTree) (parts : List LeafProof) → AreAtomProofs choice xs parts → map (λ (part : LeafProof). part.pred.tree) parts ≡ xs
+parts-trees choice [] [] h = refl
+parts-trees choice [] (part ∷ parts) h = absurd h
+parts-trees choice (a ∷ xs) [] h = absurd h
+parts-trees choice (a ∷ xs) (part ∷ parts) h = ap (λ t. t ∷ map (λ (part : LeafProof). part.pred.tree) parts) h.0.tree_is ∙ ap (λ ts. a ∷ ts) (parts-trees choice xs parts h.1)
 
 both_some : {A : Type 0} {x y : A} → Some x ≡ Some y → x ≡ y
 both_some e = cc
 
-parts-valid : (xs : List PredTree) (parts : List LeafProof) → AreAtomProofs xs parts → (i : ℕ) (leaf : LeafModel) (part : LeafProof) → slice_get (map leaf_of xs) i ≡ Some leaf → slice_get parts i ≡ Some part → ValidLeafProof leaf part
-parts-valid [] [] h i leaf part e f = cc
-parts-valid [] (p ∷ parts) h i leaf part e f = absurd h
-parts-valid (a ∷ xs) [] h i leaf part e f = absurd h
-parts-valid (a ∷ xs) (p ∷ parts) h zero leaf part e f =
-    subst (λ l. ValidLeafProof l part) (both_some e) (subst (ValidLeafProof (leaf_of a)) (both_some f) h.0.valid)
-parts-valid (a ∷ xs) (p ∷ parts) h (suc i) leaf part e f = parts-valid xs parts h.1 i leaf part e f
+parts-valid : (choice : LeafChoice) (xs : List PredTree) (parts : List LeafProof) → AreAtomProofs choice xs parts → (i : ℕ) (leaf : LeafModel) (part : LeafProof) → slice_get (map (leaf_of choice) xs) i ≡ Some leaf → slice_get parts i ≡ Some part → ValidLeafProof leaf part
+parts-valid choice [] [] h i leaf part e f = cc
+parts-valid choice [] (p ∷ parts) h i leaf part e f = absurd h
+parts-valid choice (a ∷ xs) [] h i leaf part e f = absurd h
+parts-valid choice (a ∷ xs) (p ∷ parts) h zero leaf part e f =
+    subst (λ l. ValidLeafProof l part) (both_some e) (subst (ValidLeafProof (leaf_of choice a)) (both_some f) h.0.valid)
+parts-valid choice (a ∷ xs) (p ∷ parts) h (suc i) leaf part e f = parts-valid choice xs parts h.1 i leaf part e f
 
-parts-within : (n : ℕ) (xs : List PredTree) (parts : List LeafProof) → AreAtomProofs xs parts → All (IsBuilt n) xs → All (IsLeafProofWithin n) parts
-parts-within n [] [] h built = All-nil (IsLeafProofWithin n)
-parts-within n [] (part ∷ parts) h built = absurd h
-parts-within n (a ∷ xs) [] h built = absurd h
-parts-within n (a ∷ xs) (part ∷ parts) h built =
-    All-cons (IsLeafProofWithin n) part parts (subst (λ k. IsLeafProofWithin k part) (built 0 a (omega arith)).inputs h.0.within) (parts-within n xs parts h.1 (All-tail (IsBuilt n) a xs built))
+parts-within : (choice : LeafChoice) (n : ℕ) (xs : List PredTree) (parts : List LeafProof) → AreAtomProofs choice xs parts → All (IsBuilt choice n) xs → All (IsLeafProofWithin n) parts
+parts-within choice n [] [] h built = All-nil (IsLeafProofWithin n)
+parts-within choice n [] (part ∷ parts) h built = absurd h
+parts-within choice n (a ∷ xs) [] h built = absurd h
+parts-within choice n (a ∷ xs) (part ∷ parts) h built =
+    All-cons (IsLeafProofWithin n) part parts (subst (λ k. IsLeafProofWithin k part) (built 0 a (omega arith)).inputs h.0.within) (parts-within choice n xs parts h.1 (All-tail (IsBuilt choice n) a xs built))
 
-pub proof-valid : (names : List (List ℕ)) (n : ℕ) (tree : PredTree) (parts : List LeafProof) → AreAtomProofs (atoms tree) parts → ValidProof (built_net names tree) (over n tree) (record { leaves = parts })
-proof-valid names n tree parts h = record {
-  one_each = parts-long (atoms tree) parts h ∙ sym (length-map (atoms tree) leaf_of);
-  leaves = parts-valid (atoms tree) parts h;
+pub proof-valid : (choice : LeafChoice) (names : List (List ℕ)) (n : ℕ) (tree : PredTree) (parts : List LeafProof) → AreAtomProofs choice (atoms tree) parts → ValidProof (net_with choice names tree) (over n tree) (record { leaves = parts })
+proof-valid choice names n tree parts h = record {
+  one_each = parts-long choice (atoms tree) parts h ∙ sym (length-map (atoms tree) (leaf_of choice));
+  leaves = parts-valid choice (atoms tree) parts h;
   combination =
       combined-postfix (trees (map (λ (part : LeafProof). part.pred.tree) parts)) tree
-      ∙ ap (λ ps. Some (value_at (trees ps) 0 tree)) (parts-trees (atoms tree) parts h)
+      ∙ ap (λ ps. Some (value_at (trees ps) 0 tree)) (parts-trees choice (atoms tree) parts h)
       ∙ ap Some (tree-again (atoms tree) 0 tree (λ i l. ap (λ k. get_or (atoms tree) k (LessThan [] (pos 0))) (zero-add i)));
 }
 
 -- the proof is within the limits
-pub proof-within : (names : List (List ℕ)) (n : ℕ) (tree : PredTree) (parts : List LeafProof) → AreAtomProofs (atoms tree) parts → IsPred n tree → fault_of tree ≡ None → IsProofWithin n (length (built_net names tree).leaves) (record { leaves = parts })
-proof-within names n tree parts h is none = record {
-  one_each = parts-long (atoms tree) parts h ∙ sym (length-map (atoms tree) leaf_of);
-  parts = parts-within n (atoms tree) parts h (pred_built n tree is none);
+pub proof-within : (choice : LeafChoice) (names : List (List ℕ)) (n : ℕ) (tree : PredTree) (parts : List LeafProof) → AreAtomProofs choice (atoms tree) parts → IsPred n tree → fault_with choice tree ≡ None → IsProofWithin n (length (net_with choice names tree).leaves) (record { leaves = parts })
+proof-within choice names n tree parts h is none = record {
+  one_each = parts-long choice (atoms tree) parts h ∙ sym (length-map (atoms tree) (leaf_of choice));
+  parts = parts-within choice n (atoms tree) parts h (pred_built choice n tree is none);
 }
 
 -- no leaf has two moves for the same states
-pub net-single : (names : List (List ℕ)) (n : ℕ) (tree : PredTree) → IsPred n tree → fault_of tree ≡ None → IsSingle (built_net names tree)
-net-single names n tree is none =
-    All-map (λ leaf. AllPairs Differ leaf.moves) leaf_of (atoms tree) (All-weaker (IsBuilt n) (λ a. AllPairs Differ (leaf_of a).moves) (λ a b. b.single) (atoms tree) (pred_built n tree is none))
+pub net-single : (choice : LeafChoice) (names : List (List ℕ)) (n : ℕ) (tree : PredTree) → IsPred n tree → fault_with choice tree ≡ None → IsSingle (net_with choice names tree)
+net-single choice names n tree is none =
+    All-map (λ leaf. AllPairs Differ leaf.moves) (leaf_of choice) (atoms tree) (All-weaker (IsBuilt choice n) (λ a. AllPairs Differ (leaf_of choice a).moves) (λ a b. b.single) (atoms tree) (pred_built choice n tree is none))
 
 -- ---- the net
 
-no_helpers : (n : ℕ) (xs : List PredTree) → All (IsBuilt n) xs → helpers_of (map leaf_of xs) ≡ 0
-no_helpers n [] built = refl
-no_helpers n (a ∷ xs) built = ap length (built 0 a (omega arith)).helpers
+no_helpers : (choice : LeafChoice) (n : ℕ) (xs : List PredTree) → All (IsBuilt choice n) xs → helpers_of (map (leaf_of choice) xs) ≡ 0
+no_helpers choice n [] built = refl
+no_helpers choice n (a ∷ xs) built = ap length (built 0 a (omega arith)).helpers
 
-not-wide : (tree : PredTree) (n : ℕ) → All (IsBuilt n) (atoms tree) → KeepsWidths tree → is_wide (map leaf_of (atoms tree)) ≡ true → length (atoms tree) ≤ WIDE_LEAF_LIMIT
-not-wide tree n built keeps wide = elim (cases_lt WIDE_LEAF_LIMIT (length (atoms tree))) [
-  | inl many ↦ absurd (false≢true (sym (list_any_none is_wide_leaf (map leaf_of (atoms tree)) (All-map (λ leaf. is_wide_leaf leaf ≡ false) leaf_of (atoms tree) (λ k d l. (built k d l).narrow (keeps.not_wide many k d l)))) ∙ wide))
+not-wide : (choice : LeafChoice) (tree : PredTree) (n : ℕ) → All (IsBuilt choice n) (atoms tree) → KeepsWidths choice tree → is_wide (map (leaf_of choice) (atoms tree)) ≡ true → length (atoms tree) ≤ WIDE_LEAF_LIMIT
+not-wide choice tree n built keeps wide = elim (cases_lt WIDE_LEAF_LIMIT (length (atoms tree))) [
+  | inl many ↦ absurd (false≢true (sym (list_any_none is_wide_leaf (map (leaf_of choice) (atoms tree)) (All-map (λ leaf. is_wide_leaf leaf ≡ false) (leaf_of choice) (atoms tree) (λ k d l. (built k d l).narrow (keeps.not_wide many k d l)))) ∙ wide))
   | inr few ↦ few
 ]
 
-pub net-formed : (names : List (List ℕ)) (tree : PredTree) → AreNames is_variable_name names → IsPred (length names) tree → fault_of tree ≡ None → IsNet (built_net names tree)
-net-formed names tree formed is none =
+pub net-formed : (choice : LeafChoice) (names : List (List ℕ)) (tree : PredTree) → AreNames is_variable_name names → IsPred (length names) tree → fault_with choice tree ≡ None → IsNet (net_with choice names tree)
+net-formed choice names tree formed is none =
     let n = length names in
-    let built = pred_built n tree is none in
-    let keeps = keeps_widths tree none in
-    let long = length-map (atoms tree) leaf_of in
+    let built = pred_built choice n tree is none in
+    let keeps = keeps_widths choice tree none in
+    let long = length-map (atoms tree) (leaf_of choice) in
     record {
       variable_names = formed;
       some_variable = is.some_variable;
       variables = is.variables;
       some_leaf = (let e = some_atom tree in omega (arith, long));
       leaf_count = (let few = keeps.few in omega (arith, long));
-      leaves = All-map IsLeaf leaf_of (atoms tree) (All-weaker (IsBuilt n) (λ a. IsLeaf (leaf_of a)) (λ a b. b.formed) (atoms tree) built);
-      inputs = All-map (λ leaf. length leaf.inputs ≡ n) leaf_of (atoms tree) (All-weaker (IsBuilt n) (λ a. length (leaf_of a).inputs ≡ n) (λ a b. b.inputs) (atoms tree) built);
+      leaves = All-map IsLeaf (leaf_of choice) (atoms tree) (All-weaker (IsBuilt choice n) (λ a. IsLeaf (leaf_of choice a)) (λ a b. b.formed) (atoms tree) built);
+      inputs = All-map (λ leaf. length leaf.inputs ≡ n) (leaf_of choice) (atoms tree) (All-weaker (IsBuilt choice n) (λ a. length (leaf_of choice a).inputs ≡ n) (λ a b. b.inputs) (atoms tree) built);
       items = (let e = items-most 0 tree in let w = is.weight in let few = keeps.few in omega (arith, e, w, few));
-      leaf_numbers = names-below 0 (length (map leaf_of (atoms tree))) tree (omega (arith, long));
+      leaf_numbers = names-below 0 (length (map (leaf_of choice) (atoms tree))) tree (omega (arith, long));
       depth = subst (λ o. IsSomeAnd o (λ d. d ≤ DEPTH_LIMIT)) (sym (combined-postfix depths tree)) (let e = depth-most 0 tree in let w = is.weight in omega (arith, e, w));
-      helpers = All-map (λ leaf. length leaf.helpers ≡ helper_count (built_net names tree)) leaf_of (atoms tree) (All-weaker (IsBuilt n) (λ a. length (leaf_of a).helpers ≡ helper_count (built_net names tree)) (λ a b. ap length b.helpers ∙ sym (no_helpers n (atoms tree) built)) (atoms tree) built);
-      wide = λ w. (let few = not-wide tree n built keeps w in omega (arith, long, few));
+      helpers = All-map (λ leaf. length leaf.helpers ≡ helper_count (net_with choice names tree)) (leaf_of choice) (atoms tree) (All-weaker (IsBuilt choice n) (λ a. length (leaf_of choice a).helpers ≡ helper_count (net_with choice names tree)) (λ a b. ap length b.helpers ∙ sym (no_helpers choice n (atoms tree) built)) (atoms tree) built);
+      wide = λ w. (let few = not-wide choice tree n built keeps w in omega (arith, long, few));
     }
 
 -- the net as the code puts it together
-pub net-as : (names copies : List (List ℕ)) (tree : PredTree) (leaves : List LeafModel) (items : List Item) → copies ≡ names → leaves ≡ map leaf_of (atoms tree) → items ≡ postfix 0 tree → record { variables = copies; leaves = leaves; combine = items } ≡ built_net names tree
-net-as names copies tree leaves items en el ei =
+pub net-as : (choice : LeafChoice) (names copies : List (List ℕ)) (tree : PredTree) (leaves : List LeafModel) (items : List Item) → copies ≡ names → leaves ≡ map (leaf_of choice) (atoms tree) → items ≡ postfix 0 tree → record { variables = copies; leaves = leaves; combine = items } ≡ net_with choice names tree
+net-as choice names copies tree leaves items en el ei =
     let net : List (List ℕ) → List LeafModel → List Item → NetModel = λ n l i. record { variables = n; leaves = l; combine = i } in
-    ap (λ n. net n leaves items) en ∙ ap (λ l. net names l items) el ∙ ap (λ i. net names (map leaf_of (atoms tree)) i) ei
+    ap (λ n. net n leaves items) en ∙ ap (λ l. net names l items) el ∙ ap (λ i. net names (map (leaf_of choice) (atoms tree)) i) ei

@@ -1,5 +1,5 @@
 -- Atoms: the atoms of a predicate's tree from left to right, and the tree in postfix.
-use Rattle.std.specs.Prelude.{ℕ, ◌+◌, ◌<◌, ◌≤◌, List, [], ◌∷◌, ◌++◌, ℤ, nat_abs, length, All}
+use Rattle.std.specs.Prelude.{ℕ, ◌+◌, ◌<◌, ◌≤◌, List, [], ◌∷◌, ◌++◌, ℤ, nat_abs, length, All, Option, Some, None}
 use Rattle.pop_io.specs.declared.names.TheConstants.{VARIABLE_LIMIT}
 use Rattle.pop_net.specs.declared.net.Item.{Item}
 use Rattle.pop_net.specs.declared.net.Item.TheVariants.{Leaf, Not, And, Or}
@@ -7,6 +7,9 @@ use Rattle.pres_ast.specs.declared.limits.TheConstants.{COEFFICIENT_LIMIT, BOUND
 use Rattle.pres_ast.specs.PredTree.{PredTree, LessThan, Congruent, Negation, Conjunction, Disjunction}
 use Rattle.comp_threshold_leaf.specs.declared.limits.TheConstants.{WIDTH_LIMIT}
 use Rattle.comp_threshold_leaf.specs.ThresholdLeaf.{width}
+use Rattle.comp_flock_leaf.specs.FlockLeaf.{power_of}
+use Rattle.comp_net.specs.declared.choice.LeafChoice.{LeafChoice}
+use Rattle.comp_net.specs.declared.choice.LeafChoice.TheVariants.{Plain, Flocks}
 
 -- each atom is a tree itself
 abbrev pub atoms : PredTree → List PredTree
@@ -24,14 +27,32 @@ postfix n (Negation p) = postfix n p ++ Not ∷ []
 postfix n (Conjunction p q) = (postfix n p ++ postfix (n + length (atoms p)) q) ++ And ∷ []
 postfix n (Disjunction p q) = (postfix n p ++ postfix (n + length (atoms p)) q) ++ Or ∷ []
 
+-- the power of an atom `LessThan` that gets the leaf of a flock
+abbrev pub flock_in : LeafChoice → List ℤ → ℤ → Option ℕ
+flock_in Plain coefs bound = None
+flock_in Flocks coefs bound = power_of coefs bound
+
+-- the width of the leaf of an atom; that of a flock or of a remainder has none
+abbrev pub less_width : List ℤ → ℤ → Option ℕ → ℕ
+less_width coefs bound None = width coefs bound
+less_width coefs bound (Some k) = 0
+
+abbrev pub width_of : LeafChoice → PredTree → ℕ
+width_of choice (LessThan coefs bound) = less_width coefs bound (flock_in choice coefs bound)
+width_of choice (Congruent coefs m rest) = 0
+width_of choice (Negation p) = 0
+width_of choice (Conjunction p q) = 0
+width_of choice (Disjunction p q) = 0
+
 -- a sum over one variable at least, within the limits of a predicate
 abbrev pub IsSum : List ℤ → Type 0
 IsSum coefs = (1 ≤ length coefs) × (length coefs ≤ VARIABLE_LIMIT) × All (λ a. nat_abs a ≤ COEFFICIENT_LIMIT) coefs
 
 -- each atom is within the limits of its built leaf
-abbrev pub AreBuildable : PredTree → Type 0
-AreBuildable (LessThan coefs bound) = IsSum coefs × (nat_abs bound ≤ BOUND_LIMIT) × (width coefs bound ≤ WIDTH_LIMIT)
-AreBuildable (Congruent coefs m rest) = IsSum coefs × (2 ≤ m) × (m ≤ MODULUS_LIMIT) × (rest < m)
-AreBuildable (Negation p) = AreBuildable p
-AreBuildable (Conjunction p q) = AreBuildable p × AreBuildable q
-AreBuildable (Disjunction p q) = AreBuildable p × AreBuildable q
+abbrev pub AreBuildable : LeafChoice → PredTree → Type 0
+AreBuildable choice (LessThan coefs bound) =
+    IsSum coefs × (nat_abs bound ≤ BOUND_LIMIT) × (width_of choice (LessThan coefs bound) ≤ WIDTH_LIMIT)
+AreBuildable choice (Congruent coefs m rest) = IsSum coefs × (2 ≤ m) × (m ≤ MODULUS_LIMIT) × (rest < m)
+AreBuildable choice (Negation p) = AreBuildable choice p
+AreBuildable choice (Conjunction p q) = AreBuildable choice p × AreBuildable choice q
+AreBuildable choice (Disjunction p q) = AreBuildable choice p × AreBuildable choice q

@@ -1,5 +1,5 @@
 -- BuiltNet: the built net of a predicate: one leaf for each atom, from left to right, and the tree in postfix.
-use Rattle.std.specs.Prelude.{◌≡◌, ℕ, List, [], ◌∷◌, ◌++◌, pos, length, map}
+use Rattle.std.specs.Prelude.{◌≡◌, ℕ, List, [], ◌∷◌, ◌++◌, ℤ, pos, length, map, Option, Some, None}
 use Rattle.pop_net.specs.LeafModel.{LeafModel}
 use Rattle.pop_net.specs.NetModel.{NetModel}
 use Rattle.pres_ast.specs.PredTree.{PredTree, LessThan, Congruent, Negation, Conjunction, Disjunction}
@@ -8,36 +8,48 @@ use Rattle.cert_base.specs.ValidProof.{ValidLeafProof}
 use Rattle.cert_base.specs.ProofLimits.{IsLeafProofWithin}
 use Rattle.comp_threshold_leaf.specs.ThresholdLeaf.{threshold_leaf}
 use Rattle.comp_remainder_leaf.specs.RemainderLeaf.{remainder_leaf}
-use Rattle.comp_net.specs.Atoms.{atoms, postfix}
+use Rattle.comp_flock_leaf.specs.FlockLeaf.{flock_leaf}
+use Rattle.comp_net.specs.Atoms.{atoms, postfix, flock_in}
+use Rattle.comp_net.specs.declared.choice.LeafChoice.{LeafChoice}
+use Rattle.comp_net.specs.declared.choice.LeafChoice.TheVariants.{Plain}
+
+-- the leaf of a threshold, or that of a flock with this power
+abbrev pub less_leaf : List ℤ → ℤ → Option ℕ → LeafModel
+less_leaf coefs bound None = threshold_leaf coefs bound
+less_leaf coefs bound (Some k) = flock_leaf coefs k
 
 -- the built leaf of an atom; no other tree is asked for its leaf
-abbrev pub leaf_of : PredTree → LeafModel
-leaf_of (LessThan coefs bound) = threshold_leaf coefs bound
-leaf_of (Congruent coefs m rest) = remainder_leaf coefs m rest
-leaf_of (Negation p) = threshold_leaf [] (pos 0)
-leaf_of (Conjunction p q) = threshold_leaf [] (pos 0)
-leaf_of (Disjunction p q) = threshold_leaf [] (pos 0)
+abbrev pub leaf_of : LeafChoice → PredTree → LeafModel
+leaf_of choice (LessThan coefs bound) = less_leaf coefs bound (flock_in choice coefs bound)
+leaf_of choice (Congruent coefs m rest) = remainder_leaf coefs m rest
+leaf_of choice (Negation p) = threshold_leaf [] (pos 0)
+leaf_of choice (Conjunction p q) = threshold_leaf [] (pos 0)
+leaf_of choice (Disjunction p q) = threshold_leaf [] (pos 0)
 
+abbrev pub net_with : LeafChoice → List (List ℕ) → PredTree → NetModel
+net_with choice names tree =
+    record { variables = names; leaves = map (leaf_of choice) (atoms tree); combine = postfix 0 tree }
+
+-- that of `compile`
 abbrev pub built_net : List (List ℕ) → PredTree → NetModel
-built_net names tree =
-    record { variables = names; leaves = map leaf_of (atoms tree); combine = postfix 0 tree }
+built_net = net_with Plain
 
 -- ---- while it is built
 
 -- a valid proof for an atom and its leaf
-pub record IsAtomProof (atom : PredTree) (part : LeafProof) : Type 0 where
+pub record IsAtomProof (choice : LeafChoice) (atom : PredTree) (part : LeafProof) : Type 0 where
   pub tree_is : part.pred.tree ≡ atom
-  pub valid : ValidLeafProof (leaf_of atom) part
-  pub within : IsLeafProofWithin (length (leaf_of atom).inputs) part
+  pub valid : ValidLeafProof (leaf_of choice atom) part
+  pub within : IsLeafProofWithin (length (leaf_of choice atom).inputs) part
 
 -- one for each atom
-abbrev pub AreAtomProofs : List PredTree → List LeafProof → Type 0
-AreAtomProofs [] [] = Unit {0}
-AreAtomProofs [] (part ∷ parts) = ⊥
-AreAtomProofs (atom ∷ more) [] = ⊥
-AreAtomProofs (atom ∷ more) (part ∷ parts) = IsAtomProof atom part × AreAtomProofs more parts
+abbrev pub AreAtomProofs : LeafChoice → List PredTree → List LeafProof → Type 0
+AreAtomProofs choice [] [] = Unit {0}
+AreAtomProofs choice [] (part ∷ parts) = ⊥
+AreAtomProofs choice (atom ∷ more) [] = ⊥
+AreAtomProofs choice (atom ∷ more) (part ∷ parts) = IsAtomProof choice atom part × AreAtomProofs choice more parts
 
 -- the proofs of these atoms were added behind those of any others
-abbrev pub AddProofs : List PredTree → List LeafProof → List LeafProof → Type 0
-AddProofs added before after =
-    (others : List PredTree) → AreAtomProofs others before → AreAtomProofs (others ++ added) after
+abbrev pub AddProofs : LeafChoice → List PredTree → List LeafProof → List LeafProof → Type 0
+AddProofs choice added before after =
+    (others : List PredTree) → AreAtomProofs choice others before → AreAtomProofs choice (others ++ added) after

@@ -1,26 +1,19 @@
 -- CompileFaults: which predicates have no built net.
 use Rattle.std.specs.Prelude.{◌≡◌, ◌⊎◌, ℕ, nat_lt, nat_le, if◌then◌else◌, List, [], ◌∷◌, length, map, Option, Some, None, position, slice_index}
 use Rattle.std.specs.Option.{option_map}
-use Rattle.pres_ast.specs.PredTree.{PredTree, LessThan, Congruent, Negation, Conjunction, Disjunction}
+use Rattle.pres_ast.specs.PredTree.{PredTree}
 use Rattle.pop_net.specs.declared.limits.TheConstants.{LEAF_LIMIT, WIDE_LEAF_LIMIT}
 use Rattle.pop_net.specs.FirstFault.{unless, first_of}
 use Rattle.comp_threshold_leaf.specs.declared.limits.TheConstants.{WIDTH_LIMIT}
-use Rattle.comp_threshold_leaf.specs.ThresholdLeaf.{width}
-use Rattle.comp_net.specs.Atoms.{atoms}
+use Rattle.comp_net.specs.Atoms.{atoms, width_of}
+use Rattle.comp_net.specs.declared.choice.LeafChoice.{LeafChoice}
+use Rattle.comp_net.specs.declared.choice.LeafChoice.TheVariants.{Plain}
 use Rattle.comp_net.specs.declared.limits.TheConstants.{NARROW_WIDTH_LIMIT}
 use Rattle.comp_net.specs.declared.fault.CompileFault.{CompileFault}
 use Rattle.comp_net.specs.declared.fault.CompileFault.TheVariants as fault
 
--- the width of an atom; a remainder has none
-abbrev pub width_of : PredTree → ℕ
-width_of (LessThan coefs bound) = width coefs bound
-width_of (Congruent coefs m rest) = 0
-width_of (Negation p) = 0
-width_of (Conjunction p q) = 0
-width_of (Disjunction p q) = 0
-
-abbrev pub widths : PredTree → List ℕ
-widths tree = map width_of (atoms tree)
+abbrev pub widths : LeafChoice → PredTree → List ℕ
+widths choice tree = map (width_of choice) (atoms tree)
 
 -- the first atom whose width is over a limit
 abbrev pub first_over : ℕ → List ℕ → Option ℕ
@@ -39,9 +32,16 @@ fault_by ws =
     ∷ option_map fault.WideNet (first_wide ws)
     ∷ [])
 
+abbrev pub fault_with : LeafChoice → PredTree → Option CompileFault
+fault_with choice tree = fault_by (widths choice tree)
+
+-- that of `compile`
 abbrev pub fault_of : PredTree → Option CompileFault
-fault_of tree = fault_by (widths tree)
+fault_of = fault_with Plain
 
 -- the fault is the first that the predicate has, unless memory ran out
+abbrev pub RefusesWith : LeafChoice → PredTree → CompileFault → Type 0
+RefusesWith choice tree f = (f ≡ fault.NoMemory) ⊎ (fault_with choice tree ≡ Some f)
+
 abbrev pub RefusesTree : PredTree → CompileFault → Type 0
-RefusesTree tree f = (f ≡ fault.NoMemory) ⊎ (fault_of tree ≡ Some f)
+RefusesTree = RefusesWith Plain

@@ -1,6 +1,6 @@
 //! The net and its proof, put together.
 
-ghost use Rattle.std.specs.Prelude.{◌≡◌, ◌≤◌, ◌<◌, ◌+◌, ◌++◌, ◌∷◌, [], None, map, length, OnOk, IfOk};
+ghost use Rattle.std.specs.Prelude.{◌≡◌, ◌≤◌, ◌<◌, ◌+◌, ◌++◌, ◌∷◌, [], Some, None, map, length, OnOk, IfOk};
 ghost use Rattle.pop_io.specs.Names.{AreNames, is_variable_name};
 ghost use Rattle.pres_ast.specs.TreeOf.{tree_of};
 ghost use Rattle.pres_ast.specs.PredTree.{LessThan, Congruent};
@@ -9,11 +9,13 @@ ghost use Rattle.pop_net.specs.declared.net.Item.TheVariants.{Leaf as leaf_item}
 ghost use Rattle.pop_net.specs.Reaction.{IsSingle};
 ghost use Rattle.cert_base.specs.ProofLimits.{IsProofWithin};
 ghost use Rattle.cert_base.specs.ValidProof.{ValidProof};
-ghost use Rattle.comp_net.specs.Atoms.{atoms, postfix, AreBuildable};
-ghost use Rattle.comp_net.specs.BuiltNet.{leaf_of, built_net, AddProofs};
-ghost use Rattle.comp_net.specs.CompileFaults.{fault_of as fault_of_tree};
+ghost use Rattle.comp_net.specs.Atoms.{atoms, postfix, flock_in as flock_of_atom, AreBuildable};
+ghost use Rattle.comp_net.specs.BuiltNet.{leaf_of, net_with, AddProofs};
+ghost use Rattle.comp_net.specs.CompileFaults.{fault_with};
 
+use crate::choice::{LeafChoice, flock_in};
 use cert_base::{LeafProof, Proof};
+use comp_flock::flock;
 use comp_remainder::remainder;
 use comp_threshold::{ThresholdFault, threshold};
 use pop_io::{List, NoMemory, Text};
@@ -43,13 +45,64 @@ impl Built {
         Ok(())
     }
 
-    fn push_less(&mut self, alloc: Global, coefs: &[i64], bound: i64) -> Result<(), NoMemory>
+    fn push_less(
+        &mut self,
+        alloc: Global,
+        choice: LeafChoice,
+        coefs: &[i64],
+        bound: i64,
+    ) -> Result<(), NoMemory>
         requires few { length self.old.leaves.items < LEAF_LIMIT }
-        requires atom { AreBuildable (LessThan coefs.now bound) }
+        requires atom { AreBuildable choice (LessThan coefs.now bound) }
         ensures leaves { OnOk result (self.new.leaves.items
-            ≡ self.old.leaves.items ++ leaf_of (LessThan coefs.now bound) ∷ []) }
+            ≡ self.old.leaves.items ++ leaf_of choice (LessThan coefs.now bound) ∷ []) }
         ensures parts { OnOk result
-            (AddProofs (LessThan coefs.now bound ∷ []) self.old.parts.items self.new.parts.items) }
+            (AddProofs choice (LessThan coefs.now bound ∷ []) self.old.parts.items self.new.parts.items) }
+        ensures items { OnOk result (self.new.items.items
+            ≡ self.old.items.items ++ leaf_item (length self.old.leaves.items) ∷ []) }
+    {
+        match flock_in(choice, coefs, bound) {
+            Some(power) => self.push_flock(alloc, choice, coefs, bound, power),
+            None => self.push_threshold(alloc, choice, coefs, bound),
+        }
+    }
+
+    fn push_flock(
+        &mut self,
+        alloc: Global,
+        choice: LeafChoice,
+        coefs: &[i64],
+        bound: i64,
+        power: u32,
+    ) -> Result<(), NoMemory>
+        requires few { length self.old.leaves.items < LEAF_LIMIT }
+        requires atom { AreBuildable choice (LessThan coefs.now bound) }
+        requires power { flock_of_atom choice coefs.now bound ≡ Some power }
+        ensures leaves { OnOk result (self.new.leaves.items
+            ≡ self.old.leaves.items ++ leaf_of choice (LessThan coefs.now bound) ∷ []) }
+        ensures parts { OnOk result
+            (AddProofs choice (LessThan coefs.now bound ∷ []) self.old.parts.items self.new.parts.items) }
+        ensures items { OnOk result (self.new.items.items
+            ≡ self.old.items.items ++ leaf_item (length self.old.leaves.items) ∷ []) }
+    {
+        let (leaf, part) = flock(alloc, coefs, power)?;
+        self.push_atom(leaf, part)
+    }
+
+    fn push_threshold(
+        &mut self,
+        alloc: Global,
+        choice: LeafChoice,
+        coefs: &[i64],
+        bound: i64,
+    ) -> Result<(), NoMemory>
+        requires few { length self.old.leaves.items < LEAF_LIMIT }
+        requires atom { AreBuildable choice (LessThan coefs.now bound) }
+        requires none { flock_of_atom choice coefs.now bound ≡ None }
+        ensures leaves { OnOk result (self.new.leaves.items
+            ≡ self.old.leaves.items ++ leaf_of choice (LessThan coefs.now bound) ∷ []) }
+        ensures parts { OnOk result
+            (AddProofs choice (LessThan coefs.now bound ∷ []) self.old.parts.items self.new.parts.items) }
         ensures items { OnOk result (self.new.items.items
             ≡ self.old.items.items ++ leaf_item (length self.old.leaves.items) ∷ []) }
     {
@@ -63,16 +116,17 @@ impl Built {
     fn push_rest(
         &mut self,
         alloc: Global,
+        choice: LeafChoice,
         coefs: &[i64],
         modulus: u32,
         rest: u32,
     ) -> Result<(), NoMemory>
         requires few { length self.old.leaves.items < LEAF_LIMIT }
-        requires atom { AreBuildable (Congruent coefs.now modulus rest) }
+        requires atom { AreBuildable choice (Congruent coefs.now modulus rest) }
         ensures leaves { OnOk result (self.new.leaves.items
-            ≡ self.old.leaves.items ++ leaf_of (Congruent coefs.now modulus rest) ∷ []) }
+            ≡ self.old.leaves.items ++ leaf_of choice (Congruent coefs.now modulus rest) ∷ []) }
         ensures parts { OnOk result
-            (AddProofs (Congruent coefs.now modulus rest ∷ []) self.old.parts.items self.new.parts.items) }
+            (AddProofs choice (Congruent coefs.now modulus rest ∷ []) self.old.parts.items self.new.parts.items) }
         ensures items { OnOk result (self.new.items.items
             ≡ self.old.items.items ++ leaf_item (length self.old.leaves.items) ∷ []) }
     {
@@ -81,34 +135,36 @@ impl Built {
     }
 
     /// The atoms of a tree from left to right, and the tree in postfix.
-    fn push_tree(&mut self, alloc: Global, tree: &Tree) -> Result<(), NoMemory>
+    fn push_tree(&mut self, alloc: Global, choice: LeafChoice, tree: &Tree) -> Result<(), NoMemory>
         requires few { length self.old.leaves.items + length (atoms (tree_of tree.now)) ≤ LEAF_LIMIT }
-        requires atoms { AreBuildable (tree_of tree.now) }
+        requires atoms { AreBuildable choice (tree_of tree.now) }
         ensures leaves { OnOk result (self.new.leaves.items
-            ≡ self.old.leaves.items ++ map leaf_of (atoms (tree_of tree.now))) }
-        ensures parts { OnOk result (AddProofs (atoms (tree_of tree.now)) self.old.parts.items self.new.parts.items) }
+            ≡ self.old.leaves.items ++ map (leaf_of choice) (atoms (tree_of tree.now))) }
+        ensures parts { OnOk result (AddProofs choice (atoms (tree_of tree.now)) self.old.parts.items self.new.parts.items) }
         ensures items { OnOk result (self.new.items.items
             ≡ self.old.items.items ++ postfix (length self.old.leaves.items) (tree_of tree.now)) }
     {
         match tree {
-            Tree::Less { coefs, bound } => self.push_less(alloc, coefs.as_slice(), *bound)?,
+            Tree::Less { coefs, bound } => {
+                self.push_less(alloc, choice, coefs.as_slice(), *bound)?;
+            }
             Tree::Rest {
                 coefs,
                 modulus,
                 rest,
-            } => self.push_rest(alloc, coefs.as_slice(), *modulus, *rest)?,
+            } => self.push_rest(alloc, choice, coefs.as_slice(), *modulus, *rest)?,
             Tree::Not(p) => {
-                self.push_tree(alloc, p)?;
+                self.push_tree(alloc, choice, p)?;
                 self.items.push(Item::Not)?;
             }
             Tree::And(p, q) => {
-                self.push_tree(alloc, p)?;
-                self.push_tree(alloc, q)?;
+                self.push_tree(alloc, choice, p)?;
+                self.push_tree(alloc, choice, q)?;
                 self.items.push(Item::And)?;
             }
             Tree::Or(p, q) => {
-                self.push_tree(alloc, p)?;
-                self.push_tree(alloc, q)?;
+                self.push_tree(alloc, choice, p)?;
+                self.push_tree(alloc, choice, q)?;
                 self.items.push(Item::Or)?;
             }
         }
@@ -129,13 +185,14 @@ fn copy_names(alloc: Global, names: &List<Text>) -> Result<List<Text>, NoMemory>
 /// The built net and its proof, for a predicate that has one.
 pub(crate) fn build(
     alloc: Global,
+    choice: LeafChoice,
     pred: &Pred,
     names: &List<Text>,
 ) -> Result<(Net, Proof), NoMemory>
     requires formed { AreNames is_variable_name names.now }
     requires count { length names.now ≡ pred.now.variables }
-    requires none { fault_of_tree pred.now.tree ≡ None }
-    ensures net { IfOk result (λ both. both.0 ≡ built_net names.now pred.now.tree) }
+    requires none { fault_with choice pred.now.tree ≡ None }
+    ensures net { IfOk result (λ both. both.0 ≡ net_with choice names.now pred.now.tree) }
     ensures valid { IfOk result (λ both. ValidProof both.0 pred.now both.1) }
     ensures within { IfOk result (λ both. IsProofWithin pred.now.variables (length both.0.leaves) both.1) }
     ensures single { IfOk result (λ both. IsSingle both.0) }
@@ -145,7 +202,7 @@ pub(crate) fn build(
         parts: Vec::new(alloc),
         items: Vec::new(alloc),
     };
-    built.push_tree(alloc, pred.tree())?;
+    built.push_tree(alloc, choice, pred.tree())?;
     let names = copy_names(alloc, names)?;
     let Built {
         leaves,

@@ -1,5 +1,5 @@
 //! The compiler: a predicate in, a certified protocol out.
-//! It stands on `comp_threshold` and `comp_remainder`.
+//! It stands on `comp_threshold`, `comp_remainder` and `comp_flock`.
 //! The layer above uses: the net is exactly the built one and single, its proof is valid, a refusal has its cause.
 //!
 //! Each atom has a leaf of its own, and all leaves run side by side on the same agents. A leaf computes its atom by its
@@ -7,11 +7,13 @@
 #![tactic(auto)]
 
 mod building;
+mod choice;
 mod fault;
 mod limits;
 mod whole;
 mod widths;
 
+pub use choice::LeafChoice;
 pub use fault::CompileFault;
 pub use limits::NARROW_WIDTH_LIMIT;
-pub use whole::compile;
+pub use whole::{compile, compile_flocks};

@@ -3,8 +3,11 @@
 ghost use Rattle.std.specs.Prelude.{◌≡◌, ◌≤◌, ◌<◌, ◌++◌, length, OnOk, IfOk, IfSome};
 ghost use Rattle.pres_ast.specs.PredModel.{IsPred};
 ghost use Rattle.pres_ast.specs.TreeOf.{tree_of};
-ghost use Rattle.comp_net.specs.CompileFaults.{widths as widths_of, first_over as first_width, first_wide as first_wide_width, fault_by as fault_in, fault_of as fault_of_tree};
+ghost use Rattle.pres_ast.specs.PredTree.{LessThan};
+ghost use Rattle.comp_net.specs.Atoms.{width_of as width_of_atom};
+ghost use Rattle.comp_net.specs.CompileFaults.{widths as widths_of, first_over as first_width, first_wide as first_wide_width, fault_by as fault_in, fault_with};
 
+use crate::choice::{LeafChoice, flock_in};
 use crate::fault::CompileFault;
 use crate::limits::NARROW_WIDTH_LIMIT;
 use comp_threshold_leaf::{WIDTH_LIMIT, width};
@@ -14,29 +17,43 @@ use pres_ast::{Pred, Tree};
 use std::alloc::Global;
 
 /// The first reason not to build a net, if there is one.
-pub(crate) fn fault_of(alloc: Global, pred: &Pred) -> Result<Option<CompileFault>, NoMemory>
-    ensures { IfOk result (λ fault. fault ≡ fault_of_tree pred.now.tree) }
+pub(crate) fn fault_of(
+    alloc: Global,
+    choice: LeafChoice,
+    pred: &Pred,
+) -> Result<Option<CompileFault>, NoMemory>
+    ensures { IfOk result (λ fault. fault ≡ fault_with choice pred.now.tree) }
 {
     let mut widths = Vec::new(alloc);
-    push_widths(&mut widths, pred.tree())?;
+    push_widths(&mut widths, choice, pred.tree())?;
     Ok(fault_by(widths.as_slice()))
 }
 
+/// The width of an atom `Less`.
+fn less_width(choice: LeafChoice, coefs: &[i64], bound: i64) -> u64
+    ensures { result ≡ width_of_atom choice (LessThan coefs.now bound) }
+{
+    match flock_in(choice, coefs, bound) {
+        Some(_) => 0,
+        None => width(coefs, bound),
+    }
+}
+
 /// Adds the width of each atom, from left to right.
-fn push_widths(widths: &mut Vec<u64>, tree: &Tree) -> Result<(), NoMemory>
-    ensures { OnOk result (widths.new.items ≡ widths.old.items ++ widths_of (tree_of tree.now)) }
+fn push_widths(widths: &mut Vec<u64>, choice: LeafChoice, tree: &Tree) -> Result<(), NoMemory>
+    ensures { OnOk result (widths.new.items ≡ widths.old.items ++ widths_of choice (tree_of tree.now)) }
 {
     match tree {
-        Tree::Less { coefs, bound } => widths.push(width(coefs.as_slice(), *bound))?,
+        Tree::Less { coefs, bound } => widths.push(less_width(choice, coefs.as_slice(), *bound))?,
         Tree::Rest { .. } => widths.push(0)?,
-        Tree::Not(p) => push_widths(widths, p)?,
+        Tree::Not(p) => push_widths(widths, choice, p)?,
         Tree::And(p, q) => {
-            push_widths(widths, p)?;
-            push_widths(widths, q)?;
+            push_widths(widths, choice, p)?;
+            push_widths(widths, choice, q)?;
         }
         Tree::Or(p, q) => {
-            push_widths(widths, p)?;
-            push_widths(widths, q)?;
+            push_widths(widths, choice, p)?;
+            push_widths(widths, choice, q)?;
         }
     }
     Ok(())

@@ -25,6 +25,8 @@ use Rattle.tool_commands.specs.Check.{judgement, OfBundle, OfLine, CheckGives}
 use Rattle.tool_commands.specs.Run.{run_ending, OfJudged, OfLines as OfRunLines, RunGives}
 use Rattle.tool_commands.specs.declared.replay.TheConstants.{JOURNAL_LINE}
 use Rattle.tool_commands.specs.Replay.{journal_read, compared_output, journal_output, judged_output, OfBegun as OfReplayBegun, OfLines as OfReplayLines, ReplayGives}
+use Rattle.comp_net.specs.declared.choice.LeafChoice.{LeafChoice}
+use Rattle.comp_net.specs.declared.choice.LeafChoice.TheVariants as leaves
 use Rattle.tool_commands.specs.Compile.{asked, fitting, OfFitting, OfAsked, CompileGives}
 use Rattle.tool_commands.specs.Demo.{DemoGives}
 use Rattle.tool_commands.specs.Commands.{CommandGives}
@@ -89,10 +91,10 @@ replay_other lines =
     (λ found given is. after_keeps IsOther refused is.0 (OfReplayBegun found.2)
     (λ begin given is. subst IsOther (sym is.2) (replay_judged_other begin.0 begin.1 found.2 is.0)) given is.2)
 
-compile_other : (lines : List (List ℕ)) (given : Result Output Refusal) → CompileGives lines given → IsOther given
-compile_other lines =
-    after_keeps IsOther refused (asked lines) OfAsked
-    (λ found given is. after_keeps IsOther refused (fitting found.1.tree) (OfFitting found.0 found.1) (λ fits given is. subst IsOther (sym is.2) (λ e. absurd cc)) given is)
+compile_other : (choice : LeafChoice) (lines : List (List ℕ)) (given : Result Output Refusal) → CompileGives choice lines given → IsOther given
+compile_other choice lines =
+    after_keeps IsOther refused (asked lines) (OfAsked choice)
+    (λ found given is. after_keeps IsOther refused (fitting choice found.1.tree) (OfFitting choice found.0 found.1) (λ fits given is. subst IsOther (sym is.2) (λ e. absurd cc)) given is)
 
 demo_other : (number : ℕ) (given : Result Output Refusal) → DemoGives number given → IsOther given
 demo_other number given is = subst IsOther (sym is.2) (λ e. run_ending_other is.1.pair (sym is.1.ending ∙ e))
@@ -104,6 +106,6 @@ given_ending Check lines given is = check_other lines given is
 given_ending (Run spec) lines given is = run_other spec lines given is
 given_ending Replay lines given is = replay_other lines given is
 given_ending Settle lines given is = replay_other lines given is
-given_ending Compile lines given is = compile_other lines given is
-given_ending Flocks lines given is = compile_other lines given is
+given_ending Compile lines given is = compile_other leaves.Plain lines given is
+given_ending Flocks lines given is = compile_other leaves.Flocks lines given is
 given_ending (Demo number) lines given is = demo_other number given is

@@ -9,6 +9,7 @@ use Rattle.tool_commands.specs.Play.{PlayGives}
 use Rattle.tool_commands.specs.Check.{CheckGives}
 use Rattle.tool_commands.specs.Run.{RunGives}
 use Rattle.tool_commands.specs.Replay.{ReplayGives}
+use Rattle.comp_net.specs.declared.choice.LeafChoice.TheVariants as leaves
 use Rattle.tool_commands.specs.Compile.{CompileGives}
 use Rattle.tool_commands.specs.Demo.{DemoGives}
 
@@ -20,8 +21,8 @@ CommandGives Check lines given = CheckGives lines given
 CommandGives (Run spec) lines given = RunGives spec lines given
 CommandGives Replay lines given = ReplayGives lines given
 CommandGives Settle lines given = ReplayGives lines given
-CommandGives Compile lines given = CompileGives lines given
-CommandGives Flocks lines given = CompileGives lines given
+CommandGives Compile lines given = CompileGives leaves.Plain lines given
+CommandGives Flocks lines given = CompileGives leaves.Flocks lines given
 CommandGives (Demo number) lines given = DemoGives number given
 
 -- which read an input: all but `demo`
@@ -48,7 +49,7 @@ IsPlain Compile = Unit {0}
 IsPlain Flocks = Unit {0}
 IsPlain (Demo number) = Unit {0}
 
--- Which leave no choice: all but a run by two or more workers, and `compile`, of which any valid proof will do.
+-- Which leave no choice: all but a run by two or more workers, and `compile`, with flocks or without, of which any valid proof will do.
 abbrev pub IsDetermined : Command → Type 0
 IsDetermined Play = Unit {0}
 IsDetermined Eval = Unit {0}

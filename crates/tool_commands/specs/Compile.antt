@@ -1,4 +1,4 @@
--- What `compile` makes of the lines of its input: a vars line and a predicate.
+-- What `compile` and `compile --flocks` make of the lines of their input: a vars line and a predicate.
 use Rattle.std.specs.Prelude.{◌≡◌, ℕ, List, length, Option, Some, None, option_and_then, Result, Ok, Err}
 use Rattle.pop_lines.specs.Lines.{ended}
 use Rattle.pres_ast.specs.PredTree.{PredTree}
@@ -11,10 +11,11 @@ use Rattle.cert_base.specs.ProofLimits.{IsProofWithin}
 use Rattle.cert_base.specs.ValidProof.{ValidProof}
 use Rattle.cert_json.specs.declared.bundle.Bundle.{Bundle}
 use Rattle.bundle_text.specs.Bundle.{bundle_data}
+use Rattle.comp_net.specs.declared.choice.LeafChoice.{LeafChoice}
 use Rattle.comp_net.specs.declared.fault.CompileFault.{CompileFault}
 use Rattle.comp_net.specs.declared.fault.CompileFault.TheVariants.{ManyAtoms, TooWide, WideNet, NoMemory}
-use Rattle.comp_net.specs.CompileFaults.{fault_of}
-use Rattle.comp_net.specs.BuiltNet.{built_net}
+use Rattle.comp_net.specs.CompileFaults.{fault_with}
+use Rattle.comp_net.specs.BuiltNet.{net_with}
 use Rattle.tool_texts.specs.declared.refusal.Refusal.{Refusal}
 use Rattle.tool_texts.specs.declared.refusal.Refusal.TheVariants.{Atoms, Width, Wide}
 use Rattle.tool_texts.specs.Steps.{◌>>=◌, After}
@@ -42,14 +43,14 @@ abbrev pub unless_refused : Option Refusal → Result (Unit {0}) Refusal
 unless_refused None = Ok tt
 unless_refused (Some refusal) = Err refusal
 
--- the predicate has a built net, or it is refused
-abbrev pub fitting : PredTree → Result (Unit {0}) Refusal
-fitting tree = unless_refused (option_and_then refusal_of (fault_of tree))
+-- the predicate has a built net with these leaves, or it is refused
+abbrev pub fitting : LeafChoice → PredTree → Result (Unit {0}) Refusal
+fitting choice tree = unless_refused (option_and_then refusal_of (fault_with choice tree))
 
 -- a bundle of the predicate's built net over these names, the predicate, and a valid proof within the limits of its file. No
 -- leaf has two moves for the same states.
-pub record IsCompiled (names : List (List ℕ)) (pred : PredModel) (bundle : Bundle) : Type 0 where
-  pub net_is : bundle.net ≡ built_net names pred.tree
+pub record IsCompiled (choice : LeafChoice) (names : List (List ℕ)) (pred : PredModel) (bundle : Bundle) : Type 0 where
+  pub net_is : bundle.net ≡ net_with choice names pred.tree
   pub pred_is : bundle.pred ≡ pred
   pub valid : ValidProof bundle.net bundle.pred bundle.proof
   pub within : IsProofWithin (length bundle.net.variables) (length bundle.net.leaves) bundle.proof
@@ -58,12 +59,12 @@ pub record IsCompiled (names : List (List ℕ)) (pred : PredModel) (bundle : Bun
 abbrev pub bundle_line : Bundle → List ℕ
 bundle_line bundle = ended (compact_text (bundle_data bundle))
 
-abbrev pub OfFitting : List (List ℕ) → PredModel → Unit {0} → Result Output Refusal → Type 0
-OfFitting names pred fits given = (bundle : Bundle) × IsCompiled names pred bundle × (given ≡ Ok (record { text = bundle_line bundle; ending = Done }))
+abbrev pub OfFitting : LeafChoice → List (List ℕ) → PredModel → Unit {0} → Result Output Refusal → Type 0
+OfFitting choice names pred fits given = (bundle : Bundle) × IsCompiled choice names pred bundle × (given ≡ Ok (record { text = bundle_line bundle; ending = Done }))
 
-abbrev pub OfAsked : List (List ℕ) × PredModel → Result Output Refusal → Type 0
-OfAsked asked = After (fitting asked.1.tree) (OfFitting asked.0 asked.1)
+abbrev pub OfAsked : LeafChoice → List (List ℕ) × PredModel → Result Output Refusal → Type 0
+OfAsked choice asked = After (fitting choice asked.1.tree) (OfFitting choice asked.0 asked.1)
 
--- what `compile` gives for the lines of its input
-abbrev pub CompileGives : List (List ℕ) → Result Output Refusal → Type 0
-CompileGives lines = After (asked lines) OfAsked
+-- what the command gives with these leaves for the lines of its input
+abbrev pub CompileGives : LeafChoice → List (List ℕ) → Result Output Refusal → Type 0
+CompileGives choice lines = After (asked lines) (OfAsked choice)

@@ -1,16 +1,23 @@
-//! The command `compile`.
+//! The commands `compile` and `compile --flocks`.
 
-ghost use Rattle.std.specs.Prelude.{◌≡◌, length, IfOk};
+ghost use Rattle.std.specs.Prelude.{◌≡◌, None, length, IfOk, IfErr};
 ghost use Rattle.pop_lines.specs.Lines.{lines_of};
 ghost use Rattle.pop_words.specs.Vars.{AreVariables};
+ghost use Rattle.pop_net.specs.Reaction.{IsSingle};
+ghost use Rattle.cert_base.specs.ProofLimits.{IsProofWithin};
+ghost use Rattle.cert_base.specs.ValidProof.{ValidProof};
+ghost use Rattle.comp_net.specs.BuiltNet.{net_with};
+ghost use Rattle.comp_net.specs.CompileFaults.{fault_with, RefusesWith};
 ghost use Rattle.tool_texts.specs.Steps.{Gives, Obeys};
 ghost use Rattle.tool_commands.specs.Compile.{asked as asked_by, fitting, bundle_line, IsCompiled, CompileGives};
 
 use crate::eval::{names_of, pred_of};
 use bundle_text::write_bundle;
+use cert_base::Proof;
 use cert_json::Bundle;
-use comp_net::CompileFault;
+use comp_net::{CompileFault, LeafChoice};
 use pop_io::{List, NoMemory, Text};
+use pop_net::Net;
 use pres_ast::Pred;
 use std::alloc::Global;
 use tool_texts::{Ending, Output, Refusal, Stop, just_two_lines};
@@ -28,14 +35,41 @@ fn asked(alloc: Global, input: &[u8]) -> Result<(List<Text>, Pred), Stop>
     Ok((names, pred))
 }
 
+/// The built net with these leaves, and its proof.
+fn build_with(
+    alloc: Global,
+    choice: LeafChoice,
+    pred: &Pred,
+    names: &List<Text>,
+) -> Result<(Net, Proof), CompileFault>
+    requires formed { AreVariables names.now }
+    requires count { pred.now.variables ≡ length names.now }
+    ensures net { IfOk result (λ both. both.0 ≡ net_with choice names.now pred.now.tree) }
+    ensures valid { IfOk result (λ both. ValidProof both.0 pred.now both.1) }
+    ensures within { IfOk result (λ both. IsProofWithin pred.now.variables (length both.0.leaves) both.1) }
+    ensures single { IfOk result (λ both. IsSingle both.0) }
+    ensures accepted { IfOk result (λ _. fault_with choice pred.now.tree ≡ None) }
+    ensures refused { IfErr result (RefusesWith choice pred.now.tree) }
+{
+    match choice {
+        LeafChoice::Plain => comp_net::compile(alloc, pred, names),
+        LeafChoice::Flocks => comp_net::compile_flocks(alloc, pred, names),
+    }
+}
+
 /// The bundle of a predicate over these names: its built net, and a proof that the net computes it.
-fn bundle_of(alloc: Global, pred: Pred, names: &List<Text>) -> Result<Bundle, Stop>
+fn bundle_of(
+    alloc: Global,
+    choice: LeafChoice,
+    pred: Pred,
+    names: &List<Text>,
+) -> Result<Bundle, Stop>
     requires formed { AreVariables names.now }
     requires count { pred.variables ≡ length names.now }
-    ensures fits { Gives (λ _. tt) result (fitting pred.tree) }
-    ensures compiled { IfOk result (IsCompiled names.now pred) }
+    ensures fits { Gives (λ _. tt) result (fitting choice pred.tree) }
+    ensures compiled { IfOk result (IsCompiled choice names.now pred) }
 {
-    let refusal = match comp_net::compile(alloc, &pred, names) {
+    let refusal = match build_with(alloc, choice, &pred, names) {
         Ok((net, proof)) => return Ok(Bundle { net, pred, proof }),
         Err(CompileFault::ManyAtoms(atoms)) => Refusal::Atoms(atoms),
         Err(CompileFault::TooWide { atom, s }) => Refusal::Width(atom, s),
@@ -46,9 +80,14 @@ fn bundle_of(alloc: Global, pred: Pred, names: &List<Text>) -> Result<Bundle, St
 }
 
 /// The line of a bundle that was built, with its line feed.
-fn line_of(alloc: Global, names: &List<Text>, bundle: &Bundle) -> Result<Vec<u8>, NoMemory>
+fn line_of(
+    alloc: Global,
+    choice: LeafChoice,
+    names: &List<Text>,
+    bundle: &Bundle,
+) -> Result<Vec<u8>, NoMemory>
     requires count { bundle.now.pred.variables ≡ length names.now }
-    requires compiled { IsCompiled names.now bundle.now.pred bundle.now }
+    requires compiled { IsCompiled choice names.now bundle.now.pred bundle.now }
     ensures { IfOk result (λ line. line.items ≡ bundle_line bundle.now) }
 {
     let mut line = Vec::new(alloc);
@@ -57,12 +96,12 @@ fn line_of(alloc: Global, names: &List<Text>, bundle: &Bundle) -> Result<Vec<u8>
     Ok(line)
 }
 
-/// What `compile` gives for an input.
-pub(crate) fn compile(alloc: Global, input: &[u8]) -> Result<Output, Stop>
-    ensures { Obeys (CompileGives (lines_of input.now)) (λ output. output) result }
+/// What `compile` gives for an input, with these leaves.
+pub(crate) fn compile(alloc: Global, choice: LeafChoice, input: &[u8]) -> Result<Output, Stop>
+    ensures { Obeys (CompileGives choice (lines_of input.now)) (λ output. output) result }
 {
     let (names, pred) = asked(alloc, input)?;
-    let bundle = bundle_of(alloc, pred, &names)?;
-    let line = line_of(alloc, &names, &bundle)?;
+    let bundle = bundle_of(alloc, choice, pred, &names)?;
+    let line = line_of(alloc, choice, &names, &bundle)?;
     Ok(Output::new(line, Ending::Done))
 }

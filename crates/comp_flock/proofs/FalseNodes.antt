@@ -1,0 +1,304 @@
+-- The nodes of the tree for false close.
+use Rattle.std.proofs.Common.{◌≡◌, ◌≢◌, ◌⊎◌, ◌∙◌, inl, inr, subst, ℕ, zero, suc, ◌+◌, ◌^◌, ◌<◌, ◌≤◌, Bool, true, false, ◌&&◌, ◌||◌, List, [], ◌∷◌, ◌++◌, length, map, get_or, refl, ap, sym, zero-add, arith}
+use Rattle.std.specs.Prelude.{ℤ, pos, negsuc, neg_ℤ, ◌+ℤ◌, ◌-ℤ◌, ◌*ℤ◌, ◌≤ℤ◌, if◌then◌else◌, ◌==◌, not, All, int_le}
+use Rattle.std.specs.List.{range_with_len, list_all}
+use Rattle.std.specs.Ordering.{int_eq}
+use Rattle.std.proofs.lemmas.Int.{ints}
+use Rattle.std.proofs.Math.IntN.{*ℤ-zero, zero-*ℤ, *ℤ_comm}
+use Rattle.std.proofs.lemmas.Bool.{cases_lt, cases_eq, eq-eqb, ne_eqb}
+use Rattle.std.proofs.lemmas.Bool.Decides.{eqb_tells}
+use Rattle.std.proofs.lemmas.List.{length-map, length-append, get_or-map, get_or_past, length-replicate}
+use Rattle.std.proofs.lemmas.List.Elements.{All-get_or}
+use Rattle.std.proofs.lemmas.List.FromFn.{length-range_with_len, length-map-range_with_len}
+use Rattle.pop_net.specs.declared.leaf.Move.{Move}
+use Rattle.pop_net.specs.LeafModel.{LeafModel, IsLeaf}
+use Rattle.pres_ast.specs.PredModel.{PredModel}
+use Rattle.cert_base.specs.declared.fact.Fact.{Fact}
+use Rattle.cert_base.specs.declared.fact.Fact.TheVariants.{Ge, Eq}
+use Rattle.cert_base.specs.Rows.{terms_from, zeros, input_row, single_row, move_variable}
+use Rattle.cert_base.specs.ClosingTests.{linear_closes, may_add}
+use Rattle.cert_base.specs.FactsAndCases.{indicator, states_of, is_in, takes_from, puts_into, places_from, some_taken, none_taken, count_in}
+use Rattle.cert_base.specs.WeightedSums.{weighted_sum, coefficient, constant_of, may_weigh}
+use Rattle.cert_base.proofs.WeightedSums.{weighted_sum-append, weighted_sum-zeros, may_weigh-append, may_weigh-zeros}
+use Rattle.cert_base.proofs.FlowSums.{coefficient-dense, times-one, mul-neg}
+use Rattle.comp_trees.proofs.LeaderEnds.{is_wrong}
+use Rattle.comp_trees.proofs.TrapNodes.{range-constant, states-state, states-input, states-past}
+use Rattle.comp_flock_leaf.specs.FlockLeaf.{is_coefficient, bound_of, size_of, start_of, name_of, doubling, conversion, moves_of, flock_leaf}
+use Rattle.comp_flock.specs.FlockProof.{mix, size_below, first_by, start_by, never_by, flock_pred}
+use Rattle.comp_flock_leaf.proofs.Powers.{power-double, size-power, size-at, zero_le}
+use Rattle.comp_flock_leaf.proofs.MoveLists.{all_moves, all_doublings, all_conversions}
+use Rattle.comp_flock_leaf.proofs.Formed.{start-low, states-long}
+use Rattle.comp_flock.proofs.Mixes.{IsPlain, all_facts, IsLow, mix_closes}
+use Rattle.comp_flock.proofs.OwnFacts.{taken-before, taken-move, taken-past, places-none, places-all}
+use Rattle.comp_flock.proofs.TrueNodes.{start-size, coefficient-at, is_plain, output-at}
+
+-- ---- the set of 2^k
+
+abbrev pub full : ℕ → List ℕ
+full k = (k + 1) ∷ []
+
+in-yes : (k : ℕ) → is_in (full k) (k + 1) ≡ true
+in-yes k = rw (eq-eqb (k + 1) (k + 1) refl) refl
+
+in-no : (k q : ℕ) → q ≢ k + 1 → is_in (full k) q ≡ false
+in-no k q ne = let e = ne_eqb (k + 1) q (λ e. ne (sym e)) in rw e refl
+
+-- whether a move puts into the set, and takes from it
+doubling-takes : (k i : ℕ) → i < k → takes_from (full k) (doubling i) ≡ false
+doubling-takes k i l = let e = in-no k (i + 1) (λ e. omega arith) in rw e refl
+
+conversion-takes : (k q : ℕ) → takes_from (full k) (conversion k q) ≡ true
+conversion-takes k q = let e = in-yes k in rw e refl
+
+last-puts : (k i : ℕ) → i + 1 ≡ k → puts_into (full k) (doubling i) ≡ true
+last-puts k i e = let h : is_in (full k) (i + 2) ≡ true = rw (eq-eqb (k + 1) (i + 2) (omega arith)) refl in rw h refl
+
+early-puts : (k i : ℕ) → i + 1 < k → puts_into (full k) (doubling i) ≡ false
+early-puts k i l = let e = in-no k (i + 2) (λ e. omega arith) in let f = in-no k 0 (λ e. omega arith) in rw (e, f) refl
+
+abbrev pub joins : ℕ → Move → Bool
+joins k t = puts_into (full k) t && not (takes_from (full k) t)
+
+size-full : (k : ℕ) → size_below k (k + 1) ≡ pos 0
+size-full k = rw (eq-eqb (k + 1) (k + 1) refl) refl
+
+size-other : (k q : ℕ) → q ≢ k + 1 → size_below k q ≡ pos (size_of q)
+size-other k q ne = rw (ne_eqb q (k + 1) ne) refl
+
+size-positive : (k q : ℕ) → pos 0 ≤ℤ size_below k q
+size-positive k q = go (q == k + 1)
+  where
+    go : (b : Bool) → pos 0 ≤ℤ (if b then pos 0 else pos (size_of q))
+    go true = omega (arith, ints)
+    go false = omega (arith, ints)
+
+times-yes : (a : ℤ) → (a *ℤ indicator true) ≡ a
+times-yes a = times-one a
+
+module _ (coefs : List ℤ) (k : ℕ) (some : 1 ≤ k) (are : list_all is_coefficient coefs ≡ true) (formed : IsLeaf (flock_leaf coefs k)) where
+  abbrev leaf : LeafModel
+  leaf = flock_leaf coefs k
+
+  abbrev pred : PredModel
+  pred = flock_pred coefs k
+
+  abbrev n : ℕ
+  n = length leaf.inputs
+
+  plain : IsPlain leaf coefs
+  plain = is_plain coefs coefs k formed refl
+
+  long : length leaf.states ≡ k + 2
+  long = states-long k
+
+  -- the start of an input
+  start-at : (i : ℕ) → i < n → get_or leaf.inputs i 0 ≡ start_of (get_or coefs i (pos 0))
+  start-at i l = get_or-map start_of coefs i (pos 0) 0 (omega (arith, length-map coefs start_of))
+
+  -- ---- the first 2^k
+
+  abbrev pub first_facts : List Fact
+  first_facts = some_taken leaf (joins k) ∷ []
+
+  abbrev full_size : ℤ
+  full_size = pos (2 ^ k)
+
+  abbrev below : ℕ → ℤ
+  below = size_below k
+
+  first_sum : (value : Fact → ℤ) → weighted_sum value first_facts (full_size ∷ []) ≡ (full_size *ℤ value (some_taken leaf (joins k)))
+  first_sum value = omega (arith, ints)
+
+  first_none : (x : ℕ) → coefficient x (some_taken leaf (joins k)) ≡ pos 0 → weighted_sum (coefficient x) first_facts (full_size ∷ []) ≡ pos 0
+  first_none x e = first_sum (coefficient x) ∙ ap (λ c. full_size *ℤ c) e ∙ *ℤ-zero full_size
+
+  -- what a move loses, and what it counts for where it makes the first 2^k
+  abbrev Loses : Move → Type 0
+  Loses t = (((below t.r +ℤ below t.s) -ℤ (below t.p +ℤ below t.q)) +ℤ (full_size *ℤ indicator (joins k t))) ≤ℤ pos 0
+
+  first_moves : All Loses (moves_of k)
+  first_moves = all_moves k Loses (λ i l. joining i l (cases_lt (i + 1) k)) converting
+    where
+      joining : (i : ℕ) → i < k → (i + 1 < k) ⊎ (k ≤ i + 1) → Loses (doubling i)
+      joining i l (inl m) =
+          let none : joins k (doubling i) ≡ false = let e = early-puts k i m in rw e refl in
+          let a = size-other k (i + 1) (λ e. omega arith) in
+          let b = size-other k (i + 2) (λ e. omega arith) in
+          let c = size-other k 0 (λ e. omega arith) in
+          let counts = ap (λ j. full_size *ℤ indicator j) none ∙ *ℤ-zero full_size in
+          let e = power-double i in
+          let f = size-power i in
+          let g = size-at (i + 2) (i + 1) (omega arith) in
+          omega (arith, ints, a, b, c, counts, e, f, g)
+      joining i l (inr m) =
+          let last : i + 1 ≡ k = omega arith in
+          let one : joins k (doubling i) ≡ true = let e = last-puts k i last in let f = doubling-takes k i l in rw (e, f) refl in
+          let a = size-other k (i + 1) (λ e. omega arith) in
+          let b : below (i + 2) ≡ pos 0 = ap below (let e : i + 2 ≡ k + 1 = omega arith in e) ∙ size-full k in
+          let c = size-other k 0 (λ e. omega arith) in
+          let counts = ap (λ j. full_size *ℤ indicator j) one ∙ times-yes full_size in
+          let e = power-double i in
+          let f = ap (λ m. 2 ^ m) last in
+          let g = size-power i in
+          omega (arith, ints, a, b, c, counts, e, f, g)
+
+      converting : (q : ℕ) → q ≤ k → Loses (conversion k q)
+      converting q l =
+          let none : joins k (conversion k q) ≡ false = ap (λ (c : Bool). puts_into (full k) (conversion k q) && not c) (conversion-takes k q) ∙ and_no (puts_into (full k) (conversion k q)) in
+          let a = size-full k in
+          let b = size-positive k q in
+          let counts = ap (λ j. full_size *ℤ indicator j) none ∙ *ℤ-zero full_size in
+          omega (arith, ints, a, b, counts)
+        where
+          and_no : (c : Bool) → (c && false) ≡ false
+          and_no true = refl
+          and_no false = refl
+
+  first_low : IsLow leaf pred false coefs (neg_ℤ (bound_of k)) first_facts below (pos 0) (pos 1) (full_size ∷ [])
+  first_low = record {
+    at_inputs = λ i l. (
+        let a = get_or coefs i (pos 0) in
+        let low = start-low a in
+        let first = ap below (start-at i l) ∙ size-other k (start_of a) (λ e. omega arith) ∙ start-size a (coefficient-at coefs i are (omega (arith, length-map coefs start_of))) in
+        let none = first_none i (taken-before leaf (joins k) i (omega arith)) in
+        let one = one_times a in
+        omega (arith, ints, first, none, one));
+    at_states = λ z l. (
+        let none = first_none (n + z) (taken-before leaf (joins k) (n + z) (omega arith)) in
+        let right = zero-*ℤ (indicator (is_wrong leaf false z)) in
+        let high = size-positive k z in
+        omega (arith, ints, none, right, high));
+    at_moves = λ t d l. (
+        let sum = first_sum (coefficient (n + length leaf.states + t)) in
+        let here = ap (λ c. full_size *ℤ c) (taken-move leaf (joins k) t d l) in
+        let low = All-get_or Loses leaf.moves t d l first_moves in
+        omega (arith, ints, sum, here, low));
+    at_past = λ j. (let none = first_none (n + length leaf.states + (length leaf.moves + j)) (taken-past leaf (joins k) j) in omega (arith, ints, none));
+    at_end = (
+        let one = one_times (neg_ℤ (bound_of k)) in
+        let sum : weighted_sum constant_of first_facts (full_size ∷ []) ≡ neg_ℤ full_size = first_sum constant_of ∙ mul-neg full_size (pos 1) ∙ ap neg_ℤ (times-one full_size) in
+        omega (arith, ints, one, sum));
+  }
+    where
+      one_times : (a : ℤ) → (pos 1 *ℤ a) ≡ a
+      one_times a = omega (arith, ints)
+
+  first_may : may_weigh may_add first_facts (full_size ∷ []) ≡ true
+  first_may = ap (λ (c : Bool). (int_eq full_size (pos 0) || c) && true) (zero_le (2 ^ k)) ∙ or_yes (int_eq full_size (pos 0))
+    where
+      or_yes : (c : Bool) → ((c || true) && true) ≡ true
+      or_yes true = refl
+      or_yes false = refl
+
+  pub first_closes : linear_closes (all_facts leaf pred false coefs (neg_ℤ (bound_of k)) first_facts) (terms_from 0 (first_by k)) ≡ true
+  first_closes =
+      subst (λ m. linear_closes (all_facts leaf pred false coefs (neg_ℤ (bound_of k)) first_facts) (terms_from 0 (mix (map below (range_with_len 0 m)) (pos 0) (pos 1) (full_size ∷ []))) ≡ true) long
+      (mix_closes leaf pred false coefs (neg_ℤ (bound_of k)) first_facts below (pos 0) (pos 1) (full_size ∷ []) plain refl refl first_may first_low)
+
+  -- ---- no agent starts as 2^k
+
+  abbrev starts : ℕ → ℤ
+  starts start = indicator (is_in (full k) start)
+
+  abbrev pub start_facts : List Fact
+  start_facts = Ge (input_row (map starts leaf.inputs) (negsuc 0)) ∷ []
+
+  start_none : (x : ℕ) → weighted_sum (coefficient x) start_facts (pos 1 ∷ []) ≡ pos 0
+  start_none x =
+      let row = coefficient-dense (map starts leaf.inputs) x ∙ zero_at (cases_lt x n) in
+      omega (arith, ints, row)
+    where
+      zero_at : (x < n) ⊎ (n ≤ x) → get_or (map starts leaf.inputs) x (pos 0) ≡ pos 0
+      zero_at (inl l) =
+          let low = start-low (get_or coefs x (pos 0)) in
+          get_or-map starts leaf.inputs x 0 (pos 0) l ∙ ap indicator (in-no k (get_or leaf.inputs x 0) (λ e. let f = start-at x l in omega arith))
+      zero_at (inr l) = get_or_past (map starts leaf.inputs) x (pos 0) (omega (arith, length-map leaf.inputs starts))
+
+  start_low : IsLow leaf pred false coefs (neg_ℤ (bound_of k)) start_facts (λ q. pos 0) (pos 0) (pos 0) (pos 1 ∷ [])
+  start_low = record {
+    at_inputs = λ i l. (let none = start_none i in let row = zero-*ℤ (get_or coefs i (pos 0)) in omega (arith, ints, none, row));
+    at_states = λ z l. (let none = start_none (n + z) in let right = zero-*ℤ (indicator (is_wrong leaf false z)) in omega (arith, ints, none, right));
+    at_moves = λ t d l. (let none = start_none (n + length leaf.states + t) in omega (arith, ints, none));
+    at_past = λ j. (let none = start_none (n + length leaf.states + (length leaf.moves + j)) in omega (arith, ints, none));
+    at_end = (let row = zero-*ℤ (neg_ℤ (bound_of k)) in omega (arith, ints, row));
+  }
+
+  -- the states' flows aren't added
+  no_flows : (wrong : ℤ) (own : List ℤ) → mix (map (λ (q : ℕ). pos 0) (states_of leaf)) wrong (pos 0) own ≡ mix (zeros (k + 2)) wrong (pos 0) own
+  no_flows wrong own =
+      ap (λ m. mix (map (λ (q : ℕ). pos 0) (range_with_len 0 m)) wrong (pos 0) own) long
+      ∙ ap (λ zs. mix zs wrong (pos 0) own) (range-constant (pos 0) 0 (k + 2))
+
+  pub start_closes : linear_closes (all_facts leaf pred false coefs (neg_ℤ (bound_of k)) start_facts) (terms_from 0 (start_by k)) ≡ true
+  start_closes =
+      subst (λ ms. linear_closes (all_facts leaf pred false coefs (neg_ℤ (bound_of k)) start_facts) (terms_from 0 ms) ≡ true) (no_flows (pos 0) (pos 1 ∷ []))
+      (mix_closes leaf pred false coefs (neg_ℤ (bound_of k)) start_facts (λ q. pos 0) (pos 0) (pos 0) (pos 1 ∷ []) plain refl refl refl start_low)
+
+  -- ---- 2^k never came
+
+  abbrev not_taken : List Fact
+  not_taken = none_taken leaf (takes_from (full k))
+
+  abbrev no_count : Fact
+  no_count = Eq (count_in leaf (full k) (pos 0))
+
+  abbrev pub never_facts : List Fact
+  never_facts = not_taken ++ no_count ∷ []
+
+  abbrev never_own : List ℤ
+  never_own = zeros (k + 1) ++ negsuc 0 ∷ []
+
+  length_taken : length not_taken ≡ k + 1
+  length_taken =
+      length-map (places_from 0 (takes_from (full k)) leaf.moves) (λ t. Eq (single_row (move_variable leaf t) (pos 1) (pos 0)))
+      ∙ ap length (places-none 0 (takes_from (full k)) (map doubling (range_with_len 0 k)) (map (conversion k) (range_with_len 0 (k + 1))) (all_doublings k (λ t. takes_from (full k) t ≡ false) (doubling-takes k)))
+      ∙ ap length (places-all (0 + length (map doubling (range_with_len 0 k))) (takes_from (full k)) (map (conversion k) (range_with_len 0 (k + 1))) (all_conversions k (λ t. takes_from (full k) t ≡ true) (λ q l. conversion-takes k q)))
+      ∙ length-range_with_len (0 + length (map doubling (range_with_len 0 k))) (length (map (conversion k) (range_with_len 0 (k + 1))))
+      ∙ length-map-range_with_len (conversion k) 0 (k + 1)
+
+  pub never_long : length never_facts ≡ k + 2
+  never_long = omega (arith, length-append not_taken (no_count ∷ []), length_taken)
+
+  same_length : length not_taken ≡ length (zeros (k + 1))
+  same_length = length_taken ∙ sym (length-replicate (k + 1) (pos 0))
+
+  never_sum : (value : Fact → ℤ) → weighted_sum value never_facts never_own ≡ (negsuc 0 *ℤ value no_count)
+  never_sum value =
+      let both = weighted_sum-append value not_taken (no_count ∷ []) (zeros (k + 1)) (negsuc 0 ∷ []) same_length in
+      let none = weighted_sum-zeros value not_taken (k + 1) in
+      omega (arith, ints, both, none)
+
+  never_may : may_weigh may_add never_facts never_own ≡ true
+  never_may = may_weigh-append may_add not_taken (no_count ∷ []) (zeros (k + 1)) (negsuc 0 ∷ []) same_length (may_weigh-zeros may_add not_taken (k + 1) (omega (arith, length_taken))) refl
+
+  abbrev held : ℕ → ℤ
+  held q = indicator (is_in (full k) q)
+
+  never_none : (x : ℕ) → coefficient x no_count ≡ pos 0 → weighted_sum (coefficient x) never_facts never_own ≡ pos 0
+  never_none x e = never_sum (coefficient x) ∙ ap (λ c. negsuc 0 *ℤ c) e
+
+  -- a wrong output is that of 2^k
+  wrong-at : (z : ℕ) → z < k + 2 → indicator (is_wrong leaf false z) ≡ held z
+  wrong-at z l = ap indicator (output-at coefs k z l) ∙ same (eqb_tells z (k + 1))
+    where
+      same : ((z == k + 1) ≡ true) × (z ≡ k + 1) ⊎ ((z == k + 1) ≡ false) × (z ≢ k + 1) → indicator (z == k + 1) ≡ held z
+      same (inl h) = ap indicator h.0 ∙ sym (ap held h.1 ∙ ap indicator (in-yes k))
+      same (inr h) = ap indicator h.0 ∙ sym (ap indicator (in-no k z h.1))
+
+  never_low : IsLow leaf pred false coefs (neg_ℤ (bound_of k)) never_facts (λ q. pos 0) (pos 1) (pos 0) never_own
+  never_low = record {
+    at_inputs = λ i l. (let none = never_none i (states-input leaf held i l) in let row = zero-*ℤ (get_or coefs i (pos 0)) in omega (arith, ints, none, row));
+    at_states = λ z l. (
+        let sum = never_sum (coefficient (n + z)) in
+        let here = states-state leaf held z l in
+        let wrong = wrong-at z (omega (arith, long)) in
+        omega (arith, ints, sum, here, wrong));
+    at_moves = λ t d l. (let none = never_none (n + length leaf.states + t) (states-past leaf held t) in omega (arith, ints, none));
+    at_past = λ j. (let none = never_none (n + length leaf.states + (length leaf.moves + j)) (states-past leaf held (length leaf.moves + j)) in omega (arith, ints, none));
+    at_end = (let sum = never_sum constant_of in let row = zero-*ℤ (neg_ℤ (bound_of k)) in omega (arith, ints, sum, row));
+  }
+
+  pub never_closes : linear_closes (all_facts leaf pred false coefs (neg_ℤ (bound_of k)) never_facts) (terms_from 0 (never_by k)) ≡ true
+  never_closes =
+      subst (λ ms. linear_closes (all_facts leaf pred false coefs (neg_ℤ (bound_of k)) never_facts) (terms_from 0 ms) ≡ true) (no_flows (pos 1) never_own)
+      (mix_closes leaf pred false coefs (neg_ℤ (bound_of k)) never_facts (λ q. pos 0) (pos 1) (pos 0) never_own plain refl refl never_may never_low)

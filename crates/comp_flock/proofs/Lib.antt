@@ -1,0 +1,9 @@
+pub mod Mixes
+pub mod OwnFacts
+pub mod TrueNodes
+pub mod FalseNodes
+pub mod Small
+pub mod Closing
+pub mod Layers
+pub mod Within
+pub mod Valid

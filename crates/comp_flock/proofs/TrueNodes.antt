@@ -1,0 +1,266 @@
+-- The nodes of the tree for true close.
+use Rattle.std.proofs.Common.{◌≡◌, ◌≢◌, ◌⊎◌, ◌∙◌, inl, inr, subst, ℕ, zero, suc, ◌+◌, ◌^◌, ◌<◌, ◌≤◌, Bool, true, false, ◌&&◌, ◌||◌, List, [], ◌∷◌, ◌++◌, length, map, get_or, replicate, refl, ap, sym, zero-add, arith}
+use Rattle.std.specs.Prelude.{ℤ, pos, negsuc, neg_ℤ, ◌+ℤ◌, ◌-ℤ◌, ◌*ℤ◌, ◌≤ℤ◌, if◌then◌else◌, ◌==◌, not, All, int_le}
+use Rattle.std.specs.List.{range_with_len, list_all}
+use Rattle.std.specs.Ordering.{int_eq}
+use Rattle.std.proofs.lemmas.Int.{ints}
+use Rattle.std.proofs.Math.IntN.{*ℤ-zero, zero-*ℤ, *ℤ_comm}
+use Rattle.std.proofs.lemmas.Bool.{cases_lt, eq-eqb, ne_eqb}
+use Rattle.std.proofs.lemmas.Bool.Decides.{Decides-int_eq}
+use Rattle.std.proofs.lemmas.List.{length-map, append-nil, get_or-map, length-replicate}
+use Rattle.std.proofs.lemmas.List.Elements.{All-get_or}
+use Rattle.std.proofs.lemmas.List.FromFn.{length-map-range_with_len, get_or-map-range_with_len}
+use Rattle.std.proofs.lemmas.List.Sums.{AllPass-from_list_all}
+use Rattle.pop_net.specs.declared.leaf.Move.{Move}
+use Rattle.pop_net.specs.LeafModel.{LeafModel, IsLeaf}
+use Rattle.pres_ast.specs.PredModel.{PredModel}
+use Rattle.cert_base.specs.declared.fact.Fact.{Fact}
+use Rattle.cert_base.specs.Rows.{terms_from, zeros}
+use Rattle.cert_base.specs.ClosingTests.{linear_closes, may_add}
+use Rattle.cert_base.specs.FactsAndCases.{indicator, states_of, absent, occurs, not_twice}
+use Rattle.cert_base.specs.WeightedSums.{weighted_sum, coefficient, constant_of, may_weigh, total}
+use Rattle.cert_base.proofs.WeightedSums.{weighted_sum-append, may_weigh-append, none_weighted}
+use Rattle.cert_base.proofs.FlowSums.{weighted_sum-map, total-same, total-none, total-neg, mul-neg}
+use Rattle.comp_trees.proofs.LeaderEnds.{absent-at, is_wrong, may_weigh-eqs}
+use Rattle.comp_trees.proofs.TrapNodes.{range-constant}
+use Rattle.comp_layers.proofs.Members.{range_one_more}
+use Rattle.comp_flock_leaf.specs.FlockLeaf.{is_coefficient, bound_of, size_of, start_of, name_of, doubling, conversion, moves_of, flock_leaf}
+use Rattle.comp_flock.specs.FlockProof.{mix, few_by, converted_by, flock_pred}
+use Rattle.comp_flock_leaf.proofs.Powers.{power-double, size-power, size-at, size-le, sizes-total, zero_le}
+use Rattle.comp_flock_leaf.proofs.MoveLists.{all_moves}
+use Rattle.comp_flock_leaf.proofs.Formed.{states-long}
+use Rattle.comp_flock.proofs.Mixes.{IsPlain, all_facts, mixed, IsLow, mix_closes}
+use Rattle.comp_flock.proofs.OwnFacts.{not_twice-at, total-append, total-counts, total-others}
+
+-- ---- coefficients are 0 or -1
+
+pub coefficient-cases : (a : ℤ) → is_coefficient a ≡ true → (a ≡ pos 0) ⊎ (a ≡ negsuc 0)
+coefficient-cases a e = go (int_eq a (pos 0)) (int_eq a (negsuc 0)) refl refl e
+  where
+    go : (c d : Bool) → int_eq a (pos 0) ≡ c → int_eq a (negsuc 0) ≡ d → (c || d) ≡ true → (a ≡ pos 0) ⊎ (a ≡ negsuc 0)
+    go true d f g h = inl ((Decides-int_eq a (pos 0)).0 f)
+    go false true f g h = inr ((Decides-int_eq a (negsuc 0)).0 g)
+    go false false f g h = absurd (let n : false ≡ true = h in cc)
+
+pub start-size : (a : ℤ) → is_coefficient a ≡ true → pos (size_of (start_of a)) ≡ neg_ℤ a
+start-size a e = elim (coefficient-cases a e) [ inl h ↦ rw h refl | inr h ↦ rw h refl ]
+
+pub coefficient-at : (coefs : List ℤ) (i : ℕ) → list_all is_coefficient coefs ≡ true → i < length coefs → is_coefficient (get_or coefs i (pos 0)) ≡ true
+coefficient-at coefs i all l = AllPass-from_list_all is_coefficient coefs all i (pos 0) l
+
+pub is_plain : (coefs others : List ℤ) (k : ℕ) → IsLeaf (flock_leaf coefs k) → length others ≡ length coefs → IsPlain (flock_leaf coefs k) others
+is_plain coefs others k formed e = record {
+  helpers = refl;
+  inputs = formed.inputs;
+  moves = formed.moves;
+  long = e ∙ sym (length-map coefs start_of);
+}
+
+-- the output of a state
+pub output-at : (coefs : List ℤ) (k z : ℕ) → z < k + 2 → get_or (flock_leaf coefs k).outputs z false ≡ (z == k + 1)
+output-at coefs k z l = get_or-map-range_with_len (λ q. q == k + 1) 0 (k + 2) z z false l (zero-add z)
+
+module _ (coefs : List ℤ) (k : ℕ) (are : list_all is_coefficient coefs ≡ true) (formed : IsLeaf (flock_leaf coefs k)) where
+  abbrev leaf : LeafModel
+  leaf = flock_leaf coefs k
+
+  abbrev pred : PredModel
+  pred = flock_pred coefs k
+
+  abbrev pub true_row : List ℤ
+  true_row = map neg_ℤ coefs
+
+  abbrev n : ℕ
+  n = length leaf.inputs
+
+  plain : IsPlain leaf true_row
+  plain = is_plain coefs true_row k formed (length-map coefs neg_ℤ)
+
+  long : length leaf.states ≡ k + 2
+  long = states-long k
+
+  -- ---- too few agents
+
+  abbrev pub few_facts : ℕ → List Fact
+  few_facts j = absent leaf (k + 1) ∷ map (not_twice leaf) (range_with_len 1 j)
+
+  abbrev size : ℕ → ℤ
+  size q = pos (size_of q)
+
+  abbrev few_own : List ℤ
+  few_own = neg_ℤ (pos (2 ^ k)) ∷ map (λ q. pos (size_of q)) (range_with_len 1 k)
+
+  abbrev counted : ℕ → ℤ
+  counted x = total (λ q. size q *ℤ indicator ((n + q) == x)) (range_with_len 0 (k + 2))
+
+  neg_times : (a c : ℤ) → (neg_ℤ a *ℤ c) ≡ neg_ℤ (a *ℤ c)
+  neg_times a c = *ℤ_comm (neg_ℤ a) c ∙ mul-neg c a ∙ ap neg_ℤ (*ℤ_comm c a)
+
+  few_sum : (x : ℕ) → weighted_sum (coefficient x) (few_facts k) few_own ≡ neg_ℤ (counted x)
+  few_sum x =
+      let f : ℕ → ℤ = λ q. size q *ℤ indicator ((n + q) == x) in
+      let first = ap (λ c. neg_ℤ (pos (2 ^ k)) *ℤ c) (absent-at leaf (k + 1) x) ∙ neg_times (pos (2 ^ k)) (indicator ((n + (k + 1)) == x)) in
+      let second = weighted_sum-map (coefficient x) (not_twice leaf) (λ q. pos (size_of q)) (range_with_len 1 k)
+      ∙ total-same (λ q. size q *ℤ coefficient x (not_twice leaf q)) (λ q. neg_ℤ (f q)) (range_with_len 1 k) (λ q. ap (λ c. size q *ℤ c) (not_twice-at leaf q x) ∙ mul-neg (size q) (indicator ((n + q) == x)))
+      ∙ total-neg f (range_with_len 1 k) in
+      let whole = ap (λ m. total f (range_with_len 0 m)) (let e : k + 2 ≡ k + 1 + 1 = omega arith in e) ∙ ap (total f) (range_one_more (k + 1)) ∙ total-append f (range_with_len 0 (k + 1)) ((k + 1) ∷ []) in
+      let early = ap (λ m. total f (range_with_len 0 m)) (let e : k + 1 ≡ suc k = omega arith in e) in
+      let last = ap (λ m. pos m *ℤ indicator ((n + (k + 1)) == x)) (size-power k) in
+      let none = zero-*ℤ (indicator ((n + 0) == x)) in
+      omega (arith, ints, first, second, whole, early, last, none)
+
+  few_constant : weighted_sum constant_of (few_facts k) few_own ≡ (pos (2 ^ k) -ℤ pos 1)
+  few_constant =
+      let first = *ℤ-zero (neg_ℤ (pos (2 ^ k))) in
+      let second = weighted_sum-map constant_of (not_twice leaf) (λ q. pos (size_of q)) (range_with_len 1 k) in
+      let third = sizes-total 0 k in
+      let same = ap (λ m. 2 ^ m) (zero-add k) in
+      omega (arith, ints, first, second, third, same)
+
+  few_may : may_weigh may_add (few_facts k) few_own ≡ true
+  few_may = or_first (int_eq (neg_ℤ (pos (2 ^ k))) (pos 0)) (twins_may 1 k)
+    where
+      or_first : (c : Bool) → may_weigh may_add (map (not_twice leaf) (range_with_len 1 k)) (map (λ q. pos (size_of q)) (range_with_len 1 k)) ≡ true → ((c || true) && may_weigh may_add (map (not_twice leaf) (range_with_len 1 k)) (map (λ q. pos (size_of q)) (range_with_len 1 k))) ≡ true
+      or_first true h = h
+      or_first false h = h
+
+      or_yes : (c : Bool) → (c || true) ≡ true
+      or_yes true = refl
+      or_yes false = refl
+
+      twins_may : (a m : ℕ) → may_weigh may_add (map (not_twice leaf) (range_with_len a m)) (map (λ q. pos (size_of q)) (range_with_len a m)) ≡ true
+      twins_may a zero = refl
+      twins_may a (suc m) =
+          let rest = twins_may (a + 1) m in
+          let here : (int_eq (pos (size_of a)) (pos 0) || int_le (pos 0) (pos (size_of a))) ≡ true = ap (λ (c : Bool). int_eq (pos (size_of a)) (pos 0) || c) (zero_le (size_of a)) ∙ or_yes (int_eq (pos (size_of a)) (pos 0)) in
+          rw (here, rest) refl
+
+  -- no move loses agents
+  few_moves : All (λ t. (neg_ℤ (size t.r) +ℤ neg_ℤ (size t.s)) ≤ℤ (neg_ℤ (size t.p) +ℤ neg_ℤ (size t.q))) (moves_of k)
+  few_moves =
+      all_moves k (λ t. (neg_ℤ (size t.r) +ℤ neg_ℤ (size t.s)) ≤ℤ (neg_ℤ (size t.p) +ℤ neg_ℤ (size t.q)))
+      (λ i l. let e = power-double i in let f = size-power i in let g = size-at (i + 2) (i + 1) (omega arith) in omega (arith, ints, e, f, g))
+      (λ q l. let e = size-le k q (omega arith) in let f = size-power k in omega (arith, ints, e, f))
+
+  few_low : IsLow leaf pred true true_row (bound_of k -ℤ pos 1) (few_facts k) (λ q. neg_ℤ (size q)) (pos 0) (pos 1) few_own
+  few_low = record {
+    at_inputs = λ i l. (
+        let below : i < length coefs = omega (arith, length-map coefs start_of) in
+        let start = get_or-map start_of coefs i (pos 0) 0 below in
+        let a = get_or coefs i (pos 0) in
+        let row = get_or-map neg_ℤ coefs i (pos 0) (pos 0) below in
+        let first = ap (λ q. neg_ℤ (size q)) start ∙ ap neg_ℤ (start-size a (coefficient-at coefs i are below)) in
+        let sum = few_sum i in
+        let none = total-others n size (k + 2) i (λ q m e. omega arith) in
+        let one = one_times (get_or true_row i (pos 0)) in
+        omega (arith, ints, first, row, sum, none, one));
+    at_states = λ z l. (
+        let sum = few_sum (n + z) in
+        let here = total-counts n size (k + 2) z (omega (arith, long)) in
+        let none = zero-*ℤ (indicator (is_wrong leaf true z)) in
+        omega (arith, ints, sum, here, none));
+    at_moves = λ t d l. (
+        let sum = few_sum (n + length leaf.states + t) in
+        let none = total-others n size (k + 2) (n + length leaf.states + t) (λ q m e. omega (arith, long)) in
+        let low = All-get_or (λ t. (neg_ℤ (size t.r) +ℤ neg_ℤ (size t.s)) ≤ℤ (neg_ℤ (size t.p) +ℤ neg_ℤ (size t.q))) leaf.moves t d l few_moves in
+        omega (arith, ints, sum, none, low));
+    at_past = λ j. (
+        let sum = few_sum (n + length leaf.states + (length leaf.moves + j)) in
+        let none = total-others n size (k + 2) (n + length leaf.states + (length leaf.moves + j)) (λ q m e. omega (arith, long)) in
+        omega (arith, ints, sum, none));
+    at_end = (let sum = few_constant in let one = one_times (bound_of k -ℤ pos 1) in omega (arith, ints, sum, one));
+  }
+    where
+      one_times : (a : ℤ) → (pos 1 *ℤ a) ≡ a
+      one_times a = omega (arith, ints)
+
+  pub few_closes : linear_closes (all_facts leaf pred true true_row (bound_of k -ℤ pos 1) (few_facts k)) (terms_from 0 (few_by k)) ≡ true
+  few_closes =
+      subst (λ m. linear_closes (all_facts leaf pred true true_row (bound_of k -ℤ pos 1) (few_facts k)) (terms_from 0 (mix (map (λ q. neg_ℤ (size q)) (range_with_len 0 m)) (pos 0) (pos 1) few_own)) ≡ true) long
+      (mix_closes leaf pred true true_row (bound_of k -ℤ pos 1) (few_facts k) (λ q. neg_ℤ (size q)) (pos 0) (pos 1) few_own plain refl refl few_may few_low)
+
+  -- ---- all are converted
+
+  abbrev pub converted_facts : List Fact → List Fact
+  converted_facts extra = occurs leaf (k + 1) ∷ (map (absent leaf) (range_with_len 0 (k + 1)) ++ extra)
+
+  abbrev minus_one : ℕ → ℤ
+  minus_one q = negsuc 0
+
+  abbrev converted_own : List ℤ
+  converted_own = pos 0 ∷ map minus_one (range_with_len 0 (k + 1))
+
+  converted_sum : (extra : List Fact) (value : Fact → ℤ) → weighted_sum value (converted_facts extra) converted_own ≡ total (λ q. negsuc 0 *ℤ value (absent leaf q)) (range_with_len 0 (k + 1))
+  converted_sum extra value =
+      let range = range_with_len 0 (k + 1) in
+      let first = zero-*ℤ (value (occurs leaf (k + 1))) in
+      let same = ap (weighted_sum value (map (absent leaf) range ++ extra)) (sym (append-nil (map minus_one range))) in
+      let both = weighted_sum-append value (map (absent leaf) range) extra (map minus_one range) [] (length-map range (absent leaf) ∙ sym (length-map range minus_one)) in
+      let none = none_weighted value extra in
+      let here = weighted_sum-map value (absent leaf) minus_one range in
+      omega (arith, ints, first, same, both, none, here)
+
+  converted_at : (extra : List Fact) (x : ℕ) → weighted_sum (coefficient x) (converted_facts extra) converted_own ≡ total (λ q. negsuc 0 *ℤ indicator ((n + q) == x)) (range_with_len 0 (k + 1))
+  converted_at extra x =
+      converted_sum extra (coefficient x)
+      ∙ total-same (λ q. negsuc 0 *ℤ coefficient x (absent leaf q)) (λ q. negsuc 0 *ℤ indicator ((n + q) == x)) (range_with_len 0 (k + 1)) (λ q. ap (λ c. negsuc 0 *ℤ c) (absent-at leaf q x))
+
+  converted_may : (extra : List Fact) → may_weigh may_add (converted_facts extra) converted_own ≡ true
+  converted_may extra =
+      let range = range_with_len 0 (k + 1) in
+      ap (may_weigh may_add (map (absent leaf) range ++ extra)) (sym (append-nil (map minus_one range)))
+      ∙ may_weigh-append may_add (map (absent leaf) range) extra (map minus_one range) [] (length-map range (absent leaf) ∙ sym (length-map range minus_one)) (may_weigh-eqs may_add (λ a row. refl) _ minus_one range) (rest extra)
+    where
+      rest : (extra : List Fact) → may_weigh may_add extra [] ≡ true
+      rest [] = refl
+      rest (f ∷ extra) = refl
+
+  -- a state's output is wrong where it isn't 2^k
+  wrong-at : (z : ℕ) → z < k + 2 → is_wrong leaf true z ≡ not (z == k + 1)
+  wrong-at z l = ap (λ (c : Bool). not c) (output-at coefs k z l)
+
+  converted_low : (extra : List Fact) → IsLow leaf pred true true_row (bound_of k -ℤ pos 1) (converted_facts extra) (λ q. pos 0) (pos 1) (pos 0) converted_own
+  converted_low extra = record {
+    at_inputs = λ i l. (
+        let sum = converted_at extra i in
+        let none = total-others n minus_one (k + 1) i (λ q m e. omega arith) in
+        let zero_row = zero-*ℤ (get_or true_row i (pos 0)) in
+        omega (arith, ints, sum, none, zero_row));
+    at_states = λ z l. state z (omega (arith, long)) (cases_lt z (k + 1));
+    at_moves = λ t d l. (
+        let sum = converted_at extra (n + length leaf.states + t) in
+        let none = total-others n minus_one (k + 1) (n + length leaf.states + t) (λ q m e. omega (arith, long)) in
+        omega (arith, ints, sum, none));
+    at_past = λ j. (
+        let sum = converted_at extra (n + length leaf.states + (length leaf.moves + j)) in
+        let none = total-others n minus_one (k + 1) (n + length leaf.states + (length leaf.moves + j)) (λ q m e. omega (arith, long)) in
+        omega (arith, ints, sum, none));
+    at_end = (
+        let sum = converted_sum extra constant_of in
+        let none = total-none (λ q. negsuc 0 *ℤ constant_of (absent leaf q)) (range_with_len 0 (k + 1)) (λ q. refl) in
+        let zero_row = zero-*ℤ (bound_of k -ℤ pos 1) in
+        omega (arith, ints, sum, none, zero_row));
+  }
+    where
+      state : (z : ℕ) → z < k + 2 → (z < k + 1) ⊎ (k + 1 ≤ z) → ((neg_ℤ (pos 0) +ℤ (pos 1 *ℤ indicator (is_wrong leaf true z))) +ℤ weighted_sum (coefficient (n + z)) (converted_facts extra) converted_own) ≤ℤ pos 0
+      state z l (inl m) =
+          let sum = converted_at extra (n + z) in
+          let here = total-counts n minus_one (k + 1) z m in
+          let wrong = ap indicator (wrong-at z l ∙ ap (λ (c : Bool). not c) (ne_eqb z (k + 1) (λ e. omega arith))) in
+          omega (arith, ints, sum, here, wrong)
+      state z l (inr m) =
+          let sum = converted_at extra (n + z) in
+          let none = total-others n minus_one (k + 1) (n + z) (λ q h e. omega arith) in
+          let right = ap indicator (wrong-at z l ∙ ap (λ (c : Bool). not c) (eq-eqb z (k + 1) (omega arith))) in
+          omega (arith, ints, sum, none, right)
+
+  pub converted_closes : (extra : List Fact) → linear_closes (all_facts leaf pred true true_row (bound_of k -ℤ pos 1) (converted_facts extra)) (terms_from 0 (converted_by k)) ≡ true
+  converted_closes extra =
+      subst (λ ms. linear_closes (all_facts leaf pred true true_row (bound_of k -ℤ pos 1) (converted_facts extra)) (terms_from 0 ms) ≡ true) same
+      (mix_closes leaf pred true true_row (bound_of k -ℤ pos 1) (converted_facts extra) (λ q. pos 0) (pos 1) (pos 0) converted_own plain refl refl (converted_may extra) (converted_low extra))
+    where
+      same : mix (map (λ (q : ℕ). pos 0) (states_of leaf)) (pos 1) (pos 0) converted_own ≡ converted_by k
+      same =
+          ap (λ m. mix (map (λ (q : ℕ). pos 0) (range_with_len 0 m)) (pos 1) (pos 0) converted_own) long
+          ∙ ap (λ zs. mix zs (pos 1) (pos 0) converted_own) (range-constant (pos 0) 0 (k + 2))
+          ∙ ap (λ ms. mix (zeros (k + 2)) (pos 1) (pos 0) (pos 0 ∷ ms)) (range-constant (negsuc 0) 0 (k + 1))

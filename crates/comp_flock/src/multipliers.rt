@@ -1,0 +1,130 @@
+//! The multipliers of the nodes.
+
+ghost use Rattle.std.specs.Prelude.{◌≡◌, ◌<◌, ◌≤◌, ◌+◌, ◌^◌, map, pos, neg_ℤ, length, IfOk};
+ghost use Rattle.std.specs.List.{range_with_len};
+ghost use Rattle.comp_flock_leaf.specs.declared.limits.TheConstants.{POWER_LIMIT as GREATEST_POWER};
+ghost use Rattle.comp_flock_leaf.specs.FlockLeaf.{size_of as size_in, state_count};
+ghost use Rattle.comp_flock.specs.FlockProof.{mix as mix_list, size_below as below_in, few_by as few_list, converted_by as converted_list, first_by as first_list, start_by as start_list, never_by as never_list};
+
+use comp_flock_leaf::size_of;
+use pop_io::NoMemory;
+use std::alloc::Global;
+
+/// Those of the base facts, of the opened predicate, and of the node's own facts.
+fn mix(
+    alloc: Global,
+    flows: &[i64],
+    wrong: i64,
+    opened: i64,
+    own: &[i64],
+) -> Result<Vec<i64>, NoMemory>
+    ensures { IfOk result (λ multipliers. multipliers.items ≡ mix_list flows.now wrong opened own.now) }
+{
+    let mut multipliers = Vec::from_slice(alloc, flows)?;
+    multipliers.extend_from_slice(&[0, 0, wrong])?;
+    multipliers.extend_from_slice(&[opened])?;
+    multipliers.extend_from_slice(own)?;
+    Ok(multipliers)
+}
+
+fn size(q: u16) -> i64
+    requires { q ≤ GREATEST_POWER + 1 }
+    ensures { result ≡ pos (size_in q) }
+{
+    size_of(q) as i64
+}
+
+fn lost(q: u16) -> i64
+    requires { q ≤ GREATEST_POWER + 1 }
+    ensures { result ≡ neg_ℤ (pos (size_in q)) }
+{
+    -size(q)
+}
+
+/// A state that is 2^k itself has none.
+fn size_below(power: u16, q: u16) -> i64
+    requires power { power ≤ GREATEST_POWER }
+    requires state { q ≤ GREATEST_POWER + 1 }
+    ensures { result ≡ below_in power q }
+{
+    if q == power + 1 { 0 } else { size(q) }
+}
+
+fn all_lost(alloc: Global, power: u16) -> Result<Vec<i64>, NoMemory>
+    requires { power ≤ GREATEST_POWER }
+    ensures { IfOk result (λ all.
+        all.items ≡ map (λ q. neg_ℤ (pos (size_in q))) (range_with_len 0 (state_count power))) }
+{
+    let all = (0..power + 2).map(|q| lost(q)).collect(alloc)?;
+    Ok(all)
+}
+
+fn all_below(alloc: Global, power: u16) -> Result<Vec<i64>, NoMemory>
+    requires { power ≤ GREATEST_POWER }
+    ensures { IfOk result (λ all. all.items ≡ map (below_in power) (range_with_len 0 (state_count power))) }
+{
+    let all = (0..power + 2).map(|q| size_below(power, q)).collect(alloc)?;
+    Ok(all)
+}
+
+/// The sizes of the powers below 2^k.
+fn sizes(alloc: Global, power: u16) -> Result<Vec<i64>, NoMemory>
+    requires { power ≤ GREATEST_POWER }
+    ensures { IfOk result (λ all. all.items ≡ map (λ q. pos (size_in q)) (range_with_len 1 power)) }
+{
+    let all = (1..power + 1).map(|q| size(q)).collect(alloc)?;
+    Ok(all)
+}
+
+/// 2^k is absent, and each smaller power is there once at most.
+pub(crate) fn few(alloc: Global, power: u16) -> Result<Vec<i64>, NoMemory>
+    requires { power ≤ GREATEST_POWER }
+    ensures { IfOk result (λ multipliers. multipliers.items ≡ few_list power) }
+{
+    let mut own = Vec::from_slice(alloc, &[lost(power + 1)])?;
+    let sizes = sizes(alloc, power)?;
+    own.extend_from_slice(sizes.as_slice())?;
+    let flows = all_lost(alloc, power)?;
+    mix(alloc, flows.as_slice(), 0, 1, own.as_slice())
+}
+
+/// 2^k is there, and nothing else.
+pub(crate) fn converted(alloc: Global, power: u16) -> Result<Vec<i64>, NoMemory>
+    requires { power ≤ GREATEST_POWER }
+    ensures { IfOk result (λ multipliers. multipliers.items ≡ converted_list power) }
+{
+    let mut own = Vec::from_slice(alloc, &[0i64])?;
+    let absent = vec![in alloc; -1i64; usize::from(power + 1)]?;
+    own.extend_from_slice(absent.as_slice())?;
+    let flows = vec![in alloc; 0i64; usize::from(power + 2)]?;
+    mix(alloc, flows.as_slice(), 1, 0, own.as_slice())
+}
+
+/// The first 2^k was put together.
+pub(crate) fn first(alloc: Global, power: u16) -> Result<Vec<i64>, NoMemory>
+    requires { power ≤ GREATEST_POWER }
+    ensures { IfOk result (λ multipliers. multipliers.items ≡ first_list power) }
+{
+    let flows = all_below(alloc, power)?;
+    mix(alloc, flows.as_slice(), 0, 1, &[size(power + 1)])
+}
+
+/// An agent started as 2^k.
+pub(crate) fn start(alloc: Global, power: u16) -> Result<Vec<i64>, NoMemory>
+    requires { power ≤ GREATEST_POWER }
+    ensures { IfOk result (λ multipliers. multipliers.items ≡ start_list power) }
+{
+    let flows = vec![in alloc; 0i64; usize::from(power + 2)]?;
+    mix(alloc, flows.as_slice(), 0, 0, &[1])
+}
+
+/// 2^k never came.
+pub(crate) fn never(alloc: Global, power: u16) -> Result<Vec<i64>, NoMemory>
+    requires { power ≤ GREATEST_POWER }
+    ensures { IfOk result (λ multipliers. multipliers.items ≡ never_list power) }
+{
+    let mut own = vec![in alloc; 0i64; usize::from(power + 1)]?;
+    own.extend_from_slice(&[-1])?;
+    let flows = vec![in alloc; 0i64; usize::from(power + 2)]?;
+    mix(alloc, flows.as_slice(), 1, 0, own.as_slice())
+}

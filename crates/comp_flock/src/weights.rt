@@ -1,0 +1,55 @@
+//! The layer of a leaf.
+
+ghost use Rattle.std.specs.Prelude.{◌≡◌, ◌≤◌, ◌+◌, map, IfOk};
+ghost use Rattle.std.specs.List.{range_with_len};
+ghost use Rattle.comp_flock_leaf.specs.declared.limits.TheConstants.{POWER_LIMIT as GREATEST_POWER};
+ghost use Rattle.comp_flock_leaf.specs.FlockLeaf.{state_count};
+ghost use Rattle.comp_flock.specs.FlockProof.{weight_of as weight_in, flock_layers as layer_list};
+
+use cert_base::Layer;
+use pop_io::{List, NoMemory};
+use std::alloc::Global;
+
+fn weight_of(power: u16, q: u16) -> i64
+    requires { power ≤ GREATEST_POWER }
+    ensures { result ≡ weight_in power q }
+{
+    if q == 0 {
+        1
+    } else if q == power + 1 {
+        0
+    } else {
+        2
+    }
+}
+
+fn weights(alloc: Global, power: u16) -> Result<Vec<i64>, NoMemory>
+    requires { power ≤ GREATEST_POWER }
+    ensures { IfOk result (λ weights. weights.items ≡ map (weight_in power) (range_with_len 0 (state_count power))) }
+{
+    let weights = (0..power + 2).map(|q| weight_of(power, q)).collect(alloc)?;
+    Ok(weights)
+}
+
+fn numbers(alloc: Global, count: u32) -> Result<Vec<u32>, NoMemory>
+    ensures { IfOk result (λ numbers. numbers.items ≡ range_with_len 0 count) }
+{
+    let mut numbers = Vec::new(alloc);
+    for number in 0..count {
+        numbers.push(number)?;
+    }
+    Ok(numbers)
+}
+
+/// All moves in one layer.
+pub(crate) fn flock_layers(alloc: Global, power: u16) -> Result<List<Layer>, NoMemory>
+    requires { power ≤ GREATEST_POWER }
+    ensures { IfOk result (λ layers. layers ≡ layer_list power) }
+{
+    let doublings = u32::from(power);
+    let moves = List::from_vec(numbers(alloc, doublings + (doublings + 1))?);
+    let weights = List::from_vec(weights(alloc, power)?);
+    let mut layers = Vec::new(alloc);
+    layers.push(Layer { moves, weights })?;
+    Ok(List::from_vec(layers))
+}

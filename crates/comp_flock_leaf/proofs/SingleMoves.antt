@@ -1,0 +1,27 @@
+-- No two moves of a built leaf of a flock atom take the same states.
+use Rattle.std.proofs.Common.{◌≡◌, ◌≢◌, ℕ, ◌+◌, ◌<◌, ◌≤◌, Bool, true, false, ◌&&◌, ◌||◌, map, refl, arith}
+use Rattle.std.specs.Prelude.{◌==◌, All, AllPairs}
+use Rattle.std.specs.List.{range_with_len}
+use Rattle.std.proofs.lemmas.Bool.{ne_eqb}
+use Rattle.pop_net.specs.LeafModel.{same_pair}
+use Rattle.pop_net.specs.Reaction.{Differ}
+use Rattle.comp_layers.proofs.SortedLayers.{AllPairs-append}
+use Rattle.comp_layers.proofs.Single.{pairs_map}
+use Rattle.comp_flock_leaf.specs.FlockLeaf.{doubling, conversion, moves_of}
+use Rattle.comp_flock_leaf.proofs.MoveLists.{all_doublings, all_conversions, differ_pair}
+
+-- the first states are other ones
+differ_first : (p q u v : ℕ) → p ≢ u → q ≢ u → same_pair p q u v ≡ false
+differ_first p q u v e f =
+    let first = ne_eqb p u e in let second = ne_eqb q u f in let none = and_no (p == v) in rw (first, second, none) refl
+  where
+    and_no : (a : Bool) → (a && false) ≡ false
+    and_no true = refl
+    and_no false = refl
+
+pub moves-single : (k : ℕ) → AllPairs Differ (moves_of k)
+moves-single k =
+    AllPairs-append Differ (map doubling (range_with_len 0 k)) (map (conversion k) (range_with_len 0 (k + 1)))
+    (pairs_map Differ doubling 0 k (λ i j h n o x y. differ_first (i + 1) (i + 1) (j + 1) (j + 1) (λ e. omega arith) (λ e. omega arith)))
+    (pairs_map Differ (conversion k) 0 (k + 1) (λ i j h n o x y. differ_pair (k + 1) i (k + 1) j (λ e. omega arith) (λ e. omega arith)))
+    (all_doublings k (λ t. All (Differ t) (map (conversion k) (range_with_len 0 (k + 1)))) (λ i l. all_conversions k (Differ (doubling i)) (λ q m x y. differ_first (i + 1) (i + 1) (k + 1) q (λ e. omega arith) (λ e. omega arith))))

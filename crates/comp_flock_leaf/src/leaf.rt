@@ -1,0 +1,58 @@
+//! The whole leaf.
+
+ghost use Rattle.std.specs.Prelude.{◌≡◌, ◌≤◌, ◌==◌, ◌+◌, AllPairs, map, length, IfOk};
+ghost use Rattle.std.specs.List.{range_with_len};
+ghost use Rattle.pop_io.specs.declared.names.TheConstants.{VARIABLE_LIMIT};
+ghost use Rattle.pop_net.specs.Reaction.{Differ};
+ghost use Rattle.comp_flock_leaf.specs.declared.limits.TheConstants.{POWER_LIMIT as GREATEST_POWER};
+ghost use Rattle.comp_flock_leaf.specs.FlockLeaf.{start_of as start_in, state_count, flock_leaf as built_leaf};
+
+use crate::listing::moves;
+use crate::naming::names;
+use pop_io::{List, NoMemory};
+use pop_net::Leaf;
+use std::alloc::Global;
+
+fn outputs(alloc: Global, power: u16) -> Result<Vec<bool>, NoMemory>
+    requires { power ≤ GREATEST_POWER }
+    ensures { IfOk result (λ outputs.
+        outputs.items ≡ map (λ q. q == power + 1) (range_with_len 0 (state_count power))) }
+{
+    let outputs = (0..power + 2).map(|q| q == power + 1).collect(alloc)?;
+    Ok(outputs)
+}
+
+/// The state of an agent of a variable at the start.
+fn start_of(coef: i64) -> u16
+    ensures { result ≡ start_in coef }
+{
+    if coef == 0 { 0 } else { 1 }
+}
+
+fn inputs(alloc: Global, coefs: &[i64]) -> Result<Vec<u16>, NoMemory>
+    ensures { IfOk result (λ inputs. inputs.items ≡ map start_in coefs.now) }
+{
+    let mut inputs = Vec::new(alloc);
+    for coef in coefs {
+        inputs.push(start_of(*coef))?;
+    }
+    Ok(inputs)
+}
+
+/// The leaf of the flock atom with these coefficients and this power. It has no helpers.
+pub fn flock_leaf(alloc: Global, coefs: &[i64], power: u16) -> Result<Leaf, NoMemory>
+    requires some { 1 ≤ length coefs.now }
+    requires few { length coefs.now ≤ VARIABLE_LIMIT }
+    requires low { 1 ≤ power }
+    requires high { power ≤ GREATEST_POWER }
+    ensures built { IfOk result (λ leaf. leaf ≡ built_leaf coefs.now power) }
+    // No two of its moves take the same states.
+    ensures single { IfOk result (λ leaf. AllPairs Differ leaf.moves) }
+{
+    let names = names(alloc, power)?;
+    let moves = List::from_vec(moves(alloc, power)?);
+    let inputs = List::from_vec(inputs(alloc, coefs)?);
+    let outputs = List::from_vec(outputs(alloc, power)?);
+    let helpers = List::from_vec(Vec::new(alloc));
+    Leaf::of_valid(alloc, names, moves, inputs, outputs, helpers)
+}
