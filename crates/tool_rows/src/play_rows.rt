@@ -4,7 +4,7 @@ ghost use Rattle.std.specs.Prelude.{◌≡◌, IfOk};
 
 use crate::rows::{ROOM, Row, bytes_of, holds, is_given_both_ways};
 use pop_io::{CalmSink, CalmSource, OpenGate};
-use pop_tool::{Status, run_plain};
+use pop_tool::{Status, run_calm};
 use std::alloc::{AllocError, Global};
 use std::test::Fail;
 
@@ -216,7 +216,7 @@ fn no_words_over_a_calm_sink(rt: HostRuntime) -> Result<(), Fail> {
     let alloc = rt.alloc();
     let mut source = CalmSource::new(bytes_of(alloc, "")?);
     let mut sink = calm_sink(alloc)?;
-    let status = run_plain(alloc, &[], &mut source, &mut sink, &OpenGate);
+    let status = run_calm(alloc, &[], &mut source, &mut sink, &OpenGate);
     assert!(rt; status == Status::Usage);
     assert_eq!(rt; sink.held(), b"fault: usage 0 missing\n".as_slice());
     assert_eq!(rt; status.code(), 1);
