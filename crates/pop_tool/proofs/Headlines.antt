@@ -5,7 +5,7 @@ use Rattle.std.specs.Io.KnownBytes.{Appends}
 use Rattle.std.proofs.lemmas.List.{append_cancel_left}
 use Rattle.pop_lines.specs.Lines.{ended}
 use Rattle.pop_words.specs.declared.command.Command.{Command}
-use Rattle.pop_words.specs.declared.command.Command.TheVariants.{Check, Run, Replay, Compile}
+use Rattle.pop_words.specs.declared.command.Command.TheVariants.{Check, Run, Replay, Compile, Flocks}
 use Rattle.pop_words.specs.declared.command.Usage.{Usage as BadWord}
 use Rattle.pop_words.specs.declared.spec.RunSpec.{RunSpec}
 use Rattle.pop_words.specs.Words.{meaning_of}
@@ -22,6 +22,7 @@ use Rattle.tool_commands.specs.Check.{certified_text}
 use Rattle.tool_commands.specs.Replay.{holds_text, holds_output}
 use Rattle.pop_tool.specs.Answer.{InputGives, OfMeaning, Answer}
 use Rattle.pop_tool.specs.Outcome.{HasLeft, Wrote, Outcome}
+use Rattle.comp_net.specs.declared.choice.LeafChoice.TheVariants as leaves
 use Rattle.pop_tool.specs.Headline.{IsBundleLine, CheckSays, IsValidLine, IsHeldInput, CompileSays, RunSays, WasRun, Headline, IsHeadline}
 use Rattle.pop_tool.proofs.CheckHeadline.{check_says, check_only}
 use Rattle.pop_tool.proofs.RunHeadline.{run_says}
@@ -56,13 +57,18 @@ module _ (words : List (List ℕ)) (input : List ℕ) (output : Output) (answer 
             (ap (λ (o : Output). o.text) out, ap (λ (o : Output). status_of o.ending) out),
       )
 
-  compile_headline : meaning_of words ≡ Ok Compile → status_of output.ending ≡ Done → CompileSays input output.text
+  compile_headline : meaning_of words ≡ Ok Compile → status_of output.ending ≡ Done → CompileSays leaves.Plain input output.text
   compile_headline is done =
       let a = given_for Compile is in
-      subst (λ (o : Output). CompileSays input o.text) (sym a.2) (compile_says input a.0 a.1 (subst (λ (o : Output). status_of o.ending ≡ Done) a.2 done))
+      subst (λ (o : Output). CompileSays leaves.Plain input o.text) (sym a.2) (compile_says leaves.Plain input a.0 a.1 (subst (λ (o : Output). status_of o.ending ≡ Done) a.2 done))
+
+  flocks_headline : meaning_of words ≡ Ok Flocks → status_of output.ending ≡ Done → CompileSays leaves.Flocks input output.text
+  flocks_headline is done =
+      let a = given_for Flocks is in
+      subst (λ (o : Output). CompileSays leaves.Flocks input o.text) (sym a.2) (compile_says leaves.Flocks input a.0 a.1 (subst (λ (o : Output). status_of o.ending ≡ Done) a.2 done))
 
   answer_says : Headline words input output.text (status_of output.ending)
-  answer_says = record { check = check_headline; only = only_headline; run = run_headline; compile = compile_headline; replay = replay_headline }
+  answer_says = record { check = check_headline; only = only_headline; run = run_headline; compile = compile_headline; flocks = flocks_headline; replay = replay_headline }
 
 -- a text that answers what was left, and that the sink took
 module _ (words : List (List ℕ)) (left old new : Option (List ℕ)) (input before text : List ℕ) (left_is : left ≡ Some input) (old_is : old ≡ Some before) (new_is : new ≡ Some (before ++ text)) where

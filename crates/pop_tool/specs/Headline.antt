@@ -11,7 +11,7 @@ use Rattle.pop_net.specs.Step.{Step}
 use Rattle.pop_net.specs.Terminal.{IsTerminal}
 use Rattle.pop_crowd.specs.declared.crowd.Meeting.{Meeting}
 use Rattle.pop_words.specs.declared.spec.RunSpec.{RunSpec}
-use Rattle.pop_words.specs.declared.command.Command.TheVariants.{Check, Run, Replay, Compile}
+use Rattle.pop_words.specs.declared.command.Command.TheVariants.{Check, Run, Replay, Compile, Flocks}
 use Rattle.pop_words.specs.Words.{meaning_of}
 use Rattle.pair_workers.specs.Run.{joined, IsRun}
 use Rattle.pop_journal.specs.Journal.{journal_text}
@@ -32,6 +32,8 @@ use Rattle.tool_commands.specs.Bundles.{IsBegunBy}
 use Rattle.tool_commands.specs.Check.{certified_text}
 use Rattle.tool_commands.specs.declared.replay.TheConstants.{JOURNAL_LINE}
 use Rattle.tool_commands.specs.Replay.{holds_text, journal_read}
+use Rattle.comp_net.specs.declared.choice.LeafChoice.{LeafChoice}
+use Rattle.comp_net.specs.declared.choice.LeafChoice.TheVariants as leaves
 use Rattle.tool_commands.specs.Compile.{asked, bundle_line, IsCompiled}
 use Rattle.pop_tool.specs.Outcome.{IsAnswered}
 
@@ -93,14 +95,14 @@ pub record IsHeldInput (input : List ℕ) (meetings : ℕ) : Type 0 where
   pub holds : Holds bundle.net (input_crowd bundle.net counts) journal
   pub all : length (joined journal.rounds) ≡ meetings
 
--- The input tells a predicate over some names, and the printed line is a bundle of its built net, the predicate and a valid proof, so
+-- The input tells a predicate over some names, and the printed line is a bundle of its built net with these leaves, the predicate and a valid proof, so
 -- that `check` accepts it.
-pub record CompileSays (input text : List ℕ) : Type 0 where
+pub record CompileSays (choice : LeafChoice) (input text : List ℕ) : Type 0 where
   pub names : List (List ℕ)
   pub pred : PredModel
   pub tells : asked (lines_of input) ≡ Ok (names, pred)
   pub bundle : Bundle
-  pub compiled : IsCompiled names pred bundle
+  pub compiled : IsCompiled choice names pred bundle
   pub printed : text ≡ bundle_line bundle
 
 -- the run was made
@@ -112,7 +114,8 @@ pub record Headline (words : List (List ℕ)) (input text : List ℕ) (status : 
   -- `certified`, with whatever number, is printed only for a valid proof
   pub only : meaning_of words ≡ Ok Check → (k : ℕ) → text ≡ ended (certified_text k) → IsValidLine input
   pub run : (spec : RunSpec) → meaning_of words ≡ Ok (Run spec) → WasRun status → RunSays spec input text
-  pub compile : meaning_of words ≡ Ok Compile → status ≡ Done → CompileSays input text
+  pub compile : meaning_of words ≡ Ok Compile → status ≡ Done → CompileSays leaves.Plain input text
+  pub flocks : meaning_of words ≡ Ok Flocks → status ≡ Done → CompileSays leaves.Flocks input text
   -- `holds`, with a number of 64 bits, is printed exactly for a journal of a run with so many meetings
   pub replay : meaning_of words ≡ Ok Replay → (k : ℕ) → k < 2 ^ 64 → ((text ≡ ended (holds_text k)) × (status ≡ Done)) ↔ IsHeldInput input k
 
