@@ -6,6 +6,7 @@ printf 'vars x\nx >= 1024\n' | bin/pop compile --flocks | bin/pop check
 bin/pop check < examples/majority/bundle.json
 cat examples/majority/bundle.json examples/majority/crowd.txt | bin/pop run | tail -n 1
 bin/pop play < examples/majority/play.txt
+cat examples/majority/bundle.json examples/majority/crowd.txt | bin/pop settle | tail -n 3
 bin/pop check < examples/flock/bundle.json
 (cat examples/flock/bundle.json; echo 'crowd x=2 y=58') | bin/pop run | tail -n 1
 bin/pop check < examples/remainder/bundle.json

@@ -8,7 +8,7 @@ ghost use Rattle.cert_layers.specs.LayerFaults.{IsWeight};
 use cert_base::{LAYER_LIMIT, Layer, SIZE_LIMIT};
 
 /// The sum, over the layers, of the greatest weight less the least.
-pub(crate) fn bound_of(layers: &[Layer]) -> u64
+pub fn bound_of(layers: &[Layer]) -> u64
     requires few { length layers.now ≤ LAYER_LIMIT }
     requires small { All (λ layer. All IsWeight layer.weights) layers.now }
     ensures { result ≡ layers_bound layers.now }

@@ -11,5 +11,6 @@ mod move_layers;
 mod pairs;
 mod waking;
 
+pub use bound::bound_of;
 pub use check::check_layers;
 pub use fault::LayerFault;

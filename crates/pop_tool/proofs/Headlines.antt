@@ -5,7 +5,7 @@ use Rattle.std.specs.Io.KnownBytes.{Appends}
 use Rattle.std.proofs.lemmas.List.{append_cancel_left}
 use Rattle.pop_lines.specs.Lines.{ended}
 use Rattle.pop_words.specs.declared.command.Command.{Command}
-use Rattle.pop_words.specs.declared.command.Command.TheVariants.{Check, Run, Replay, Compile, Flocks}
+use Rattle.pop_words.specs.declared.command.Command.TheVariants.{Check, Run, Replay, Settle, Compile, Flocks}
 use Rattle.pop_words.specs.declared.command.Usage.{Usage as BadWord}
 use Rattle.pop_words.specs.declared.spec.RunSpec.{RunSpec}
 use Rattle.pop_words.specs.Words.{meaning_of}
@@ -23,10 +23,11 @@ use Rattle.tool_commands.specs.Replay.{holds_text, holds_output}
 use Rattle.pop_tool.specs.Answer.{InputGives, OfMeaning, Answer}
 use Rattle.pop_tool.specs.Outcome.{HasLeft, Wrote, Outcome}
 use Rattle.comp_net.specs.declared.choice.LeafChoice.TheVariants as leaves
-use Rattle.pop_tool.specs.Headline.{IsBundleLine, CheckSays, IsValidLine, IsHeldInput, CompileSays, RunSays, WasRun, Headline, IsHeadline}
+use Rattle.pop_tool.specs.Headline.{IsBundleLine, CheckSays, IsValidLine, IsHeldInput, CompileSays, SettleSays, RunSays, WasRun, Headline, IsHeadline}
 use Rattle.pop_tool.proofs.CheckHeadline.{check_says, check_only}
 use Rattle.pop_tool.proofs.RunHeadline.{run_says}
 use Rattle.pop_tool.proofs.CompileHeadline.{compile_says}
+use Rattle.pop_tool.proofs.SettleHeadline.{settle_says}
 use Rattle.pop_tool.proofs.ReplayHeadline.{held_given, replay_only}
 
 module _ (words : List (List ℕ)) (input : List ℕ) (output : Output) (answer : Answer words input output) where
@@ -67,8 +68,13 @@ module _ (words : List (List ℕ)) (input : List ℕ) (output : Output) (answer 
       let a = given_for Flocks is in
       subst (λ (o : Output). CompileSays leaves.Flocks input o.text) (sym a.2) (compile_says leaves.Flocks input a.0 a.1 (subst (λ (o : Output). status_of o.ending ≡ Done) a.2 done))
 
+  settle_headline : meaning_of words ≡ Ok Settle → status_of output.ending ≡ Done → SettleSays input output.text
+  settle_headline is done =
+      let a = given_for Settle is in
+      subst (λ (o : Output). SettleSays input o.text) (sym a.2) (settle_says input a.0 a.1 (subst (λ (o : Output). status_of o.ending ≡ Done) a.2 done))
+
   answer_says : Headline words input output.text (status_of output.ending)
-  answer_says = record { check = check_headline; only = only_headline; run = run_headline; compile = compile_headline; flocks = flocks_headline; replay = replay_headline }
+  answer_says = record { check = check_headline; only = only_headline; run = run_headline; compile = compile_headline; flocks = flocks_headline; settle = settle_headline; replay = replay_headline }
 
 -- a text that answers what was left, and that the sink took
 module _ (words : List (List ℕ)) (left old new : Option (List ℕ)) (input before text : List ℕ) (left_is : left ≡ Some input) (old_is : old ≡ Some before) (new_is : new ≡ Some (before ++ text)) where

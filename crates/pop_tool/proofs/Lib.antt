@@ -6,5 +6,6 @@ mod RunHeadline
 mod ReplayHeadline
 mod RunHeld
 mod CompileHeadline
+mod SettleHeadline
 mod Headlines
 pub mod Complete

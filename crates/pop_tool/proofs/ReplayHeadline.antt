@@ -25,7 +25,7 @@ use Rattle.pop_checker.specs.declared.fault.Rejected.{Rejected}
 use Rattle.pop_checker.specs.declared.fault.Rejected.TheVariants.{Layers, Tree, Predicate}
 use Rattle.pop_checker.proofs.OneFault.{none_rejected}
 use Rattle.tool_texts.specs.declared.refusal.Refusal.{Refusal}
-use Rattle.tool_texts.specs.declared.refusal.Refusal.TheVariants.{TooLong, Line, NotJson, Format, Pred, Count, Size, Journal as OfJournal, Atoms, Width, Wide}
+use Rattle.tool_texts.specs.declared.refusal.Refusal.TheVariants.{TooLong, Line, NotJson, Format, Pred, Count, Size, Journal as OfJournal, Atoms, Width, Wide, Settle}
 use Rattle.tool_texts.specs.declared.output.Output.{Output}
 use Rattle.tool_texts.specs.declared.status.Status.TheVariants.{Done}
 use Rattle.tool_texts.specs.Statuses.{status_of}
@@ -60,6 +60,7 @@ not_refusal (OfJournal number why) k e = let b : 102 ≡ 104 = ap first_byte e i
 not_refusal (Atoms count) k e = let b : 102 ≡ 104 = ap first_byte e in absurd (omega (arith, b))
 not_refusal (Width atom width) k e = let b : 102 ≡ 104 = ap first_byte e in absurd (omega (arith, b))
 not_refusal (Wide atom) k e = let b : 102 ≡ 104 = ap first_byte e in absurd (omega (arith, b))
+not_refusal (Settle takes) k e = let b : 102 ≡ 104 = ap first_byte e in absurd (omega (arith, b))
 
 not_rejection : (rejected : Rejected) (k : ℕ) → ended (rejected_text rejected) ≡ ended (holds_text k) → ⊥
 unfolding first_byte

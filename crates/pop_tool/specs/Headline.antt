@@ -1,17 +1,18 @@
 -- Headline: what a printed text says of a protocol.
-use Rattle.std.specs.Prelude.{◌≡◌, ◌↔◌, ◌⊎◌, ◌≤◌, ◌<◌, ◌^◌, ℕ, Bool, List, [], ◌∷◌, ◌++◌, length, Option, Some, Ok}
+use Rattle.std.specs.Prelude.{◌≡◌, ◌↔◌, ◌⊎◌, ◌≤◌, ◌<◌, ◌^◌, ℕ, Bool, List, [], ◌∷◌, ◌++◌, length, All, Option, Some, Ok}
 use Rattle.serde_json.specs.Data.{Data}
 use Rattle.pop_io.specs.declared.whole.TheConstants.{INPUT_LIMIT}
 use Rattle.pop_lines.specs.Lines.{lines_of, ended}
 use Rattle.pres_ast.specs.PredicateValue.{predicate_value}
 use Rattle.pres_ast.specs.PredModel.{PredModel}
-use Rattle.pop_net.specs.NetModel.{CrowdModel}
+use Rattle.pop_net.specs.NetModel.{CrowdModel, output_of}
 use Rattle.pop_net.specs.InputCrowd.{input_crowd}
 use Rattle.pop_net.specs.Step.{Step}
+use Rattle.pop_net.specs.Reachable.{Reachable}
 use Rattle.pop_net.specs.Terminal.{IsTerminal}
 use Rattle.pop_crowd.specs.declared.crowd.Meeting.{Meeting}
 use Rattle.pop_words.specs.declared.spec.RunSpec.{RunSpec}
-use Rattle.pop_words.specs.declared.command.Command.TheVariants.{Check, Run, Replay, Compile, Flocks}
+use Rattle.pop_words.specs.declared.command.Command.TheVariants.{Check, Run, Replay, Settle, Compile, Flocks}
 use Rattle.pop_words.specs.Words.{meaning_of}
 use Rattle.pair_workers.specs.Run.{joined, IsRun}
 use Rattle.pop_journal.specs.Journal.{journal_text}
@@ -24,6 +25,8 @@ use Rattle.cert_base.specs.ProofBound.{proof_bound}
 use Rattle.cert_base.specs.ValidProof.{ValidProof}
 use Rattle.cert_json.specs.Bundles.{bundle_at}
 use Rattle.cert_json.specs.declared.bundle.Bundle.{Bundle}
+use Rattle.pop_settle.specs.declared.take.Take.{Take}
+use Rattle.pop_settle.specs.Settlement.{IsSettlement}
 use Rattle.pop_checker.specs.Computes.{Computes}
 use Rattle.tool_texts.specs.declared.status.Status.{Status}
 use Rattle.tool_texts.specs.declared.status.Status.TheVariants.{Done, Undecided}
@@ -34,6 +37,7 @@ use Rattle.tool_commands.specs.declared.replay.TheConstants.{JOURNAL_LINE}
 use Rattle.tool_commands.specs.Replay.{holds_text, journal_read}
 use Rattle.comp_net.specs.declared.choice.LeafChoice.{LeafChoice}
 use Rattle.comp_net.specs.declared.choice.LeafChoice.TheVariants as leaves
+use Rattle.tool_commands.specs.Settle.{settle_text}
 use Rattle.tool_commands.specs.Compile.{asked, bundle_line, IsCompiled}
 use Rattle.pop_tool.specs.Outcome.{IsAnswered}
 
@@ -78,6 +82,24 @@ pub record RunSays (spec : RunSpec) (input text : List ℕ) : Type 0 where
   pub verdict : IsTerminal (Step bundle.net) end → last ≡ Verdict (predicate_value bundle.pred.tree counts)
   pub terminal : (value : Bool) → last ≡ Verdict value → IsTerminal (Step bundle.net) end
 
+-- The printed takes lead from the input crowd of the bundle's net to the printed crowd, which is terminal. The verdict is the
+-- predicate's value, and every agent's output.
+pub record SettleSays (input text : List ℕ) : Type 0 where
+  pub first : List ℕ
+  pub second : List ℕ
+  pub lines : lines_of input ≡ first ∷ second ∷ []
+  pub bundle : Bundle
+  pub counts : List ℕ
+  pub begins : IsBegunBy first second (Ok (bundle, counts))
+  pub computes : Computes bundle.net bundle.pred.tree (proof_bound bundle.proof)
+  pub takes : List Take
+  pub end : CrowdModel
+  pub settlement : IsSettlement bundle.net bundle.proof (input_crowd bundle.net counts) takes end
+  pub reached : Reachable (Step bundle.net) (input_crowd bundle.net counts) end
+  pub terminal : IsTerminal (Step bundle.net) end
+  pub outputs : All (λ tuple. output_of bundle.net tuple ≡ predicate_value bundle.pred.tree counts) end
+  pub printed : text ≡ settle_text bundle.net takes end (predicate_value bundle.pred.tree counts)
+
 -- The input is a bundle whose proof is valid, a crowd line, and a journal: as it is read, its rounds are a run of the bundle's net
 -- from the input crowd with so many meetings, and it tells the crowd in which they end.
 pub record IsHeldInput (input : List ℕ) (meetings : ℕ) : Type 0 where
@@ -116,6 +138,7 @@ pub record Headline (words : List (List ℕ)) (input text : List ℕ) (status : 
   pub run : (spec : RunSpec) → meaning_of words ≡ Ok (Run spec) → WasRun status → RunSays spec input text
   pub compile : meaning_of words ≡ Ok Compile → status ≡ Done → CompileSays leaves.Plain input text
   pub flocks : meaning_of words ≡ Ok Flocks → status ≡ Done → CompileSays leaves.Flocks input text
+  pub settle : meaning_of words ≡ Ok Settle → status ≡ Done → SettleSays input text
   -- `holds`, with a number of 64 bits, is printed exactly for a journal of a run with so many meetings
   pub replay : meaning_of words ≡ Ok Replay → (k : ℕ) → k < 2 ^ 64 → ((text ≡ ended (holds_text k)) × (status ≡ Done)) ↔ IsHeldInput input k
 

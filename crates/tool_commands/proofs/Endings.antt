@@ -1,6 +1,6 @@
 -- No command ends by a fault of reading.
-use Rattle.std.proofs.Common.{ℕ, List, Option, Some, None, Result, Ok, Err, sym, ap, subst, ◌∙◌}
-use Rattle.std.specs.Prelude.{◌≢◌, ◌+◌, length}
+use Rattle.std.proofs.Common.{◌≡◌, ℕ, Bool, true, false, nat_lt, List, Option, Some, None, Result, Ok, Err, sym, ap, subst, ◌∙◌}
+use Rattle.std.specs.Prelude.{◌≢◌, MatchBool, ◌+◌, length}
 use Rattle.pres_read.specs.Reading.{pred_read}
 use Rattle.pop_words.specs.Vars.{vars_of}
 use Rattle.pop_words.specs.Counts.{counts_of}
@@ -27,6 +27,9 @@ use Rattle.tool_commands.specs.declared.replay.TheConstants.{JOURNAL_LINE}
 use Rattle.tool_commands.specs.Replay.{journal_read, compared_output, journal_output, judged_output, OfBegun as OfReplayBegun, OfLines as OfReplayLines, ReplayGives}
 use Rattle.comp_net.specs.declared.choice.LeafChoice.{LeafChoice}
 use Rattle.comp_net.specs.declared.choice.LeafChoice.TheVariants as leaves
+use Rattle.pop_settle.specs.declared.limits.TheConstants.{TAKE_LIMIT}
+use Rattle.tool_texts.specs.declared.refusal.Refusal.TheVariants.{Settle as Settled}
+use Rattle.tool_commands.specs.Settle.{takes_allowed, IsSettled, OfJudged as OfSettleJudged, OfBegun as OfSettleBegun, OfLines as OfSettleLines, SettleGives}
 use Rattle.tool_commands.specs.Compile.{asked, fitting, OfFitting, OfAsked, CompileGives}
 use Rattle.tool_commands.specs.Demo.{DemoGives}
 use Rattle.tool_commands.specs.Commands.{CommandGives}
@@ -91,6 +94,19 @@ replay_other lines =
     (λ found given is. after_keeps IsOther refused is.0 (OfReplayBegun found.2)
     (λ begin given is. subst IsOther (sym is.2) (replay_judged_other begin.0 begin.1 found.2 is.0)) given is.2)
 
+settle_judged_other : (bundle : Bundle) (counts : List ℕ) (judged : Option Rejected) (given : Result Output Refusal) → OfSettleJudged bundle counts judged given → IsOther given
+settle_judged_other bundle counts None given is = by_length (nat_lt TAKE_LIMIT (takes_allowed bundle counts)) is
+  where
+    by_length : (b : Bool) → MatchBool b (given ≡ Err (Settled (takes_allowed bundle counts))) (IsSettled bundle counts given) → IsOther given
+    by_length true is = subst IsOther (sym is) (refused (Settled (takes_allowed bundle counts)))
+    by_length false is = subst IsOther (sym is.is) (λ e. absurd cc)
+settle_judged_other bundle counts (Some rejected) given is = subst IsOther (sym is) (λ e. absurd cc)
+
+settle_other : (lines : List (List ℕ)) (given : Result Output Refusal) → SettleGives lines given → IsOther given
+settle_other lines =
+    after_keeps IsOther refused (just_two lines) OfSettleLines
+    (λ found given is. after_keeps IsOther refused is.0 OfSettleBegun (λ begin given is. settle_judged_other begin.0 begin.1 is.0 given is.2) given is.2)
+
 compile_other : (choice : LeafChoice) (lines : List (List ℕ)) (given : Result Output Refusal) → CompileGives choice lines given → IsOther given
 compile_other choice lines =
     after_keeps IsOther refused (asked lines) (OfAsked choice)
@@ -105,7 +121,7 @@ given_ending Eval lines given is = subst IsOther (sym is) (eval_other lines)
 given_ending Check lines given is = check_other lines given is
 given_ending (Run spec) lines given is = run_other spec lines given is
 given_ending Replay lines given is = replay_other lines given is
-given_ending Settle lines given is = replay_other lines given is
+given_ending Settle lines given is = settle_other lines given is
 given_ending Compile lines given is = compile_other leaves.Plain lines given is
 given_ending Flocks lines given is = compile_other leaves.Flocks lines given is
 given_ending (Demo number) lines given is = demo_other number given is

@@ -12,6 +12,8 @@ pub mod OnePlay
 pub mod OneCheck
 pub mod OneRun
 pub mod OneReplay
+pub mod OneSettle
+pub mod Settled
 pub mod Compiled
 pub mod DemoCases
 pub mod Changed

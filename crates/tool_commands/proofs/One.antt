@@ -9,6 +9,7 @@ use Rattle.tool_commands.proofs.OnePlay.{one_play}
 use Rattle.tool_commands.proofs.OneCheck.{one_check}
 use Rattle.tool_commands.proofs.OneRun.{one_run}
 use Rattle.tool_commands.proofs.OneReplay.{one_replay}
+use Rattle.tool_commands.proofs.OneSettle.{one_settle}
 use Rattle.tool_commands.proofs.OneDemo.{one_demo}
 
 pub one_given : (command : Command) → IsDetermined command → (lines : List (List ℕ)) (x y : Result Output Refusal) → CommandGives command lines x → CommandGives command lines y → x ≡ y
@@ -17,7 +18,7 @@ one_given Eval plain lines x y p q = p ∙ sym q
 one_given Check plain lines x y p q = one_check lines x y p q
 one_given (Run spec) plain lines x y p q = one_run spec plain lines x y p q
 one_given Replay plain lines x y p q = one_replay lines x y p q
-one_given Settle plain lines x y p q = one_replay lines x y p q
+one_given Settle plain lines x y p q = one_settle lines x y p q
 one_given Compile plain lines x y p q = absurd plain
 one_given Flocks plain lines x y p q = absurd plain
 one_given (Demo number) plain lines x y p q = one_demo number x y p q

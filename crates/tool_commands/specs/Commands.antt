@@ -10,6 +10,7 @@ use Rattle.tool_commands.specs.Check.{CheckGives}
 use Rattle.tool_commands.specs.Run.{RunGives}
 use Rattle.tool_commands.specs.Replay.{ReplayGives}
 use Rattle.comp_net.specs.declared.choice.LeafChoice.TheVariants as leaves
+use Rattle.tool_commands.specs.Settle.{SettleGives}
 use Rattle.tool_commands.specs.Compile.{CompileGives}
 use Rattle.tool_commands.specs.Demo.{DemoGives}
 
@@ -20,7 +21,7 @@ CommandGives Eval lines given = given ≡ eval_output lines
 CommandGives Check lines given = CheckGives lines given
 CommandGives (Run spec) lines given = RunGives spec lines given
 CommandGives Replay lines given = ReplayGives lines given
-CommandGives Settle lines given = ReplayGives lines given
+CommandGives Settle lines given = SettleGives lines given
 CommandGives Compile lines given = CompileGives leaves.Plain lines given
 CommandGives Flocks lines given = CompileGives leaves.Flocks lines given
 CommandGives (Demo number) lines given = DemoGives number given

@@ -5,6 +5,7 @@ pub mod Check
 pub mod Play
 pub mod Run
 pub mod Replay
+pub mod Settle
 pub mod Compile
 pub mod Prepared
 pub mod Commands

@@ -12,6 +12,7 @@ mod play;
 mod prepared;
 mod replay;
 mod run;
+mod settle;
 mod start;
 mod table;
 

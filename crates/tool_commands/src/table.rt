@@ -14,6 +14,7 @@ use crate::play::play;
 use crate::prepared::Prepared;
 use crate::replay::replay;
 use crate::run::{is_by_one, prepare_run};
+use crate::settle::settle;
 use comp_net::LeafChoice;
 use pop_words::Command;
 use std::alloc::Global;
@@ -32,8 +33,8 @@ pub fn prepare_command(alloc: Global, command: Command, input: &[u8]) -> Result<
         Command::Check => Ok(Prepared::Text(check(alloc, input)?)),
         Command::Run(spec) => prepare_run(alloc, spec, input),
         Command::Replay => Ok(Prepared::Text(replay(alloc, input)?)),
+        Command::Settle => Ok(Prepared::Text(settle(alloc, input)?)),
         Command::Compile => Ok(Prepared::Text(compile(alloc, LeafChoice::Plain, input)?)),
-        Command::Settle => Ok(Prepared::Text(replay(alloc, input)?)),
         Command::Flocks => Ok(Prepared::Text(compile(alloc, LeafChoice::Flocks, input)?)),
         Command::Demo(number) => Ok(prepare_demo(alloc, number)?),
     }

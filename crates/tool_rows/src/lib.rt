@@ -16,6 +16,8 @@ mod rows;
 #[cfg(test)]
 mod run_rows;
 #[cfg(test)]
+mod settle_rows;
+#[cfg(test)]
 mod thread_rows;
 #[cfg(test)]
 mod troubles;

@@ -8,7 +8,7 @@ use Rattle.pop_journal.specs.Reasons.{journal_reason}
 use Rattle.tool_texts.specs.declared.refusal.LineWhy.{LineWhy}
 use Rattle.tool_texts.specs.declared.refusal.LineWhy.TheVariants as line
 use Rattle.tool_texts.specs.declared.refusal.Refusal.{Refusal}
-use Rattle.tool_texts.specs.declared.refusal.Refusal.TheVariants.{TooLong, Line, NotJson, Format, Pred, Count, Size, Journal, Atoms, Width, Wide}
+use Rattle.tool_texts.specs.declared.refusal.Refusal.TheVariants.{TooLong, Line, NotJson, Format, Pred, Count, Size, Journal, Atoms, Width, Wide, Settle}
 use Rattle.tool_texts.specs.declared.output.Output.{Output}
 use Rattle.tool_texts.specs.declared.output.Ending.TheVariants as ending
 
@@ -33,6 +33,7 @@ refusal_text (Journal number why) = codes "fault: journal " ++ decimal number ++
 refusal_text (Atoms count) = codes "fault: atoms " ++ decimal count
 refusal_text (Width atom width) = codes "fault: width " ++ decimal atom ++ codes " " ++ decimal width
 refusal_text (Wide atom) = codes "fault: wide " ++ decimal atom
+refusal_text (Settle takes) = codes "fault: settle " ++ decimal takes
 
 -- for words without a command
 abbrev pub usage_output : Usage → Output

@@ -49,6 +49,8 @@ pub enum Refusal {
     Width(u32, u64),
     /// The atom makes a wide leaf, and there are too many atoms for one.
     Wide(u32),
+    /// A crowd for which a proof allows so many takes is not settled.
+    Settle(u128),
 }
 
 impl fmt::Display for LineWhy {
@@ -84,6 +86,7 @@ impl fmt::Display for Refusal {
             Refusal::Atoms(count) => write!(f, "fault: atoms {count}"),
             Refusal::Width(atom, width) => write!(f, "fault: width {atom} {width}"),
             Refusal::Wide(atom) => write!(f, "fault: wide {atom}"),
+            Refusal::Settle(takes) => write!(f, "fault: settle {takes}"),
         }
     }
 }

@@ -1,0 +1,12 @@
+//! Laws of settlements.
+
+ghost use Rattle.pop_settle.specs.Laws.{AreSteps, AreShort, AreOne, AreTerminal};
+
+/// A settlement is made of steps, is the only one from its crowd, is no longer than the proof's bound for each agent,
+/// and leads to a terminal crowd. The call does nothing: it is its contract.
+pub fn settlements_end()
+    ensures steps { AreSteps }
+    ensures one { AreOne }
+    ensures short { AreShort }
+    ensures terminal { AreTerminal }
+{}

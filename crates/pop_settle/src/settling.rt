@@ -1,0 +1,168 @@
+//! Settling a crowd.
+
+ghost use Rattle.std.specs.Prelude.{◌≡◌, ℕ, ◌+◌, ◌*◌, ◌<◌, ◌≤◌, List, length, All, Some, IfOk, IfErr, IfSome, OnOk, slice_get};
+ghost use Rattle.pop_net.specs.LeafModel.{IsLeaf};
+ghost use Rattle.pop_net.specs.NetModel.{IsNet};
+ghost use Rattle.pop_net.specs.Lanes.{crowd_of, AreValid};
+ghost use Rattle.pop_net.specs.Step.{Step};
+ghost use Rattle.pop_net.specs.Reachable.{ReachedWithin};
+ghost use Rattle.pop_net.specs.Terminal.{IsTerminal};
+ghost use Rattle.pop_crowd.specs.declared.limits.TheConstants.{AGENT_LIMIT};
+ghost use Rattle.cert_base.specs.ProofBound.{proof_bound};
+ghost use Rattle.pop_settle.specs.Settlement.{states_in, IsSettlement};
+ghost use Rattle.pop_settle.specs.Laws.{IsOnlySettlement};
+ghost use Rattle.pop_settle.specs.Settling.{HasLayers, RefusesSettle};
+ghost use Rattle.pop_settle.specs.Groups.{AreGroups};
+ghost use Rattle.pop_settle.specs.Search.{AreRunEnds, FindsTake};
+ghost use Rattle.pop_settle.specs.Walks.{IsQuietBefore, WalksOn};
+
+use crate::bound::most_takes;
+use crate::fault::SettleFault;
+use crate::groups::Groups;
+use crate::limits::TAKE_LIMIT;
+use crate::runs::run_ends;
+use crate::take::{Settled, Take};
+use crate::walk::Walk;
+use cert_base::{Layer, Proof};
+use pop_crowd::Crowd;
+use pop_io::{List, NoMemory};
+use pop_net::{Leaf, Net};
+use std::alloc::Global;
+
+/// Takes the moves by the proof's layers until none can be taken (layered termination of Blondin, Esparza, Jaax, Meyer 2017).
+/// The definition looks at all leaves and layers each time; this call never goes back to an earlier one.
+pub fn settle(alloc: Global, net: &Net, proof: &Proof, crowd: Crowd) -> Result<Settled, SettleFault>
+    requires layers { HasLayers net.now proof.now }
+    requires valid { AreValid net.now crowd }
+    ensures settled { IfOk result (λ s. IsSettlement net.now proof.now (crowd_of net.now crowd) s.takes (crowd_of net.now s.crowd)) }
+    // There is no other settlement.
+    ensures only { IfOk result (λ s. IsOnlySettlement net.now proof.now (crowd_of net.now crowd) s.takes (crowd_of net.now s.crowd)) }
+    ensures short { IfOk result (λ s. length s.takes ≤ proof_bound proof.now * length crowd) }
+    // The takes are steps of the model, and no step leads further.
+    ensures reached { IfOk result (λ s. ReachedWithin (Step net.now) (length s.takes) (crowd_of net.now crowd) (crowd_of net.now s.crowd)) }
+    ensures terminal { IfOk result (λ s. IsTerminal (Step net.now) (crowd_of net.now s.crowd)) }
+    ensures valid { IfOk result (λ s. AreValid net.now s.crowd) }
+    ensures agents { IfOk result (λ s. length s.crowd ≡ length crowd) }
+    ensures accepts { IfOk result (λ s. proof_bound proof.now * length crowd ≤ TAKE_LIMIT) }
+    ensures refused { IfErr result (RefusesSettle proof.now (length crowd)) }
+{
+    let _leaves = net.leaf_count();
+    let most = most_takes(proof, crowd.len());
+    if TAKE_LIMIT < most {
+        return Err(SettleFault::Long(most));
+    }
+    let mut walk = Walk::of_crowd(alloc, &crowd)?;
+    settle_leaves(alloc, net, proof, &mut walk)?;
+    let Walk { words, takes } = walk;
+    Ok(Settled {
+        takes: List::from_vec(takes),
+        crowd: Crowd::of_words(net, List::from_vec(words)),
+    })
+}
+
+fn settle_leaves(alloc: Global, net: &Net, proof: &Proof, walk: &mut Walk) -> Result<(), NoMemory>
+    requires layers { HasLayers net.now proof.now }
+    requires valid { AreValid net.now walk.old.words.items }
+    requires few { length walk.old.words.items ≤ AGENT_LIMIT }
+    ensures walked { OnOk result (WalksOn net.now proof.now walk.old walk.new) }
+    ensures quiet { OnOk result (IsQuietBefore net.now proof.now (crowd_of net.now walk.new.words.items) (length net.now.leaves) 0) }
+{
+    for leaf in 0..net.leaf_count() {
+        settle_leaf(alloc, net, proof, leaf, walk)?;
+    }
+    Ok(())
+}
+
+fn settle_leaf(
+    alloc: Global,
+    net: &Net,
+    proof: &Proof,
+    leaf: u8,
+    walk: &mut Walk,
+) -> Result<(), NoMemory>
+    requires formed { IsNet net.now }
+    requires layers { HasLayers net.now proof.now }
+    requires leaf_in { leaf < length net.now.leaves }
+    requires valid { AreValid net.now walk.old.words.items }
+    requires few { length walk.old.words.items ≤ AGENT_LIMIT }
+    requires quiet { IsQuietBefore net.now proof.now (crowd_of net.now walk.old.words.items) leaf 0 }
+    ensures walked { OnOk result (WalksOn net.now proof.now walk.old walk.new) }
+    ensures quiet { OnOk result (IsQuietBefore net.now proof.now (crowd_of net.now walk.new.words.items) (leaf + 1) 0) }
+{
+    let mut groups = Groups::of_leaf(alloc, net, walk.words.as_slice(), leaf)?;
+    let part = &proof.leaves.as_slice()[leaf as usize];
+    for (number, layer) in part.layers.as_slice().iter().enumerate() {
+        settle_layer(alloc, net, proof, (leaf, number), layer, &mut groups, walk)?;
+    }
+    Ok(())
+}
+
+/// The moves of a layer, as long as agents can take one. The place is that of the layer: its leaf and its number.
+fn settle_layer(
+    alloc: Global,
+    net: &Net,
+    proof: &Proof,
+    place: (u8, usize),
+    layer: &Layer,
+    groups: &mut Groups,
+    walk: &mut Walk,
+) -> Result<(), NoMemory>
+    requires formed { IsNet net.now }
+    requires layers { HasLayers net.now proof.now }
+    requires leaf_in { place.0 < length net.now.leaves }
+    requires layer_is { IfSome (slice_get proof.now.leaves place.0) (λ part. slice_get part.layers place.1 ≡ Some layer.now) }
+    requires valid { AreValid net.now walk.old.words.items }
+    requires count { IfSome (slice_get net.now.leaves place.0) (λ l. length groups.old.groups.items ≡ length l.states) }
+    requires grouped { AreGroups (states_in place.0 (crowd_of net.now walk.old.words.items)) groups.old.groups.items }
+    requires quiet { IsQuietBefore net.now proof.now (crowd_of net.now walk.old.words.items) place.0 place.1 }
+    ensures walked { OnOk result (WalksOn net.now proof.now walk.old walk.new) }
+    ensures count { length groups.new.groups.items ≡ length groups.old.groups.items }
+    ensures grouped { OnOk result (AreGroups (states_in place.0 (crowd_of net.now walk.new.words.items)) groups.new.groups.items) }
+    ensures quiet { OnOk result (IsQuietBefore net.now proof.now (crowd_of net.now walk.new.words.items) place.0 (place.1 + 1)) }
+{
+    let leaf = net.leaf(place.0);
+    let moves = layer.moves.as_slice();
+    let ends = run_ends(alloc, leaf, moves)?;
+    'takes: while let Some(take) = next_take(leaf, place.0, moves, ends.as_slice(), groups)? {
+        walk.make(net, take)?;
+    }
+    Ok(())
+}
+
+/// The first move of a list that agents can take, taken by the least that can. Moves that begin with a state that nobody
+/// holds are passed over as far as the run goes.
+fn next_take(
+    leaf: &Leaf,
+    number: u8,
+    moves: &[u32],
+    ends: &[usize],
+    groups: &mut Groups,
+) -> Result<Option<Take>, NoMemory>
+    requires formed { IsLeaf leaf.now }
+    requires in_range { All (λ step. step < length leaf.now.moves) moves.now }
+    requires ends { AreRunEnds leaf.now moves.now ends.now }
+    requires count { length groups.old.groups.items ≡ length leaf.now.states }
+    ensures count { length groups.new.groups.items ≡ length groups.old.groups.items }
+    ensures found { IfOk result (λ found. (states : List ℕ) → AreGroups states groups.old.groups.items
+        → FindsTake leaf.now number moves.now states found groups.new.groups.items) }
+{
+    let mut place = 0;
+    'places: while place < moves.len() {
+        let step = moves[place];
+        let t = leaf.move_at(step);
+        if groups.is_empty(t.p) {
+            place = ends[place];
+            continue;
+        }
+        if let Some((a, b)) = groups.make(t)? {
+            return Ok(Some(Take {
+                leaf: number,
+                step,
+                a,
+                b,
+            }));
+        }
+        place += 1;
+    }
+    Ok(None)
+}

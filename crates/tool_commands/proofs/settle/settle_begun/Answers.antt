@@ -1,0 +1,29 @@
+use Rattle.std.proofs.Common.{Some, None, Ok, sym, ap, subst}
+use Rattle.pop_checker.specs.CheckedModel.{CheckedModel, IsChecked}
+use Rattle.pop_settle.specs.Settling.{HasLayers}
+use Rattle.tool_texts.specs.declared.output.Output.{Output}
+use Rattle.tool_texts.specs.Steps.{Obeys}
+use Rattle.tool_texts.proofs.Goes.{obeys_wider}
+use Rattle.tool_commands.specs.Settle.{OfJudged, OfBegun}
+use Rattle.tool_commands.proofs.Settled.{has_layers}
+use Rattle.tool_commands.proofs.settle.settle_begun.Goals as goal
+
+pub returns-in-Err-Rejected : goal.returns-in-Err-Rejected
+returns-in-Err-Rejected c =
+    (Some c.in-Err-Rejected.rejected, rw c.in-Err-Rejected.field-0-is at c.in-Err-Rejected.ensures.fault, ap (λ (o : Output). Ok o) c.in_ok-of_rejection-in-Err-Rejected.ensures)
+
+pub settle_start-requires-clause-layers : goal.settle_start-requires-clause-layers
+settle_start-requires-clause-layers c =
+    let bundle = c.args.bundle in
+    subst (λ (m : CheckedModel). HasLayers m.net bundle.proof) (sym c.in-Ok.ensures.kept)
+    (has_layers bundle.net bundle.pred bundle.proof _ _ c.in-Ok.ensures.valid c.requires.limits.within)
+
+pub returns-in-Ok : goal.returns-in-Ok
+returns-in-Ok c =
+    let kept = c.in-Ok.ensures.kept in
+    let checked = subst IsChecked kept (subst IsChecked c.checked.view_is c.checked.invariant) in
+    let bundle = c.args.bundle in
+    let counts = c.args.start.counts in
+    let of_bundle : Obeys (OfJudged bundle counts None) (λ (o : Output). o) c.settle_start.result =
+    subst (λ (m : CheckedModel). Obeys (OfJudged (record { net = m.net; pred = m.pred; proof = bundle.proof }) counts None) (λ (o : Output). o) c.settle_start.result) kept c.settle_start.ensures in
+    obeys_wider (OfJudged bundle counts None) (OfBegun (bundle, counts)) (λ given of. (None, (c.in-Ok.ensures.valid, checked), of)) _ c.settle_start.result of_bundle

@@ -1,0 +1,116 @@
+//! The command `settle`.
+
+ghost use Rattle.std.specs.Prelude.{◌≡◌, ◌++◌, map, codes, decimal, IfOk, OnOk};
+ghost use Rattle.pop_lines.specs.Lines.{lines_of, ended};
+ghost use Rattle.pop_net.specs.Lanes.{crowd_of, AreValid};
+ghost use Rattle.pop_journal.specs.Journal.{text_of};
+ghost use Rattle.pop_settle.specs.Settling.{HasLayers};
+ghost use Rattle.tool_texts.specs.Steps.{Obeys};
+ghost use Rattle.tool_commands.specs.Start.{IsStart};
+ghost use Rattle.tool_commands.specs.Bundles.{HasLimits};
+ghost use Rattle.tool_commands.specs.Settle.{take_line, settle_text, OfJudged, OfBegun, SettleGives};
+
+use crate::bundle::begin;
+use crate::start::Start;
+use cert_base::Proof;
+use cert_json::Bundle;
+use pop_checker::{CheckFault, Checked, check};
+use pop_io::NoMemory;
+use pop_journal::{Last, push_last_line};
+use pop_lines::push_number;
+use pop_net::Net;
+use pop_settle::{SettleFault, Settled, Take};
+use std::alloc::{AllocError, Global};
+use tool_texts::{Ending, Output, Refusal, Stop, just_two_lines};
+
+/// Adds a text, and a number in decimal digits.
+fn push_field(text: &mut Vec<u8>, name: &str, number: u64) -> Result<(), AllocError>
+    ensures { OnOk result (text.new.items ≡ text.old.items ++ (name.now ++ decimal number)) }
+{
+    text.extend_from_slice(name.as_bytes())?;
+    push_number(text, number)
+}
+
+fn push_take(text: &mut Vec<u8>, take: Take) -> Result<(), AllocError>
+    ensures { OnOk result (text.new.items ≡ text.old.items ++ ended (take_line take)) }
+{
+    push_field(text, "take ", u64::from(take.leaf))?;
+    push_field(text, " ", u64::from(take.step))?;
+    push_field(text, " ", u64::from(take.a))?;
+    push_field(text, " ", u64::from(take.b))?;
+    text.extend_from_slice(b"\n")
+}
+
+fn push_takes(text: &mut Vec<u8>, takes: &[Take]) -> Result<(), AllocError>
+    ensures { OnOk result (text.new.items ≡ text.old.items ++ text_of (map take_line takes.now)) }
+{
+    for take in takes {
+        push_take(text, *take)?;
+    }
+    Ok(())
+}
+
+/// The takes, the lines of the last crowd, and the verdict.
+fn settled_text(
+    alloc: Global,
+    net: &Net,
+    settled: &Settled,
+    verdict: bool,
+) -> Result<Vec<u8>, NoMemory>
+    requires { AreValid net.now settled.now.crowd }
+    ensures { IfOk result (λ text. text.items ≡ settle_text net.now settled.now.takes (crowd_of net.now settled.now.crowd) verdict) }
+{
+    let mut text = Vec::new(alloc);
+    push_takes(&mut text, settled.takes.as_slice())?;
+    text.extend_from_slice(b"end\n")?;
+    let crowd = settled.crowd.tally(alloc, net)?;
+    text.extend_from_slice(crowd.as_slice())?;
+    push_last_line(&mut text, Last::Verdict(verdict))?;
+    Ok(text)
+}
+
+/// The settlement of a checked net's crowd.
+fn settle_start(
+    alloc: Global,
+    checked: &Checked,
+    proof: &Proof,
+    start: Start,
+) -> Result<Output, Stop>
+    requires layers { HasLayers checked.now.net proof.now }
+    requires start { IsStart checked.now.net start }
+    ensures { Obeys (OfJudged (record { net = checked.now.net; pred = checked.now.pred; proof = proof.now }) start.counts None) (λ output. output) result }
+{
+    let Start { counts, crowd } = start;
+    match pop_settle::settle(alloc, checked.net(), proof, crowd) {
+        Ok(settled) => {
+            let verdict = checked.verdict(counts.as_slice(), &settled.crowd);
+            let text = settled_text(alloc, checked.net(), &settled, verdict)?;
+            Ok(Output::new(text, Ending::Done))
+        }
+        Err(SettleFault::Long(takes)) => Err(Stop::Refused(Refusal::Settle(takes))),
+        Err(SettleFault::NoMemory) => Err(Stop::NoMemory),
+    }
+}
+
+/// What is said of a bundle's crowd, if the proof is valid.
+fn settle_begun(alloc: Global, bundle: Bundle, start: Start) -> Result<Output, Stop>
+    requires limits { HasLimits bundle }
+    requires start { IsStart bundle.net start }
+    ensures { Obeys (OfBegun (bundle, start.counts)) (λ output. output) result }
+{
+    let Bundle { net, pred, proof } = bundle;
+    match check(alloc, net, pred, &proof) {
+        Ok(checked) => settle_start(alloc, &checked, &proof, start),
+        Err(CheckFault::Rejected(rejected)) => Ok(Output::of_rejection(alloc, rejected)?),
+        Err(CheckFault::NoMemory) => Err(Stop::NoMemory),
+    }
+}
+
+/// What `settle` gives for an input that isn't too long.
+pub(crate) fn settle(alloc: Global, input: &[u8]) -> Result<Output, Stop>
+    ensures { Obeys (SettleGives (lines_of input.now)) (λ output. output) result }
+{
+    let lines = just_two_lines(input)?;
+    let (bundle, start) = begin(alloc, lines)?;
+    settle_begun(alloc, bundle, start)
+}
