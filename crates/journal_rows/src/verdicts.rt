@@ -99,7 +99,7 @@ fn is_told(found: &Result<u64, VerifyFault>, line: u64, kept: &str, wanted: &str
     }
 }
 
-/// The second count, the lines behind that of the run, the line that differs, and the one that is expected in its place.
+/// The second count, the lines behind that of the run, the line that differs, and the one expected in its place.
 type Different = (u64, &'static str, u64, &'static str, &'static str);
 
 const DIFFERENT: [Different; 11] = [
