@@ -1,4 +1,5 @@
 # The command lines of the README's tour, one a line, from the top of the repository. bin/gallery runs them.
+bin/pop demo 21
 printf 'vars x y\nx - y < 3 || x + y = 1 mod 2\n' | bin/pop compile | bin/pop check
 (printf 'vars x y\nx - y < 3 || x + y = 1 mod 2\n' | bin/pop compile; echo 'crowd x=12 y=7') | bin/pop run | tail -n 1
 printf 'vars x\nx >= 1024\n' | bin/pop compile
