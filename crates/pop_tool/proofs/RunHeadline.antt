@@ -30,7 +30,7 @@ use Rattle.tool_commands.proofs.Ran.{run_tuples}
 use Rattle.pop_tool.specs.Answer.{InputGives}
 use Rattle.pop_tool.specs.Headline.{RunSays, WasRun}
 
-two_lines : (lines : List (List ℕ)) (found : List ℕ × List ℕ) → just_two lines ≡ Ok found → lines ≡ found.0 ∷ found.1 ∷ []
+pub two_lines : (lines : List (List ℕ)) (found : List ℕ × List ℕ) → just_two lines ≡ Ok found → lines ≡ found.0 ∷ found.1 ∷ []
 two_lines [] found e = absurd cc
 two_lines (a ∷ []) found e = absurd cc
 two_lines (a ∷ b ∷ []) found e =
