@@ -1,0 +1,148 @@
+#!/usr/bin/env python3
+"""Takes the processor time of `settle` of the built program beside a plain Rust program that does the same work.
+
+Run from the top of the repository: python3 bench/settle.py [PROGRAM]
+Majority with 65,536 agents, and compiled thresholds and remainders with as many as their bound allows, up to 65,536. The plain
+program, which stands below, has the net and the layers as constants; its text must be the built program's. The built program
+reads a bundle and checks its proof first, which the plain one does not: the time of `check` stands beside.
+"""
+
+import json
+import os
+import resource
+import subprocess
+import sys
+import tempfile
+
+TOP = os.path.dirname(os.path.dirname(os.path.abspath(__file__)))
+PROGRAM = sys.argv[1] if len(sys.argv) > 1 else os.path.join(TOP, "crates/pop_main/out/pop_main")
+TAKES = 8_000_000
+AGENTS = 65_536
+
+PLAIN = r"""
+use std::collections::BTreeSet;
+use std::io::Write;
+
+/// The least agents that can take a move.
+fn pair(groups: &mut [BTreeSet<u32>], p: usize, q: usize) -> Option<(u32, u32)> {
+    if groups[q].is_empty() {
+        return None;
+    }
+    let a = groups[p].pop_first()?;
+    match groups[q].pop_first() {
+        Some(b) => Some((a, b)),
+        None => {
+            groups[p].insert(a);
+            None
+        }
+    }
+}
+
+fn main() {
+    let mut groups = vec![BTreeSet::new(); NAMES.len()];
+    let mut agent = 0;
+    for (state, count) in STARTS {
+        for _ in 0..count {
+            groups[state].insert(agent);
+            agent += 1;
+        }
+    }
+    let mut text = Vec::new();
+    for layer in LAYERS {
+        'takes: loop {
+            let mut place = 0;
+            while place < layer.len() {
+                let t = layer[place];
+                let (p, q, r, s) = MOVES[t];
+                if groups[p].is_empty() {
+                    while place < layer.len() && MOVES[layer[place]].0 == p {
+                        place += 1;
+                    }
+                    continue;
+                }
+                if (p, q) != (r, s) && (p, q) != (s, r) {
+                    if let Some((a, b)) = pair(&mut groups, p, q) {
+                        groups[r].insert(a);
+                        groups[s].insert(b);
+                        writeln!(text, "take 0 {t} {a} {b}").unwrap();
+                        continue 'takes;
+                    }
+                }
+                place += 1;
+            }
+            break;
+        }
+    }
+    text.extend_from_slice(b"end\n");
+    let mut value = false;
+    for (state, group) in groups.iter().enumerate() {
+        if !group.is_empty() {
+            writeln!(text, "{} {}", NAMES[state], group.len()).unwrap();
+            value = OUTPUTS[state];
+        }
+    }
+    writeln!(text, "verdict {value}").unwrap();
+    std::io::stdout().write_all(&text).unwrap();
+}
+"""
+
+
+def measured(command, data):
+    """What a command prints, and its processor time in seconds."""
+    before = resource.getrusage(resource.RUSAGE_CHILDREN)
+    text = subprocess.run(command, input=data, capture_output=True, check=True).stdout
+    after = resource.getrusage(resource.RUSAGE_CHILDREN)
+    return text, after.ru_utime + after.ru_stime - before.ru_utime - before.ru_stime
+
+
+def best(command, data):
+    runs = [measured(command, data) for _ in range(3)]
+    return runs[0][0], min(seconds for _, seconds in runs)
+
+
+def plain(folder, bundle, counts):
+    """The plain program for a bundle of one leaf and these counts."""
+    leaf, proof = bundle["net"]["leaves"][0], bundle["proof"][0]
+    layers = [layer["moves"] for layer in proof["layers"]]
+    lists = [
+        ("NAMES", "&str", leaf["states"], json.dumps),
+        ("OUTPUTS", "bool", leaf["output"], json.dumps),
+        ("MOVES", "(usize, usize, usize, usize)", leaf["moves"], lambda move: f"({','.join(map(str, move))})"),
+        ("STARTS", "(usize, u32)", list(zip(leaf["input"], counts)), str),
+        ("LAYERS", "&[usize]", layers, lambda moves: f"&{moves}"),
+    ]
+    source = os.path.join(folder, "plain.rs")
+    with open(source, "w") as file:
+        for name, kind, items, shown in lists:
+            file.write(f"static {name}: [{kind}; {len(items)}] = [{', '.join(map(shown, items))}];\n")
+        file.write(PLAIN)
+    program = os.path.join(folder, "plain")
+    subprocess.run(["rustc", "-O", "-A", "warnings", "-o", program, source], check=True)
+    return program
+
+
+def cases():
+    with open(os.path.join(TOP, "examples/majority/bundle.json")) as file:
+        yield "majority", json.load(file), [AGENTS // 2 + 1, AGENTS // 2 - 1]
+    for pred in ["x - y < 3", "x + 2*y = 1 mod 20", "x - y < 20"]:
+        line = subprocess.run([PROGRAM, "compile"], input=f"vars x y\n{pred}\n".encode(), capture_output=True, check=True).stdout
+        bound = int(subprocess.run([PROGRAM, "check"], input=line, capture_output=True, check=True).stdout.split()[1])
+        agents = min(AGENTS, TAKES // bound)
+        yield f"`{pred}`", json.loads(line), [agents // 2, agents - agents // 2]
+
+
+def main():
+    for name, bundle, counts in cases():
+        line = json.dumps(bundle, separators=(",", ":")) + "\n"
+        crowd = f"crowd x={counts[0]} y={counts[1]}\n"
+        with tempfile.TemporaryDirectory() as folder:
+            wanted, plain_seconds = best([plain(folder, bundle, counts)], b"")
+        text, seconds = best([PROGRAM, "settle"], (line + crowd).encode())
+        _, check_seconds = best([PROGRAM, "check"], line.encode())
+        assert text == wanted, name
+        takes = text.count(b"take ")
+        print(f"{name}, {sum(counts)} agents, {takes} takes: {seconds:.2f} s, of which `check` {check_seconds:.2f} s; "
+              f"plain {plain_seconds:.2f} s", flush=True)
+
+
+main()
