@@ -1,4 +1,4 @@
-//! Tests of compiled bundles, demo cases, bundles of two leaves and replays, as tables: an input, the text and the status that it must give.
+//! Tests of compiled bundles, flocks, demo cases, bundles of two leaves and replays, as tables: an input, its text and its status.
 //! It stands on `pop_tool` and `pop_io`, and has no code but tests.
 //! Nothing stands above it.
 #![tactic(auto)]
@@ -7,6 +7,8 @@
 mod compile_rows;
 #[cfg(test)]
 mod demo_rows;
+#[cfg(test)]
+mod flock_rows;
 #[cfg(test)]
 mod given;
 #[cfg(test)]
