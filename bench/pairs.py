@@ -88,7 +88,7 @@ fn main(rt: HostRuntime) -> ExitCode {
 '''
 
 INVARIANT = '''use Rattle.pop_net.specs.Lanes.{AreValid}
-use Rattle.pairs.proofs.main.words_of.Given as goal
+use Rattle.pairs.proofs.words_of.Given as goal
 
 abbrev pub invariant-agents : goal.invariant-agents
 invariant-agents l = record {
@@ -151,7 +151,7 @@ def built(folder):
     for name in CRATES:
         shutil.copytree(os.path.join(TOP, 'crates', name), os.path.join(folder, 'crates', name),
                         ignore=shutil.ignore_patterns('out', 'must-fail'))
-    for path, text in [('src/main.rt', MAIN), ('proofs/main/words_of/Invariants.antt', INVARIANT)]:
+    for path, text in [('src/main.rt', MAIN), ('proofs/words_of/Invariants.antt', INVARIANT)]:
         os.makedirs(os.path.dirname(os.path.join(crate, path)), exist_ok=True)
         with open(os.path.join(crate, path), 'w') as file:
             file.write(text)
