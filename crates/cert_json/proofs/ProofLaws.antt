@@ -12,8 +12,7 @@ use Rattle.json_shape.proofs.Readers
 use Rattle.json_shape.proofs.Fresh.{EachFrom-All, All-EachFrom}
 use Rattle.pres_ast.specs.PredTree.{PredTree}
 use Rattle.pres_ast.specs.PredModel.{PredModel}
-use Rattle.pres_read.specs.declared.fault.ReadPred.{ReadPred}
-use Rattle.pres_read.specs.declared.fault.ReadPred.TheVariants.{Syntax, UnknownName, TooLarge, TooDeep, LongText, NoMemory}
+use Rattle.pres_read.specs.TextFault.{TextFault}
 use Rattle.pres_read.specs.Reading.{over, tree_read, pred_read}
 use Rattle.cert_base.specs.declared.layer.Layer.{Layer}
 use Rattle.cert_base.specs.declared.node.Node.{Node}
@@ -25,16 +24,11 @@ use Rattle.cert_json.specs.Examined.{pred_or_why, pred_at, layers_at, nodes_at, 
 use Rattle.cert_json.proofs.PartLaws.{layers_at-takes, layers_at-again}
 use Rattle.cert_json.proofs.NodeLaws.{nodes_at-takes, nodes_at-again}
 
-read_ok : (path : List ℕ) (r : Result PredModel ReadPred) (p : PredModel) → pred_or_why path r ≡ Ok p → r ≡ Ok p
+read_ok : (path : List ℕ) (r : Result PredModel TextFault) (p : PredModel) → pred_or_why path r ≡ Ok p → r ≡ Ok p
 read_ok path (Ok q) p e = ap (λ (m : PredModel). Ok m) (same_ok q p e)
-read_ok path (Err (Syntax at)) p e = absurd cc
-read_ok path (Err (UnknownName at)) p e = absurd cc
-read_ok path (Err (TooLarge at)) p e = absurd cc
-read_ok path (Err (TooDeep at)) p e = absurd cc
-read_ok path (Err (LongText n)) p e = absurd cc
-read_ok path (Err NoMemory) p e = absurd cc
+read_ok path (Err f) p e = absurd cc
 
-over_variables : (n : ℕ) (r : Result PredTree ReadPred) (p : PredModel) → over n r ≡ Ok p → p.variables ≡ n
+over_variables : (n : ℕ) (r : Result PredTree TextFault) (p : PredModel) → over n r ≡ Ok p → p.variables ≡ n
 over_variables n (Ok tree) p e = let same : (let m : PredModel = record { variables = n; tree = tree } in m) ≡ p = cc in ap (λ (m : PredModel). m.variables) (sym same)
 over_variables n (Err f) p e = absurd cc
 

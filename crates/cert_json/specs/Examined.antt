@@ -2,14 +2,14 @@
 -- length, and then item by item. The first rule that is broken is the fault.
 use Rattle.std.specs.Prelude.{ℕ, ◌-◌, ◌^◌, List, [], map, codes, ℤ, Option, Some, None, Result, Ok, Err}
 use Rattle.serde_json.specs.Data.{Data}
-use Rattle.json_shape.specs.declared.fault.Why.TheVariants.{Kind, Name, Pred}
+use Rattle.json_shape.specs.declared.fault.Why.TheVariants.{Name, Pred}
+use Rattle.json_shape.specs.declared.fault.PredWhy.{PredWhy}
 use Rattle.json_shape.specs.declared.fault.PredWhy.TheVariants as why
 use Rattle.json_shape.specs.Faults.{Fault, ◌>>=◌, broken}
 use Rattle.json_shape.specs.Paths.{item_path}
 use Rattle.json_shape.specs.Shapes.{object_at, member_by, list_at, number_at, integer_at, last_of, ascending_at, text_at, items_at, pair_at, word_at, one_after, two_after, each}
 use Rattle.pres_ast.specs.PredModel.{PredModel}
-use Rattle.pres_read.specs.declared.fault.ReadPred.{ReadPred}
-use Rattle.pres_read.specs.declared.fault.ReadPred.TheVariants.{Syntax, UnknownName, TooLarge, TooDeep, LongText, NoMemory}
+use Rattle.pres_read.specs.TextFault.{TextFault, Syntax, UnknownName, TooLarge, TooDeep, LongText}
 use Rattle.pres_read.specs.Reading.{pred_read}
 use Rattle.cert_base.specs.declared.fact.Term.{Term}
 use Rattle.cert_base.specs.declared.layer.Layer.{Layer}
@@ -24,15 +24,18 @@ use Rattle.cert_json.specs.declared.word.Word.{Word}
 use Rattle.cert_json.specs.declared.word.Word.TheVariants as word
 use Rattle.cert_json.specs.Words.{word_named}
 
--- a predicate, or what is wrong with its text; no text is read to out of memory
-abbrev pub pred_or_why : List ℕ → Result PredModel ReadPred → Result PredModel Fault
+-- why a text is no predicate, as a refusal says it
+abbrev pub why_of : TextFault → PredWhy
+why_of (Syntax at) = why.Syntax at
+why_of (UnknownName at) = why.UnknownName at
+why_of (TooLarge at) = why.TooLarge at
+why_of (TooDeep at) = why.TooDeep at
+why_of (LongText n) = why.LongText n
+
+-- a predicate, or what is wrong with its text
+abbrev pub pred_or_why : List ℕ → Result PredModel TextFault → Result PredModel Fault
 pred_or_why path (Ok p) = Ok p
-pred_or_why path (Err (Syntax at)) = broken path (Pred (why.Syntax at))
-pred_or_why path (Err (UnknownName at)) = broken path (Pred (why.UnknownName at))
-pred_or_why path (Err (TooLarge at)) = broken path (Pred (why.TooLarge at))
-pred_or_why path (Err (TooDeep at)) = broken path (Pred (why.TooDeep at))
-pred_or_why path (Err (LongText n)) = broken path (Pred (why.LongText n))
-pred_or_why path (Err NoMemory) = broken path Kind
+pred_or_why path (Err fault) = broken path (Pred (why_of fault))
 
 -- a predicate over these names
 unfoldable pub pred_at : List (List ℕ) → List ℕ → Data → Result PredModel Fault

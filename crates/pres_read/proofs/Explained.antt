@@ -1,6 +1,6 @@
 -- What is read keeps all rules, and each fault is that of a broken one.
 use Rattle.std.proofs.Common.{◌≡◌, ◌≤◌, inl, inr, ℕ, Bool, true, false, List, [], ◌∷◌, ◌++◌, length, ltb, Option, Some, None, IfOk, Result, Ok, Err, refl, sym, ap, subst, ◌∙◌, append_assoc, arith}
-use Rattle.std.specs.Prelude.{if◌then◌else◌, ◌||◌, IfErr}
+use Rattle.std.specs.Prelude.{if◌then◌else◌, ◌||◌, IfErr, IfSome}
 use Rattle.std.proofs.lemmas.Bool.{ltb-true, ltb-false}
 use Rattle.std.proofs.lemmas.List.{append-nil, map-append, append_cancel_right}
 use Rattle.pres_ast.specs.declared.limits.TheConstants.{WEIGHT_LIMIT}
@@ -9,10 +9,10 @@ use Rattle.pres_ast.specs.PredModel.{PredModel}
 use Rattle.pres_tokens.specs.Symbols.{Symbol, Name, Number, Star, Placed}
 use Rattle.pres_tokens.specs.Tokens.{tokens_of}
 use Rattle.pres_read.specs.declared.fault.ReadPred.{ReadPred}
-use Rattle.pres_read.specs.declared.fault.ReadPred.TheVariants.{Syntax, UnknownName, TooLarge, TooDeep, LongText, NoMemory}
+use Rattle.pres_read.specs.TextFault.{TextFault, Syntax, UnknownName, TooLarge, TooDeep, LongText}
 use Rattle.pres_read.specs.declared.read.TheConstants.{TEXT_LIMIT}
 use Rattle.pres_read.specs.declared.depth.TheConstants.{PARENTHESIS_LIMIT}
-use Rattle.pres_read.specs.Outcome.{◌>>=◌, Gives}
+use Rattle.pres_read.specs.Outcome.{◌>>=◌, fault_of, Gives}
 use Rattle.pres_read.specs.Progress.{AName, Progress, start}
 use Rattle.pres_read.specs.Depth.{Depth, surface, deeper, sunk}
 use Rattle.pres_read.specs.Reading.{step, finish, with_progress, run, over, pred_read}
@@ -122,7 +122,7 @@ module _ (names : List (List ℕ)) (text : List ℕ) where
 
   -- ---- each fault
 
-  abbrev Explains : Result PredTree ReadPred → Type 0
+  abbrev Explains : Result PredTree TextFault → Type 0
   Explains (Ok tree) = KeepsRules names (text_symbols text)
   Explains (Err e) = IsReadFault names text e
 
@@ -265,7 +265,7 @@ module _ (names : List (List ℕ)) (text : List ℕ) where
     place = is;
   }
 
-  step_explains : (before ts : List Placed) (p : Progress) (a : Trace) (d : Depth) (t : Placed) (o : Option Trace) (r : Result Progress ReadPred) (at : Stands names before p a d) → tokens_of text ≡ before ++ t ∷ ts
+  step_explains : (before ts : List Placed) (p : Progress) (a : Trace) (d : Depth) (t : Placed) (o : Option Trace) (r : Result Progress TextFault) (at : Stands names before p a d) → tokens_of text ≡ before ++ t ∷ ts
       → trace_step a t.symbol ≡ o → Agrees names r o t.place → SaysAt names a at.first t.place t.symbol r → Known names t.symbol r → BegunAfter r (before ++ t ∷ [])
       → ((q : Progress) (b : Trace) → Stands names (before ++ t ∷ []) q b (deeper d t.symbol) → Explains (run names (length text) q (deeper d t.symbol) ts))
       → Explains (going names (length text) ts (r >>= λ q. with_progress q (sunk d t)))
@@ -281,9 +281,8 @@ module _ (names : List (List ℕ)) (text : List ℕ) where
       subst (IsTooLarge names text) says.2 (large_by before ts p a b d t t.symbol at tokens refl e says.0 says.1)
   step_explains before ts p a d t o (Err (TooDeep place)) at tokens e agrees says known begun_on later = absurd says
   step_explains before ts p a d t o (Err (LongText n)) at tokens e agrees says known begun_on later = absurd agrees
-  step_explains before ts p a d t o (Err NoMemory) at tokens e agrees says known begun_on later = absurd agrees
 
-  end_explains : (before : List Placed) (p : Progress) (a : Trace) (d : Depth) (r : Result PredTree ReadPred) → tokens_of text ≡ before → Stands names before p a d → EndAgrees names r (trace_end a) (length text) → Fine r → Explains r
+  end_explains : (before : List Placed) (p : Progress) (a : Trace) (d : Depth) (r : Result PredTree TextFault) → tokens_of text ≡ before → Stands names before p a d → EndAgrees names r (trace_end a) (length text) → Fine r → Explains r
   end_explains before p a d (Ok tree) tokens at agrees fine = subst (λ (us : List Placed). KeepsRules names (symbols_of us)) (sym tokens) (keeps_at before p a d at)
   end_explains before p a d (Err (Syntax place)) tokens at agrees fine =
       syntax_at before [] p a d place (tokens ∙ sym (append-nil before)) at (stuck_law a (symbols_of before) [] at.went agrees.0) (sym agrees.1)
@@ -291,7 +290,6 @@ module _ (names : List (List ℕ)) (text : List ℕ) where
   end_explains before p a d (Err (TooLarge place)) tokens at agrees fine = absurd fine
   end_explains before p a d (Err (TooDeep place)) tokens at agrees fine = absurd fine
   end_explains before p a d (Err (LongText n)) tokens at agrees fine = absurd fine
-  end_explains before p a d (Err NoMemory) tokens at agrees fine = absurd fine
 
   run_explains : (ts before : List Placed) (p : Progress) (a : Trace) (d : Depth) → tokens_of text ≡ before ++ ts → Stands names before p a d → Explains (run names (length text) p d ts)
   run_explains [] before p a d tokens at =
@@ -300,11 +298,11 @@ module _ (names : List (List ℕ)) (text : List ℕ) where
       step_explains before ts p a d t (trace_step a t.symbol) (step names p t) at tokens refl (step_agrees names p a t (at.first, at.shown_at)) (step_says names p a at.first t at.shown_at) (step_known names p t) (step_begun names p before t at.term)
       (λ q b on. run_explains ts (before ++ t ∷ []) q b (deeper d t.symbol) (tokens ∙ sym (append_assoc before (t ∷ []) ts)) on)
 
-  abbrev pub ExplainsAll : Result PredModel ReadPred → Type 0
+  abbrev ExplainsAll : Result PredModel TextFault → Type 0
   ExplainsAll (Ok pred) = KeepsRules names (text_symbols text)
   ExplainsAll (Err e) = IsReadFault names text e
 
-  over_explains : (r : Result PredTree ReadPred) → Explains r → ExplainsAll (over (length names) r)
+  over_explains : (r : Result PredTree TextFault) → Explains r → ExplainsAll (over (length names) r)
   over_explains (Ok tree) h = h
   over_explains (Err e) h = h
 
@@ -319,19 +317,14 @@ module _ (names : List (List ℕ)) (text : List ℕ) where
       by_length false e = over_explains (run names (length text) start surface (tokens_of text)) (run_explains (tokens_of text) [] start begun surface refl start_stands)
 
   -- the same of what a call gave, which may be out of memory
-  pub given_explains : (r : Result PredModel ReadPred) → Gives (λ pred. pred) r (pred_read names text) → ExplainsAll r
-  given_explains (Ok pred) h = subst ExplainsAll h read_explains
-  given_explains (Err (Syntax at)) h = subst ExplainsAll h read_explains
-  given_explains (Err (UnknownName at)) h = subst ExplainsAll h read_explains
-  given_explains (Err (TooLarge at)) h = subst ExplainsAll h read_explains
-  given_explains (Err (TooDeep at)) h = subst ExplainsAll h read_explains
-  given_explains (Err (LongText n)) h = subst ExplainsAll h read_explains
-  given_explains (Err NoMemory) h = tt
+  pub given_rules : (r : Result PredModel ReadPred) → Gives (λ pred. pred) r (pred_read names text) → IfOk r (λ pred. KeepsRules names (text_symbols text))
+  given_rules (Ok pred) h = subst ExplainsAll h read_explains
+  given_rules (Err e) h = tt
 
-pub kept_all : (names : List (List ℕ)) (text : List ℕ) (r : Result PredModel ReadPred) → ExplainsAll names text r → IfOk r (λ pred. KeepsRules names (text_symbols text))
-kept_all names text (Ok pred) h = h
-kept_all names text (Err e) h = tt
+  by_fault : (fault : Option TextFault) → IfSome fault (λ f. pred_read names text ≡ Err f) → IfSome fault (IsReadFault names text)
+  by_fault None h = tt
+  by_fault (Some fault) h = subst ExplainsAll h read_explains
 
-pub faults_all : (names : List (List ℕ)) (text : List ℕ) (r : Result PredModel ReadPred) → ExplainsAll names text r → IfErr r (IsReadFault names text)
-faults_all names text (Ok pred) h = tt
-faults_all names text (Err e) h = h
+  pub given_fault : (r : Result PredModel ReadPred) → Gives (λ pred. pred) r (pred_read names text) → IfErr r (λ fault. IfSome (fault_of fault) (IsReadFault names text))
+  given_fault (Ok pred) h = tt
+  given_fault (Err e) h = by_fault (fault_of e) h

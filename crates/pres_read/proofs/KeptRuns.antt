@@ -12,7 +12,8 @@ use Rattle.pres_tokens.specs.declared.token.Relation.{Relation}
 use Rattle.pres_tokens.specs.Symbols.{Symbol, Name, Number, Plus, Minus, Star, Compare, And, Or, Not, Open, Close, Mod, Placed}
 use Rattle.pres_tokens.specs.Tokens.{tokens_of}
 use Rattle.pres_read.specs.declared.fault.ReadPred.{ReadPred}
-use Rattle.pres_read.specs.declared.fault.ReadPred.TheVariants.{Syntax, UnknownName, TooLarge, TooDeep, LongText, NoMemory}
+use Rattle.pres_read.specs.declared.fault.ReadPred.TheVariants as reading
+use Rattle.pres_read.specs.TextFault.{TextFault, Syntax, UnknownName, TooLarge, TooDeep, LongText}
 use Rattle.pres_read.specs.Outcome.{◌>>=◌, Gives}
 use Rattle.pres_read.specs.Numbers.{value_of, value_within}
 use Rattle.pres_read.specs.Atoms.{signed, negated_if, equality, constant_limit, Factor, lone, with_coef, with_number, with_term, added}
@@ -27,19 +28,18 @@ use Rattle.pres_read.proofs.Shows.{side_spans, around_side, lead_coefs, lead_neg
 use Rattle.pres_read.proofs.Kept.{RuleUnit, RuleName, RuleConstant, RuleModulus, RuleInner, RuleAt, KeptAfter, Kept, kept_symbols}
 use Rattle.pres_read.proofs.Outcomes.{Comes, run_comes, only_law, never_law, going}
 
-abbrev Went : {X : Type 0} → Result X ReadPred → Type 0
+abbrev Went : {X : Type 0} → Result X TextFault → Type 0
 Went (Ok x) = Unit {0}
 Went (Err e) = ⊥
 
 -- no fault, or one of syntax
-abbrev pub Fine : {X : Type 0} → Result X ReadPred → Type 0
+abbrev pub Fine : {X : Type 0} → Result X TextFault → Type 0
 Fine (Ok x) = Unit {0}
 Fine (Err (Syntax at)) = Unit {0}
 Fine (Err (UnknownName at)) = ⊥
 Fine (Err (TooLarge at)) = ⊥
 Fine (Err (TooDeep at)) = ⊥
 Fine (Err (LongText n)) = ⊥
-Fine (Err NoMemory) = ⊥
 
 coef_went : (coefs : List ℤ) (i : ℕ) (z : ℤ) (place : ℕ) → nat_abs z ≤ COEFFICIENT_LIMIT → Went (with_coef coefs i z place)
 coef_went coefs i z place h = by_test (ltb COEFFICIENT_LIMIT (nat_abs z)) refl
@@ -60,7 +60,7 @@ term_went : (coefs : List ℤ) (o : Option ℕ) (factor : Factor) (place : ℕ) 
 term_went coefs None factor place h g = absurd g
 term_went coefs (Some i) factor place h g = number_went coefs i factor COEFFICIENT_LIMIT (value_of factor.digits) h g
 
-sum_fine : (a : Around) (r : Result (List ℤ) ReadPred) → Went r → Fine (after_sum a r)
+sum_fine : (a : Around) (r : Result (List ℤ) TextFault) → Went r → Fine (after_sum a r)
 sum_fine a (Ok coefs) h = tt
 sum_fine a (Err e) h = absurd h
 
@@ -178,7 +178,7 @@ deep_fine names end t ts q d c p h = by_tests (ltb WEIGHT_LIMIT d.charge) refl (
     by_tests false x true y = let past = ltb-true PARENTHESIS_LIMIT d.parentheses y in absurd (omega (arith, past, p))
     by_tests false x false y = h
 
-step_run_fine : (names : List (List ℕ)) (end : ℕ) (t : Placed) (ts : List Placed) (d : Depth) (o : Option Trace) (r : Result Progress ReadPred)
+step_run_fine : (names : List (List ℕ)) (end : ℕ) (t : Placed) (ts : List Placed) (d : Depth) (o : Option Trace) (r : Result Progress TextFault)
     → Agrees names r o t.place → Fine r → KeptAfter o (λ b. Kept names b (symbols_of ts)) → (deeper d t.symbol).charge ≤ WEIGHT_LIMIT → (deeper d t.symbol).parentheses ≤ PARENTHESIS_LIMIT
     → ((q : Progress) (b : Trace) → IsShown names q b → Kept names b (symbols_of ts) → Fine (run names end q (deeper d t.symbol) ts))
     → Fine (going names end ts (r >>= λ q. with_progress q (sunk d t)))
@@ -189,7 +189,6 @@ step_run_fine names end t ts d o (Err (UnknownName at)) agrees fine kept c p lat
 step_run_fine names end t ts d o (Err (TooLarge at)) agrees fine kept c p later = absurd fine
 step_run_fine names end t ts d o (Err (TooDeep at)) agrees fine kept c p later = absurd fine
 step_run_fine names end t ts d o (Err (LongText n)) agrees fine kept c p later = absurd fine
-step_run_fine names end t ts d o (Err NoMemory) agrees fine kept c p later = absurd fine
 
 run_fine : (names : List (List ℕ)) (end : ℕ) (ts : List Placed) (p : Progress) (a : Trace) (d : Depth) → IsShown names p a → Kept names a (symbols_of ts) → IsShallow d (symbols_of ts)
     → Fine (run names end p d ts)
@@ -198,7 +197,7 @@ run_fine names end (t ∷ ts) p a d h k deep =
     step_run_fine names end t ts d (trace_step a t.symbol) (step names p t) (step_agrees names p a t h) (step_fine names p a t h k.0) k.1 deep.0 deep.1
     (λ q b s l. run_fine names end ts q b (deeper d t.symbol) s l deep.2)
 
-read_fine : (names : List (List ℕ)) (text : List ℕ) (p : Phrase APred) (r : Result PredTree ReadPred) → symbols p ≡ text_symbols text
+read_fine : (names : List (List ℕ)) (text : List ℕ) (p : Phrase APred) (r : Result PredTree TextFault) → symbols p ≡ text_symbols text
     → Comes names begun (tokens_of text) (length text) r → Fine r → r ≡ Ok (meaning names p)
 read_fine names text p (Ok tree) e comes fine = ap Ok (only_law names (tokens_of text) tree (meaning names p) comes (record { phrase = p; spelled = e; means = refl }))
 read_fine names text p (Err (Syntax at)) e comes fine =
@@ -207,7 +206,6 @@ read_fine names text p (Err (UnknownName at)) e comes fine = absurd fine
 read_fine names text p (Err (TooLarge at)) e comes fine = absurd fine
 read_fine names text p (Err (TooDeep at)) e comes fine = absurd fine
 read_fine names text p (Err (LongText n)) e comes fine = absurd fine
-read_fine names text p (Err NoMemory) e comes fine = absurd fine
 
 -- a text of the grammar that keeps the rules is read to its tree
 pub kept_read : (names : List (List ℕ)) (text : List ℕ) (p : Phrase APred) → symbols p ≡ text_symbols text → length text ≤ TEXT_LIMIT → Fits names p → IsShallow surface (text_symbols text)
@@ -228,9 +226,9 @@ pub given_kept : (names : List (List ℕ)) (text : List ℕ) (tree : PredTree) (
     → pred_read names text ≡ Ok (record { variables = length names; tree = tree }) → IsReadTo tree r
 given_kept names text tree (Ok pred) h e =
     let same : pred ≡ record { variables = length names; tree = tree } = cc in ap (λ (p : PredModel). p.tree) same
-given_kept names text tree (Err (Syntax at)) h e = cc
-given_kept names text tree (Err (UnknownName at)) h e = cc
-given_kept names text tree (Err (TooLarge at)) h e = cc
-given_kept names text tree (Err (TooDeep at)) h e = cc
-given_kept names text tree (Err (LongText n)) h e = cc
-given_kept names text tree (Err NoMemory) h e = tt
+given_kept names text tree (Err (reading.Syntax at)) h e = cc
+given_kept names text tree (Err (reading.UnknownName at)) h e = cc
+given_kept names text tree (Err (reading.TooLarge at)) h e = cc
+given_kept names text tree (Err (reading.TooDeep at)) h e = cc
+given_kept names text tree (Err (reading.LongText n)) h e = cc
+given_kept names text tree (Err reading.NoMemory) h e = tt

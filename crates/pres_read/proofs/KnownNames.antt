@@ -4,13 +4,13 @@ use Rattle.std.specs.Str.{bytes_eq}
 use Rattle.pres_ast.specs.PredTree.{PredTree}
 use Rattle.pres_tokens.specs.declared.token.Relation.{Relation}
 use Rattle.pres_tokens.specs.Symbols.{Symbol, Name, Minus, Not, Open, Placed}
-use Rattle.pres_read.specs.declared.fault.ReadPred.{ReadPred}
+use Rattle.pres_read.specs.TextFault.{TextFault}
 use Rattle.pres_read.specs.Atoms.{Factor, lone, with_term}
 use Rattle.pres_read.specs.Progress.{Span, Around, Next, AUnit, ATerm, AStar, AName, ARelation, AConstant, ANumber, AModulo, AModulus, ASign, Progress}
 use Rattle.pres_read.specs.Reading.{zeros, after_sum, at_term, at_unit, at_star, at_name, at_relation, at_number, at_constant, at_modulus, at_sign, at_modulo, by_next, step}
 use Rattle.pres_read.specs.Rules.{IsKnown}
 
-abbrev pub Known : List (List ℕ) → Symbol → Result Progress ReadPred → Type 0
+abbrev pub Known : List (List ℕ) → Symbol → Result Progress TextFault → Type 0
 Known names s r = IfOk r (λ q. IsKnown names s)
 
 sum_known : (names : List (List ℕ)) (a : Around) (coefs : List ℤ) (o : Option ℕ) (factor : Factor) (place : ℕ) (word : List ℕ) → o ≡ position (bytes_eq word) names
@@ -18,7 +18,7 @@ sum_known : (names : List (List ℕ)) (a : Around) (coefs : List ℤ) (o : Optio
 sum_known names a coefs None factor place word e = tt
 sum_known names a coefs (Some i) factor place word e = by_sum (with_term coefs (Some i) factor place)
   where
-    by_sum : (r : Result (List ℤ) ReadPred) → Known names (Name word) (after_sum a r)
+    by_sum : (r : Result (List ℤ) TextFault) → Known names (Name word) (after_sum a r)
     by_sum (Ok sum) = rw (← e) refl
     by_sum (Err f) = tt
 
@@ -37,7 +37,7 @@ name_known names a coefs factor place (Name word) = sum_known names a coefs (pos
 name_known names a coefs factor place s = tt
 
 -- a symbol other than a name has no rule here
-any_known : (names : List (List ℕ)) (s : Symbol) (r : Result Progress ReadPred) → IsKnown names s → Known names s r
+any_known : (names : List (List ℕ)) (s : Symbol) (r : Result Progress TextFault) → IsKnown names s → Known names s r
 any_known names s (Ok q) h = h
 any_known names s (Err e) h = tt
 

@@ -11,8 +11,7 @@ use Rattle.std.specs.Str.{bytes_eq}
 use Rattle.pres_ast.specs.declared.limits.TheConstants.{COEFFICIENT_LIMIT, BOUND_LIMIT, MODULUS_LIMIT}
 use Rattle.pres_tokens.specs.declared.token.Relation.{Relation}
 use Rattle.pres_tokens.specs.declared.token.Relation.TheVariants.{Less, AtMost, Greater, AtLeast, Equal, Unequal}
-use Rattle.pres_read.specs.declared.fault.ReadPred.{ReadPred}
-use Rattle.pres_read.specs.declared.fault.ReadPred.TheVariants.{TooLarge}
+use Rattle.pres_read.specs.TextFault.{TextFault, TooLarge}
 use Rattle.pres_read.specs.Numbers.{value_within, value_of}
 use Rattle.pres_read.specs.Atoms.{signed, turned, negated_if, equality, compared, remainder, congruent, constant_limit, Factor, with_coef, with_number, with_term, added}
 use Rattle.pres_read.specs.Reading.{negated, conjoined, disjoined, zeros}
@@ -92,7 +91,7 @@ within_limit limit v = by_test (ltb limit v) refl
 with_coef_fits : (n : ℕ) (coefs : List ℤ) (i : ℕ) (z : ℤ) (place : ℕ) → AreCoefs n coefs → IfOk (with_coef coefs i z place) (AreCoefs n)
 with_coef_fits n coefs i z place h = by_test (ltb COEFFICIENT_LIMIT (nat_abs z)) refl
   where
-    by_test : (b : Bool) → ltb COEFFICIENT_LIMIT (nat_abs z) ≡ b → IfOk {E = ReadPred} (if b then Err (TooLarge place) else Ok (slice_set coefs i z)) (AreCoefs n)
+    by_test : (b : Bool) → ltb COEFFICIENT_LIMIT (nat_abs z) ≡ b → IfOk {E = TextFault} (if b then Err (TooLarge place) else Ok (slice_set coefs i z)) (AreCoefs n)
     by_test true e = tt
     by_test false e = (length-set coefs i z ∙ h.0, All-set IsCoef coefs i z (ltb-false COEFFICIENT_LIMIT (nat_abs z) e) h.1)
 

@@ -1,3 +1,4 @@
+pub mod TextFault
 pub mod Outcome
 pub mod Numbers
 pub mod Atoms

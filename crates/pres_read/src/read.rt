@@ -1,13 +1,13 @@
 //! Reading a predicate.
 
-ghost use Rattle.std.specs.Prelude.{◌≡◌, ◌≤◌, IfOk, IfErr, length};
+ghost use Rattle.std.specs.Prelude.{◌≡◌, ◌≤◌, IfOk, IfErr, IfSome, length};
 ghost use Rattle.pop_io.specs.Names.{is_variable_name, AreNames};
 ghost use Rattle.pres_ast.specs.PredTree.{PredTree};
 ghost use Rattle.pres_ast.specs.PredModel.{IsPred};
 ghost use Rattle.pres_ast.specs.TreeOf.{tree_of};
 ghost use Rattle.pres_tokens.specs.Tokens.{tokens_of};
 ghost use Rattle.pres_tokens.specs.Symbols.{token_of};
-ghost use Rattle.pres_read.specs.Outcome.{Gives};
+ghost use Rattle.pres_read.specs.Outcome.{Gives, fault_of};
 ghost use Rattle.pres_read.specs.Progress.{start};
 ghost use Rattle.pres_read.specs.Depth.{surface};
 ghost use Rattle.pres_read.specs.Reading.{run, read_on, pred_read};
@@ -46,7 +46,7 @@ pub fn read_pred(alloc: Global, text: &[u8], names: &List<Text>) -> Result<Pred,
     ensures kept { (phrase : Phrase APred) → symbols phrase ≡ text_symbols text.now → length text.now ≤ TEXT_LIMIT
         → Fits names.now phrase → IsShallow surface (text_symbols text.now) → IsReadTo (meaning names.now phrase) result }
     // The tokens before the place begin a text of the grammar and keep all rules, and this one breaks that of the fault.
-    ensures faults { IfErr result (IsReadFault names.now text.now) }
+    ensures faults { IfErr result (λ fault. IfSome (fault_of fault) (IsReadFault names.now text.now)) }
 {
     read_exactly(alloc, text, names)
 }

@@ -2,11 +2,9 @@
 use Rattle.std.specs.Prelude.{ℕ, Bool, true, false, List, codes, Option, Some, None, Result, Ok, Err}
 use Rattle.pres_ast.specs.PredModel.{PredModel}
 use Rattle.pres_ast.specs.PredicateValue.{predicate_value}
-use Rattle.pres_read.specs.declared.fault.ReadPred.{ReadPred}
-use Rattle.pres_read.specs.declared.fault.ReadPred.TheVariants as reading
+use Rattle.pres_read.specs.TextFault.{TextFault}
 use Rattle.pres_read.specs.Reading.{pred_read}
-use Rattle.json_shape.specs.declared.fault.PredWhy.{PredWhy}
-use Rattle.json_shape.specs.declared.fault.PredWhy.TheVariants.{Syntax, UnknownName, TooLarge, TooDeep, LongText}
+use Rattle.cert_json.specs.Examined.{why_of}
 use Rattle.pop_words.specs.Vars.{vars_of}
 use Rattle.pop_words.specs.Counts.{counts_of}
 use Rattle.tool_texts.specs.declared.refusal.Refusal.{Refusal}
@@ -22,16 +20,7 @@ abbrev pub named : Option (List (List ℕ)) → Result (List (List ℕ)) Refusal
 named None = Err (Line 1 Form)
 named (Some names) = Ok names
 
--- Why a text is no predicate. Reading is a function of the text, so out of memory never stands here.
-abbrev pub why_of : ReadPred → PredWhy
-why_of (reading.Syntax at) = Syntax at
-why_of (reading.UnknownName at) = UnknownName at
-why_of (reading.TooLarge at) = TooLarge at
-why_of (reading.TooDeep at) = TooDeep at
-why_of (reading.LongText length) = LongText length
-why_of reading.NoMemory = LongText 0
-
-abbrev pub understood : Result PredModel ReadPred → Result PredModel Refusal
+abbrev pub understood : Result PredModel TextFault → Result PredModel Refusal
 understood (Ok pred) = Ok pred
 understood (Err fault) = Err (Pred (why_of fault))
 

@@ -1,4 +1,4 @@
-use Rattle.pres_read.proofs.Explained.{given_explains, kept_all, faults_all}
+use Rattle.pres_read.proofs.Explained.{given_rules, given_fault}
 use Rattle.pres_read.specs.Grammar.{meaning}
 use Rattle.pres_read.proofs.KeptRuns.{given_kept, kept_read}
 use Rattle.pres_read.proofs.Outcomes.{given_laws}
@@ -16,7 +16,7 @@ returns-clause-kept c = λ phrase spelled short fits shallow.
     (kept_read c.args.names.now c.args.text.now phrase spelled short fits shallow)
 
 pub returns-clause-kept_rules : goal.returns-clause-kept_rules
-returns-clause-kept_rules c = kept_all c.args.names.now c.args.text.now c.read_exactly.result (given_explains c.args.names.now c.args.text.now c.read_exactly.result c.read_exactly.ensures)
+returns-clause-kept_rules c = given_rules c.args.names.now c.args.text.now c.read_exactly.result c.read_exactly.ensures
 
 pub returns-clause-faults : goal.returns-clause-faults
-returns-clause-faults c = faults_all c.args.names.now c.args.text.now c.read_exactly.result (given_explains c.args.names.now c.args.text.now c.read_exactly.result c.read_exactly.ensures)
+returns-clause-faults c = given_fault c.args.names.now c.args.text.now c.read_exactly.result c.read_exactly.ensures
