@@ -1,4 +1,5 @@
 pub mod Sets
+pub mod Lasts
 pub mod PartLaws
 pub mod NodeLaws
 pub mod ProofLaws

@@ -5,7 +5,7 @@ use Rattle.std.proofs.lemmas.Slice.Eq.{bytes_eq-Decides}
 use Rattle.serde_json.specs.Data.{Data}
 use Rattle.json_shape.specs.Faults.{Fault, ◌>>=◌}
 use Rattle.json_shape.specs.Paths.{item_path}
-use Rattle.json_shape.specs.Shapes.{items_at, word_at, one_after, two_after}
+use Rattle.json_shape.specs.Shapes.{items_at, word_at, one_after, two_after, item_by, each_at}
 use Rattle.json_shape.specs.Parts.{IsNumber, IsInteger, IsOnly, AreBoth, BeginsWith, IsList}
 use Rattle.json_shape.proofs.Steps.{bind_ok, same_ok}
 use Rattle.json_shape.proofs.Readers
@@ -17,27 +17,27 @@ use Rattle.cert_base.specs.declared.node.Node.TheVariants.{Linear, Residue, Spli
 use Rattle.cert_base.specs.ProofLimits.{IsSmall, IsAscending, AreTermsWithin, IsSetWithin, IsNodeWithin, AreNodesWithin}
 use Rattle.cert_base.specs.declared.limits.TheConstants.{NODE_LIMIT}
 use Rattle.pres_ast.specs.declared.limits.TheConstants.{MODULUS_LIMIT}
-use Rattle.cert_json.specs.declared.word.Word.{Word}
-use Rattle.cert_json.specs.declared.word.Word.TheVariants as word
-use Rattle.cert_json.specs.Words.{text_of, word_else, word_named}
+use Rattle.cert_json.specs.declared.kind.NodeKind.{NodeKind}
+use Rattle.cert_json.specs.declared.kind.NodeKind.TheVariants as kind
+use Rattle.cert_json.specs.Kinds.{text_of, kind_else, kind_named}
 use Rattle.cert_json.specs.ProofFile.{IsTerm, AreParts, IsNode}
-use Rattle.cert_json.specs.Examined.{index_at, state_at, modulus_at, small_at, terms_at, numbers_of, row_terms_at, states_at, with_one, with_two, split_by, after_word, by_word, node_at, node_item, nodes_at}
+use Rattle.cert_json.specs.Examined.{index_at, state_at, modulus_at, small_at, terms_at, numbers_of, row_terms_at, states_at, with_one, with_two, split_by, after_word, by_kind, node_at, node_item, nodes_at}
 use Rattle.cert_json.proofs.PartLaws
 
-by_test : (v w : Word) (s : List ℕ) (other : Option Word) → (other ≡ Some w → s ≡ text_of w) → (b : Bool) → bytes_eq s (text_of v) ≡ b → cond b (Some v) other ≡ Some w → s ≡ text_of w
+by_test : (v w : NodeKind) (s : List ℕ) (other : Option NodeKind) → (other ≡ Some w → s ≡ text_of w) → (b : Bool) → bytes_eq s (text_of v) ≡ b → cond b (Some v) other ≡ Some w → s ≡ text_of w
 by_test v w s other so true is e = let same : v ≡ w = cc in (bytes_eq-Decides s (text_of v)).0 is ∙ ap text_of same
 by_test v w s other so false is e = so e
 
-else_takes : (v w : Word) (s : List ℕ) (other : Option Word) → (other ≡ Some w → s ≡ text_of w) → word_else v s other ≡ Some w → s ≡ text_of w
+else_takes : (v w : NodeKind) (s : List ℕ) (other : Option NodeKind) → (other ≡ Some w → s ≡ text_of w) → kind_else v s other ≡ Some w → s ≡ text_of w
 else_takes v w s other so e = by_test v w s other so (bytes_eq s (text_of v)) refl e
 
-named_takes : (s : List ℕ) (w : Word) → word_named s ≡ Some w → s ≡ text_of w
+named_takes : (s : List ℕ) (w : NodeKind) → kind_named s ≡ Some w → s ≡ text_of w
 named_takes s w =
-    else_takes word.Linear w s _
-    (else_takes word.Residue w s _
-    (else_takes word.Split w s _
-    (else_takes word.Present w s _
-    (else_takes word.Twin w s _ (else_takes word.Trap w s _ (else_takes word.Siphon w s _ (else_takes word.Open w s None (λ e. absurd cc))))))))
+    else_takes kind.Linear w s _
+    (else_takes kind.Residue w s _
+    (else_takes kind.Split w s _
+    (else_takes kind.Present w s _
+    (else_takes kind.Twin w s _ (else_takes kind.Trap w s _ (else_takes kind.Siphon w s _ (else_takes kind.Open w s None (λ e. absurd cc))))))))
 
 module _ {A : Type 0} (read : List ℕ → Data → Result A Fault) (Is : A → Data → Type 0) (P : A → Type 0) (make : A → Node) where
   one_takes : ((path : List ℕ) (d : Data) (x : A) → read path d ≡ Ok x → Is x d × P x)
@@ -96,47 +96,47 @@ row_again path d ts is fits = PartLaws.row_terms_at-again path d ts is fits.0 fi
 abbrev Taken : List Data → Node → Type 0
 Taken ds node = AreParts node ds × IsNodeWithin node
 
-parts_takes : (path : List ℕ) (ds : List Data) (node : Node) (w : Word) → word_at path ds ≡ Ok (text_of w) → after_word path w ds ≡ Ok node → Taken ds node
-parts_takes path ds node word.Linear w e =
+parts_takes : (path : List ℕ) (ds : List Data) (node : Node) (w : NodeKind) → word_at path ds ≡ Ok (text_of w) → after_word path w ds ≡ Ok node → Taken ds node
+parts_takes path ds node kind.Linear w e =
     let r = one_takes terms_at (IsList IsTerm) AreTermsWithin Linear PartLaws.terms_at-takes path (codes "lin") ds node w e in
     subst (Taken ds) r.1 (r.2, r.3)
-parts_takes path ds node word.Residue w e =
+parts_takes path ds node kind.Residue w e =
     let r = two_takes modulus_at terms_at IsNumber (IsList IsTerm) IsModulus AreTermsWithin Residue modulus_takes PartLaws.terms_at-takes path (codes "residue") ds node w e in
     subst (Taken ds) r.2 (r.3, (r.4.0, r.4.1, r.5))
-parts_takes path ds node word.Split w e =
+parts_takes path ds node kind.Split w e =
     let r = two_takes row_terms_at small_at (IsList IsTerm) IsInteger AreRowTerms IsSmall split_by row_takes PartLaws.small_takes path (codes "split") ds node w e in
     subst (Taken ds) r.2 (r.3, (r.4.0, r.4.1, r.5))
-parts_takes path ds node word.Present w e =
+parts_takes path ds node kind.Present w e =
     let r = one_takes state_at IsNumber (λ q. q < 2 ^ 16) Present PartLaws.state_takes path (codes "present") ds node w e in
     subst (Taken ds) r.1 (r.2, r.3)
-parts_takes path ds node word.Twin w e =
+parts_takes path ds node kind.Twin w e =
     let r = one_takes state_at IsNumber (λ q. q < 2 ^ 16) Twin PartLaws.state_takes path (codes "twin") ds node w e in
     subst (Taken ds) r.1 (r.2, r.3)
-parts_takes path ds node word.Trap w e =
+parts_takes path ds node kind.Trap w e =
     let r = one_takes states_at (IsList IsNumber) IsSetWithin Trap PartLaws.states_at-takes path (codes "trap") ds node w e in
     subst (Taken ds) r.1 (r.2, r.3)
-parts_takes path ds node word.Siphon w e =
+parts_takes path ds node kind.Siphon w e =
     let r = one_takes states_at (IsList IsNumber) IsSetWithin Siphon PartLaws.states_at-takes path (codes "siphon") ds node w e in
     subst (Taken ds) r.1 (r.2, r.3)
-parts_takes path ds node word.Open w e =
+parts_takes path ds node kind.Open w e =
     let r = one_takes index_at IsNumber (λ n. n < 2 ^ 32) Open PartLaws.index_takes path (codes "open") ds node w e in
     subst (Taken ds) r.1 (r.2, r.3)
 
-by_word_takes : (path s : List ℕ) (ds : List Data) (node : Node) (o : Option Word) → word_named s ≡ o → word_at path ds ≡ Ok s → by_word path o ds ≡ Ok node → Taken ds node
-by_word_takes path s ds node None is w e = absurd cc
-by_word_takes path s ds node (Some v) is w e =
+by_kind_takes : (path s : List ℕ) (ds : List Data) (node : Node) (o : Option NodeKind) → kind_named s ≡ o → word_at path ds ≡ Ok s → by_kind path o ds ≡ Ok node → Taken ds node
+by_kind_takes path s ds node None is w e = absurd cc
+by_kind_takes path s ds node (Some v) is w e =
     parts_takes path ds node v (subst (λ (t : List ℕ). word_at path ds ≡ Ok t) (named_takes s v is) w) e
 
 node_takes : (path : List ℕ) (d : Data) (node : Node) → node_at path d ≡ Ok node → IsNode node d × IsNodeWithin node
 unfolding node_at
 node_takes path d node e =
-    let a = bind_ok (items_at path d) (λ ds. word_at path ds >>= λ s. by_word path (word_named s) ds) node e in
-    let s = bind_ok (word_at path a.0) (λ s. by_word path (word_named s) a.0) node a.2 in
+    let a = bind_ok (items_at path d) (λ ds. word_at path ds >>= λ s. by_kind path (kind_named s) ds) node e in
+    let s = bind_ok (word_at path a.0) (λ s. by_kind path (kind_named s) a.0) node a.2 in
     let t = Tagged.items_at-takes path d a.0 a.1 in
-    let r = by_word_takes path s.0 a.0 node (word_named s.0) refl s.1 s.2 in
+    let r = by_kind_takes path s.0 a.0 node (kind_named s.0) refl s.1 s.2 in
     ((t.0, t.1, rw t.2 r.0), r.1)
 
-parts_again : (path : List ℕ) (ds : List Data) (node : Node) → AreParts node ds → IsNodeWithin node → (word_at path ds >>= λ s. by_word path (word_named s) ds) ≡ Ok node
+parts_again : (path : List ℕ) (ds : List Data) (node : Node) → AreParts node ds → IsNodeWithin node → (word_at path ds >>= λ s. by_kind path (kind_named s) ds) ≡ Ok node
 parts_again path ds (Linear terms) parts fits =
     let t = one_again terms_at (IsList IsTerm) AreTermsWithin Linear PartLaws.terms_at-again path (codes "lin") ds terms parts fits in rw t.0 t.1
 parts_again path ds (Residue m terms) parts fits =
@@ -159,12 +159,12 @@ unfolding node_at
 node_again path d node is fits = rw (Tagged.items_at-again path d is.0 is.1) (parts_again path _ node is.2 fits)
 
 pub nodes_at-takes : (path : List ℕ) (d : Data) (nodes : List Node) → nodes_at path d ≡ Ok nodes → IsList IsNode nodes d × AreNodesWithin nodes
-unfolding nodes_at
+unfolding each_at
 nodes_at-takes path d nodes e =
-    let r = Readers.list-takes (node_item path) IsNode (λ _ n. IsNodeWithin n) (λ found i x n h. node_takes (item_path path i) x n h) path 0 NODE_LIMIT d nodes e in
+    let r = Readers.list-takes (item_by node_item path) IsNode (λ _ n. IsNodeWithin n) (λ found i x n h. node_takes (item_path path i) x n h) path 0 NODE_LIMIT d nodes e in
     (r.0, (r.3, EachFrom-All IsNodeWithin [] nodes r.1))
 
 pub nodes_at-again : (path : List ℕ) (d : Data) (nodes : List Node) → IsList IsNode nodes d → AreNodesWithin nodes → nodes_at path d ≡ Ok nodes
-unfolding nodes_at
+unfolding each_at
 nodes_at-again path d nodes is fits =
-    Readers.list-again (node_item path) IsNode (λ _ n. IsNodeWithin n) (λ found i x n h f. node_again (item_path path i) x n h f) path 0 NODE_LIMIT d nodes is (All-EachFrom IsNodeWithin [] nodes fits.1) (omega arith) fits.0
+    Readers.list-again (item_by node_item path) IsNode (λ _ n. IsNodeWithin n) (λ found i x n h f. node_again (item_path path i) x n h f) path 0 NODE_LIMIT d nodes is (All-EachFrom IsNodeWithin [] nodes fits.1) (omega arith) fits.0

@@ -4,7 +4,7 @@ use Rattle.std.specs.Prelude.{All}
 use Rattle.serde_json.specs.Data.{Data}
 use Rattle.json_shape.specs.Faults.{Fault, ◌>>=◌}
 use Rattle.json_shape.specs.Paths.{member_path, item_path}
-use Rattle.json_shape.specs.Shapes.{object_at, member_at, member_by, last_of, comes_after, ascending_at, pair_at}
+use Rattle.json_shape.specs.Shapes.{object_at, member_at, member_by, last_of, comes_after, ascending_at, pair_at, item_by, each_at}
 use Rattle.json_shape.specs.Parts.{IsNumber, IsInteger, IsList}
 use Rattle.json_shape.proofs.Steps.{bind_ok, same_ok}
 use Rattle.json_shape.proofs.Readers
@@ -61,25 +61,25 @@ module _ (number : List ℕ → Data → Result ℕ Fault) (P : ℕ → Type 0) 
 abbrev Any : ℕ → Type 0
 Any n = Unit {0}
 
-term_takes : (path : List ℕ) (found : List Term) (i : ℕ) (d : Data) (t : Term) → term_item path found i d ≡ Ok t → IsTerm t d × IsTermWithin t
+term_takes : (path : List ℕ) (found : List Term) (i : ℕ) (d : Data) (t : Term) → item_by term_item path found i d ≡ Ok t → IsTerm t d × IsTermWithin t
 unfolding term_at
 term_takes path found i d t e =
     let r = term_from-takes index_at Any (λ p x n h. (let s = index_takes p x n h in (s.0, s.1, tt))) (item_path path i) d t e in (r.0, r.1)
 
-term_again : (path : List ℕ) (found : List Term) (i : ℕ) (d : Data) (t : Term) → IsTerm t d → IsTermWithin t → term_item path found i d ≡ Ok t
+term_again : (path : List ℕ) (found : List Term) (i : ℕ) (d : Data) (t : Term) → IsTerm t d → IsTermWithin t → item_by term_item path found i d ≡ Ok t
 unfolding term_at
 term_again path found i d t is fits = term_from-again index_at Any (λ p x n h lt any. index_again p x n h lt) (item_path path i) d t is fits tt
 
 pub terms_at-takes : (path : List ℕ) (d : Data) (ts : List Term) → terms_at path d ≡ Ok ts → IsList IsTerm ts d × AreTermsWithin ts
-unfolding terms_at
+unfolding each_at
 terms_at-takes path d ts e =
-    let r = Readers.list-takes (term_item path) IsTerm (λ _ t. IsTermWithin t) (term_takes path) path 0 TERM_LIMIT d ts e in
+    let r = Readers.list-takes (item_by term_item path) IsTerm (λ _ t. IsTermWithin t) (term_takes path) path 0 TERM_LIMIT d ts e in
     (r.0, (r.3, EachFrom-All IsTermWithin [] ts r.1))
 
 pub terms_at-again : (path : List ℕ) (d : Data) (ts : List Term) → IsList IsTerm ts d → AreTermsWithin ts → terms_at path d ≡ Ok ts
-unfolding terms_at
+unfolding each_at
 terms_at-again path d ts is fits =
-    Readers.list-again (term_item path) IsTerm (λ _ t. IsTermWithin t) (term_again path) path 0 TERM_LIMIT d ts is (All-EachFrom IsTermWithin [] ts fits.1) (omega arith) fits.0
+    Readers.list-again (item_by term_item path) IsTerm (λ _ t. IsTermWithin t) (term_again path) path 0 TERM_LIMIT d ts is (All-EachFrom IsTermWithin [] ts fits.1) (omega arith) fits.0
 
 abbrev number_in : Term → ℕ
 number_in t = t.at
@@ -87,32 +87,32 @@ number_in t = t.at
 abbrev IsNextTerm : List Term → Term → Type 0
 IsNextTerm found t = IsTermWithin t × Sets.Follows number_in found t
 
-row_term_takes : (path : List ℕ) (found : List Term) (i : ℕ) (d : Data) (t : Term) → row_term_item path found i d ≡ Ok t → IsTerm t d × IsNextTerm found t
+row_term_takes : (path : List ℕ) (found : List Term) (i : ℕ) (d : Data) (t : Term) → item_by row_term_item path found i d ≡ Ok t → IsTerm t d × IsNextTerm found t
 unfolding row_term_at
 row_term_takes path found i d t e =
     let before = last_of (numbers_of found) in
     let r = term_from-takes (λ p x. ascending_at p (2 ^ 32 - 1) before x) (λ n. comes_after before n ≡ true) (λ p x n h. (let s = Tagged.ascending_at-takes p (2 ^ 32 - 1) before x n h in let lt : n < 2 ^ 32 = omega (arith, s.1) in (s.0, lt, s.2))) (item_path path i) d t e in
     (r.0, (r.1, r.2))
 
-row_term_again : (path : List ℕ) (found : List Term) (i : ℕ) (d : Data) (t : Term) → IsTerm t d → IsNextTerm found t → row_term_item path found i d ≡ Ok t
+row_term_again : (path : List ℕ) (found : List Term) (i : ℕ) (d : Data) (t : Term) → IsTerm t d → IsNextTerm found t → item_by row_term_item path found i d ≡ Ok t
 unfolding row_term_at
 row_term_again path found i d t is fits =
     let before = last_of (numbers_of found) in
     term_from-again (λ p x. ascending_at p (2 ^ 32 - 1) before x) (λ n. comes_after before n ≡ true) (λ p x n h lt after. Tagged.ascending_at-again p (2 ^ 32 - 1) before x n h (omega arith) after) (item_path path i) d t is fits.0 fits.1
 
 pub row_terms_at-takes : (path : List ℕ) (d : Data) (ts : List Term) → row_terms_at path d ≡ Ok ts → IsList IsTerm ts d × AreTermsWithin ts × IsAscending (numbers_of ts)
-unfolding row_terms_at
+unfolding each_at
 row_terms_at-takes path d ts e =
-    let r = Readers.list-takes (row_term_item path) IsTerm IsNextTerm (row_term_takes path) path 0 TERM_LIMIT d ts e in
+    let r = Readers.list-takes (item_by row_term_item path) IsTerm IsNextTerm (row_term_takes path) path 0 TERM_LIMIT d ts e in
     let fits = EachFrom-weaker IsNextTerm (λ _ t. IsTermWithin t) (λ found t next. next.0) [] ts r.1 in
     let up = EachFrom-weaker IsNextTerm (Sets.Follows number_in) (λ found t next. next.1) [] ts r.1 in
     (r.0, (r.3, EachFrom-All IsTermWithin [] ts fits), Sets.follows-ascending number_in ts up)
 
 pub row_terms_at-again : (path : List ℕ) (d : Data) (ts : List Term) → IsList IsTerm ts d → AreTermsWithin ts → IsAscending (numbers_of ts) → row_terms_at path d ≡ Ok ts
-unfolding row_terms_at
+unfolding each_at
 row_terms_at-again path d ts is fits up =
     let each_one = Sets.EachFrom-both (λ _ t. IsTermWithin t) (Sets.Follows number_in) [] ts (All-EachFrom IsTermWithin [] ts fits.1) (Sets.ascending-follows number_in ts up) in
-    Readers.list-again (row_term_item path) IsTerm IsNextTerm (row_term_again path) path 0 TERM_LIMIT d ts is each_one (omega arith) fits.0
+    Readers.list-again (item_by row_term_item path) IsTerm IsNextTerm (row_term_again path) path 0 TERM_LIMIT d ts is each_one (omega arith) fits.0
 
 abbrev itself : ℕ → ℕ
 itself n = n
@@ -120,10 +120,10 @@ itself n = n
 abbrev IsNextState : List ℕ → ℕ → Type 0
 IsNextState found q = (q < 2 ^ 16) × (comes_after (last_of found) q ≡ true)
 
-next_takes : (path : List ℕ) (found : List ℕ) (i : ℕ) (d : Data) (q : ℕ) → state_item path found i d ≡ Ok q → IsNumber q d × IsNextState found q
+next_takes : (path : List ℕ) (found : List ℕ) (i : ℕ) (d : Data) (q : ℕ) → item_by state_item path found i d ≡ Ok q → IsNumber q d × IsNextState found q
 next_takes path found i d q e = let r = Tagged.ascending_at-takes (item_path path i) (2 ^ 16 - 1) (last_of found) d q e in let lt : q < 2 ^ 16 = omega (arith, r.1) in (r.0, (lt, r.2))
 
-next_again : (path : List ℕ) (found : List ℕ) (i : ℕ) (d : Data) (q : ℕ) → IsNumber q d → IsNextState found q → state_item path found i d ≡ Ok q
+next_again : (path : List ℕ) (found : List ℕ) (i : ℕ) (d : Data) (q : ℕ) → IsNumber q d → IsNextState found q → item_by state_item path found i d ≡ Ok q
 next_again path found i d q is fits = Tagged.ascending_at-again (item_path path i) (2 ^ 16 - 1) (last_of found) d q is (omega (arith, fits.0)) fits.1
 
 plain_follows : (found : List ℕ) (q : ℕ) → comes_after (last_of found) q ≡ true → Sets.Follows itself found q
@@ -133,42 +133,42 @@ follows_plain : (found : List ℕ) (q : ℕ) → Sets.Follows itself found q →
 follows_plain found q after = rw Sets.map_same at after
 
 pub states_at-takes : (path : List ℕ) (d : Data) (qs : List ℕ) → states_at path d ≡ Ok qs → IsList IsNumber qs d × IsSetWithin qs
-unfolding states_at
+unfolding each_at
 states_at-takes path d qs e =
-    let r = Readers.list-takes (state_item path) IsNumber IsNextState (next_takes path) path 0 STATE_LIMIT d qs e in
+    let r = Readers.list-takes (item_by state_item path) IsNumber IsNextState (next_takes path) path 0 STATE_LIMIT d qs e in
     let fits = EachFrom-weaker IsNextState (λ _ q. q < 2 ^ 16) (λ found q next. next.0) [] qs r.1 in
     let up = EachFrom-weaker IsNextState (Sets.Follows itself) (λ found q next. plain_follows found q next.1) [] qs r.1 in
     (r.0, (r.3, EachFrom-All (λ q. q < 2 ^ 16) [] qs fits, subst IsAscending (Sets.map_same qs) (Sets.follows-ascending itself qs up)))
 
 pub states_at-again : (path : List ℕ) (d : Data) (qs : List ℕ) → IsList IsNumber qs d → IsSetWithin qs → states_at path d ≡ Ok qs
-unfolding states_at
+unfolding each_at
 states_at-again path d qs is fits =
     let up = Sets.ascending-follows itself qs (subst IsAscending (sym (Sets.map_same qs)) fits.2) in
     let plain = EachFrom-weaker (Sets.Follows itself) (λ found q. comes_after (last_of found) q ≡ true) follows_plain [] qs up in
     let each_one = Sets.EachFrom-both (λ _ q. q < 2 ^ 16) (λ found q. comes_after (last_of found) q ≡ true) [] qs (All-EachFrom (λ q. q < 2 ^ 16) [] qs fits.1) plain in
-    Readers.list-again (state_item path) IsNumber IsNextState (next_again path) path 0 STATE_LIMIT d qs is each_one (omega arith) fits.0
+    Readers.list-again (item_by state_item path) IsNumber IsNextState (next_again path) path 0 STATE_LIMIT d qs is each_one (omega arith) fits.0
 
 pub moves_at-takes : (path : List ℕ) (d : Data) (ns : List ℕ) → moves_at path d ≡ Ok ns → IsList IsNumber ns d × (length ns ≤ MOVE_LIMIT) × All (λ n. n < 2 ^ 32) ns
-unfolding moves_at
+unfolding each_at
 moves_at-takes path d ns e =
-    let r = Readers.list-takes (index_item path) IsNumber (λ _ n. n < 2 ^ 32) (λ found i x n h. index_takes (item_path path i) x n h) path 0 MOVE_LIMIT d ns e in
+    let r = Readers.list-takes (item_by index_item path) IsNumber (λ _ n. n < 2 ^ 32) (λ found i x n h. index_takes (item_path path i) x n h) path 0 MOVE_LIMIT d ns e in
     (r.0, r.3, EachFrom-All (λ n. n < 2 ^ 32) [] ns r.1)
 
 pub moves_at-again : (path : List ℕ) (d : Data) (ns : List ℕ) → IsList IsNumber ns d → length ns ≤ MOVE_LIMIT → All (λ n. n < 2 ^ 32) ns → moves_at path d ≡ Ok ns
-unfolding moves_at
+unfolding each_at
 moves_at-again path d ns is hi below =
-    Readers.list-again (index_item path) IsNumber (λ _ n. n < 2 ^ 32) (λ found i x n h lt. index_again (item_path path i) x n h lt) path 0 MOVE_LIMIT d ns is (All-EachFrom (λ n. n < 2 ^ 32) [] ns below) (omega arith) hi
+    Readers.list-again (item_by index_item path) IsNumber (λ _ n. n < 2 ^ 32) (λ found i x n h lt. index_again (item_path path i) x n h lt) path 0 MOVE_LIMIT d ns is (All-EachFrom (λ n. n < 2 ^ 32) [] ns below) (omega arith) hi
 
 pub weights_at-takes : (path : List ℕ) (d : Data) (ws : List ℤ) → weights_at path d ≡ Ok ws → IsList IsInteger ws d × (length ws ≤ STATE_LIMIT) × All IsSmall ws
-unfolding weights_at
+unfolding each_at
 weights_at-takes path d ws e =
-    let r = Readers.list-takes (weight_item path) IsInteger (λ _ w. IsSmall w) (λ found i x w h. small_takes (item_path path i) x w h) path 0 STATE_LIMIT d ws e in
+    let r = Readers.list-takes (item_by weight_item path) IsInteger (λ _ w. IsSmall w) (λ found i x w h. small_takes (item_path path i) x w h) path 0 STATE_LIMIT d ws e in
     (r.0, r.3, EachFrom-All IsSmall [] ws r.1)
 
 pub weights_at-again : (path : List ℕ) (d : Data) (ws : List ℤ) → IsList IsInteger ws d → length ws ≤ STATE_LIMIT → All IsSmall ws → weights_at path d ≡ Ok ws
-unfolding weights_at
+unfolding each_at
 weights_at-again path d ws is hi small =
-    Readers.list-again (weight_item path) IsInteger (λ _ w. IsSmall w) (λ found i x w h s. small_again (item_path path i) x w h s) path 0 STATE_LIMIT d ws is (All-EachFrom IsSmall [] ws small) (omega arith) hi
+    Readers.list-again (item_by weight_item path) IsInteger (λ _ w. IsSmall w) (λ found i x w h s. small_again (item_path path i) x w h s) path 0 STATE_LIMIT d ws is (All-EachFrom IsSmall [] ws small) (omega arith) hi
 
 layer_takes : (path : List ℕ) (d : Data) (layer : Layer) → layer_at path d ≡ Ok layer → IsLayerFile layer d × IsLayerWithin layer
 unfolding layer_at
@@ -203,12 +203,12 @@ layer_again path d layer file fits =
     ) refl
 
 pub layers_at-takes : (path : List ℕ) (d : Data) (ls : List Layer) → layers_at path d ≡ Ok ls → IsList IsLayerFile ls d × (length ls ≤ LAYER_LIMIT) × All IsLayerWithin ls
-unfolding layers_at
+unfolding each_at
 layers_at-takes path d ls e =
-    let r = Readers.list-takes (layer_item path) IsLayerFile (λ _ l. IsLayerWithin l) (λ found i x l h. layer_takes (item_path path i) x l h) path 0 LAYER_LIMIT d ls e in
+    let r = Readers.list-takes (item_by layer_item path) IsLayerFile (λ _ l. IsLayerWithin l) (λ found i x l h. layer_takes (item_path path i) x l h) path 0 LAYER_LIMIT d ls e in
     (r.0, r.3, EachFrom-All IsLayerWithin [] ls r.1)
 
 pub layers_at-again : (path : List ℕ) (d : Data) (ls : List Layer) → IsList IsLayerFile ls d → length ls ≤ LAYER_LIMIT → All IsLayerWithin ls → layers_at path d ≡ Ok ls
-unfolding layers_at
+unfolding each_at
 layers_at-again path d ls is hi fits =
-    Readers.list-again (layer_item path) IsLayerFile (λ _ l. IsLayerWithin l) (λ found i x l h f. layer_again (item_path path i) x l h f) path 0 LAYER_LIMIT d ls is (All-EachFrom IsLayerWithin [] ls fits) (omega arith) hi
+    Readers.list-again (item_by layer_item path) IsLayerFile (λ _ l. IsLayerWithin l) (λ found i x l h f. layer_again (item_path path i) x l h f) path 0 LAYER_LIMIT d ls is (All-EachFrom IsLayerWithin [] ls fits) (omega arith) hi

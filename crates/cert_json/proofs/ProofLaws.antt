@@ -6,7 +6,7 @@ use Rattle.json_shape.specs.declared.fault.FormatFault.{FormatFault}
 use Rattle.json_shape.specs.declared.fault.FormatFault.TheVariants as fault
 use Rattle.json_shape.specs.Faults.{Fault, ◌>>=◌, Gives}
 use Rattle.json_shape.specs.Paths.{member_path, item_path}
-use Rattle.json_shape.specs.Shapes.{object_at, member_at, member_by, text_at}
+use Rattle.json_shape.specs.Shapes.{object_at, member_at, member_by, text_at, item_by, each_at}
 use Rattle.json_shape.proofs.Steps.{bind_ok, same_ok}
 use Rattle.json_shape.proofs.Readers
 use Rattle.json_shape.proofs.Fresh.{EachFrom-All, All-EachFrom}
@@ -102,26 +102,26 @@ module _ (names : List (List ℕ)) where
       ) refl
 
   pub proof_takes : (leaves : ℕ) (d : Data) (proof : Proof) → proof_at names leaves d ≡ Ok proof → IsProofFile names proof d × IsProofWithin (length names) leaves proof
-  unfolding proof_at leaf_proofs_at
+  unfolding proof_at each_at
   proof_takes leaves d proof e =
       let path = member_path [] (codes "proof") in
       let made = λ (parts : List LeafProof). (let o : Result Proof Fault = Ok (record { leaves = parts }) in o) in
       let a = bind_ok (member_by [] (codes "proof") (leaf_proofs_at names leaves) d) (λ parts. made parts) proof e in
       let m = bind_ok (member_at [] (codes "proof") d) (λ v. leaf_proofs_at names leaves path v) a.0 a.1 in
-      let taken = λ (found : List LeafProof) (i : ℕ) (x : Data) (part : LeafProof) (is : leaf_proof_item names path found i x ≡ Ok part). leaf_takes (item_path path i) x part is in
-      let r = Readers.list-takes (leaf_proof_item names path) (IsLeafProofFile names) (λ _ part. IsLeafProofWithin (length names) part) taken path leaves leaves m.0 a.0 m.2 in
+      let taken = λ (found : List LeafProof) (i : ℕ) (x : Data) (part : LeafProof) (is : item_by (leaf_proof_item names) path found i x ≡ Ok part). leaf_takes (item_path path i) x part is in
+      let r = Readers.list-takes (item_by (leaf_proof_item names) path) (IsLeafProofFile names) (λ _ part. IsLeafProofWithin (length names) part) taken path leaves leaves m.0 a.0 m.2 in
       subst (λ (q : Proof). IsProofFile names q d × IsProofWithin (length names) leaves q) (same_ok (record { leaves = a.0 }) proof a.2) (
         (m.0, Readers.member_at-takes [] (codes "proof") d m.0 m.1, r.0),
         record { one_each = omega (arith, r.2, r.3); parts = EachFrom-All (IsLeafProofWithin (length names)) [] a.0 r.1 },
       )
 
   pub proof_again : (leaves : ℕ) (d : Data) (proof : Proof) → IsProofFile names proof d → IsProofWithin (length names) leaves proof → proof_at names leaves d ≡ Ok proof
-  unfolding proof_at leaf_proofs_at
+  unfolding proof_at each_at
   proof_again leaves d proof file fits =
       let path = member_path [] (codes "proof") in
       rw (
         file.1,
-        Readers.list-again (leaf_proof_item names path) (IsLeafProofFile names) (λ _ part. IsLeafProofWithin (length names) part) (λ found i x part h f. leaf_again (item_path path i) x part h f) path leaves leaves file.0 proof.leaves file.2
+        Readers.list-again (item_by (leaf_proof_item names) path) (IsLeafProofFile names) (λ _ part. IsLeafProofWithin (length names) part) (λ found i x part h f. leaf_again (item_path path i) x part h f) path leaves leaves file.0 proof.leaves file.2
             (All-EachFrom (IsLeafProofWithin (length names)) [] proof.leaves fits.parts) (omega (arith, fits.one_each)) (omega (arith, fits.one_each)),
       ) refl
 

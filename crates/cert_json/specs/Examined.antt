@@ -7,7 +7,7 @@ use Rattle.json_shape.specs.declared.fault.PredWhy.{PredWhy}
 use Rattle.json_shape.specs.declared.fault.PredWhy.TheVariants as why
 use Rattle.json_shape.specs.Faults.{Fault, ◌>>=◌, broken}
 use Rattle.json_shape.specs.Paths.{item_path}
-use Rattle.json_shape.specs.Shapes.{object_at, member_by, list_at, number_at, integer_at, last_of, ascending_at, text_at, items_at, pair_at, word_at, one_after, two_after, each}
+use Rattle.json_shape.specs.Shapes.{object_at, member_by, number_at, integer_at, last_of, ascending_at, text_at, items_at, pair_at, word_at, one_after, two_after, each_at}
 use Rattle.pres_ast.specs.PredModel.{PredModel}
 use Rattle.pres_read.specs.TextFault.{TextFault, Syntax, UnknownName, TooLarge, TooDeep, LongText}
 use Rattle.pres_read.specs.Reading.{pred_read}
@@ -20,9 +20,9 @@ use Rattle.cert_base.specs.declared.proof.LeafProof.{LeafProof}
 use Rattle.cert_base.specs.declared.limits.TheConstants.{LAYER_LIMIT, NODE_LIMIT, TERM_LIMIT, SIZE_LIMIT}
 use Rattle.pop_net.specs.declared.limits.TheConstants.{STATE_LIMIT, MOVE_LIMIT}
 use Rattle.pres_ast.specs.declared.limits.TheConstants.{MODULUS_LIMIT}
-use Rattle.cert_json.specs.declared.word.Word.{Word}
-use Rattle.cert_json.specs.declared.word.Word.TheVariants as word
-use Rattle.cert_json.specs.Words.{word_named}
+use Rattle.cert_json.specs.declared.kind.NodeKind.{NodeKind}
+use Rattle.cert_json.specs.declared.kind.NodeKind.TheVariants as kind
+use Rattle.cert_json.specs.Kinds.{kind_named}
 
 -- why a text is no predicate, as a refusal says it
 abbrev pub why_of : TextFault → PredWhy
@@ -68,13 +68,11 @@ term_from path number p = do
 unfoldable pub term_at : List ℕ → Data → Result Term Fault
 term_at path d = pair_at path d >>= term_from path index_at
 
-abbrev pub term_item : List ℕ → List Term → ℕ → Data → Result Term Fault
-term_item path found i d = term_at (item_path path i) d
+abbrev pub term_item : List ℕ → List Term → Data → Result Term Fault
+term_item path found d = term_at path d
 
-unfoldable pub terms_at : List ℕ → Data → Result (List Term) Fault
-terms_at path d = do
-  ds ← list_at path 0 TERM_LIMIT d
-  each (term_item path) [] 0 ds
+abbrev pub terms_at : List ℕ → Data → Result (List Term) Fault
+terms_at path d = each_at term_item path 0 TERM_LIMIT d
 
 -- a variable's number, greater than the one before it, and its coefficient
 unfoldable pub row_term_at : List ℕ → Option ℕ → Data → Result Term Fault
@@ -83,22 +81,18 @@ row_term_at path before d = pair_at path d >>= term_from path (λ p e. ascending
 abbrev pub numbers_of : List Term → List ℕ
 numbers_of terms = map (λ t. t.at) terms
 
-abbrev pub row_term_item : List ℕ → List Term → ℕ → Data → Result Term Fault
-row_term_item path found i d = row_term_at (item_path path i) (last_of (numbers_of found)) d
+abbrev pub row_term_item : List ℕ → List Term → Data → Result Term Fault
+row_term_item path found d = row_term_at path (last_of (numbers_of found)) d
 
-unfoldable pub row_terms_at : List ℕ → Data → Result (List Term) Fault
-row_terms_at path d = do
-  ds ← list_at path 0 TERM_LIMIT d
-  each (row_term_item path) [] 0 ds
+abbrev pub row_terms_at : List ℕ → Data → Result (List Term) Fault
+row_terms_at path d = each_at row_term_item path 0 TERM_LIMIT d
 
-abbrev pub state_item : List ℕ → List ℕ → ℕ → Data → Result ℕ Fault
-state_item path found i d = ascending_at (item_path path i) (2 ^ 16 - 1) (last_of found) d
+-- a state with a greater number than the one before it
+abbrev pub state_item : List ℕ → List ℕ → Data → Result ℕ Fault
+state_item path found d = ascending_at path (2 ^ 16 - 1) (last_of found) d
 
--- states, each with a greater number than the one before it
-unfoldable pub states_at : List ℕ → Data → Result (List ℕ) Fault
-states_at path d = do
-  ds ← list_at path 0 STATE_LIMIT d
-  each (state_item path) [] 0 ds
+abbrev pub states_at : List ℕ → Data → Result (List ℕ) Fault
+states_at path d = each_at state_item path 0 STATE_LIMIT d
 
 abbrev pub with_one : {A : Type 0} → (List ℕ → Data → Result A Fault) → (A → Node) → List ℕ → List Data → Result Node Fault
 with_one read make path ds = do
@@ -116,51 +110,45 @@ with_two read other make path ds = do
 abbrev pub split_by : List Term → ℤ → Node
 split_by terms constant = Split (record { terms = terms; constant = constant })
 
--- what stands after the word, for each word
-abbrev pub after_word : List ℕ → Word → List Data → Result Node Fault
-after_word path word.Linear ds = with_one terms_at Linear path ds
-after_word path word.Residue ds = with_two modulus_at terms_at Residue path ds
-after_word path word.Split ds = with_two row_terms_at small_at split_by path ds
-after_word path word.Present ds = with_one state_at Present path ds
-after_word path word.Twin ds = with_one state_at Twin path ds
-after_word path word.Trap ds = with_one states_at Trap path ds
-after_word path word.Siphon ds = with_one states_at Siphon path ds
-after_word path word.Open ds = with_one index_at Open path ds
+-- what stands after the word, for each kind of node
+abbrev pub after_word : List ℕ → NodeKind → List Data → Result Node Fault
+after_word path kind.Linear ds = with_one terms_at Linear path ds
+after_word path kind.Residue ds = with_two modulus_at terms_at Residue path ds
+after_word path kind.Split ds = with_two row_terms_at small_at split_by path ds
+after_word path kind.Present ds = with_one state_at Present path ds
+after_word path kind.Twin ds = with_one state_at Twin path ds
+after_word path kind.Trap ds = with_one states_at Trap path ds
+after_word path kind.Siphon ds = with_one states_at Siphon path ds
+after_word path kind.Open ds = with_one index_at Open path ds
 
 -- a word that no node has is refused before the number of items is looked at
-abbrev pub by_word : List ℕ → Option Word → List Data → Result Node Fault
-by_word path None ds = broken (item_path path 0) Name
-by_word path (Some w) ds = after_word path w ds
+abbrev pub by_kind : List ℕ → Option NodeKind → List Data → Result Node Fault
+by_kind path None ds = broken (item_path path 0) Name
+by_kind path (Some k) ds = after_word path k ds
 
 unfoldable pub node_at : List ℕ → Data → Result Node Fault
 node_at path d = do
   ds ← items_at path d
   s ← word_at path ds
-  by_word path (word_named s) ds
+  by_kind path (kind_named s) ds
 
-abbrev pub node_item : List ℕ → List Node → ℕ → Data → Result Node Fault
-node_item path found i d = node_at (item_path path i) d
+abbrev pub node_item : List ℕ → List Node → Data → Result Node Fault
+node_item path found d = node_at path d
 
-unfoldable pub nodes_at : List ℕ → Data → Result (List Node) Fault
-nodes_at path d = do
-  ds ← list_at path 0 NODE_LIMIT d
-  each (node_item path) [] 0 ds
+abbrev pub nodes_at : List ℕ → Data → Result (List Node) Fault
+nodes_at path d = each_at node_item path 0 NODE_LIMIT d
 
-abbrev pub index_item : List ℕ → List ℕ → ℕ → Data → Result ℕ Fault
-index_item path found i d = index_at (item_path path i) d
+abbrev pub index_item : List ℕ → List ℕ → Data → Result ℕ Fault
+index_item path found d = index_at path d
 
-unfoldable pub moves_at : List ℕ → Data → Result (List ℕ) Fault
-moves_at path d = do
-  ds ← list_at path 0 MOVE_LIMIT d
-  each (index_item path) [] 0 ds
+abbrev pub moves_at : List ℕ → Data → Result (List ℕ) Fault
+moves_at path d = each_at index_item path 0 MOVE_LIMIT d
 
-abbrev pub weight_item : List ℕ → List ℤ → ℕ → Data → Result ℤ Fault
-weight_item path found i d = small_at (item_path path i) d
+abbrev pub weight_item : List ℕ → List ℤ → Data → Result ℤ Fault
+weight_item path found d = small_at path d
 
-unfoldable pub weights_at : List ℕ → Data → Result (List ℤ) Fault
-weights_at path d = do
-  ds ← list_at path 0 STATE_LIMIT d
-  each (weight_item path) [] 0 ds
+abbrev pub weights_at : List ℕ → Data → Result (List ℤ) Fault
+weights_at path d = each_at weight_item path 0 STATE_LIMIT d
 
 unfoldable pub layer_at : List ℕ → Data → Result Layer Fault
 layer_at path d = do
@@ -169,13 +157,11 @@ layer_at path d = do
   ws ← member_by path (codes "weights") weights_at d
   Ok (record { moves = ms; weights = ws })
 
-abbrev pub layer_item : List ℕ → List Layer → ℕ → Data → Result Layer Fault
-layer_item path found i d = layer_at (item_path path i) d
+abbrev pub layer_item : List ℕ → List Layer → Data → Result Layer Fault
+layer_item path found d = layer_at path d
 
-unfoldable pub layers_at : List ℕ → Data → Result (List Layer) Fault
-layers_at path d = do
-  ds ← list_at path 0 LAYER_LIMIT d
-  each (layer_item path) [] 0 ds
+abbrev pub layers_at : List ℕ → Data → Result (List Layer) Fault
+layers_at path d = each_at layer_item path 0 LAYER_LIMIT d
 
 unfoldable pub leaf_proof_at : List (List ℕ) → List ℕ → Data → Result LeafProof Fault
 leaf_proof_at names path d = do
@@ -186,14 +172,12 @@ leaf_proof_at names path d = do
   fs ← member_by path (codes "false") nodes_at d
   Ok (record { pred = p; layers = ls; on_true = ts; on_false = fs })
 
-abbrev pub leaf_proof_item : List (List ℕ) → List ℕ → List LeafProof → ℕ → Data → Result LeafProof Fault
-leaf_proof_item names path found i d = leaf_proof_at names (item_path path i) d
+abbrev pub leaf_proof_item : List (List ℕ) → List ℕ → List LeafProof → Data → Result LeafProof Fault
+leaf_proof_item names path found d = leaf_proof_at names path d
 
 -- one proof for each leaf; another number of them is refused before any is examined
-unfoldable pub leaf_proofs_at : List (List ℕ) → ℕ → List ℕ → Data → Result (List LeafProof) Fault
-leaf_proofs_at names leaves path d = do
-  ds ← list_at path leaves leaves d
-  each (leaf_proof_item names path) [] 0 ds
+abbrev pub leaf_proofs_at : List (List ℕ) → ℕ → List ℕ → Data → Result (List LeafProof) Fault
+leaf_proofs_at names leaves path d = each_at (leaf_proof_item names) path leaves leaves d
 
 -- the member `proof` of a bundle, over these names and for so many leaves
 unfoldable pub proof_at : List (List ℕ) → ℕ → Data → Result Proof Fault

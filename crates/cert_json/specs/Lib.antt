@@ -1,5 +1,5 @@
 pub mod ProofFile
-pub mod Words
+pub mod Kinds
 pub mod Examined
 pub mod Written
 pub mod Bundles

@@ -4,57 +4,112 @@ ghost use Rattle.std.specs.Prelude.{◌≡◌};
 ghost use Rattle.serde_json.specs.View.{view};
 ghost use Rattle.json_shape.specs.Faults.{Gives};
 ghost use Rattle.json_shape.specs.Paths.{path_text};
-ghost use Rattle.cert_json.specs.Examined.{moves_at, weights_at, layer_at, layers_at};
+ghost use Rattle.cert_json.specs.Examined.{moves_at, weights_at, layers_at};
 
 use crate::terms::{index_of, small_of};
 use cert_base::{LAYER_LIMIT, Layer};
-use json_shape::{FormatFault, Path, list_of, member_of, object_of};
+use json_shape::{FormatFault, Path, ReadItem, each_of, member_of, object_of};
 use pop_io::List;
 use pop_net::{MOVE_LIMIT, STATE_LIMIT};
 use serde_json::Value;
 use std::alloc::Global;
 
+/// Numbers of moves.
+#[derive(Clone, Copy)]
+struct Moves;
+
+impl ReadItem for Moves {
+    ghost use Rattle.std.specs.Prelude.{⊤};
+    ghost use Rattle.cert_json.specs.Examined.{index_item};
+
+    type Item = u32;
+
+    ghost can_read = { λ _. ⊤ };
+
+    ghost item_at = { λ _. index_item };
+
+    fn read(
+        &self,
+        alloc: Global,
+        path: &Path<'_>,
+        _found: &[u32],
+        value: &Value,
+    ) -> Result<u32, FormatFault> {
+        index_of(alloc, path, value)
+    }
+}
+
 /// At most `MOVE_LIMIT` numbers of moves.
-#[tactic(auto, unfolding(crate::specs::Examined::moves_at))]
 fn moves_of(alloc: Global, path: &Path<'_>, value: &Value) -> Result<List<u32>, FormatFault>
     ensures { Gives (λ ns. ns) result (moves_at (path_text path.now) (view value.now)) }
 {
-    let list = list_of(alloc, path, 0, MOVE_LIMIT, value)?;
-    let mut moves = Vec::new(alloc);
-    for (i, item) in list.iter().enumerate() {
-        moves.push(index_of(alloc, &Path::Item(&*path, i), item)?)?;
+    each_of(alloc, path, 0, MOVE_LIMIT, &Moves, value)
+}
+
+/// Weights of states.
+#[derive(Clone, Copy)]
+struct Weights;
+
+impl ReadItem for Weights {
+    ghost use Rattle.std.specs.Prelude.{⊤};
+    ghost use Rattle.cert_json.specs.Examined.{weight_item};
+
+    type Item = i64;
+
+    ghost can_read = { λ _. ⊤ };
+
+    ghost item_at = { λ _. weight_item };
+
+    fn read(
+        &self,
+        alloc: Global,
+        path: &Path<'_>,
+        _found: &[i64],
+        value: &Value,
+    ) -> Result<i64, FormatFault> {
+        small_of(alloc, path, value)
     }
-    Ok(List::from_vec(moves))
 }
 
 /// At most `STATE_LIMIT` weights.
-#[tactic(auto, unfolding(crate::specs::Examined::weights_at))]
 fn weights_of(alloc: Global, path: &Path<'_>, value: &Value) -> Result<List<i64>, FormatFault>
     ensures { Gives (λ ws. ws) result (weights_at (path_text path.now) (view value.now)) }
 {
-    let list = list_of(alloc, path, 0, STATE_LIMIT, value)?;
-    let mut weights = Vec::new(alloc);
-    for (i, item) in list.iter().enumerate() {
-        let weight = small_of(alloc, &Path::Item(&*path, i), item)?;
-        weights.push(weight)?;
-    }
-    Ok(List::from_vec(weights))
+    each_of(alloc, path, 0, STATE_LIMIT, &Weights, value)
 }
 
-#[tactic(auto, unfolding(crate::specs::Examined::layer_at))]
-fn layer_of(alloc: Global, path: &Path<'_>, value: &Value) -> Result<Layer, FormatFault>
-    ensures { Gives (λ layer. layer) result (layer_at (path_text path.now) (view value.now)) }
-{
-    object_of(alloc, path, value)?;
-    let moves = member_of(alloc, path, "moves", value)?;
-    let moves = moves_of(alloc, &Path::Member(path, "moves"), moves)?;
-    let weights = member_of(alloc, path, "weights", value)?;
-    let weights = weights_of(alloc, &Path::Member(path, "weights"), weights)?;
-    Ok(Layer { moves, weights })
+/// Layers.
+#[derive(Clone, Copy)]
+struct Layers;
+
+impl ReadItem for Layers {
+    ghost use Rattle.std.specs.Prelude.{⊤};
+    ghost use Rattle.cert_json.specs.Examined.{layer_item};
+
+    type Item = Layer;
+
+    ghost can_read = { λ _. ⊤ };
+
+    ghost item_at = { λ _. layer_item };
+
+    #[tactic(auto, unfolding(crate::specs::Examined::layer_at))]
+    fn read(
+        &self,
+        alloc: Global,
+        path: &Path<'_>,
+        _found: &[Layer],
+        value: &Value,
+    ) -> Result<Layer, FormatFault> {
+        object_of(alloc, path, value)?;
+        let moves = member_of(alloc, path, "moves", value)?;
+        let moves = moves_of(alloc, &Path::Member(path, "moves"), moves)?;
+        let weights = member_of(alloc, path, "weights", value)?;
+        let weights = weights_of(alloc, &Path::Member(path, "weights"), weights)?;
+        Ok(Layer { moves, weights })
+    }
 }
 
 /// At most `LAYER_LIMIT` layers.
-#[tactic(auto, unfolding(crate::specs::Examined::layers_at))]
 pub(crate) fn layers_of(
     alloc: Global,
     path: &Path<'_>,
@@ -62,10 +117,5 @@ pub(crate) fn layers_of(
 ) -> Result<List<Layer>, FormatFault>
     ensures { Gives (λ layers. layers) result (layers_at (path_text path.now) (view value.now)) }
 {
-    let list = list_of(alloc, path, 0, LAYER_LIMIT, value)?;
-    let mut layers = Vec::new(alloc);
-    for (i, item) in list.iter().enumerate() {
-        layers.push(layer_of(alloc, &Path::Item(&*path, i), item)?)?;
-    }
-    Ok(List::from_vec(layers))
+    each_of(alloc, path, 0, LAYER_LIMIT, &Layers, value)
 }

@@ -4,11 +4,11 @@
 #![tactic(auto)]
 
 mod bundle;
+mod kind;
 mod layers;
 mod node;
 mod read;
 mod terms;
-mod word;
 mod write;
 mod write_node;
 

@@ -4,13 +4,13 @@ ghost use Rattle.std.specs.Prelude.{◌≡◌, map};
 ghost use Rattle.serde_json.specs.View.{view};
 ghost use Rattle.json_shape.specs.Faults.{Gives};
 ghost use Rattle.json_shape.specs.Paths.{path_text};
-ghost use Rattle.cert_json.specs.Examined.{split_by, after_word, node_at, nodes_at};
+ghost use Rattle.cert_json.specs.Examined.{split_by, after_word, nodes_at};
 
+use crate::kind::NodeKind;
 use crate::terms::{index_of, modulus_of, row_terms_of, small_of, state_of, states_of, terms_of};
-use crate::word::Word;
 use cert_base::{NODE_LIMIT, Node, Row, Term};
 use json_shape::{
-    FormatFault, Path, Why, both_items, broken, items_of, list_of, only_item, word_of,
+    FormatFault, Path, ReadItem, Why, both_items, broken, each_of, items_of, only_item, word_of,
 };
 use pop_io::List;
 use serde_json::Value;
@@ -22,14 +22,14 @@ fn split_by(terms: List<Term>, constant: i64) -> Node
     Node::Split(Row { terms, constant })
 }
 
-/// What stands after the word, for each word.
+/// What stands after the word, for each kind of node.
 fn after_word(
     alloc: Global,
     path: &Path<'_>,
-    word: Word,
+    kind: NodeKind,
     items: &[Value],
 ) -> Result<Node, FormatFault>
-    ensures { Gives (λ node. node) result (after_word (path_text path.now) word (map view items.now)) }
+    ensures { Gives (λ node. node) result (after_word (path_text path.now) kind (map view items.now)) }
 {
     macro_rules! one {
         ($read:ident, $node:path) => {{
@@ -46,32 +46,50 @@ fn after_word(
             Ok($node(part, rest))
         }};
     }
-    match word {
-        Word::Linear => one!(terms_of, Node::Linear),
-        Word::Residue => two!(modulus_of, terms_of, Node::Residue),
-        Word::Split => two!(row_terms_of, small_of, split_by),
-        Word::Present => one!(state_of, Node::Present),
-        Word::Twin => one!(state_of, Node::Twin),
-        Word::Trap => one!(states_of, Node::Trap),
-        Word::Siphon => one!(states_of, Node::Siphon),
-        Word::Open => one!(index_of, Node::Open),
+    match kind {
+        NodeKind::Linear => one!(terms_of, Node::Linear),
+        NodeKind::Residue => two!(modulus_of, terms_of, Node::Residue),
+        NodeKind::Split => two!(row_terms_of, small_of, split_by),
+        NodeKind::Present => one!(state_of, Node::Present),
+        NodeKind::Twin => one!(state_of, Node::Twin),
+        NodeKind::Trap => one!(states_of, Node::Trap),
+        NodeKind::Siphon => one!(states_of, Node::Siphon),
+        NodeKind::Open => one!(index_of, Node::Open),
     }
 }
 
-#[tactic(auto, unfolding(crate::specs::Examined::node_at))]
-fn node_of(alloc: Global, path: &Path<'_>, value: &Value) -> Result<Node, FormatFault>
-    ensures { Gives (λ node. node) result (node_at (path_text path.now) (view value.now)) }
-{
-    let items = items_of(alloc, path, value)?;
-    let text = word_of(alloc, path, items)?;
-    match Word::named(text) {
-        Some(word) => after_word(alloc, path, word, items),
-        None => Err(broken(alloc, &Path::Item(path, 0), Why::Name)),
+/// Nodes.
+#[derive(Clone, Copy)]
+struct Nodes;
+
+impl ReadItem for Nodes {
+    ghost use Rattle.std.specs.Prelude.{⊤};
+    ghost use Rattle.cert_json.specs.Examined.{node_item};
+
+    type Item = Node;
+
+    ghost can_read = { λ _. ⊤ };
+
+    ghost item_at = { λ _. node_item };
+
+    #[tactic(auto, unfolding(crate::specs::Examined::node_at))]
+    fn read(
+        &self,
+        alloc: Global,
+        path: &Path<'_>,
+        _found: &[Node],
+        value: &Value,
+    ) -> Result<Node, FormatFault> {
+        let items = items_of(alloc, path, value)?;
+        let text = word_of(alloc, path, items)?;
+        match NodeKind::named(text) {
+            Some(kind) => after_word(alloc, path, kind, items),
+            None => Err(broken(alloc, &Path::Item(path, 0), Why::Name)),
+        }
     }
 }
 
 /// At most `NODE_LIMIT` nodes.
-#[tactic(auto, unfolding(crate::specs::Examined::nodes_at))]
 pub(crate) fn nodes_of(
     alloc: Global,
     path: &Path<'_>,
@@ -79,10 +97,5 @@ pub(crate) fn nodes_of(
 ) -> Result<List<Node>, FormatFault>
     ensures { Gives (λ nodes. nodes) result (nodes_at (path_text path.now) (view value.now)) }
 {
-    let list = list_of(alloc, path, 0, NODE_LIMIT, value)?;
-    let mut nodes = Vec::new(alloc);
-    for (i, item) in list.iter().enumerate() {
-        nodes.push(node_of(alloc, &Path::Item(&*path, i), item)?)?;
-    }
-    Ok(List::from_vec(nodes))
+    each_of(alloc, path, 0, NODE_LIMIT, &Nodes, value)
 }

@@ -8,12 +8,14 @@ ghost use Rattle.json_shape.specs.Paths.{path_text};
 ghost use Rattle.cert_base.specs.declared.proof.Proof.{Proof};
 ghost use Rattle.cert_base.specs.ProofLimits.{IsProofWithin};
 ghost use Rattle.cert_json.specs.ProofFile.{IsProofFile};
-ghost use Rattle.cert_json.specs.Examined.{pred_at, leaf_proof_at, leaf_proofs_at, proof_at};
+ghost use Rattle.cert_json.specs.Examined.{pred_at, leaf_proofs_at, proof_at};
 
 use crate::layers::layers_of;
 use crate::node::nodes_of;
 use cert_base::{LeafProof, Proof};
-use json_shape::{FormatFault, Path, PredWhy, Why, broken, list_of, member_of, object_of, text_of};
+use json_shape::{
+    FormatFault, Path, PredWhy, ReadItem, Why, broken, each_of, member_of, object_of, text_of,
+};
 use pop_io::{List, Text, VARIABLE_LIMIT};
 use pop_net::Net;
 use pres_ast::Pred;
@@ -48,36 +50,51 @@ pub(crate) fn pred_of(
     Err(broken(alloc, path, Why::Pred(why)))
 }
 
-#[tactic(auto, unfolding(crate::specs::Examined::leaf_proof_at))]
-fn leaf_proof_of(
-    alloc: Global,
-    path: &Path<'_>,
-    names: &List<Text>,
-    value: &Value,
-) -> Result<LeafProof, FormatFault>
-    requires some { 1 ≤ length names.now }
-    requires few { length names.now ≤ VARIABLE_LIMIT }
-    requires names { AreNames is_variable_name names.now }
-    ensures { Gives (λ part. part) result (leaf_proof_at names.now (path_text path.now) (view value.now)) }
-{
-    object_of(alloc, path, value)?;
-    let pred = member_of(alloc, path, "pred", value)?;
-    let pred = pred_of(alloc, &Path::Member(path, "pred"), names, pred)?;
-    let layers = member_of(alloc, path, "layers", value)?;
-    let layers = layers_of(alloc, &Path::Member(path, "layers"), layers)?;
-    let on_true = member_of(alloc, path, "true", value)?;
-    let on_true = nodes_of(alloc, &Path::Member(path, "true"), on_true)?;
-    let on_false = member_of(alloc, path, "false", value)?;
-    let on_false = nodes_of(alloc, &Path::Member(path, "false"), on_false)?;
-    Ok(LeafProof {
-        pred,
-        layers,
-        on_true,
-        on_false,
-    })
+/// Proofs of leaves over these names.
+#[derive(Drop)]
+struct LeafProofs<'a> {
+    names: &'a List<Text>,
 }
 
-#[tactic(auto, unfolding(crate::specs::Examined::leaf_proofs_at))]
+impl<'a> ReadItem for LeafProofs<'a> {
+    ghost use Rattle.std.specs.Prelude.{◌≤◌, length};
+    ghost use Rattle.pop_io.specs.Names.{is_variable_name, AreNames};
+    ghost use Rattle.pop_io.specs.declared.names.TheConstants.{VARIABLE_LIMIT};
+    ghost use Rattle.cert_json.specs.Examined.{leaf_proof_item};
+
+    type Item = LeafProof;
+
+    ghost can_read = { λ reader. (1 ≤ length reader.names.now) × (length reader.names.now ≤ VARIABLE_LIMIT)
+        × AreNames is_variable_name reader.names.now };
+
+    ghost item_at = { λ reader. leaf_proof_item reader.names.now };
+
+    #[tactic(auto, unfolding(crate::specs::Examined::leaf_proof_at))]
+    fn read(
+        &self,
+        alloc: Global,
+        path: &Path<'_>,
+        _found: &[LeafProof],
+        value: &Value,
+    ) -> Result<LeafProof, FormatFault> {
+        object_of(alloc, path, value)?;
+        let pred = member_of(alloc, path, "pred", value)?;
+        let pred = pred_of(alloc, &Path::Member(path, "pred"), self.names, pred)?;
+        let layers = member_of(alloc, path, "layers", value)?;
+        let layers = layers_of(alloc, &Path::Member(path, "layers"), layers)?;
+        let on_true = member_of(alloc, path, "true", value)?;
+        let on_true = nodes_of(alloc, &Path::Member(path, "true"), on_true)?;
+        let on_false = member_of(alloc, path, "false", value)?;
+        let on_false = nodes_of(alloc, &Path::Member(path, "false"), on_false)?;
+        Ok(LeafProof {
+            pred,
+            layers,
+            on_true,
+            on_false,
+        })
+    }
+}
+
 fn leaf_proofs_of(
     alloc: Global,
     path: &Path<'_>,
@@ -91,12 +108,7 @@ fn leaf_proofs_of(
     ensures { Gives (λ parts. parts) result
         (leaf_proofs_at names.now leaves (path_text path.now) (view value.now)) }
 {
-    let list = list_of(alloc, path, leaves, leaves, value)?;
-    let mut parts = Vec::new(alloc);
-    for (i, item) in list.iter().enumerate() {
-        parts.push(leaf_proof_of(alloc, &Path::Item(&*path, i), names, item)?)?;
-    }
-    Ok(List::from_vec(parts))
+    each_of(alloc, path, leaves, leaves, &LeafProofs { names }, value)
 }
 
 #[tactic(auto, unfolding(crate::specs::Examined::proof_at))]

@@ -4,11 +4,13 @@ ghost use Rattle.std.specs.Prelude.{◌≡◌, ◌-◌, ◌^◌};
 ghost use Rattle.serde_json.specs.View.{view};
 ghost use Rattle.json_shape.specs.Faults.{Gives};
 ghost use Rattle.json_shape.specs.Paths.{path_text};
-ghost use Rattle.json_shape.specs.Shapes.{ascending_at};
-ghost use Rattle.cert_json.specs.Examined.{index_at, state_at, modulus_at, small_at, term_at, terms_at, row_term_at, row_terms_at, states_at};
+ghost use Rattle.json_shape.specs.Shapes.{ascending_at, last_of};
+ghost use Rattle.cert_json.specs.Examined.{index_at, state_at, modulus_at, small_at, terms_at, numbers_of, row_terms_at, states_at};
 
 use cert_base::{SIZE_LIMIT, TERM_LIMIT, Term};
-use json_shape::{FormatFault, Path, ascending_of, integer_of, list_of, number_of, pair_of};
+use json_shape::{
+    FormatFault, Path, ReadItem, ascending_of, each_of, integer_of, number_of, pair_of,
+};
 use pop_io::List;
 use pop_net::STATE_LIMIT;
 use pres_ast::MODULUS_LIMIT;
@@ -43,18 +45,36 @@ pub(crate) fn small_of(alloc: Global, path: &Path<'_>, value: &Value) -> Result<
     integer_of(alloc, path, SIZE_LIMIT, value)
 }
 
-#[tactic(auto, unfolding(crate::specs::Examined::term_at))]
-fn term_of(alloc: Global, path: &Path<'_>, value: &Value) -> Result<Term, FormatFault>
-    ensures { Gives (λ t. t) result (term_at (path_text path.now) (view value.now)) }
-{
-    let (number, multiplier) = pair_of(alloc, path, value)?;
-    let at = index_of(alloc, &Path::Item(path, 0), number)?;
-    let by = small_of(alloc, &Path::Item(path, 1), multiplier)?;
-    Ok(Term { at, by })
+/// Numbers of facts, each with its multiplier.
+#[derive(Clone, Copy)]
+struct Terms;
+
+impl ReadItem for Terms {
+    ghost use Rattle.std.specs.Prelude.{⊤};
+    ghost use Rattle.cert_json.specs.Examined.{term_item};
+
+    type Item = Term;
+
+    ghost can_read = { λ _. ⊤ };
+
+    ghost item_at = { λ _. term_item };
+
+    #[tactic(auto, unfolding(crate::specs::Examined::term_at))]
+    fn read(
+        &self,
+        alloc: Global,
+        path: &Path<'_>,
+        _found: &[Term],
+        value: &Value,
+    ) -> Result<Term, FormatFault> {
+        let (number, multiplier) = pair_of(alloc, path, value)?;
+        let at = index_of(alloc, &Path::Item(path, 0), number)?;
+        let by = small_of(alloc, &Path::Item(path, 1), multiplier)?;
+        Ok(Term { at, by })
+    }
 }
 
 /// At most `TERM_LIMIT` numbers of facts, each with its multiplier.
-#[tactic(auto, unfolding(crate::specs::Examined::terms_at))]
 pub(crate) fn terms_of(
     alloc: Global,
     path: &Path<'_>,
@@ -62,12 +82,7 @@ pub(crate) fn terms_of(
 ) -> Result<List<Term>, FormatFault>
     ensures { Gives (λ ts. ts) result (terms_at (path_text path.now) (view value.now)) }
 {
-    let list = list_of(alloc, path, 0, TERM_LIMIT, value)?;
-    let mut terms = Vec::new(alloc);
-    for (i, item) in list.iter().enumerate() {
-        terms.push(term_of(alloc, &Path::Item(&*path, i), item)?)?;
-    }
-    Ok(List::from_vec(terms))
+    each_of(alloc, path, 0, TERM_LIMIT, &Terms, value)
 }
 
 fn variable_of(
@@ -81,23 +96,47 @@ fn variable_of(
     ascending_of(alloc, path, u32::MAX, before, value)
 }
 
-#[tactic(auto, unfolding(crate::specs::Examined::row_term_at))]
-fn row_term_of(
-    alloc: Global,
-    path: &Path<'_>,
-    before: Option<u32>,
-    value: &Value,
-) -> Result<Term, FormatFault>
-    ensures { Gives (λ t. t) result (row_term_at (path_text path.now) before (view value.now)) }
+/// The number of the last term.
+fn last_number(found: &[Term]) -> Option<u32>
+    ensures { result ≡ last_of (numbers_of found.now) }
 {
-    let (number, coefficient) = pair_of(alloc, path, value)?;
-    let at = variable_of(alloc, &Path::Item(path, 0), before, number)?;
-    let by = small_of(alloc, &Path::Item(path, 1), coefficient)?;
-    Ok(Term { at, by })
+    match found.last() {
+        None => None,
+        Some(term) => Some(term.at),
+    }
+}
+
+/// Numbers of variables that ascend, each with its coefficient.
+#[derive(Clone, Copy)]
+struct RowTerms;
+
+impl ReadItem for RowTerms {
+    ghost use Rattle.std.specs.Prelude.{⊤};
+    ghost use Rattle.cert_json.specs.Examined.{row_term_item};
+
+    type Item = Term;
+
+    ghost can_read = { λ _. ⊤ };
+
+    ghost item_at = { λ _. row_term_item };
+
+    #[tactic(auto, unfolding(crate::specs::Examined::row_term_at))]
+    fn read(
+        &self,
+        alloc: Global,
+        path: &Path<'_>,
+        found: &[Term],
+        value: &Value,
+    ) -> Result<Term, FormatFault> {
+        let (number, coefficient) = pair_of(alloc, path, value)?;
+        let before = last_number(found);
+        let at = variable_of(alloc, &Path::Item(path, 0), before, number)?;
+        let by = small_of(alloc, &Path::Item(path, 1), coefficient)?;
+        Ok(Term { at, by })
+    }
 }
 
 /// At most `TERM_LIMIT` numbers of variables that ascend, each with its coefficient.
-#[tactic(auto, unfolding(crate::specs::Examined::row_terms_at))]
 pub(crate) fn row_terms_of(
     alloc: Global,
     path: &Path<'_>,
@@ -105,31 +144,46 @@ pub(crate) fn row_terms_of(
 ) -> Result<List<Term>, FormatFault>
     ensures { Gives (λ ts. ts) result (row_terms_at (path_text path.now) (view value.now)) }
 {
-    let list = list_of(alloc, path, 0, TERM_LIMIT, value)?;
-    let mut terms = Vec::new(alloc);
-    let mut before = None;
-    for (i, item) in list.iter().enumerate() {
-        let term = row_term_of(alloc, &Path::Item(&*path, i), before, item)?;
-        terms.push(term)?;
-        before = Some(term.at);
-    }
-    Ok(List::from_vec(terms))
+    each_of(alloc, path, 0, TERM_LIMIT, &RowTerms, value)
 }
 
-fn next_state_of(
-    alloc: Global,
-    path: &Path<'_>,
-    before: Option<u32>,
-    value: &Value,
-) -> Result<u16, FormatFault>
-    ensures { Gives (λ n. n) result (ascending_at (path_text path.now) (2 ^ 16 - 1) before (view value.now)) }
+fn last_state(found: &[u16]) -> Option<u32>
+    ensures { result ≡ last_of found.now }
 {
-    let state = ascending_of(alloc, path, u32::from(u16::MAX), before, value)?;
-    Ok(state as u16)
+    match found.last() {
+        None => None,
+        Some(state) => Some(u32::from(*state)),
+    }
+}
+
+/// Numbers of states that ascend.
+#[derive(Clone, Copy)]
+struct States;
+
+impl ReadItem for States {
+    ghost use Rattle.std.specs.Prelude.{⊤};
+    ghost use Rattle.cert_json.specs.Examined.{state_item};
+
+    type Item = u16;
+
+    ghost can_read = { λ _. ⊤ };
+
+    ghost item_at = { λ _. state_item };
+
+    fn read(
+        &self,
+        alloc: Global,
+        path: &Path<'_>,
+        found: &[u16],
+        value: &Value,
+    ) -> Result<u16, FormatFault> {
+        let before = last_state(found);
+        let state = ascending_of(alloc, path, u32::from(u16::MAX), before, value)?;
+        Ok(state as u16)
+    }
 }
 
 /// At most `STATE_LIMIT` numbers of states that ascend.
-#[tactic(auto, unfolding(crate::specs::Examined::states_at))]
 pub(crate) fn states_of(
     alloc: Global,
     path: &Path<'_>,
@@ -137,13 +191,5 @@ pub(crate) fn states_of(
 ) -> Result<List<u16>, FormatFault>
     ensures { Gives (λ qs. qs) result (states_at (path_text path.now) (view value.now)) }
 {
-    let list = list_of(alloc, path, 0, STATE_LIMIT, value)?;
-    let mut states = Vec::new(alloc);
-    let mut before = None;
-    for (i, item) in list.iter().enumerate() {
-        let state = next_state_of(alloc, &Path::Item(&*path, i), before, item)?;
-        states.push(state)?;
-        before = Some(u32::from(state));
-    }
-    Ok(List::from_vec(states))
+    each_of(alloc, path, 0, STATE_LIMIT, &States, value)
 }

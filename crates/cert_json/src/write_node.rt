@@ -3,10 +3,10 @@
 ghost use Rattle.std.specs.Prelude.{◌≡◌, map, take, IfOk};
 ghost use Rattle.serde_json.specs.View.{view};
 ghost use Rattle.net_json.specs.Written.{numbers_data};
-ghost use Rattle.cert_json.specs.Words.{text_of};
+ghost use Rattle.cert_json.specs.Kinds.{text_of};
 ghost use Rattle.cert_json.specs.Written.{term_data, terms_data, one_part, two_parts, node_data, nodes_data};
 
-use crate::word::Word;
+use crate::kind::NodeKind;
 use cert_base::{Node, Term};
 use serde_json::{Value, json};
 use std::alloc::{AllocError, Global};
@@ -37,16 +37,16 @@ fn states_value(alloc: Global, states: &[u16]) -> Result<Value, AllocError>
     Ok(Value::Array(list))
 }
 
-fn one_value(alloc: Global, word: Word, part: Value) -> Result<Value, AllocError>
-    ensures { IfOk result (λ v. view v ≡ one_part (text_of word) (view part)) }
+fn one_value(alloc: Global, kind: NodeKind, part: Value) -> Result<Value, AllocError>
+    ensures { IfOk result (λ v. view v ≡ one_part (text_of kind) (view part)) }
 {
-    json!(in alloc; [word.text(), part])
+    json!(in alloc; [kind.text(), part])
 }
 
-fn two_value(alloc: Global, word: Word, part: Value, rest: Value) -> Result<Value, AllocError>
-    ensures { IfOk result (λ v. view v ≡ two_parts (text_of word) (view part) (view rest)) }
+fn two_value(alloc: Global, kind: NodeKind, part: Value, rest: Value) -> Result<Value, AllocError>
+    ensures { IfOk result (λ v. view v ≡ two_parts (text_of kind) (view part) (view rest)) }
 {
-    json!(in alloc; [word.text(), part, rest])
+    json!(in alloc; [kind.text(), part, rest])
 }
 
 fn node_value(alloc: Global, node: &Node) -> Result<Value, AllocError>
@@ -55,27 +55,27 @@ fn node_value(alloc: Global, node: &Node) -> Result<Value, AllocError>
     match node {
         Node::Linear(terms) => {
             let terms = terms_value(alloc, terms.as_slice())?;
-            one_value(alloc, Word::Linear, terms)
+            one_value(alloc, NodeKind::Linear, terms)
         }
         Node::Residue(modulus, terms) => {
             let terms = terms_value(alloc, terms.as_slice())?;
-            two_value(alloc, Word::Residue, Value::from(*modulus), terms)
+            two_value(alloc, NodeKind::Residue, Value::from(*modulus), terms)
         }
         Node::Split(row) => {
             let terms = terms_value(alloc, row.terms.as_slice())?;
-            two_value(alloc, Word::Split, terms, Value::from(row.constant))
+            two_value(alloc, NodeKind::Split, terms, Value::from(row.constant))
         }
-        Node::Present(state) => one_value(alloc, Word::Present, Value::from(*state)),
-        Node::Twin(state) => one_value(alloc, Word::Twin, Value::from(*state)),
+        Node::Present(state) => one_value(alloc, NodeKind::Present, Value::from(*state)),
+        Node::Twin(state) => one_value(alloc, NodeKind::Twin, Value::from(*state)),
         Node::Trap(set) => {
             let set = states_value(alloc, set.as_slice())?;
-            one_value(alloc, Word::Trap, set)
+            one_value(alloc, NodeKind::Trap, set)
         }
         Node::Siphon(set) => {
             let set = states_value(alloc, set.as_slice())?;
-            one_value(alloc, Word::Siphon, set)
+            one_value(alloc, NodeKind::Siphon, set)
         }
-        Node::Open(fact) => one_value(alloc, Word::Open, Value::from(*fact)),
+        Node::Open(fact) => one_value(alloc, NodeKind::Open, Value::from(*fact)),
     }
 }
 

@@ -10,7 +10,7 @@ use Rattle.pop_io.specs.Names.{is_state_name, AreNames}
 use Rattle.json_shape.specs.declared.fault.Why.TheVariants.{Name}
 use Rattle.json_shape.specs.Faults.{Fault, ◌>>=◌, broken}
 use Rattle.json_shape.specs.Paths.{member_path, item_path}
-use Rattle.json_shape.specs.Shapes.{of_kind, listed, object_at, member_at, member_by, number_at, text_at}
+use Rattle.json_shape.specs.Shapes.{of_kind, listed, object_at, member_at, member_by, number_at, text_at, item_by, each_at}
 use Rattle.json_shape.specs.Parts.{IsNumber, IsText, IsTruth, HasMember, AreItems, IsList}
 use Rattle.json_shape.proofs.Steps.{bind_ok, guard_ok, both_true, not_true, same_ok}
 use Rattle.json_shape.proofs.Readers
@@ -21,7 +21,7 @@ use Rattle.pop_io.specs.declared.names.TheConstants.{VARIABLE_LIMIT}
 use Rattle.pop_net.specs.declared.limits.TheConstants.{STATE_LIMIT, MOVE_LIMIT, HELPER_LIMIT}
 use Rattle.net_json.specs.declared.format.TheConstants.{PLAIN_FORMAT, HELPER_FORMAT}
 use Rattle.net_json.specs.NetFile.{IsMove, AreHelpers, IsLeafFile}
-use Rattle.net_json.specs.Examined.{name_at, name_item, names_at, four_at, move_at, move_item, moves_at, state_item, states_at, inputs_at, truth_item, outputs_at, helper_range, helpers_at, leaf_at}
+use Rattle.net_json.specs.Examined.{name_at, names_at, four_at, move_at, move_item, moves_at, state_item, states_at, inputs_at, truth_item, outputs_at, helper_range, helpers_at, leaf_at}
 
 abbrev IsNewName : (List ℕ → Bool) → List (List ℕ) → List ℕ → Type 0
 IsNewName is_name found s = IsTrue (is_name s) × Fresh.IsFresh found s
@@ -35,7 +35,7 @@ to_true true h = refl
 to_true false h = search
 
 module _ (is_name : List ℕ → Bool) where
-  name_takes : (path : List ℕ) (found : List (List ℕ)) (i : ℕ) (d : Data) (s : List ℕ) → name_item is_name path found i d ≡ Ok s → IsText s d × IsNewName is_name found s
+  name_takes : (path : List ℕ) (found : List (List ℕ)) (i : ℕ) (d : Data) (s : List ℕ) → item_by (name_at is_name) path found i d ≡ Ok s → IsText s d × IsNewName is_name found s
   unfolding name_at
   name_takes path found i d s e =
       let at = item_path path i in
@@ -46,15 +46,15 @@ module _ (is_name : List ℕ → Bool) where
         subst (λ (x : List ℕ). IsNewName is_name found x) g.1 (from_true (is_name a.0) t.0, not_true (list_any (bytes_eq a.0) found) t.1),
       )
 
-  name_again : (path : List ℕ) (found : List (List ℕ)) (i : ℕ) (d : Data) (s : List ℕ) → IsText s d → IsNewName is_name found s → name_item is_name path found i d ≡ Ok s
+  name_again : (path : List ℕ) (found : List (List ℕ)) (i : ℕ) (d : Data) (s : List ℕ) → IsText s d → IsNewName is_name found s → item_by (name_at is_name) path found i d ≡ Ok s
   unfolding name_at
   name_again path found i d s is fresh =
       rw (Readers.text_at-again (item_path path i) d s is, to_true (is_name s) fresh.0, fresh.1) refl
 
   pub names_at-takes : (most : ℕ) (path : List ℕ) (d : Data) (ss : List (List ℕ)) → names_at is_name most path d ≡ Ok ss → IsList IsText ss d × AreNames is_name ss × (1 ≤ length ss) × (length ss ≤ most)
-  unfolding names_at
+  unfolding each_at
   names_at-takes most path d ss e =
-      let r = Readers.list-takes (name_item is_name path) IsText (IsNewName is_name) (name_takes path) path 1 most d ss e in
+      let r = Readers.list-takes (item_by (name_at is_name) path) IsText (IsNewName is_name) (name_takes path) path 1 most d ss e in
       let formed = Fresh.EachFrom-weaker (IsNewName is_name) (λ _ s. IsTrue (is_name s)) (λ found s new. new.0) [] ss r.1 in
       let fresh = Fresh.EachFrom-weaker (IsNewName is_name) Fresh.IsFresh (λ found s new. new.1) [] ss r.1 in
       (r.0, (Fresh.EachFrom-All (λ s. IsTrue (is_name s)) [] ss formed, Fresh.fresh-distinct [] ss fresh), r.2, r.3)
@@ -64,12 +64,12 @@ module _ (is_name : List ℕ → Bool) where
   new_names found (s ∷ ss) formed fresh = ((formed.0, fresh.0), new_names (found ++ s ∷ []) ss formed.1 fresh.1)
 
   pub names_at-again : (most : ℕ) (path : List ℕ) (d : Data) (ss : List (List ℕ)) → IsList IsText ss d → AreNames is_name ss → 1 ≤ length ss → length ss ≤ most → names_at is_name most path d ≡ Ok ss
-  unfolding names_at
+  unfolding each_at
   names_at-again most path d ss is names lo hi =
       let formed = Fresh.All-EachFrom (λ s. IsTrue (is_name s)) [] ss names.0 in
       let none : All (Fresh.IsFresh []) ss = λ i d within. refl in
       let fresh = Fresh.distinct-fresh [] ss none names.1 in
-      Readers.list-again (name_item is_name path) IsText (IsNewName is_name) (name_again path) path 1 most d ss is (new_names [] ss formed fresh) lo hi
+      Readers.list-again (item_by (name_at is_name) path) IsText (IsNewName is_name) (name_again path) path 1 most d ss is (new_names [] ss formed fresh) lo hi
 
 module _ (states : ℕ) (some_state : 1 ≤ states) where
   state_takes : (path : List ℕ) (d : Data) (q : ℕ) → number_at path 0 (states - 1) d ≡ Ok q → IsNumber q d × (q < states)
@@ -113,7 +113,7 @@ module _ (states : ℕ) (some_state : 1 ≤ states) where
   four_again path (a ∷ b ∷ c ∷ []) t are below = absurd are.1.1.1
   four_again path (a ∷ b ∷ c ∷ d ∷ f ∷ more) t are below = absurd are.1.1.1.1
 
-  move_takes : (path : List ℕ) (found : List Move) (i : ℕ) (d : Data) (t : Move) → move_item path states found i d ≡ Ok t → IsMove t d × IsMoveBelow states t
+  move_takes : (path : List ℕ) (found : List Move) (i : ℕ) (d : Data) (t : Move) → item_by (move_item states) path found i d ≡ Ok t → IsMove t d × IsMoveBelow states t
   unfolding move_at
   move_takes path found i d t e =
       let at = item_path path i in
@@ -121,46 +121,46 @@ module _ (states : ℕ) (some_state : 1 ≤ states) where
       let r = four_takes at (listed a.0) t a.2 in
       ((a.0, Readers.kind_takes at (as_array d) a.0 a.1, r.0), r.1)
 
-  move_again : (path : List ℕ) (found : List Move) (i : ℕ) (d : Data) (t : Move) → IsMove t d → IsMoveBelow states t → move_item path states found i d ≡ Ok t
+  move_again : (path : List ℕ) (found : List Move) (i : ℕ) (d : Data) (t : Move) → IsMove t d → IsMoveBelow states t → item_by (move_item states) path found i d ≡ Ok t
   unfolding move_at
   move_again path found i d t is below = rw is.1 (four_again (item_path path i) (listed is.0) t is.2 below)
 
   pub moves_at-takes : (path : List ℕ) (d : Data) (ts : List Move) → moves_at states path d ≡ Ok ts → IsList IsMove ts d × All (IsMoveBelow states) ts × (length ts ≤ MOVE_LIMIT)
-  unfolding moves_at
+  unfolding each_at
   moves_at-takes path d ts e =
-      let r = Readers.list-takes (move_item path states) IsMove (λ _ t. IsMoveBelow states t) (move_takes path) path 0 MOVE_LIMIT d ts e in
+      let r = Readers.list-takes (item_by (move_item states) path) IsMove (λ _ t. IsMoveBelow states t) (move_takes path) path 0 MOVE_LIMIT d ts e in
       (r.0, Fresh.EachFrom-All (IsMoveBelow states) [] ts r.1, r.3)
 
   pub moves_at-again : (path : List ℕ) (d : Data) (ts : List Move) → IsList IsMove ts d → All (IsMoveBelow states) ts → length ts ≤ MOVE_LIMIT → moves_at states path d ≡ Ok ts
-  unfolding moves_at
+  unfolding each_at
   moves_at-again path d ts is below hi =
-      Readers.list-again (move_item path states) IsMove (λ _ t. IsMoveBelow states t) (move_again path) path 0 MOVE_LIMIT d ts is (Fresh.All-EachFrom (IsMoveBelow states) [] ts below) (omega arith) hi
+      Readers.list-again (item_by (move_item states) path) IsMove (λ _ t. IsMoveBelow states t) (move_again path) path 0 MOVE_LIMIT d ts is (Fresh.All-EachFrom (IsMoveBelow states) [] ts below) (omega arith) hi
 
   pub states_at-takes : (least most : ℕ) (path : List ℕ) (d : Data) (qs : List ℕ) → states_at least most states path d ≡ Ok qs → IsList IsNumber qs d × All (λ q. q < states) qs × (least ≤ length qs) × (length qs ≤ most)
-  unfolding states_at
+  unfolding each_at
   states_at-takes least most path d qs e =
-      let r = Readers.list-takes (state_item path states) IsNumber (λ _ q. q < states) (λ found i d q e. state_takes (item_path path i) d q e) path least most d qs e in
+      let r = Readers.list-takes (item_by (state_item states) path) IsNumber (λ _ q. q < states) (λ found i d q e. state_takes (item_path path i) d q e) path least most d qs e in
       (r.0, Fresh.EachFrom-All (λ q. q < states) [] qs r.1, r.2, r.3)
 
   pub states_at-again : (least most : ℕ) (path : List ℕ) (d : Data) (qs : List ℕ) → IsList IsNumber qs d → All (λ q. q < states) qs → least ≤ length qs → length qs ≤ most → states_at least most states path d ≡ Ok qs
-  unfolding states_at
+  unfolding each_at
   states_at-again least most path d qs is below lo hi =
-      Readers.list-again (state_item path states) IsNumber (λ _ q. q < states) (λ found i d q is below. state_again (item_path path i) d q is below) path least most d qs is (Fresh.All-EachFrom (λ q. q < states) [] qs below) lo hi
+      Readers.list-again (item_by (state_item states) path) IsNumber (λ _ q. q < states) (λ found i d q is below. state_again (item_path path i) d q is below) path least most d qs is (Fresh.All-EachFrom (λ q. q < states) [] qs below) lo hi
 
   any_truth : (found bs : List Bool) → Readers.EachFrom (λ _ _. Unit {0}) found bs
   any_truth found [] = tt
   any_truth found (b ∷ bs) = (tt, any_truth (found ++ b ∷ []) bs)
 
   pub outputs_at-takes : (path : List ℕ) (d : Data) (bs : List Bool) → outputs_at states path d ≡ Ok bs → IsList IsTruth bs d × (length bs ≡ states)
-  unfolding outputs_at
+  unfolding each_at
   outputs_at-takes path d bs e =
-      let r = Readers.list-takes (truth_item path) IsTruth (λ _ _. Unit {0}) (λ found i d b e. (Readers.truth_at-takes (item_path path i) d b e, tt)) path states states d bs e in
+      let r = Readers.list-takes (item_by truth_item path) IsTruth (λ _ _. Unit {0}) (λ found i d b e. (Readers.truth_at-takes (item_path path i) d b e, tt)) path states states d bs e in
       (r.0, omega (arith, r.2, r.3))
 
   pub outputs_at-again : (path : List ℕ) (d : Data) (bs : List Bool) → IsList IsTruth bs d → length bs ≡ states → outputs_at states path d ≡ Ok bs
-  unfolding outputs_at
+  unfolding each_at
   outputs_at-again path d bs is long =
-      Readers.list-again (truth_item path) IsTruth (λ _ _. Unit {0}) (λ found i d b is any. Readers.truth_at-again (item_path path i) d b is) path states states d bs is (any_truth [] bs) (omega arith) (omega arith)
+      Readers.list-again (item_by truth_item path) IsTruth (λ _ _. Unit {0}) (λ found i d b is any. Readers.truth_at-again (item_path path i) d b is) path states states d bs is (any_truth [] bs) (omega arith) (omega arith)
 
 -- how many helpers a range allows
 abbrev pub Allows : Option (ℕ × ℕ) → List ℕ → Type 0

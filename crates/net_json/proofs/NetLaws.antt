@@ -13,7 +13,7 @@ use Rattle.json_shape.specs.declared.fault.FormatFault.{FormatFault}
 use Rattle.json_shape.specs.declared.fault.FormatFault.TheVariants.{Broken, NoMemory}
 use Rattle.json_shape.specs.Faults.{Fault, ◌>>=◌, broken, Gives}
 use Rattle.json_shape.specs.Paths.{member_path, item_path}
-use Rattle.json_shape.specs.Shapes.{listed, object_at, member_at, member_by, number_at}
+use Rattle.json_shape.specs.Shapes.{listed, object_at, member_at, member_by, number_at, item_by, each_at}
 use Rattle.json_shape.specs.Parts.{IsNumber, AreItems, IsList}
 use Rattle.json_shape.proofs.Steps.{bind_ok, guard_ok, same_ok}
 use Rattle.json_shape.proofs.Readers
@@ -161,9 +161,9 @@ module _ (format variables : ℕ) (known : (format ≡ PLAIN_FORMAT) ⊎ (format
 
   leaves_at-takes : (path : List ℕ) (d : Data) (leaves : List LeafModel) → leaves_at format variables path d ≡ Ok leaves
       → IsList (IsLeafFile format) leaves d × All (λ leaf. IsLeafOf variables leaf × (length leaf.helpers ≡ helpers_of leaves)) leaves × (1 ≤ length leaves) × (length leaves ≤ LEAF_LIMIT)
-  unfolding leaves_at
+  unfolding each_at
   leaves_at-takes path d leaves e =
-      let r = Readers.list-takes (leaf_item format variables path) (IsLeafFile format) FollowsHere (λ found i x leaf is. leaf_at-takes format variables known lo hi found (item_path path i) x leaf is) path 1 LEAF_LIMIT d leaves e in
+      let r = Readers.list-takes (item_by (leaf_item format variables) path) (IsLeafFile format) FollowsHere (λ found i x leaf is. leaf_at-takes format variables known lo hi found (item_path path i) x leaf is) path 1 LEAF_LIMIT d leaves e in
       (r.0, all_leaves leaves r.1, r.2, r.3)
 
 -- what is asked of a leaf behind others, to be read
@@ -202,9 +202,9 @@ module _ (format variables : ℕ) where
   told found hs d (inr h) = subst (λ (f : ℕ). TellsHelpers (helper_range f found) hs d) (sym h.0) h.1
 
   leaves_at-again : (path : List ℕ) (d : Data) (leaves : List LeafModel) → IsList (IsLeafFile format) leaves d → All (λ leaf. IsLeafOf variables leaf × (length leaf.helpers ≡ helpers_of leaves)) leaves → 1 ≤ length leaves → length leaves ≤ LEAF_LIMIT → leaves_at format variables path d ≡ Ok leaves
-  unfolding leaves_at
+  unfolding each_at
   leaves_at-again path d leaves is all lo hi =
-      Readers.list-again (leaf_item format variables path) (IsLeafFile format) (Fitting format variables)
+      Readers.list-again (item_by (leaf_item format variables) path) (IsLeafFile format) (Fitting format variables)
       (λ found i x leaf file fits. leaf_at-again (helper_range format found) format variables (item_path path i) x leaf file (told found leaf.helpers x file.helpers) fits.1 fits.0.0 fits.0.1)
       path 1 LEAF_LIMIT d leaves is (fitting_each leaves all) lo hi
 

@@ -9,7 +9,7 @@ use Rattle.pop_io.specs.Names.{is_variable_name, is_state_name}
 use Rattle.json_shape.specs.declared.fault.Why.TheVariants.{Kind, Name, Shape}
 use Rattle.json_shape.specs.Faults.{Fault, ◌>>=◌, broken}
 use Rattle.json_shape.specs.Paths.{member_path, item_path}
-use Rattle.json_shape.specs.Shapes.{of_kind, object_at, member_by, list_at, number_at, text_at, truth_at, each, listed}
+use Rattle.json_shape.specs.Shapes.{of_kind, object_at, member_by, list_at, number_at, text_at, truth_at, each, each_at, listed}
 use Rattle.pop_net.specs.declared.leaf.Move.{Move}
 use Rattle.pop_net.specs.declared.net.Item.{Item}
 use Rattle.pop_net.specs.declared.net.Item.TheVariants.{Leaf, Not, And, Or}
@@ -26,14 +26,9 @@ name_at is_name path found d = do
   s ← text_at path d
   if is_name s && not (list_any (bytes_eq s) found) then Ok s else broken path Name
 
-abbrev pub name_item : (List ℕ → Bool) → List ℕ → List (List ℕ) → ℕ → Data → Result (List ℕ) Fault
-name_item is_name path found i d = name_at is_name (item_path path i) found d
-
 -- 1 to most names
-unfoldable pub names_at : (List ℕ → Bool) → ℕ → List ℕ → Data → Result (List (List ℕ)) Fault
-names_at is_name most path d = do
-  ds ← list_at path 1 most d
-  each (name_item is_name path) [] 0 ds
+abbrev pub names_at : (List ℕ → Bool) → ℕ → List ℕ → Data → Result (List (List ℕ)) Fault
+names_at is_name most path d = each_at (name_at is_name) path 1 most d
 
 -- four numbers of states; a list of another length is of another kind
 abbrev pub four_at : List ℕ → ℕ → List Data → Result Move Fault
@@ -50,22 +45,18 @@ move_at path states d = do
   ds ← of_kind path (as_array d)
   four_at path states (listed ds)
 
-abbrev pub move_item : List ℕ → ℕ → List Move → ℕ → Data → Result Move Fault
-move_item path states found i d = move_at (item_path path i) states d
+abbrev pub move_item : ℕ → List ℕ → List Move → Data → Result Move Fault
+move_item states path found d = move_at path states d
 
-unfoldable pub moves_at : ℕ → List ℕ → Data → Result (List Move) Fault
-moves_at states path d = do
-  ds ← list_at path 0 MOVE_LIMIT d
-  each (move_item path states) [] 0 ds
+abbrev pub moves_at : ℕ → List ℕ → Data → Result (List Move) Fault
+moves_at states path d = each_at (move_item states) path 0 MOVE_LIMIT d
 
-abbrev pub state_item : List ℕ → ℕ → List ℕ → ℕ → Data → Result ℕ Fault
-state_item path states found i d = number_at (item_path path i) 0 (states - 1) d
+abbrev pub state_item : ℕ → List ℕ → List ℕ → Data → Result ℕ Fault
+state_item states path found d = number_at path 0 (states - 1) d
 
 -- so many numbers of states
-unfoldable pub states_at : ℕ → ℕ → ℕ → List ℕ → Data → Result (List ℕ) Fault
-states_at least most states path d = do
-  ds ← list_at path least most d
-  each (state_item path states) [] 0 ds
+abbrev pub states_at : ℕ → ℕ → ℕ → List ℕ → Data → Result (List ℕ) Fault
+states_at least most states path d = each_at (state_item states) path least most d
 
 -- a number of a state for each variable
 abbrev pub inputs_at : ℕ → ℕ → List ℕ → Data → Result (List ℕ) Fault
@@ -83,14 +74,12 @@ abbrev pub helpers_at : Option (ℕ × ℕ) → ℕ → List ℕ → Data → Re
 helpers_at None states path d = Ok []
 helpers_at (Some range) states path d = member_by path (codes "helpers") (states_at range.0 range.1 states) d
 
-abbrev pub truth_item : List ℕ → List Bool → ℕ → Data → Result Bool Fault
-truth_item path found i d = truth_at (item_path path i) d
+abbrev pub truth_item : List ℕ → List Bool → Data → Result Bool Fault
+truth_item path found d = truth_at path d
 
 -- an output for each state
-unfoldable pub outputs_at : ℕ → List ℕ → Data → Result (List Bool) Fault
-outputs_at states path d = do
-  ds ← list_at path states states d
-  each (truth_item path) [] 0 ds
+abbrev pub outputs_at : ℕ → List ℕ → Data → Result (List Bool) Fault
+outputs_at states path d = each_at truth_item path states states d
 
 unfoldable pub leaf_at : Option (ℕ × ℕ) → ℕ → List ℕ → Data → Result LeafModel Fault
 leaf_at range variables path d = do
@@ -102,13 +91,11 @@ leaf_at range variables path d = do
   hs ← helpers_at range (length ss) path d
   Ok (record { states = ss; moves = ts; inputs = qs; outputs = bs; helpers = hs })
 
-abbrev pub leaf_item : ℕ → ℕ → List ℕ → List LeafModel → ℕ → Data → Result LeafModel Fault
-leaf_item format variables path found i d = leaf_at (helper_range format found) variables (item_path path i) d
+abbrev pub leaf_item : ℕ → ℕ → List ℕ → List LeafModel → Data → Result LeafModel Fault
+leaf_item format variables path found d = leaf_at (helper_range format found) variables path d
 
-unfoldable pub leaves_at : ℕ → ℕ → List ℕ → Data → Result (List LeafModel) Fault
-leaves_at format variables path d = do
-  ds ← list_at path 1 LEAF_LIMIT d
-  each (leaf_item format variables path) [] 0 ds
+abbrev pub leaves_at : ℕ → ℕ → List ℕ → Data → Result (List LeafModel) Fault
+leaves_at format variables path d = each_at (leaf_item format variables) path 1 LEAF_LIMIT d
 
 abbrev pub operator_at : List ℕ → List ℕ → Result Item Fault
 operator_at path s =

@@ -7,7 +7,7 @@ ghost use Rattle.json_shape.specs.Paths.{path_text};
 ghost use Rattle.json_shape.specs.Shapes.{number_at};
 ghost use Rattle.net_json.specs.Examined.{move_at, moves_at, states_at, outputs_at};
 
-use json_shape::{FormatFault, Path, Why, broken, list_of, number_of, truth_of};
+use json_shape::{FormatFault, Path, ReadItem, Why, broken, each_of, number_of, truth_of};
 use pop_io::List;
 use pop_net::{MOVE_LIMIT, Move, STATE_LIMIT};
 use serde_json::Value;
@@ -50,8 +50,35 @@ fn move_of(
     Ok(Move { p, q, r, s })
 }
 
+/// Moves of a leaf with so many states.
+#[derive(Clone, Copy)]
+struct Moves {
+    states: usize,
+}
+
+impl ReadItem for Moves {
+    ghost use Rattle.std.specs.Prelude.{◌≤◌};
+    ghost use Rattle.pop_net.specs.declared.limits.TheConstants.{STATE_LIMIT};
+    ghost use Rattle.net_json.specs.Examined.{move_item};
+
+    type Item = Move;
+
+    ghost can_read = { λ reader. (1 ≤ reader.states) × (reader.states ≤ STATE_LIMIT) };
+
+    ghost item_at = { λ reader. move_item reader.states };
+
+    fn read(
+        &self,
+        alloc: Global,
+        path: &Path<'_>,
+        _found: &[Move],
+        value: &Value,
+    ) -> Result<Move, FormatFault> {
+        move_of(alloc, path, self.states, value)
+    }
+}
+
 /// At most `MOVE_LIMIT` moves of a leaf with so many states.
-#[tactic(auto, unfolding(crate::specs::Examined::moves_at))]
 pub(crate) fn moves_of(
     alloc: Global,
     path: &Path<'_>,
@@ -61,16 +88,38 @@ pub(crate) fn moves_of(
     requires { (1 ≤ states) × (states ≤ STATE_LIMIT) }
     ensures { Gives (λ ts. ts) result (moves_at states (path_text path.now) (view value.now)) }
 {
-    let list = list_of(alloc, path, 0, MOVE_LIMIT, value)?;
-    let mut moves = Vec::new(alloc);
-    for (i, item) in list.iter().enumerate() {
-        moves.push(move_of(alloc, &Path::Item(&*path, i), states, item)?)?;
+    each_of(alloc, path, 0, MOVE_LIMIT, &Moves { states }, value)
+}
+
+/// Numbers of states of a leaf with so many.
+#[derive(Clone, Copy)]
+struct States {
+    states: usize,
+}
+
+impl ReadItem for States {
+    ghost use Rattle.std.specs.Prelude.{◌≤◌};
+    ghost use Rattle.pop_net.specs.declared.limits.TheConstants.{STATE_LIMIT};
+    ghost use Rattle.net_json.specs.Examined.{state_item};
+
+    type Item = u16;
+
+    ghost can_read = { λ reader. (1 ≤ reader.states) × (reader.states ≤ STATE_LIMIT) };
+
+    ghost item_at = { λ reader. state_item reader.states };
+
+    fn read(
+        &self,
+        alloc: Global,
+        path: &Path<'_>,
+        _found: &[u16],
+        value: &Value,
+    ) -> Result<u16, FormatFault> {
+        state_of(alloc, path, self.states, value)
     }
-    Ok(List::from_vec(moves))
 }
 
 /// From `least` to `most` numbers of states.
-#[tactic(auto, unfolding(crate::specs::Examined::states_at))]
 pub(crate) fn states_of(
     alloc: Global,
     path: &Path<'_>,
@@ -82,16 +131,35 @@ pub(crate) fn states_of(
     requires { (1 ≤ states) × (states ≤ STATE_LIMIT) }
     ensures { Gives (λ qs. qs) result (states_at least most states (path_text path.now) (view value.now)) }
 {
-    let list = list_of(alloc, path, least, most, value)?;
-    let mut numbers = Vec::new(alloc);
-    for (i, item) in list.iter().enumerate() {
-        numbers.push(state_of(alloc, &Path::Item(&*path, i), states, item)?)?;
+    each_of(alloc, path, least, most, &States { states }, value)
+}
+
+/// Outputs of states.
+#[derive(Clone, Copy)]
+struct Outputs;
+
+impl ReadItem for Outputs {
+    ghost use Rattle.std.specs.Prelude.{⊤};
+    ghost use Rattle.net_json.specs.Examined.{truth_item};
+
+    type Item = bool;
+
+    ghost can_read = { λ _. ⊤ };
+
+    ghost item_at = { λ _. truth_item };
+
+    fn read(
+        &self,
+        alloc: Global,
+        path: &Path<'_>,
+        _found: &[bool],
+        value: &Value,
+    ) -> Result<bool, FormatFault> {
+        truth_of(alloc, path, value)
     }
-    Ok(List::from_vec(numbers))
 }
 
 /// One output per state.
-#[tactic(auto, unfolding(crate::specs::Examined::outputs_at))]
 pub(crate) fn outputs_of(
     alloc: Global,
     path: &Path<'_>,
@@ -100,10 +168,5 @@ pub(crate) fn outputs_of(
 ) -> Result<List<bool>, FormatFault>
     ensures { Gives (λ bs. bs) result (outputs_at states (path_text path.now) (view value.now)) }
 {
-    let list = list_of(alloc, path, states, states, value)?;
-    let mut outputs = Vec::new(alloc);
-    for (i, item) in list.iter().enumerate() {
-        outputs.push(truth_of(alloc, &Path::Item(&*path, i), item)?)?;
-    }
-    Ok(List::from_vec(outputs))
+    each_of(alloc, path, states, states, &Outputs, value)
 }

@@ -10,7 +10,7 @@ ghost use Rattle.net_json.specs.HelperRange.{IsHelperRange};
 use crate::format::PLAIN_FORMAT;
 use crate::leaf::{moves_of, outputs_of, states_of};
 use crate::names::{NameForm, names_of};
-use json_shape::{FormatFault, Path, list_of, member_of, object_of};
+use json_shape::{FormatFault, Path, ReadItem, each_of, member_of, object_of};
 use pop_io::{List, VARIABLE_LIMIT};
 use pop_net::{HELPER_LIMIT, LEAF_LIMIT, Leaf, STATE_LIMIT};
 use serde_json::Value;
@@ -84,8 +84,37 @@ fn leaf_of(
     Ok(leaf)
 }
 
+/// Leaves with so many inputs, of this format.
+#[derive(Clone, Copy)]
+struct Leaves {
+    format: u32,
+    variables: usize,
+}
+
+impl ReadItem for Leaves {
+    ghost use Rattle.std.specs.Prelude.{◌≤◌};
+    ghost use Rattle.pop_io.specs.declared.names.TheConstants.{VARIABLE_LIMIT};
+    ghost use Rattle.net_json.specs.Examined.{leaf_item};
+
+    type Item = Leaf;
+
+    ghost can_read = { λ reader. (1 ≤ reader.variables) × (reader.variables ≤ VARIABLE_LIMIT) };
+
+    ghost item_at = { λ reader. leaf_item reader.format reader.variables };
+
+    fn read(
+        &self,
+        alloc: Global,
+        path: &Path<'_>,
+        found: &[Leaf],
+        value: &Value,
+    ) -> Result<Leaf, FormatFault> {
+        let range = helper_range(self.format, found);
+        leaf_of(alloc, path, range, self.variables, value)
+    }
+}
+
 /// 1 to `LEAF_LIMIT` leaves with so many inputs, of this format.
-#[tactic(auto, unfolding(crate::specs::Examined::leaves_at))]
 pub(crate) fn leaves_of(
     alloc: Global,
     path: &Path<'_>,
@@ -97,11 +126,12 @@ pub(crate) fn leaves_of(
     ensures leaves { Gives (λ ls. ls) result (leaves_at format variables (path_text path.now) (view value.now)) }
     ensures count { IfOk result (λ ls. (1 ≤ length ls) × (length ls ≤ LEAF_LIMIT)) }
 {
-    let list = list_of(alloc, path, 1, LEAF_LIMIT, value)?;
-    let mut leaves = Vec::new(alloc);
-    for (i, item) in list.iter().enumerate() {
-        let range = helper_range(format, leaves.as_slice());
-        leaves.push(leaf_of(alloc, &Path::Item(&*path, i), range, variables, item)?)?;
-    }
-    Ok(List::from_vec(leaves))
+    each_of(
+        alloc,
+        path,
+        1,
+        LEAF_LIMIT,
+        &Leaves { format, variables },
+        value,
+    )
 }

@@ -1,0 +1,51 @@
+//! The kinds of nodes, and the words that nodes of them begin with.
+
+ghost use Rattle.std.specs.Prelude.{◌≡◌};
+
+/// The kind of a node.
+#[derive(Clone, Copy, Debug, PartialEq, Eq)]
+pub(crate) enum NodeKind {
+    Linear,
+    Residue,
+    Split,
+    Present,
+    Twin,
+    Trap,
+    Siphon,
+    Open,
+}
+
+impl NodeKind {
+    ghost use Rattle.cert_json.specs.Kinds.{text_of, kind_named};
+
+    pub(crate) fn named(text: &str) -> Option<NodeKind>
+        ensures { result ≡ kind_named text.now }
+    {
+        match text {
+            "lin" => Some(NodeKind::Linear),
+            "residue" => Some(NodeKind::Residue),
+            "split" => Some(NodeKind::Split),
+            "present" => Some(NodeKind::Present),
+            "twin" => Some(NodeKind::Twin),
+            "trap" => Some(NodeKind::Trap),
+            "siphon" => Some(NodeKind::Siphon),
+            "open" => Some(NodeKind::Open),
+            _ => None,
+        }
+    }
+
+    pub(crate) fn text(self) -> &'static str
+        ensures { result.now ≡ text_of self }
+    {
+        match self {
+            NodeKind::Linear => "lin",
+            NodeKind::Residue => "residue",
+            NodeKind::Split => "split",
+            NodeKind::Present => "present",
+            NodeKind::Twin => "twin",
+            NodeKind::Trap => "trap",
+            NodeKind::Siphon => "siphon",
+            NodeKind::Open => "open",
+        }
+    }
+}
