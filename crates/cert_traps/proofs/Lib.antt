@@ -1,5 +1,6 @@
 pub mod Lists
 pub mod PresentEnds
+pub mod TakenMoves
 pub mod TrapEnds
 pub mod SiphonEnds
 pub mod Covers

@@ -2,9 +2,9 @@
 use Rattle.std.proofs.Common.{◌≡◌, ◌≢◌, ◌⊎◌, inl, inr, ℕ, suc, ◌+◌, ◌<◌, ◌≤◌, Bool, true, false, not, ◌&&◌, List, [], ◌∷◌, ◌++◌, length, map, replicate, refl, ap, sym, subst, ◌∙◌, zero-add, arith}
 use Rattle.std.specs.Prelude.{Some, pos, negsuc, ◌==◌, slice_get, slice_set, slice_index, All, count_by, ◌-ℤ◌}
 use Rattle.std.proofs.lemmas.Int.{ints}
-use Rattle.std.proofs.lemmas.Bool.{eq-eqb, cases_lt}
+use Rattle.std.proofs.lemmas.Bool.{cases_lt}
 use Rattle.std.proofs.lemmas.Bool.Decides.{eqb_tells}
-use Rattle.std.proofs.lemmas.List.Elements.{All-nil, All-cons, All-map, All-append, All-replicate, All-set}
+use Rattle.std.proofs.lemmas.List.Elements.{All-nil, All-cons, All-append, All-replicate, All-set}
 use Rattle.std.proofs.lemmas.List.FromFn.{length-range_with_len}
 use Rattle.std.proofs.lemmas.List.Sums.{sum_by-cons}
 use Rattle.std.proofs.lemmas.Option.{slice_get_within, slice_get-get_or}
@@ -16,17 +16,18 @@ use Rattle.pop_net.specs.Step.{Follows, LeafChange, LeafStep}
 use Rattle.pop_net.proofs.Quiet.{All-slice_get}
 use Rattle.cert_base.specs.declared.fact.Fact.{Fact}
 use Rattle.cert_base.specs.declared.fact.Fact.TheVariants.{Ge, Eq}
-use Rattle.cert_base.specs.Rows.{single_row, move_variable, input_row}
+use Rattle.cert_base.specs.Rows.{input_row}
 use Rattle.cert_base.specs.Valuation.{Valuation, MeetsFact, is_by, times_taken, IsOfExecution}
 use Rattle.cert_base.specs.FactsAndCases.{indicator, states_of, is_in, takes_from, puts_into, helpers_among, none_taken, some_taken, count_in, siphon_cases}
 use Rattle.cert_base.specs.Ends.{MeetsOne}
 use Rattle.cert_base.proofs.Dead.{number_in-cons}
 use Rattle.cert_base.proofs.Numbers.{number_in}
 use Rattle.cert_base.proofs.FlowFacts.{terms_value-terms_from}
-use Rattle.cert_base.proofs.Indicators.{sum_if, dot-indicators, row_value-behind, sum_if-none, sum_if-zero, all_places}
+use Rattle.cert_base.proofs.Indicators.{sum_if, dot-indicators, row_value-behind, sum_if-none, sum_if-zero}
 use Rattle.cert_base.proofs.WrongEnds.{range_get}
 use Rattle.cert_base.proofs.Openings.{in_first, in_rest}
-use Rattle.cert_traps.proofs.TrapEnds.{or_false, or_left_false, or_right_false, takes_none, sum_zero, single_none, bit}
+use Rattle.cert_traps.proofs.TakenMoves.{sum_zero, taken_fails, others_untaken, untaken_met}
+use Rattle.cert_traps.proofs.TrapEnds.{or_false, or_left_false, or_right_false, takes_none, bit}
 
 -- no agent is in a state of the set
 abbrev NoneInside : List ℕ → List ℕ → Type 0
@@ -62,24 +63,9 @@ module _ (leaf : LeafModel) (set : List ℕ) (before after : List ℕ) (s : Leaf
   step_on (inl stay) enters = (nobody_after (ap (is_in set) stay.0 ∙ x_outside, ap (is_in set) stay.1 ∙ y_outside), λ n t h e. refl)
   step_on (inr m) enters =
       let takes = takes_by set m.taken s.x s.y s.x' s.y' m.followed x_outside y_outside in
-      let stays = never (enters_set set m.taken) refl in
+      let stays = taken_fails leaf (enters_set set) m.number m.taken m.listed enters in
       let puts = takes_none (puts_into set m.taken) (takes_from set m.taken) stays takes in
-      (nobody_after (both_outside set m.taken s.x s.y s.x' s.y' m.followed puts), λ n t h e. other n t h e takes (eqb_tells m.number n))
-    where
-      never : (b : Bool) → enters_set set m.taken ≡ b → b ≡ false
-      never false e = refl
-      never true e =
-          let zero_times = enters m.number m.taken m.listed e in
-          let once : one_at m.number m.number ≡ 1 = rw (eq-eqb m.number m.number refl) refl in
-          absurd (omega (arith, zero_times, once))
-
-      other : (n : ℕ) (t : Move) → slice_get leaf.moves n ≡ Some t → takes_from set t ≡ true → takes_from set m.taken ≡ false → ((m.number == n) ≡ true) × (m.number ≡ n) ⊎ ((m.number == n) ≡ false) × (m.number ≢ n) → one_at m.number n ≡ 0
-      other n t h e takes (inr k) = rw k.0 refl
-      other n t h e takes (inl k) =
-          let listed : slice_get leaf.moves n ≡ Some m.taken = ap (slice_get leaf.moves) (sym k.1) ∙ m.listed in
-          let same : t ≡ m.taken = cc in
-          let f : true ≡ false = sym e ∙ ap (takes_from set) same ∙ takes in
-          cc
+      (nobody_after (both_outside set m.taken s.x s.y s.x' s.y' m.followed puts), others_untaken leaf (takes_from set) m.number m.taken m.listed takes)
 
 -- the same over a whole way
 way_on : (leaf : LeafModel) (set : List ℕ) (start : List ℕ) (path : List (List ℕ)) (end : List ℕ) (way : Leads (LeafStep leaf) start path end) → NoneInside set start → ((n : ℕ) (t : Move) → slice_get leaf.moves n ≡ Some t → enters_set set t ≡ true → times_taken leaf n start path end way ≡ 0) → NoneInside set end × ((n : ℕ) (t : Move) → slice_get leaf.moves n ≡ Some t → takes_from set t ≡ true → times_taken leaf n start path end way ≡ 0)
@@ -147,12 +133,6 @@ module _ (leaf : LeafModel) (set : List ℕ) (count : Valuation) (counts : List 
   none_at_start e none =
       All-append (λ (q : ℕ). is_in set q ≡ false) (starts_from (λ variable. slice_index leaf.inputs variable) 0 counts) leaf.helpers (given_outside e) (none_pass (is_in set) leaf.helpers none)
 
-  not_taken : ((n : ℕ) (t : Move) → slice_get leaf.moves n ≡ Some t → takes_from set t ≡ true → times_taken leaf n (leaf_input_crowd leaf counts) path end way ≡ 0) → All (MeetsFact count) (none_taken leaf (takes_from set))
-  not_taken f =
-      All-map (MeetsFact count) (λ t. Eq (single_row (move_variable leaf t) (pos 1) (pos 0))) _
-      (all_places (λ t. MeetsFact count (Eq (single_row (move_variable leaf t) (pos 1) (pos 0)))) (takes_from set) 0 leaf.moves
-      (λ j t h e. single_none count (move_variable leaf (0 + j)) (ap (λ n. count (move_variable leaf n)) (zero-add j) ∙ is.moves j (slice_get_within leaf.moves j t h) ∙ f j t h e)))
-
   none_counted : NoneInside set end → sum_if count (is_in set) (length leaf.inputs) (states_of leaf) ≡ 0
   none_counted none =
       sum_if-zero count (is_in set) (length leaf.inputs) (states_of leaf)
@@ -181,7 +161,7 @@ module _ (leaf : LeafModel) (set : List ℕ) (count : Valuation) (counts : List 
       let on = way_on leaf set (leaf_input_crowd leaf counts) path end way (none_at_start given.0 given.1) (not_entered e) in
       let row = row_value-behind count (is_in set) (length leaf.inputs) (states_of leaf) (pos 0) in
       let zero_sum = none_counted on.0 in
-      All-append (MeetsFact count) (none_taken leaf (takes_from set)) (Eq (count_in leaf set (pos 0)) ∷ []) (not_taken on.1)
+      All-append (MeetsFact count) (none_taken leaf (takes_from set)) (Eq (count_in leaf set (pos 0)) ∷ []) (untaken_met leaf count (takes_from set) (λ n. times_taken leaf n (leaf_input_crowd leaf counts) path end way) is.moves on.1)
       (All-cons (MeetsFact count) (Eq (count_in leaf set (pos 0))) [] (omega (arith, ints, row, zero_sum)) (All-nil (MeetsFact count)))
 
   -- the counts of an execution meet all facts of one of the cases

@@ -16,7 +16,7 @@ use Rattle.pop_net.specs.Step.{Follows, LeafChange, LeafStep}
 use Rattle.pop_net.proofs.Quiet.{All-slice_get}
 use Rattle.cert_base.specs.declared.fact.Fact.{Fact}
 use Rattle.cert_base.specs.declared.fact.Fact.TheVariants.{Ge, Eq}
-use Rattle.cert_base.specs.Rows.{single_row, constant_row, input_variable, move_variable}
+use Rattle.cert_base.specs.Rows.{single_row, constant_row, input_variable}
 use Rattle.cert_base.specs.Valuation.{Valuation, MeetsFact, is_by, times_taken, IsOfExecution}
 use Rattle.cert_base.specs.FactsAndCases.{states_of, is_in, takes_from, puts_into, helpers_among, none_taken, none_started, none_helps, some_taken, count_in, trap_cases}
 use Rattle.cert_base.proofs.Agents.{InRange}
@@ -25,7 +25,8 @@ use Rattle.cert_base.proofs.Indicators.{sum_if, row_value-behind, sum_if-none, a
 use Rattle.cert_base.specs.Ends.{MeetsOne}
 use Rattle.cert_base.proofs.Numbers.{slice_get-set_other}
 use Rattle.cert_base.proofs.Openings.{in_first, in_rest}
-use Rattle.cert_traps.proofs.PresentEnds.{one_times, slice_get-set_same}
+use Rattle.cert_traps.proofs.PresentEnds.{slice_get-set_same}
+use Rattle.cert_traps.proofs.TakenMoves.{sum_zero, taken_fails, others_untaken, single_none, untaken_met}
 
 -- no agent is in a state of the set
 abbrev pub NoneIn : List ℕ → List ℕ → Type 0
@@ -95,27 +96,9 @@ module _ (leaf : LeafModel) (set : List ℕ) (before after : List ℕ) (s : Leaf
   )
   step_back (inr m) leaves =
       let puts = both_after set m.taken s.x s.y s.x' s.y' m.followed (none s.a s.x' after_a) (none s.b s.y' after_b) in
-      let stays = never (leaves_set set m.taken) refl in
+      let stays = taken_fails leaf (leaves_set set) m.number m.taken m.listed leaves in
       let were = both_before set m.taken s.x s.y s.x' s.y' m.followed (takes_none (takes_from set m.taken) (puts_into set m.taken) stays puts) in
-      (nobody were.0 were.1, λ n t h e. other n t h e puts (eqb_tells m.number n))
-    where
-      never : (b : Bool) → leaves_set set m.taken ≡ b → b ≡ false
-      never false e = refl
-      never true e =
-          let zero_times = leaves m.number m.taken m.listed e in
-          let once : one_at m.number m.number ≡ 1 = rw (eq-eqb m.number m.number refl) refl in
-          absurd (omega (arith, zero_times, once))
-
-      other : (n : ℕ) (t : Move) → slice_get leaf.moves n ≡ Some t → puts_into set t ≡ true → puts_into set m.taken ≡ false → ((m.number == n) ≡ true) × (m.number ≡ n) ⊎ ((m.number == n) ≡ false) × (m.number ≢ n) → one_at m.number n ≡ 0
-      other n t h e puts (inr k) = rw k.0 refl
-      other n t h e puts (inl k) =
-          let listed : slice_get leaf.moves n ≡ Some m.taken = ap (slice_get leaf.moves) (sym k.1) ∙ m.listed in
-          let same : t ≡ m.taken = cc in
-          let f : true ≡ false = sym e ∙ ap (puts_into set) same ∙ puts in
-          cc
-
-pub sum_zero : (a b : ℕ) → a + b ≡ 0 → (a ≡ 0) × (b ≡ 0)
-sum_zero a b e = ((let f : a ≡ 0 = omega (arith, e) in f), (let f : b ≡ 0 = omega (arith, e) in f))
+      (nobody were.0 were.1, others_untaken leaf (puts_into set) m.number m.taken m.listed puts)
 
 -- the same over a whole way
 way_back : (leaf : LeafModel) (set : List ℕ) (start : List ℕ) (path : List (List ℕ)) (end : List ℕ) (way : Leads (LeafStep leaf) start path end) → NoneIn set end → ((n : ℕ) (t : Move) → slice_get leaf.moves n ≡ Some t → leaves_set set t ≡ true → times_taken leaf n start path end way ≡ 0) → NoneIn set start × ((n : ℕ) (t : Move) → slice_get leaf.moves n ≡ Some t → puts_into set t ≡ true → times_taken leaf n start path end way ≡ 0)
@@ -185,9 +168,6 @@ range_get a (suc n) zero l = ap Some (let e : a ≡ a + 0 = omega arith in e)
 range_get a (suc n) (suc j) l =
     range_get (a + 1) n j (omega arith) ∙ ap Some (let e : a + 1 + j ≡ a + suc j = omega arith in e)
 
-pub single_none : (count : Valuation) (v : ℕ) → count v ≡ 0 → MeetsFact count (Eq (single_row v (pos 1) (pos 0)))
-single_none count v e = let o = one_times (count v) in omega (arith, ints, o, e)
-
 module _ (leaf : LeafModel) (set : List ℕ) (count : Valuation) (counts : List ℕ) (path : List (List ℕ)) (end : List ℕ) (way : Leads (LeafStep leaf) (leaf_input_crowd leaf counts) path end) (is : IsOfExecution leaf count counts path end way) (range : InRange leaf end) where
   abbrev places : ℕ
   places = length leaf.inputs + length leaf.states
@@ -213,12 +193,6 @@ module _ (leaf : LeafModel) (set : List ℕ) (count : Valuation) (counts : List 
           let one : one_at x x ≡ 1 = rw (eq-eqb x x refl) refl in
           let counted = is.states x below in
           absurd (omega (arith, none, there, one, counted))
-
-  not_taken : ((n : ℕ) (t : Move) → slice_get leaf.moves n ≡ Some t → puts_into set t ≡ true → times_taken leaf n (leaf_input_crowd leaf counts) path end way ≡ 0) → All (MeetsFact count) (none_taken leaf (puts_into set))
-  not_taken f =
-      All-map (MeetsFact count) (λ t. Eq (single_row (move_variable leaf t) (pos 1) (pos 0))) _
-      (all_places (λ t. MeetsFact count (Eq (single_row (move_variable leaf t) (pos 1) (pos 0)))) (puts_into set) 0 leaf.moves
-      (λ j t h e. single_none count (move_variable leaf (0 + j)) (ap (λ n. count (move_variable leaf n)) (zero-add j) ∙ is.moves j (slice_get_within leaf.moves j t h) ∙ f j t h e)))
 
   not_started : NoneIn set (leaf_input_crowd leaf counts) → All (MeetsFact count) (none_started leaf set)
   not_started none =
@@ -263,7 +237,7 @@ module _ (leaf : LeafModel) (set : List ℕ) (count : Valuation) (counts : List 
           in_rest count first_case (second_case ∷ third_case ∷ [])
           (in_first count second_case (third_case ∷ [])
           (All-append (MeetsFact count) (none_taken leaf (puts_into set) ++ none_started leaf set) (Eq (count_in leaf set (pos 0)) ∷ none_helps leaf set)
-          (All-append (MeetsFact count) (none_taken leaf (puts_into set)) (none_started leaf set) (not_taken back.1) (not_started back.0))
+          (All-append (MeetsFact count) (none_taken leaf (puts_into set)) (none_started leaf set) (untaken_met leaf count (puts_into set) (λ n. times_taken leaf n (leaf_input_crowd leaf counts) path end way) is.moves back.1) (not_started back.0))
           (All-cons (MeetsFact count) (Eq (count_in leaf set (pos 0))) (none_helps leaf set) (omega (arith, ints, value, zero_sum)) (not_helped back.0))))
 
       first : (0 < sum_if count (leaves_set set) places leaf.moves) ⊎ (sum_if count (leaves_set set) places leaf.moves ≤ 0) → MeetsOne count (trap_cases leaf set)
