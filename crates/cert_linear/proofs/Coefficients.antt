@@ -156,8 +156,8 @@ sum_fits x y l m =
     let both = to_z-of_z w128 (x +ℤ y) (fits_small (x +ℤ y) (omega (arith, bound))) in
     rw (to_z-of_z w128 x (fits_small x (omega arith)), to_z-of_z w128 y (fits_small y (omega arith))) both
 
-pub entry_fits : (x y : ℤ) → nat_abs x ≤ 2 ^ 121 → nat_abs y ≤ 2 ^ 103 → to_z w128 (of_z w128 (to_z w128 (of_z w128 x) +ℤ to_z w128 (of_z w128 y))) ≡ (x +ℤ y)
-entry_fits x y l m =
+pub rest_fits : (x y : ℤ) → nat_abs x ≤ 2 ^ 121 + 2 ^ 31 → nat_abs y ≤ 2 ^ 103 → to_z w128 (of_z w128 (to_z w128 (of_z w128 x) +ℤ to_z w128 (of_z w128 y))) ≡ (x +ℤ y)
+rest_fits x y l m =
     let bound = size-add x y in
     let both = to_z-of_z w128 (x +ℤ y) (fits_small (x +ℤ y) (omega (arith, bound))) in
     rw (to_z-of_z w128 x (fits_small x (omega arith)), to_z-of_z w128 y (fits_small y (omega arith))) both

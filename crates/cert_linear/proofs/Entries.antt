@@ -1,6 +1,6 @@
 -- Entries of which the touched ones are listed.
-use Rattle.std.proofs.Common.{◌≡◌, ◌≢◌, ◌⊎◌, inl, inr, ℕ, zero, suc, ◌<◌, ◌≤◌, Bool, true, false, List, [], ◌∷◌, ◌++◌, length, refl, ap, sym, ◌∙◌, subst, arith}
-use Rattle.std.specs.Prelude.{ℤ, pos, ◌+ℤ◌, ◌==◌, if◌then◌else◌, All, Contains, slice_index_or, slice_set}
+use Rattle.std.proofs.Common.{◌≡◌, ◌≢◌, ◌⊎◌, inl, inr, ℕ, zero, suc, ◌+◌, ◌<◌, ◌≤◌, Bool, true, false, List, [], ◌∷◌, ◌++◌, length, refl, ap, sym, ◌∙◌, subst, arith}
+use Rattle.std.specs.Prelude.{ℤ, pos, ◌+ℤ◌, nat_abs, ◌^◌, ◌==◌, if◌then◌else◌, All, Contains, slice_index_or, slice_set}
 use Rattle.std.specs.List.{list_all}
 use Rattle.std.proofs.lemmas.Int.{ints}
 use Rattle.std.proofs.lemmas.Bool.Decides.{eqb_tells}
@@ -12,8 +12,9 @@ use Rattle.cert_base.specs.declared.fact.Row.{Row}
 use Rattle.cert_base.specs.ClosingTests.{coefficient_in, each_coefficient}
 use Rattle.cert_linear.specs.declared.sum.Entry.{Entry}
 use Rattle.cert_linear.specs.declared.sum.Sum.{Sum}
-use Rattle.cert_linear.specs.Sums.{blank, entry_at, coefficient_of, AreTidy, IsTidy, IsSum}
+use Rattle.cert_linear.specs.Sums.{blank, entry_at, rest_at, coefficient_of, AreTidy, AreRests, IsTidy, IsSum}
 use Rattle.cert_linear.proofs.RowValues.{each_coefficient-at}
+use Rattle.cert_linear.proofs.Coefficients.{size-add}
 
 abbrev Tells : ℕ → ℕ → Type 0
 Tells m n = ((m == n) ≡ true) × (m ≡ n) ⊎ ((m == n) ≡ false) × (m ≢ n)
@@ -145,6 +146,122 @@ sum-kept entries x e inside kept q = go (eqb_tells x q)
     go (inl h) = rw (← h.1) (ap (λ (f : Entry). f.sum) (set-same entries x e inside) ∙ kept)
     go (inr h) = ap (λ (f : Entry). f.sum) (set-other entries x q e h.1)
 
+-- an entry that is listed grows
+pub entry_grows : (entries : List Entry) (touched : List ℕ) (x : ℕ) (here e : Entry) (by total : ℤ) → AreTidy entries touched → x < length entries → here ≡ entry_at entries x → here.touched ≡ true → e ≡ record { sum = total; touched = here.touched } → total ≡ (here.sum +ℤ by) → AreTidy (slice_set entries x e) touched × ((q : ℕ) → (entry_at (slice_set entries x e) q).sum ≡ ((entry_at entries q).sum +ℤ (if x == q then by else pos 0)))
+entry_grows entries touched x here e by total t inside is marked e_is total_is =
+    let there = t.listed x (ap (λ (f : Entry). f.touched) (sym is) ∙ marked) in
+    let e_marked : e.touched ≡ true = ap (λ (f : Entry). f.touched) e_is ∙ marked in
+    let e_sum : e.sum ≡ ((entry_at entries x).sum +ℤ by) = ap (λ (f : Entry). f.sum) e_is ∙ total_is ∙ ap (λ (f : Entry). f.sum +ℤ by) is in
+    (tidy-set entries touched x e t inside e_marked there, sum-grown entries x e by inside e_sum)
+
+-- ---- rests
+
+-- the coefficient of a variable that wasn't touched is 0
+pub untouched-zero : (sum : Sum) (q : ℕ) → IsTidy sum → (entry_at sum.entries.items q).touched ≡ false → coefficient_of sum q ≡ pos 0
+untouched-zero sum q tidy f =
+    let e = tidy.0.zero q f in let r = tidy.1.zero q f in omega (arith, ints, e, r)
+
+-- where nothing is listed, all rests are 0
+pub no-rests : (entries : List Entry) (rests : List ℤ) → AreTidy entries [] → AreRests entries rests → (q : ℕ) → rest_at rests q ≡ pos 0
+no-rests entries rests t r q = go (entry_at entries q).touched refl
+  where
+    none : Contains [] q → ⊥
+    none (k, l, is) = omega (arith, l)
+
+    go : (b : Bool) → (entry_at entries q).touched ≡ b → rest_at rests q ≡ pos 0
+    go false e = r.zero q e
+    go true e = absurd (none (t.listed q e))
+
+-- one more blank entry
+pub rests-push : (entries : List Entry) (rests : List ℤ) → AreRests entries rests → AreRests (entries ++ blank ∷ []) rests
+rests-push entries rests r = record {
+  zero = λ q e. r.zero q (sym (ap (λ (f : Entry). f.touched) (push-at entries q)) ∙ e);
+  small = r.small;
+}
+
+-- an entry is written that is touched
+pub rests-set : (entries : List Entry) (rests : List ℤ) (x : ℕ) (e : Entry) → AreRests entries rests → x < length entries → e.touched ≡ true → AreRests (slice_set entries x e) rests
+rests-set entries rests x e r inside marked = record {
+  zero = λ q h. zero_at q h (eqb_tells x q);
+  small = r.small;
+}
+  where
+    zero_at : (q : ℕ) → (entry_at (slice_set entries x e) q).touched ≡ false → Tells x q → rest_at rests q ≡ pos 0
+    zero_at q h (inl k) =
+        let clash : true ≡ false = sym marked ∙ sym (ap (λ (f : Entry). f.touched) (set-same entries x e inside)) ∙ ap (λ n. (entry_at (slice_set entries x e) n).touched) k.1 ∙ h in
+        cc
+    zero_at q h (inr k) = r.zero q (sym (ap (λ (f : Entry). f.touched) (set-other entries x q e k.1)) ∙ h)
+
+-- an entry is blank again, and so is its rest
+pub rests-blank : (entries : List Entry) (rests after : List ℤ) (x : ℕ) → AreRests entries rests → x < length entries → ((q : ℕ) → rest_at after q ≡ (if x == q then pos 0 else rest_at rests q)) → AreRests (slice_set entries x blank) after
+rests-blank entries rests after x r inside is = record {
+  zero = λ q h. zero_at q h (eqb_tells x q);
+  small = λ q. small_at q (eqb_tells x q);
+}
+  where
+    zero_at : (q : ℕ) → (entry_at (slice_set entries x blank) q).touched ≡ false → Tells x q → rest_at after q ≡ pos 0
+    zero_at q h (inl k) = is q ∙ ap (λ b. if b then pos 0 else rest_at rests q) k.0
+    zero_at q h (inr k) =
+        is q ∙ ap (λ b. if b then pos 0 else rest_at rests q) k.0 ∙ r.zero q (sym (ap (λ (f : Entry). f.touched) (set-other entries x q blank k.1)) ∙ h)
+
+    small_at : (q : ℕ) → Tells x q → nat_abs (rest_at after q) ≤ 2 ^ 122
+    small_at q (inl k) = rw (is q ∙ ap (λ b. if b then pos 0 else rest_at rests q) k.0) (omega arith)
+    small_at q (inr k) = rw (is q ∙ ap (λ b. if b then pos 0 else rest_at rests q) k.0) (r.small q)
+
+-- the rest of a touched entry grows
+pub rests-grown : (entries : List Entry) (rests after : List ℤ) (x : ℕ) (by : ℤ) → AreRests entries rests → (entry_at entries x).touched ≡ true → ((q : ℕ) → rest_at after q ≡ (rest_at rests q +ℤ (if x == q then by else pos 0))) → nat_abs (rest_at after x) ≤ 2 ^ 122 → AreRests entries after
+rests-grown entries rests after x by r marked is bound = record {
+  zero = λ q h. zero_at q h (eqb_tells x q);
+  small = λ q. small_at q (eqb_tells x q);
+}
+  where
+    other : (q : ℕ) → (x == q) ≡ false → rest_at after q ≡ rest_at rests q
+    other q f = let e = is q ∙ ap (λ b. rest_at rests q +ℤ (if b then by else pos 0)) f in omega (arith, ints, e)
+
+    zero_at : (q : ℕ) → (entry_at entries q).touched ≡ false → Tells x q → rest_at after q ≡ pos 0
+    zero_at q h (inl k) =
+        let clash : true ≡ false = sym marked ∙ ap (λ n. (entry_at entries n).touched) k.1 ∙ h in
+        cc
+    zero_at q h (inr k) = other q k.0 ∙ r.zero q h
+
+    small_at : (q : ℕ) → Tells x q → nat_abs (rest_at after q) ≤ 2 ^ 122
+    small_at q (inl k) = rw (← k.1) bound
+    small_at q (inr k) = rw (other q k.0) (r.small q)
+
+-- what is added to a rest is added to the coefficient
+pub rest_grows : (entries after : List Entry) (rests mid : List ℤ) (x : ℕ) (here by total : ℤ) → AreRests entries rests → after ≡ entries → ((q : ℕ) → rest_at mid q ≡ rest_at rests q) → x < length mid → here ≡ rest_at mid x → total ≡ (here +ℤ by) → (entry_at entries x).touched ≡ true → nat_abs by ≤ 2 ^ 103 → nat_abs (rest_at rests x) ≤ 2 ^ 121 + 2 ^ 31 → ((q : ℕ) → ((entry_at after q).sum +ℤ rest_at (slice_set mid x total) q) ≡ (((entry_at entries q).sum +ℤ rest_at rests q) +ℤ (if x == q then by else pos 0))) × AreRests after (slice_set mid x total)
+rest_grows entries after rests mid x here by total r same kept inside is grown marked small room =
+    (λ q. let e = grows q in let f = ap (λ es. (entry_at es q).sum) same in omega (arith, ints, e, f), subst (λ es. AreRests es (slice_set mid x total)) (sym same) (rests-grown entries rests (slice_set mid x total) x by r marked grows bound))
+  where
+    here_is : here ≡ rest_at rests x
+    here_is = is ∙ kept x
+
+    at_x : rest_at (slice_set mid x total) x ≡ total
+    at_x = get_or-set_same mid x total (pos 0) inside
+
+    bound : nat_abs (rest_at (slice_set mid x total) x) ≤ 2 ^ 122
+    bound =
+        let add = size-add here by in
+        let whole : rest_at (slice_set mid x total) x ≡ (here +ℤ by) = at_x ∙ grown in
+        let old : nat_abs here ≤ 2 ^ 121 + 2 ^ 31 = rw here_is room in
+        rw whole (omega (arith, add, old, small))
+
+    grows_at : (q : ℕ) → Tells x q → rest_at (slice_set mid x total) q ≡ (rest_at rests q +ℤ (if x == q then by else pos 0))
+    grows_at q (inl h) = rw (h.0, ← h.1) (at_x ∙ grown ∙ ap (λ z. z +ℤ by) here_is)
+    grows_at q (inr h) =
+        let e = get_or-set_other mid x q total (pos 0) (λ s. h.1 (sym s)) in let k = kept q in
+        rw h.0 (omega (arith, ints, e, k))
+
+    grows : (q : ℕ) → rest_at (slice_set mid x total) q ≡ (rest_at rests q +ℤ (if x == q then by else pos 0))
+    grows q = grows_at q (eqb_tells x q)
+
+-- an entry that is listed grows, and with it the coefficient
+pub coefficient_grows : (sum : Sum) (x : ℕ) (here e : Entry) (by total : ℤ) → IsTidy sum → x < length sum.entries.items → here ≡ entry_at sum.entries.items x → here.touched ≡ true → e ≡ record { sum = total; touched = here.touched } → total ≡ (here.sum +ℤ by) → (AreTidy (slice_set sum.entries.items x e) sum.touched.items × AreRests (slice_set sum.entries.items x e) sum.rests.items) × ((q : ℕ) → ((entry_at (slice_set sum.entries.items x e) q).sum +ℤ rest_at sum.rests.items q) ≡ (coefficient_of sum q +ℤ (if x == q then by else pos 0)))
+coefficient_grows sum x here e by total tidy inside is marked e_is total_is =
+    let grows = entry_grows sum.entries.items sum.touched.items x here e by total tidy.0 inside is marked e_is total_is in
+    let e_marked : e.touched ≡ true = ap (λ (f : Entry). f.touched) e_is ∙ marked in
+    ((grows.0, rests-set sum.entries.items sum.rests.items x e tidy.1 inside e_marked), λ q. let g = grows.1 q in omega (arith, ints, g))
+
 both_ways : (a b : Bool) → (a ≡ true → b ≡ true) → (b ≡ true → a ≡ true) → a ≡ b
 both_ways true b f g = sym (f refl)
 both_ways false true f g = g refl
@@ -161,13 +278,5 @@ each-touched test row sum is tidy zero_passes =
     found q e (k, l, is) = ap (λ n. test (coefficient_of sum n)) (sym is) ∙ AllPass-from_list_all (λ q. test (coefficient_of sum q)) sum.touched.items e k q l
 
     passes : (q : ℕ) → list_all (λ q. test (coefficient_of sum q)) sum.touched.items ≡ true → (b : Bool) → (entry_at sum.entries.items q).touched ≡ b → test (coefficient_of sum q) ≡ true
-    passes q e false f = ap test (tidy.zero q f) ∙ zero_passes
-    passes q e true f = found q e (tidy.listed q f)
-
--- an entry that is listed grows
-pub entry_grows : (entries : List Entry) (touched : List ℕ) (x : ℕ) (here e : Entry) (by total : ℤ) → AreTidy entries touched → x < length entries → here ≡ entry_at entries x → here.touched ≡ true → e ≡ record { sum = total; touched = here.touched } → total ≡ (here.sum +ℤ by) → AreTidy (slice_set entries x e) touched × ((q : ℕ) → (entry_at (slice_set entries x e) q).sum ≡ ((entry_at entries q).sum +ℤ (if x == q then by else pos 0)))
-entry_grows entries touched x here e by total t inside is marked e_is total_is =
-    let there = t.listed x (ap (λ (f : Entry). f.touched) (sym is) ∙ marked) in
-    let e_marked : e.touched ≡ true = ap (λ (f : Entry). f.touched) e_is ∙ marked in
-    let e_sum : e.sum ≡ ((entry_at entries x).sum +ℤ by) = ap (λ (f : Entry). f.sum) e_is ∙ total_is ∙ ap (λ (f : Entry). f.sum +ℤ by) is in
-    (tidy-set entries touched x e t inside e_marked there, sum-grown entries x e by inside e_sum)
+    passes q e false f = ap test (untouched-zero sum q tidy f) ∙ zero_passes
+    passes q e true f = found q e (tidy.0.listed q f)

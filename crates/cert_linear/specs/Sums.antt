@@ -14,9 +14,13 @@ blank = record { sum = pos 0; touched = false }
 abbrev pub entry_at : List Entry → ℕ → Entry
 entry_at entries variable = slice_index_or entries variable blank
 
+-- what did not fit into the entry of a variable
+abbrev pub rest_at : List ℤ → ℕ → ℤ
+rest_at rests variable = slice_index_or rests variable (pos 0)
+
 -- the coefficient of a variable
 abbrev pub coefficient_of : Sum → ℕ → ℤ
-coefficient_of sum variable = (entry_at sum.entries.items variable).sum
+coefficient_of sum variable = (entry_at sum.entries.items variable).sum +ℤ rest_at sum.rests.items variable
 
 -- the list of what was touched has all entries that aren't 0
 pub record AreTidy (entries : List Entry) (touched : List ℕ) : Type 0 where
@@ -24,8 +28,13 @@ pub record AreTidy (entries : List Entry) (touched : List ℕ) : Type 0 where
   pub zero : (variable : ℕ) → (entry_at entries variable).touched ≡ false → (entry_at entries variable).sum ≡ pos 0
   pub listed : (variable : ℕ) → (entry_at entries variable).touched ≡ true → Contains touched variable
 
+-- only touched variables have a rest that isn't 0, and none is too great to be added to
+pub record AreRests (entries : List Entry) (rests : List ℤ) : Type 0 where
+  pub zero : (variable : ℕ) → (entry_at entries variable).touched ≡ false → rest_at rests variable ≡ pos 0
+  pub small : (variable : ℕ) → nat_abs (rest_at rests variable) ≤ 2 ^ 122
+
 abbrev pub IsTidy : Sum → Type 0
-IsTidy sum = AreTidy sum.entries.items sum.touched.items
+IsTidy sum = AreTidy sum.entries.items sum.touched.items × AreRests sum.entries.items sum.rests.items
 
 -- the sum has the coefficients and the constant of the row
 pub record IsSum (row : Row) (sum : Sum) : Type 0 where

@@ -1,21 +1,21 @@
 //! A sum of rows.
 
-ghost use Rattle.std.specs.Prelude.{◌≡◌, ◌≤◌, ◌<◌, ◌+◌, ◌^◌, ◌+ℤ◌, ◌*ℤ◌, ℕ, ◌&&◌, not, ◌==◌, if◌then◌else◌, pos, negsuc, nat_abs, int_le, length, true, OnOk};
+ghost use Rattle.std.specs.Prelude.{◌≡◌, ◌≤◌, ◌<◌, ◌+◌, ◌^◌, ◌+ℤ◌, ◌*ℤ◌, ℕ, ◌&&◌, not, ◌==◌, if◌then◌else◌, pos, negsuc, nat_abs, int_le, length, true, OnOk, IfSome};
 ghost use Rattle.std.specs.List.{list_all};
 ghost use Rattle.pres_ast.specs.PredicateValue.{divides as is_multiple};
 ghost use Rattle.cert_base.specs.declared.fact.Row.{Row};
 ghost use Rattle.cert_base.specs.ClosingTests.{times, no_row, each_coefficient, vanishes as is_zero};
 ghost use Rattle.cert_linear.specs.Conditions.{AreAscending};
-ghost use Rattle.cert_linear.specs.Sums.{coefficient_of, entry_at, IsTidy, IsSum, IsPlus, IsWithin};
+ghost use Rattle.cert_linear.specs.Sums.{coefficient_of, entry_at, rest_at, IsTidy, IsSum, IsPlus, IsWithin};
 
 use cert_base::{Row, SIZE_LIMIT};
 use pop_io::NoMemory;
 use std::alloc::Global;
 
-/// The coefficient of a variable, and whether it is listed as touched.
+/// What fits of the coefficient of a variable, and whether it is listed as touched.
 #[derive(Clone, Copy)]
 pub(crate) struct Entry {
-    sum: i128,
+    sum: i32,
     touched: bool,
 }
 
@@ -26,10 +26,13 @@ const BLANK: Entry = Entry {
 
 /// A sum of rows, each with its multiplier: an entry for each variable up to the greatest that was ever given. It is
 /// used again for the next sum, and only the entries that were touched are cleared and looked at.
+/// The entries are small, so that those of many variables stay in a processor's cache.
 #[derive(Drop)]
 pub(crate) struct Sum {
     entries: Vec<Entry>,
     touched: Vec<u32>,
+    /// What did not fit into the entries, for each variable up to the greatest where something did not.
+    rests: Vec<i128>,
     constant: i128,
 }
 
@@ -42,6 +45,7 @@ impl Sum {
         Sum {
             entries: Vec::new(alloc),
             touched: Vec::new(alloc),
+            rests: Vec::new(alloc),
             constant: 0,
         }
     }
@@ -55,8 +59,20 @@ impl Sum {
     {
         while let Some(variable) = self.touched.pop() {
             self.entries[variable as usize] = BLANK;
+            self.clear_rest(variable);
         }
         self.constant = 0;
+    }
+
+    fn clear_rest(&mut self, variable: u32)
+        ensures rests { (q : ℕ) → rest_at self.new.rests.items q ≡ (if variable == q then pos 0 else rest_at self.old.rests.items q) }
+        ensures entries { self.new.entries ≡ self.old.entries }
+        ensures touched { self.new.touched ≡ self.old.touched }
+        ensures constant { self.new.constant ≡ self.old.constant }
+    {
+        if (variable as usize) < self.rests.len() {
+            self.rests[variable as usize] = 0;
+        }
     }
 
     /// Adds a row times a number.
@@ -87,7 +103,57 @@ impl Sum {
     {
         self.reach(variable)?;
         self.touch(variable)?;
-        self.entries[variable as usize].sum += by;
+        self.enter_touched(variable, by)
+    }
+
+    /// Adds to the coefficient of a variable that is listed as touched.
+    fn enter_touched(&mut self, variable: u32, by: i128) -> Result<(), NoMemory>
+        requires tidy { IsTidy self.old }
+        requires reached { variable < length self.old.entries.items }
+        requires touched { (entry_at self.old.entries.items variable).touched ≡ true }
+        requires small { nat_abs by ≤ 2 ^ 103 }
+        requires room { nat_abs (coefficient_of self.old variable) ≤ 2 ^ 121 }
+        ensures terms { OnOk result ((q : ℕ) → coefficient_of self.new q ≡ (coefficient_of self.old q +ℤ (if variable == q then by else pos 0))) }
+        ensures constant { self.new.constant ≡ self.old.constant }
+        ensures tidy { IsTidy self.new }
+    {
+        let fitting = self.entries[variable as usize].sum;
+        match small_sum(fitting, by) {
+            None => self.enter_rest(variable, by),
+            Some(sum) => {
+                self.entries[variable as usize].sum = sum;
+                Ok(())
+            }
+        }
+    }
+
+    /// Adds beside the entry of a touched variable what does not fit into it.
+    fn enter_rest(&mut self, variable: u32, by: i128) -> Result<(), NoMemory>
+        requires tidy { IsTidy self.old }
+        requires touched { (entry_at self.old.entries.items variable).touched ≡ true }
+        requires small { nat_abs by ≤ 2 ^ 103 }
+        requires room { nat_abs (rest_at self.old.rests.items variable) ≤ 2 ^ 121 + 2 ^ 31 }
+        ensures terms { OnOk result ((q : ℕ) → coefficient_of self.new q ≡ (coefficient_of self.old q +ℤ (if variable == q then by else pos 0))) }
+        ensures constant { self.new.constant ≡ self.old.constant }
+        ensures tidy { IsTidy self.new }
+    {
+        self.reach_rest(variable)?;
+        self.rests[variable as usize] += by;
+        Ok(())
+    }
+
+    /// Adds rests of 0 up to that of a variable.
+    fn reach_rest(&mut self, variable: u32) -> Result<(), NoMemory>
+        requires { IsTidy self.old }
+        ensures reached { OnOk result (variable < length self.new.rests.items) }
+        ensures same { (q : ℕ) → rest_at self.new.rests.items q ≡ rest_at self.old.rests.items q }
+        ensures entries { self.new.entries ≡ self.old.entries }
+        ensures touched { self.new.touched ≡ self.old.touched }
+        ensures constant { self.new.constant ≡ self.old.constant }
+    {
+        while self.rests.len() <= variable as usize {
+            self.rests.push(0)?;
+        }
         Ok(())
     }
 
@@ -125,10 +191,27 @@ impl Sum {
 
     /// The coefficient of a variable.
     fn coefficient(&self, variable: u32) -> i128
+        requires { IsTidy self.now }
         ensures { result ≡ coefficient_of self.now variable }
     {
+        self.fitting(variable) + self.rest(variable)
+    }
+
+    fn fitting(&self, variable: u32) -> i128
+        ensures value { result ≡ (entry_at self.now.entries.items variable).sum }
+        ensures size { nat_abs result ≤ 2 ^ 31 }
+    {
         match self.entries.get(variable as usize) {
-            Some(entry) => entry.sum,
+            Some(entry) => i128::from(entry.sum),
+            None => 0,
+        }
+    }
+
+    fn rest(&self, variable: u32) -> i128
+        ensures { result ≡ rest_at self.now.rests.items variable }
+    {
+        match self.rests.get(variable as usize) {
+            Some(rest) => *rest,
             None => 0,
         }
     }
@@ -148,6 +231,7 @@ impl Sum {
     }
 
     fn has_no_positive(&self) -> bool
+        requires { IsTidy self.now }
         ensures { result ≡ list_all (λ q. int_le (coefficient_of self.now q) (pos 0)) self.now.touched.items }
     {
         self.touched.iter().all(|q| self.coefficient(*q) <= 0)
@@ -180,13 +264,22 @@ impl Sum {
     }
 
     fn has_multiple_values(&self, modulus: u32) -> bool
-        requires { 0 < modulus }
+        requires modulus { 0 < modulus }
+        requires tidy { IsTidy self.now }
         ensures { result ≡ list_all (λ q. is_multiple modulus (coefficient_of self.now q)) self.now.touched.items }
     {
         self.touched
             .iter()
             .all(|q| divides(modulus, self.coefficient(*q)))
     }
+}
+
+/// The sum, if it fits into an entry.
+fn small_sum(sum: i32, by: i128) -> Option<i32>
+    requires { nat_abs by ≤ 2 ^ 103 }
+    ensures { IfSome result (λ total. total ≡ (sum +ℤ by)) }
+{
+    i32::try_from(i128::from(sum) + by).ok()
 }
 
 fn product(a: i64, b: i64) -> i128
