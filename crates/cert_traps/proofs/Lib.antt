@@ -1,4 +1,5 @@
 pub mod Lists
+pub mod Meetings
 pub mod PresentEnds
 pub mod TakenMoves
 pub mod TrapEnds

@@ -1,10 +1,10 @@
 -- Lists that grow by one item, and flags.
 use Rattle.std.proofs.Common.{◌≡◌, ℕ, zero, suc, ◌+◌, ◌<◌, ◌≤◌, min, Bool, true, false, cond, List, [], ◌∷◌, ◌++◌, length, map, take, get_or, append_assoc, refl, ap, sym, ◌∙◌, zero-add, arith}
 use Rattle.std.specs.Prelude.{ℤ, pos, Some, None, slice_get, filter, if◌then◌else◌, not, ◌&&◌, ◌||◌, ◌==◌}
-use Rattle.std.specs.List.{range_with_len, list_any}
+use Rattle.std.specs.List.{range_with_len}
 use Rattle.std.proofs.lemmas.List.{take_all, length-map, length-take}
 use Rattle.std.proofs.lemmas.Option.{slice_get_within, get_or_from_slice_get, slice_get_read}
-use Rattle.std.proofs.lemmas.List.FromFn.{get_or-map-range_with_len}
+use Rattle.std.proofs.lemmas.List.FromFn.{get_or-map-range_with_len, length-range_with_len}
 use Rattle.cert_base.specs.declared.fact.Fact.{Fact}
 use Rattle.cert_base.specs.declared.fact.Fact.TheVariants.{Eq}
 use Rattle.cert_base.specs.Rows.{single_row, move_variable, state_variable}
@@ -16,7 +16,6 @@ use Rattle.pop_net.specs.declared.limits.TheConstants.{STATE_LIMIT}
 use Rattle.pop_net.specs.declared.leaf.Move.{Move}
 use Rattle.pop_net.specs.LeafModel.{LeafModel, IsLeaf, IsMoveBelow}
 use Rattle.pop_net.proofs.Quiet.{All-slice_get}
-use Rattle.pop_net.specs.Reaction.{takes}
 
 map-one : {A B : Type 0} (f : A → B) (xs : List A) (x : A) → map f (xs ++ x ∷ []) ≡ map f xs ++ f x ∷ []
 map-one f [] x = refl
@@ -105,31 +104,6 @@ inputs_zero leaf set first flags start facts z e f =
     ∙ ap (λ fs. map (λ t. Eq (single_row t (pos 1) (pos 0))) (places_from 0 (λ flag. flag) fs)) e
     ∙ ap (map (λ t. Eq (single_row t (pos 1) (pos 0)))) (places_from-flags 0 (is_in set) leaf.inputs))
 
--- ---- partners
-
-any-one : {A : Type 0} (test : A → Bool) (xs : List A) (x : A) → list_any test (xs ++ x ∷ []) ≡ (list_any test xs || test x)
-any-one test [] x = or_no (test x)
-  where
-    or_no : (b : Bool) → b || false ≡ b
-    or_no true = refl
-    or_no false = refl
-any-one test (y ∷ xs) x = ap (λ b. test y || b) (any-one test xs x) ∙ or-or (test y) (list_any test xs) (test x)
-  where
-    or-or : (a b c : Bool) → a || (b || c) ≡ (a || b) || c
-    or-or true b c = refl
-    or-or false b c = refl
-
-pub partners_more : (leaf : LeafModel) (p t : ℕ) (taken : Move) (table after : List Bool) → slice_get leaf.moves t ≡ Some taken → ArePartners leaf p t table → length after ≡ length table → ((q : ℕ) → q < length table → get_or after q false ≡ (get_or table q false || takes p q taken)) → ArePartners leaf p (t + 1) after
-partners_more leaf p t taken table after h are long each = record {
-  long = long ∙ are.long;
-  each = λ q l. each q (let m : q < length table = omega (arith, are.long) in m) ∙ ap (λ b. b || takes p q taken) (are.each q l) ∙ sym (ap (list_any (takes p q)) (take_one_more leaf.moves t taken h) ∙ any-one (takes p q) (take t leaf.moves) taken);
-}
-
--- what the whole table says
-pub partner_is : (leaf : LeafModel) (p q : ℕ) (table : List Bool) → ArePartners leaf p (length leaf.moves) table → q < length leaf.states → get_or table q false ≡ can_meet leaf p q
-partner_is leaf p q table are l =
-    are.each q l ∙ ap (list_any (takes p q)) (take_all (length leaf.moves) leaf.moves (let k : length leaf.moves ≤ length leaf.moves = omega arith in k))
-
 range-suc : (a n : ℕ) → range_with_len a (suc n) ≡ range_with_len a n ++ (a + n) ∷ []
 range-suc a zero = ap (λ z. z ∷ []) (let e : a ≡ a + 0 = omega arith in e)
 range-suc a (suc n) =
@@ -137,6 +111,23 @@ range-suc a (suc n) =
 
 range-one : (a n : ℕ) → range_with_len a (n + 1) ≡ range_with_len a n ++ (a + n) ∷ []
 range-one a n = ap (range_with_len a) (let e : n + 1 ≡ suc n = omega arith in e) ∙ range-suc a n
+
+-- ---- partners
+
+-- one more state is asked
+pub partners_more : (leaf : LeafModel) (p q : ℕ) (flag : Bool) (before after : List Bool) → before ≡ map (can_meet leaf p) (range_with_len 0 q) → flag ≡ can_meet leaf p q → after ≡ before ++ flag ∷ [] → after ≡ map (can_meet leaf p) (range_with_len 0 (q + 1))
+partners_more leaf p q flag before after b is e =
+    e
+    ∙ ap (λ flags. flags ++ flag ∷ []) b
+    ∙ ap (λ f. map (can_meet leaf p) (range_with_len 0 q) ++ f ∷ []) is
+    ∙ sym (ap (map (can_meet leaf p)) (range-one 0 q ∙ ap (λ z. range_with_len 0 q ++ z ∷ []) (zero-add q)) ∙ map-one (can_meet leaf p) (range_with_len 0 q) q)
+
+-- what the whole table says
+pub partners_all : (leaf : LeafModel) (p q : ℕ) (table : List Bool) → q ≡ length leaf.states → table ≡ map (can_meet leaf p) (range_with_len 0 q) → ArePartners leaf p table
+partners_all leaf p q table all e = record {
+  long = ap length e ∙ length-map (range_with_len 0 q) (can_meet leaf p) ∙ length-range_with_len 0 q ∙ all;
+  each = λ n l. ap (λ (flags : List Bool). get_or flags n false) e ∙ get_or-map-range_with_len (can_meet leaf p) 0 q n n false (let m : n < q = omega (arith, all) in m) (zero-add n);
+}
 
 filter-one : (test : ℕ → Bool) (xs : List ℕ) (x : ℕ) → filter test (xs ++ x ∷ []) ≡ filter test xs ++ (if test x then (x ∷ []) else [])
 filter-one test [] x = refl
@@ -147,10 +138,10 @@ filter-one test (y ∷ xs) x = go (test y) (filter-one test xs x)
     go false e = e
 
 -- one more state that can't be there
-pub unmet_more : (leaf : LeafModel) (p q variable : ℕ) (flag : Bool) (table : List Bool) (before after : List Fact) → ArePartners leaf p (length leaf.moves) table → q < length leaf.states → variable ≡ state_variable leaf q → flag ≡ (not (q == p) && get_or table q false) → before ≡ occurs leaf p ∷ map (absent leaf) (filter (λ q. not (q == p) && can_meet leaf p q) (range_with_len 0 q)) → after ≡ before ++ zero_if variable flag → after ≡ occurs leaf p ∷ map (absent leaf) (filter (λ q. not (q == p) && can_meet leaf p q) (range_with_len 0 (q + 1)))
+pub unmet_more : (leaf : LeafModel) (p q variable : ℕ) (flag : Bool) (table : List Bool) (before after : List Fact) → ArePartners leaf p table → q < length leaf.states → variable ≡ state_variable leaf q → flag ≡ (not (q == p) && get_or table q false) → before ≡ occurs leaf p ∷ map (absent leaf) (filter (λ q. not (q == p) && can_meet leaf p q) (range_with_len 0 q)) → after ≡ before ++ zero_if variable flag → after ≡ occurs leaf p ∷ map (absent leaf) (filter (λ q. not (q == p) && can_meet leaf p q) (range_with_len 0 (q + 1)))
 unmet_more leaf p q variable flag table before after are l at is b e =
     let test : ℕ → Bool = λ q. not (q == p) && can_meet leaf p q in
-    let flag_is : flag ≡ (not (q == p) && can_meet leaf p q) = is ∙ ap (λ b. not (q == p) && b) (partner_is leaf p q table are l) in
+    let flag_is : flag ≡ (not (q == p) && can_meet leaf p q) = is ∙ ap (λ b. not (q == p) && b) (are.each q l) in
     let more : filter test (range_with_len 0 (q + 1)) ≡ filter test (range_with_len 0 q) ++ (if test q then (q ∷ []) else []) =
     ap (filter test) (range-one 0 q ∙ ap (λ z. range_with_len 0 q ++ z ∷ []) (zero-add q)) ∙ filter-one test (range_with_len 0 q) q in
     e
@@ -162,12 +153,12 @@ unmet_more leaf p q variable flag table before after are l at is b e =
     last true = refl
     last false = refl
 
-pub unmet_all : (leaf : LeafModel) (p q : ℕ) (flag : Bool) (table : List Bool) (before after : List Fact) → ArePartners leaf p (length leaf.moves) table → p < length leaf.states → q ≡ length leaf.states → flag ≡ get_or table p false → before ≡ occurs leaf p ∷ map (absent leaf) (filter (λ q. not (q == p) && can_meet leaf p q) (range_with_len 0 q)) → after ≡ before ++ alone_if leaf p flag → after ≡ occurs leaf p ∷ map (absent leaf) (filter (λ q. not (q == p) && can_meet leaf p q) (states_of leaf)) ++ (if can_meet leaf p p then (alone leaf p ∷ []) else [])
+pub unmet_all : (leaf : LeafModel) (p q : ℕ) (flag : Bool) (table : List Bool) (before after : List Fact) → ArePartners leaf p table → p < length leaf.states → q ≡ length leaf.states → flag ≡ get_or table p false → before ≡ occurs leaf p ∷ map (absent leaf) (filter (λ q. not (q == p) && can_meet leaf p q) (range_with_len 0 q)) → after ≡ before ++ alone_if leaf p flag → after ≡ occurs leaf p ∷ map (absent leaf) (filter (λ q. not (q == p) && can_meet leaf p q) (states_of leaf)) ++ (if can_meet leaf p p then (alone leaf p ∷ []) else [])
 unmet_all leaf p q flag table before after are l all is b e =
     e
     ∙ ap (λ fs. fs ++ alone_if leaf p flag) b
     ∙ ap (λ n. (occurs leaf p ∷ map (absent leaf) (filter (λ q. not (q == p) && can_meet leaf p q) (range_with_len 0 n))) ++ alone_if leaf p flag) all
-    ∙ ap (λ b. (occurs leaf p ∷ map (absent leaf) (filter (λ q. not (q == p) && can_meet leaf p q) (states_of leaf))) ++ alone_if leaf p b) (is ∙ partner_is leaf p p table are l)
+    ∙ ap (λ b. (occurs leaf p ∷ map (absent leaf) (filter (λ q. not (q == p) && can_meet leaf p q) (states_of leaf))) ++ alone_if leaf p b) (is ∙ are.each p l)
 
 -- the states of a move are below the greatest number that a leaf may have
 pub move_small : (leaf : LeafModel) (t : ℕ) (taken : Move) → IsLeaf leaf → slice_get leaf.moves t ≡ Some taken → IsMoveBelow STATE_LIMIT taken

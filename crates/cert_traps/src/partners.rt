@@ -1,48 +1,38 @@
-//! The states that a state can meet, in one walk over the moves.
+//! The states that a state can meet.
 
-ghost use Rattle.std.specs.Prelude.{◌≡◌, ◌+◌, ◌<◌, ◌||◌, ℕ, false, length, replicate, slice_index_or, IfOk};
-ghost use Rattle.pop_net.specs.LeafModel.{IsLeaf};
-ghost use Rattle.pop_net.specs.Reaction.{takes};
+ghost use Rattle.std.specs.Prelude.{◌≡◌, ◌<◌, ◌||◌, ◌==◌, not, length, map, IfOk};
+ghost use Rattle.std.specs.List.{range_with_len};
+ghost use Rattle.cert_base.specs.FactsAndCases.{can_meet as can_meet_in};
 ghost use Rattle.cert_traps.specs.Partners.{ArePartners};
 
 use pop_io::NoMemory;
-use pop_net::{Leaf, Move};
+use pop_net::Leaf;
 use std::alloc::Global;
 
 /// For each state whether a move that isn't silent takes it and this state.
 pub(crate) fn partners(alloc: Global, leaf: &Leaf, state: u16) -> Result<Vec<bool>, NoMemory>
-    ensures { IfOk result (λ table. ArePartners leaf.now state (length leaf.now.moves) table.items) }
+    requires { state < length leaf.now.states }
+    ensures { IfOk result (λ table. ArePartners leaf.now state table.items) }
 {
-    let mut table = vec![in alloc; false; usize::from(leaf.state_count())]?;
-    for t in 0..leaf.move_count() {
-        enter_move(&mut table, leaf, t, state);
+    let mut table = Vec::new(alloc);
+    for q in 0..leaf.state_count() {
+        table.push(can_meet(leaf, state, q))?;
     }
     Ok(table)
 }
 
-fn enter_move(table: &mut Vec<bool>, leaf: &Leaf, t: u32, state: u16)
-    requires formed { IsLeaf leaf.now }
-    requires in_range { t < length leaf.now.moves }
-    requires table { ArePartners leaf.now state t table.old.items }
-    ensures { ArePartners leaf.now state (t + 1) table.new.items }
+/// Whether two states can meet: exactly when a reaction changes them.
+fn can_meet(leaf: &Leaf, p: u16, q: u16) -> bool
+    requires first { p < length leaf.now.states }
+    requires second { q < length leaf.now.states }
+    ensures { result ≡ can_meet_in leaf.now p q }
 {
-    enter(table, leaf.move_at(t), state);
+    let (r, s) = leaf.react(p, q);
+    is_changed(r, s, p, q)
 }
 
-fn enter(table: &mut Vec<bool>, taken: Move, state: u16)
-    requires p_in { taken.p < length table.old.items }
-    requires q_in { taken.q < length table.old.items }
-    ensures len { length table.new.items ≡ length table.old.items }
-    ensures entered { (q : ℕ) → q < length table.old.items
-        → slice_index_or table.new.items q false ≡ (slice_index_or table.old.items q false || takes state q taken) }
+fn is_changed(r: u16, s: u16, p: u16, q: u16) -> bool
+    ensures { result ≡ (not (r == p) || not (s == q)) }
 {
-    if taken.is_silent() {
-        return;
-    }
-    if taken.p == state {
-        table[usize::from(taken.q)] = true;
-    }
-    if taken.q == state {
-        table[usize::from(taken.p)] = true;
-    }
+    r != p || s != q
 }

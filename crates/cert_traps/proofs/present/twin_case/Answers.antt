@@ -5,7 +5,7 @@ use Rattle.cert_base.specs.declared.fact.Fact.{Fact}
 use Rattle.cert_base.specs.FactsAndCases.{not_twice, twin_case}
 use Rattle.cert_base.specs.Ends.{Cover}
 use Rattle.cert_traps.proofs.Covers.{twin-cover}
-use Rattle.cert_traps.proofs.Lists.{read_is, partner_is, twin_as}
+use Rattle.cert_traps.proofs.Lists.{read_is, twin_as}
 use Rattle.cert_traps.proofs.present.twin_case.Goals as goal
 
 pub returns-clause-case : goal.returns-clause-case
@@ -14,7 +14,7 @@ returns-clause-case c =
     IfOk-weaker c.twin.result
     (λ case. case ≡ (if c.index.result.now then Some (not_twice c.args.leaf.now c.args.state ∷ []) else None))
     (λ case. case ≡ twin_case c.args.leaf.now c.args.state)
-    (λ case e. e ∙ twin_as c.args.leaf.now c.args.state c.index.result.now (read_is c.in_ok-partners.partners.items c.from.result c.args.state c.index.result.now c.index.ensures c.from.ensures within ∙ partner_is c.args.leaf.now c.args.state c.args.state c.in_ok-partners.partners.items c.in_ok-partners.ensures c.requires))
+    (λ case e. e ∙ twin_as c.args.leaf.now c.args.state c.index.result.now (read_is c.in_ok-partners.partners.items c.from.result c.args.state c.index.result.now c.index.ensures c.from.ensures within ∙ c.in_ok-partners.ensures.each c.args.state c.requires))
     c.twin.ensures
 
 pub returns-clause-cover : goal.returns-clause-cover
