@@ -1,6 +1,6 @@
 -- Entries of which the touched ones are listed.
 use Rattle.std.proofs.Common.{◌≡◌, ◌≢◌, ◌⊎◌, inl, inr, ℕ, zero, suc, ◌+◌, ◌<◌, ◌≤◌, Bool, true, false, List, [], ◌∷◌, ◌++◌, length, refl, ap, sym, ◌∙◌, subst, arith}
-use Rattle.std.specs.Prelude.{ℤ, pos, ◌+ℤ◌, nat_abs, ◌^◌, ◌==◌, if◌then◌else◌, All, Contains, slice_index_or, slice_set}
+use Rattle.std.specs.Prelude.{ℤ, pos, ◌+ℤ◌, nat_abs, ◌^◌, ◌==◌, if◌then◌else◌, ◌&&◌, All, Contains, slice_index_or, slice_set}
 use Rattle.std.specs.List.{list_all}
 use Rattle.std.proofs.lemmas.Int.{ints}
 use Rattle.std.proofs.lemmas.Bool.Decides.{eqb_tells}
@@ -12,7 +12,8 @@ use Rattle.cert_base.specs.declared.fact.Row.{Row}
 use Rattle.cert_base.specs.ClosingTests.{coefficient_in, each_coefficient}
 use Rattle.cert_linear.specs.declared.sum.Entry.{Entry}
 use Rattle.cert_linear.specs.declared.sum.Sum.{Sum}
-use Rattle.cert_linear.specs.Sums.{blank, entry_at, rest_at, coefficient_of, AreTidy, AreRests, IsTidy, IsSum}
+use Rattle.cert_linear.specs.Sums.{blank, entry_at, rest_at, coefficient_of, AreTidy, AreRests, IsTidy, IsSum, AreSum}
+use Rattle.pop_net.proofs.Reactions.{and_left, and_right}
 use Rattle.cert_linear.proofs.RowValues.{each_coefficient-at}
 use Rattle.cert_linear.proofs.Coefficients.{size-add}
 
@@ -280,3 +281,34 @@ each-touched test row sum is tidy zero_passes =
     passes : (q : ℕ) → list_all (λ q. test (coefficient_of sum q)) sum.touched.items ≡ true → (b : Bool) → (entry_at sum.entries.items q).touched ≡ b → test (coefficient_of sum q) ≡ true
     passes q e false f = ap test (untouched-zero sum q tidy f) ∙ zero_passes
     passes q e true f = found q e (tidy.0.listed q f)
+
+-- the touched entries of two sums pass a test that 0 passes exactly when the coefficients of their row do
+pub each-touched-both : (test : ℤ → Bool) (row : Row) (sum other : Sum) → AreSum row sum other → IsTidy sum → IsTidy other → test (pos 0) ≡ true → (list_all (λ q. test (coefficient_of sum q +ℤ coefficient_of other q)) sum.touched.items && list_all (λ q. test (coefficient_of other q +ℤ coefficient_of sum q)) other.touched.items) ≡ each_coefficient test row
+each-touched-both test row sum other are tidy other_tidy zero_passes =
+    both_ways _ _
+    (λ e. list_all-from_AllPass (λ t. test (coefficient_in row.terms t.at)) row.terms (λ k d l. let at = (slice_index_or row.terms k d).at in ap test (sym (are.terms at)) ∙ passes at (and_left _ _ e) (and_right _ _ e) (entry_at sum.entries.items at).touched (entry_at other.entries.items at).touched refl refl))
+    (λ e. both_true _ _ (list_all-from_AllPass first sum.touched.items (λ k d l. let at = slice_index_or sum.touched.items k d in ap test (are.terms at) ∙ each_coefficient-at test row at zero_passes e)) (list_all-from_AllPass second other.touched.items (λ k d l. let at = slice_index_or other.touched.items k d in ap test (swapped at ∙ are.terms at) ∙ each_coefficient-at test row at zero_passes e)))
+  where
+    first : ℕ → Bool
+    first q = test (coefficient_of sum q +ℤ coefficient_of other q)
+
+    second : ℕ → Bool
+    second q = test (coefficient_of other q +ℤ coefficient_of sum q)
+
+    swapped : (q : ℕ) → (coefficient_of other q +ℤ coefficient_of sum q) ≡ (coefficient_of sum q +ℤ coefficient_of other q)
+    swapped q = omega (arith, ints)
+
+    both_true : (a b : Bool) → a ≡ true → b ≡ true → (a && b) ≡ true
+    both_true a b e f = rw (e, f) refl
+
+    found : (f : ℕ → Bool) (touched : List ℕ) (q : ℕ) → list_all f touched ≡ true → Contains touched q → f q ≡ true
+    found f touched q e (k, l, is) = ap f (sym is) ∙ AllPass-from_list_all f touched e k q l
+
+    passes : (q : ℕ) → list_all first sum.touched.items ≡ true → list_all second other.touched.items ≡ true → (b c : Bool) → (entry_at sum.entries.items q).touched ≡ b → (entry_at other.entries.items q).touched ≡ c → first q ≡ true
+    passes q e f true c g h = found first sum.touched.items q e (tidy.0.listed q g)
+    passes q e f false true g h = ap test (sym (swapped q)) ∙ found second other.touched.items q f (other_tidy.0.listed q h)
+    passes q e f false false g h =
+        let a = untouched-zero sum q tidy g in
+        let b = untouched-zero other q other_tidy h in
+        let zero : (coefficient_of sum q +ℤ coefficient_of other q) ≡ pos 0 = omega (arith, ints, a, b) in
+        ap test zero ∙ zero_passes

@@ -5,3 +5,4 @@ pub mod Multiples
 pub mod Entries
 pub mod Named
 pub mod Refuted
+pub mod Parts

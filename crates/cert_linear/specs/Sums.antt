@@ -41,6 +41,11 @@ pub record IsSum (row : Row) (sum : Sum) : Type 0 where
   pub terms : (variable : ℕ) → coefficient_of sum variable ≡ coefficient_in row.terms variable
   pub constant : sum.constant ≡ row.constant
 
+-- both sums together have the coefficients and the constant of the row
+pub record AreSum (row : Row) (sum other : Sum) : Type 0 where
+  pub terms : (variable : ℕ) → (coefficient_of sum variable +ℤ coefficient_of other variable) ≡ coefficient_in row.terms variable
+  pub constant : (sum.constant +ℤ other.constant) ≡ row.constant
+
 -- the second sum is the first plus the row
 pub record IsPlus (row : Row) (sum more : Sum) : Type 0 where
   pub terms : (variable : ℕ) → coefficient_of more variable ≡ (coefficient_of sum variable +ℤ coefficient_in row.terms variable)

@@ -9,6 +9,7 @@ ghost use Rattle.cert_linear.specs.Conditions.{AreAscending, IsOrdered, AreMulti
 ghost use Rattle.cert_linear.specs.Sums.{may_by, SumsUp, IsTidy, IsSum, IsSame, IsWithin};
 
 use crate::sum::Sum;
+use crate::tally::Tally;
 use cert_base::{Fact, Row, Term};
 use pop_io::{List, NoMemory};
 use std::alloc::Global;
@@ -26,7 +27,7 @@ pub fn linear_closes(
     ensures closes { IfOk result (λ closes. closes ≡ closes_by_sum facts.now terms.now) }
     ensures refutes { IfOk result (λ closes. IsTrue closes → AreRefuted facts.now) }
 {
-    linear(&mut Sum::new(alloc), facts.as_slice(), terms.as_slice())
+    Tally::new(alloc).closes(facts.as_slice(), 0, terms.as_slice())
 }
 
 /// Whether the sum of the named facts, each times its multiplier, is no multiple of the modulus by its constant alone or by
@@ -50,19 +51,6 @@ pub fn residue_closes(
         modulus,
         terms.as_slice(),
     )
-}
-
-/// The same over a sum that is used again.
-pub(crate) fn linear(sum: &mut Sum, facts: &[Fact], terms: &[Term]) -> Result<bool, NoMemory>
-    requires tidy { IsTidy sum.old }
-    requires named { AreNamed (length facts.now) terms.now }
-    requires multipliers { AreMultipliers terms.now }
-    requires ordered { All IsOrdered facts.now }
-    ensures closes { IfOk result (λ closes. closes ≡ closes_by_sum facts.now terms.now) }
-    ensures tidy { IsTidy sum.new }
-{
-    let may_add = sum_up(sum, facts, terms, None)?;
-    Ok(may_add && sum.is_negative())
 }
 
 /// The same over a sum that is used again.
@@ -90,7 +78,7 @@ pub(crate) fn residue(
 }
 
 /// Makes the sum that of the named facts, unless one may not have its multiplier.
-fn sum_up(
+pub(crate) fn sum_up(
     sum: &mut Sum,
     facts: &[Fact],
     terms: &[Term],

@@ -5,6 +5,7 @@
 
 mod closing;
 mod sum;
+mod tally;
 mod trail;
 
 pub use closing::{linear_closes, residue_closes};

@@ -6,7 +6,7 @@ ghost use Rattle.pres_ast.specs.PredicateValue.{divides as is_multiple};
 ghost use Rattle.cert_base.specs.declared.fact.Row.{Row};
 ghost use Rattle.cert_base.specs.ClosingTests.{times, no_row, each_coefficient, vanishes as is_zero};
 ghost use Rattle.cert_linear.specs.Conditions.{AreAscending};
-ghost use Rattle.cert_linear.specs.Sums.{coefficient_of, entry_at, rest_at, IsTidy, IsSum, IsPlus, IsWithin};
+ghost use Rattle.cert_linear.specs.Sums.{coefficient_of, entry_at, rest_at, IsTidy, IsSum, AreSum, IsPlus, IsWithin};
 
 use cert_base::{Row, SIZE_LIMIT};
 use pop_io::NoMemory;
@@ -216,25 +216,50 @@ impl Sum {
         }
     }
 
-    /// Whether the sum is below 0 at all counts: no coefficient is above 0, and the constant is below 0.
-    pub(crate) fn is_negative(&self) -> bool
-        requires { IsTidy self.now }
-        ensures { (row : Row) → IsSum row self.now → result ≡ (each_coefficient (λ a. int_le a (pos 0)) row && int_le row.constant (negsuc 0)) }
+    /// The coefficient of a variable in both sums together.
+    fn coefficient_with(&self, other: &Sum, variable: u32) -> i128
+        requires own { IsTidy self.now × IsWithin (2 ^ 119) self.now }
+        requires other { IsTidy other.now × IsWithin (2 ^ 119) other.now }
+        ensures { result ≡ (coefficient_of self.now variable +ℤ coefficient_of other.now variable) }
     {
-        self.has_negative_constant() && self.has_no_positive()
+        self.coefficient(variable) + other.coefficient(variable)
     }
 
-    fn has_negative_constant(&self) -> bool
-        ensures { result ≡ int_le self.now.constant (negsuc 0) }
+    /// Whether both sums together are below 0 at all counts: no coefficient is above 0, and the constant is below 0.
+    pub(crate) fn is_negative_with(&self, other: &Sum) -> bool
+        requires own { IsTidy self.now × IsWithin (2 ^ 119) self.now }
+        requires other { IsTidy other.now × IsWithin (2 ^ 119) other.now }
+        ensures { (row : Row) → AreSum row self.now other.now → result ≡ (each_coefficient (λ a. int_le a (pos 0)) row && int_le row.constant (negsuc 0)) }
     {
-        self.constant < 0
+        self.has_negative_constant_with(other) && self.have_no_positive(other)
     }
 
-    fn has_no_positive(&self) -> bool
-        requires { IsTidy self.now }
-        ensures { result ≡ list_all (λ q. int_le (coefficient_of self.now q) (pos 0)) self.now.touched.items }
+    fn have_no_positive(&self, other: &Sum) -> bool
+        requires own { IsTidy self.now × IsWithin (2 ^ 119) self.now }
+        requires other { IsTidy other.now × IsWithin (2 ^ 119) other.now }
+        ensures { result ≡ (list_all (λ q. int_le (coefficient_of self.now q +ℤ coefficient_of other.now q) (pos 0)) self.now.touched.items
+            && list_all (λ q. int_le (coefficient_of other.now q +ℤ coefficient_of self.now q) (pos 0)) other.now.touched.items) }
     {
-        self.touched.iter().all(|q| self.coefficient(*q) <= 0)
+        self.has_no_positive_with(other) && other.has_no_positive_with(self)
+    }
+
+    fn has_negative_constant_with(&self, other: &Sum) -> bool
+        requires own { IsWithin (2 ^ 119) self.now }
+        requires other { IsWithin (2 ^ 119) other.now }
+        ensures { result ≡ int_le (self.now.constant +ℤ other.now.constant) (negsuc 0) }
+    {
+        self.constant + other.constant < 0
+    }
+
+    /// Whether no variable that is touched here has a coefficient above 0 in both sums together.
+    fn has_no_positive_with(&self, other: &Sum) -> bool
+        requires own { IsTidy self.now × IsWithin (2 ^ 119) self.now }
+        requires other { IsTidy other.now × IsWithin (2 ^ 119) other.now }
+        ensures { result ≡ list_all (λ q. int_le (coefficient_of self.now q +ℤ coefficient_of other.now q) (pos 0)) self.now.touched.items }
+    {
+        self.touched
+            .iter()
+            .all(|q| self.coefficient_with(other, *q) <= 0)
     }
 
     /// Whether all coefficients and the constant are multiples of the modulus.

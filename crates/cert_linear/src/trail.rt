@@ -2,8 +2,8 @@
 
 ghost use Rattle.std.specs.Prelude.{◌≡◌, ◌≤◌, length};
 
-use crate::closing::{linear, residue};
-use crate::sum::Sum;
+use crate::closing::residue;
+use crate::tally::Tally;
 use cert_base::{FACT_LIMIT, Fact, Term};
 use pop_io::{List, NoMemory};
 use std::alloc::Global;
@@ -13,8 +13,10 @@ use std::marker::Model;
 #[derive(Drop)]
 pub struct Trail {
     facts: Vec<Fact>,
+    /// The facts below this number were there from the begin.
+    stable: u32,
     /// Used again for each sum of facts.
-    sum: Sum,
+    tally: Tally,
 }
 
 impl Model for Trail {
@@ -23,7 +25,7 @@ impl Model for Trail {
     ghost use Rattle.cert_base.specs.contracts.fact.Fact as fact;
     ghost use Rattle.std.specs.Coded.{coded_list};
     ghost use Rattle.cert_base.specs.declared.limits.TheConstants.{FACT_LIMIT};
-    ghost use Rattle.cert_linear.specs.Sums.{IsTidy};
+    ghost use Rattle.cert_linear.specs.Kept.{IsKept};
 
     ghost Value = { Items Fact };
 
@@ -31,7 +33,7 @@ impl Model for Trail {
 
     ghost view = { λ t. t.facts.items };
 
-    ghost invariant = { λ t. (length t.facts.items ≤ FACT_LIMIT) × IsTidy t.sum };
+    ghost invariant = { λ t. (length t.facts.items ≤ FACT_LIMIT) × (t.stable ≤ length t.facts.items) × IsKept t.stable t.facts.items t.tally };
 }
 
 impl Trail {
@@ -46,8 +48,9 @@ impl Trail {
         ensures { result ≡ facts }
     {
         Trail {
+            stable: facts.as_slice().len() as u32,
             facts: facts.into_vec(),
-            sum: Sum::new(alloc),
+            tally: Tally::new(alloc),
         }
     }
 
@@ -85,6 +88,7 @@ impl Trail {
         requires { len ≤ length self.old }
         ensures { self.new ≡ take len self.old }
     {
+        self.stable = self.tally.lower(self.stable, len);
         self.facts.truncate(len as usize);
     }
 
@@ -97,7 +101,8 @@ impl Trail {
         ensures refutes { IfOk result (λ closes. IsTrue closes → AreRefuted self.old) }
         ensures unchanged { self.new ≡ self.old }
     {
-        linear(&mut self.sum, self.facts.as_slice(), terms.as_slice())
+        self.tally
+            .closes(self.facts.as_slice(), self.stable, terms.as_slice())
     }
 
     /// Whether the facts are refuted as by `residue_closes`.
@@ -111,7 +116,7 @@ impl Trail {
         ensures unchanged { self.new ≡ self.old }
     {
         residue(
-            &mut self.sum,
+            &mut self.tally.rest,
             self.facts.as_slice(),
             modulus,
             terms.as_slice(),

@@ -6,5 +6,5 @@ use Rattle.cert_linear.proofs.trail.Trail.linear.Goals as goal
 
 pub returns-clause-refutes : goal.returns-clause-refutes
 returns-clause-refutes c =
-    let closes : IfOk c.linear.result (λ closes. closes ≡ linear_closes c.args.self.now c.args.terms.now) = search rules in
-    linear-refuted c.args.self.now c.args.terms.now c.linear.result closes
+    let closes : IfOk c.closes.result (λ closes. closes ≡ linear_closes c.args.self.now c.args.terms.now) = search rules in
+    linear-refuted c.args.self.now c.args.terms.now c.closes.result closes

@@ -1,0 +1,4 @@
+use Rattle.cert_linear.proofs.tally.Tally.lower.Goals as goal
+
+pub returns-clause-kept : goal.returns-clause-kept
+returns-clause-kept c = λ facts is. c.forget.ensures.kept c.args.len facts
