@@ -7,3 +7,5 @@
 mod fields;
 #[cfg(test)]
 mod runs;
+#[cfg(test)]
+mod watched;

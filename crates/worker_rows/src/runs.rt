@@ -175,7 +175,7 @@ fn same_words(one: &Crowd, other: &Crowd) -> bool {
 }
 
 /// Whether the rounds of a run lead from one crowd to the other.
-fn leads(net: &Net, start: Crowd, rounds: &[List<Meeting>], end: &Crowd) -> bool
+pub(crate) fn leads(net: &Net, start: Crowd, rounds: &[List<Meeting>], end: &Crowd) -> bool
     requires { AreValid net.now start }
 {
     let mut crowd = start;
@@ -188,7 +188,7 @@ fn leads(net: &Net, start: Crowd, rounds: &[List<Meeting>], end: &Crowd) -> bool
 }
 
 /// A crowd of 120 agents of the first variable and 80 of the second.
-fn two_hundred(alloc: Global, net: &Net) -> Option<Crowd>
+pub(crate) fn two_hundred(alloc: Global, net: &Net) -> Option<Crowd>
     requires { length net.now.variables ≡ 2 }
     ensures { IfSome result (AreValid net.now) }
 {

@@ -1,0 +1,5 @@
+pub mod Seating
+pub mod Renumbered
+pub mod Parts
+pub mod MoreMeetings
+pub mod WatchedRounds

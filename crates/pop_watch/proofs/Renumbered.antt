@@ -1,0 +1,75 @@
+-- The meetings of seats as those of workers: nothing changes but their numbers.
+use Rattle.std.proofs.Common.{◌≡◌, ℕ, ◌+◌, ◌-◌, ◌<◌, ◌≤◌, Bool, true, false, cond, eqb, eq-eqb, List, [], ◌∷◌, map, refl, sym, ap, ◌∙◌, arith, ⊎_elim}
+use Rattle.std.specs.Prelude.{All}
+use Rattle.std.proofs.lemmas.Bool.{cases_eq, ne_eqb, eqb-false}
+use Rattle.std.proofs.lemmas.List.Elements.{All-head, All-tail, All-nil, All-cons}
+use Rattle.pop_net.specs.NetModel.{NetModel, CrowdModel}
+use Rattle.pop_net.specs.Reaction.{after_meeting}
+use Rattle.pop_crowd.specs.declared.crowd.Meeting.{Meeting}
+use Rattle.pop_crowd.specs.Replay.{replay, AreMarked}
+use Rattle.agent_field.specs.declared.view.Logged.{Logged}
+use Rattle.agent_field.specs.History.{calls_from, logged, listed_if}
+use Rattle.pair_workers.specs.Run.{meetings_of, pairs}
+use Rattle.pair_workers.specs.Work.{pairs_of}
+use Rattle.pop_watch.specs.Playing.{of_worker}
+
+abbrev pub IsOfWorker : Meeting → Type 0
+IsOfWorker m = 1 ≤ m.worker
+
+pairs_if : (b : Bool) (m : Meeting) (t : ℕ) (es : List Logged) (ms : List Meeting) → pairs ms ≡ pairs_of es → pairs (cond b (m ∷ ms) ms) ≡ pairs_of (listed_if b (logged t m.a m.b m.changed) es)
+pairs_if true m t es ms h = ap (λ (ps : List (ℕ × ℕ)). (m.a, m.b) ∷ ps) h
+pairs_if false m t es ms h = h
+
+-- a number's meetings have the pairs of its log
+pub pairs_called : (w t : ℕ) (ms : List Meeting) → pairs (meetings_of w ms) ≡ pairs_of (calls_from w t ms)
+pairs_called w t [] = refl
+pairs_called w t (m ∷ ms) = pairs_if (eqb m.worker w) m t (calls_from w (t + 1) ms) (meetings_of w ms) (pairs_called w (t + 1) ms)
+
+none_if : (b : Bool) (e : Logged) (es : List Logged) → listed_if b e es ≡ [] → (b ≡ false) × (es ≡ [])
+none_if true e es h = cc
+none_if false e es h = (refl, h)
+
+-- where number 0 has made no meeting, all meetings are of workers
+pub all_of_workers : (t : ℕ) (ms : List Meeting) → calls_from 0 t ms ≡ [] → All IsOfWorker ms
+all_of_workers t [] h = All-nil IsOfWorker
+all_of_workers t (m ∷ ms) h =
+    let none = none_if (eqb m.worker 0) (logged t m.a m.b m.changed) (calls_from 0 (t + 1) ms) h in
+    let apart = eqb-false m.worker 0 none.0 in
+    let some : 1 ≤ m.worker = omega (arith, apart) in
+    All-cons IsOfWorker m ms some (all_of_workers (t + 1) ms none.1)
+
+same_test : (k w : ℕ) → 1 ≤ k → eqb (k - 1) w ≡ eqb k (w + 1)
+same_test k w some =
+    ⊎_elim
+    (λ (e : k - 1 ≡ w). eq-eqb (k - 1) w e ∙ sym (eq-eqb k (w + 1) (omega (arith, e, some))))
+    (λ (n : k - 1 ≡ w → ⊥). let apart : k ≡ w + 1 → ⊥ = (λ e. n (omega (arith, e))) in ne_eqb (k - 1) w n ∙ sym (ne_eqb k (w + 1) apart))
+    (cases_eq (k - 1) w)
+
+pairs_alike : (b : Bool) (m : Meeting) (xs ys : List Meeting) → pairs xs ≡ pairs ys → pairs (cond b (of_worker m ∷ xs) xs) ≡ pairs (cond b (m ∷ ys) ys)
+pairs_alike true m xs ys h = ap (λ (ps : List (ℕ × ℕ)). (m.a, m.b) ∷ ps) h
+pairs_alike false m xs ys h = h
+
+-- the pairs of a worker are those of its seat
+pub pairs_of_worker : (w : ℕ) (ms : List Meeting) → All IsOfWorker ms → pairs (meetings_of w (map of_worker ms)) ≡ pairs (meetings_of (w + 1) ms)
+pairs_of_worker w [] h = refl
+pairs_of_worker w (m ∷ ms) h =
+    let xs = meetings_of w (map of_worker ms) in
+    let ys = meetings_of (w + 1) ms in
+    ap (λ (b : Bool). pairs (cond b (of_worker m ∷ xs) xs)) (same_test m.worker w (All-head IsOfWorker m ms h))
+    ∙ pairs_alike (eqb m.worker (w + 1)) m xs ys (pairs_of_worker w ms (All-tail IsOfWorker m ms h))
+
+pub replay_of_workers : (net : NetModel) (ms : List Meeting) (crowd : CrowdModel) → replay net (map of_worker ms) crowd ≡ replay net ms crowd
+replay_of_workers net [] crowd = refl
+replay_of_workers net (m ∷ ms) crowd = replay_of_workers net ms (after_meeting net m.a m.b crowd)
+
+pub marked_of_workers : (net : NetModel) (ms : List Meeting) (crowd : CrowdModel) → AreMarked net ms crowd → AreMarked net (map of_worker ms) crowd
+marked_of_workers net [] crowd h = h
+marked_of_workers net (m ∷ ms) crowd h = (h.0, marked_of_workers net ms (after_meeting net m.a m.b crowd) h.1)
+
+-- the numbers of workers are one less than those of their seats
+pub numbers_of_workers : (workers seats : ℕ) (ms : List Meeting) → seats ≡ workers + 1 → All IsOfWorker ms → All (λ (m : Meeting). m.worker < seats) ms → All (λ (m : Meeting). m.worker < workers) (map of_worker ms)
+numbers_of_workers workers seats [] one some h = All-nil (λ (m : Meeting). m.worker < workers)
+numbers_of_workers workers seats (m ∷ ms) one some h =
+    let first : m.worker - 1 < workers = omega (arith, one, All-head IsOfWorker m ms some, All-head (λ (m : Meeting). m.worker < seats) m ms h) in
+    All-cons (λ (m : Meeting). m.worker < workers) (of_worker m) (map of_worker ms) first
+    (numbers_of_workers workers seats ms one (All-tail IsOfWorker m ms some) (All-tail (λ (m : Meeting). m.worker < seats) m ms h))

@@ -1,0 +1,169 @@
+-- Rounds of a watched run, one after the other, and its last round.
+use Rattle.std.proofs.Common.{◌≡◌, ◌⊎◌, inl, inr, ℕ, suc, ◌+◌, ◌-◌, ◌*◌, ◌<◌, ◌≤◌, ◌==◌, min, List, [], ◌∷◌, ◌++◌, length, get_or, take, refl, ap, sym, subst, ◌∙◌, arith}
+use Rattle.std.specs.Prelude.{Some, slice_get}
+use Rattle.std.proofs.lemmas.Bool.{cases_lt}
+use Rattle.std.proofs.Math.Nat.{min-eq_left, le-min}
+use Rattle.std.proofs.lemmas.List.{append-nil, length-append, map-append, take_all, take-append-le}
+use Rattle.std.proofs.lemmas.List.Elements.{filter-append}
+use Rattle.pop_net.specs.NetModel.{NetModel, CrowdModel}
+use Rattle.pop_net.specs.Step.{Step}
+use Rattle.pop_net.specs.Terminal.{IsTerminal}
+use Rattle.pop_crowd.specs.declared.crowd.Meeting.{Meeting}
+use Rattle.pop_crowd.specs.Replay.{replay, AreMarked}
+use Rattle.pop_crowd.proofs.InARow.{replay_append}
+use Rattle.agent_field.proofs.Histories.{length-replay}
+use Rattle.pop_words.specs.declared.spec.RunSpec.{RunSpec}
+use Rattle.pair_workers.specs.Picks.{picks, first_state}
+use Rattle.pair_workers.specs.Run.{IsRun, IsRound, joined, pairs, meetings_of, turns_in}
+use Rattle.pair_workers.specs.Turns.{HasPicked, ArePlayed}
+use Rattle.pair_workers.proofs.Played.{marked_append}
+use Rattle.pair_workers.proofs.Rounds.{get_pushed, joined_push}
+use Rattle.pair_workers.proofs.Turns.{picked_on}
+use Rattle.pair_workers.proofs.ManyRounds.{AreOnTheRun, all_more_rounds, all_run_over}
+use Rattle.pop_watch.specs.WatchedRun.{IsWatchedRound, IsWatchedRun, AreSpent}
+use Rattle.pop_watch.specs.Playing.{ArePlaying, AreAllMade, made_by}
+
+-- the turns of a round and those behind it
+turns_on : (turns k : ℕ) → min 4096 (turns - 4096 * k) + (turns - 4096 * (k + 1)) ≡ turns - 4096 * k
+turns_on turns k = by_size (cases_lt (turns - 4096 * k) 4096)
+  where
+    by_size : (turns - 4096 * k < 4096) ⊎ (4096 ≤ turns - 4096 * k) → min 4096 (turns - 4096 * k) + (turns - 4096 * (k + 1)) ≡ turns - 4096 * k
+    by_size (inl l) =
+        let left = turns - 4096 * k in
+        let most : min 4096 left ≤ left = omega arith in
+        let all : left ≤ min 4096 left = (let m : left ≤ 4096 = omega (arith, l) in let n : left ≤ left = omega arith in le-min m n) in
+        omega (arith, l, most, all)
+    by_size (inr l) = let all = min-eq_left l in omega (arith, l, all)
+
+module _ (spec : RunSpec) (w : ℕ) (within : w < spec.workers) where
+  -- whole rounds from round k on make the turns that are left
+  all_turns : (rounds : List (List Meeting)) (k : ℕ) → ((i : ℕ) (r : List Meeting) → slice_get rounds i ≡ Some r → IsRound spec (k + i + 1) r) → spec.turns ≤ 4096 * (k + length rounds) → made_by w (joined rounds) ≡ spec.turns - 4096 * k
+  all_turns [] k each over = omega (arith, over)
+  all_turns (r ∷ rounds) k each over =
+      let first : made_by w r ≡ min 4096 (spec.turns - 4096 * k) = (each 0 r refl).each_worker w within ∙ ap (λ (n : ℕ). min 4096 (spec.turns - 4096 * n)) (let e : k + 0 + 1 - 1 ≡ k = omega arith in e) in
+      let rest = all_turns rounds (k + 1) (λ i s h. subst (λ n. IsRound spec n s) (let e : k + suc i + 1 ≡ k + 1 + i + 1 = omega arith in e) (each (suc i) s h)) (omega (arith, over)) in
+      ap length (filter-append (λ (m : Meeting). m.worker == w) r (joined rounds))
+      ∙ length-append (meetings_of w r) (meetings_of w (joined rounds))
+      ∙ ap (λ (n : ℕ). n + made_by w (joined rounds)) first
+      ∙ ap (λ (n : ℕ). min 4096 (spec.turns - 4096 * k) + n) rest
+      ∙ turns_on spec.turns k
+
+watched_round : (spec : RunSpec) (k : ℕ) (meetings : List Meeting) → IsRound spec k meetings → IsWatchedRound spec k meetings
+watched_round spec k meetings r =
+    record {
+      some_turn = r.some_turn;
+      each_worker = λ w l. let e = r.each_worker w l in omega (arith, e);
+      nobody_else = r.nobody_else;
+    }
+
+-- a run by whole rounds is a watched run
+pub whole_is_watched : (net : NetModel) (start : CrowdModel) (spec : RunSpec) (rounds : List (List Meeting)) (end : CrowdModel) → IsRun net start spec rounds end → IsWatchedRun net start spec rounds end
+whole_is_watched net start spec rounds end run =
+    record {
+      each_round = λ k meetings h. watched_round spec (k + 1) meetings (run.each_round k meetings h);
+      whole = λ k meetings l h. run.each_round k meetings h;
+      picked = run.picked;
+      marked = run.marked;
+      replays = run.replays;
+      goes_on = run.goes_on;
+      over = over run.over;
+    }
+  where
+    over : IsTerminal (Step net) end ⊎ (spec.turns ≤ 4096 * length rounds) → IsTerminal (Step net) end ⊎ AreSpent spec rounds
+    over (inl t) = inl t
+    over (inr l) =
+        inr
+        (λ w within.
+        all_turns spec w within rounds 0 (λ i r h. subst (λ n. IsRound spec n r) (let e : i + 1 ≡ 0 + i + 1 = omega arith in e) (run.each_round i r h)) (omega (arith, l))
+        ∙ omega arith)
+
+-- the run goes on, or it is over in a terminal crowd
+abbrev pub IsOnTheWay : NetModel → CrowdModel → RunSpec → List (List Meeting) → CrowdModel → List (List ℕ) → ℕ → Type 0
+IsOnTheWay net start spec rounds crowd pickers left =
+    AreOnTheRun net start spec rounds crowd pickers left ⊎ (IsWatchedRun net start spec rounds crowd × IsTerminal (Step net) crowd)
+
+module _ (net : NetModel) (start : CrowdModel) (spec : RunSpec) (rounds : List (List Meeting)) (crowd : CrowdModel) (pickers : List (List ℕ)) (left : ℕ) where
+  module _ (end : CrowdModel) (after : List (List ℕ)) (round : List Meeting) (p : ArePlaying net crowd spec.workers pickers after round end) where
+    -- a whole round
+    all_played : AreAllMade spec.workers (min 4096 left) round → ArePlayed net crowd spec.workers (min 4096 left) pickers after round end
+    all_played all = record {
+      marked = p.marked;
+      replays = p.replays;
+      picked = λ w d l. subst (λ (n : ℕ). HasPicked (length crowd) n (get_or pickers w d) (get_or after w d) (pairs (meetings_of w round))) (all w l) (p.picked w d l);
+      nobody_else = p.nobody_else;
+    }
+
+    module _ (h : AreOnTheRun net start spec rounds crowd pickers left) (some : 1 ≤ left) (goes : IsTerminal (Step net) crowd → ⊥) (few : (w : ℕ) → w < spec.workers → made_by w round ≤ min 4096 left) where
+      next_turns : turns_in spec (length rounds + 1) ≡ min 4096 left
+      next_turns = ap (λ n. min 4096 n) (let e : spec.turns - 4096 * (length rounds + 1 - 1) ≡ left = omega (arith, h.unspent) in e)
+
+      as_many : length crowd ≡ length start
+      as_many = ap length (sym h.replays) ∙ length-replay net (joined rounds) start
+
+      last_round : IsWatchedRound spec (length rounds + 1) round
+      last_round = record {
+        some_turn = subst (λ n. 1 ≤ n) (sym next_turns) (let four : 1 ≤ 4096 = omega arith in le-min four some);
+        each_worker = λ w l. subst (λ n. made_by w round ≤ n) (sym next_turns) (few w l);
+        nobody_else = p.nobody_else;
+      }
+
+      all_of : (w : ℕ) → meetings_of w (joined (rounds ++ round ∷ [])) ≡ meetings_of w (joined rounds) ++ meetings_of w round
+      all_of w = ap (meetings_of w) (joined_push rounds round) ∙ filter-append (λ (m : Meeting). m.worker == w) (joined rounds) round
+
+      more_picked : (w : ℕ) → w < spec.workers → pairs (meetings_of w (joined rounds) ++ meetings_of w round) ≡ picks spec.seed w (length start) (length (meetings_of w (joined rounds) ++ meetings_of w round))
+      more_picked w l =
+          let xs = meetings_of w (joined rounds) in
+          let ys = meetings_of w round in
+          let next = subst (λ (n : ℕ). HasPicked n (length ys) (get_or pickers w []) (get_or after w []) (pairs ys)) as_many (p.picked w [] l) in
+          let both = picked_on (length start) (length xs) (length ys) (first_state spec.seed w) (get_or pickers w []) (get_or after w []) (pairs xs) (pairs ys) (h.picked w [] l) next in
+          map-append (λ (m : Meeting). (m.a, m.b)) xs ys
+          ∙ sym (append-nil (pairs xs ++ pairs ys))
+          ∙ sym (both.picked 0)
+          ∙ ap (λ n. picks spec.seed w (length start) n) (let e : length xs + length ys + 0 ≡ length (xs ++ ys) = omega (arith, length-append xs ys) in e)
+
+      -- a last round that may lack meetings, since its crowd is terminal
+      pub stopped_run : IsTerminal (Step net) end → IsWatchedRun net start spec (rounds ++ round ∷ []) end
+      stopped_run terminal =
+          record {
+            each_round = λ k meetings e. each_case k meetings (get_pushed rounds round meetings k e);
+            whole = λ k meetings l e. whole_case k meetings (omega (arith, l, length-append rounds (round ∷ []))) (get_pushed rounds round meetings k e);
+            picked = λ w l. subst (λ (ms : List Meeting). pairs ms ≡ picks spec.seed w (length start) (length ms)) (sym (all_of w)) (more_picked w l);
+            marked = subst (λ (ms : List Meeting). AreMarked net ms start) (sym (joined_push rounds round)) (marked_append net (joined rounds) round start h.marked (subst (AreMarked net round) (sym h.replays) p.marked));
+            replays = ap (λ (ms : List Meeting). replay net ms start) (joined_push rounds round) ∙ replay_append net (joined rounds) round start ∙ ap (replay net round) h.replays ∙ p.replays;
+            goes_on = λ k b t. goes_case k (cases_lt k (length rounds)) (omega (arith, b, length-append rounds (round ∷ []))) t;
+            over = inl terminal;
+          }
+        where
+          each_case : (k : ℕ) (meetings : List Meeting) → (slice_get rounds k ≡ Some meetings) ⊎ ((k ≡ length rounds) × (round ≡ meetings)) → IsWatchedRound spec (k + 1) meetings
+          each_case k meetings (inl e) = watched_round spec (k + 1) meetings (h.each k meetings e)
+          each_case k meetings (inr e) = rw (e.0, ← e.1) last_round
+
+          whole_case : (k : ℕ) (meetings : List Meeting) → k < length rounds → (slice_get rounds k ≡ Some meetings) ⊎ ((k ≡ length rounds) × (round ≡ meetings)) → IsRound spec (k + 1) meetings
+          whole_case k meetings l (inl e) = h.each k meetings e
+          whole_case k meetings l (inr e) = absurd (omega (arith, l, e.0))
+
+          goes_case : (k : ℕ) → (k < length rounds) ⊎ (length rounds ≤ k) → k < length rounds + 1 → IsTerminal (Step net) (replay net (joined (take k (rounds ++ round ∷ []))) start) → ⊥
+          goes_case k (inl b) c t = h.goes_on k b (subst (λ (rs : List (List Meeting)). IsTerminal (Step net) (replay net (joined rs) start)) (take-append-le k rounds (round ∷ []) (omega (arith, b))) t)
+          goes_case k (inr b) c t =
+              let all : take k (rounds ++ round ∷ []) ≡ rounds = take-append-le k rounds (round ∷ []) (omega (arith, c)) ∙ take_all k rounds b in
+              goes (subst (IsTerminal (Step net)) (ap (λ (rs : List (List Meeting)). replay net (joined rs) start) all ∙ h.replays) t)
+
+    -- one more round of a run that goes on
+    pub one_round_more : IsOnTheWay net start spec rounds crowd pickers left → 1 ≤ left → (IsTerminal (Step net) crowd → ⊥) → ((w : ℕ) → w < spec.workers → made_by w round ≤ min 4096 left)
+        → AreAllMade spec.workers (min 4096 left) round ⊎ IsTerminal (Step net) end → IsOnTheWay net start spec (rounds ++ round ∷ []) end after (left - min 4096 left)
+    one_round_more (inr over) some goes few ends = absurd (goes over.1)
+    one_round_more (inl on) some goes few (inl all) = inl (all_more_rounds net start spec rounds crowd pickers left on end after round (all_played all) some goes)
+    one_round_more (inl on) some goes few (inr t) = inr (stopped_run on some goes few t, t)
+
+  pub ended : IsOnTheWay net start spec rounds crowd pickers left → IsTerminal (Step net) crowd → IsWatchedRun net start spec rounds crowd
+  ended (inl on) t = whole_is_watched net start spec rounds crowd (all_run_over net start spec rounds crowd pickers left on (inl t))
+  ended (inr over) t = over.0
+
+  pub used_up : IsOnTheWay net start spec rounds crowd pickers left → left ≡ 0 → (IsTerminal (Step net) crowd → ⊥) → IsWatchedRun net start spec rounds crowd × AreSpent spec rounds
+  used_up (inl on) none goes =
+      let run = whole_is_watched net start spec rounds crowd (all_run_over net start spec rounds crowd pickers left on (inr none)) in (run, spent run.over)
+    where
+      spent : IsTerminal (Step net) crowd ⊎ AreSpent spec rounds → AreSpent spec rounds
+      spent (inl t) = absurd (goes t)
+      spent (inr s) = s
+  used_up (inr over) none goes = absurd (goes over.1)

@@ -1,0 +1,5 @@
+use Rattle.pop_watch.proofs.WatchedRounds.{whole_is_watched}
+use Rattle.pop_watch.proofs.laws.whole_runs_are_watched.Goals as goal
+
+pub returns : goal.returns
+returns c = whole_is_watched

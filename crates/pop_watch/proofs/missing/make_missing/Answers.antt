@@ -1,0 +1,41 @@
+use Rattle.std.proofs.Common.{◌≡◌, ℕ, ◌+◌, ◌-◌, ◌<◌, ◌≤◌, length, get_or, refl, ap, ◌∙◌, arith, rules, ⊎_elim}
+use Rattle.std.proofs.lemmas.Bool.{cases_eq}
+use Rattle.pop_watch.specs.Playing.{made_by}
+use Rattle.pop_watch.proofs.MoreMeetings.{goes_on_none, goes_on_more, has_mine, has_others}
+use Rattle.pop_watch.proofs.missing.make_missing.Goals as goal
+
+pub workers-init : goal.workers-init
+workers-init c =
+    record {
+      goes_on = goes_on_none c.args.net.now c.args.played.now;
+      whole = λ w l. absurd (omega (arith, l));
+      rest = λ w l. refl;
+      valid = c.requires.valid;
+    }
+
+pub workers-preserved : goal.workers-preserved
+workers-preserved c =
+    let was = c.workers.invariant in
+    let now = c.workers.played in
+    let next = c.make_turns.new.played in
+    let first = c.args.played.now in
+    let at = c.workers.worker in
+    let turns = c.args.turns in
+    let one = c.in_ok-make_turns.ensures in
+    let within : at < length c.args.made.now = search rules in
+    let missing = turns - get_or c.args.made.now at 0 in
+    let made : get_or c.args.made.now at 0 ≡ made_by at first.meetings.items = c.requires.made at 0 within in
+    let fits : made_by at first.meetings.items ≤ turns = c.requires.few at within in
+    let same : made_by at now.meetings.items ≡ made_by at first.meetings.items = was.rest at (omega arith) in
+    let mine = has_mine at missing now next one.more in
+    record {
+      goes_on = goes_on_more c.args.net.now first now next was.goes_on one.goes_on;
+      whole = λ w l. ⊎_elim
+          (λ (e : w ≡ at). ap (λ (k : ℕ). made_by k next.meetings.items) e ∙ mine ∙ (let f : made_by at now.meetings.items + missing ≡ turns = omega (arith, made, fits, same) in f))
+          (λ (n : w ≡ at → ⊥). has_others at missing w now next n one.more ∙ was.whole w (omega (arith, l, n)))
+          (cases_eq w at);
+      rest = λ w l.
+          let apart : w ≡ at → ⊥ = (λ e. omega (arith, l, e)) in
+          has_others at missing w now next apart one.more ∙ was.rest w (omega (arith, l));
+      valid = one.valid;
+    }

@@ -1,0 +1,124 @@
+use Rattle.std.proofs.Common.{◌≡◌, ℕ, ◌<◌, ◌≤◌, get_or, List, [], length, map, sym, ap, ◌∙◌, subst, arith}
+use Rattle.std.specs.Prelude.{All}
+use Rattle.std.proofs.lemmas.List.{length-map}
+use Rattle.pop_net.specs.declared.net.Word.{Word}
+use Rattle.pop_net.specs.NetModel.{NetModel}
+use Rattle.pop_net.specs.Lanes.{crowd_of, AreValid}
+use Rattle.pop_crowd.specs.declared.crowd.Meeting.{Meeting}
+use Rattle.agent_field.specs.History.{calls}
+use Rattle.agent_field.specs.Seats.{net_of, opening_of, seats_of, log_of}
+use Rattle.pair_workers.proofs.FieldRounds.{whole_written, as_long}
+use Rattle.pop_watch.specs.declared.work.Worker.{Worker}
+use Rattle.pop_watch.specs.Work.{MayWork, HasWorked, AreDone, HasAll}
+use Rattle.pop_watch.specs.Playing.{ArePlaying, made_by, of_worker}
+use Rattle.pop_watch.proofs.Seating.{are_done}
+use Rattle.pop_watch.proofs.Renumbered.{IsOfWorker, all_of_workers}
+use Rattle.pop_watch.proofs.Parts.{are_playing, all_picked, few_made, made_each}
+use Rattle.pop_watch.proofs.round.field_round.Goals as goal
+
+pub watch_beside-requires-clause-agents : goal.watch_beside-requires-clause-agents
+watch_beside-requires-clause-agents g c κs within =
+    let e = c.in_ok-field.ensures in
+    subst (λ (l : List Word). (2 ≤ length l) × (length l ≤ 65536)) (sym e.field.opening_is) e.agents
+
+pub watch_beside-requires-clause-workers : goal.watch_beside-requires-clause-workers
+watch_beside-requires-clause-workers g c κs within =
+    let ready = c.in_ok-field.ensures.workers.1 in
+    subst (λ (l : List Worker). All (MayWork c.in_ok-field.field c.args.turns) l) (sym c.as_mut_slice.ensures.value) (λ k d h. (ready k d [] h).may)
+
+pub take_in-requires-clause-workers : goal.take_in-requires-clause-workers
+take_in-requires-clause-workers g c =
+    let f = c.in_ok-field.field in
+    let turns = c.args.turns in
+    let pickers = c.args.pickers.items in
+    let new = c.watch_beside.new.workers in
+    let old = c.in_ok-field.workers.items in
+    let value = c.as_mut_slice.ensures.value in
+    let same = c.watch_beside.auto.workers ∙ ap (length {A = Worker}) value in
+    let worked = subst (λ (l : List Worker). (i : ℕ) (d : Worker) → i < length l → HasWorked f turns (get_or l i d) (get_or new i d)) value c.watch_beside.ensures.workers in
+    let done = subst (AreDone f turns pickers) (sym (whole_written c.in_ok-field.workers.len new old same (omega arith)))
+    (are_done f turns pickers old new c.in_ok-field.ensures.workers same worked) in
+    λ i d h. ((done.1 i d [] h).ours, (done.1 i d [] h).numbered)
+
+pub by_workers-requires : goal.by_workers-requires
+by_workers-requires g c =
+    let own : calls 0 c.in_ok-round.round.meetings ≡ [] = c.in_ok-round.ensures.own ∙ c.in_ok-whole.ensures.all.own ∙ c.watch_beside.ensures.seat.1.4 ∙ c.in_ok-field.ensures.observer.log in
+    subst (λ (l : List Meeting). All IsOfWorker l) (sym c.as_slice-2.ensures) (all_of_workers 0 c.in_ok-round.round.meetings own)
+
+pub of_words-crowd-requires-clause-some : goal.of_words-crowd-requires-clause-some
+of_words-crowd-requires-clause-some g c =
+    let e = c.in_ok-field.ensures in
+    let long = as_long (net_of c.in_ok-field.field) (opening_of c.in_ok-field.field) c.in_ok-round.round.words c.in_ok-round.round.meetings c.in_ok-round.ensures.words ∙ ap (length {A = Word}) e.field.opening_is in
+    omega (arith, long, e.agents.0)
+
+pub of_words-crowd-requires-clause-few : goal.of_words-crowd-requires-clause-few
+of_words-crowd-requires-clause-few g c =
+    let e = c.in_ok-field.ensures in
+    let long = as_long (net_of c.in_ok-field.field) (opening_of c.in_ok-field.field) c.in_ok-round.round.words c.in_ok-round.round.meetings c.in_ok-round.ensures.words ∙ ap (length {A = Word}) e.field.opening_is in
+    omega (arith, long, e.agents.1)
+
+pub returns-clause-made : goal.returns-clause-made
+returns-clause-made g c =
+    let f = c.in_ok-field.field in
+    let turns = c.args.turns in
+    let pickers = c.args.pickers.items in
+    let new = c.watch_beside.new.workers in
+    let old = c.in_ok-field.workers.items in
+    let value = c.as_mut_slice.ensures.value in
+    let same = c.watch_beside.auto.workers ∙ ap (length {A = Worker}) value in
+    let worked = subst (λ (l : List Worker). (i : ℕ) (d : Worker) → i < length l → HasWorked f turns (get_or l i d) (get_or new i d)) value c.watch_beside.ensures.workers in
+    let done = are_done f turns pickers old new c.in_ok-field.ensures.workers same worked in
+    let list = whole_written c.in_ok-field.workers.len new old same (omega arith) in
+    let all = subst (λ (l : List Worker). HasAll f l c.watch_beside.new.seat c.in_ok-whole.whole) list c.in_ok-whole.ensures.all in
+    let closed = c.in_ok-round.ensures in
+    let meetings = c.in_ok-round.round.meetings in
+    let own : calls 0 meetings ≡ [] = closed.own ∙ all.own ∙ c.watch_beside.ensures.seat.1.4 ∙ c.in_ok-field.ensures.observer.log in
+    let some = all_of_workers 0 meetings own in
+    let mine : c.in_ok-meetings.meetings.items ≡ map of_worker meetings = c.in_ok-meetings.ensures ∙ ap (map of_worker) c.as_slice-2.ensures in
+    let any : Worker = record { seat = c.watch_beside.new.seat; picker = [] } in
+    let made : c.in_ok-made.made.items ≡ map (λ (v : Worker). length (log_of v.seat)) new = c.in_ok-made.ensures ∙ ap (map (λ (v : Worker). length (log_of v.seat))) (c.as_slice.ensures.value ∙ list) in (
+      ap (length {A = ℕ}) made ∙ length-map new (λ (v : Worker). length (log_of v.seat)) ∙ done.0 ∙ c.requires.pickers,
+      λ w d l.
+          made_each f turns pickers new c.watch_beside.new.seat c.in_ok-whole.whole meetings done all closed.taken some c.in_ok-made.made.items made w d any (omega (arith, l, done.0, c.requires.pickers))
+          ∙ ap (made_by w) (sym mine),
+    )
+
+pub returns-clause-part : goal.returns-clause-part
+returns-clause-part g c =
+    let net = c.args.net.now in
+    let workers = c.args.spec.now.workers in
+    let is = c.in_ok-field.ensures.field in
+    let f = c.in_ok-field.field in
+    let turns = c.args.turns in
+    let pickers = c.args.pickers.items in
+    let new = c.watch_beside.new.workers in
+    let old = c.in_ok-field.workers.items in
+    let value = c.as_mut_slice.ensures.value in
+    let same = c.watch_beside.auto.workers ∙ ap (length {A = Worker}) value in
+    let worked = subst (λ (l : List Worker). (i : ℕ) (d : Worker) → i < length l → HasWorked f turns (get_or l i d) (get_or new i d)) value c.watch_beside.ensures.workers in
+    let done = are_done f turns pickers old new c.in_ok-field.ensures.workers same worked in
+    let list = whole_written c.in_ok-field.workers.len new old same (omega arith) in
+    let all = subst (λ (l : List Worker). HasAll f l c.watch_beside.new.seat c.in_ok-whole.whole) list c.in_ok-whole.ensures.all in
+    let closed = c.in_ok-round.ensures in
+    let meetings = c.in_ok-round.round.meetings in
+    let own : calls 0 meetings ≡ [] = closed.own ∙ all.own ∙ c.watch_beside.ensures.seat.1.4 ∙ c.in_ok-field.ensures.observer.log in
+    let some = all_of_workers 0 meetings own in
+    let mine : c.in_ok-meetings.meetings.items ≡ map of_worker meetings = c.in_ok-meetings.ensures ∙ ap (map of_worker) c.as_slice-2.ensures in
+    let any : Worker = record { seat = c.watch_beside.new.seat; picker = [] } in
+    let after = c.in_ok-whole.pickers.items in
+    let moved : after ≡ map (λ (v : Worker). v.picker) new = c.in_ok-whole.ensures.pickers ∙ ap (map (λ (v : Worker). v.picker)) list in
+    let words = c.in_ok-round.round.words in
+    let crowd : words ≡ c.of_words-crowd.result = sym c.of_words-crowd.ensures in
+    let long = as_long (net_of f) (opening_of f) words meetings closed.words ∙ ap (length {A = Word}) is.opening_is in
+    let within : (w : ℕ) → w < workers → w < length new = (λ w l. omega (arith, l, done.0, c.requires.pickers)) in
+    let playing = are_playing (net_of f) (opening_of f) words workers (seats_of f) pickers after meetings closed.words closed.history is.seats_are some
+    (λ w d l. all_picked f turns pickers new c.watch_beside.new.seat c.in_ok-whole.whole meetings done all closed.taken some after moved w d any (within w l)) in
+    record {
+      played =
+          subst (λ (t : NetModel × List Word × List Meeting × List Word). ArePlaying t.0 (crowd_of t.0 t.1) workers pickers after t.2 (crowd_of t.0 t.3)) (λ i. (is.net_is i, is.opening_is i, sym mine i, crowd i))
+          playing;
+      few = λ w l. subst (λ (ms : List Meeting). made_by w ms ≤ turns) (sym mine) (few_made f turns pickers new c.watch_beside.new.seat c.in_ok-whole.whole meetings done all closed.taken some w any (within w l));
+      valid = subst (λ (t : NetModel × List Word). AreValid t.0 t.1) (λ i. (is.net_is i, crowd i)) closed.valid;
+      agents = ap (length {A = Word}) (sym crowd) ∙ long;
+      pickers = ap (length {A = List ℕ}) moved ∙ length-map new (λ (v : Worker). v.picker) ∙ done.0 ∙ c.requires.pickers;
+    }

@@ -1,0 +1,48 @@
+use Rattle.std.proofs.Common.{◌≡◌, ◌<◌, ℕ, List, length, inl, inr, sym, ap, subst, ◌∙◌, arith, rules}
+use Rattle.std.specs.Prelude.{All, None, ◌↔◌}
+use Rattle.pop_net.specs.NetModel.{NetModel}
+use Rattle.pop_net.specs.Step.{Step}
+use Rattle.pop_net.specs.Terminal.{IsTerminal}
+use Rattle.pop_net.specs.Lanes.{crowd_of}
+use Rattle.pop_watch.specs.Playing.{IsPlayed, made_by}
+use Rattle.pop_watch.proofs.round.watched_round.Goals as goal
+
+pub returns-then-are_made : goal.returns-then-are_made
+returns-then-are_made g c =
+    let made = c.in_ok-played.ensures.made in
+    let all = subst (λ (l : List ℕ). All (λ (n : ℕ). n ≡ c.args.turns) l) c.as_slice.ensures.value (c.are_made.ensures.0 c.if-are_made.true) in
+    record {
+      part = c.in_ok-played.ensures.part;
+      ends = inl (λ w l. sym (made.1 w 0 l) ∙ all w 0 (omega (arith, l, made.0)));
+    }
+
+pub returns-then-is_none : goal.returns-then-is_none
+returns-then-is_none g c =
+    let found = c.in_ok-enabled_pair.field-0 in
+    let none : found ≡ None = search rules in
+    record {
+      part = c.in_ok-played.ensures.part;
+      ends = inr ((subst (λ (n : NetModel). (found ≡ None) ↔ IsTerminal (Step n) (crowd_of n c.in_ok-played.played.crowd)) c.requires.table c.in_ok-enabled_pair.ensures.none).0 none);
+    }
+
+pub returns : goal.returns
+returns g c =
+    let net = c.args.net.now in
+    let start = crowd_of net c.args.crowd.now in
+    let pickers = c.args.pickers.items in
+    let before = c.in_ok-played.played in
+    let after = c.make_missing.new.played in
+    let was = c.in_ok-played.ensures.part in
+    let on = c.in_ok-make_missing.ensures in
+    let long : length c.as_slice-2.result.now ≡ c.args.spec.now.workers = ap (length {A = ℕ}) c.as_slice-2.ensures.value ∙ c.in_ok-played.ensures.made.0 in
+    let all : (w : ℕ) → w < c.args.spec.now.workers → made_by w after.meetings.items ≡ c.args.turns = (λ w l. on.all w (omega (arith, l, long))) in
+    record {
+      part = record {
+        played = subst (λ (n : ℕ). IsPlayed net start n pickers after) was.pickers (on.goes_on.more start pickers (subst (λ (n : ℕ). IsPlayed net start n pickers before) (sym was.pickers) was.played));
+        few = λ w l. omega (arith, all w l);
+        valid = on.valid;
+        agents = on.goes_on.agents ∙ was.agents;
+        pickers = on.goes_on.pickers ∙ was.pickers;
+      };
+      ends = inl all;
+    }

@@ -1,0 +1,18 @@
+use Rattle.std.proofs.Common.{◌<◌, length, ◌≡◌, ◌∷◌, [], ◌++◌, get_or, take, sym, ap, ◌∙◌, rules, List}
+use Rattle.std.specs.Prelude.{Some, slice_get}
+use Rattle.std.proofs.lemmas.List.{take_more}
+use Rattle.std.proofs.lemmas.Option.{slice_get-get_or}
+use Rattle.pop_net.specs.declared.net.Word.{Word}
+use Rattle.pop_watch.proofs.round.words_of.Goals as goal
+
+pub agents-preserved : goal.agents-preserved
+agents-preserved c =
+    let crowd = c.args.crowd.now in
+    let word = c.word.result in
+    let at : slice_get crowd c.agents.agent ≡ Some word = c.word.ensures in
+    let within : c.agents.agent < length crowd = search rules in
+    let same : get_or crowd c.agents.agent word ≡ word = (let e = sym (slice_get-get_or crowd c.agents.agent word within) ∙ at in cc) in
+    record {
+      items = c.in_ok-push.ensures.items ∙ ap (λ (l : List Word). l ++ word ∷ []) c.agents.invariant.items
+          ∙ sym (take_more crowd c.agents.agent word within ∙ ap (λ (x : Word). take c.agents.agent crowd ++ x ∷ []) same);
+    }

@@ -1,0 +1,16 @@
+use Rattle.std.proofs.Common.{◌≡◌, ◌≤◌, length}
+use Rattle.pop_net.specs.Lanes.{crowd_of, AreValid}
+use Rattle.pop_watch.proofs.WatchedRounds.{IsOnTheWay}
+use Rattle.pop_watch.proofs.watched.run_watched.Given as goal
+
+abbrev pub invariant-rounds : goal.invariant-rounds
+invariant-rounds g l = record {
+  run : IsOnTheWay l.net (crowd_of l.net l.fn.crowd) l.spec l.rounds.items (crowd_of l.net l.crowd) l.pickers.items l.left;
+  valid : AreValid l.net l.crowd;
+  agents : length l.crowd ≡ length l.fn.crowd;
+  pickers : length l.pickers.items ≡ l.spec.workers;
+  few : l.left ≤ 1000000;
+}
+
+abbrev pub decreases-rounds : goal.decreases-rounds
+decreases-rounds g l = l.left

@@ -1,0 +1,5 @@
+pub mod WatchedRun
+pub mod WatchedEnds
+pub mod Laws
+pub mod Work
+pub mod Playing

@@ -1,0 +1,60 @@
+-- A round on its way: each worker has made some of its next picks.
+use Rattle.std.specs.Prelude.{◌≡◌, ◌⊎◌, ℕ, ◌+◌, ◌-◌, ◌<◌, ◌≤◌, ◌==◌, if◌then◌else◌, List, length, All, slice_index_or}
+use Rattle.pop_net.specs.NetModel.{NetModel, CrowdModel}
+use Rattle.pop_net.specs.Step.{Step}
+use Rattle.pop_net.specs.Terminal.{IsTerminal}
+use Rattle.pop_net.specs.Lanes.{crowd_of, AreValid}
+use Rattle.pop_net.specs.declared.net.Word.{Word}
+use Rattle.pop_crowd.specs.declared.crowd.Meeting.{Meeting}
+use Rattle.pop_crowd.specs.Replay.{replay, AreMarked}
+use Rattle.pair_workers.specs.Turns.{HasPicked}
+use Rattle.pair_workers.specs.Run.{meetings_of, pairs}
+use Rattle.pop_watch.specs.declared.played.Played.{Played}
+
+-- how many meetings a worker has made
+abbrev pub made_by : ℕ → List Meeting → ℕ
+made_by w meetings = length (meetings_of w meetings)
+
+-- a meeting of a seat as one of its worker: worker w has the seat w + 1
+abbrev pub of_worker : Meeting → Meeting
+of_worker m = record { worker = m.worker - 1; a = m.a; b = m.b; changed = m.changed }
+
+-- the meetings lead from one crowd to another, those of each worker are its next picks, and nobody else meets
+pub record ArePlaying (net : NetModel) (start : CrowdModel) (workers : ℕ) (before after : List (List ℕ)) (meetings : List Meeting) (end : CrowdModel) : Type 0 where
+  pub marked : AreMarked net meetings start
+  pub replays : replay net meetings start ≡ end
+  pub picked : (w : ℕ) (d : List ℕ) → w < workers → HasPicked (length start) (made_by w meetings) (slice_index_or before w d) (slice_index_or after w d) (pairs (meetings_of w meetings))
+  pub nobody_else : All (λ m. m.worker < workers) meetings
+
+-- the same, where the crowd, the pickers and the meetings stand together
+abbrev pub IsPlayed : NetModel → CrowdModel → ℕ → List (List ℕ) → Played → Type 0
+IsPlayed net start workers before p =
+    ArePlaying net start workers before p.pickers.items p.meetings.items (crowd_of net p.crowd)
+
+-- what was played from some crowd is still played from it
+pub record GoesOn (net : NetModel) (before after : Played) : Type 0 where
+  pub more : (start : CrowdModel) (first : List (List ℕ)) → IsPlayed net start (length before.pickers.items) first before → IsPlayed net start (length before.pickers.items) first after
+  pub pickers : length after.pickers.items ≡ length before.pickers.items
+  pub agents : length after.crowd ≡ length before.crowd
+
+-- one worker has made so many more meetings, and nobody else any
+abbrev pub HasMore : ℕ → ℕ → Played → Played → Type 0
+HasMore worker turns before after =
+    (v : ℕ) → made_by v after.meetings.items ≡ made_by v before.meetings.items + (if v == worker then turns else 0)
+
+-- every worker has made its turns
+abbrev pub AreAllMade : ℕ → ℕ → List Meeting → Type 0
+AreAllMade workers turns meetings = (w : ℕ) → w < workers → made_by w meetings ≡ turns
+
+-- a round from this crowd: each worker has made its turns at most
+pub record IsPartOfRound (net : NetModel) (crowd : List Word) (workers turns : ℕ) (before : List (List ℕ)) (p : Played) : Type 0 where
+  pub played : IsPlayed net (crowd_of net crowd) workers before p
+  pub few : (w : ℕ) → w < workers → made_by w p.meetings.items ≤ turns
+  pub valid : AreValid net p.crowd
+  pub agents : length p.crowd ≡ length crowd
+  pub pickers : length p.pickers.items ≡ workers
+
+-- such a round, which is whole or leads to a terminal crowd
+pub record IsWatchedRoundFrom (net : NetModel) (crowd : List Word) (workers turns : ℕ) (before : List (List ℕ)) (p : Played) : Type 0 where
+  pub part : IsPartOfRound net crowd workers turns before p
+  pub ends : AreAllMade workers turns p.meetings.items ⊎ IsTerminal (Step net) (crowd_of net p.crowd)

@@ -1,0 +1,34 @@
+-- Watched run: a run whose last round may lack meetings, where the crowd behind it is terminal.
+use Rattle.std.specs.Prelude.{◌≡◌, ◌⊎◌, ℕ, ◌+◌, ◌<◌, ◌≤◌, List, length, take, All, Some, slice_get}
+use Rattle.pop_net.specs.NetModel.{NetModel, CrowdModel}
+use Rattle.pop_net.specs.Step.{Step}
+use Rattle.pop_net.specs.Terminal.{IsTerminal}
+use Rattle.pop_crowd.specs.declared.crowd.Meeting.{Meeting}
+use Rattle.pop_crowd.specs.Replay.{replay, AreMarked}
+use Rattle.pop_words.specs.declared.spec.RunSpec.{RunSpec}
+use Rattle.pair_workers.specs.Picks.{picks}
+use Rattle.pair_workers.specs.Run.{IsRound, meetings_of, pairs, joined, turns_in}
+
+-- round k, counted from 1: there is a turn to make, each worker makes its turns at most, and nobody else makes any
+pub record IsWatchedRound (spec : RunSpec) (k : ℕ) (meetings : List Meeting) : Type 0 where
+  pub some_turn : 1 ≤ turns_in spec k
+  pub each_worker : (w : ℕ) → w < spec.workers → length (meetings_of w meetings) ≤ turns_in spec k
+  pub nobody_else : All (λ m. m.worker < spec.workers) meetings
+
+-- every worker has made all its turns
+abbrev pub AreSpent : RunSpec → List (List Meeting) → Type 0
+AreSpent spec rounds = (w : ℕ) → w < spec.workers → length (meetings_of w (joined rounds)) ≡ spec.turns
+
+pub record IsWatchedRun (net : NetModel) (start : CrowdModel) (spec : RunSpec) (rounds : List (List Meeting)) (end : CrowdModel) : Type 0 where
+  pub each_round : (k : ℕ) (meetings : List Meeting) → slice_get rounds k ≡ Some meetings → IsWatchedRound spec (k + 1) meetings
+  -- every round but the last is whole
+  pub whole : (k : ℕ) (meetings : List Meeting) → k + 1 < length rounds → slice_get rounds k ≡ Some meetings → IsRound spec (k + 1) meetings
+  -- the meetings of a worker are its picks, from the first on
+  pub picked : (w : ℕ) → w < spec.workers → pairs (meetings_of w (joined rounds)) ≡ picks spec.seed w (length start) (length (meetings_of w (joined rounds)))
+  -- each meeting says rightly whether it changes a tuple
+  pub marked : AreMarked net (joined rounds) start
+  pub replays : replay net (joined rounds) start ≡ end
+  -- no crowd before a round is terminal
+  pub goes_on : (k : ℕ) → k < length rounds → IsTerminal (Step net) (replay net (joined (take k rounds)) start) → ⊥
+  -- the end is terminal, or the turns are spent
+  pub over : IsTerminal (Step net) end ⊎ AreSpent spec rounds

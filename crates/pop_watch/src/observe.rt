@@ -1,0 +1,110 @@
+//! The observer of a round, which looks at all agents while the workers meet.
+
+ghost use Rattle.std.specs.Prelude.{◌≡◌, ◌+◌, ◌≤◌, length, IfOk};
+ghost use Rattle.pop_net.specs.Lanes.{AreValid};
+ghost use Rattle.agent_field.specs.Seats.{IsSeatOf, KeepsLogs, number_of, opening_of, spare_looks_of, net_of};
+ghost use Rattle.terminal_test.specs.TableNet.{net_of as table_net};
+
+use crate::limits::LOOKS_A_ROUND;
+use crate::signals::Signals;
+use agent_field::{Field, FieldSeat};
+use pair_workers::ROUND_TURNS;
+use pop_crowd::{AGENT_LEAST, AGENT_LIMIT, Crowd};
+use pop_io::{Gate, NoMemory};
+use pop_net::Net;
+use std::alloc::Global;
+use std::sync::Wait;
+use terminal_test::PairTable;
+
+/// The crowd that a look shows.
+fn seen_crowd<R: Wait>(
+    rt: &R,
+    alloc: Global,
+    net: &Net,
+    field: &Field,
+    seat: &mut FieldSeat,
+) -> Result<Crowd, NoMemory>
+    requires net { net_of field.now ≡ net.now }
+    requires agents { (AGENT_LEAST ≤ length (opening_of field.now)) × (length (opening_of field.now) ≤ AGENT_LIMIT) }
+    requires ours { IsSeatOf field.now seat.old }
+    requires first { number_of seat.old ≡ 0 }
+    requires room { 1 ≤ spare_looks_of seat.old }
+    ensures valid { IfOk result (AreValid net.now) }
+    ensures ours { IsSeatOf field.now seat.new }
+    ensures spare { spare_looks_of seat.new + 1 ≡ spare_looks_of seat.old }
+    ensures rest { KeepsLogs seat.old seat.new }
+{
+    field.look(rt, seat);
+    let look = seat.look_at(seat.looks() - 1);
+    let words = look.words.copy(alloc)?;
+    Ok(Crowd::of_words(net, words))
+}
+
+/// Looks spread over the turns, until one is terminal: then the workers are to stop. The answer is the number of looks.
+fn look_on<R: Wait, G: Gate>(
+    rt: &R,
+    alloc: Global,
+    net: &Net,
+    table: &PairTable,
+    field: &Field,
+    seat: &mut FieldSeat,
+    turns: u64,
+    workers: u16,
+    signals: &Signals,
+    gate: &G,
+) -> Result<u64, NoMemory>
+    requires table { table_net table.now ≡ net.now }
+    requires net { net_of field.now ≡ net.now }
+    requires agents { (AGENT_LEAST ≤ length (opening_of field.now)) × (length (opening_of field.now) ≤ AGENT_LIMIT) }
+    requires ours { IsSeatOf field.now seat.old }
+    requires first { number_of seat.old ≡ 0 }
+    requires room { LOOKS_A_ROUND ≤ spare_looks_of seat.old }
+    requires turns { turns ≤ ROUND_TURNS }
+    ensures few { IfOk result (λ looks. looks ≤ LOOKS_A_ROUND) }
+    ensures ours { IsSeatOf field.now seat.new }
+    ensures rest { KeepsLogs seat.old seat.new }
+{
+    'looks: for look in 0..LOOKS_A_ROUND {
+        let due = turns * u64::from(look) / u64::from(LOOKS_A_ROUND);
+        if turns <= signals.turn_from(due) {
+            return Ok(u64::from(look));
+        }
+        gate.pass(workers, u64::from(look) + 1);
+        let crowd = seen_crowd(rt, alloc, net, field, seat)?;
+        if table.enabled_pair(alloc, &crowd)?.is_none() {
+            signals.stop();
+            return Ok(u64::from(look) + 1);
+        }
+    }
+    Ok(u64::from(LOOKS_A_ROUND))
+}
+
+/// The observer's part of a round. It passes the gate once more behind its last look.
+pub(crate) fn observe<R: Wait, G: Gate>(
+    rt: &R,
+    alloc: Global,
+    net: &Net,
+    table: &PairTable,
+    field: &Field,
+    seat: &mut FieldSeat,
+    turns: u64,
+    workers: u16,
+    signals: &Signals,
+    gate: &G,
+) -> Result<(), NoMemory>
+    requires table { table_net table.now ≡ net.now }
+    requires net { net_of field.now ≡ net.now }
+    requires agents { (AGENT_LEAST ≤ length (opening_of field.now)) × (length (opening_of field.now) ≤ AGENT_LIMIT) }
+    requires ours { IsSeatOf field.now seat.old }
+    requires first { number_of seat.old ≡ 0 }
+    requires room { LOOKS_A_ROUND ≤ spare_looks_of seat.old }
+    requires turns { turns ≤ ROUND_TURNS }
+    ensures ours { IsSeatOf field.now seat.new }
+    ensures rest { KeepsLogs seat.old seat.new }
+{
+    let looks = look_on(
+        rt, alloc, net, table, field, seat, turns, workers, signals, gate,
+    )?;
+    gate.pass(workers, looks + 1);
+    Ok(())
+}

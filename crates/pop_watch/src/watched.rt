@@ -1,0 +1,80 @@
+//! Watched runs, round by round.
+
+ghost use Rattle.std.specs.Prelude.{◌≡◌, ℕ, ◌<◌, ◌≤◌, length, IfOk, slice_index_or};
+ghost use Rattle.pop_net.specs.Lanes.{AreValid};
+ghost use Rattle.pop_words.specs.Options.{IsWithinLimits};
+ghost use Rattle.pair_workers.specs.Picks.{first_state};
+ghost use Rattle.pop_watch.specs.WatchedEnds.{IsWatchedRunFrom};
+
+use crate::limits::WATCHED_WORKERS;
+use crate::played::Played;
+use crate::round::watched_round;
+use pair_workers::{End, Picker, ROUND_TURNS, RunEnd};
+use pop_crowd::Crowd;
+use pop_io::{Gate, List, NoMemory};
+use pop_net::Net;
+use pop_words::{RunSpec, SEED_LIMIT};
+use std::alloc::Global;
+use std::sync::Wait;
+use std::thread::Threads;
+use terminal_test::PairTable;
+
+/// The pickers of all workers, of which none has made a pick.
+fn first_pickers(alloc: Global, spec: &RunSpec) -> Result<Vec<Picker>, NoMemory>
+    requires seed { spec.now.seed ≤ SEED_LIMIT }
+    ensures long { IfOk result (λ pickers. length pickers.items ≡ spec.now.workers) }
+    ensures first { IfOk result (λ pickers. (w : ℕ) (d : _) → w < spec.now.workers → slice_index_or pickers.items w d ≡ first_state spec.now.seed w) }
+{
+    let mut pickers = Vec::new(alloc);
+    'workers: for worker in 0..spec.workers {
+        pickers.push(Picker::new(spec.seed, worker))?;
+    }
+    Ok(pickers)
+}
+
+/// A run that an observer watches: once it has seen a terminal crowd, the workers stop before their round is whole.
+/// Before each round the crowd is looked at. The observer calls `pass` of the gate before each of its looks in a round
+/// and once behind them, with the number behind the last worker's and with the looks counted from 1.
+pub fn run_watched<R: Threads + Wait + Sync, G: Gate>(
+    rt: &R,
+    alloc: Global,
+    net: &Net,
+    crowd: Crowd,
+    spec: &RunSpec,
+    gate: &G,
+) -> Result<RunEnd, NoMemory>
+    requires limits { IsWithinLimits spec.now }
+    requires workers { spec.now.workers ≤ WATCHED_WORKERS }
+    requires valid { AreValid net.now crowd }
+    ensures run { IfOk result (IsWatchedRunFrom net.now crowd spec.now) }
+{
+    let mut crowd = crowd;
+    let mut pickers = first_pickers(alloc, spec)?;
+    let mut rounds = Vec::new(alloc);
+    let mut left = spec.turns;
+    let table = PairTable::new(alloc, net)?;
+    'rounds: while let Some((a, b)) = table.enabled_pair(alloc, &crowd)? {
+        if left == 0 {
+            return Ok(RunEnd {
+                rounds: List::from_vec(rounds),
+                crowd,
+                end: End::Open(a, b),
+            });
+        }
+        let turns = ROUND_TURNS.min(left);
+        let Played {
+            crowd: after,
+            pickers: moved,
+            meetings,
+        } = watched_round(rt, alloc, net, &table, &crowd, spec, pickers, turns, gate)?;
+        crowd = after;
+        pickers = moved;
+        rounds.push(List::from_vec(meetings))?;
+        left -= turns;
+    }
+    Ok(RunEnd {
+        rounds: List::from_vec(rounds),
+        crowd,
+        end: End::Terminal,
+    })
+}

@@ -1,0 +1,171 @@
+//! Watched runs, by one worker and by many.
+
+ghost use Rattle.std.specs.Prelude.{◌≤◌, ◌*◌};
+
+use crate::runs::{leads, two_hundred};
+use pair_workers::{End, RunEnd};
+use pop_crowd::{Crowd, Meeting};
+use pop_io::{Gate, OpenGate};
+use pop_watch::{WATCHED_WORKERS, run_watched, whole_runs_are_watched};
+use pop_words::{MEETING_LIMIT, RunSpec, TURN_LIMIT};
+use sample_nets::majority;
+use std::alloc::Global;
+use std::sync::Wait;
+use std::sync::atomic::{AtomicU64, Ordering};
+use std::test::Fail;
+use std::thread::Threads;
+
+/// A watched run of majority over 16 shards with seed 0.
+fn watch<R: Threads + Wait + Sync, G: Gate>(
+    rt: &R,
+    alloc: Global,
+    counts: (u64, u64),
+    workers: u16,
+    turns: u64,
+    gate: &G,
+) -> Result<RunEnd, Fail>
+    requires workers { (1 ≤ workers) × (workers ≤ WATCHED_WORKERS) }
+    requires turns { turns ≤ TURN_LIMIT }
+    requires product { workers * turns ≤ MEETING_LIMIT }
+{
+    let net = majority(alloc).ok_or("a net")?;
+    let (x, y) = counts;
+    let crowd = Crowd::of_counts(alloc, &net, &[x, y])
+        .ok()
+        .ok_or("a crowd")?;
+    let spec = RunSpec {
+        workers,
+        shards: 16,
+        turns,
+        seed: 0,
+    };
+    let run = run_watched(rt, alloc, &net, crowd, &spec, gate);
+    Ok(run.ok().ok_or("a run")?)
+}
+
+#[test]
+fn one_worker_makes_its_round(rt: HostRuntime) -> Result<(), Fail> {
+    whole_runs_are_watched();
+    let run = watch(&rt, rt.alloc(), (1, 1), 1, 2, &OpenGate)?;
+    let meeting = Meeting {
+        worker: 0,
+        a: 1,
+        b: 0,
+        changed: true,
+    };
+    let rounds = run.rounds.as_slice();
+    assert_eq!(rt; rounds.len(), 1);
+    assert_eq!(rt; rounds[0].as_slice(), [meeting, meeting].as_slice());
+    assert_eq!(rt; run.end, End::Terminal);
+    Ok(())
+}
+
+#[test]
+fn turns_that_are_spent_leave_a_pair(rt: HostRuntime) -> Result<(), Fail> {
+    for turns in 0..2u64 {
+        let run = watch(&rt, rt.alloc(), (1, 1), 1, turns, &OpenGate)?;
+        assert_eq!(rt; run.rounds.as_slice().len() as u64, turns);
+        assert_eq!(rt; run.end, End::Open(0, 1));
+    }
+    Ok(())
+}
+
+#[test]
+fn nobody_watches_a_terminal_crowd(rt: HostRuntime) -> Result<(), Fail> {
+    let run = watch(&rt, rt.alloc(), (2, 0), 3, 10, &OpenGate)?;
+    assert_eq!(rt; run.rounds.as_slice().len(), 0);
+    assert_eq!(rt; run.end, End::Terminal);
+    Ok(())
+}
+
+/// Holds the observer's first pass until both workers have come to turn 100, and both there until its last pass.
+/// Each waits for a number of looks.
+#[derive(Drop)]
+struct AtTurn100 {
+    there: [AtomicU64; 2],
+    looked: AtomicU64,
+    gave_up: AtomicU64,
+}
+
+impl AtTurn100 {
+    fn wait_for(&self, flag: &AtomicU64) {
+        for _ in 0..100_000_000u64 {
+            if flag.load(Ordering::SeqCst) == 1 {
+                return;
+            }
+        }
+        self.gave_up.store(1, Ordering::SeqCst);
+    }
+}
+
+impl Gate for AtTurn100 {
+    fn pass(&self, worker: u16, turn: u64) {
+        if worker == 2 && turn == 1 {
+            self.wait_for(&self.there[0]);
+            self.wait_for(&self.there[1]);
+        } else if worker == 2 {
+            self.looked.store(1, Ordering::SeqCst);
+        } else if worker < 2 && turn == 100 {
+            self.there[worker as usize].store(1, Ordering::SeqCst);
+            self.wait_for(&self.looked);
+        }
+    }
+
+    fn held(&self, _seat: u16, _call: u64) {}
+}
+
+/// How many meetings a worker has made.
+fn made_by(meetings: &[Meeting], worker: u16) -> usize {
+    meetings.iter().filter(|m| m.worker == worker).count()
+}
+
+#[test]
+fn the_observer_stops_a_round(rt: HostRuntime) -> Result<(), Fail> {
+    let gate = AtTurn100 {
+        there: [AtomicU64::new(0), AtomicU64::new(0)],
+        looked: AtomicU64::new(0),
+        gave_up: AtomicU64::new(0),
+    };
+    let run = watch(&rt, rt.alloc(), (1, 1), 2, 200, &gate)?;
+    assert_eq!(rt; gate.gave_up.load(Ordering::SeqCst), 0);
+    let rounds = run.rounds.as_slice();
+    assert_eq!(rt; rounds.len(), 1);
+    assert_eq!(rt; made_by(rounds[0].as_slice(), 0), 99);
+    assert_eq!(rt; made_by(rounds[0].as_slice(), 1), 99);
+    assert_eq!(rt; rounds[0].as_slice().len(), 198);
+    assert_eq!(rt; run.end, End::Terminal);
+    Ok(())
+}
+
+/// Whether a watched run of majority by many workers over two shards is what the plain crowd gives.
+fn watched_is_as_one<R: Threads + Wait + Sync>(
+    rt: &R,
+    alloc: Global,
+    workers: u16,
+    turns: u64,
+) -> Result<bool, Fail>
+    requires workers { (1 ≤ workers) × (workers ≤ WATCHED_WORKERS) }
+    requires turns { turns ≤ TURN_LIMIT }
+    requires product { workers * turns ≤ MEETING_LIMIT }
+{
+    let net = majority(alloc).ok_or("a net")?;
+    let crowd = two_hundred(alloc, &net).ok_or("a crowd")?;
+    let start = two_hundred(alloc, &net).ok_or("a crowd")?;
+    let spec = RunSpec {
+        workers,
+        shards: 2,
+        turns,
+        seed: 7,
+    };
+    let run = run_watched(rt, alloc, &net, crowd, &spec, &OpenGate)
+        .ok()
+        .ok_or("a run")?;
+    Ok(leads(&net, start, run.rounds.as_slice(), &run.crowd))
+}
+
+#[test]
+fn watched_workers_are_as_one(rt: HostRuntime) -> Result<(), Fail> {
+    assert!(rt; watched_is_as_one(&rt, rt.alloc(), 4, 6_000)?);
+    assert!(rt; watched_is_as_one(&rt, rt.alloc(), WATCHED_WORKERS, 60)?);
+    Ok(())
+}
