@@ -267,19 +267,38 @@ fn is_refused(alloc: Global, net: &str, row: Row) -> Result<bool, Fail> {
 }
 
 #[test]
-fn each_rule_is_named_at_its_place(rt: HostRuntime) -> Result<(), Fail> {
-    let alloc = rt.alloc();
+fn each_rule_of_the_head_is_named(rt: HostRuntime) -> Result<(), Fail> {
     for row in HEAD {
-        assert!(rt; is_refused(alloc, NET, row)?, "{} {}", row.1, row.2);
+        assert!(rt; is_refused(rt.alloc(), NET, row)?, "{} {}", row.1, row.2);
     }
+    Ok(())
+}
+
+#[test]
+fn each_rule_of_a_leaf_is_named(rt: HostRuntime) -> Result<(), Fail> {
     for row in LEAF {
-        assert!(rt; is_refused(alloc, NET, row)?, "{} {}", row.1, row.2);
+        assert!(rt; is_refused(rt.alloc(), NET, row)?, "{} {}", row.1, row.2);
     }
-    for row in COMBINE {
-        assert!(rt; is_refused(alloc, NET, row)?, "{} {}", row.1, row.2);
-    }
+    Ok(())
+}
+
+#[test]
+fn each_rule_of_helpers_is_named(rt: HostRuntime) -> Result<(), Fail> {
     for row in HELPERS {
-        assert!(rt; is_refused(alloc, HELPED_NET, row)?, "{} {}", row.1, row.2);
+        assert!(rt;
+            is_refused(rt.alloc(), HELPED_NET, row)?,
+            "{} {}",
+            row.1,
+            row.2
+        );
+    }
+    Ok(())
+}
+
+#[test]
+fn each_rule_of_a_combination_is_named(rt: HostRuntime) -> Result<(), Fail> {
+    for row in COMBINE {
+        assert!(rt; is_refused(rt.alloc(), NET, row)?, "{} {}", row.1, row.2);
     }
     Ok(())
 }

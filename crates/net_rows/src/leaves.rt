@@ -74,22 +74,57 @@ fn names_and_numbers_of_a_leaf(rt: HostRuntime) -> Result<(), Fail> {
     Ok(())
 }
 
+/// The numbers of states, moves, inputs and helpers.
+fn numbers(leaf: &Leaf) -> (u16, u32, u16, u32) {
+    (
+        leaf.state_count(),
+        leaf.move_count(),
+        leaf.input_count(),
+        leaf.helper_count(),
+    )
+}
+
 #[test]
 fn parts_of_a_leaf(rt: HostRuntime) -> Result<(), Fail> {
     let net = majority(rt.alloc()).ok_or("a net")?;
     assert!(rt; net.leaf_count() > 0);
     let leaf = net.leaf(0).copy(rt.alloc())?;
-    assert_eq!(rt; leaf.helper_count(), 0);
+    assert!(rt; numbers(&leaf) == (4, 4, 2, 0));
+    Ok(())
+}
+
+#[test]
+fn what_stands_in_a_leaf(rt: HostRuntime) -> Result<(), Fail> {
+    let net = majority(rt.alloc()).ok_or("a net")?;
+    assert!(rt; net.leaf_count() > 0);
+    let leaf = net.leaf(0);
     assert_eq!(rt; leaf.state_count(), 4);
     assert_eq!(rt; leaf.name(2), "a");
+    assert!(rt; leaf.output(2) && !leaf.output(3));
+    assert_eq!(rt; leaf.input_count(), 2);
+    assert_eq!(rt; leaf.input(1), 1);
+    Ok(())
+}
+
+/// Each pair of states with what they become.
+const REACTIONS: [((u16, u16), (u16, u16)); 3] = [
+    ((3, 0), (2, 0)),
+    ((2, 3), (3, 3)),
+    ((0, 2), (0, 2)),
+];
+
+#[test]
+fn reactions_of_a_leaf(rt: HostRuntime) -> Result<(), Fail> {
+    let net = majority(rt.alloc()).ok_or("a net")?;
+    assert!(rt; net.leaf_count() > 0);
+    let leaf = net.leaf(0);
     assert_eq!(rt; leaf.move_count(), 4);
     assert_eq!(rt; leaf.move_at(0), step(0, 1, 2, 3));
     assert!(rt; !leaf.silent(0));
-    assert_eq!(rt; leaf.input_count(), 2);
-    assert_eq!(rt; leaf.input(1), 1);
-    assert!(rt; leaf.output(2) && !leaf.output(3));
-    assert!(rt; leaf.react(3, 0) == (2, 0) && leaf.react(2, 3) == (3, 3));
-    assert!(rt; leaf.react(0, 2) == (0, 2));
+    for (met, after) in REACTIONS {
+        assert!(rt; met.0 < leaf.state_count() && met.1 < leaf.state_count());
+        assert!(rt; leaf.react(met.0, met.1) == after);
+    }
     Ok(())
 }
 

@@ -1,5 +1,7 @@
 //! What nets are refused for, their parts, and their words.
 
+ghost use Rattle.std.specs.Prelude.{◌≡◌, length};
+
 use pop_io::{List, Text};
 use pop_net::{Item, Leaf, Net, NetFault, Word};
 use sample_nets::{helped, leaf_of, list, numbered, pair_of_leaves, texts, wide};
@@ -145,46 +147,87 @@ fn wide_leaves_are_few(rt: HostRuntime) -> Result<(), Fail> {
     Ok(())
 }
 
+/// The numbers of variables, names, leaves and helpers.
+fn numbers(net: &Net) -> (u16, usize, u8, u32) {
+    (
+        net.var_count(),
+        net.var_names().as_slice().len(),
+        net.leaf_count(),
+        net.helper_count(),
+    )
+}
+
 #[test]
 fn parts_of_a_net(rt: HostRuntime) -> Result<(), Fail> {
     let net = pair_of_leaves(rt.alloc()).ok_or("a net")?;
     let net = net.copy(rt.alloc())?;
-    assert_eq!(rt; net.var_count(), 2);
-    assert_eq!(rt; net.var_names().as_slice().len(), 2);
-    assert_eq!(rt; net.leaf_count(), 2);
-    assert_eq!(rt; net.helper_count(), 0);
+    assert!(rt; numbers(&net) == (2, 2, 2, 0));
     assert_eq!(rt; net.item_count(), 4);
     assert_eq!(rt; net.item(3), Item::Or);
     Ok(())
 }
 
+/// The words of the two variables, and what they become where the second meets the first.
+fn words_of(net: &Net) -> [Word; 4]
+    requires { length net.now.variables ≡ 2 }
+{
+    let x = net.start(0);
+    let y = net.start(1);
+    let (first, second) = net.react(y, x);
+    [x, y, first, second]
+}
+
 #[test]
 fn words_of_a_net(rt: HostRuntime) -> Result<(), Fail> {
     let net = pair_of_leaves(rt.alloc()).ok_or("a net")?;
-    let x = net.start(0);
-    let y = net.start(1);
-    assert!(rt; x == Word(0) && y == Word(0x0101));
-    let (first, second) = net.react(y, x);
-    assert!(rt; first == Word(0x0303) && second == Word(0x0202));
-    assert!(rt; net.output(first));
-    assert_eq!(rt; net.leaf_count(), 2);
-    assert_eq!(rt; net.lane(second, 1), 2);
-    assert!(rt; net.valid(Word(0x0302)) && !net.valid(Word(0x0402)));
-    assert!(rt; !net.valid(Word(0x0001_0302)));
+    let words = [Word(0), Word(0x0101), Word(0x0303), Word(0x0202)];
+    assert!(rt; words_of(&net) == words);
     Ok(())
 }
 
 #[test]
 fn words_of_a_wide_net(rt: HostRuntime) -> Result<(), Fail> {
     let net = wide(rt.alloc()).ok_or("a net")?;
-    let x = net.start(0);
-    let y = net.start(1);
-    assert!(rt; x == Word(0) && y == Word(0x012b_012b));
-    let (first, second) = net.react(x, y);
-    assert!(rt; first == y && second == y);
-    assert_eq!(rt; net.leaf_count(), 2);
-    assert_eq!(rt; net.lane(first, 1), 299);
-    assert!(rt; net.valid(Word(0x012b_0000)) && !net.valid(Word(0x012c_0000)));
+    let all = Word(0x012b_012b);
+    assert!(rt; words_of(&net) == [Word(0), all, all, all]);
+    Ok(())
+}
+
+/// Which words are those of an agent of the net.
+fn valid(net: &Net, words: [Word; 3]) -> [bool; 3] {
+    let [first, second, third] = words;
+    [net.valid(first), net.valid(second), net.valid(third)]
+}
+
+#[test]
+fn words_within_their_lanes(rt: HostRuntime) -> Result<(), Fail> {
+    let net = pair_of_leaves(rt.alloc()).ok_or("a net")?;
+    let words = [Word(0x0302), Word(0x0402), Word(0x0001_0302)];
+    assert!(rt; valid(&net, words) == [true, false, false]);
+    let net = wide(rt.alloc()).ok_or("a net")?;
+    let words = [Word(0x012b_0000), Word(0x012c_0000), Word(0x012b_012b)];
+    assert!(rt; valid(&net, words) == [true, false, true]);
+    Ok(())
+}
+
+/// The state of the last leaf in the word of the second variable, and what that word outputs.
+fn last_state(net: &Net) -> (u16, bool)
+    requires { length net.now.variables ≡ 2 }
+{
+    let word = net.start(1);
+    let leaves = net.leaf_count();
+    if leaves == 0 {
+        return (0, false);
+    }
+    (net.lane(word, leaves - 1), net.output(word))
+}
+
+#[test]
+fn states_and_outputs_of_words(rt: HostRuntime) -> Result<(), Fail> {
+    let net = wide(rt.alloc()).ok_or("a net")?;
+    assert!(rt; last_state(&net) == (299, true));
+    let net = pair_of_leaves(rt.alloc()).ok_or("a net")?;
+    assert!(rt; last_state(&net) == (1, true));
     Ok(())
 }
 

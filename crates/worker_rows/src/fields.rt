@@ -15,7 +15,7 @@ use std::sync::atomic::{AtomicU64, Ordering};
 use std::test::Fail;
 use std::thread::{Threads, join_mut};
 
-fn are_valid(net: &Net, words: &[Word]) -> bool
+pub(crate) fn are_valid(net: &Net, words: &[Word]) -> bool
     ensures { IsTrue result ↔ AreValid net.now words.now }
 {
     for word in words {

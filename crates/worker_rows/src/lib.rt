@@ -6,6 +6,8 @@
 #[cfg(test)]
 mod fields;
 #[cfg(test)]
+mod refusals;
+#[cfg(test)]
 mod runs;
 #[cfg(test)]
 mod watched;

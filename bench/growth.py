@@ -1,0 +1,76 @@
+#!/usr/bin/env python3
+"""Doubles the work of each command, and prints the processor time beside it.
+
+Run from the top of the repository: python3 bench/growth.py [PROGRAM]
+`check` against the width of a compiled leaf, whose moves and terms grow with its square; `play` against meeting lines, `run`
+against turns, `replay` against the lines of what `run` printed. The best of three runs each.
+"""
+
+import os
+import resource
+import subprocess
+import sys
+
+TOP = os.path.dirname(os.path.dirname(os.path.abspath(__file__)))
+PROGRAM = sys.argv[1] if len(sys.argv) > 1 else os.path.join(TOP, "crates/pop_main/out/pop_main")
+MAJORITY = os.path.join(TOP, "examples/majority")
+
+
+def timed(words, data):
+    """The text, and the seconds of a processor."""
+    before = resource.getrusage(resource.RUSAGE_CHILDREN)
+    done = subprocess.run([PROGRAM, *words], input=data, stdout=subprocess.PIPE)
+    after = resource.getrusage(resource.RUSAGE_CHILDREN)
+    return done.stdout, after.ru_utime + after.ru_stime - before.ru_utime - before.ru_stime
+
+
+def best(words, data):
+    runs = [timed(words, data) for _ in range(3)]
+    return runs[0][0], min(seconds for _, seconds in runs)
+
+
+def table(name, unit, steps):
+    """A row for each step; `per` is the time for one unit of the work."""
+    print(f"| `{name}`: {unit} | Seconds | Nanoseconds each |")
+    print("|---|---|---|")
+    for work, seconds in steps:
+        print(f"| {work:,} | {seconds:.3f} | {seconds / work * 1e9:.0f} |", flush=True)
+    print()
+
+
+def checks():
+    for width in (10, 20, 40, 80):
+        bundle, _ = timed(["compile"], f"vars x y\nx - y < {width - 1}\n".encode())
+        moves = bundle.split(b'"moves":[[')[1].split(b"]]")[0].count(b"],[") + 1
+        yield moves, best(["check"], bundle)[1]
+
+
+def plays():
+    with open(os.path.join(MAJORITY, "net.json"), "rb") as file:
+        net = file.read()
+    for lines in (500_000, 1_000_000, 2_000_000):
+        yield lines, best(["play"], net + b"crowd x=501 y=499\n" + b"17 420\n" * lines)[1]
+
+
+def runs_and_replays():
+    with open(os.path.join(MAJORITY, "bundle.json"), "rb") as file:
+        data = file.read() + b"crowd x=501 y=500\n"
+    runs, replays = [], []
+    for turns in (250_000, 500_000, 1_000_000):
+        journal, seconds = best(["run", "--turns", str(turns)], data)
+        lines = journal.count(b"\n")
+        runs.append((lines, seconds))
+        replays.append((lines, best(["replay"], journal)[1]))
+    return runs, replays
+
+
+def main():
+    table("check", "moves of the leaf", checks())
+    table("play", "meeting lines", plays())
+    runs, replays = runs_and_replays()
+    table("run", "lines of the journal", runs)
+    table("replay", "lines of the journal", replays)
+
+
+if __name__ == "__main__":
+    main()

@@ -1,0 +1,89 @@
+#!/usr/bin/env python3
+"""Runs the built program as a process, where its streams or its words are not the usual ones.
+
+Run from the top of the repository: python3 bench/program.py [PROGRAM]
+One line for each case: what is done, and whether the status and the text are the expected ones. The status is 1 where any
+differs. What the program does with such streams is the operating system's part: no contract speaks of it.
+"""
+
+import os
+import subprocess
+import sys
+
+TOP = os.path.dirname(os.path.dirname(os.path.abspath(__file__)))
+PROGRAM = sys.argv[1] if len(sys.argv) > 1 else os.path.join(TOP, "crates/pop_main/out/pop_main")
+MAJORITY = os.path.join(TOP, "examples/majority")
+
+
+def text_of(name):
+    with open(os.path.join(MAJORITY, name), "rb") as file:
+        return file.read()
+
+
+def piped(words, data):
+    """The status and the text of the program with these words over this input."""
+    done = subprocess.run([PROGRAM, *words], input=data, stdout=subprocess.PIPE, timeout=60)
+    return done.returncode, done.stdout
+
+
+def closed_input(words):
+    """The same where standard input is closed."""
+    done = subprocess.run(["sh", "-c", 'exec "$0" "$@" <&-', PROGRAM, *words], stdout=subprocess.PIPE, timeout=60)
+    return done.returncode, done.stdout
+
+
+def full_output(words, data):
+    """The status where standard output takes no byte."""
+    with open("/dev/full", "wb") as full:
+        done = subprocess.run([PROGRAM, *words], input=data, stdout=full, timeout=60)
+    return done.returncode, b""
+
+
+def closed_output(words, data):
+    """The same where standard output is closed."""
+    done = subprocess.run(["sh", "-c", 'exec "$0" "$@" >&-', PROGRAM, *words], input=data, timeout=60)
+    return done.returncode, b""
+
+
+def broken_pipe(words, data):
+    """The same where the reader of standard output has gone before the program writes."""
+    reader, writer = os.pipe()
+    os.close(reader)
+    done = subprocess.run([PROGRAM, *words], input=data, stdout=writer, timeout=60)
+    os.close(writer)
+    return done.returncode, b""
+
+
+def cases():
+    bundle, counts = text_of("bundle.json"), text_of("crowd.txt")
+    run = bundle + counts
+    certified = text_of("check.expected")
+    yield "check", piped(["check"], bundle), (0, certified)
+    yield "check, standard input closed", closed_input(["check"]), (6, b"fault: read\n")
+    yield "check, standard output full", full_output(["check"], bundle), (7, b"")
+    yield "check, standard output closed", closed_output(["check"], bundle), (7, b"")
+    yield "check, a pipe that nobody reads", broken_pipe(["check"], bundle), (7, b"")
+    yield "run, a pipe that nobody reads", broken_pipe(["run"], run), (7, b"")
+    yield "no words", piped([], b""), (1, b"fault: usage 0 missing\n")
+    yield "a second word", piped(["check", "check"], bundle), (1, b"fault: usage 1 unknown\n")
+    yield "a word that is no UTF-8", piped([b"\xff\xfe"], b""), (1, b"")
+    yield "a second word that is no UTF-8", piped(["run", b"\xff"], run), (1, b"")
+    yield "an empty word", piped([""], b""), (1, b"fault: usage 0 unknown\n")
+    last = piped(["run", "--workers", "1", "--turns", "0", "--seed", "7"], run)
+    first_line = last[1].splitlines()[2] if last[1].count(b"\n") > 2 else b""
+    yield "the last of many words counts", (last[0], first_line), (4, b"run workers 1 shards 16 turns 0 seed 7")
+
+
+def main():
+    differing = 0
+    for name, found, wanted in cases():
+        same = found == wanted
+        differing += not same
+        print(f"{'same   ' if same else 'DIFFERS'} {name}: status {found[0]}")
+        if not same:
+            print(f"        found {found[1]!r}, wanted status {wanted[0]} and {wanted[1]!r}")
+    return 1 if differing else 0
+
+
+if __name__ == "__main__":
+    sys.exit(main())

@@ -1,0 +1,147 @@
+#!/usr/bin/env python3
+"""Refuses each request for memory in turn, in runs of the built program of their own.
+
+Run from the top of the repository: python3 bench/refused.py [PROGRAM]
+The C library's allocating calls are replaced, for the program alone, by ones of which the call with a given number gives
+nothing; they stand below, and gcc builds them. For each case the number counts up from 1, until a run in which nothing was
+refused. A run in which something was refused must end with the status 8 and print nothing, or give the whole answer. The
+status of the script is 1 where one does neither. On threads the runs differ, so there any text is allowed that came with
+another status. Last, the same is done to a test of the field, which `rt ci` builds: no assertion of it may fail.
+"""
+
+import os
+import subprocess
+import sys
+import tempfile
+
+TOP = os.path.dirname(os.path.dirname(os.path.abspath(__file__)))
+PROGRAM = sys.argv[1] if len(sys.argv) > 1 else os.path.join(TOP, "crates/pop_main/out/pop_main")
+TESTS = os.path.join(TOP, "crates/worker_rows/out/worker_rows_tests")
+FIELD_TEST = "refusals::a_refusal_leaves_the_seats"
+EXAMPLES = os.path.join(TOP, "examples")
+OUT_OF_MEMORY = 8
+
+REFUSING = r"""
+#include <errno.h>
+#include <stdatomic.h>
+#include <stddef.h>
+#include <stdlib.h>
+#include <unistd.h>
+
+extern void *__libc_malloc(size_t);
+extern void *__libc_calloc(size_t, size_t);
+extern void *__libc_realloc(void *, size_t);
+extern void *__libc_memalign(size_t, size_t);
+
+static atomic_ulong calls;
+static unsigned long wanted;
+
+__attribute__((constructor)) static void begin(void) {
+    const char *number = getenv("REFUSED_CALL");
+    wanted = number ? strtoul(number, NULL, 10) : 0;
+    atomic_store(&calls, 0);
+}
+
+static int is_refused(void) {
+    if (wanted == 0 || atomic_fetch_add(&calls, 1) + 1 != wanted) return 0;
+    (void)!write(2, "refused\n", 8);
+    errno = ENOMEM;
+    return 1;
+}
+
+void *malloc(size_t size) { return is_refused() ? NULL : __libc_malloc(size); }
+void *calloc(size_t count, size_t size) { return is_refused() ? NULL : __libc_calloc(count, size); }
+void *realloc(void *old, size_t size) { return is_refused() ? NULL : __libc_realloc(old, size); }
+void *memalign(size_t align, size_t size) { return is_refused() ? NULL : __libc_memalign(align, size); }
+void *aligned_alloc(size_t align, size_t size) { return memalign(align, size); }
+int posix_memalign(void **out, size_t align, size_t size) {
+    void *found = memalign(align, size);
+    if (!found) return ENOMEM;
+    *out = found;
+    return 0;
+}
+"""
+
+
+def contents(path):
+    with open(os.path.join(EXAMPLES, path), "rb") as file:
+        return file.read()
+
+
+def bundle_and_crowd(name):
+    return contents(f"{name}/bundle.json") + contents(f"{name}/crowd.txt")
+
+
+# the words, the input, and whether the text is a function of both
+CASES = {
+    "play": (["play"], contents("majority/play.txt"), True),
+    "eval": (["eval"], b"vars x y\n2*x - y < 5 && x + y = 1 mod 3\ncrowd x=0 y=1\n", True),
+    "check": (["check"], contents("majority/bundle.json"), True),
+    "check of two leaves": (["check"], contents("and/bundle.json"), True),
+    "compile": (["compile"], b"vars x\nx < 1\n", True),
+    "compile --flocks": (["compile", "--flocks"], b"vars x\nx >= 4\n", True),
+    "run": (["run", "--turns", "2"], bundle_and_crowd("threshold"), True),
+    "run by two workers": (["run", "--turns", "2", "--workers", "2"], bundle_and_crowd("majority"), False),
+    "replay": (["replay"], contents("replays/held.txt"), True),
+    "replay of a changed mark": (["replay"], contents("replays/changed-mark.txt"), True),
+    "settle": (["settle"], bundle_and_crowd("majority"), True),
+    "demo": (["demo", "0"], b"", True),
+}
+
+
+def run(library, words, data, call):
+    """The status, the text, and whether the call with this number was refused."""
+    environment = {"LD_PRELOAD": library, "REFUSED_CALL": str(call)}
+    done = subprocess.run([PROGRAM, *words], input=data, capture_output=True, env=environment, timeout=60)
+    return done.returncode, done.stdout, b"refused" in done.stderr
+
+
+def count(library, name):
+    """Prints how many calls were refused in turn, and gives the number of runs that did what they may not."""
+    words, data, is_function = CASES[name]
+    answer = run(library, words, data, 0)[:2]
+    silent, wrong, call = 0, 0, 1
+    while True:
+        status, text, refused = run(library, words, data, call)
+        if not refused:
+            break
+        is_silent = (status, text) == (OUT_OF_MEMORY, b"")
+        silent += is_silent
+        if not is_silent and is_function and (status, text) != answer:
+            wrong += 1
+            print(f"DIFFERS {name}: call {call} refused, status {status}, {text[:80]!r}")
+        call += 1
+    print(f"{name}: {call - 1} calls refused in turn, {silent} times out of memory, {call - 1 - silent} times the whole answer", flush=True)
+    return wrong
+
+
+def count_test(library):
+    """The same of the test of the field, whose own requests end it where they are refused."""
+    wrong, call = 0, 1
+    while True:
+        environment = {"LD_PRELOAD": library, "REFUSED_CALL": str(call)}
+        done = subprocess.run([TESTS, FIELD_TEST], capture_output=True, env=environment, timeout=60)
+        if b"refused" not in done.stderr:
+            break
+        wrong += b"assert" in done.stdout + done.stderr
+        call += 1
+    print(f"{FIELD_TEST}: {call - 1} calls refused in turn, {wrong} times an assertion failed", flush=True)
+    return wrong + (done.returncode != 0)
+
+
+def main():
+    with tempfile.TemporaryDirectory() as folder:
+        source, library = os.path.join(folder, "refusing.c"), os.path.join(folder, "refusing.so")
+        with open(source, "w") as file:
+            file.write(REFUSING)
+        subprocess.run(["gcc", "-O1", "-shared", "-fPIC", "-o", library, source], check=True)
+        wrong = sum(count(library, name) for name in CASES)
+        if os.path.exists(TESTS):
+            wrong += count_test(library)
+        else:
+            print(f"{FIELD_TEST}: not built")
+        return 1 if wrong else 0
+
+
+if __name__ == "__main__":
+    sys.exit(main())
