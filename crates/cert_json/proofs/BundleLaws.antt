@@ -21,7 +21,7 @@ use Rattle.cert_json.specs.Bundles.{bundle_at}
 use Rattle.cert_json.specs.Examined.{pred_at, proof_at}
 use Rattle.cert_json.proofs.ProofLaws.{pred_takes, pred_again, proof_takes, proof_again}
 
-bundle_takes : (d : Data) (bundle : Bundle) → bundle_at d ≡ Ok bundle → IsBundleFile bundle d
+pub bundle_takes : (d : Data) (bundle : Bundle) → bundle_at d ≡ Ok bundle → IsBundleFile bundle d
 unfolding bundle_at
 bundle_takes d bundle e =
     let net_path = member_path [] (codes "net") in
@@ -45,7 +45,7 @@ bundle_takes d bundle e =
       within = taken.1;
     })
 
-bundle_again : (d : Data) (bundle : Bundle) → IsBundleFile bundle d → bundle_at d ≡ Ok bundle
+pub bundle_again : (d : Data) (bundle : Bundle) → IsBundleFile bundle d → bundle_at d ≡ Ok bundle
 unfolding bundle_at
 bundle_again d bundle file =
     let net : NetModel = bundle.net in

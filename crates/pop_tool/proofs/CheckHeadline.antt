@@ -6,6 +6,7 @@ use Rattle.pop_io.specs.declared.whole.TheConstants.{INPUT_LIMIT}
 use Rattle.pop_lines.specs.Lines.{lines_of, ended}
 use Rattle.pop_words.specs.declared.command.Command.TheVariants.{Check}
 use Rattle.cert_json.specs.declared.bundle.Bundle.{Bundle}
+use Rattle.cert_json.proofs.BundleLaws.{bundle_takes, bundle_again}
 use Rattle.pop_checker.specs.declared.fault.Rejected.{Rejected}
 use Rattle.pop_checker.specs.declared.fault.Rejected.TheVariants.{Layers, Tree, Predicate}
 use Rattle.pop_checker.proofs.OneFault.{none_rejected}
@@ -74,7 +75,7 @@ pub check_says : (input : List ℕ) (bundle : Bundle) (given : Result Output Ref
 check_says input bundle given line is =
     let of_line : OfLine line.line given = subst (λ (ls : List (List ℕ)). After (just_one ls) OfLine given) line.lines (short_lines input given line.short is) in
     let value = one_value line.line of_line.1.0 (Some line.value) of_line.1.1 line.reads in
-    let read : of_line.0 ≡ Ok bundle = of_line.1.2 ∙ ap bundle_in value ∙ rw line.is refl in
+    let read : of_line.0 ≡ Ok bundle = of_line.1.2 ∙ ap bundle_in value ∙ rw (bundle_again line.value bundle line.file) refl in
     let of_bundle : OfBundle bundle given = subst (λ (r : Result Bundle Refusal). After r OfBundle given) read of_line.2 in
     subst (λ (g : Result Output Refusal). CheckSays bundle (output_for g).text (status_of (output_for g).ending)) (sym of_bundle.2)
     (judged_says (judgement bundle of_bundle.0).text bundle of_bundle.0 of_bundle.1 refl)
@@ -97,7 +98,7 @@ module _ (k : ℕ) where
       let value = some_value line found.1.0 found.0 found.1.1 (sym found.1.2) in
       record {
         bundle = found.0;
-        line = record { short = short; line = line; lines = is; value = value.0; reads = value.1; is = value.2 };
+        line = record { short = short; line = line; lines = is; value = value.0; reads = value.1; file = bundle_takes value.0 found.0 value.2 };
         valid = found.2;
       }
 

@@ -1,6 +1,7 @@
 mod Replies
 mod Puts
 mod One
+mod BundleInput
 mod CheckHeadline
 mod RunHeadline
 mod ReplayHeadline

@@ -42,6 +42,7 @@ use Rattle.tool_commands.proofs.InputSize.{length-input_crowd}
 use Rattle.tool_commands.proofs.Begun.{begun_two, begun_few}
 use Rattle.pop_tool.specs.Answer.{InputGives}
 use Rattle.pop_tool.specs.Headline.{IsValid, IsHeldInput}
+use Rattle.pop_tool.proofs.BundleInput.{begins_input, input_begins}
 
 first_byte : List ℕ → ℕ
 first_byte bytes = get_or bytes 0 0
@@ -155,10 +156,11 @@ held_given input k held given is =
     let start = input_crowd held.bundle.net held.counts in
     let lines : After (two_and_some (held.first ∷ held.second ∷ held.more)) OfLines given = subst (λ (ls : List (List ℕ)). After (two_and_some ls) OfLines given) held.lines (short_lines input given held.short is) in
     let of = some_more (length start) held.first held.second held.more held.journal given held.read lines in
-    let begin = one_begin held.first held.second of.0 (Ok (held.bundle, held.counts)) of.1 held.begins in
+    let begins = input_begins held.first held.second held.bundle held.counts held.begins in
+    let begin = one_begin held.first held.second of.0 (Ok (held.bundle, held.counts)) of.1 begins in
     let begun : OfBegun held.more (held.bundle, held.counts) given = subst (λ (r : Result (Bundle × List ℕ) Refusal). After r (OfBegun held.more) given) begin of.2 in
     begun.2 ∙ judged_given held.bundle held.counts held.more begun.0 begun.1 held.valid
-    ∙ held_output held.first held.second held.bundle held.counts held.begins held.more held.journal held.read held.holds
+    ∙ held_output held.first held.second held.bundle held.counts begins held.more held.journal held.read held.holds
     ∙ ap (λ (n : ℕ). Ok (holds_output n)) held.all
 
 module _ (k : ℕ) (small : k < 2 ^ 64) where
@@ -179,7 +181,7 @@ module _ (k : ℕ) (small : k < 2 ^ 64) where
           lines = lines;
           bundle = bundle;
           counts = counts;
-          begins = begins;
+          begins = begins_input first second bundle counts begins;
           valid = valid;
           journal = journal;
           read = read;

@@ -29,6 +29,7 @@ use Rattle.tool_commands.proofs.Begun.{begun_two}
 use Rattle.tool_commands.proofs.Ran.{run_tuples}
 use Rattle.pop_tool.specs.Answer.{InputGives}
 use Rattle.pop_tool.specs.Headline.{RunSays, WasRun}
+use Rattle.pop_tool.proofs.BundleInput.{begins_input}
 
 pub two_lines : (lines : List (List ℕ)) (found : List ℕ × List ℕ) → just_two lines ≡ Ok found → lines ≡ found.0 ∷ found.1 ∷ []
 two_lines [] found e = absurd cc
@@ -109,7 +110,7 @@ module _ (spec : RunSpec) (input : List ℕ) where
         lines = made.lines;
         bundle = made.bundle;
         counts = made.counts;
-        begins = made.begins;
+        begins = begins_input made.first made.second made.bundle made.counts made.begins;
         computes = made.judged.1.computes;
         rounds = made.is.rounds;
         end = made.is.end;

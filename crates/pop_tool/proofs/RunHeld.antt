@@ -51,6 +51,7 @@ use Rattle.tool_commands.proofs.Ran.{run_reaches, run_tuples}
 use Rattle.pop_tool.specs.Answer.{InputGives, OfMeaning, Answer}
 use Rattle.pop_tool.specs.Headline.{WasRun, IsHeldInput}
 use Rattle.pop_tool.specs.ReplayHeld.{IsReplayHeld}
+use Rattle.pop_tool.proofs.BundleInput.{begins_input}
 use Rattle.pop_tool.proofs.RunHeadline.{IsMade, run_made}
 use Rattle.pop_tool.proofs.ReplayHeadline.{held_given}
 use Rattle.pop_words.proofs.Spent.{run_spent}
@@ -136,7 +137,7 @@ module _ (spec : RunSpec) (input : List ℕ) (output : Output) (made : IsMade sp
         lines = lines_are;
         bundle = made.bundle;
         counts = made.counts;
-        begins = made.begins;
+        begins = begins_input made.first made.second made.bundle made.counts made.begins;
         valid = made.judged.0;
         journal = journal;
         read = ap journal_read written.0;

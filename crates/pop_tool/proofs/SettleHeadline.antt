@@ -26,6 +26,7 @@ use Rattle.tool_commands.specs.Bundles.{IsBegunBy, IsJudged}
 use Rattle.tool_commands.specs.Settle.{takes_allowed, IsSettled, OfJudged, OfBegun, OfLines, SettleGives}
 use Rattle.pop_tool.specs.Answer.{InputGives}
 use Rattle.pop_tool.specs.Headline.{SettleSays}
+use Rattle.pop_tool.proofs.BundleInput.{begins_input}
 use Rattle.pop_tool.proofs.RunHeadline.{two_lines}
 
 abbrev IsDone : Result Output Refusal → Type 0
@@ -50,7 +51,7 @@ module _ (input : List ℕ) (given : Result Output Refusal) (done : IsDone given
           lines = lines;
           bundle = bundle;
           counts = counts;
-          begins = begins;
+          begins = begins_input first second bundle counts begins;
           computes = judged.1.computes;
           takes = s.takes;
           end = s.end;

@@ -23,7 +23,7 @@ use Rattle.pop_journal.specs.declared.last.Last.{Last}
 use Rattle.pop_journal.specs.declared.last.Last.TheVariants.{Verdict}
 use Rattle.cert_base.specs.ProofBound.{proof_bound}
 use Rattle.cert_base.specs.ValidProof.{ValidProof}
-use Rattle.cert_json.specs.Bundles.{bundle_at}
+use Rattle.cert_json.specs.BundleFile.{IsBundleFile}
 use Rattle.cert_json.specs.declared.bundle.Bundle.{Bundle}
 use Rattle.pop_settle.specs.declared.take.Take.{Take}
 use Rattle.pop_settle.specs.Settlement.{IsSettlement}
@@ -31,7 +31,7 @@ use Rattle.pop_checker.specs.Computes.{Computes}
 use Rattle.tool_texts.specs.declared.status.Status.{Status}
 use Rattle.tool_texts.specs.declared.status.Status.TheVariants.{Done, Undecided}
 use Rattle.tool_texts.specs.Json.{HasValue}
-use Rattle.tool_commands.specs.Bundles.{IsBegunBy}
+use Rattle.tool_commands.specs.Start.{fitting_in}
 use Rattle.tool_commands.specs.Check.{certified_text}
 use Rattle.tool_commands.specs.declared.replay.TheConstants.{JOURNAL_LINE}
 use Rattle.tool_commands.specs.Replay.{holds_text, journal_read}
@@ -41,14 +41,21 @@ use Rattle.tool_commands.specs.Settle.{settle_text}
 use Rattle.tool_commands.specs.Compile.{asked, bundle_line, IsCompiled}
 use Rattle.pop_tool.specs.Outcome.{IsAnswered}
 
--- the input, within its limit, is one line, which is this bundle
+-- the input, within its limit, is one line, which is the file of this bundle
 pub record IsBundleLine (input : List ℕ) (bundle : Bundle) : Type 0 where
   pub short : length input ≤ INPUT_LIMIT
   pub line : List ℕ
   pub lines : lines_of input ≡ line ∷ []
   pub value : Data
   pub reads : HasValue line (Some value)
-  pub is : bundle_at value ≡ Ok bundle
+  pub file : IsBundleFile bundle value
+
+-- the first line is the file of this bundle, and the second a crowd line with counts in which the bundle's net can start
+pub record IsBundleInput (first second : List ℕ) (bundle : Bundle) (counts : List ℕ) : Type 0 where
+  pub value : Data
+  pub reads : HasValue first (Some value)
+  pub file : IsBundleFile bundle value
+  pub fits : fitting_in bundle.net second ≡ Ok counts
 
 abbrev pub IsValid : Bundle → Type 0
 IsValid bundle = ValidProof bundle.net bundle.pred bundle.proof
@@ -72,7 +79,7 @@ pub record RunSays (spec : RunSpec) (input text : List ℕ) : Type 0 where
   pub lines : lines_of input ≡ first ∷ second ∷ []
   pub bundle : Bundle
   pub counts : List ℕ
-  pub begins : IsBegunBy first second (Ok (bundle, counts))
+  pub begins : IsBundleInput first second bundle counts
   pub computes : Computes bundle.net bundle.pred.tree (proof_bound bundle.proof)
   pub rounds : List (List Meeting)
   pub end : CrowdModel
@@ -90,7 +97,7 @@ pub record SettleSays (input text : List ℕ) : Type 0 where
   pub lines : lines_of input ≡ first ∷ second ∷ []
   pub bundle : Bundle
   pub counts : List ℕ
-  pub begins : IsBegunBy first second (Ok (bundle, counts))
+  pub begins : IsBundleInput first second bundle counts
   pub computes : Computes bundle.net bundle.pred.tree (proof_bound bundle.proof)
   pub takes : List Take
   pub end : CrowdModel
@@ -110,7 +117,7 @@ pub record IsHeldInput (input : List ℕ) (meetings : ℕ) : Type 0 where
   pub lines : lines_of input ≡ first ∷ second ∷ more
   pub bundle : Bundle
   pub counts : List ℕ
-  pub begins : IsBegunBy first second (Ok (bundle, counts))
+  pub begins : IsBundleInput first second bundle counts
   pub valid : IsValid bundle
   pub journal : Journal
   pub read : journal_read (journal_in (length (input_crowd bundle.net counts)) JOURNAL_LINE more) ≡ Ok journal

@@ -1,0 +1,31 @@
+-- The order in which a bundle and a crowd line are examined, and what they are.
+use Rattle.std.proofs.Common.{◌≡◌, ℕ, List, Option, Some, Result, Ok, refl, sym, subst}
+use Rattle.cert_json.specs.declared.bundle.Bundle.{Bundle}
+use Rattle.cert_json.specs.Bundles.{bundle_at}
+use Rattle.cert_json.proofs.BundleLaws.{bundle_takes, bundle_again}
+use Rattle.tool_texts.specs.Steps.{◌>>=◌}
+use Rattle.tool_texts.proofs.Goes.{bind_ok, same_ok}
+use Rattle.tool_commands.specs.Start.{fitting_in}
+use Rattle.tool_commands.specs.Bundles.{bundle_in, begun, IsBegunBy}
+use Rattle.tool_commands.proofs.Certified.{some_value}
+use Rattle.pop_tool.specs.Headline.{IsBundleInput}
+
+pub begins_input : (first second : List ℕ) (bundle : Bundle) (counts : List ℕ) → IsBegunBy first second (Ok (bundle, counts)) → IsBundleInput first second bundle counts
+unfolding begun
+begins_input first second bundle counts begins =
+    let value = begins.0 in
+    let b = bind_ok (bundle_in value) (λ b. fitting_in b.net second >>= λ c. Ok (b, c)) (bundle, counts) (sym begins.2) in
+    let c = bind_ok (fitting_in b.0.net second) (λ c. Ok (b.0, c)) (bundle, counts) b.2 in
+    let found = some_value first value b.0 begins.1 b.1 in
+    subst (λ (x : Bundle × List ℕ). IsBundleInput first second x.0 x.1) (same_ok (b.0, c.0) (bundle, counts) c.2)
+    (record {
+      value = found.0;
+      reads = found.1;
+      file = bundle_takes found.0 b.0 found.2;
+      fits = c.1;
+    })
+
+pub input_begins : (first second : List ℕ) (bundle : Bundle) (counts : List ℕ) → IsBundleInput first second bundle counts → IsBegunBy first second (Ok (bundle, counts))
+unfolding begun
+input_begins first second bundle counts input =
+    (Some input.value, input.reads, rw (bundle_again input.value bundle input.file, input.fits) refl)
