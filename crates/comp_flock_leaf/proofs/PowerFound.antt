@@ -1,6 +1,6 @@
 -- What is known of the power of a flock atom.
 use Rattle.std.proofs.Common.{◌≡◌, ◌∙◌, ℕ, ◌+◌, ◌<◌, ◌≤◌, Bool, true, false, List, refl, sym, arith}
-use Rattle.std.specs.Prelude.{ℤ, Option, Some, None, find, if◌then◌else◌}
+use Rattle.std.specs.Prelude.{ℤ, Some, None, find, if◌then◌else◌}
 use Rattle.std.specs.List.{range_with_len, list_all}
 use Rattle.std.specs.Ordering.{int_eq}
 use Rattle.std.proofs.lemmas.Bool.Decides.{Decides-int_eq}

@@ -4,3 +4,4 @@ pub mod PlacesMore
 pub mod Members
 pub mod Single
 pub mod LayerLimits
+pub mod StateNames

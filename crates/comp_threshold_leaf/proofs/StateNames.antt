@@ -1,41 +1,22 @@
 -- The names of a built leaf's states are in form, and no two are equal.
-use Rattle.std.proofs.Common.{◌≡◌, ◌≢◌, ◌⊎◌, inl, inr, subst, ℕ, suc, ◌+◌, ◌<◌, ◌≤◌, ◌^◌, ◌%◌, Bool, true, false, ◌&&◌, List, [], ◌∷◌, ◌++◌, length, map, get_or, refl, ap, sym, ◌∙◌, zero-add, arith}
-use Rattle.std.specs.Prelude.{ℤ, pos, negsuc, neg_ℤ, ◌-ℤ◌, ◌<ℤ◌, if◌then◌else◌, ◌==◌, nat_lt, nat_le, All, AllPairs, IsTrue}
+use Rattle.std.proofs.Common.{◌≡◌, ◌⊎◌, inl, inr, ℕ, suc, ◌+◌, ◌<◌, ◌≤◌, Bool, true, false, ◌&&◌, length, map, refl, ap, sym, ◌∙◌, arith}
+use Rattle.std.specs.Prelude.{ℤ, pos, negsuc, neg_ℤ, ◌-ℤ◌, ◌<ℤ◌, if◌then◌else◌, ◌==◌, nat_lt, nat_le, IsTrue}
 use Rattle.std.specs.List.{range_with_len, list_all}
-use Rattle.std.specs.Fmt.{decimal, signed_decimal}
+use Rattle.std.specs.Fmt.{signed_decimal}
 use Rattle.std.proofs.lemmas.Int.{ints}
 use lib.Signed.{mag}
-use Rattle.std.proofs.lemmas.Fmt.{signed_decimal_injective, decimal_by_steps, length_signed_le}
-use Rattle.std.proofs.lemmas.Bool.{lt-ltb, le-ltb, le-leb, ne_eqb, cases_lt, and_parts}
-use Rattle.std.proofs.lemmas.List.FromFn.{get_or-map-range_with_len, length-map-range_with_len}
+use Rattle.std.proofs.lemmas.Fmt.{signed_decimal_injective, length_signed_le}
+use Rattle.std.proofs.lemmas.Bool.{lt-ltb, le-ltb, le-leb, cases_lt}
 use Rattle.pop_io.specs.Names.{is_printed, is_state_name, AreNames}
+use Rattle.comp_layers.proofs.StateNames.{decimal-printed, named-apart}
 use Rattle.comp_threshold_leaf.specs.ThresholdLeaf.{span, place_in, letter, name_of, state_count}
 use Rattle.comp_threshold_leaf.proofs.Places.{Kind, kind_of, place-below}
 
 -- ---- the bytes of a name
 
-printed : (c : ℕ) → 48 ≤ c → c ≤ 126 → is_printed c ≡ true
-printed c l m =
-    let a : nat_le 33 c ≡ true = le-leb 33 c (omega arith) in
-    let d : nat_le c 126 ≡ true = le-leb c 126 m in
-    let e : (c == 47) ≡ false = ne_eqb c 47 (λ f. omega arith) in
-    rw (a, d, e) refl
-
-all_one : (ds : List ℕ) (c : ℕ) → list_all is_printed ds ≡ true → is_printed c ≡ true → list_all is_printed (ds ++ c ∷ []) ≡ true
-all_one [] c e f = rw f refl
-all_one (d ∷ ds) c e f =
-    let both = and_parts (is_printed d) (list_all is_printed ds) e in
-    let first = both.0 in
-    let rest = all_one ds c both.1 f in
-    rw (first, rest) refl
-
-decimal-printed : (n : ℕ) → n < 2 ^ 64 → list_all is_printed (decimal n) ≡ true
-decimal-printed n l =
-    decimal_by_steps (λ n ds. list_all is_printed ds ≡ true) (λ n m. let e = printed (48 + n) (omega arith) (omega arith) in rw e refl) (λ n ds m e. all_one ds (48 + n % 10) e (printed (48 + n % 10) (omega arith) (omega arith))) n l
-
 signed-printed : (z : ℤ) → mag z < 1000 → list_all is_printed (signed_decimal z) ≡ true
-signed-printed (pos n) l = decimal-printed n (omega arith)
-signed-printed (negsuc n) l = decimal-printed (suc n) (omega arith)
+signed-printed (pos n) l = (decimal-printed n (omega arith)).all
+signed-printed (negsuc n) l = (decimal-printed (suc n) (omega arith)).all
 
 small : (p s : ℕ) → p < 1000 → s < 1000 → mag (pos p -ℤ pos s) < 1000
 small p s l m = go (pos p -ℤ pos s) (omega (arith, ints)) (omega (arith, ints))
@@ -97,22 +78,5 @@ name-injective s p q few kp kq e =
     sym (state-back s p) ∙ ap (λ l. back s l (place_in s p)) letters ∙ ap (back s (letter s q)) places ∙ state-back s q
 
 pub names-formed : (s : ℕ) → s < 400 → AreNames is_state_name (map (name_of s) (range_with_len 0 (state_count s)))
-names-formed s few = (forms, apart)
-  where
-    names : List (List ℕ)
-    names = map (name_of s) (range_with_len 0 (state_count s))
-
-    at : (i : ℕ) (d : List ℕ) → i < state_count s → get_or (map (name_of s) (range_with_len 0 (state_count s))) i d ≡ name_of s i
-    at i d l = get_or-map-range_with_len (name_of s) 0 (state_count s) i i d l (zero-add i)
-
-    forms : All (λ name. IsTrue (is_state_name name)) (map (name_of s) (range_with_len 0 (state_count s)))
-    forms k d l =
-        let m : k < state_count s = omega (arith, length-map-range_with_len (name_of s) 0 (state_count s)) in
-        subst (λ name. IsTrue (is_state_name name)) (sym (at k d m)) (name-form s k few (kind_of s k m))
-
-    apart : AllPairs ◌≢◌ (map (name_of s) (range_with_len 0 (state_count s)))
-    apart i j d l m e =
-        let mj : j < state_count s = omega (arith, length-map-range_with_len (name_of s) 0 (state_count s)) in
-        let mi : i < state_count s = omega arith in
-        let same = name-injective s i j few (kind_of s i mi) (kind_of s j mj) (sym (at i d mi) ∙ e ∙ at j d mj) in
-        omega arith
+names-formed s few =
+    named-apart (name_of s) (state_count s) (λ i l. name-form s i few (kind_of s i l)) (λ i j l m e. name-injective s i j few (kind_of s i l) (kind_of s j m) e)
