@@ -1,5 +1,5 @@
 -- Both trees of a built leaf of a flock atom close.
-use Rattle.std.proofs.Common.{◌≡◌, ◌⊎◌, ◌∙◌, inl, inr, subst, ℕ, zero, suc, ◌+◌, ◌<◌, ◌≤◌, Bool, true, false, ◌&&◌, ◌||◌, cond, List, [], ◌∷◌, ◌++◌, length, map, append_assoc, length-append, refl, ap, sym, zero-add, arith}
+use Rattle.std.proofs.Common.{◌≡◌, ◌∙◌, subst, ℕ, zero, suc, ◌+◌, ◌<◌, ◌≤◌, Bool, true, false, ◌&&◌, List, [], ◌∷◌, ◌++◌, length, map, append_assoc, length-append, refl, ap, sym, zero-add, arith}
 use Rattle.std.specs.Prelude.{ℤ, pos, neg_ℤ, ◌-ℤ◌, if◌then◌else◌, ◌==◌, not, Some, slice_get, nat_lt, filter, All}
 use Rattle.std.specs.List.{range_with_len, list_all}
 use Rattle.std.proofs.lemmas.Bool.{lt-ltb, eq-eqb, ne_eqb}
@@ -13,7 +13,7 @@ use Rattle.cert_base.specs.declared.fact.Fact.TheVariants.{Ge, Holds}
 use Rattle.cert_base.specs.declared.node.Node.{Node}
 use Rattle.cert_base.specs.declared.node.Node.TheVariants.{Present, Twin, Siphon, Open}
 use Rattle.cert_base.specs.Rows.{input_row}
-use Rattle.cert_base.specs.FactsAndCases.{states_of, flow, base_facts, two_agents, wrong_output, absent, occurs, alone, not_twice, can_meet, present_cases, siphon_cases, open_cases}
+use Rattle.cert_base.specs.FactsAndCases.{states_of, flow, base_facts, two_agents, wrong_output, absent, occurs, alone, not_twice, can_meet, open_cases}
 use Rattle.cert_base.specs.Closes.{cases_of, ClosesUnder, refuted, by_cases, no_case, next_case, Closes}
 use Rattle.comp_trees.specs.LeaderTree.{weighed}
 use Rattle.comp_layers.proofs.Members.{all_range, range_one_more}
@@ -21,8 +21,7 @@ use Rattle.comp_flock_leaf.specs.FlockLeaf.{is_coefficient, bound_of, flock_leaf
 use Rattle.comp_flock.specs.FlockProof.{few_by, converted_by, first_by, start_by, never_by, true_tree, false_tree, flock_pred}
 use Rattle.comp_flock_leaf.proofs.MoveLists.{doubles, converts}
 use Rattle.comp_flock_leaf.proofs.Formed.{states-long}
-use Rattle.comp_flock.proofs.Mixes.{all_facts}
-use Rattle.comp_flock.proofs.TrueNodes.{true_row, few_facts, few_closes, converted_facts, converted_closes}
+use Rattle.comp_flock.proofs.TrueNodes.{few_facts, few_closes, converted_facts, converted_closes}
 use Rattle.comp_flock.proofs.FalseNodes.{full, first_facts, first_closes, start_facts, start_closes, never_facts, never_long, never_closes}
 
 at_end : {A : Type 0} (xs ys : List A) (n k : ℕ) → length xs ≡ n → slice_get (xs ++ ys) (n + k) ≡ slice_get ys k

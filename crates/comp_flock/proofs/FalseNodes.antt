@@ -1,11 +1,11 @@
 -- The nodes of the tree for false close.
-use Rattle.std.proofs.Common.{◌≡◌, ◌≢◌, ◌⊎◌, ◌∙◌, inl, inr, subst, ℕ, zero, suc, ◌+◌, ◌^◌, ◌<◌, ◌≤◌, Bool, true, false, ◌&&◌, ◌||◌, List, [], ◌∷◌, ◌++◌, length, map, get_or, refl, ap, sym, zero-add, arith}
-use Rattle.std.specs.Prelude.{ℤ, pos, negsuc, neg_ℤ, ◌+ℤ◌, ◌-ℤ◌, ◌*ℤ◌, ◌≤ℤ◌, if◌then◌else◌, ◌==◌, not, All, int_le}
+use Rattle.std.proofs.Common.{◌≡◌, ◌≢◌, ◌⊎◌, ◌∙◌, inl, inr, subst, ℕ, ◌+◌, ◌^◌, ◌<◌, ◌≤◌, Bool, true, false, ◌&&◌, ◌||◌, List, [], ◌∷◌, ◌++◌, length, map, get_or, refl, ap, sym, arith}
+use Rattle.std.specs.Prelude.{ℤ, pos, negsuc, neg_ℤ, ◌+ℤ◌, ◌-ℤ◌, ◌*ℤ◌, ◌≤ℤ◌, if◌then◌else◌, ◌==◌, not, All}
 use Rattle.std.specs.List.{range_with_len, list_all}
 use Rattle.std.specs.Ordering.{int_eq}
 use Rattle.std.proofs.lemmas.Int.{ints}
-use Rattle.std.proofs.Math.IntN.{*ℤ-zero, zero-*ℤ, *ℤ_comm}
-use Rattle.std.proofs.lemmas.Bool.{cases_lt, cases_eq, eq-eqb, ne_eqb}
+use Rattle.std.proofs.Math.IntN.{*ℤ-zero, zero-*ℤ}
+use Rattle.std.proofs.lemmas.Bool.{cases_lt, eq-eqb, ne_eqb}
 use Rattle.std.proofs.lemmas.Bool.Decides.{eqb_tells}
 use Rattle.std.proofs.lemmas.List.{length-map, length-append, get_or-map, get_or_past, length-replicate}
 use Rattle.std.proofs.lemmas.List.Elements.{All-get_or}
@@ -23,7 +23,7 @@ use Rattle.cert_base.proofs.WeightedSums.{weighted_sum-append, weighted_sum-zero
 use Rattle.cert_base.proofs.FlowSums.{coefficient-dense, times-one, mul-neg}
 use Rattle.comp_trees.proofs.LeaderEnds.{is_wrong}
 use Rattle.comp_trees.proofs.TrapNodes.{range-constant, states-state, states-input, states-past}
-use Rattle.comp_flock_leaf.specs.FlockLeaf.{is_coefficient, bound_of, size_of, start_of, name_of, doubling, conversion, moves_of, flock_leaf}
+use Rattle.comp_flock_leaf.specs.FlockLeaf.{is_coefficient, bound_of, size_of, start_of, doubling, conversion, moves_of, flock_leaf}
 use Rattle.comp_flock.specs.FlockProof.{mix, size_below, first_by, start_by, never_by, flock_pred}
 use Rattle.comp_flock_leaf.proofs.Powers.{power-double, size-power, size-at, zero_le}
 use Rattle.comp_flock_leaf.proofs.MoveLists.{all_moves, all_doublings, all_conversions}

@@ -1,6 +1,6 @@
 -- The layer of a built leaf of a flock atom is valid.
-use Rattle.std.proofs.Common.{◌≡◌, ◌∙◌, subst, ℕ, zero, suc, ◌+◌, ◌<◌, ◌≤◌, true, List, [], ◌∷◌, length, map, get_or, refl, ap, sym, zero-add, arith}
-use Rattle.std.specs.Prelude.{ℤ, pos, ◌==◌, All}
+use Rattle.std.proofs.Common.{◌≡◌, ◌∙◌, subst, ℕ, zero, suc, ◌+◌, ◌<◌, ◌≤◌, true, List, [], ◌∷◌, length, map, refl, ap, sym, zero-add, arith}
+use Rattle.std.specs.Prelude.{ℤ, pos, ◌==◌}
 use Rattle.std.specs.List.{range_with_len}
 use Rattle.std.proofs.lemmas.Int.{ints}
 use Rattle.std.proofs.lemmas.Bool.{eq-eqb, ne_eqb, cases_eq}
@@ -9,7 +9,6 @@ use Rattle.std.proofs.lemmas.List.Elements.{All-nil, All-cons}
 use Rattle.std.proofs.lemmas.List.FromFn.{length-map-range_with_len, get_or-map-range_with_len}
 use Rattle.pop_net.specs.declared.leaf.Move.{Move}
 use Rattle.pop_net.specs.LeafModel.{LeafModel}
-use Rattle.cert_base.specs.declared.layer.Layer.{Layer}
 use Rattle.cert_base.specs.ValidLayers.{weight_at, IsLower, ValidLayers}
 use Rattle.comp_layers.proofs.SortedLayers.{AreKinds, sorted_layers-valid}
 use Rattle.comp_flock_leaf.specs.FlockLeaf.{doubling, conversion, moves_of, flock_leaf}

@@ -5,19 +5,18 @@ use Rattle.std.specs.Ordering.{int_eq}
 use Rattle.std.proofs.lemmas.Int.{ints}
 use Rattle.std.proofs.Math.IntN.{*ℤ-zero, zero-*ℤ}
 use Rattle.std.proofs.lemmas.List.{length-map, length-append, get_or_past}
-use Rattle.std.proofs.lemmas.List.FromFn.{length-map-range_with_len}
 use Rattle.std.proofs.lemmas.List.Elements.{All-get_or}
 use Rattle.pop_net.specs.declared.leaf.Move.{Move}
 use Rattle.pop_net.specs.LeafModel.{LeafModel, IsMoveBelow}
 use Rattle.pres_ast.specs.PredModel.{PredModel}
 use Rattle.cert_base.specs.declared.fact.Fact.{Fact}
-use Rattle.cert_base.specs.declared.fact.Fact.TheVariants.{Ge, Eq, Holds}
-use Rattle.cert_base.specs.Rows.{terms_from, zeros, input_row}
-use Rattle.cert_base.specs.ClosingTests.{row_of, coefficient_in, linear_closes, may_add}
-use Rattle.cert_base.specs.FactsAndCases.{indicator, states_of, flow, base_facts, two_agents, wrong_output, differs}
-use Rattle.cert_base.specs.WeightedSums.{weighted_sum, coefficient, constant_of, may_weigh, total}
+use Rattle.cert_base.specs.declared.fact.Fact.TheVariants.{Ge, Holds}
+use Rattle.cert_base.specs.Rows.{terms_from, input_row}
+use Rattle.cert_base.specs.ClosingTests.{row_of, linear_closes, may_add}
+use Rattle.cert_base.specs.FactsAndCases.{indicator, states_of, flow, base_facts, two_agents, wrong_output}
+use Rattle.cert_base.specs.WeightedSums.{weighted_sum, coefficient, constant_of, may_weigh}
 use Rattle.cert_base.proofs.WeightedSums.{weighted_sum-append, may_weigh-append, linear_closes-weighted}
-use Rattle.cert_base.proofs.FlowSums.{coefficient-dense, weighted_sum-map, total-none, valued, law-input, law-state, law-move, law-past, each_variable, times-one, mul-neg}
+use Rattle.cert_base.proofs.FlowSums.{coefficient-dense, weighted_sum-map, total-none, law-input, law-state, law-move, law-past, each_variable, times-one, mul-neg}
 use Rattle.comp_trees.proofs.LeaderEnds.{may_weigh-eqs, is_wrong}
 use Rattle.comp_trees.proofs.TrapNodes.{states-state, states-input, states-past}
 use Rattle.comp_flock.specs.FlockProof.{mix}

@@ -1,20 +1,20 @@
 -- The coefficients of the facts that the nodes add, and how many facts say that moves weren't taken.
-use Rattle.std.proofs.Common.{◌≡◌, ◌≢◌, ◌∙◌, ℕ, zero, suc, ◌+◌, ◌<◌, ◌≤◌, Bool, true, false, List, [], ◌∷◌, ◌++◌, length, map, get_or, replicate, refl, ap, sym, zero-add, arith}
+use Rattle.std.proofs.Common.{◌≡◌, ◌≢◌, ◌∙◌, ℕ, suc, ◌+◌, ◌<◌, Bool, true, false, List, [], ◌∷◌, ◌++◌, length, map, get_or, refl, ap, sym, arith}
 use Rattle.std.specs.Prelude.{ℤ, pos, negsuc, neg_ℤ, ◌+ℤ◌, ◌*ℤ◌, if◌then◌else◌, ◌==◌, All}
 use Rattle.std.specs.List.{range_with_len}
 use Rattle.std.proofs.lemmas.Int.{ints}
-use Rattle.std.proofs.Math.IntN.{*ℤ-zero, zero-*ℤ}
+use Rattle.std.proofs.Math.IntN.{*ℤ-zero}
 use Rattle.std.proofs.Math.ListN.{get_or-append}
-use Rattle.std.proofs.lemmas.List.{length-map, length-append, get_or-append-add, get_or-map, get_or_past, length-replicate, get_or-replicate}
+use Rattle.std.proofs.lemmas.List.{length-map, get_or-append-add, get_or-map, get_or_past, length-replicate, get_or-replicate}
 use Rattle.std.proofs.lemmas.List.Elements.{All-head, All-tail}
 use Rattle.pop_net.specs.declared.leaf.Move.{Move}
 use Rattle.pop_net.specs.LeafModel.{LeafModel}
 use Rattle.cert_base.specs.Rows.{terms_from, zeros}
-use Rattle.cert_base.specs.FactsAndCases.{indicator, states_of, absent, not_twice, some_taken, places_from}
+use Rattle.cert_base.specs.FactsAndCases.{indicator, not_twice, some_taken, places_from}
 use Rattle.cert_base.specs.ClosingTests.{coefficient_in}
 use Rattle.cert_base.specs.WeightedSums.{coefficient, total}
 use Rattle.cert_base.proofs.FlowSums.{coefficient-dense, total-same, total-none_range, total-one, unlike}
-use Rattle.comp_trees.proofs.LeaderEnds.{absent-at, shifted}
+use Rattle.comp_trees.proofs.LeaderEnds.{shifted}
 
 pub not_twice-at : (leaf : LeafModel) (q x : ℕ) → coefficient x (not_twice leaf q) ≡ neg_ℤ (indicator ((length leaf.inputs + q) == x))
 not_twice-at leaf q x = go ((length leaf.inputs + q) == x)

@@ -1,12 +1,12 @@
 -- The predicate of a flock atom is within the limits of predicates.
-use Rattle.std.proofs.Common.{◌≡◌, ◌⊎◌, ◌∙◌, inl, inr, ℕ, zero, suc, ◌-◌, ◌^◌, ◌≤◌, true, List, length, get_or, refl, ap, arith}
-use Rattle.std.specs.Prelude.{ℤ, pos, neg_ℤ, ◌-ℤ◌, nat_abs, All}
+use Rattle.std.proofs.Common.{◌≡◌, ◌∙◌, inl, inr, ℕ, zero, suc, ◌-◌, ◌^◌, ◌≤◌, true, List, length, get_or, refl, ap, arith}
+use Rattle.std.specs.Prelude.{ℤ, pos, neg_ℤ, nat_abs}
 use Rattle.std.specs.List.{list_all}
 use Rattle.std.proofs.lemmas.Int.{ints}
 use Rattle.std.proofs.lemmas.List.Elements.{All-from_get_or}
 use Rattle.std.proofs.lemmas.List.Sums.{AllPass-from_list_all}
 use Rattle.pop_io.specs.declared.names.TheConstants.{VARIABLE_LIMIT}
-use Rattle.pres_ast.specs.declared.limits.TheConstants.{COEFFICIENT_LIMIT, BOUND_LIMIT}
+use Rattle.pres_ast.specs.declared.limits.TheConstants.{COEFFICIENT_LIMIT}
 use Rattle.pres_ast.specs.PredTree.{LessThan}
 use Rattle.pres_ast.specs.PredModel.{IsPred}
 use Rattle.comp_flock_leaf.specs.FlockLeaf.{is_coefficient, bound_of}

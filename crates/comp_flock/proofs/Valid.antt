@@ -1,5 +1,5 @@
 -- The proof of a built leaf of a flock atom is valid.
-use Rattle.std.proofs.Common.{◌≡◌, ◌∙◌, subst, true, false, ℕ, ◌≤◌, List, length, refl, ap, sym, arith}
+use Rattle.std.proofs.Common.{◌≡◌, ◌∙◌, subst, true, ℕ, ◌≤◌, List, length, refl, ap, sym, arith}
 use Rattle.std.specs.Prelude.{ℤ}
 use Rattle.std.specs.List.{list_all}
 use Rattle.pop_net.specs.LeafModel.{LeafModel}

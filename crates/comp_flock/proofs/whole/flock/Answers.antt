@@ -1,5 +1,4 @@
-use Rattle.std.proofs.Common.{◌∙◌, ap, sym, subst, length}
-use Rattle.pop_net.specs.LeafModel.{LeafModel}
+use Rattle.std.proofs.Common.{sym, subst, length}
 use Rattle.cert_base.specs.ProofLimits.{IsLeafProofWithin}
 use Rattle.comp_flock.proofs.Valid.{IsFlock, part-as, flock-within, whole-valid}
 use Rattle.comp_flock.proofs.whole.flock.Goals as goal

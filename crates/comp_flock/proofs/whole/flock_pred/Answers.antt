@@ -1,4 +1,4 @@
-use Rattle.std.proofs.Common.{◌≡◌, ◌∙◌, subst, sym, ap, length, rules, w64, SFits, to_z, of_z}
+use Rattle.std.proofs.Common.{◌≡◌, ◌∙◌, subst, sym, length, rules, w64, SFits, to_z, of_z}
 use Rattle.std.specs.Prelude.{ℤ, List}
 use Rattle.std.proofs.lemmas.Int.{to_z-of_z}
 use Rattle.pres_ast.specs.PredTree.{LessThan}
