@@ -1,13 +1,23 @@
-use Rattle.std.proofs.Common.{◌≡◌, ◌≤◌, ◌+◌, ◌∙◌, ◌∷◌, [], ap, drop, length, arith}
+use Rattle.std.proofs.Common.{◌≡◌, ◌≤◌, ◌+◌, ◌∙◌, List, ◌∷◌, [], ap, sym, subst, drop, length, arith}
 use Rattle.std.specs.Prelude.{Some}
 use Rattle.cert_base.specs.FactsAndCases.{base_facts}
 use Rattle.cert_tree.specs.declared.fault.TreeWhy.TheVariants.{Missing}
 use Rattle.cert_tree.specs.declared.fault.TreeFault.TheVariants.{Broken}
-use Rattle.cert_tree.specs.Refusals.{first_from}
-use Rattle.cert_tree.specs.Frames.{waiting, StandsAtFirst}
+use Rattle.cert_tree.specs.Refusals.{Waiting, first_from}
+use Rattle.cert_tree.specs.Frames.{waiting, MeetsWaiting, StandsAtFirst}
 use Rattle.cert_tree.proofs.ClosedWalk.{unrefused-Closes}
 use Rattle.cert_tree.proofs.Verdicts.{broken_at, missing_at, none_at, only_memory, closed_right, cover_on, drop_all, item_at}
 use Rattle.cert_tree.proofs.tree.check_tree.Goals as goal
+
+pub loop-number-init : goal.loop-number-init
+loop-number-init c =
+    let start = c.in_ok-walk.ensures.start in
+    record {
+      nested = start.nested;
+      fit = start.fit;
+      same = ap (λ (cases : List Waiting). first_from c.args.leaf.now cases 0 c.args.nodes.now) (sym start.waits);
+      cover = λ count end meets. subst (MeetsWaiting count) (sym start.waits) meets;
+    }
 
 pub returns-in-Err-clause-fault : goal.returns-in-Err-clause-fault
 returns-in-Err-clause-fault c =
