@@ -6,7 +6,7 @@ use Rattle.std.specs.Str.Parse.{digits_value}
 use Rattle.std.proofs.Math.Nat.{pow-le-pow_right}
 use Rattle.std.proofs.lemmas.Bool.{cases_eq}
 use Rattle.std.proofs.lemmas.List.{take-append-drop, get_or-take, length-take-le}
-use Rattle.std.proofs.lemmas.Fmt.{decimal-digits_value}
+use Rattle.std.proofs.lemmas.Fmt.{decimal_digit, decimal-digits_value}
 use Rattle.std.proofs.lemmas.Str.{digit_value_digit}
 use Rattle.std.proofs.lemmas.Str.Parse.{IsNumeralModel, numerals_by_value, tells_by_index}
 use Rattle.std.proofs.lemmas.Int.Digits.{digits_value_more}
@@ -79,6 +79,32 @@ lead_more text i value c h within at digit short no_zero =
     by_first : 2 ≤ i + 1 → get_or text 0 0 ≡ 48 → (i ≡ 1) ⊎ (i ≢ 1) → ⊥
     by_first two e (inl one) = no_zero one (first_zero text value (omega (arith, within)) (subst (λ (j : ℕ). digits_value 10 (take j text) ≡ value) one h.value_is) e)
     by_first two e (inr other) = h.lead (omega (arith, two, other)) e
+
+-- digits behind a first one that is no zero
+pub record IsLeadOn (text : List ℕ) (i value : ℕ) : Type 0 where
+  pub lead : IsLead text i value
+  pub some : 1 ≤ i
+  pub no_zero : value ≢ 0
+
+pub lead_first : (text : List ℕ) (c : ℕ) → 0 < length text → get_or text 0 0 ≡ c → IsInRange 48 57 c → c - 48 ≢ 0 → IsLeadOn text 1 (c - 48)
+lead_first text c within at digit other =
+    let none : 0 * 10 + (c - 48) ≡ c - 48 = omega arith in
+    let one : IsLead text 1 (0 * 10 + (c - 48)) = lead_more text 0 0 c (lead_none text) within at digit (omega arith) (λ e. absurd (omega (arith, e))) in
+    record { lead = subst (λ (v : ℕ). IsLead text 1 v) none one; some = omega arith; no_zero = other }
+
+pub lead_on : (text : List ℕ) (i value c : ℕ) → IsLeadOn text i value → i < length text → get_or text i 0 ≡ c → IsInRange 48 57 c → i < 9 → IsLeadOn text (i + 1) (value * 10 + (c - 48))
+lead_on text i value c h within at digit short =
+    record {
+      lead = lead_more text i value c h.lead within at digit (omega (arith, short)) (λ _. h.no_zero);
+      some = omega arith;
+      no_zero = λ e. let was = h.no_zero in was (omega (arith, e));
+    }
+
+-- the number 0 alone
+pub lead_zero : (text rest : List ℕ) (c : ℕ) → text ≡ c ∷ rest → IsInRange 48 57 c → c - 48 ≡ 0 → text ≡ decimal 0 ++ rest
+lead_zero text rest c e digit none =
+    let is : c ≡ 48 = omega (arith, digit.0, none) in
+    e ∙ ap (λ (x : ℕ). x ∷ rest) is ∙ ap (λ (ds : List ℕ). ds ++ rest) (sym (decimal_digit 0 (omega arith)))
 
 -- a text that begins with a number
 pub lead_number : (text : List ℕ) (i value : ℕ) → IsLead text i value → 0 < i → i ≤ length text → value < 2 ^ 64 → text ≡ decimal value ++ drop i text

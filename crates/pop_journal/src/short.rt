@@ -6,29 +6,28 @@ ghost use Rattle.pop_journal.specs.Form.{told_in};
 /// Each number of so many digits is below 2^32.
 const SHORT_DIGITS: usize = 9;
 
-/// The short number in its printed form that stands at the begin of a text, and what stands behind it.
+/// A short number in its printed form that stands at the begin of a text, and what stands behind it.
+#[inline(always)]
 fn leading_number(text: &[u8]) -> Option<(u32, &[u8])>
     ensures { IfSome result (λ found. text.now ≡ decimal found.0 ++ found.1.now) }
 {
-    let mut value = 0u32;
-    for (i, byte) in text.iter().enumerate() {
+    let (first, behind) = text.split_first()?;
+    if !first.is_ascii_digit() {
+        return None;
+    }
+    let mut value = u32::from(*first - b'0');
+    if value == 0 {
+        return Some((0, behind));
+    }
+    let end = text.len().min(SHORT_DIGITS);
+    for i in 1..end {
+        let byte = text[i];
         if !byte.is_ascii_digit() {
-            return if i == 0 {
-                None
-            } else {
-                Some((value, &text[i..]))
-            };
+            return Some((value, &text[i..]));
         }
-        if i == SHORT_DIGITS || (i == 1 && value == 0) {
-            return None;
-        }
-        value = value * 10 + u32::from(*byte - b'0');
+        value = value * 10 + u32::from(byte - b'0');
     }
-    if text.is_empty() {
-        None
-    } else {
-        Some((value, &[]))
-    }
+    Some((value, &text[end..]))
 }
 
 /// What stands behind a space.
