@@ -37,7 +37,7 @@ piece_ended (b ∷ line) rest none =
     let parts = or_parts (feed b) (list_any feed line) none in
     slice_split-cons_no feed b (line ++ 10 ∷ rest) parts.0 ∙ ap (onto_first b) (piece_ended line rest parts.1)
 
-line_first : (line rest : List ℕ) → IsUnbroken line → lines_of (ended line ++ rest) ≡ line ∷ lines_of rest
+pub line_first : (line rest : List ℕ) → IsUnbroken line → lines_of (ended line ++ rest) ≡ line ∷ lines_of rest
 unfolding lines_of
 line_first line rest none =
     ap (λ (t : List ℕ). without_last_empty (pieces 10 t)) (append_assoc line (10 ∷ []) rest)
@@ -74,7 +74,7 @@ mark_unbroken : (mark : Bool) → IsUnbroken (if mark then codes " *" else [])
 mark_unbroken true = refl
 mark_unbroken false = refl
 
-meeting_unbroken : (m : Meeting) → IsSmall m → IsUnbroken (meeting_line m)
+pub meeting_unbroken : (m : Meeting) → IsSmall m → IsUnbroken (meeting_line m)
 meeting_unbroken m small =
     both_unbroken (decimal m.worker ++ (codes " " ++ decimal m.a) ++ (codes " " ++ decimal m.b)) (mark_of m)
     (both_unbroken (decimal m.worker ++ (codes " " ++ decimal m.a)) (codes " " ++ decimal m.b)

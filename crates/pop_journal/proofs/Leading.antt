@@ -1,5 +1,5 @@
 -- Meeting lines of short numbers.
-use Rattle.std.proofs.Common.{◌≡◌, ◌≢◌, ◌⊎◌, inl, inr, ℕ, ◌+◌, ◌-◌, ◌*◌, ◌^◌, ◌<◌, ◌≤◌, Bool, List, [], ◌∷◌, ◌++◌, length, codes, decimal, take, drop, get_or, Some, refl, sym, ap, subst, ◌∙◌, arith, if◌then◌else◌, pow-add}
+use Rattle.std.proofs.Common.{◌≡◌, ◌≢◌, ◌⊎◌, inl, inr, ℕ, ◌+◌, ◌-◌, ◌*◌, ◌^◌, ◌<◌, ◌≤◌, Bool, List, [], ◌∷◌, ◌++◌, length, codes, decimal, take, drop, get_or, Some, refl, sym, ap, subst, ◌∙◌, arith, if◌then◌else◌, append_assoc, pow-add}
 use Rattle.std.specs.Char.{digit_value}
 use Rattle.std.specs.Int.{IsInRange}
 use Rattle.std.specs.Str.Parse.{digits_value}
@@ -11,8 +11,11 @@ use Rattle.std.proofs.lemmas.Str.{digit_value_digit}
 use Rattle.std.proofs.lemmas.Str.Parse.{IsNumeralModel, numerals_by_value, tells_by_index}
 use Rattle.std.proofs.lemmas.Int.Digits.{digits_value_more}
 use Rattle.pop_crowd.specs.declared.crowd.Meeting.{Meeting}
-use Rattle.pop_journal.specs.Form.{told_in}
-use Rattle.pop_journal.proofs.Spelled.{joined_right}
+use Rattle.pop_lines.specs.Lines.{lines_of}
+use Rattle.pop_journal.specs.Form.{Tells}
+use Rattle.pop_journal.specs.Journal.{meeting_line}
+use Rattle.pop_journal.proofs.Spelled.{IsSmall, joined_right}
+use Rattle.pop_journal.proofs.Feeds.{line_first, meeting_unbroken}
 use Rattle.pop_journal.proofs.ReadBack.{told_back}
 
 abbrev AreDigits : List ℕ → Type 0
@@ -120,16 +123,35 @@ lead_number text i value h some within small =
 pub wider : (n : ℕ) → n < 2 ^ 32 → n < 2 ^ 64
 wider n h = omega (arith, h)
 
--- a line of three numbers and a mark
-pub short_told : (line r s t u v : List ℕ) (w a b : ℕ) (mark : Bool) → line ≡ decimal w ++ r → r ≡ 32 ∷ s → s ≡ decimal a ++ t → t ≡ 32 ∷ u → u ≡ decimal b ++ v
-    → v ≡ (if mark then codes " *" else []) → w < 2 ^ 64 → a < 2 ^ 64 → b < 2 ^ 64 → told_in line ≡ Some (w, a, b, mark)
-short_told line r s t u v w a b mark e f g h k l lw la lb =
-    let m : Meeting = record { worker = w; a = a; b = b; changed = mark } in
-    let spelled : line ≡ decimal w ++ 32 ∷ (decimal a ++ 32 ∷ (decimal b ++ (if mark then codes " *" else []))) =
-    e
-    ∙ ap (λ (x : List ℕ). decimal w ++ x) f
-    ∙ ap (λ (x : List ℕ). decimal w ++ 32 ∷ x) g
-    ∙ ap (λ (x : List ℕ). decimal w ++ 32 ∷ (decimal a ++ x)) h
-    ∙ ap (λ (x : List ℕ). decimal w ++ 32 ∷ (decimal a ++ 32 ∷ x)) k
-    ∙ ap (λ (x : List ℕ). decimal w ++ 32 ∷ (decimal a ++ 32 ∷ (decimal b ++ x))) l in
-    ap told_in (spelled ∙ sym (joined_right m)) ∙ told_back m (record { worker = lw; a = la; b = lb })
+-- a line of three numbers and a mark, and what stands behind it
+pub short_told : (text r s t u v more : List ℕ) (w a b : ℕ) (mark : Bool) → text ≡ decimal w ++ r → r ≡ 32 ∷ s → s ≡ decimal a ++ t → t ≡ 32 ∷ u → u ≡ decimal b ++ v
+    → v ≡ (if mark then codes " *" else []) ++ 10 ∷ more → w < 2 ^ 64 → a < 2 ^ 64 → b < 2 ^ 64 → Tells (lines_of text) (Some (w, a, b, mark)) (lines_of more)
+short_told text r s t u v more w a b mark e f g h k l lw la lb =
+    subst (λ (ls : List (List ℕ)). Tells ls (Some (w, a, b, mark)) (lines_of more)) (sym cut) (told_back m small, refl)
+  where
+    m : Meeting
+    m = record { worker = w; a = a; b = b; changed = mark }
+
+    small : IsSmall m
+    small = record { worker = lw; a = la; b = lb }
+
+    sign : List ℕ
+    sign = if mark then codes " *" else []
+
+    spelled : text ≡ decimal w ++ 32 ∷ (decimal a ++ 32 ∷ (decimal b ++ (sign ++ 10 ∷ more)))
+    spelled =
+        e
+        ∙ ap (λ (x : List ℕ). decimal w ++ x) f
+        ∙ ap (λ (x : List ℕ). decimal w ++ 32 ∷ x) g
+        ∙ ap (λ (x : List ℕ). decimal w ++ 32 ∷ (decimal a ++ x)) h
+        ∙ ap (λ (x : List ℕ). decimal w ++ 32 ∷ (decimal a ++ 32 ∷ x)) k
+        ∙ ap (λ (x : List ℕ). decimal w ++ 32 ∷ (decimal a ++ 32 ∷ (decimal b ++ x))) l
+
+    joined : meeting_line m ++ 10 ∷ more ≡ decimal w ++ 32 ∷ (decimal a ++ 32 ∷ (decimal b ++ (sign ++ 10 ∷ more)))
+    joined =
+        ap (λ (x : List ℕ). x ++ 10 ∷ more) (joined_right m)
+        ∙ append_assoc (decimal w) (32 ∷ (decimal a ++ 32 ∷ (decimal b ++ sign))) (10 ∷ more)
+        ∙ ap (λ (x : List ℕ). decimal w ++ 32 ∷ x) (append_assoc (decimal a) (32 ∷ (decimal b ++ sign)) (10 ∷ more) ∙ ap (λ (x : List ℕ). decimal a ++ 32 ∷ x) (append_assoc (decimal b) sign (10 ∷ more)))
+
+    cut : lines_of text ≡ meeting_line m ∷ lines_of more
+    cut = ap lines_of (spelled ∙ sym joined ∙ sym (append_assoc (meeting_line m) (10 ∷ []) more)) ∙ line_first (meeting_line m) more (meeting_unbroken m small)

@@ -15,7 +15,7 @@ use Rattle.pop_journal.specs.declared.fault.JournalWhy.{JournalWhy}
 use Rattle.pop_journal.specs.declared.fault.JournalWhy.TheVariants.{Form, Worker, Agents, Round}
 use Rattle.pop_journal.specs.Journal.{round_line, meeting_line, round_lines}
 use Rattle.pop_journal.specs.Rounds.{AreRounds}
-use Rattle.pop_journal.specs.Form.{three_numbers, told_words, told_in, Reading, wanted, settled, meeting_told, line_read, Parts, follow, lines_read}
+use Rattle.pop_journal.specs.Form.{Told, Tells, three_numbers, told_words, told_in, Reading, wanted, settled, meeting_told, line_read, Parts, follow, lines_read}
 use Rattle.pop_journal.proofs.Spelled.{IsSmall, meeting_words, mark_words}
 use Rattle.pop_journal.proofs.Counts.{sum_all, sum_each}
 use Rattle.pop_journal.proofs.Due.{own_first, own_last, other_last}
@@ -134,6 +134,13 @@ module _ (spec : RunSpec) (agents : ℕ) (some_worker : 1 ≤ spec.workers) (wor
       → lines_read spec agents number (settled spec rounds ms) (line ∷ lines) ≡ lines_read spec agents (number + 1) next lines
   read_next number rounds ms next line lines short e =
       ap (λ (r : Reading). lines_read spec agents number r (line ∷ lines)) (settled_open rounds ms short) ∙ on_with number (rounds, Some ms) next line lines e
+
+  -- the same of what the line tells
+  pub read_told : (number : ℕ) (rounds : List (List Meeting)) (ms : List Meeting) (next : Reading) (told : Option Told) (lines others : List (List ℕ)) → Tells lines told others → length ms < wanted spec rounds
+      → meeting_told spec agents rounds ms told ≡ Ok (Some next) → lines_read spec agents number (settled spec rounds ms) lines ≡ lines_read spec agents (number + 1) next others
+  read_told number rounds ms next told [] others t short e = absurd t
+  read_told number rounds ms next told (line ∷ lines) others t short e =
+      read_next number rounds ms next line lines short (ap (meeting_told spec agents rounds ms) t.0 ∙ e) ∙ ap (lines_read spec agents (number + 1) next) t.1
 
 pub counts_next : (workers : ℕ) (ms : List Meeting) (m : Meeting) (old : List ℕ) (v : ℕ) → m.worker < length old → ((w d : ℕ) → w < workers → get_or old w d ≡ length (meetings_of w ms)) → v ≡ get_or old m.worker v → (w d : ℕ) → w < workers → get_or (set old m.worker (v + 1)) w d ≡ length (meetings_of w (ms ++ m ∷ []))
 counts_next workers ms m old v within counts is w d l = by_worker (cases_eq m.worker w)

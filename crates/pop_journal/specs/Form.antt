@@ -1,5 +1,5 @@
 -- The form of a journal, line by line.
-use Rattle.std.specs.Prelude.{ℕ, ◌+◌, ◌*◌, ◌==◌, ◌&&◌, not, nat_lt, nat_le, Bool, true, false, List, [], ◌∷◌, ◌++◌, length, codes, Option, Some, None, option_map, option_and_then, Result, Ok, Err, if◌then◌else◌}
+use Rattle.std.specs.Prelude.{◌≡◌, ℕ, ◌+◌, ◌*◌, ◌==◌, ◌&&◌, not, nat_lt, nat_le, Bool, true, false, List, [], ◌∷◌, ◌++◌, length, codes, Option, Some, None, option_map, option_and_then, Result, Ok, Err, if◌then◌else◌}
 use Rattle.std.specs.Str.{bytes_eq}
 use Rattle.pop_lines.specs.Lines.{pieces}
 use Rattle.pop_lines.specs.Numbers.{printed_number_of, printed_within}
@@ -55,6 +55,11 @@ told_words _ = None
 
 unfoldable pub told_in : List ℕ → Option Told
 told_in line = told_words (pieces 32 line)
+
+-- lines of which the first tells this of a meeting, and these are the others
+abbrev pub Tells : List (List ℕ) → Option Told → List (List ℕ) → Type 0
+Tells [] told others = ⊥
+Tells (line ∷ lines) told others = (told_in line ≡ told) × (lines ≡ others)
 
 -- the whole rounds so far, and the meetings of a round that lacks some
 abbrev pub Reading : Type 0

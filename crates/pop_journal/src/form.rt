@@ -1,8 +1,9 @@
 //! The numbers of a journal's lines.
 
-ghost use Rattle.std.specs.Prelude.{◌≡◌, ◌+◌, ◌<◌, ◌≤◌, ℕ, IfOk, IfSome, MatchOption, None, List as Items, length, Some, slice_index_or};
+ghost use Rattle.std.specs.Prelude.{◌≡◌, ◌+◌, ◌<◌, ◌≤◌, ℕ, IfOk, IfSome, MatchOption, None, List as Items, [], length, Some, slice_index_or};
+ghost use Rattle.pop_lines.specs.Lines.{lines_of};
 ghost use Rattle.pair_workers.specs.Run.{meetings_of, turns_in};
-ghost use Rattle.pop_journal.specs.Form.{told_in, three_numbers, line_read, onward, number_named, spec_in, at_the_end};
+ghost use Rattle.pop_journal.specs.Form.{Tells, told_in, three_numbers, meeting_told, onward, number_named, spec_in, at_the_end};
 ghost use Rattle.pop_words.specs.Walk.{words_after};
 ghost use Rattle.pop_words.specs.Options.{IsWithinLimits};
 ghost use Rattle.std.specs.Option.{option_copied};
@@ -11,25 +12,29 @@ use crate::fault::JournalWhy;
 use crate::short::short_meeting;
 use pop_crowd::Meeting;
 use pop_io::{SHARD_LIMIT, WORKER_LIMIT};
-use pop_lines::{cut, printed_number, printed_within};
+use pop_lines::{cut, next_line, printed_number, printed_within};
 use pop_words::{MEETING_LIMIT, RunSpec, SEED_LIMIT, TURN_LIMIT};
 
-/// The worker, the two agents and the mark of a meeting line, before they are looked at.
-pub(crate) fn told(line: &[u8]) -> Option<(u128, u128, u128, bool)>
-    ensures { result ≡ told_in line.now }
+/// What the first line of a text tells of a meeting, before it is looked at, and what stands behind its line feed.
+/// It is `None` of a text without lines.
+#[inline(always)]
+pub(crate) fn next_told(text: &[u8]) -> Option<(Option<(u128, u128, u128, bool)>, &[u8])>
+    ensures { MatchOption result (lines_of text.now ≡ []) (λ found. Tells (lines_of text.now) found.0 (lines_of found.1.now)) }
 {
-    match short_meeting(line) {
-        Some((worker, first, second, mark)) => Some((
+    if let Some((worker, first, second, mark, rest)) = short_meeting(text) {
+        let told = (
             u128::from(worker),
             u128::from(first),
             u128::from(second),
             mark,
-        )),
-        None => long_told(line),
+        );
+        return Some((Some(told), rest));
     }
+    let (line, rest) = next_line(text)?;
+    Some((long_told(line), rest))
 }
 
-/// The same of numbers of any length.
+/// What a line tells, whose numbers may have any length.
 #[tactic(auto, using(crate::proofs::FormLaws::told_five), unfolding(crate::specs::Form::told_in))]
 fn long_told(line: &[u8]) -> Option<(u128, u128, u128, bool)>
     ensures { result ≡ told_in line.now }
@@ -56,9 +61,9 @@ fn three(worker: &[u8], first: &[u8], second: &[u8], mark: bool) -> Option<(u128
     Some((worker, first, second, mark))
 }
 
-/// The meeting of a line, by a worker that has fewer meetings of this round than its turns.
+/// The meeting that a line tells, by a worker that has fewer meetings of this round than its turns.
 pub(crate) fn checked(
-    line: &[u8],
+    told: Option<(u128, u128, u128, bool)>,
     spec: &RunSpec,
     agents: u32,
     made: &[u64],
@@ -69,9 +74,9 @@ pub(crate) fn checked(
     ensures worker { IfOk result (λ m. (m.worker < spec.now.workers) × (slice_index_or made.now m.worker 0 < turns)) }
     ensures read { (rounds : Items (Items Meeting)) (meetings : Items Meeting) → turns ≡ turns_in spec.now (length rounds + 1)
         → ((w : ℕ) (d : ℕ) → w < spec.now.workers → slice_index_or made.now w d ≡ length (meetings_of w meetings))
-        → line_read spec.now agents (rounds, Some meetings) line.now ≡ onward spec.now rounds meetings result }
+        → meeting_told spec.now agents rounds meetings told ≡ onward spec.now rounds meetings result }
 {
-    let Some((worker, first, second, mark)) = told(line) else {
+    let Some((worker, first, second, mark)) = told else {
         return Err(JournalWhy::Form);
     };
     let workers = spec.workers;

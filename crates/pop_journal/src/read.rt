@@ -11,7 +11,7 @@ ghost use Rattle.pop_journal.specs.declared.fault.JournalFault.TheVariants.{NoMe
 ghost use Rattle.pop_journal.specs.ReadLines.{ReadsRound, ReadsRounds, ReadsJournal};
 
 use crate::fault::{JournalFault, JournalWhy};
-use crate::form::{checked, spec_of};
+use crate::form::{checked, next_told, spec_of};
 use crate::journal::{Journal, LINE_LIMIT};
 use itoa::Buffer;
 use pair_workers::ROUND_TURNS;
@@ -44,13 +44,13 @@ fn read_round<'t>(
     let mut rest = text;
     while meetings.len() < wanted {
         let line = number + meetings.len() as u64;
-        let Some((first, more)) = next_line(rest) else {
+        let Some((told, more)) = next_told(rest) else {
             return Err(JournalFault::Out {
                 line,
                 why: JournalWhy::Missing,
             });
         };
-        let meeting = match checked(first, spec, agents, &made, turns) {
+        let meeting = match checked(told, spec, agents, &made, turns) {
             Ok(meeting) => meeting,
             Err(why) => return Err(JournalFault::Out { line, why }),
         };

@@ -1,7 +1,8 @@
 //! Meeting lines of short numbers, read in one pass.
 
-ghost use Rattle.std.specs.Prelude.{◌≡◌, ◌∷◌, ◌++◌, decimal, Some, IfSome};
-ghost use Rattle.pop_journal.specs.Form.{told_in};
+ghost use Rattle.std.specs.Prelude.{◌≡◌, ◌∷◌, ◌++◌, [], if◌then◌else◌, codes, decimal, Some, IfSome};
+ghost use Rattle.pop_lines.specs.Lines.{lines_of};
+ghost use Rattle.pop_journal.specs.Form.{Tells};
 
 /// Each number of so many digits is below 2^32.
 const SHORT_DIGITS: usize = 9;
@@ -31,25 +32,36 @@ fn leading_number(text: &[u8]) -> Option<(u32, &[u8])>
 }
 
 /// What stands behind a space.
+#[inline(always)]
 fn behind_space(text: &[u8]) -> Option<&[u8]>
     ensures { IfSome result (λ rest. text.now ≡ 32 ∷ rest.now) }
 {
-    text.strip_prefix(b" ".as_slice())
+    match text {
+        [b' ', rest @ ..] => Some(rest),
+        _ => None,
+    }
 }
 
-/// The worker, the two agents and the mark of a meeting line, where all numbers are short. It may be `None` of another
-/// meeting line.
-pub(crate) fn short_meeting(line: &[u8]) -> Option<(u32, u32, u32, bool)>
-    ensures { IfSome result (λ m. told_in line.now ≡ Some (m.0, m.1, m.2, m.3)) }
+/// Whether a meeting line ends with its mark here, and what stands behind its line feed.
+#[inline(always)]
+fn line_end(text: &[u8]) -> Option<(bool, &[u8])>
+    ensures { IfSome result (λ end. text.now ≡ (if end.0 then codes " *" else []) ++ 10 ∷ end.1.now) }
 {
-    let (worker, rest) = leading_number(line)?;
+    match text.strip_prefix(b"\n".as_slice()) {
+        Some(rest) => Some((false, rest)),
+        None => Some((true, text.strip_prefix(b" *\n".as_slice())?)),
+    }
+}
+
+/// What a meeting line tells, where all its numbers are short, and what stands behind its line feed.
+/// It may be `None` of another meeting line.
+#[inline(always)]
+pub(crate) fn short_meeting(text: &[u8]) -> Option<(u32, u32, u32, bool, &[u8])>
+    ensures { IfSome result (λ m. Tells (lines_of text.now) (Some (m.0, m.1, m.2, m.3)) (lines_of m.4.now)) }
+{
+    let (worker, rest) = leading_number(text)?;
     let (first, rest) = leading_number(behind_space(rest)?)?;
     let (second, rest) = leading_number(behind_space(rest)?)?;
-    if rest.is_empty() {
-        Some((worker, first, second, false))
-    } else if rest == b" *".as_slice() {
-        Some((worker, first, second, true))
-    } else {
-        None
-    }
+    let (mark, rest) = line_end(rest)?;
+    Some((worker, first, second, mark, rest))
 }

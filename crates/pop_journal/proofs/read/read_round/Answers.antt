@@ -4,7 +4,7 @@ use Rattle.pop_lines.specs.Lines.{lines_of}
 use Rattle.pop_crowd.specs.declared.crowd.Meeting.{Meeting}
 use Rattle.pair_workers.specs.Run.{meetings_of}
 use Rattle.pop_journal.specs.Form.{lines_read, settled, wanted}
-use Rattle.pop_journal.proofs.ReadBack.{read_next, counts_next}
+use Rattle.pop_journal.proofs.ReadBack.{read_told, counts_next}
 use Rattle.pop_journal.proofs.read.read_round.Goals as goal
 
 pub loop-meetings-preserved : goal.loop-meetings-preserved
@@ -24,7 +24,6 @@ loop-meetings-preserved c =
       read = λ rounds e.
           let short : length ms < wanted spec rounds = subst (λ (t : ℕ). length ms < spec.workers * t) e (omega (arith, c.loop-meetings-test.true, c.len.ensures, ap (λ (n : ℕ). n * c.args.turns) c.from.ensures)) in
           was.read rounds e
-          ∙ ap (lines_read spec c.args.agents (c.args.number + length ms) (settled spec rounds ms)) c.in-Some.ensures
-          ∙ read_next spec c.args.agents c.requires.spec.workers.0 c.requires.spec.workers.1 (omega arith) (c.args.number + length ms) rounds ms (settled spec rounds (ms ++ m ∷ [])) c.in-Some.first.now (lines_of c.in-Some.more.now) short (c.in-Ok.ensures.read rounds ms e (λ w d l. ap (λ (ys : List ℕ). get_or ys w d) c.deref.ensures.value ∙ was.counts w d l))
+          ∙ read_told spec c.args.agents c.requires.spec.workers.0 c.requires.spec.workers.1 (omega arith) (c.args.number + length ms) rounds ms (settled spec rounds (ms ++ m ∷ [])) c.in-Some.told (lines_of c.loop-meetings.rest.now) (lines_of c.in-Some.more.now) c.in-Some.ensures short (c.in-Ok.ensures.read rounds ms e (λ w d l. ap (λ (ys : List ℕ). get_or ys w d) c.deref.ensures.value ∙ was.counts w d l))
           ∙ ap (λ (t : ℕ × List Meeting). lines_read spec c.args.agents t.0 (settled spec rounds t.1) (lines_of c.in-Some.more.now)) (λ i. ((let n : c.args.number + length ms + 1 ≡ c.args.number + length c.push.new.self.items = omega (arith, longer) in n) i, sym items i));
     }
