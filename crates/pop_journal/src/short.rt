@@ -31,15 +31,13 @@ fn leading_number(text: &[u8]) -> Option<(u32, &[u8])>
     Some((value, &text[end..]))
 }
 
-/// What stands behind a space.
+/// What stands behind this byte, where a text begins with it.
 #[inline(always)]
-fn behind_space(text: &[u8]) -> Option<&[u8]>
-    ensures { IfSome result (λ rest. text.now ≡ 32 ∷ rest.now) }
+fn behind(text: &[u8], byte: u8) -> Option<&[u8]>
+    ensures { IfSome result (λ rest. text.now ≡ byte ∷ rest.now) }
 {
-    match text {
-        [b' ', rest @ ..] => Some(rest),
-        _ => None,
-    }
+    let (first, rest) = text.split_first()?;
+    if *first == byte { Some(rest) } else { None }
 }
 
 /// Whether a meeting line ends with its mark here, and what stands behind its line feed.
@@ -47,10 +45,11 @@ fn behind_space(text: &[u8]) -> Option<&[u8]>
 fn line_end(text: &[u8]) -> Option<(bool, &[u8])>
     ensures { IfSome result (λ end. text.now ≡ (if end.0 then codes " *" else []) ++ 10 ∷ end.1.now) }
 {
-    match text.strip_prefix(b"\n".as_slice()) {
-        Some(rest) => Some((false, rest)),
-        None => Some((true, text.strip_prefix(b" *\n".as_slice())?)),
+    if let Some(rest) = behind(text, b'\n') {
+        return Some((false, rest));
     }
+    let rest = behind(behind(text, b' ')?, b'*')?;
+    Some((true, behind(rest, b'\n')?))
 }
 
 /// What a meeting line tells, where all its numbers are short, and what stands behind its line feed.
@@ -60,8 +59,8 @@ pub(crate) fn short_meeting(text: &[u8]) -> Option<(u32, u32, u32, bool, &[u8])>
     ensures { IfSome result (λ m. Tells (lines_of text.now) (Some (m.0, m.1, m.2, m.3)) (lines_of m.4.now)) }
 {
     let (worker, rest) = leading_number(text)?;
-    let (first, rest) = leading_number(behind_space(rest)?)?;
-    let (second, rest) = leading_number(behind_space(rest)?)?;
+    let (first, rest) = leading_number(behind(rest, b' ')?)?;
+    let (second, rest) = leading_number(behind(rest, b' ')?)?;
     let (mark, rest) = line_end(rest)?;
     Some((worker, first, second, mark, rest))
 }
