@@ -145,7 +145,8 @@ fn sums_that_refute(rt: HostRuntime) -> Result<(), Fail> {
 fn trail_closes(alloc: Global, trail: &mut Trail, modulus: u32, sum: Sum) -> Result<bool, Fail>
     requires ordered { All IsOrdered trail.old }
     requires count { length trail.old ≡ COUNT }
-    ensures { trail.new ≡ trail.old }
+    ensures ordered { All IsOrdered trail.new }
+    ensures count { length trail.new ≡ COUNT }
 {
     let terms = terms(alloc, sum)?;
     let closes = if modulus == 0 {
