@@ -21,7 +21,7 @@ use std::thread::Threads;
 use terminal_test::PairTable;
 
 /// The pickers of all workers, of which none has made a pick.
-fn first_pickers(alloc: Global, spec: &RunSpec) -> Result<Vec<Picker>, NoMemory>
+pub fn first_pickers(alloc: Global, spec: &RunSpec) -> Result<Vec<Picker>, NoMemory>
     requires seed { spec.now.seed ≤ SEED_LIMIT }
     ensures long { IfOk result (λ pickers. length pickers.items ≡ spec.now.workers) }
     ensures first { IfOk result (λ pickers. (w : ℕ) (d : _) → w < spec.now.workers → slice_index_or pickers.items w d ≡ first_state spec.now.seed w) }

@@ -10,7 +10,7 @@ mod picker;
 mod round;
 mod work;
 
-pub use all::run_all;
+pub use all::{first_pickers, run_all};
 pub use alone::{End, ROUND_TURNS, RunEnd, run_alone};
 pub use examples::{pick_examples, run_examples};
 pub use picker::Picker;

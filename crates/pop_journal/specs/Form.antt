@@ -4,7 +4,10 @@ use Rattle.std.specs.Str.{bytes_eq}
 use Rattle.pop_lines.specs.Lines.{pieces}
 use Rattle.pop_lines.specs.Numbers.{printed_number_of, printed_within}
 use Rattle.pop_crowd.specs.declared.crowd.Meeting.{Meeting}
-use Rattle.pop_io.specs.declared.gate.TheConstants.{WORKER_LIMIT, SHARD_LIMIT}
+use Rattle.pop_io.specs.declared.gate.TheConstants.{SHARD_LIMIT}
+use Rattle.pop_words.specs.declared.kind.RunKind.{RunKind}
+use Rattle.pop_words.specs.declared.kind.RunKind.TheVariants.{Whole, Watched}
+use Rattle.pop_words.specs.Kinds.{kind_word, most_workers}
 use Rattle.pop_words.specs.declared.spec.TheConstants.{TURN_LIMIT, MEETING_LIMIT, SEED_LIMIT}
 use Rattle.pop_words.specs.declared.spec.RunSpec.{RunSpec}
 use Rattle.pair_workers.specs.Run.{meetings_of, turns_in}
@@ -22,10 +25,10 @@ at_the_end spec [] = if nat_le (spec.workers * spec.turns) MEETING_LIMIT then So
 at_the_end spec (word ∷ more) = None
 
 -- the numbers of the first line; workers times turns are within their limit
-abbrev pub spec_words : List (List ℕ) → Option RunSpec
-spec_words [] = None
-spec_words (first ∷ words) =
-    if bytes_eq first (codes "run")
+abbrev pub spec_words : RunKind → List (List ℕ) → Option RunSpec
+spec_words kind [] = None
+spec_words kind (first ∷ words) =
+    if bytes_eq first (kind_word kind)
     then option_and_then
     (λ w. option_and_then
     (λ s. option_and_then
@@ -34,11 +37,11 @@ spec_words (first ∷ words) =
     (number_named (codes "seed") 0 SEED_LIMIT t.1))
     (number_named (codes "turns") 0 TURN_LIMIT s.1))
     (number_named (codes "shards") 1 SHARD_LIMIT w.1))
-    (number_named (codes "workers") 1 WORKER_LIMIT words)
+    (number_named (codes "workers") 1 (most_workers kind) words)
     else None
 
-unfoldable pub spec_in : List ℕ → Option RunSpec
-spec_in line = spec_words (pieces 32 line)
+unfoldable pub spec_in : RunKind → List ℕ → Option RunSpec
+spec_in kind line = spec_words kind (pieces 32 line)
 
 -- the three numbers of a meeting line, of any value, and whether there is a mark
 abbrev pub Told : Type 0
@@ -65,6 +68,11 @@ Tells (line ∷ lines) told others = (told_in line ≡ told) × (lines ≡ other
 abbrev pub Reading : Type 0
 Reading = List (List Meeting) × Option (List Meeting)
 
+-- all rounds, the last of which may lack meetings
+abbrev pub all_rounds : Reading → List (List Meeting)
+all_rounds (rounds, None) = rounds
+all_rounds (rounds, Some meetings) = rounds ++ meetings ∷ []
+
 -- how many meetings the round behind these has
 abbrev pub wanted : RunSpec → List (List Meeting) → ℕ
 wanted spec rounds = spec.workers * turns_in spec (length rounds + 1)
@@ -85,13 +93,19 @@ abbrev pub onward : RunSpec → List (List Meeting) → List Meeting → Result 
 onward spec rounds meetings (Ok m) = Ok (Some (settled spec rounds (meetings ++ m ∷ [])))
 onward spec rounds meetings (Err why) = Err why
 
+-- a watched run may end inside a round that lacks meetings
+abbrev pub ends_inside : RunKind → List ℕ → Bool
+ends_inside Whole line = false
+ends_inside Watched line = bytes_eq line (codes "end")
+
 -- what one line makes of a reading: nothing more where it is `end`
-abbrev pub line_read : RunSpec → ℕ → Reading → List ℕ → Result (Option Reading) JournalWhy
-line_read spec agents (rounds, None) line =
+abbrev pub line_read : RunKind → RunSpec → ℕ → Reading → List ℕ → Result (Option Reading) JournalWhy
+line_read kind spec agents (rounds, None) line =
     if bytes_eq line (codes "end")
     then Ok None
     else if bytes_eq line (round_line (length rounds + 1)) then if turns_in spec (length rounds + 1) == 0 then Err Round else Ok (Some (rounds, Some [])) else Err Form
-line_read spec agents (rounds, Some meetings) line = meeting_told spec agents rounds meetings (told_in line)
+line_read kind spec agents (rounds, Some meetings) line =
+    if ends_inside kind line then Ok None else meeting_told spec agents rounds meetings (told_in line)
 
 -- the first line out of form, and why
 abbrev pub Out : Type 0
@@ -107,20 +121,20 @@ follow number ended on (Ok None) = Ok ended
 follow number ended on (Ok (Some next)) = on next
 
 -- the lines from this number on
-abbrev pub lines_read : RunSpec → ℕ → ℕ → Reading → List (List ℕ) → Result Parts Out
-lines_read spec agents number reading [] = Err (number, Missing)
-lines_read spec agents number reading (line ∷ lines) =
-    follow number (reading.0, lines) (λ next. lines_read spec agents (number + 1) next lines) (line_read spec agents reading line)
+abbrev pub lines_read : RunKind → RunSpec → ℕ → ℕ → Reading → List (List ℕ) → Result Parts Out
+lines_read kind spec agents number reading [] = Err (number, Missing)
+lines_read kind spec agents number reading (line ∷ lines) =
+    follow number (all_rounds reading, lines) (λ next. lines_read kind spec agents (number + 1) next lines) (line_read kind spec agents reading line)
 
 abbrev pub under : RunSpec → Result Parts Out → Result (RunSpec × Parts) Out
 under spec (Ok parts) = Ok (spec, parts)
 under spec (Err out) = Err out
 
-abbrev pub with_spec : ℕ → ℕ → List (List ℕ) → Option RunSpec → Result (RunSpec × Parts) Out
-with_spec agents first lines None = Err (first, Form)
-with_spec agents first lines (Some spec) = under spec (lines_read spec agents (first + 1) ([], None) lines)
+abbrev pub with_spec : RunKind → ℕ → ℕ → List (List ℕ) → Option RunSpec → Result (RunSpec × Parts) Out
+with_spec kind agents first lines None = Err (first, Form)
+with_spec kind agents first lines (Some spec) = under spec (lines_read kind spec agents (first + 1) ([], None) lines)
 
--- what a text's lines tell
-abbrev pub journal_in : ℕ → ℕ → List (List ℕ) → Result (RunSpec × Parts) Out
-journal_in agents first [] = Err (first, Missing)
-journal_in agents first (line ∷ lines) = with_spec agents first lines (spec_in line)
+-- what a text's lines tell of a run of this kind
+abbrev pub journal_in : RunKind → ℕ → ℕ → List (List ℕ) → Result (RunSpec × Parts) Out
+journal_in kind agents first [] = Err (first, Missing)
+journal_in kind agents first (line ∷ lines) = with_spec kind agents first lines (spec_in kind line)

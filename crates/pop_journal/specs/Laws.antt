@@ -6,9 +6,12 @@ use Rattle.pop_crowd.specs.declared.limits.TheConstants.{AGENT_LEAST, AGENT_LIMI
 use Rattle.pop_crowd.specs.declared.crowd.Meeting.{Meeting}
 use Rattle.pop_crowd.specs.Replay.{replay}
 use Rattle.pop_words.specs.declared.spec.TheConstants.{MEETING_LIMIT}
+use Rattle.pop_words.specs.declared.kind.RunKind.{RunKind}
 use Rattle.pop_words.specs.declared.spec.RunSpec.{RunSpec}
+use Rattle.pop_words.specs.Kinds.{most_workers}
 use Rattle.pop_words.specs.Options.{IsWithinLimits}
-use Rattle.pair_workers.specs.Run.{joined, IsRun}
+use Rattle.pair_workers.specs.Run.{joined}
+use Rattle.pair_workers.specs.WatchedRun.{IsRunOf}
 use Rattle.pop_journal.specs.declared.journal.Journal.{Journal}
 use Rattle.pop_journal.specs.Journal.{journal_text}
 use Rattle.pop_journal.specs.Ending.{ending_of}
@@ -17,29 +20,29 @@ use Rattle.pop_journal.specs.Form.{journal_in}
 use Rattle.pop_journal.specs.ReadLines.{ReadsJournal}
 
 -- the text that is written of a run with this end
-abbrev pub text_ended : NetModel → RunSpec → List (List Meeting) → CrowdModel → List ℕ
-text_ended net spec rounds end = journal_text net spec rounds end (ending_of net end)
+abbrev pub text_ended : RunKind → NetModel → RunSpec → List (List Meeting) → CrowdModel → List ℕ
+text_ended kind net spec rounds end = journal_text kind net spec rounds end (ending_of net end)
 
 -- the text that is written of a journal's run
 abbrev pub text_held : NetModel → CrowdModel → Journal → List ℕ
-text_held net start journal = text_ended net journal.spec journal.rounds (replay net (joined journal.rounds) start)
+text_held net start journal = text_ended journal.kind net journal.spec journal.rounds (replay net (joined journal.rounds) start)
 
 -- A journal that was read from a text with a line feed at its end, and that holds, has no other text.
 abbrev pub IsOneSpelling : Type 0
 IsOneSpelling =
     (net : NetModel) (start : CrowdModel) (agents first : ℕ) (body : List ℕ) (journal : Journal) → agents < 2 ^ 32
-    → ReadsJournal agents first (lines_of (body ++ 10 ∷ [])) (Ok journal) → Holds net start journal → body ++ 10 ∷ [] ≡ text_held net start journal
+    → ReadsJournal journal.kind agents first (lines_of (body ++ 10 ∷ [])) (Ok journal) → Holds net start journal → body ++ 10 ∷ [] ≡ text_held net start journal
 
 -- the text that is written of a run is read back
-abbrev pub IsReadBack : NetModel → CrowdModel → RunSpec → List (List Meeting) → CrowdModel → ℕ → Type 0
-IsReadBack net start spec rounds end first =
-    journal_in (length start) first (lines_of (text_ended net spec rounds end)) ≡ Ok (spec, (rounds, lines_of (tail_text net end)))
+abbrev pub IsReadBack : RunKind → NetModel → CrowdModel → RunSpec → List (List Meeting) → CrowdModel → ℕ → Type 0
+IsReadBack kind net start spec rounds end first =
+    journal_in kind (length start) first (lines_of (text_ended kind net spec rounds end)) ≡ Ok (spec, (rounds, lines_of (tail_text net end)))
 
 -- The text that is written of a run is read back to a journal that holds.
 abbrev pub IsWrittenHeld : Type 0
 IsWrittenHeld =
-    (net : NetModel) (start : CrowdModel) (spec : RunSpec) (rounds : List (List Meeting)) (end : CrowdModel) (first : ℕ)
-    → AGENT_LEAST ≤ length start → length start ≤ AGENT_LIMIT → IsWithinLimits spec → spec.workers * spec.turns ≤ MEETING_LIMIT
-    → IsRun net start spec rounds end
-    → IsReadBack net start spec rounds end first
-    × Holds net start (record { spec = spec; rounds = rounds; tail = lines_of (tail_text net end); first = first })
+    (kind : RunKind) (net : NetModel) (start : CrowdModel) (spec : RunSpec) (rounds : List (List Meeting)) (end : CrowdModel) (first : ℕ)
+    → AGENT_LEAST ≤ length start → length start ≤ AGENT_LIMIT → IsWithinLimits spec → spec.workers ≤ most_workers kind → spec.workers * spec.turns ≤ MEETING_LIMIT
+    → IsRunOf kind net start spec rounds end
+    → IsReadBack kind net start spec rounds end first
+    × Holds net start (record { kind = kind; spec = spec; rounds = rounds; tail = lines_of (tail_text net end); first = first })

@@ -2,14 +2,15 @@
 
 use pop_crowd::Meeting;
 use pop_io::List;
-use pop_words::RunSpec;
+use pop_words::{RunKind, RunSpec};
 
 /// The greatest number of a journal's first line.
 pub const LINE_LIMIT: u64 = 1_099_511_627_776;
 
-/// A run's options and rounds, the lines behind `end`, and the number of the first line.
+/// A run's kind, options and rounds, the lines behind `end`, and the number of the first line.
 #[derive(Debug, Drop)]
 pub struct Journal {
+    pub kind: RunKind,
     pub spec: RunSpec,
     pub rounds: List<List<Meeting>>,
     pub tail: List<List<u8>>,

@@ -3,8 +3,9 @@
 ghost use Rattle.std.specs.Prelude.{◌≡◌, ◌+◌, ◌*◌, ◌<◌, ◌≤◌, ◌^◌, ℕ, List as Items, [], ◌∷◌, ◌++◌, length, codes, Some, None, Ok, Err, IfOk, IfErr};
 ghost use Rattle.std.specs.Str.{bytes_eq};
 ghost use Rattle.pop_journal.specs.Journal.{run_line, round_line, round_lines};
-ghost use Rattle.pop_journal.specs.Rounds.{AreRounds};
+ghost use Rattle.pop_journal.specs.Rounds.{AreRoundsOf};
 ghost use Rattle.pop_lines.specs.Lines.{lines_of};
+ghost use Rattle.pop_words.specs.Kinds.{most_workers};
 ghost use Rattle.pop_words.specs.Options.{IsWithinLimits};
 ghost use Rattle.pair_workers.specs.Run.{turns_in};
 ghost use Rattle.pop_journal.specs.declared.fault.JournalFault.TheVariants.{NoMemory as OutOfMemory};
@@ -18,7 +19,7 @@ use pair_workers::ROUND_TURNS;
 use pop_crowd::Meeting;
 use pop_io::{List, WORKER_LIMIT};
 use pop_lines::next_line;
-use pop_words::RunSpec;
+use pop_words::{RunKind, RunSpec};
 use std::alloc::Global;
 
 /// Reads the meeting lines of a round, of which the first has this number. The answer are the bytes behind them.
@@ -165,21 +166,23 @@ fn read_lines(alloc: Global, text: &[u8], first: u64, agents: u32) -> Result<Jou
     })
 }
 
-/// Reads a journal for so many agents, of which the first line has this number.
+/// Reads a journal of a run of this kind for so many agents, of which the first line has this number.
 pub fn read_journal(
     alloc: Global,
+    kind: RunKind,
     text: &[u8],
     first: u64,
     agents: u32,
 ) -> Result<Journal, JournalFault>
     requires first { first ≤ LINE_LIMIT }
-    ensures read { ReadsJournal agents first (lines_of text.now) result }
+    ensures read { ReadsJournal kind agents first (lines_of text.now) result }
+    ensures kind { IfOk result (λ journal. journal.kind ≡ kind) }
     ensures first { IfOk result (λ journal. journal.first ≡ first) }
-    ensures limits { IfOk result (λ journal. IsWithinLimits journal.spec) }
+    ensures limits { IfOk result (λ journal. IsWithinLimits journal.spec × (journal.spec.workers ≤ most_workers kind)) }
     // The rounds are what `verify` asks for.
-    ensures rounds { IfOk result (λ journal. AreRounds journal.spec agents journal.rounds) }
+    ensures rounds { IfOk result (λ journal. AreRoundsOf kind journal.spec agents journal.rounds) }
     // The lines of the text are those of the journal.
-    ensures spelled { IfOk result (λ journal. lines_of text.now ≡ run_line journal.spec ∷ (round_lines 1 journal.rounds ++ codes "end" ∷ journal.tail)) }
+    ensures spelled { IfOk result (λ journal. lines_of text.now ≡ run_line kind journal.spec ∷ (round_lines 1 journal.rounds ++ codes "end" ∷ journal.tail)) }
 {
-    read_lines(alloc, text, first, agents)
+    read_lines(alloc, kind, text, first, agents)
 }

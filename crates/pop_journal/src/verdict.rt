@@ -5,7 +5,7 @@ ghost use Rattle.pop_net.specs.Lanes.{crowd_of, AreValid};
 ghost use Rattle.pop_words.specs.Options.{IsWithinLimits};
 ghost use Rattle.pair_workers.specs.Picks.{first_state};
 ghost use Rattle.pair_workers.specs.Run.{joined};
-ghost use Rattle.pop_journal.specs.Rounds.{AreRounds};
+ghost use Rattle.pop_journal.specs.Rounds.{AreRoundsOf};
 ghost use Rattle.pop_journal.specs.Expected.{journal_compared, Holds};
 ghost use Rattle.pop_journal.specs.Standing.{IsReplaying, Passes};
 ghost use Rattle.pop_journal.specs.declared.fault.VerifyFault.TheVariants.{NoMemory as OutOfMemory};
@@ -84,11 +84,11 @@ pub fn verify(alloc: Global, net: &Net, crowd: Crowd, journal: &Journal) -> Resu
     requires valid { AreValid net.now crowd }
     requires first { journal.now.first ≤ LINE_LIMIT }
     requires spec { IsWithinLimits journal.now.spec }
-    requires rounds { AreRounds journal.now.spec (length crowd) journal.now.rounds }
+    requires rounds { AreRoundsOf journal.now.kind journal.now.spec (length crowd) journal.now.rounds }
     // The first line that isn't the expected one is the refusal.
     ensures passes { Passes (journal.now.first + 1) (journal_compared net.now (crowd_of net.now crowd) journal.now) result }
     ensures meetings { IfOk result (λ k. k ≡ length (joined journal.now.rounds)) }
-    // It passes exactly where the rounds are a run and the tail tells its end.
+    // It passes exactly where the rounds are a run of the journal's kind and the tail has the lines of its end.
     ensures holds { IfOk result (λ _. Holds net.now (crowd_of net.now crowd) journal.now) }
     ensures accepts { Holds net.now (crowd_of net.now crowd) journal.now → IfErr result (λ fault. fault ≡ OutOfMemory) }
 {

@@ -4,7 +4,7 @@ use Rattle.pop_net.specs.NetModel.{NetModel, CrowdModel}
 use Rattle.pop_crowd.specs.declared.crowd.Meeting.{Meeting}
 use Rattle.pop_words.specs.declared.spec.RunSpec.{RunSpec}
 use Rattle.pair_workers.specs.Run.{IsRun}
-use Rattle.pop_watch.specs.WatchedRun.{IsWatchedRun}
+use Rattle.pair_workers.specs.WatchedRun.{IsWatchedRun}
 
 abbrev pub WholeRunsAreWatched : Type 0
 WholeRunsAreWatched =

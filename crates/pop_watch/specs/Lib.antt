@@ -1,4 +1,3 @@
-pub mod WatchedRun
 pub mod WatchedEnds
 pub mod Laws
 pub mod Work

@@ -11,7 +11,7 @@ use Rattle.pop_words.specs.declared.spec.RunSpec.{RunSpec}
 use Rattle.pair_workers.specs.declared.alone.End.{End}
 use Rattle.pair_workers.specs.declared.alone.RunEnd.{RunEnd}
 use Rattle.pair_workers.specs.declared.alone.End.TheVariants.{Terminal, Open}
-use Rattle.pop_watch.specs.WatchedRun.{IsWatchedRun, AreSpent}
+use Rattle.pair_workers.specs.WatchedRun.{IsWatchedRun, AreSpent}
 
 -- why a run ended in this crowd after these rounds: the crowd is terminal; or the turns are spent and this pair of agents is the least that can change
 abbrev pub EndsBy : NetModel → CrowdModel → RunSpec → List (List Meeting) → End → Type 0

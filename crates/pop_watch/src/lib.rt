@@ -15,5 +15,5 @@ mod watched;
 mod work;
 
 pub use laws::whole_runs_are_watched;
-pub use limits::{LOOKS_A_ROUND, WATCHED_WORKERS};
+pub use limits::LOOKS_A_ROUND;
 pub use watched::run_watched;

@@ -1,8 +1,5 @@
 //! The limits of a watched run.
 
-/// The most workers of a watched run: one of the 64 seats of a field is the observer's.
-pub const WATCHED_WORKERS: u16 = 63;
-
 /// The most looks of the observer in a round.
 pub const LOOKS_A_ROUND: u16 = 16;
 

@@ -4,11 +4,11 @@ ghost use Rattle.std.specs.Prelude.{◌≡◌, ℕ, ◌<◌, ◌≤◌, length, 
 ghost use Rattle.pop_net.specs.Lanes.{AreValid};
 ghost use Rattle.pop_watch.specs.Playing.{GoesOn, HasMore, AreAllMade, made_by};
 
-use crate::limits::WATCHED_WORKERS;
 use crate::played::Played;
 use pop_crowd::Meeting;
 use pop_io::NoMemory;
 use pop_net::Net;
+use pop_words::WATCHED_WORKERS;
 
 /// The next meeting of one worker.
 fn meet_next(net: &Net, played: &mut Played, worker: u16) -> Result<(), NoMemory>

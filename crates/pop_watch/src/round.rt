@@ -10,7 +10,7 @@ ghost use Rattle.pair_workers.specs.Work.{agents_of};
 ghost use Rattle.pop_watch.specs.Work.{MayWatch, MayWork, AreReady, HasWorked};
 ghost use Rattle.pop_watch.specs.Playing.{IsPartOfRound, IsWatchedRoundFrom, made_by, of_worker};
 
-use crate::limits::{LOOKS_A_ROUND, WATCHED_WORKERS};
+use crate::limits::LOOKS_A_ROUND;
 use crate::missing::make_missing;
 use crate::observe::observe;
 use crate::played::Played;
@@ -22,7 +22,7 @@ use pair_workers::{Picker, ROUND_TURNS};
 use pop_crowd::{AGENT_LEAST, AGENT_LIMIT, Crowd, Meeting};
 use pop_io::{Gate, List, NoMemory};
 use pop_net::{Net, Word};
-use pop_words::RunSpec;
+use pop_words::{RunSpec, WATCHED_WORKERS};
 use std::alloc::Global;
 use std::sync::Wait;
 use std::thread::{Threads, join_mut};

@@ -1,36 +1,21 @@
 //! Watched runs, round by round.
 
-ghost use Rattle.std.specs.Prelude.{◌≡◌, ℕ, ◌<◌, ◌≤◌, length, IfOk, slice_index_or};
+ghost use Rattle.std.specs.Prelude.{◌≤◌, IfOk};
 ghost use Rattle.pop_net.specs.Lanes.{AreValid};
 ghost use Rattle.pop_words.specs.Options.{IsWithinLimits};
-ghost use Rattle.pair_workers.specs.Picks.{first_state};
 ghost use Rattle.pop_watch.specs.WatchedEnds.{IsWatchedRunFrom};
 
-use crate::limits::WATCHED_WORKERS;
 use crate::played::Played;
 use crate::round::watched_round;
-use pair_workers::{End, Picker, ROUND_TURNS, RunEnd};
+use pair_workers::{End, ROUND_TURNS, RunEnd, first_pickers};
 use pop_crowd::Crowd;
 use pop_io::{Gate, List, NoMemory};
 use pop_net::Net;
-use pop_words::{RunSpec, SEED_LIMIT};
+use pop_words::{RunSpec, WATCHED_WORKERS};
 use std::alloc::Global;
 use std::sync::Wait;
 use std::thread::Threads;
 use terminal_test::PairTable;
-
-/// The pickers of all workers, of which none has made a pick.
-fn first_pickers(alloc: Global, spec: &RunSpec) -> Result<Vec<Picker>, NoMemory>
-    requires seed { spec.now.seed ≤ SEED_LIMIT }
-    ensures long { IfOk result (λ pickers. length pickers.items ≡ spec.now.workers) }
-    ensures first { IfOk result (λ pickers. (w : ℕ) (d : _) → w < spec.now.workers → slice_index_or pickers.items w d ≡ first_state spec.now.seed w) }
-{
-    let mut pickers = Vec::new(alloc);
-    'workers: for worker in 0..spec.workers {
-        pickers.push(Picker::new(spec.seed, worker))?;
-    }
-    Ok(pickers)
-}
 
 /// A run that an observer watches: once it has seen a terminal crowd, the workers stop before their round is whole.
 /// Before each round the crowd is looked at. The observer calls `pass` of the gate before each of its looks in a round

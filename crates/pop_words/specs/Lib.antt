@@ -1,3 +1,4 @@
+pub mod Kinds
 pub mod Options
 pub mod Words
 pub mod Meetings

@@ -5,6 +5,7 @@
 
 mod command;
 mod counts;
+mod kind;
 mod meeting;
 mod options;
 mod spec;
@@ -13,7 +14,8 @@ mod words;
 
 pub use command::{Command, Usage, UsageWhy};
 pub use counts::{CountFault, read_counts};
+pub use kind::RunKind;
 pub use meeting::{MeetingFault, read_meeting};
-pub use spec::{DEMO_LIMIT, MEETING_LIMIT, RunSpec, SEED_LIMIT, TURN_LIMIT};
+pub use spec::{DEMO_LIMIT, MEETING_LIMIT, RunSpec, SEED_LIMIT, TURN_LIMIT, WATCHED_WORKERS};
 pub use vars::{VarsFault, read_vars};
 pub use words::read_words;

@@ -9,6 +9,9 @@ pub const MEETING_LIMIT: u64 = 2_000_000;
 /// The greatest seed, 2^63 - 1.
 pub const SEED_LIMIT: u64 = 9_223_372_036_854_775_807;
 
+/// The most workers of a watched run: one of the 64 seats of a field is the observer's.
+pub const WATCHED_WORKERS: u16 = 63;
+
 /// The greatest number of a demo case.
 pub const DEMO_LIMIT: u32 = 9_999;
 

@@ -1,4 +1,4 @@
--- Watched run: a run whose last round may lack meetings, where the crowd behind it is terminal.
+-- Watched run: a run whose last round may lack meetings, where the crowd behind it is terminal. A run by whole rounds is one.
 use Rattle.std.specs.Prelude.{◌≡◌, ◌⊎◌, ℕ, ◌+◌, ◌<◌, ◌≤◌, List, length, take, All, Some, slice_get}
 use Rattle.pop_net.specs.NetModel.{NetModel, CrowdModel}
 use Rattle.pop_net.specs.Step.{Step}
@@ -6,8 +6,10 @@ use Rattle.pop_net.specs.Terminal.{IsTerminal}
 use Rattle.pop_crowd.specs.declared.crowd.Meeting.{Meeting}
 use Rattle.pop_crowd.specs.Replay.{replay, AreMarked}
 use Rattle.pop_words.specs.declared.spec.RunSpec.{RunSpec}
+use Rattle.pop_words.specs.declared.kind.RunKind.{RunKind}
+use Rattle.pop_words.specs.declared.kind.RunKind.TheVariants.{Whole, Watched}
 use Rattle.pair_workers.specs.Picks.{picks}
-use Rattle.pair_workers.specs.Run.{IsRound, meetings_of, pairs, joined, turns_in}
+use Rattle.pair_workers.specs.Run.{IsRound, IsRun, meetings_of, pairs, joined, turns_in}
 
 -- round k, counted from 1: there is a turn to make, each worker makes its turns at most, and nobody else makes any
 pub record IsWatchedRound (spec : RunSpec) (k : ℕ) (meetings : List Meeting) : Type 0 where
@@ -32,3 +34,8 @@ pub record IsWatchedRun (net : NetModel) (start : CrowdModel) (spec : RunSpec) (
   pub goes_on : (k : ℕ) → k < length rounds → IsTerminal (Step net) (replay net (joined (take k rounds)) start) → ⊥
   -- the end is terminal, or the turns are spent
   pub over : IsTerminal (Step net) end ⊎ AreSpent spec rounds
+
+-- a run of this kind
+abbrev pub IsRunOf : RunKind → NetModel → CrowdModel → RunSpec → List (List Meeting) → CrowdModel → Type 0
+IsRunOf Whole net start spec rounds end = IsRun net start spec rounds end
+IsRunOf Watched net start spec rounds end = IsWatchedRun net start spec rounds end

@@ -1,0 +1,16 @@
+-- The two kinds of run.
+use Rattle.std.specs.Prelude.{ℕ, List, codes}
+use Rattle.pop_io.specs.declared.gate.TheConstants.{WORKER_LIMIT}
+use Rattle.pop_words.specs.declared.spec.TheConstants.{WATCHED_WORKERS}
+use Rattle.pop_words.specs.declared.kind.RunKind.{RunKind}
+use Rattle.pop_words.specs.declared.kind.RunKind.TheVariants.{Whole, Watched}
+
+-- the word of the command, with which its journals begin
+abbrev pub kind_word : RunKind → List ℕ
+kind_word Whole = codes "run"
+kind_word Watched = codes "watch"
+
+-- the greatest number of workers
+abbrev pub most_workers : RunKind → ℕ
+most_workers Whole = WORKER_LIMIT
+most_workers Watched = WATCHED_WORKERS

@@ -1,0 +1,40 @@
+//! The two kinds of run.
+
+ghost use Rattle.std.specs.Prelude.{◌≡◌};
+
+use crate::spec::WATCHED_WORKERS;
+use pop_io::WORKER_LIMIT;
+
+/// How the last round of a run may end.
+#[derive(Clone, Copy, Debug, PartialEq, Eq)]
+pub enum RunKind {
+    /// Each round is whole: a run of `run`.
+    Whole,
+    /// An observer may stop the last round: a run of `watch`.
+    Watched,
+}
+
+impl RunKind {
+    ghost use Rattle.std.specs.Prelude.{◌≡◌};
+    ghost use Rattle.pop_words.specs.Kinds.{kind_word, most_workers as most_of_kind};
+
+    /// The word of the command, with which its journals begin.
+    pub fn word(self) -> &'static str
+        ensures { result.now ≡ kind_word self }
+    {
+        match self {
+            RunKind::Whole => "run",
+            RunKind::Watched => "watch",
+        }
+    }
+
+    /// The greatest number of workers.
+    pub fn most_workers(self) -> u16
+        ensures { result ≡ most_of_kind self }
+    {
+        match self {
+            RunKind::Whole => WORKER_LIMIT,
+            RunKind::Watched => WATCHED_WORKERS,
+        }
+    }
+}
