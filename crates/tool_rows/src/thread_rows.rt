@@ -1,8 +1,6 @@
 //! Rows of `run` on threads.
 
-use crate::check_rows::{MAJORITY, line_of};
-use crate::play_rows::MAJORITY as NET;
-use crate::rows::{bytes_of, no_troubles, tool_status, words_of};
+use crate::rows::{NET, PROOF, bytes_of, no_troubles, words_of};
 use pair_workers::Picker;
 use pop_io::{CalmSource, Gate, MemorySink, OpenGate};
 use pop_tool::{Status, run_tool};
@@ -25,8 +23,7 @@ fn journal_of<R: Threads + Wait + Sync, G: Gate>(
     crowd: &str,
     gate: &G,
 ) -> Result<(String, Status), Fail> {
-    let bundle = line_of(alloc, &MAJORITY)?;
-    let input = format!(in alloc; "{bundle}\n{crowd}\n")?;
+    let input = format!(in alloc; "{{\"net\":{NET},{PROOF}}}\n{crowd}\n")?;
     let mut source = CalmSource::new(bytes_of(alloc, input.as_str())?);
     let mut sink = MemorySink::new(alloc, ROOM, no_troubles(alloc))
         .ok()
@@ -78,7 +75,8 @@ fn replayed<R: Threads + Wait + Sync>(
     let mut sink = MemorySink::new(alloc, ROOM, no_troubles(alloc))
         .ok()
         .ok_or("memory")?;
-    if tool_status(rt, alloc, &["play"], &mut source, &mut sink) != Status::Done {
+    let status = run_tool(rt, alloc, &["play"], &mut source, &mut sink, &OpenGate);
+    if status != Status::Done {
         return Err(Fail::from("meetings that play"));
     }
     let text = from_utf8(sink.held()).ok().ok_or("a text")?;

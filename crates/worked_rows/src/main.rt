@@ -1,0 +1,26 @@
+//! The worked rows: each line of the standard input has words and an input, with the text and the status that `run_tool` must give.
+//! It stands on `pop_tool` and `pop_io`.
+//! Nothing stands above it: it is a test of whole commands, and adds no clause.
+#![tactic(auto)]
+
+mod row;
+mod rows;
+
+use crate::row::Row;
+use crate::rows::Rows;
+use std::io::{BufRead, BufReader};
+
+fn main(rt: HostRuntime) -> anyhow::Result<()> {
+    let mut rows = Rows::new(rt.alloc());
+    for line in BufReader::new(rt.alloc(), rt.reader())?.lines(rt.alloc()) {
+        let line = line?;
+        let row: Row = serde_json::from_str(rt.alloc(), line.as_str())?;
+        rows.try_row(&rt, rt.alloc(), row)?;
+    }
+    for name in rows.failed(rt.alloc())? {
+        println!(rt; "{name} doesn't hold")?;
+    }
+    let tried = rows.len();
+    println!(rt; "{tried} rows were tried")?;
+    Ok(())
+}
