@@ -14,4 +14,4 @@ pub use all::{first_pickers, run_all};
 pub use alone::{End, ROUND_TURNS, RunEnd, run_alone};
 pub use examples::{pick_examples, run_examples};
 pub use picker::Picker;
-pub use round::run_round;
+pub use round::{run_round, words_of};

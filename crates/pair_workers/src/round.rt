@@ -20,7 +20,7 @@ use std::sync::Wait;
 use std::thread::{Threads, join_mut};
 
 /// A crowd's words.
-fn words_of(alloc: Global, crowd: &Crowd) -> Result<List<Word>, NoMemory>
+pub fn words_of(alloc: Global, crowd: &Crowd) -> Result<List<Word>, NoMemory>
     ensures words { IfOk result (λ words. words ≡ crowd.now) }
     ensures agents { (AGENT_LEAST ≤ length crowd.now) × (length crowd.now ≤ AGENT_LIMIT) }
 {

@@ -1,4 +1,5 @@
 pub mod WatchedEnds
+pub mod Journals
 pub mod Laws
 pub mod Work
 pub mod Playing

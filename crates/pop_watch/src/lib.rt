@@ -1,8 +1,9 @@
 //! Runs that an observer stops in the middle of a round, once it has seen a terminal crowd.
-//! It stands on `pair_workers`, `agent_field` and `terminal_test`.
-//! The layer above uses: the rounds of `run_watched` are a watched run by `IsWatchedRun`.
+//! It stands on `pair_workers`, `agent_field`, `terminal_test` and `pop_journal`.
+//! The layer above uses: the rounds of `run_watched` are a watched run by `IsWatchedRun`, and its journal holds by `verify_watched`.
 #![tactic(auto)]
 
+mod journal;
 mod laws;
 mod limits;
 mod missing;
@@ -14,6 +15,7 @@ mod signals;
 mod watched;
 mod work;
 
+pub use journal::{read_watched, verify_watched, write_watched};
 pub use laws::whole_runs_are_watched;
 pub use limits::LOOKS_A_ROUND;
 pub use watched::run_watched;

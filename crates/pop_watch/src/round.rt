@@ -18,27 +18,15 @@ use crate::seats::{meetings_made, seat_workers, take_in};
 use crate::signals::Signals;
 use crate::work::{Worker, work_all};
 use agent_field::{Field, FieldSeat};
-use pair_workers::{Picker, ROUND_TURNS};
+use pair_workers::{Picker, ROUND_TURNS, words_of};
 use pop_crowd::{AGENT_LEAST, AGENT_LIMIT, Crowd, Meeting};
-use pop_io::{Gate, List, NoMemory};
-use pop_net::{Net, Word};
+use pop_io::{Gate, NoMemory};
+use pop_net::Net;
 use pop_words::{RunSpec, WATCHED_WORKERS};
 use std::alloc::Global;
 use std::sync::Wait;
 use std::thread::{Threads, join_mut};
 use terminal_test::PairTable;
-
-/// A crowd's words.
-fn words_of(alloc: Global, crowd: &Crowd) -> Result<List<Word>, NoMemory>
-    ensures words { IfOk result (λ words. words ≡ crowd.now) }
-    ensures agents { (AGENT_LEAST ≤ length crowd.now) × (length crowd.now ≤ AGENT_LIMIT) }
-{
-    let mut words = Vec::new(alloc);
-    'agents: for agent in 0..crowd.len() {
-        words.push(crowd.word(agent))?;
-    }
-    Ok(List::from_vec(words))
-}
 
 /// The meetings of seats as those of their workers. The seat 0, which is the observer's, has none.
 fn by_workers(alloc: Global, meetings: &[Meeting]) -> Result<Vec<Meeting>, NoMemory>
