@@ -1,5 +1,5 @@
 -- Workers on the field, before their turns and after them.
-use Rattle.std.proofs.Common.{◌≡◌, ℕ, ◌+◌, ◌<◌, ◌≤◌, List, length, get_or, sym, subst, ◌∙◌}
+use Rattle.std.proofs.Common.{◌≡◌, ℕ, ◌+◌, ◌<◌, ◌≤◌, List, length, get_or, sym, ap, subst, ◌∙◌}
 use Rattle.std.proofs.lemmas.List.{length-map}
 use Rattle.agent_field.specs.declared.field.Field.{Field}
 use Rattle.agent_field.specs.declared.view.Logged.{Logged}
@@ -25,7 +25,14 @@ is_done f turns number picker before after ready worked = record {
   made = subst (λ (p : List ℕ). HasMade f turns p after.picker (log_of after.seat)) ready.picker_is worked.made;
 }
 
-pub are_done : (f : Field) (turns : ℕ) (pickers : List (List ℕ)) (before after : List Worker) → AreReady f turns pickers before → length after ≡ length before
-    → ((i : ℕ) (d : Worker) → i < length before → HasWorked f turns (get_or before i d) (get_or after i d)) → AreDone f turns pickers after
-are_done f turns pickers before after ready same worked =
-    (same ∙ ready.0, λ i d e h. let within = subst (λ (n : ℕ). i < n) same h in is_done f turns (i + 1) (get_or pickers i e) (get_or before i d) (get_or after i d) (ready.1 i d e within) (worked i d within))
+-- the workers of a slice that stands for the list, after their turns
+pub are_done : (f : Field) (turns : ℕ) (pickers : List (List ℕ)) (before slice after : List Worker) → slice ≡ before → AreReady f turns pickers before → length after ≡ length slice
+    → ((i : ℕ) (d : Worker) → i < length slice → HasWorked f turns (get_or slice i d) (get_or after i d)) → AreDone f turns pickers after
+are_done f turns pickers before slice after value ready same worked =
+    let long = same ∙ ap (length {A = Worker}) value in (
+      long ∙ ready.0,
+      λ i d e h.
+          let within = subst (λ (n : ℕ). i < n) long h in
+          let made = subst (λ (l : List Worker). HasWorked f turns (get_or l i d) (get_or after i d)) value (worked i d (subst (λ (n : ℕ). i < n) same h)) in
+          is_done f turns (i + 1) (get_or pickers i e) (get_or before i d) (get_or after i d) (ready.1 i d e within) made,
+    )

@@ -33,12 +33,11 @@ take_in-requires-clause-workers g c =
     let pickers = c.args.pickers.items in
     let new = c.watch_beside.new.workers in
     let old = c.in_ok-field.workers.items in
-    let value = c.as_mut_slice.ensures.value in
-    let same = c.watch_beside.auto.workers ∙ ap (length {A = Worker}) value in
-    let worked = subst (λ (l : List Worker). (i : ℕ) (d : Worker) → i < length l → HasWorked f turns (get_or l i d) (get_or new i d)) value c.watch_beside.ensures.workers in
-    let done = subst (AreDone f turns pickers) (sym (whole_written c.in_ok-field.workers.len new old same (omega arith)))
-    (are_done f turns pickers old new c.in_ok-field.ensures.workers same worked) in
-    λ i d h. ((done.1 i d [] h).ours, (done.1 i d [] h).numbered)
+    let ready = c.in_ok-field.ensures.workers in
+    let done = are_done f turns pickers old _ new c.as_mut_slice.ensures.value ready c.watch_beside.auto.workers c.watch_beside.ensures.workers in
+    let list = whole_written c.in_ok-field.workers.len new old (done.0 ∙ sym ready.0) (omega arith) in
+    let made = subst (AreDone f turns pickers) (sym list) done in
+    λ i d h. ((made.1 i d [] h).ours, (made.1 i d [] h).numbered)
 
 pub by_workers-requires : goal.by_workers-requires
 by_workers-requires g c =
@@ -64,11 +63,9 @@ returns-clause-made g c =
     let pickers = c.args.pickers.items in
     let new = c.watch_beside.new.workers in
     let old = c.in_ok-field.workers.items in
-    let value = c.as_mut_slice.ensures.value in
-    let same = c.watch_beside.auto.workers ∙ ap (length {A = Worker}) value in
-    let worked = subst (λ (l : List Worker). (i : ℕ) (d : Worker) → i < length l → HasWorked f turns (get_or l i d) (get_or new i d)) value c.watch_beside.ensures.workers in
-    let done = are_done f turns pickers old new c.in_ok-field.ensures.workers same worked in
-    let list = whole_written c.in_ok-field.workers.len new old same (omega arith) in
+    let ready = c.in_ok-field.ensures.workers in
+    let done = are_done f turns pickers old _ new c.as_mut_slice.ensures.value ready c.watch_beside.auto.workers c.watch_beside.ensures.workers in
+    let list = whole_written c.in_ok-field.workers.len new old (done.0 ∙ sym ready.0) (omega arith) in
     let all = subst (λ (l : List Worker). HasAll f l c.watch_beside.new.seat c.in_ok-whole.whole) list c.in_ok-whole.ensures.all in
     let closed = c.in_ok-round.ensures in
     let meetings = c.in_ok-round.round.meetings in
@@ -93,11 +90,9 @@ returns-clause-part g c =
     let pickers = c.args.pickers.items in
     let new = c.watch_beside.new.workers in
     let old = c.in_ok-field.workers.items in
-    let value = c.as_mut_slice.ensures.value in
-    let same = c.watch_beside.auto.workers ∙ ap (length {A = Worker}) value in
-    let worked = subst (λ (l : List Worker). (i : ℕ) (d : Worker) → i < length l → HasWorked f turns (get_or l i d) (get_or new i d)) value c.watch_beside.ensures.workers in
-    let done = are_done f turns pickers old new c.in_ok-field.ensures.workers same worked in
-    let list = whole_written c.in_ok-field.workers.len new old same (omega arith) in
+    let ready = c.in_ok-field.ensures.workers in
+    let done = are_done f turns pickers old _ new c.as_mut_slice.ensures.value ready c.watch_beside.auto.workers c.watch_beside.ensures.workers in
+    let list = whole_written c.in_ok-field.workers.len new old (done.0 ∙ sym ready.0) (omega arith) in
     let all = subst (λ (l : List Worker). HasAll f l c.watch_beside.new.seat c.in_ok-whole.whole) list c.in_ok-whole.ensures.all in
     let closed = c.in_ok-round.ensures in
     let meetings = c.in_ok-round.round.meetings in
