@@ -8,7 +8,7 @@ use pop_crowd::{Crowd, Meeting};
 use pop_io::List;
 use pop_journal::{Last, write_journal};
 use pop_net::Net;
-use pop_words::RunSpec;
+use pop_words::{RunKind, RunSpec};
 use sample_nets::{flock, list};
 use std::alloc::Global;
 use std::test::Fail;
@@ -58,7 +58,7 @@ fn journals(rt: HostRuntime) -> Result<(), Fail> {
         (Last::Verdict(false), "verdict false\n"),
         (Last::Undecided(0, 11), "undecided 0 11\n"),
     ] {
-        let text = write_journal(alloc, &net, &SPEC, &end, last)
+        let text = write_journal(alloc, RunKind::Whole, &net, &SPEC, &end, last)
             .ok()
             .ok_or("memory is there")?;
         let want = format!(in alloc; "{LINES}{line}")?;

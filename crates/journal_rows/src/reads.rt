@@ -1,6 +1,7 @@
 //! Texts that are read as journals, and the first lines that are out of form.
 
 use pop_journal::{Journal, JournalFault, JournalWhy, read_journal};
+use pop_words::RunKind;
 use std::alloc::Global;
 use std::test::Fail;
 
@@ -26,9 +27,9 @@ fn told(journal: &Journal) -> Told {
     (numbers, [rounds.len(), last, journal.tail.as_slice().len()])
 }
 
-/// What is read of a text for three agents.
-fn read(alloc: Global, text: &str) -> Result<Told, JournalFault> {
-    let journal = read_journal(alloc, text.as_bytes(), FIRST, 3)?;
+/// What is read of a text of this kind for three agents.
+fn read(alloc: Global, kind: RunKind, text: &str) -> Result<Told, JournalFault> {
+    let journal = read_journal(alloc, kind, text.as_bytes(), FIRST, 3)?;
     Ok(told(&journal))
 }
 
@@ -58,7 +59,7 @@ const READ: [(&str, Told); 5] = [
 #[test]
 fn journals_are_read(rt: HostRuntime) -> Result<(), Fail> {
     for (text, want) in READ {
-        assert_eq!(rt; read(rt.alloc(), text), Ok(want), "{text}");
+        assert_eq!(rt; read(rt.alloc(), RunKind::Whole, text), Ok(want), "{text}");
     }
     Ok(())
 }
@@ -110,17 +111,18 @@ const FIRST_LINES: [Faulty; 9] = [
 fn first_lines_are_refused(rt: HostRuntime) -> Result<(), Fail> {
     for (text, line, why) in FIRST_LINES {
         let want = Err(JournalFault::Out { line, why });
-        assert_eq!(rt; read(rt.alloc(), text), want, "{text}");
+        assert_eq!(rt; read(rt.alloc(), RunKind::Whole, text), want, "{text}");
     }
     Ok(())
 }
 
 /// The lines behind the first, each with a rule broken that is looked at before the next one's.
-const BEHIND: [Faulty; 11] = [
+const BEHIND: [Faulty; 12] = [
     ("round 2\n", 4, JournalWhy::Form),
     ("round 01\n", 4, JournalWhy::Form),
     ("round 1\n", 5, JournalWhy::Missing),
     ("round 1\nend\n", 5, JournalWhy::Form),
+    ("round 1\n0 1 2\nend\n", 6, JournalWhy::Form),
     ("round 1\n2 01 1\n", 5, JournalWhy::Form),
     ("round 1\n2 1 1\n", 5, JournalWhy::Worker),
     ("round 1\n0 1 2\n0 1 1\n", 6, JournalWhy::Worker),
@@ -136,7 +138,45 @@ fn further_lines_are_refused(rt: HostRuntime) -> Result<(), Fail> {
     for (lines, line, why) in BEHIND {
         let text = format!(in alloc; "run workers 2 shards 1 turns 1 seed 0\n{lines}")?;
         let want = Err(JournalFault::Out { line, why });
-        assert_eq!(rt; read(alloc, text.as_str()), want, "{lines}");
+        assert_eq!(rt; read(alloc, RunKind::Whole, text.as_str()), want, "{lines}");
+    }
+    Ok(())
+}
+
+/// What is read of a watched run, or the line that is out of form.
+const WATCHED: [(&str, Result<Told, u64>); 7] = [
+    (
+        "watch workers 63 shards 1 turns 31746 seed 0\nend\nA 3\n",
+        Ok(([63, 1, 31746, 0], [0, 0, 1])),
+    ),
+    (
+        "watch workers 2 shards 1 turns 1 seed 0\nround 1\nend\n",
+        Ok(([2, 1, 1, 0], [1, 0, 0])),
+    ),
+    (
+        "watch workers 2 shards 1 turns 1 seed 0\nround 1\n1 1 2 *\nend\nA 3\n",
+        Ok(([2, 1, 1, 0], [1, 1, 1])),
+    ),
+    (
+        "watch workers 2 shards 1 turns 1 seed 0\nround 1\n1 1 2\n0 1 2\nend\n",
+        Ok(([2, 1, 1, 0], [1, 2, 0])),
+    ),
+    (
+        "watch workers 2 shards 1 turns 9 seed 0\nround 1\n1 1 2 *\nround 2\n",
+        Err(6),
+    ),
+    ("run workers 2 shards 1 turns 1 seed 0\nend\n", Err(3)),
+    ("watch workers 64 shards 1 turns 1 seed 0\nend\n", Err(3)),
+];
+
+#[test]
+fn watched_runs_are_read(rt: HostRuntime) -> Result<(), Fail> {
+    for (text, told) in WATCHED {
+        let want = told.map_err(|line| JournalFault::Out {
+            line,
+            why: JournalWhy::Form,
+        });
+        assert_eq!(rt; read(rt.alloc(), RunKind::Watched, text), want, "{text}");
     }
     Ok(())
 }

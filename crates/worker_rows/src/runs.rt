@@ -1,13 +1,17 @@
 //! Picks, and runs by one worker and by many.
 
-ghost use Rattle.std.specs.Prelude.{◌≡◌, ◌≤◌, ◌*◌, ◌^◌, ◌-◌, length, IfSome};
+ghost use Rattle.std.specs.Prelude.{◌≡◌, ◌≤◌, ◌^◌, ◌-◌, length, IfSome};
 ghost use Rattle.pop_net.specs.Lanes.{AreValid};
+ghost use Rattle.pop_words.specs.Kinds.{most_workers};
+ghost use Rattle.pop_words.specs.Options.{IsWithinLimits};
 
+use crate::fields::meeting;
 use pair_workers::{End, Picker, RunEnd, run_all, run_alone};
 use pop_crowd::{Crowd, Meeting};
-use pop_io::{List, OpenGate, WORKER_LIMIT};
+use pop_io::{List, NoMemory, OpenGate, WORKER_LIMIT};
 use pop_net::Net;
-use pop_words::{MEETING_LIMIT, RunSpec, TURN_LIMIT};
+use pop_watch::run_watched;
+use pop_words::{RunKind, RunSpec, TURN_LIMIT, WATCHED_WORKERS};
 use sample_nets::majority;
 use std::alloc::Global;
 use std::sync::Wait;
@@ -44,15 +48,10 @@ fn run(alloc: Global, x: u64, y: u64, turns: u64) -> Result<Option<RunEnd>, Fail
 #[test]
 fn two_agents_come_to_an_end(rt: HostRuntime) -> Result<(), Fail> {
     let run = run(rt.alloc(), 1, 1, 2)?.ok_or("a run")?;
-    let meeting = Meeting {
-        worker: 0,
-        a: 1,
-        b: 0,
-        changed: true,
-    };
+    let met = [meeting(0, 1, 0, true); 2];
     let rounds = run.rounds.as_slice();
     assert_eq!(rt; rounds.len(), 1);
-    assert_eq!(rt; rounds[0].as_slice(), [meeting, meeting].as_slice());
+    assert_eq!(rt; rounds[0].as_slice(), met.as_slice());
     assert_eq!(rt; run.end, End::Terminal);
     Ok(())
 }
@@ -175,7 +174,7 @@ fn same_words(one: &Crowd, other: &Crowd) -> bool {
 }
 
 /// Whether the rounds of a run lead from one crowd to the other.
-pub(crate) fn leads(net: &Net, start: Crowd, rounds: &[List<Meeting>], end: &Crowd) -> bool
+fn leads(net: &Net, start: Crowd, rounds: &[List<Meeting>], end: &Crowd) -> bool
     requires { AreValid net.now start }
 {
     let mut crowd = start;
@@ -188,23 +187,41 @@ pub(crate) fn leads(net: &Net, start: Crowd, rounds: &[List<Meeting>], end: &Cro
 }
 
 /// A crowd of 120 agents of the first variable and 80 of the second.
-pub(crate) fn two_hundred(alloc: Global, net: &Net) -> Option<Crowd>
+fn two_hundred(alloc: Global, net: &Net) -> Option<Crowd>
     requires { length net.now.variables ≡ 2 }
     ensures { IfSome result (AreValid net.now) }
 {
     Crowd::of_counts(alloc, net, &[120, 80]).ok()
 }
 
+/// A run of this kind on threads.
+fn run_on_threads<R: Threads + Wait + Sync>(
+    rt: &R,
+    alloc: Global,
+    kind: RunKind,
+    net: &Net,
+    crowd: Crowd,
+    spec: &RunSpec,
+) -> Result<RunEnd, NoMemory>
+    requires limits { IsWithinLimits spec.now × (spec.now.workers ≤ most_workers kind) }
+    requires valid { AreValid net.now crowd }
+{
+    match kind {
+        RunKind::Whole => run_all(rt, alloc, net, crowd, spec, &OpenGate),
+        RunKind::Watched => run_watched(rt, alloc, net, crowd, spec, &OpenGate),
+    }
+}
+
 /// Whether a run of majority by many workers over two shards is what the plain crowd gives.
 fn many_are_as_one<R: Threads + Wait + Sync>(
     rt: &R,
     alloc: Global,
+    kind: RunKind,
     workers: u16,
     turns: u64,
 ) -> Result<bool, Fail>
-    requires workers { (1 ≤ workers) × (workers ≤ WORKER_LIMIT) }
+    requires workers { (1 ≤ workers) × (workers ≤ WORKER_LIMIT) × (workers ≤ most_workers kind) }
     requires turns { turns ≤ TURN_LIMIT }
-    requires product { workers * turns ≤ MEETING_LIMIT }
 {
     let net = majority(alloc).ok_or("a net")?;
     let crowd = two_hundred(alloc, &net).ok_or("a crowd")?;
@@ -215,7 +232,7 @@ fn many_are_as_one<R: Threads + Wait + Sync>(
         turns,
         seed: 7,
     };
-    let run = run_all(rt, alloc, &net, crowd, &spec, &OpenGate)
+    let run = run_on_threads(rt, alloc, kind, &net, crowd, &spec)
         .ok()
         .ok_or("a run")?;
     Ok(leads(&net, start, run.rounds.as_slice(), &run.crowd))
@@ -223,12 +240,16 @@ fn many_are_as_one<R: Threads + Wait + Sync>(
 
 #[test]
 fn four_workers_are_as_one(rt: HostRuntime) -> Result<(), Fail> {
-    assert!(rt; many_are_as_one(&rt, rt.alloc(), 4, 6_000)?);
+    let alloc = rt.alloc();
+    assert!(rt; many_are_as_one(&rt, alloc, RunKind::Whole, 4, 6_000)?);
+    assert!(rt; many_are_as_one(&rt, alloc, RunKind::Watched, 4, 6_000)?);
     Ok(())
 }
 
 #[test]
-fn sixty_four_workers_are_as_one(rt: HostRuntime) -> Result<(), Fail> {
-    assert!(rt; many_are_as_one(&rt, rt.alloc(), 64, 60)?);
+fn most_workers_are_as_one(rt: HostRuntime) -> Result<(), Fail> {
+    let alloc = rt.alloc();
+    assert!(rt; many_are_as_one(&rt, alloc, RunKind::Whole, WORKER_LIMIT, 60)?);
+    assert!(rt; many_are_as_one(&rt, alloc, RunKind::Watched, WATCHED_WORKERS, 60)?);
     Ok(())
 }

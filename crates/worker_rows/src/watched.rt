@@ -1,13 +1,13 @@
-//! Watched runs, by one worker and by many.
+//! Watched runs and their journals.
 
-ghost use Rattle.std.specs.Prelude.{◌≤◌, ◌*◌};
+ghost use Rattle.std.specs.Prelude.{◌≤◌};
 
-use crate::runs::{leads, two_hundred};
+use crate::fields::meeting;
 use pair_workers::{End, RunEnd};
 use pop_crowd::{Crowd, Meeting};
 use pop_io::{Gate, OpenGate};
-use pop_watch::{WATCHED_WORKERS, run_watched, whole_runs_are_watched};
-use pop_words::{MEETING_LIMIT, RunSpec, TURN_LIMIT};
+use pop_watch::{read_watched, run_watched, verify_watched, whole_runs_are_watched, write_watched};
+use pop_words::{RunSpec, TURN_LIMIT, WATCHED_WORKERS};
 use sample_nets::majority;
 use std::alloc::Global;
 use std::sync::Wait;
@@ -26,7 +26,6 @@ fn watch<R: Threads + Wait + Sync, G: Gate>(
 ) -> Result<RunEnd, Fail>
     requires workers { (1 ≤ workers) × (workers ≤ WATCHED_WORKERS) }
     requires turns { turns ≤ TURN_LIMIT }
-    requires product { workers * turns ≤ MEETING_LIMIT }
 {
     let net = majority(alloc).ok_or("a net")?;
     let (x, y) = counts;
@@ -47,15 +46,10 @@ fn watch<R: Threads + Wait + Sync, G: Gate>(
 fn one_worker_makes_its_round(rt: HostRuntime) -> Result<(), Fail> {
     whole_runs_are_watched();
     let run = watch(&rt, rt.alloc(), (1, 1), 1, 2, &OpenGate)?;
-    let meeting = Meeting {
-        worker: 0,
-        a: 1,
-        b: 0,
-        changed: true,
-    };
+    let met = [meeting(0, 1, 0, true); 2];
     let rounds = run.rounds.as_slice();
     assert_eq!(rt; rounds.len(), 1);
-    assert_eq!(rt; rounds[0].as_slice(), [meeting, meeting].as_slice());
+    assert_eq!(rt; rounds[0].as_slice(), met.as_slice());
     assert_eq!(rt; run.end, End::Terminal);
     Ok(())
 }
@@ -137,35 +131,46 @@ fn the_observer_stops_a_round(rt: HostRuntime) -> Result<(), Fail> {
     Ok(())
 }
 
-/// Whether a watched run of majority by many workers over two shards is what the plain crowd gives.
-fn watched_is_as_one<R: Threads + Wait + Sync>(
+/// Whether a watched run of two agents by one worker has this text, which is read as so many meetings.
+fn is_told<R: Threads + Wait + Sync>(
     rt: &R,
     alloc: Global,
-    workers: u16,
     turns: u64,
+    text: &str,
+    meetings: u64,
 ) -> Result<bool, Fail>
-    requires workers { (1 ≤ workers) × (workers ≤ WATCHED_WORKERS) }
-    requires turns { turns ≤ TURN_LIMIT }
-    requires product { workers * turns ≤ MEETING_LIMIT }
+    requires { turns ≤ TURN_LIMIT }
 {
     let net = majority(alloc).ok_or("a net")?;
-    let crowd = two_hundred(alloc, &net).ok_or("a crowd")?;
-    let start = two_hundred(alloc, &net).ok_or("a crowd")?;
+    let crowd = Crowd::of_counts(alloc, &net, &[1, 1])
+        .ok()
+        .ok_or("a crowd")?;
+    let start = crowd.copy(alloc).ok().ok_or("a crowd")?;
     let spec = RunSpec {
-        workers,
-        shards: 2,
+        workers: 1,
+        shards: 16,
         turns,
-        seed: 7,
+        seed: 0,
     };
     let run = run_watched(rt, alloc, &net, crowd, &spec, &OpenGate)
         .ok()
         .ok_or("a run")?;
-    Ok(leads(&net, start, run.rounds.as_slice(), &run.crowd))
+    let written = write_watched(alloc, &net, &spec, &run, false)
+        .ok()
+        .ok_or("a text")?;
+    let read = read_watched(alloc, written.as_slice(), 1, start.len());
+    let journal = read.ok().ok_or("a journal")?;
+    let told = verify_watched(alloc, &net, start, &journal);
+    Ok(written.as_slice() == text.as_bytes() && told.ok() == Some(meetings))
 }
 
 #[test]
-fn watched_workers_are_as_one(rt: HostRuntime) -> Result<(), Fail> {
-    assert!(rt; watched_is_as_one(&rt, rt.alloc(), 4, 6_000)?);
-    assert!(rt; watched_is_as_one(&rt, rt.alloc(), WATCHED_WORKERS, 60)?);
+fn watched_runs_are_told(rt: HostRuntime) -> Result<(), Fail> {
+    let whole =
+        "watch workers 1 shards 16 turns 2 seed 0\nround 1\n0 1 0 *\n0 1 0 *\nend\nb 2\nverdict false\n";
+    assert!(rt; is_told(&rt, rt.alloc(), 2, whole, 2)?);
+    let open =
+        "watch workers 1 shards 16 turns 1 seed 0\nround 1\n0 1 0 *\nend\na 1\nb 1\nundecided 0 1\n";
+    assert!(rt; is_told(&rt, rt.alloc(), 1, open, 1)?);
     Ok(())
 }

@@ -1,0 +1,75 @@
+#!/usr/bin/env python3
+"""Counts the meetings of `watch` of the built program beside those of `run`, and replays what `watch` wrote.
+
+Run from the top of the repository: python3 bench/watch.py [PROGRAM]
+Both run a certified epidemic with 1,000 agents, one of them infected, by four workers with 20 seeds; `watch` must need fewer
+meetings on average. Then `replay --watched` must count the meetings of each of 100 watched runs, by 1 to 63 workers.
+"""
+
+import json
+import os
+import resource
+import subprocess
+import sys
+
+TOP = os.path.dirname(os.path.dirname(os.path.abspath(__file__)))
+PROGRAM = sys.argv[1] if len(sys.argv) > 1 else os.path.join(TOP, "crates/pop_main/out/pop_main")
+CROWD = "crowd x=1 y=999"
+TURNS = 20_000
+WORKERS = 4
+SEEDS = 20
+REPLAYS = 100
+WATCHED_WORKERS = 63
+
+
+def head():
+    """The two input lines."""
+    with open(os.path.join(TOP, "examples/epidemic/bundle.json")) as f:
+        bundle = json.load(f)
+    return (json.dumps(bundle, separators=(",", ":")) + "\n" + CROWD + "\n").encode()
+
+
+def written(command, workers, seed):
+    """The text of a run that comes to its verdict."""
+    words = [PROGRAM, command, "--workers", str(workers), "--turns", str(TURNS), "--seed", str(seed)]
+    done = subprocess.run(words, input=head(), stdout=subprocess.PIPE)
+    if done.returncode != 0 or not done.stdout.endswith(b"\nverdict true\n"):
+        sys.exit(f"{' '.join(words)}: status {done.returncode}, {done.stdout[-60:]!r}")
+    return done.stdout
+
+
+def meetings(text):
+    """How many meeting lines a text has: the only ones that begin with a digit."""
+    return sum(1 for line in text.split(b"\n") if line[:1].isdigit())
+
+
+def average(command):
+    return sum(meetings(written(command, WORKERS, seed)) for seed in range(SEEDS)) / SEEDS
+
+
+def expect_held(workers, seed):
+    """Ends the bench where the replay of a watched run does not count its meetings."""
+    text = written("watch", workers, seed)
+    done = subprocess.run([PROGRAM, "replay", "--watched"], input=text, stdout=subprocess.PIPE)
+    wanted = f"holds {meetings(text)}\n".encode()
+    if done.returncode != 0 or done.stdout != wanted:
+        sys.exit(f"{workers} workers, seed {seed}: {done.stdout[:200]!r} for {wanted!r}")
+
+
+def main():
+    if not os.path.exists(PROGRAM):
+        sys.exit("build the program first: bin/pop play < examples/majority/play.txt")
+    resource.setrlimit(resource.RLIMIT_CORE, (0, 0))
+    whole, watched = average("run"), average("watch")
+    print(
+        f"epidemic, 1,000 agents, {WORKERS} workers, {SEEDS} seeds: run {whole:,.0f} meetings on average, "
+        f"watch {watched:,.0f}, {watched / whole:.2f} of them"
+    )
+    if watched >= whole:
+        sys.exit("watch needs no fewer meetings")
+    for number in range(REPLAYS):
+        expect_held(1 + number % WATCHED_WORKERS, number)
+    print(f"{REPLAYS} watched runs by 1 to {WATCHED_WORKERS} workers: replay --watched counts the meetings of each")
+
+
+main()
