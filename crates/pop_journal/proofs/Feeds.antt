@@ -14,6 +14,9 @@ use Rattle.pop_lines.specs.Lines.{pieces, without_last_empty, lines_of, ended}
 use Rattle.pop_lines.proofs.Pieces.{goes_on}
 use Rattle.pop_crowd.specs.declared.crowd.Meeting.{Meeting}
 use Rattle.pop_words.specs.declared.spec.RunSpec.{RunSpec}
+use Rattle.pop_words.specs.declared.kind.RunKind.{RunKind}
+use Rattle.pop_words.specs.declared.kind.RunKind.TheVariants.{Whole, Watched}
+use Rattle.pop_words.specs.Kinds.{kind_word}
 use Rattle.pop_words.specs.Options.{IsWithinLimits}
 use Rattle.pair_workers.specs.Run.{joined}
 use Rattle.pop_journal.specs.Journal.{run_line, round_line, meeting_line, round_lines, run_lines, text_of}
@@ -94,17 +97,22 @@ rounds_unbroken k (r ∷ rounds) few all =
     (decimal_unbroken k (omega (arith, few)), meetings_unbroken r parts.0)
     (rounds_unbroken (k + 1) rounds (omega (arith, few)) parts.1)
 
-run_unbroken : (spec : RunSpec) → IsWithinLimits spec → IsUnbroken (run_line spec)
-run_unbroken spec limits =
-    both_unbroken ((codes "run workers " ++ decimal spec.workers) ++ (codes " shards " ++ decimal spec.shards) ++ (codes " turns " ++ decimal spec.turns)) (codes " seed " ++ decimal spec.seed)
-    (both_unbroken ((codes "run workers " ++ decimal spec.workers) ++ (codes " shards " ++ decimal spec.shards)) (codes " turns " ++ decimal spec.turns)
-    (both_unbroken (codes "run workers " ++ decimal spec.workers) (codes " shards " ++ decimal spec.shards)
-    (decimal_unbroken spec.workers (omega (arith, limits.workers.1))) (decimal_unbroken spec.shards (omega (arith, limits.shards.1))))
+first_unbroken : (kind : RunKind) → IsUnbroken (kind_word kind ++ codes " workers ")
+first_unbroken Whole = refl
+first_unbroken Watched = refl
+
+run_unbroken : (kind : RunKind) (spec : RunSpec) → IsWithinLimits spec → IsUnbroken (run_line kind spec)
+run_unbroken kind spec limits =
+    let first : List ℕ = kind_word kind ++ codes " workers " in
+    both_unbroken ((first ++ decimal spec.workers) ++ (codes " shards " ++ decimal spec.shards) ++ (codes " turns " ++ decimal spec.turns)) (codes " seed " ++ decimal spec.seed)
+    (both_unbroken ((first ++ decimal spec.workers) ++ (codes " shards " ++ decimal spec.shards)) (codes " turns " ++ decimal spec.turns)
+    (both_unbroken (first ++ decimal spec.workers) (codes " shards " ++ decimal spec.shards)
+    (both_unbroken first (decimal spec.workers) (first_unbroken kind) (decimal_unbroken spec.workers (omega (arith, limits.workers.1)))) (decimal_unbroken spec.shards (omega (arith, limits.shards.1))))
     (decimal_unbroken spec.turns (omega (arith, limits.turns.1))))
     (decimal_unbroken spec.seed (omega (arith, limits.seed.1)))
 
 -- the lines up to `end`
-pub lines_unbroken : (spec : RunSpec) (rounds : List (List Meeting)) → IsWithinLimits spec → length rounds ≤ 2 ^ 62 → All IsSmall (joined rounds) → AreUnbroken (run_lines spec rounds)
-lines_unbroken spec rounds limits few all =
-    unbroken_append (run_line spec ∷ round_lines 1 rounds) (codes "end" ∷ [])
-    (run_unbroken spec limits, rounds_unbroken 1 rounds (omega (arith, few)) all) (refl, tt)
+pub lines_unbroken : (kind : RunKind) (spec : RunSpec) (rounds : List (List Meeting)) → IsWithinLimits spec → length rounds ≤ 2 ^ 62 → All IsSmall (joined rounds) → AreUnbroken (run_lines kind spec rounds)
+lines_unbroken kind spec rounds limits few all =
+    unbroken_append (run_line kind spec ∷ round_lines 1 rounds) (codes "end" ∷ [])
+    (run_unbroken kind spec limits, rounds_unbroken 1 rounds (omega (arith, few)) all) (refl, tt)

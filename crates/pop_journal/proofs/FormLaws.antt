@@ -5,7 +5,7 @@ use Rattle.std.specs.List.{join_with_byte}
 use Rattle.std.specs.Str.{bytes_eq}
 use Rattle.std.proofs.lemmas.Bool.{and_parts, ltb-true, eqb-true, eqb-false, eq-eqb, false≢true, cases_eq, not-true}
 use Rattle.std.proofs.lemmas.Slice.Eq.{bytes_eq-Decides}
-use Rattle.std.proofs.lemmas.List.{map-append}
+use Rattle.std.proofs.lemmas.List.{map-append, length-append}
 use Rattle.std.proofs.lemmas.List.Splits.{join_with_byte-slice_split, length-slice_split}
 use Rattle.std.proofs.lemmas.List.Elements.{All-nil, All-cons, All-append}
 use Rattle.pop_lines.specs.Lines.{pieces}
@@ -14,17 +14,22 @@ use Rattle.pop_lines.proofs.Printed.{printed-number_of}
 use Rattle.pop_crowd.specs.declared.crowd.Meeting.{Meeting}
 use Rattle.pop_crowd.specs.Replay.{IsMeeting, AreMeetings}
 use Rattle.pop_words.specs.declared.spec.RunSpec.{RunSpec}
+use Rattle.pop_words.specs.declared.kind.RunKind.{RunKind}
+use Rattle.pop_words.specs.declared.kind.RunKind.TheVariants.{Whole, Watched}
 use Rattle.pair_workers.specs.Run.{meetings_of, turns_in, joined, IsRound}
+use Rattle.pair_workers.specs.WatchedRun.{IsWatchedRound}
 use Rattle.pair_workers.proofs.Rounds.{get_pushed, joined_push}
+use Rattle.pair_workers.proofs.WholeWatched.{watched_round}
 use Rattle.pop_journal.specs.declared.fault.JournalWhy.{JournalWhy}
 use Rattle.pop_journal.specs.declared.fault.JournalWhy.TheVariants.{Form, Worker, Agents, Round}
 use Rattle.pop_journal.specs.Journal.{round_line, meeting_line, round_lines}
-use Rattle.pop_journal.specs.Rounds.{AreRounds}
-use Rattle.pop_journal.specs.Form.{at_the_end, Told, three_numbers, told_words, told_in, Reading, wanted, settled, meeting_told, line_read, Parts, follow, lines_read}
+use Rattle.pop_journal.specs.Rounds.{AreRounds, AreWatchedRounds, AreRoundsOf}
+use Rattle.pop_journal.specs.Form.{at_the_end, Told, three_numbers, told_words, told_in, Reading, all_rounds, wanted, settled, meeting_told, ends_inside, line_read, Parts, follow, lines_read}
 use Rattle.pop_journal.proofs.Texts.{round_lines-push}
 use Rattle.pop_journal.proofs.Spelled.{mark_words, joined_right}
-use Rattle.pop_journal.proofs.Counts.{sum_all, each_full}
+use Rattle.pop_journal.proofs.Counts.{round_full}
 use Rattle.pop_journal.proofs.Due.{own_last, other_last}
+use Rattle.pop_journal.proofs.RunKinds.{of_whole}
 
 -- numbers
 printed_spelled : (text : List ℕ) (n : ℕ) → printed_number_of text ≡ Some n → n < 2 ^ 64 → text ≡ decimal n
@@ -89,7 +94,7 @@ open_lines k (Some ms) = round_line k ∷ map meeting_line ms
 abbrev pub told_lines : Reading → List (List ℕ)
 told_lines reading = round_lines 1 reading.0 ++ open_lines (length reading.0 + 1) reading.1
 
-module _ (spec : RunSpec) (agents : ℕ) (workers : spec.workers ≤ 64) (few : agents < 2 ^ 32) where
+module _ (kind : RunKind) (spec : RunSpec) (agents : ℕ) (workers : spec.workers ≤ 64) (few : agents < 2 ^ 32) where
   abbrev InRange : Meeting → Type 0
   InRange m = IsMeeting agents m
 
@@ -98,9 +103,7 @@ module _ (spec : RunSpec) (agents : ℕ) (workers : spec.workers ≤ 64) (few : 
 
   -- meetings of a round that is open
   pub record IsOpen (k : ℕ) (ms : List Meeting) : Type 0 where
-    pub some : 1 ≤ turns_in spec k
-    pub few_each : (w : ℕ) → w < spec.workers → length (meetings_of w ms) ≤ turns_in spec k
-    pub below : All Below ms
+    pub round : IsWatchedRound spec k ms
     pub range : All InRange ms
 
   abbrev OpenFits : ℕ → Option (List Meeting) → Type 0
@@ -109,14 +112,6 @@ module _ (spec : RunSpec) (agents : ℕ) (workers : spec.workers ≤ 64) (few : 
 
   abbrev pub Fits : Reading → Type 0
   Fits reading = AreRounds spec agents reading.0 × OpenFits (length reading.0 + 1) reading.1
-
-  round_full : (k : ℕ) (ms : List Meeting) → IsOpen k ms → length ms ≡ spec.workers * turns_in spec k → IsRound spec k ms
-  round_full k ms h e =
-      record {
-        some_turn = h.some;
-        each_worker = each_full spec.workers (turns_in spec k) ms h.few_each (sum_all spec.workers ms h.below ∙ e);
-        nobody_else = h.below;
-      }
 
   one_more_round : (rounds : List (List Meeting)) (ms : List Meeting) → AreRounds spec agents rounds → IsOpen (length rounds + 1) ms → length ms ≡ wanted spec rounds → AreRounds spec agents (rounds ++ ms ∷ [])
   one_more_round rounds ms form h e =
@@ -127,7 +122,7 @@ module _ (spec : RunSpec) (agents : ℕ) (workers : spec.workers ≤ 64) (few : 
     where
       by_place : (k : ℕ) (r : List Meeting) → (slice_get rounds k ≡ Some r) ⊎ ((k ≡ length rounds) × (ms ≡ r)) → IsRound spec (k + 1) r
       by_place k r (inl g) = form.whole k r g
-      by_place k r (inr g) = subst (λ (t : ℕ × List Meeting). IsRound spec (t.0 + 1) t.1) (λ i. (sym g.0 i, g.1 i)) (round_full (length rounds + 1) ms h e)
+      by_place k r (inr g) = subst (λ (t : ℕ × List Meeting). IsRound spec (t.0 + 1) t.1) (λ i. (sym g.0 i, g.1 i)) (round_full spec (length rounds + 1) ms h.round e)
 
   -- one meeting more
   settled_fits : (rounds : List (List Meeting)) (ms : List Meeting) → AreRounds spec agents rounds → IsOpen (length rounds + 1) ms → Fits (settled spec rounds ms) × (told_lines (settled spec rounds ms) ≡ told_lines (rounds, Some ms))
@@ -152,10 +147,10 @@ module _ (spec : RunSpec) (agents : ℕ) (workers : spec.workers ≤ 64) (few : 
   meeting_test true true x next h = (refl, refl, cc)
 
   no_meetings : (k : ℕ) → 1 ≤ turns_in spec k → IsOpen k []
-  no_meetings k some = record { some = some; few_each = λ w l. omega arith; below = All-nil Below; range = All-nil InRange }
+  no_meetings k some = record { round = record { some_turn = some; each_worker = λ w l. omega arith; nobody_else = All-nil Below }; range = All-nil InRange }
 
   -- a further round
-  round_fits : (rounds : List (List Meeting)) (line : List ℕ) (next : Reading) → AreRounds spec agents rounds → line_read spec agents (rounds, None) line ≡ Ok (Some next) → Fits next × (told_lines next ≡ told_lines (rounds, None) ++ line ∷ [])
+  round_fits : (rounds : List (List Meeting)) (line : List ℕ) (next : Reading) → AreRounds spec agents rounds → line_read kind spec agents (rounds, None) line ≡ Ok (Some next) → Fits next × (told_lines next ≡ told_lines (rounds, None) ++ line ∷ [])
   round_fits rounds line next form e =
       let k = length rounds + 1 in
       let opened : Reading = (rounds, Some []) in
@@ -173,9 +168,11 @@ module _ (spec : RunSpec) (agents : ℕ) (workers : spec.workers ≤ 64) (few : 
   open_more : (k : ℕ) (ms : List Meeting) (m : Meeting) → IsOpen k ms → Below m → length (meetings_of m.worker ms) < turns_in spec k → InRange m → IsOpen k (ms ++ m ∷ [])
   open_more k ms m h below less range =
       record {
-        some = h.some;
-        few_each = λ w l. by_worker w l (cases_eq m.worker w);
-        below = All-append Below ms (m ∷ []) h.below (All-cons Below m [] below (All-nil Below));
+        round = record {
+          some_turn = h.round.some_turn;
+          each_worker = λ w l. by_worker w l (cases_eq m.worker w);
+          nobody_else = All-append Below ms (m ∷ []) h.round.nobody_else (All-cons Below m [] below (All-nil Below));
+        };
         range = All-append InRange ms (m ∷ []) h.range (All-cons InRange m [] range (All-nil InRange));
       }
     where
@@ -183,7 +180,7 @@ module _ (spec : RunSpec) (agents : ℕ) (workers : spec.workers ≤ 64) (few : 
       by_worker w l (inl e) =
           let longer = own_last w m ms e in
           let room : length (meetings_of w ms) < turns_in spec k = subst (λ (v : ℕ). length (meetings_of v ms) < turns_in spec k) e less in omega (arith, longer, room)
-      by_worker w l (inr e) = let same = other_last w m ms e in let old = h.few_each w l in omega (arith, same, old)
+      by_worker w l (inr e) = let same = other_last w m ms e in let old = h.round.each_worker w l in omega (arith, same, old)
 
   meeting_fits : (rounds : List (List Meeting)) (ms : List Meeting) (line : List ℕ) (next : Reading) (o : Option Told) → told_in line ≡ o → AreRounds spec agents rounds → IsOpen (length rounds + 1) ms → meeting_told spec agents rounds ms o ≡ Ok (Some next) → Fits next × (told_lines next ≡ told_lines (rounds, Some ms) ++ line ∷ [])
   meeting_fits rounds ms line next None is form h e = absurd cc
@@ -207,9 +204,19 @@ module _ (spec : RunSpec) (agents : ℕ) (workers : spec.workers ≤ 64) (few : 
       ∙ ap (λ (l : List ℕ). told_lines (rounds, Some ms) ++ l ∷ []) (sym spelled) in
       subst (λ (n : Reading). Fits n × (told_lines n ≡ told_lines (rounds, Some ms) ++ line ∷ [])) tests.2 (done.0, done.1 ∙ lines)
 
-  line_fits : (rounds : List (List Meeting)) (open' : Option (List Meeting)) (line : List ℕ) (next : Reading) → Fits (rounds, open') → line_read spec agents (rounds, open') line ≡ Ok (Some next) → Fits next × (told_lines next ≡ told_lines (rounds, open') ++ line ∷ [])
+  -- a line that isn't `end` inside a round
+  goes_on_test : (b : Bool) (r : Result (Option Reading) JournalWhy) (next : Reading) → (let v : Result (Option Reading) JournalWhy = if b then Ok None else r in v) ≡ Ok (Some next) → r ≡ Ok (Some next)
+  goes_on_test true r next e = absurd cc
+  goes_on_test false r next e = e
+
+  stops_test : (b : Bool) (r : Result (Option Reading) JournalWhy) → (let v : Result (Option Reading) JournalWhy = if b then Ok None else r in v) ≡ Ok None → (r ≡ Ok None → ⊥) → b ≡ true
+  stops_test true r e none = refl
+  stops_test false r e none = absurd (none e)
+
+  line_fits : (rounds : List (List Meeting)) (open' : Option (List Meeting)) (line : List ℕ) (next : Reading) → Fits (rounds, open') → line_read kind spec agents (rounds, open') line ≡ Ok (Some next) → Fits next × (told_lines next ≡ told_lines (rounds, open') ++ line ∷ [])
   line_fits rounds None line next fits e = round_fits rounds line next fits.0 e
-  line_fits rounds (Some ms) line next fits e = meeting_fits rounds ms line next (told_in line) refl fits.0 fits.1 e
+  line_fits rounds (Some ms) line next fits e =
+      meeting_fits rounds ms line next (told_in line) refl fits.0 fits.1 (goes_on_test (ends_inside kind line) (meeting_told spec agents rounds ms (told_in line)) next e)
 
   end_test : (e r s : Bool) (x : Reading) → (let v : Result (Option Reading) JournalWhy = if e then Ok None else if r then if s then Err Round else Ok (Some x) else Err Form in v) ≡ Ok None → e ≡ true
   end_test true r s x h = refl
@@ -226,36 +233,71 @@ module _ (spec : RunSpec) (agents : ℕ) (workers : spec.workers ≤ 64) (few : 
   no_end_in rounds ms None e = absurd cc
   no_end_in rounds ms (Some (w, a, b, mark)) e = no_end _ _ _ e
 
-  line_ends : (rounds : List (List Meeting)) (open' : Option (List Meeting)) (line : List ℕ) → line_read spec agents (rounds, open') line ≡ Ok None → (open' ≡ None) × (line ≡ codes "end")
-  line_ends rounds None line e =
-      let opened : Reading = (rounds, Some []) in
-      (refl, (bytes_eq-Decides line (codes "end")).0 (end_test (bytes_eq line (codes "end")) (bytes_eq line (round_line (length rounds + 1))) (turns_in spec (length rounds + 1) == 0) opened e))
-  line_ends rounds (Some ms) line e = absurd (no_end_in rounds ms (told_in line) e)
+  -- a last round that lacks meetings
+  stopped : (rounds : List (List Meeting)) (ms : List Meeting) → AreRounds spec agents rounds → IsOpen (length rounds + 1) ms → AreWatchedRounds spec agents (rounds ++ ms ∷ [])
+  stopped rounds ms form h =
+      record {
+        each = λ k r g. by_place k r (get_pushed rounds ms r k g);
+        whole = λ k r l g. by_whole k r l (get_pushed rounds ms r k g);
+        meetings = subst (AreMeetings agents) (sym (joined_push rounds ms)) (All-append InRange (joined rounds) ms form.meetings h.range);
+      }
+    where
+      by_place : (k : ℕ) (r : List Meeting) → (slice_get rounds k ≡ Some r) ⊎ ((k ≡ length rounds) × (ms ≡ r)) → IsWatchedRound spec (k + 1) r
+      by_place k r (inl g) = watched_round spec (k + 1) r (form.whole k r g)
+      by_place k r (inr g) = subst (λ (t : ℕ × List Meeting). IsWatchedRound spec (t.0 + 1) t.1) (λ i. (sym g.0 i, g.1 i)) h.round
+
+      by_whole : (k : ℕ) (r : List Meeting) → k + 1 < length (rounds ++ ms ∷ []) → (slice_get rounds k ≡ Some r) ⊎ ((k ≡ length rounds) × (ms ≡ r)) → IsRound spec (k + 1) r
+      by_whole k r l (inl g) = form.whole k r g
+      by_whole k r l (inr g) = let last = g.0 in absurd (omega (arith, l, last, length-append rounds (ms ∷ [])))
+
+  abbrev EndsOpen : RunKind → List (List Meeting) → List Meeting → List ℕ → Type 0
+  EndsOpen k rounds ms line = (line ≡ codes "end") × AreRoundsOf k spec agents (rounds ++ ms ∷ [])
+
+  line_ends_open : (k : RunKind) (rounds : List (List Meeting)) (ms : List Meeting) (line : List ℕ) → AreRounds spec agents rounds → IsOpen (length rounds + 1) ms → line_read k spec agents (rounds, Some ms) line ≡ Ok None → EndsOpen k rounds ms line
+  line_ends_open Whole rounds ms line form h e = absurd (no_end_in rounds ms (told_in line) e)
+  line_ends_open Watched rounds ms line form h e = (
+    (bytes_eq-Decides line (codes "end")).0 (stops_test (bytes_eq line (codes "end")) (meeting_told spec agents rounds ms (told_in line)) e (λ n. no_end_in rounds ms (told_in line) n)),
+    stopped rounds ms form h,
+  )
+
+  -- `end`, and the rounds up to it
+  line_ends : (rounds : List (List Meeting)) (open' : Option (List Meeting)) (line : List ℕ) → Fits (rounds, open') → line_read kind spec agents (rounds, open') line ≡ Ok None
+      → (line ≡ codes "end") × (told_lines (rounds, open') ≡ round_lines 1 (all_rounds (rounds, open'))) × AreRoundsOf kind spec agents (all_rounds (rounds, open'))
+  line_ends rounds None line fits e =
+      let opened : Reading = (rounds, Some []) in (
+        (bytes_eq-Decides line (codes "end")).0 (end_test (bytes_eq line (codes "end")) (bytes_eq line (round_line (length rounds + 1))) (turns_in spec (length rounds + 1) == 0) opened e),
+        append-nil (round_lines 1 rounds),
+        of_whole spec agents rounds kind fits.0,
+      )
+  line_ends rounds (Some ms) line fits e =
+      let ends = line_ends_open kind rounds ms line fits.0 fits.1 e in (
+        ends.0,
+        ap (λ (k : ℕ). round_lines 1 rounds ++ (round_line k ∷ map meeting_line ms)) (let n : length rounds + 1 ≡ 1 + length rounds = omega arith in n) ∙ sym (round_lines-push 1 rounds ms),
+        ends.1,
+      )
 
   -- what is read are the rounds' lines, `end` and the tail, and the rounds are in form
   abbrev Spelled : Reading → List (List ℕ) → Parts → Type 0
-  Spelled reading lines parts = (told_lines reading ++ lines ≡ round_lines 1 parts.0 ++ codes "end" ∷ parts.1) × AreRounds spec agents parts.0
+  Spelled reading lines parts = (told_lines reading ++ lines ≡ round_lines 1 parts.0 ++ codes "end" ∷ parts.1) × AreRoundsOf kind spec agents parts.0
 
-  by_step : (number : ℕ) (reading : Reading) (line : List ℕ) (lines : List (List ℕ)) (parts : Parts) (s : Result (Option Reading) JournalWhy) → line_read spec agents reading line ≡ s → Fits reading
-      → ((next : Reading) → Fits next → lines_read spec agents (number + 1) next lines ≡ Ok parts → Spelled next lines parts)
-      → follow number (reading.0, lines) (λ next. lines_read spec agents (number + 1) next lines) s ≡ Ok parts → Spelled reading (line ∷ lines) parts
+  by_step : (number : ℕ) (reading : Reading) (line : List ℕ) (lines : List (List ℕ)) (parts : Parts) (s : Result (Option Reading) JournalWhy) → line_read kind spec agents reading line ≡ s → Fits reading
+      → ((next : Reading) → Fits next → lines_read kind spec agents (number + 1) next lines ≡ Ok parts → Spelled next lines parts)
+      → follow number (all_rounds reading, lines) (λ next. lines_read kind spec agents (number + 1) next lines) s ≡ Ok parts → Spelled reading (line ∷ lines) parts
   by_step number reading line lines parts (Err why) is fits on e = absurd cc
   by_step number reading line lines parts (Ok None) is fits on e =
-      let ends = line_ends reading.0 reading.1 line is in
-      let same : ◌≡◌ {A = Parts} (reading.0, lines) parts = cc in
-      subst (λ (p : Parts). Spelled reading (line ∷ lines) p) same (
-        ap (λ (t : Option (List Meeting) × List ℕ). (round_lines 1 reading.0 ++ open_lines (length reading.0 + 1) t.0) ++ t.1 ∷ lines) (λ i. (ends.0 i, ends.1 i)) ∙ ap (λ (ls : List (List ℕ)). ls ++ codes "end" ∷ lines) (append-nil (round_lines 1 reading.0)),
-        fits.0,
-      )
+      let ends = line_ends reading.0 reading.1 line fits is in
+      let same : ◌≡◌ {A = Parts} (all_rounds reading, lines) parts = cc in
+      subst (λ (p : Parts). Spelled reading (line ∷ lines) p) same
+      (ap (λ (ls : List (List ℕ)). ls ++ line ∷ lines) ends.1 ∙ ap (λ (l : List ℕ). round_lines 1 (all_rounds reading) ++ l ∷ lines) ends.0, ends.2)
   by_step number reading line lines parts (Ok (Some next)) is fits on e =
       let more = line_fits reading.0 reading.1 line next fits is in
       let rest = on next more.0 e in
       (sym (append_assoc (told_lines reading) (line ∷ []) lines) ∙ ap (λ (ls : List (List ℕ)). ls ++ lines) (sym more.1) ∙ rest.0, rest.1)
 
-  pub read_spelled : (number : ℕ) (reading : Reading) (lines : List (List ℕ)) (parts : Parts) → Fits reading → lines_read spec agents number reading lines ≡ Ok parts → Spelled reading lines parts
+  pub read_spelled : (number : ℕ) (reading : Reading) (lines : List (List ℕ)) (parts : Parts) → Fits reading → lines_read kind spec agents number reading lines ≡ Ok parts → Spelled reading lines parts
   read_spelled number reading [] parts fits e = absurd cc
   read_spelled number reading (line ∷ lines) parts fits e =
-      by_step number reading line lines parts (line_read spec agents reading line) refl fits (λ next more h. read_spelled (number + 1) next lines parts more h) e
+      by_step number reading line lines parts (line_read kind spec agents reading line) refl fits (λ next more h. read_spelled (number + 1) next lines parts more h) e
 
 told_more : (w a b s : List ℕ) (ps : List (List ℕ)) → 0 < length ps → told_words (w ∷ a ∷ b ∷ s ∷ ps) ≡ None
 told_more w a b s [] some = absurd (omega (arith, some))
@@ -272,3 +314,17 @@ end_more spec (p ∷ ps) some = refl
 -- words behind the last number
 pub no_end_before : (spec : RunSpec) (rest : List ℕ) → at_the_end spec (pieces 32 rest) ≡ None
 no_end_before spec rest = end_more spec (pieces 32 rest) (let l = length-slice_split (λ c. c == 32) rest in omega (arith, l))
+
+-- `end` tells no meeting
+end_untold : told_in (codes "end") ≡ None
+unfolding told_in
+end_untold = refl
+
+-- a line that tells a meeting isn't `end`
+pub told_no_end : (kind : RunKind) (line : List ℕ) (told : Told) → told_in line ≡ Some told → ends_inside kind line ≡ false
+told_no_end Whole line told is = refl
+told_no_end Watched line told is = by_test (bytes_eq line (codes "end")) refl
+  where
+    by_test : (b : Bool) → bytes_eq line (codes "end") ≡ b → bytes_eq line (codes "end") ≡ false
+    by_test false e = e
+    by_test true e = absurd (let both : Some told ≡ None = sym is ∙ ap told_in ((bytes_eq-Decides line (codes "end")).0 e) ∙ end_untold in cc)

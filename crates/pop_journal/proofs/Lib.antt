@@ -5,7 +5,10 @@ pub mod Spelled
 pub mod Holds
 pub mod Steps
 pub mod Walk
+pub mod AtEnd
 pub mod Counts
+pub mod Lacks
+pub mod RunKinds
 pub mod RoundAt
 pub mod Verdicts
 pub mod FormLaws

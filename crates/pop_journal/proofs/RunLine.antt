@@ -6,32 +6,43 @@ use Rattle.std.specs.Str.{bytes_eq}
 use Rattle.std.proofs.lemmas.Bool.{le-leb, leb-true, cond-true, and_from, and_parts}
 use Rattle.std.proofs.lemmas.Slice.Eq.{bytes_eq-Decides}
 use Rattle.std.proofs.lemmas.List.Splits.{join_with_byte-slice_split, slice_split_at, slice_split_none}
-use Rattle.pop_io.specs.declared.gate.TheConstants.{WORKER_LIMIT, SHARD_LIMIT}
+use Rattle.pop_io.specs.declared.gate.TheConstants.{SHARD_LIMIT}
 use Rattle.pop_lines.specs.Lines.{pieces}
 use Rattle.pop_lines.specs.Numbers.{has_no_leading_zero, number_of, number_within, printed_within}
 use Rattle.pop_lines.proofs.Printed.{printed-number_of, printed_number_of-decimal}
 use Rattle.pop_words.specs.declared.spec.TheConstants.{TURN_LIMIT, MEETING_LIMIT, SEED_LIMIT}
 use Rattle.pop_words.specs.declared.spec.RunSpec.{RunSpec}
+use Rattle.pop_words.specs.declared.kind.RunKind.{RunKind}
+use Rattle.pop_words.specs.declared.kind.RunKind.TheVariants.{Whole, Watched}
+use Rattle.pop_words.specs.Kinds.{kind_word, most_workers}
 use Rattle.pop_words.specs.Options.{IsWithinLimits}
 use Rattle.pop_journal.specs.Journal.{run_line}
 use Rattle.pop_journal.specs.Form.{number_named, at_the_end, spec_words, spec_in}
+use Rattle.pop_journal.proofs.RunKinds.{few_workers}
 use Rattle.pop_journal.proofs.Spelled.{decimal_no_space}
 
 abbrev space : ℕ → Bool
 space b = b == 32
 
-abbrev words_of : RunSpec → List (List ℕ)
-words_of spec =
-    codes "run" ∷ codes "workers" ∷ decimal spec.workers ∷ codes "shards" ∷ decimal spec.shards ∷ codes "turns" ∷ decimal spec.turns ∷ codes "seed" ∷ decimal spec.seed ∷ []
+-- the words behind `workers`
+abbrev numbers_of : RunSpec → List (List ℕ)
+numbers_of spec =
+    decimal spec.workers ∷ codes "shards" ∷ decimal spec.shards ∷ codes "turns" ∷ decimal spec.turns ∷ codes "seed" ∷ decimal spec.seed ∷ []
+
+abbrev words_of : RunKind → RunSpec → List (List ℕ)
+words_of kind spec = kind_word kind ∷ codes "workers" ∷ numbers_of spec
 
 -- the line is its words, with a space between any two
-run_right : (spec : RunSpec) → run_line spec ≡ join_with_byte 32 (words_of spec)
-run_right spec =
-    let w : List ℕ = codes "run workers " ++ decimal spec.workers in
+run_right : (kind : RunKind) (spec : RunSpec) → run_line kind spec ≡ join_with_byte 32 (words_of kind spec)
+run_right kind spec =
+    let w : List ℕ = kind_word kind ++ codes " workers " ++ decimal spec.workers in
     let s : List ℕ = codes " shards " ++ decimal spec.shards in
     let t : List ℕ = codes " turns " ++ decimal spec.turns in
     let n : List ℕ = codes " seed " ++ decimal spec.seed in
-    append_assoc (w ++ s) t n ∙ append_assoc w s (t ++ n)
+    append_assoc (w ++ s) t n
+    ∙ append_assoc w s (t ++ n)
+    ∙ append_assoc (kind_word kind ++ codes " workers ") (decimal spec.workers) (s ++ (t ++ n))
+    ∙ append_assoc (kind_word kind) (codes " workers ") (decimal spec.workers ++ (s ++ (t ++ n)))
 
 test : {A : Type 0} (b : Bool) (o : Option A) (y : A) → (if b then o else None) ≡ Some y → (b ≡ true) × (o ≡ Some y)
 test true o y e = (refl, e)
@@ -84,53 +95,56 @@ end_is spec spec' [] e =
 end_is spec spec' (word ∷ words) e = absurd cc
 
 -- the words of a line that was read
-words_are : (words : List (List ℕ)) (spec : RunSpec) → spec_words words ≡ Some spec → (words ≡ words_of spec) × IsWithinLimits spec
-words_are [] spec e = absurd cc
-words_are (first ∷ words) spec e =
-    let run = test (bytes_eq first (codes "run")) _ spec e in
+words_are : (kind : RunKind) (words : List (List ℕ)) (spec : RunSpec) → spec_words kind words ≡ Some spec → (words ≡ words_of kind spec) × IsWithinLimits spec × (spec.workers ≤ most_workers kind)
+words_are kind [] spec e = absurd cc
+words_are kind (first ∷ words) spec e =
+    let run = test (bytes_eq first (kind_word kind)) _ spec e in
+    let few = few_workers kind in
+    let most : most_workers kind ≤ 64 = few (most_workers kind) (omega arith) in
     let w = then_some _ _ spec run.1 in
     let s = then_some _ _ spec w.2 in
     let t = then_some _ _ spec s.2 in
     let n = then_some _ _ spec t.2 in
     let read : RunSpec = record { workers = w.0.0; shards = s.0.0; turns = t.0.0; seed = n.0.0 } in
     let done = end_is read spec n.0.1 n.2 in
-    let workers = named_is (codes "workers") 1 WORKER_LIMIT words w.0.0 w.0.1 (omega arith) w.1 in
+    let workers = named_is (codes "workers") 1 (most_workers kind) words w.0.0 w.0.1 (omega (arith, most)) w.1 in
     let shards = named_is (codes "shards") 1 SHARD_LIMIT w.0.1 s.0.0 s.0.1 (omega arith) s.1 in
     let turns = named_is (codes "turns") 0 TURN_LIMIT s.0.1 t.0.0 t.0.1 (omega arith) t.1 in
     let seed = named_is (codes "seed") 0 SEED_LIMIT t.0.1 n.0.0 n.0.1 (omega arith) n.1 in
-    let limits : IsWithinLimits read = record { workers = workers.1; shards = shards.1; turns = turns.1; seed = seed.1 } in
-    let all : first ∷ words ≡ words_of read =
-    ap (λ (f : List ℕ). f ∷ words) ((bytes_eq-Decides first (codes "run")).0 run.0)
-    ∙ ap (λ (ws : List (List ℕ)). codes "run" ∷ ws)
+    let limits : IsWithinLimits read = record { workers = (workers.1.0, few w.0.0 workers.1.1); shards = shards.1; turns = turns.1; seed = seed.1 } in
+    let all : first ∷ words ≡ words_of kind read =
+    ap (λ (f : List ℕ). f ∷ words) ((bytes_eq-Decides first (kind_word kind)).0 run.0)
+    ∙ ap (λ (ws : List (List ℕ)). kind_word kind ∷ ws)
     (workers.0 ∙ ap (λ (ws : List (List ℕ)). codes "workers" ∷ decimal w.0.0 ∷ ws)
     (shards.0 ∙ ap (λ (ws : List (List ℕ)). codes "shards" ∷ decimal s.0.0 ∷ ws)
     (turns.0 ∙ ap (λ (ws : List (List ℕ)). codes "turns" ∷ decimal t.0.0 ∷ ws)
     (seed.0 ∙ ap (λ (ws : List (List ℕ)). codes "seed" ∷ decimal n.0.0 ∷ ws) done.0)))) in
-    (all ∙ ap words_of done.1, subst IsWithinLimits done.1 limits)
+    (all ∙ ap (words_of kind) done.1, subst IsWithinLimits done.1 limits, subst (λ (s : RunSpec). s.workers ≤ most_workers kind) done.1 workers.1.1)
 
 -- a line that is read is the line of its run
-pub spec_spelled : (line : List ℕ) (spec : RunSpec) → spec_in line ≡ Some spec → (line ≡ run_line spec) × IsWithinLimits spec
+pub spec_spelled : (kind : RunKind) (line : List ℕ) (spec : RunSpec) → spec_in kind line ≡ Some spec → (line ≡ run_line kind spec) × IsWithinLimits spec × (spec.workers ≤ most_workers kind)
 unfolding spec_in
-spec_spelled line spec e =
-    let are = words_are (pieces 32 line) spec e in
-    (sym (join_with_byte-slice_split 32 line) ∙ ap (join_with_byte 32) are.0 ∙ sym (run_right spec), are.1)
+spec_spelled kind line spec e =
+    let are = words_are kind (pieces 32 line) spec e in
+    (sym (join_with_byte-slice_split 32 line) ∙ ap (join_with_byte 32) are.0 ∙ sym (run_right kind spec), are.1, are.2)
 
 -- the other way
 cut_number : (n : ℕ) (rest : List ℕ) → n < 2 ^ 64 → pieces 32 (decimal n ++ 32 ∷ rest) ≡ decimal n ∷ pieces 32 rest
 cut_number n rest small = slice_split_at space (decimal n) 32 rest (decimal_no_space n small) refl
 
-words_cut : (spec : RunSpec) → IsWithinLimits spec → pieces 32 (run_line spec) ≡ words_of spec
-words_cut spec limits =
+numbers_cut : (spec : RunSpec) → IsWithinLimits spec → pieces 32 (join_with_byte 32 (numbers_of spec)) ≡ numbers_of spec
+numbers_cut spec limits =
     let n : List ℕ = decimal spec.seed in
-    let t : List ℕ = decimal spec.turns ++ codes " seed " ++ n in
-    ap (pieces 32) (run_right spec)
-    ∙ ap (λ (ws : List (List ℕ)). codes "run" ∷ codes "workers" ∷ ws)
-    (cut_number spec.workers _ (omega (arith, limits.workers.1))
+    cut_number spec.workers _ (omega (arith, limits.workers.1))
     ∙ ap (λ (ws : List (List ℕ)). decimal spec.workers ∷ codes "shards" ∷ ws)
     (cut_number spec.shards _ (omega (arith, limits.shards.1))
     ∙ ap (λ (ws : List (List ℕ)). decimal spec.shards ∷ codes "turns" ∷ ws)
     (cut_number spec.turns _ (omega (arith, limits.turns.1))
-    ∙ ap (λ (ws : List (List ℕ)). decimal spec.turns ∷ codes "seed" ∷ ws) (slice_split_none space n (decimal_no_space spec.seed (omega (arith, limits.seed.1)))))))
+    ∙ ap (λ (ws : List (List ℕ)). decimal spec.turns ∷ codes "seed" ∷ ws) (slice_split_none space n (decimal_no_space spec.seed (omega (arith, limits.seed.1))))))
+
+words_cut : (kind : RunKind) (spec : RunSpec) → IsWithinLimits spec → pieces 32 (run_line kind spec) ≡ words_of kind spec
+words_cut Whole spec limits = ap (pieces 32) (run_right Whole spec) ∙ ap (λ (ws : List (List ℕ)). codes "run" ∷ codes "workers" ∷ ws) (numbers_cut spec limits)
+words_cut Watched spec limits = ap (pieces 32) (run_right Watched spec) ∙ ap (λ (ws : List (List ℕ)). codes "watch" ∷ codes "workers" ∷ ws) (numbers_cut spec limits)
 
 printed_back : (least most n : ℕ) → least ≤ n → n ≤ most → n < 2 ^ 64 → printed_within least most (decimal n) ≡ Some n
 printed_back least most n low high small =
@@ -144,13 +158,17 @@ named_back name least most n more low high small =
     cond-true (bytes_eq name name) (option_map (λ (m : ℕ). let t : Named = (m, more) in t) (printed_within least most (decimal n))) None ((bytes_eq-Decides name name).1 refl)
     ∙ ap (option_map (λ (m : ℕ). let t : Named = (m, more) in t)) (printed_back least most n low high small)
 
+same_bytes : (text : List ℕ) → bytes_eq text text ≡ true
+same_bytes text = (bytes_eq-Decides text text).1 refl
+
 -- the line of a run is read
-pub spec_back : (spec : RunSpec) → IsWithinLimits spec → spec.workers * spec.turns ≤ MEETING_LIMIT → spec_in (run_line spec) ≡ Some spec
+pub spec_back : (kind : RunKind) (spec : RunSpec) → IsWithinLimits spec → spec.workers ≤ most_workers kind → spec.workers * spec.turns ≤ MEETING_LIMIT → spec_in kind (run_line kind spec) ≡ Some spec
 unfolding spec_in
-spec_back spec limits few =
-    ap spec_words (words_cut spec limits)
+spec_back kind spec limits hands few =
+    ap (spec_words kind) (words_cut kind spec limits)
     ∙ rw (
-      named_back (codes "workers") 1 WORKER_LIMIT spec.workers _ limits.workers.0 limits.workers.1 (omega (arith, limits.workers.1)),
+      same_bytes (kind_word kind),
+      named_back (codes "workers") 1 (most_workers kind) spec.workers _ limits.workers.0 hands (omega (arith, limits.workers.1)),
       named_back (codes "shards") 1 SHARD_LIMIT spec.shards _ limits.shards.0 limits.shards.1 (omega (arith, limits.shards.1)),
       named_back (codes "turns") 0 TURN_LIMIT spec.turns _ limits.turns.0 limits.turns.1 (omega (arith, limits.turns.1)),
       named_back (codes "seed") 0 SEED_LIMIT spec.seed _ limits.seed.0 limits.seed.1 (omega (arith, limits.seed.1)),

@@ -13,31 +13,40 @@ use Rattle.pop_words.specs.Options.{IsWithinLimits}
 use Rattle.pop_journal.specs.declared.fault.VerifyFault.{VerifyFault}
 use Rattle.pop_journal.specs.declared.fault.VerifyFault.TheVariants.{Differs, NoMemory}
 use Rattle.pop_journal.specs.declared.journal.Journal.{Journal}
-use Rattle.pop_journal.specs.Rounds.{AreRounds}
+use Rattle.pop_journal.specs.Rounds.{AreRoundsOf}
 use Rattle.pop_journal.specs.Expected.{Difference, first_difference, journal_compared, tail_text, Holds}
 use Rattle.pop_journal.specs.Standing.{Passes}
 use Rattle.pop_journal.proofs.Holds.{run_of_none, none_of_run}
+use Rattle.pop_journal.proofs.RunKinds.{are_watched, is_watched, is_of_kind}
+use Rattle.pair_workers.specs.Run.{joined}
+use Rattle.pair_workers.specs.WatchedRun.{IsWatchedRun}
+use Rattle.pop_crowd.specs.Replay.{replay}
 
-module _ (net : NetModel) (start : CrowdModel) (journal : Journal) (two : AGENT_LEAST ≤ length start) (few : length start ≤ AGENT_LIMIT) (workers : journal.spec.workers ≤ WORKER_LIMIT) (tuples : All (IsTuple net) start) (form : AreRounds journal.spec (length start) journal.rounds) where
+module _ (net : NetModel) (start : CrowdModel) (journal : Journal) (two : AGENT_LEAST ≤ length start) (few : length start ≤ AGENT_LIMIT) (workers : (1 ≤ journal.spec.workers) × (journal.spec.workers ≤ WORKER_LIMIT)) (tuples : All (IsTuple net) start) (form : AreRoundsOf journal.kind journal.spec (length start) journal.rounds) where
   -- a journal in form without a difference holds
   pub none_held : first_difference (journal.first + 1) (journal_compared net start journal) ≡ None → Holds net start journal
   none_held e =
-      let both = run_of_none net start journal.spec two few workers tuples journal.rounds form (journal.first + 1) journal.tail e in (_, both.0, both.1)
+      let watched = are_watched journal.spec (length start) journal.rounds journal.kind form in
+      let end : CrowdModel = replay net (joined journal.rounds) start in
+      let both = run_of_none net start journal.spec two few workers.1 tuples journal.rounds watched (journal.first + 1) journal.tail e in
+      (end, is_of_kind net start journal.spec journal.rounds end journal.kind (length start) form workers.0 both.0, both.1)
 
   pub held_none : Holds net start journal → first_difference (journal.first + 1) (journal_compared net start journal) ≡ None
   held_none holds =
-      none_of_run net start journal.spec two few workers tuples journal.rounds form (journal.first + 1) journal.tail holds.0 holds.1
-      (holds.2 ∙ ap (λ (c : CrowdModel). lines_of (tail_text net c)) (sym holds.1.replays))
+      let watched = are_watched journal.spec (length start) journal.rounds journal.kind form in
+      let run : IsWatchedRun net start journal.spec journal.rounds holds.0 = is_watched net start journal.spec journal.rounds holds.0 journal.kind holds.1 in
+      none_of_run net start journal.spec two few workers.1 tuples journal.rounds watched (journal.first + 1) journal.tail holds.0 workers.0 run
+      (holds.2 ∙ ap (λ (c : CrowdModel). lines_of (tail_text net c)) (sym run.replays))
 
-module _ (net : NetModel) (words : List Word) (journal : Journal) (r : Result ℕ VerifyFault) (limits : IsWithinLimits journal.spec) (form : AreRounds journal.spec (length words) journal.rounds) (two : AGENT_LEAST ≤ length words) (few : length words ≤ AGENT_LIMIT) where
+module _ (net : NetModel) (words : List Word) (journal : Journal) (r : Result ℕ VerifyFault) (limits : IsWithinLimits journal.spec) (form : AreRoundsOf journal.kind journal.spec (length words) journal.rounds) (two : AGENT_LEAST ≤ length words) (few : length words ≤ AGENT_LIMIT) where
   abbrev start : CrowdModel
   start = crowd_of net words
 
   same : length start ≡ length words
   same = length-map words (tuple_of net)
 
-  rounds_form : AreRounds journal.spec (length start) journal.rounds
-  rounds_form = subst (λ (n : ℕ). AreRounds journal.spec n journal.rounds) (sym same) form
+  rounds_form : AreRoundsOf journal.kind journal.spec (length start) journal.rounds
+  rounds_form = subst (λ (n : ℕ). AreRoundsOf journal.kind journal.spec n journal.rounds) (sym same) form
 
   more : AGENT_LEAST ≤ length start
   more = omega (arith, same, two)
@@ -50,7 +59,7 @@ module _ (net : NetModel) (words : List Word) (journal : Journal) (r : Result �
     where
       by_result : (s : Result ℕ VerifyFault) → Passes (journal.first + 1) (journal_compared net start journal) s → IfOk s (λ _. Holds net start journal)
       by_result (Ok n) e =
-          none_held net start journal more fewer limits.workers.1 (crowd_tuples net words) rounds_form e
+          none_held net start journal more fewer limits.workers (crowd_tuples net words) rounds_form e
       by_result (Err (Differs line kept found)) e = tt
       by_result (Err NoMemory) e = tt
 
@@ -59,7 +68,7 @@ module _ (net : NetModel) (words : List Word) (journal : Journal) (r : Result �
     where
       none : first_difference (journal.first + 1) (journal_compared net start journal) ≡ None
       none =
-          held_none net start journal more fewer limits.workers.1 (crowd_tuples net words) rounds_form holds
+          held_none net start journal more fewer limits.workers (crowd_tuples net words) rounds_form holds
 
       by_result : (s : Result ℕ VerifyFault) → Passes (journal.first + 1) (journal_compared net start journal) s → IfErr s (λ fault. fault ≡ NoMemory)
       by_result (Ok n) e = tt

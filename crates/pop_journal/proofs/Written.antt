@@ -12,12 +12,14 @@ use Rattle.pop_crowd.specs.Replay.{IsMeeting}
 use Rattle.pop_crowd.specs.Tally.{crowd_lines}
 use Rattle.pop_words.specs.declared.spec.TheConstants.{MEETING_LIMIT}
 use Rattle.pop_words.specs.declared.spec.RunSpec.{RunSpec}
+use Rattle.pop_words.specs.declared.kind.RunKind.{RunKind}
+use Rattle.pop_words.specs.Kinds.{most_workers}
 use Rattle.pop_words.specs.Options.{IsWithinLimits}
-use Rattle.pair_workers.specs.Run.{joined, IsRound, IsRun}
-use Rattle.pair_workers.proofs.AllMeet.{joined_below, all_run_meets}
+use Rattle.pair_workers.specs.Run.{joined}
+use Rattle.pair_workers.specs.WatchedRun.{IsWatchedRound, IsWatchedRun, IsRunOf}
 use Rattle.pop_journal.specs.declared.journal.Journal.{Journal}
 use Rattle.pop_journal.specs.Journal.{run_line, round_lines, run_lines, last_line, text_of, journal_text}
-use Rattle.pop_journal.specs.Rounds.{AreRounds}
+use Rattle.pop_journal.specs.Rounds.{AreRounds, AreWatchedRounds, AreRoundsOf}
 use Rattle.pop_journal.specs.Ending.{ending_of}
 use Rattle.pop_journal.specs.Expected.{tail_text}
 use Rattle.pop_journal.specs.Form.{spec_in, Reading, Parts, Out, lines_read, under, with_spec, journal_in}
@@ -26,6 +28,7 @@ use Rattle.pop_journal.specs.ReadLines.{ReadsJournal}
 use Rattle.pop_journal.specs.Laws.{IsOneSpelling, IsReadBack, IsWrittenHeld}
 use Rattle.pop_journal.proofs.Spelled.{IsSmall}
 use Rattle.pop_journal.proofs.Counts.{round_bound}
+use Rattle.pop_journal.proofs.RunKinds.{all_below, are_watched, is_watched, run_form}
 use Rattle.pop_journal.proofs.FormLaws.{read_spelled}
 use Rattle.pop_journal.proofs.ReadBack.{rounds_read}
 use Rattle.pop_journal.proofs.RunLine.{spec_spelled, spec_back}
@@ -40,44 +43,50 @@ under_ok s (Ok p) spec parts e =
     let same : ◌≡◌ {A = RunSpec × Parts} (s, p) (spec, parts) = cc in (ap (λ (t : RunSpec × Parts). t.0) same, ap (λ (t : RunSpec × Parts). Ok t.1) same)
 under_ok s (Err out) spec parts e = absurd cc
 
-long_rounds : (spec : RunSpec) (k : ℕ) (rounds : List (List Meeting)) → spec.workers ≤ WORKER_LIMIT → ((i : ℕ) (r : List Meeting) → slice_get rounds i ≡ Some r → IsRound spec (k + i + 1) r)
+long_rounds : (spec : RunSpec) (k : ℕ) (rounds : List (List Meeting)) → spec.workers ≤ WORKER_LIMIT → ((i : ℕ) (r : List Meeting) → slice_get rounds i ≡ Some r → IsWatchedRound spec (k + i + 1) r)
     → length (joined rounds) ≤ 262144 * length rounds
 long_rounds spec k [] hands each = omega arith
 long_rounds spec k (r ∷ rounds) hands each =
     let first = round_bound spec (k + 0 + 1) r (each 0 r refl) in
-    let more = long_rounds spec (k + 1) rounds hands (λ i s h. subst (λ (n : ℕ). IsRound spec n s) (let e : k + suc i + 1 ≡ k + 1 + i + 1 = omega arith in e) (each (suc i) s h)) in
+    let more = long_rounds spec (k + 1) rounds hands (λ i s h. subst (λ (n : ℕ). IsWatchedRound spec n s) (let e : k + suc i + 1 ≡ k + 1 + i + 1 = omega arith in e) (each (suc i) s h)) in
     omega (arith, first, more, hands, length-append r (joined rounds))
 
+-- the lines of a journal
+abbrev lines_told : RunKind → RunSpec → Parts → List (List ℕ)
+lines_told kind spec parts = run_line kind spec ∷ (round_lines 1 parts.0 ++ codes "end" ∷ parts.1)
+
 -- a text that is read has the lines of its journal, whose rounds are in form
-pub journal_form : (agents first : ℕ) (lines : List (List ℕ)) (spec : RunSpec) (parts : Parts) → agents < 2 ^ 32 → journal_in agents first lines ≡ Ok (spec, parts)
-    → (lines ≡ run_line spec ∷ (round_lines 1 parts.0 ++ codes "end" ∷ parts.1)) × IsWithinLimits spec × AreRounds spec agents parts.0
-journal_form agents first [] spec parts few e = absurd cc
-journal_form agents first (line ∷ lines) spec parts few e = by_spec (spec_in line) refl e
+pub journal_form : (kind : RunKind) (agents first : ℕ) (lines : List (List ℕ)) (spec : RunSpec) (parts : Parts) → agents < 2 ^ 32 → journal_in kind agents first lines ≡ Ok (spec, parts)
+    → (lines ≡ run_line kind spec ∷ (round_lines 1 parts.0 ++ codes "end" ∷ parts.1)) × IsWithinLimits spec × AreRoundsOf kind spec agents parts.0
+journal_form kind agents first [] spec parts few e = absurd cc
+journal_form kind agents first (line ∷ lines) spec parts few e = by_spec (spec_in kind line) refl e
   where
-    by_spec : (o : Option RunSpec) → spec_in line ≡ o → with_spec agents first lines o ≡ Ok (spec, parts) → (line ∷ lines ≡ run_line spec ∷ (round_lines 1 parts.0 ++ codes "end" ∷ parts.1)) × IsWithinLimits spec × AreRounds spec agents parts.0
+    by_spec : (o : Option RunSpec) → spec_in kind line ≡ o → with_spec kind agents first lines o ≡ Ok (spec, parts) → (line ∷ lines ≡ lines_told kind spec parts) × IsWithinLimits spec × AreRoundsOf kind spec agents parts.0
     by_spec None is h = absurd cc
     by_spec (Some s) is h =
         let none : Reading = ([], None) in
-        let found = under_ok s (lines_read s agents (first + 1) none lines) spec parts h in
-        let spelled = spec_spelled line s is in
-        let read = read_spelled s agents spelled.1.workers.1 few (first + 1) none lines parts (no_rounds s agents, tt) found.1 in
-        subst (λ (r : RunSpec). (line ∷ lines ≡ run_line r ∷ (round_lines 1 parts.0 ++ codes "end" ∷ parts.1)) × IsWithinLimits r × AreRounds r agents parts.0) found.0
-        ((λ i. spelled.0 i ∷ read.0 i), spelled.1, read.1)
+        let found = under_ok s (lines_read kind s agents (first + 1) none lines) spec parts h in
+        let spelled = spec_spelled kind line s is in
+        let limits : IsWithinLimits s = spelled.1 in
+        let read = read_spelled kind s agents limits.workers.1 few (first + 1) none lines parts (no_rounds s agents, tt) found.1 in
+        subst (λ (r : RunSpec). (line ∷ lines ≡ lines_told kind r parts) × IsWithinLimits r × AreRoundsOf kind r agents parts.0) found.0
+        ((λ i. spelled.0 i ∷ read.0 i), limits, read.1)
 
-pub form_of : (agents first : ℕ) (lines : List (List ℕ)) (r : Result Journal JournalFault) → agents < 2 ^ 32 → ReadsJournal agents first lines r → IfOk r (λ journal. AreRounds journal.spec agents journal.rounds)
-form_of agents first lines (Ok journal) few e = (journal_form agents first lines journal.spec (journal.rounds, journal.tail) few e).2
-form_of agents first lines (Err fault) few e = tt
+pub form_of : (kind : RunKind) (agents first : ℕ) (lines : List (List ℕ)) (r : Result Journal JournalFault) → agents < 2 ^ 32 → ReadsJournal kind agents first lines r → IfOk r (λ journal. AreRoundsOf kind journal.spec agents journal.rounds)
+form_of kind agents first lines (Ok journal) few e = (journal_form kind agents first lines journal.spec (journal.rounds, journal.tail) few e).2
+form_of kind agents first lines (Err fault) few e = tt
 
-pub spelling_of : (agents first : ℕ) (lines : List (List ℕ)) (r : Result Journal JournalFault) → agents < 2 ^ 32 → ReadsJournal agents first lines r
-    → IfOk r (λ journal. lines ≡ run_line journal.spec ∷ (round_lines 1 journal.rounds ++ codes "end" ∷ journal.tail))
-spelling_of agents first lines (Ok journal) few e = (journal_form agents first lines journal.spec (journal.rounds, journal.tail) few e).0
-spelling_of agents first lines (Err fault) few e = tt
+pub spelling_of : (kind : RunKind) (agents first : ℕ) (lines : List (List ℕ)) (r : Result Journal JournalFault) → agents < 2 ^ 32 → ReadsJournal kind agents first lines r
+    → IfOk r (λ journal. lines ≡ run_line kind journal.spec ∷ (round_lines 1 journal.rounds ++ codes "end" ∷ journal.tail))
+spelling_of kind agents first lines (Ok journal) few e = (journal_form kind agents first lines journal.spec (journal.rounds, journal.tail) few e).0
+spelling_of kind agents first lines (Err fault) few e = tt
 
 pub text_is_held : IsOneSpelling
 text_is_held net start agents first body journal few read holds =
-    let form = journal_form agents first (lines_of (body ++ 10 ∷ [])) journal.spec (journal.rounds, journal.tail) few read in
-    one_spelling net journal.spec journal.rounds holds.0 body journal.tail form.0 holds.2
-    ∙ ap (λ (end : CrowdModel). journal_text net journal.spec journal.rounds end (ending_of net end)) (sym holds.1.replays)
+    let form = journal_form journal.kind agents first (lines_of (body ++ 10 ∷ [])) journal.spec (journal.rounds, journal.tail) few read in
+    let run : IsWatchedRun net start journal.spec journal.rounds holds.0 = is_watched net start journal.spec journal.rounds holds.0 journal.kind holds.1 in
+    one_spelling journal.kind net journal.spec journal.rounds holds.0 body journal.tail form.0 holds.2
+    ∙ ap (λ (end : CrowdModel). journal_text journal.kind net journal.spec journal.rounds end (ending_of net end)) (sym run.replays)
 
 -- the other way
 small_all : (agents workers : ℕ) (ms : List Meeting) → agents ≤ AGENT_LIMIT → workers ≤ WORKER_LIMIT → All (IsMeeting agents) ms → All (λ (m : Meeting). m.worker < workers) ms → All IsSmall ms
@@ -94,45 +103,47 @@ few_rounds [] bound each = omega arith
 few_rounds (r ∷ rest) bound each =
     let last : length rest < bound = each (length rest) _ (slice_get-get_or (r ∷ rest) (length rest) r (omega arith)) in omega (arith, last)
 
-early : (spec : RunSpec) (k : ℕ) (r : List Meeting) → spec.turns ≤ 1000000 → IsRound spec (k + 1) r → k < 245
+early : (spec : RunSpec) (k : ℕ) (r : List Meeting) → spec.turns ≤ 1000000 → IsWatchedRound spec (k + 1) r → k < 245
 early spec k r few round =
     let some : 1 ≤ min 4096 (spec.turns - 4096 * (k + 1 - 1)) = round.some_turn in omega (arith, some, few)
 
 -- the number of meetings of rounds in form
-pub few_meetings : (spec : RunSpec) (agents : ℕ) (rounds : List (List Meeting)) → IsWithinLimits spec → AreRounds spec agents rounds → length (joined rounds) < 2 ^ 64
-few_meetings spec agents rounds limits form =
-    let bound = few_rounds rounds 245 (λ k r h. early spec k r limits.turns.1 (form.whole k r h)) in
-    let long = long_rounds spec 0 rounds limits.workers.1 (λ i r h. subst (λ (n : ℕ). IsRound spec n r) (let e : i + 1 ≡ 0 + i + 1 = omega arith in e) (form.whole i r h)) in
+pub few_meetings : (kind : RunKind) (spec : RunSpec) (agents : ℕ) (rounds : List (List Meeting)) → IsWithinLimits spec → AreRoundsOf kind spec agents rounds → length (joined rounds) < 2 ^ 64
+few_meetings kind spec agents rounds limits form =
+    let watched = are_watched spec agents rounds kind form in
+    let bound = few_rounds rounds 245 (λ k r h. early spec k r limits.turns.1 (watched.each k r h)) in
+    let long = long_rounds spec 0 rounds limits.workers.1 (λ i r h. subst (λ (n : ℕ). IsWatchedRound spec n r) (let e : i + 1 ≡ 0 + i + 1 = omega arith in e) (watched.each i r h)) in
     omega (arith, bound, long)
 
-module _ (net : NetModel) (start : CrowdModel) (spec : RunSpec) (rounds : List (List Meeting)) (end : CrowdModel) (two : 2 ≤ length start) (few : length start ≤ AGENT_LIMIT) (limits : IsWithinLimits spec) (run : IsRun net start spec rounds end) where
+module _ (kind : RunKind) (net : NetModel) (start : CrowdModel) (spec : RunSpec) (rounds : List (List Meeting)) (end : CrowdModel) (two : 2 ≤ length start) (few : length start ≤ AGENT_LIMIT) (limits : IsWithinLimits spec) (run : IsRunOf kind net start spec rounds end) where
   abbrev tail : List (List ℕ)
   tail = lines_of (tail_text net end)
 
-  form : AreRounds spec (length start) rounds
-  form = record { whole = run.each_round; meetings = all_run_meets net start spec rounds end two run }
+  form : AreRoundsOf kind spec (length start) rounds
+  form = run_form net start spec rounds end two kind run
+
+  watched : AreWatchedRounds spec (length start) rounds
+  watched = are_watched spec (length start) rounds kind form
 
   all_small : All IsSmall (joined rounds)
-  all_small =
-      small_all (length start) spec.workers (joined rounds) few limits.workers.1 form.meetings
-      (joined_below spec rounds 0 (λ i r h. subst (λ (n : ℕ). IsRound spec n r) (let e : i + 1 ≡ 0 + i + 1 = omega arith in e) (run.each_round i r h)))
+  all_small = small_all (length start) spec.workers (joined rounds) few limits.workers.1 watched.meetings (all_below spec rounds watched.each)
 
   not_many : length rounds ≤ 2 ^ 62
   not_many =
-      let bound = few_rounds rounds 245 (λ k r h. early spec k r limits.turns.1 (run.each_round k r h)) in omega (arith, bound)
+      let bound = few_rounds rounds 245 (λ k r h. early spec k r limits.turns.1 (watched.each k r h)) in omega (arith, bound)
 
-  cut : lines_of (journal_text net spec rounds end (ending_of net end)) ≡ run_line spec ∷ (round_lines 1 rounds ++ codes "end" ∷ tail)
+  cut : lines_of (journal_text kind net spec rounds end (ending_of net end)) ≡ run_line kind spec ∷ (round_lines 1 rounds ++ codes "end" ∷ tail)
   cut =
-      ap lines_of (append_assoc (text_of (run_lines spec rounds)) (crowd_lines net end) (ended (last_line (ending_of net end))))
-      ∙ lines_text (run_lines spec rounds) (tail_text net end) (lines_unbroken spec rounds limits not_many all_small)
-      ∙ append_assoc (run_line spec ∷ round_lines 1 rounds) (codes "end" ∷ []) tail
+      ap lines_of (append_assoc (text_of (run_lines kind spec rounds)) (crowd_lines net end) (ended (last_line (ending_of net end))))
+      ∙ lines_text (run_lines kind spec rounds) (tail_text net end) (lines_unbroken kind spec rounds limits not_many all_small)
+      ∙ append_assoc (run_line kind spec ∷ round_lines 1 rounds) (codes "end" ∷ []) tail
 
-  pub read_back : (first : ℕ) → spec.workers * spec.turns ≤ MEETING_LIMIT → IsReadBack net start spec rounds end first
-  read_back first spent =
-      ap (journal_in (length start) first) cut
-      ∙ ap (with_spec (length start) first (round_lines 1 rounds ++ codes "end" ∷ tail)) (spec_back spec limits spent)
-      ∙ ap (under spec) (rounds_read spec (length start) limits.workers.0 limits.workers.1 (omega (arith, few)) (first + 1) [] rounds tail form)
+  pub read_back : (first : ℕ) → spec.workers ≤ most_workers kind → spec.workers * spec.turns ≤ MEETING_LIMIT → IsReadBack kind net start spec rounds end first
+  read_back first hands spent =
+      ap (journal_in kind (length start) first) cut
+      ∙ ap (with_spec kind (length start) first (round_lines 1 rounds ++ codes "end" ∷ tail)) (spec_back kind spec limits hands spent)
+      ∙ ap (under spec) (rounds_read spec (length start) limits.workers.0 limits.workers.1 (omega (arith, few)) kind (first + 1) [] rounds tail form)
 
 pub written_is_held : IsWrittenHeld
-written_is_held net start spec rounds end first two few limits spent run =
-    (read_back net start spec rounds end two few limits run first spent, (end, run, refl))
+written_is_held kind net start spec rounds end first two few limits hands spent run =
+    (read_back kind net start spec rounds end two few limits run first hands spent, (end, run, refl))

@@ -3,8 +3,10 @@
 ghost use Rattle.std.specs.Prelude.{◌≡◌, ◌+◌, ◌<◌, ◌≤◌, ℕ, IfOk, IfSome, MatchOption, None, List as Items, [], length, Some, slice_index_or};
 ghost use Rattle.pop_lines.specs.Lines.{lines_of};
 ghost use Rattle.pair_workers.specs.Run.{meetings_of, turns_in};
+ghost use Rattle.pop_journal.specs.ReadLines.{first_ends};
 ghost use Rattle.pop_journal.specs.Form.{Tells, told_in, three_numbers, meeting_told, onward, number_named, spec_in, at_the_end};
 ghost use Rattle.pop_words.specs.Walk.{words_after};
+ghost use Rattle.pop_words.specs.Kinds.{most_workers};
 ghost use Rattle.pop_words.specs.Options.{IsWithinLimits};
 ghost use Rattle.std.specs.Option.{option_copied};
 
@@ -13,7 +15,7 @@ use crate::short::short_meeting;
 use pop_crowd::Meeting;
 use pop_io::{SHARD_LIMIT, WORKER_LIMIT};
 use pop_lines::{cut, next_line, printed_number, printed_within};
-use pop_words::{MEETING_LIMIT, RunSpec, SEED_LIMIT, TURN_LIMIT};
+use pop_words::{MEETING_LIMIT, RunKind, RunSpec, SEED_LIMIT, TURN_LIMIT};
 
 /// What the first line of a text tells of a meeting, before it is looked at, and what stands behind its line feed.
 /// It is `None` of a text without lines.
@@ -59,6 +61,27 @@ fn three(worker: &[u8], first: &[u8], second: &[u8], mark: bool) -> Option<(u128
     let first = printed_number(first)?;
     let second = printed_number(second)?;
     Some((worker, first, second, mark))
+}
+
+/// Whether a text begins with the line `end`, where a round of this kind may stop.
+fn ends_here(kind: RunKind, text: &[u8]) -> bool
+    ensures { result ≡ first_ends kind (lines_of text.now) }
+{
+    match (kind, next_line(text)) {
+        (RunKind::Watched, Some((line, _more))) => line == b"end".as_slice(),
+        _ => false,
+    }
+}
+
+/// The same, where the first line of the text tells this of a meeting. A line that tells one is not `end`.
+#[inline(always)]
+pub(crate) fn is_stopped(kind: RunKind, told: Option<(u128, u128, u128, bool)>, text: &[u8]) -> bool
+    ensures { (others : Items (Items ℕ)) → Tells (lines_of text.now) told others → result ≡ first_ends kind (lines_of text.now) }
+{
+    match told {
+        Some(_) => false,
+        None => ends_here(kind, text),
+    }
 }
 
 /// The meeting that a line tells, by a worker that has fewer meetings of this round than its turns.
@@ -115,17 +138,18 @@ fn number_behind<'t>(
     Some((number, rest))
 }
 
-/// The numbers of a journal's first line.
+/// The numbers of the first line of a journal of this kind.
 #[tactic(auto, unfolding(crate::specs::Form::spec_in))]
-pub(crate) fn spec_of(line: &[u8]) -> Option<RunSpec>
-    ensures spec { result ≡ spec_in line.now }
-    ensures limits { IfSome result IsWithinLimits }
+pub(crate) fn spec_of(kind: RunKind, line: &[u8]) -> Option<RunSpec>
+    ensures spec { result ≡ spec_in kind line.now }
+    ensures limits { IfSome result (λ spec. IsWithinLimits spec × (spec.workers ≤ most_workers kind)) }
 {
     let (first, rest) = cut(line, b' ');
-    if first != b"run".as_slice() {
+    if first != kind.word().as_bytes() {
         return None;
     }
-    let (workers, rest) = number_behind(rest, b"workers".as_slice(), 1, u64::from(WORKER_LIMIT))?;
+    let most = u64::from(kind.most_workers());
+    let (workers, rest) = number_behind(rest, b"workers".as_slice(), 1, most)?;
     let (shards, rest) = number_behind(rest, b"shards".as_slice(), 1, u64::from(SHARD_LIMIT))?;
     let (turns, rest) = number_behind(rest, b"turns".as_slice(), 0, TURN_LIMIT)?;
     let (seed, rest) = number_behind(rest, b"seed".as_slice(), 0, SEED_LIMIT)?;
@@ -143,7 +167,7 @@ pub(crate) fn spec_of(line: &[u8]) -> Option<RunSpec>
 fn at_end(spec: RunSpec, rest: Option<&[u8]>) -> Option<RunSpec>
     requires { IsWithinLimits spec }
     ensures spec { result ≡ at_the_end spec (words_after (option_copied rest.entry)) }
-    ensures limits { IfSome result IsWithinLimits }
+    ensures same { IfSome result (λ read. read ≡ spec) }
 {
     match rest {
         Some(_) => None,

@@ -6,6 +6,7 @@
 mod fault;
 mod form;
 mod journal;
+mod lacking;
 mod last;
 mod law;
 mod read;

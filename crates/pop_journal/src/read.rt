@@ -12,7 +12,7 @@ ghost use Rattle.pop_journal.specs.declared.fault.JournalFault.TheVariants.{NoMe
 ghost use Rattle.pop_journal.specs.ReadLines.{ReadsRound, ReadsRounds, ReadsJournal};
 
 use crate::fault::{JournalFault, JournalWhy};
-use crate::form::{checked, next_told, spec_of};
+use crate::form::{checked, is_stopped, next_told, spec_of};
 use crate::journal::{Journal, LINE_LIMIT};
 use itoa::Buffer;
 use pair_workers::ROUND_TURNS;
@@ -22,28 +22,38 @@ use pop_lines::next_line;
 use pop_words::{RunKind, RunSpec};
 use std::alloc::Global;
 
-/// Reads the meeting lines of a round, of which the first has this number. The answer are the bytes behind them.
+/// How the lines of a round ended.
+#[derive(Clone, Copy)]
+pub(crate) enum RoundEnd {
+    /// The round has all its meetings.
+    Full,
+    /// `end` stood in place of a meeting.
+    Stopped,
+}
+
+/// Reads the meeting lines of a round, of which the first has this number. The answer are its end and the bytes behind it.
 fn read_round<'t>(
     alloc: Global,
+    kind: RunKind,
     spec: &RunSpec,
     agents: u32,
     turns: u64,
     text: &'t [u8],
     number: u64,
     meetings: &mut Vec<Meeting>,
-) -> Result<&'t [u8], JournalFault>
+) -> Result<(RoundEnd, &'t [u8]), JournalFault>
     requires spec { IsWithinLimits spec.now }
     requires turns { (1 ≤ turns) × (turns ≤ ROUND_TURNS) }
     requires none { meetings.old.items ≡ [] }
     requires number { number ≤ 2 ^ 50 }
     ensures long { IfOk result (λ _. length meetings.new.items ≤ WORKER_LIMIT * turns) }
     ensures read { (rounds : Items (Items Meeting)) → turns ≡ turns_in spec.now (length rounds + 1)
-        → ReadsRound spec.now agents number rounds (lines_of text.now) meetings.new.items result }
+        → ReadsRound kind spec.now agents number rounds (lines_of text.now) meetings.new.items result }
 {
     let wanted = usize::from(spec.workers) * turns as usize;
     let mut made = vec![in alloc; 0u64; usize::from(spec.workers)]?;
     let mut rest = text;
-    while meetings.len() < wanted {
+    'lines: while meetings.len() < wanted {
         let line = number + meetings.len() as u64;
         let Some((told, more)) = next_told(rest) else {
             return Err(JournalFault::Out {
@@ -51,6 +61,9 @@ fn read_round<'t>(
                 why: JournalWhy::Missing,
             });
         };
+        if is_stopped(kind, told, rest) {
+            return Ok((RoundEnd::Stopped, more));
+        }
         let meeting = match checked(told, spec, agents, &made, turns) {
             Ok(meeting) => meeting,
             Err(why) => return Err(JournalFault::Out { line, why }),
@@ -59,12 +72,13 @@ fn read_round<'t>(
         meetings.push(meeting)?;
         rest = more;
     }
-    Ok(rest)
+    Ok((RoundEnd::Full, rest))
 }
 
 /// Reads the rounds of a journal up to `end`. The answer are the bytes behind it.
 fn read_rounds<'t>(
     alloc: Global,
+    kind: RunKind,
     spec: &RunSpec,
     agents: u32,
     text: &'t [u8],
@@ -74,7 +88,7 @@ fn read_rounds<'t>(
     requires spec { IsWithinLimits spec.now }
     requires none { rounds.old.items ≡ [] }
     requires number { number ≤ 2 ^ 41 }
-    ensures { ReadsRounds spec.now agents number (lines_of text.now) rounds.new.items result }
+    ensures { ReadsRounds kind spec.now agents number (lines_of text.now) rounds.new.items result }
 {
     let mut rest = text;
     let mut line = number;
@@ -98,10 +112,23 @@ fn read_rounds<'t>(
         }
         let turns = ROUND_TURNS.min(left);
         let mut meetings = Vec::new(alloc);
-        rest = read_round(alloc, spec, agents, turns, more, line + 1, &mut meetings)?;
+        let (end, behind) = read_round(
+            alloc,
+            kind,
+            spec,
+            agents,
+            turns,
+            more,
+            line + 1,
+            &mut meetings,
+        )?;
         line += 1 + meetings.len() as u64;
         left -= turns;
         rounds.push(List::from_vec(meetings))?;
+        match end {
+            RoundEnd::Full => rest = behind,
+            RoundEnd::Stopped => return Ok(behind),
+        }
     }
     Err(JournalFault::Out {
         line,
@@ -136,12 +163,19 @@ fn take_lines(alloc: Global, text: &[u8]) -> Result<Vec<List<u8>>, JournalFault>
     Ok(lines)
 }
 
-/// Reads the lines of a journal.
-fn read_lines(alloc: Global, text: &[u8], first: u64, agents: u32) -> Result<Journal, JournalFault>
+/// Reads the lines of a journal of this kind.
+fn read_lines(
+    alloc: Global,
+    kind: RunKind,
+    text: &[u8],
+    first: u64,
+    agents: u32,
+) -> Result<Journal, JournalFault>
     requires first { first ≤ LINE_LIMIT }
-    ensures read { ReadsJournal agents first (lines_of text.now) result }
+    ensures read { ReadsJournal kind agents first (lines_of text.now) result }
+    ensures kind { IfOk result (λ journal. journal.kind ≡ kind) }
     ensures first { IfOk result (λ journal. journal.first ≡ first) }
-    ensures limits { IfOk result (λ journal. IsWithinLimits journal.spec) }
+    ensures limits { IfOk result (λ journal. IsWithinLimits journal.spec × (journal.spec.workers ≤ most_workers kind)) }
 {
     let Some((line, rest)) = next_line(text) else {
         return Err(JournalFault::Out {
@@ -149,16 +183,17 @@ fn read_lines(alloc: Global, text: &[u8], first: u64, agents: u32) -> Result<Jou
             why: JournalWhy::Missing,
         });
     };
-    let Some(spec) = spec_of(line) else {
+    let Some(spec) = spec_of(kind, line) else {
         return Err(JournalFault::Out {
             line: first,
             why: JournalWhy::Form,
         });
     };
     let mut rounds = Vec::new(alloc);
-    let behind = read_rounds(alloc, &spec, agents, rest, first + 1, &mut rounds)?;
+    let behind = read_rounds(alloc, kind, &spec, agents, rest, first + 1, &mut rounds)?;
     let tail = take_lines(alloc, behind)?;
     Ok(Journal {
+        kind,
         spec,
         rounds: List::from_vec(rounds),
         tail: List::from_vec(tail),

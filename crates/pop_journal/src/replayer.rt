@@ -69,20 +69,20 @@ fn differs(
 }
 
 impl Replayer {
-    ghost use Rattle.std.specs.Prelude.{◌≡◌, ◌∷◌, [], ◌++◌, ◌+◌, ◌<◌, ◌≤◌, ◌^◌, length, List, All, IfOk, OnOk};
+    ghost use Rattle.std.specs.Prelude.{◌≡◌, ◌∷◌, [], ◌++◌, ◌+◌, ◌<◌, ◌≤◌, ◌^◌, length, List, All, IfOk, IfSome, OnOk};
     ghost use Rattle.pop_net.specs.NetModel.{CrowdModel};
     ghost use Rattle.pop_net.specs.Lanes.{crowd_of, AreValid};
     ghost use Rattle.pop_crowd.specs.Replay.{AreMeetings};
     ghost use Rattle.pop_crowd.specs.declared.crowd.Meeting.{Meeting};
     ghost use Rattle.pop_words.specs.declared.spec.RunSpec.{RunSpec};
-    ghost use Rattle.pop_journal.specs.Ending.{is_terminal};
+    ghost use Rattle.pop_journal.specs.Ending.{is_terminal, ending_of};
     ghost use Rattle.pair_workers.specs.Run.{turns_in};
     ghost use Rattle.pop_journal.specs.Journal.{round_line};
     ghost use Rattle.std.specs.Prelude.{codes};
     ghost use Rattle.pop_lines.specs.Lines.{lines_of};
     ghost use Rattle.pop_crowd.specs.Replay.{replay};
-    ghost use Rattle.pop_journal.specs.Expected.{next_meeting, meetings_compared, tail_compared, both, line_between, tail_text as whole_tail};
-    ghost use Rattle.pop_journal.specs.Standing.{IsReplaying, Passes};
+    ghost use Rattle.pop_journal.specs.Expected.{next_meeting, meetings_compared, tail_compared, both, line_between, line_at_end, tail_text as whole_tail};
+    ghost use Rattle.pop_journal.specs.Standing.{IsReplaying, IsForEnd, Passes};
     ghost use Rattle.terminal_test.specs.TableNet.{net_of};
 
     /// The next meeting of a worker.
@@ -162,29 +162,65 @@ impl Replayer {
         self.compare_meetings(alloc, net, meetings, line + 1)
     }
 
+    /// The line that is expected in place of `end`, where it is another one. A round with this number might begin there,
+    /// and the round before it lacks a meeting of the worker, if there is one.
+    fn line_for_end(
+        &mut self,
+        alloc: Global,
+        net: &Net,
+        spec: &RunSpec,
+        round: u64,
+        lacking: Option<u16>,
+        last: Last,
+    ) -> Result<Option<List<u8>>, AllocError>
+        requires valid { AreValid net.now self.old.crowd }
+        requires round { (1 ≤ round) × (round ≤ 1000) }
+        requires worker { IfSome lacking (λ worker. worker < length self.old.pickers.items) }
+        ensures { IfOk result (λ found. (start : CrowdModel) (before : List Meeting) → IsReplaying net.now start spec.now before self.old
+            → last ≡ ending_of net.now (replay net.now before start) → IsForEnd (line_at_end net.now start spec.now before round lacking) found) }
+    {
+        if !is_undecided(last) {
+            return Ok(None);
+        }
+        if let Some(worker) = lacking {
+            return Ok(Some(meeting_text(alloc, &self.meet_next(net, worker))?));
+        }
+        if spec.turns <= ROUND_TURNS * (round - 1) {
+            return Ok(None);
+        }
+        Ok(Some(round_text(alloc, round)?))
+    }
+
     /// Compares `end`, where a round with this number might begin, and the lines behind it.
+    /// The round before it lacks a meeting of the worker, if there is one.
     pub(crate) fn compare_end(
-        &self,
+        &mut self,
         alloc: Global,
         net: &Net,
         table: &PairTable,
         spec: &RunSpec,
         round: u64,
+        lacking: Option<u16>,
         tail: &[List<u8>],
         line: u64,
     ) -> Result<(), VerifyFault>
         requires table { net_of table.now ≡ net.now }
-        requires valid { AreValid net.now self.now.crowd }
+        requires valid { AreValid net.now self.old.crowd }
         requires round { (1 ≤ round) × (round ≤ 1000) }
+        requires worker { IfSome lacking (λ worker. worker < length self.old.pickers.items) }
         requires line { line + 1 + length tail.now < 2 ^ 64 }
-        ensures { (start : CrowdModel) (before : List Meeting) → IsReplaying net.now start spec.now before self.now
-            → Passes line (both (codes "end") (line_between net.now start spec.now before round) ∷ tail_compared tail.now (lines_of (whole_tail net.now (replay net.now before start)))) result }
+        ensures { (start : CrowdModel) (before : List Meeting) → IsReplaying net.now start spec.now before self.old
+            → Passes line (both (codes "end") (line_at_end net.now start spec.now before round lacking) ∷ tail_compared tail.now (lines_of (whole_tail net.now (replay net.now before start)))) result }
     {
         let last = ending(alloc, net, table, &self.crowd)?;
-        if is_undecided(last) && ROUND_TURNS * (round - 1) < spec.turns {
-            return Err(end_for_round(alloc, line, round)?);
-        }
         let wanted = tail_text(alloc, net, &self.crowd, last)?;
+        if let Some(found) = self.line_for_end(alloc, net, spec, round, lacking, last)? {
+            return Err(VerifyFault::Differs {
+                line,
+                kept: end_text(alloc)?,
+                found,
+            });
+        }
         compare_tail(alloc, tail, &wanted, line + 1)
     }
 }
@@ -258,15 +294,6 @@ fn round_for_end(alloc: Global, line: u64, round: u64) -> Result<VerifyFault, Al
 {
     let kept = round_text(alloc, round)?;
     let found = end_text(alloc)?;
-    Ok(VerifyFault::Differs { line, kept, found })
-}
-
-/// `end` where a round line is expected.
-fn end_for_round(alloc: Global, line: u64, round: u64) -> Result<VerifyFault, AllocError>
-    ensures { IfOk result (λ fault. fault ≡ Differs line (codes "end") (round_line round)) }
-{
-    let kept = end_text(alloc)?;
-    let found = round_text(alloc, round)?;
     Ok(VerifyFault::Differs { line, kept, found })
 }
 

@@ -1,37 +1,25 @@
 //! The check of a journal against the run that it tells.
 
-ghost use Rattle.std.specs.Prelude.{◌≡◌, ℕ, ◌<◌, ◌≤◌, ◌^◌, ◌+◌, [], length, IfOk, IfErr, slice_index_or};
+ghost use Rattle.std.specs.Prelude.{◌≡◌, ◌≤◌, ◌+◌, [], length, IfOk, IfErr};
 ghost use Rattle.pop_net.specs.Lanes.{crowd_of, AreValid};
 ghost use Rattle.pop_words.specs.Options.{IsWithinLimits};
-ghost use Rattle.pair_workers.specs.Picks.{first_state};
 ghost use Rattle.pair_workers.specs.Run.{joined};
-ghost use Rattle.pop_journal.specs.Rounds.{AreRoundsOf};
+ghost use Rattle.pop_journal.specs.Rounds.{AreWatchedRounds, AreRoundsOf};
 ghost use Rattle.pop_journal.specs.Expected.{journal_compared, Holds};
 ghost use Rattle.pop_journal.specs.Standing.{IsReplaying, Passes};
 ghost use Rattle.pop_journal.specs.declared.fault.VerifyFault.TheVariants.{NoMemory as OutOfMemory};
 
 use crate::fault::VerifyFault;
 use crate::journal::{Journal, LINE_LIMIT};
+use crate::lacking::lacking_last;
 use crate::replayer::Replayer;
-use pair_workers::Picker;
+use pair_workers::first_pickers;
 use pop_crowd::{AGENT_LEAST, AGENT_LIMIT, Crowd};
+use pop_io::NoMemory;
 use pop_net::Net;
 use pop_words::{RunSpec, SEED_LIMIT};
-use std::alloc::{AllocError, Global};
+use std::alloc::Global;
 use terminal_test::PairTable;
-
-/// The pickers of all workers, of which none has made a pick.
-fn first_pickers(alloc: Global, spec: &RunSpec) -> Result<Vec<Picker>, AllocError>
-    requires seed { spec.now.seed ≤ SEED_LIMIT }
-    ensures long { IfOk result (λ pickers. length pickers.items ≡ spec.now.workers) }
-    ensures first { IfOk result (λ pickers. (w : ℕ) (d : _) → w < spec.now.workers → slice_index_or pickers.items w d ≡ first_state spec.now.seed w) }
-{
-    let mut pickers = Vec::new(alloc);
-    'workers: for worker in 0..spec.workers {
-        pickers.push(Picker::new(spec.seed, worker))?;
-    }
-    Ok(pickers)
-}
 
 /// A crowd and its workers before the first round.
 fn first_replayer(
@@ -39,7 +27,7 @@ fn first_replayer(
     net: &Net,
     crowd: Crowd,
     spec: &RunSpec,
-) -> Result<Replayer, AllocError>
+) -> Result<Replayer, NoMemory>
     requires seed { spec.now.seed ≤ SEED_LIMIT }
     requires valid { AreValid net.now crowd }
     ensures stands { IfOk result (IsReplaying net.now (crowd_of net.now crowd) spec.now []) }
@@ -57,7 +45,7 @@ fn compare(alloc: Global, net: &Net, crowd: Crowd, journal: &Journal) -> Result<
     requires valid { AreValid net.now crowd }
     requires first { journal.now.first ≤ LINE_LIMIT }
     requires spec { IsWithinLimits journal.now.spec }
-    requires rounds { AreRounds journal.now.spec (length crowd) journal.now.rounds }
+    requires rounds { AreWatchedRounds journal.now.spec (length crowd) journal.now.rounds }
     ensures passes { Passes (journal.now.first + 1) (journal_compared net.now (crowd_of net.now crowd) journal.now) result }
     ensures meetings { IfOk result (λ k. k ≡ length (joined journal.now.rounds)) }
     ensures agents { (AGENT_LEAST ≤ length crowd) × (length crowd ≤ AGENT_LIMIT) }
@@ -72,9 +60,20 @@ fn compare(alloc: Global, net: &Net, crowd: Crowd, journal: &Journal) -> Result<
         line += 1 + meetings.len() as u64;
         total += meetings.len() as u64;
     }
-    let round = journal.rounds.as_slice().len() as u64 + 1;
+    let rounds = journal.rounds.as_slice();
+    let round = rounds.len() as u64 + 1;
+    let lacking = lacking_last(alloc, &journal.spec, rounds)?;
     let tail = journal.tail.as_slice();
-    replayer.compare_end(alloc, net, &table, &journal.spec, round, tail, line)?;
+    replayer.compare_end(
+        alloc,
+        net,
+        &table,
+        &journal.spec,
+        round,
+        lacking,
+        tail,
+        line,
+    )?;
     Ok(total)
 }
 

@@ -1,0 +1,101 @@
+-- What holds of the rounds and runs of both kinds.
+use Rattle.std.proofs.Common.{◌≡◌, ◌⊎◌, inl, inr, ℕ, suc, ◌+◌, ◌*◌, ◌<◌, ◌≤◌, List, [], ◌∷◌, ◌++◌, length, All, refl, sym, subst, arith}
+use Rattle.std.specs.Prelude.{Some, slice_get}
+use Rattle.std.proofs.lemmas.List.Elements.{All-head, All-nil, All-cons, All-append}
+use Rattle.pop_net.specs.NetModel.{NetModel, CrowdModel}
+use Rattle.pop_net.specs.Step.{Step}
+use Rattle.pop_net.specs.Terminal.{IsTerminal}
+use Rattle.pop_crowd.specs.declared.crowd.Meeting.{Meeting}
+use Rattle.pop_crowd.specs.Replay.{IsMeeting, AreMeetings}
+use Rattle.pop_words.specs.declared.spec.RunSpec.{RunSpec}
+use Rattle.pop_words.specs.declared.kind.RunKind.{RunKind}
+use Rattle.pop_words.specs.declared.kind.RunKind.TheVariants.{Whole, Watched}
+use Rattle.pop_words.specs.Kinds.{most_workers}
+use Rattle.pair_workers.specs.Picks.{words_from, first_state}
+use Rattle.pair_workers.specs.Run.{IsRun, joined, meetings_of}
+use Rattle.pair_workers.specs.WatchedRun.{IsWatchedRound, IsWatchedRun, IsRunOf, AreSpent}
+use Rattle.pair_workers.proofs.Meets.{picked_meet}
+use Rattle.pair_workers.proofs.WholeWatched.{watched_round, whole_is_watched}
+use Rattle.pop_journal.specs.Expected.{words_after, next_meeting}
+use Rattle.pop_journal.specs.Rounds.{AreRounds, AreWatchedRounds, AreRoundsOf}
+use Rattle.pop_journal.proofs.Due.{AreDue, picked_due}
+use Rattle.pop_journal.proofs.Lacks.{spent_rounds}
+
+pub few_workers : (kind : RunKind) (n : ℕ) → n ≤ most_workers kind → n ≤ 64
+few_workers Whole n l = omega (arith, l)
+few_workers Watched n l = omega (arith, l)
+
+module _ (spec : RunSpec) where
+  -- nobody but the workers meets in rounds
+  pub watched_below : (rounds : List (List Meeting)) (k : ℕ) → ((i : ℕ) (r : List Meeting) → slice_get rounds i ≡ Some r → IsWatchedRound spec (k + i + 1) r) → All (λ (m : Meeting). m.worker < spec.workers) (joined rounds)
+  watched_below [] k each = All-nil (λ (m : Meeting). m.worker < spec.workers)
+  watched_below (r ∷ rounds) k each =
+      All-append (λ (m : Meeting). m.worker < spec.workers) r (joined rounds) ((each 0 r refl).nobody_else)
+      (watched_below rounds (k + 1) (λ i s h. subst (λ (n : ℕ). IsWatchedRound spec n s) (let e : k + suc i + 1 ≡ k + 1 + i + 1 = omega arith in e) (each (suc i) s h)))
+
+  pub all_below : (rounds : List (List Meeting)) → ((k : ℕ) (r : List Meeting) → slice_get rounds k ≡ Some r → IsWatchedRound spec (k + 1) r) → All (λ (m : Meeting). m.worker < spec.workers) (joined rounds)
+  all_below rounds each = watched_below rounds 0 (λ i r h. subst (λ (n : ℕ). IsWatchedRound spec n r) (let e : i + 1 ≡ 0 + i + 1 = omega arith in e) (each i r h))
+
+  module _ (agents : ℕ) (rounds : List (List Meeting)) where
+    watched_rounds : AreRounds spec agents rounds → AreWatchedRounds spec agents rounds
+    watched_rounds form =
+        record {
+          each = λ k r h. watched_round spec (k + 1) r (form.whole k r h);
+          whole = λ k r l h. form.whole k r h;
+          meetings = form.meetings;
+        }
+
+    -- whole rounds are of both kinds
+    pub of_whole : (kind : RunKind) → AreRounds spec agents rounds → AreRoundsOf kind spec agents rounds
+    of_whole Whole form = form
+    of_whole Watched form = watched_rounds form
+
+    -- the last round may lack meetings in both kinds
+    pub are_watched : (kind : RunKind) → AreRoundsOf kind spec agents rounds → AreWatchedRounds spec agents rounds
+    are_watched Whole form = watched_rounds form
+    are_watched Watched form = form
+
+module _ (net : NetModel) (start : CrowdModel) (spec : RunSpec) (rounds : List (List Meeting)) (end : CrowdModel) where
+  pub is_watched : (kind : RunKind) → IsRunOf kind net start spec rounds end → IsWatchedRun net start spec rounds end
+  is_watched Whole run = whole_is_watched net start spec rounds end run
+  is_watched Watched run = run
+
+  -- a watched run of whole rounds is a run by whole rounds
+  is_whole : (agents : ℕ) → AreRounds spec agents rounds → 1 ≤ spec.workers → IsWatchedRun net start spec rounds end → IsRun net start spec rounds end
+  is_whole agents form some run =
+      record {
+        each_round = form.whole;
+        picked = run.picked;
+        marked = run.marked;
+        replays = run.replays;
+        goes_on = run.goes_on;
+        over = over run.over;
+      }
+    where
+      over : IsTerminal (Step net) end ⊎ AreSpent spec rounds → IsTerminal (Step net) end ⊎ (spec.turns ≤ 4096 * length rounds)
+      over (inl t) = inl t
+      over (inr spent) = inr (spent_rounds spec rounds run.each_round spent some)
+
+  pub is_of_kind : (kind : RunKind) (agents : ℕ) → AreRoundsOf kind spec agents rounds → 1 ≤ spec.workers → IsWatchedRun net start spec rounds end → IsRunOf kind net start spec rounds end
+  is_of_kind Whole agents form some run = is_whole agents form some run
+  is_of_kind Watched agents form some run = run
+
+  module _ (two : 2 ≤ length start) where
+    abbrev InRange : Meeting → Type 0
+    InRange m = IsMeeting (length start) m
+
+    -- meetings that are the expected ones are of two different agents
+    due_meets : (before ms : List Meeting) → AreDue net start spec before ms → All InRange ms
+    due_meets before [] h = All-nil InRange
+    due_meets before (m ∷ ms) h =
+        let next = next_meeting net start spec before m.worker in
+        let meets = picked_meet (words_after (words_from (first_state spec.seed m.worker)) (length (meetings_of m.worker before))) (length start) (next ∷ []) two refl in
+        All-cons InRange m ms (subst InRange (sym h.0) (All-head InRange next [] meets)) (due_meets (before ++ m ∷ []) ms h.1)
+
+    run_meets : IsWatchedRun net start spec rounds end → AreMeetings (length start) (joined rounds)
+    run_meets run = due_meets [] (joined rounds) (picked_due net start spec [] (joined rounds) run.picked (all_below spec rounds run.each_round) run.marked)
+
+    -- the rounds of a run are in form
+    pub run_form : (kind : RunKind) → IsRunOf kind net start spec rounds end → AreRoundsOf kind spec (length start) rounds
+    run_form Whole run = record { whole = run.each_round; meetings = run_meets (whole_is_watched net start spec rounds end run) }
+    run_form Watched run = record { each = run.each_round; whole = run.whole; meetings = run_meets run }
