@@ -3,4 +3,3 @@ pub mod NameLists
 pub mod Once
 pub mod Firsts
 pub mod Limits
-pub mod Spent

@@ -1,4 +1,4 @@
--- The options of `run`, in any order and each at most once.
+-- The options of `run` and `watch`, in any order and each at most once.
 use Rattle.std.specs.Prelude.{ℕ, ◌+◌, ◌*◌, ◌-◌, ◌≤◌, ◌%◌, ◌==◌, nat_lt, List, [], ◌∷◌, length, take, codes, Option, Some, None, is_some}
 use Rattle.std.specs.Prelude.{option_map, option_and_then, unwrap_or, find, position, slice_index_or, if◌then◌else◌, Result, Ok, Err}
 use Rattle.std.specs.List.{list_any, range_with_len}
@@ -6,7 +6,10 @@ use Rattle.std.specs.Str.{bytes_eq}
 use Rattle.pop_lines.specs.Numbers.{number_within}
 use Rattle.pop_words.specs.declared.options.RunOption.{RunOption}
 use Rattle.pop_words.specs.declared.options.RunOption.TheVariants.{Workers, Shards, Turns, Seed}
-use Rattle.pop_io.specs.declared.gate.TheConstants.{WORKER_LIMIT, SHARD_LIMIT}
+use Rattle.pop_io.specs.declared.gate.TheConstants.{SHARD_LIMIT}
+use Rattle.pop_words.specs.declared.kind.RunKind.{RunKind}
+use Rattle.pop_words.specs.declared.kind.RunKind.TheVariants.{Whole}
+use Rattle.pop_words.specs.Kinds.{most_workers}
 use Rattle.pop_words.specs.declared.spec.TheConstants.{TURN_LIMIT, MEETING_LIMIT, SEED_LIMIT}
 use Rattle.pop_words.specs.declared.spec.RunSpec.{RunSpec}
 use Rattle.pop_words.specs.declared.command.UsageWhy.{UsageWhy}
@@ -26,11 +29,11 @@ least_of Shards = 1
 least_of Turns = 0
 least_of Seed = 0
 
-abbrev pub most_of : RunOption → ℕ
-most_of Workers = WORKER_LIMIT
-most_of Shards = SHARD_LIMIT
-most_of Turns = TURN_LIMIT
-most_of Seed = SEED_LIMIT
+abbrev pub most_of : RunKind → RunOption → ℕ
+most_of kind Workers = most_workers kind
+most_of kind Shards = SHARD_LIMIT
+most_of kind Turns = TURN_LIMIT
+most_of kind Seed = SEED_LIMIT
 
 abbrev pub default_of : RunOption → ℕ
 default_of Workers = 1
@@ -42,51 +45,51 @@ abbrev pub option_named : List ℕ → Option RunOption
 option_named word = find (λ option. bytes_eq word (name_of option)) (Workers ∷ Shards ∷ Turns ∷ Seed ∷ [])
 
 -- a number within the option's limits
-abbrev pub number_behind : RunOption → List ℕ → Option ℕ
-number_behind option word = number_within (least_of option) (most_of option) word
+abbrev pub number_behind : RunKind → RunOption → List ℕ → Option ℕ
+number_behind kind option word = number_within (least_of option) (most_of kind option) word
 
 -- an option that no word before it names
 abbrev pub name_fault : List (List ℕ) → List ℕ → Option UsageWhy
 name_fault before word = if is_some (option_named word) then (if list_any (bytes_eq word) before then Some Twice else None) else Some Unknown
 
 -- a number that the option before it may have
-abbrev pub number_fault : Option RunOption → List ℕ → Option UsageWhy
-number_fault None word = None
-number_fault (Some option) word = if is_some (number_behind option word) then None else Some Value
+abbrev pub number_fault : RunKind → Option RunOption → List ℕ → Option UsageWhy
+number_fault kind None word = None
+number_fault kind (Some option) word = if is_some (number_behind kind option word) then None else Some Value
 
--- what is wrong with word i behind `run`: options and numbers take turns
-abbrev pub word_fault : List (List ℕ) → ℕ → Option UsageWhy
-word_fault words i =
+-- what is wrong with word i behind the command's own: options and numbers take turns
+abbrev pub word_fault : RunKind → List (List ℕ) → ℕ → Option UsageWhy
+word_fault kind words i =
     if i % 2 == 0
     then name_fault (take i words) (slice_index_or words i [])
-    else number_fault (option_named (slice_index_or words (i - 1) [])) (slice_index_or words i [])
+    else number_fault kind (option_named (slice_index_or words (i - 1) [])) (slice_index_or words i [])
 
 -- what f gives for the first item for which it gives anything
 abbrev pub first_given : {A B : Type 0} → (A → Option B) → List A → Option B
 first_given f [] = None
 first_given f (x ∷ xs) = if is_some (f x) then f x else first_given f xs
 
-abbrev pub fault_with_place : List (List ℕ) → ℕ → Option (ℕ × UsageWhy)
-fault_with_place words i = option_map (λ why. (i, why)) (word_fault words i)
+abbrev pub fault_with_place : RunKind → List (List ℕ) → ℕ → Option (ℕ × UsageWhy)
+fault_with_place kind words i = option_map (λ why. (i, why)) (word_fault kind words i)
 
 -- the first word that something is wrong with, and what
-abbrev pub first_fault : List (List ℕ) → Option (ℕ × UsageWhy)
-first_fault words = first_given (fault_with_place words) (range_with_len 0 (length words))
+abbrev pub first_fault : RunKind → List (List ℕ) → Option (ℕ × UsageWhy)
+first_fault kind words = first_given (fault_with_place kind words) (range_with_len 0 (length words))
 
 -- the number of an option: the one behind its name, or its default
-abbrev pub value_of : List (List ℕ) → RunOption → ℕ
-value_of words option =
+abbrev pub value_of : RunKind → List (List ℕ) → RunOption → ℕ
+value_of kind words option =
     unwrap_or
-    (option_and_then (λ i. number_behind option (slice_index_or words (i + 1) [])) (position (λ word. bytes_eq word (name_of option)) words))
+    (option_and_then (λ i. number_behind kind option (slice_index_or words (i + 1) [])) (position (λ word. bytes_eq word (name_of option)) words))
     (default_of option)
 
-abbrev pub spec_of : List (List ℕ) → RunSpec
-spec_of words =
+abbrev pub spec_of : RunKind → List (List ℕ) → RunSpec
+spec_of kind words =
     record {
-      workers = value_of words Workers;
-      shards = value_of words Shards;
-      turns = value_of words Turns;
-      seed = value_of words Seed;
+      workers = value_of kind words Workers;
+      shards = value_of kind words Shards;
+      turns = value_of kind words Turns;
+      seed = value_of kind words Seed;
     }
 
 -- the word with this number is the first bad one
@@ -94,26 +97,27 @@ abbrev pub bad_at : {A : Type 0} → ℕ → UsageWhy → Result A Usage
 bad_at word why = Err (record { word = word; why = why })
 
 -- the run that options without a fault ask for, where the last one has its number, and workers times turns are within their limit
-abbrev pub run_with : List (List ℕ) → Result RunSpec Usage
-run_with words =
+abbrev pub run_with : RunKind → List (List ℕ) → Result RunSpec Usage
+run_with kind words =
     if length words % 2 == 1
     then bad_at (length words + 1) Missing
-    else (if nat_lt MEETING_LIMIT ((spec_of words).workers * (spec_of words).turns) then bad_at (length words + 1) Product else Ok (spec_of words))
+    else (if nat_lt MEETING_LIMIT ((spec_of kind words).workers * (spec_of kind words).turns) then bad_at (length words + 1) Product else Ok (spec_of kind words))
 
 abbrev pub or_fault : Option (ℕ × UsageWhy) → Result RunSpec Usage → Result RunSpec Usage
 or_fault None run = run
 or_fault (Some fault) run = bad_at (fault.0 + 1) fault.1
 
--- what the words behind `run` ask for, or the first bad one; `run` itself is word 0
-abbrev pub options_meaning : List (List ℕ) → Result RunSpec Usage
-options_meaning words = or_fault (first_fault words) (run_with words)
+-- the run of this kind that the words behind the command's own ask for, or the first bad one; the command's own is word 0
+abbrev pub options_meaning : RunKind → List (List ℕ) → Result RunSpec Usage
+options_meaning kind words = or_fault (first_fault kind words) (run_with kind words)
 
--- each number is within its option's limits
-abbrev pub IsWithin : RunOption → ℕ → Type 0
-IsWithin option n = (least_of option ≤ n) × (n ≤ most_of option)
+-- a number is within its option's limits
+abbrev pub IsWithin : RunKind → RunOption → ℕ → Type 0
+IsWithin kind option n = (least_of option ≤ n) × (n ≤ most_of kind option)
 
+-- each number is within its option's limits for a whole run, which are those of any run but for the number of workers
 pub record IsWithinLimits (spec : RunSpec) : Type 0 where
-  pub workers : IsWithin Workers spec.workers
-  pub shards : IsWithin Shards spec.shards
-  pub turns : IsWithin Turns spec.turns
-  pub seed : IsWithin Seed spec.seed
+  pub workers : IsWithin Whole Workers spec.workers
+  pub shards : IsWithin Whole Shards spec.shards
+  pub turns : IsWithin Whole Turns spec.turns
+  pub seed : IsWithin Whole Seed spec.seed

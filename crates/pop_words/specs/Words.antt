@@ -2,15 +2,17 @@
 use Rattle.std.specs.Prelude.{ℕ, ◌≤◌, List, [], ◌∷◌, codes, Option, Some, None, option_map, find, Result, Ok, Err, if◌then◌else◌}
 use Rattle.std.specs.Str.{bytes_eq}
 use Rattle.pop_words.specs.declared.command.Command.{Command}
-use Rattle.pop_words.specs.declared.command.Command.TheVariants.{Play, Eval, Check, Run, Replay, Settle, Compile, Flocks, Demo}
+use Rattle.pop_words.specs.declared.command.Command.TheVariants.{Play, Eval, Check, Run, Watch, Replay, ReplayWatched, Settle, Compile, Flocks, Demo}
 use Rattle.pop_words.specs.declared.command.Usage.{Usage}
 use Rattle.pop_words.specs.declared.command.UsageWhy.TheVariants.{Missing, Unknown, Value}
 use Rattle.pop_words.specs.declared.words.Form.{Form}
 use Rattle.pop_words.specs.declared.words.Flag.{Flag}
-use Rattle.pop_words.specs.declared.words.Flag.TheVariants.{OfCompile}
+use Rattle.pop_words.specs.declared.words.Flag.TheVariants.{OfCompile, OfReplay}
 use Rattle.pop_words.specs.declared.words.Form.TheVariants.{Alone, WithOptions, WithNumber, WithFlag}
 use Rattle.pop_lines.specs.Numbers.{number_within}
-use Rattle.pop_words.specs.declared.spec.TheConstants.{DEMO_LIMIT}
+use Rattle.pop_words.specs.declared.spec.TheConstants.{DEMO_LIMIT, WATCHED_WORKERS}
+use Rattle.pop_words.specs.declared.kind.RunKind.{RunKind}
+use Rattle.pop_words.specs.declared.kind.RunKind.TheVariants.{Whole, Watched}
 use Rattle.pop_words.specs.Options.{bad_at, options_meaning, IsWithinLimits}
 use Rattle.pop_words.specs.declared.spec.RunSpec.{RunSpec}
 
@@ -20,8 +22,9 @@ commands =
     (codes "play", Alone Play)
     ∷ (codes "eval", Alone Eval)
     ∷ (codes "check", Alone Check)
-    ∷ (codes "run", WithOptions)
-    ∷ (codes "replay", Alone Replay)
+    ∷ (codes "run", WithOptions Whole)
+    ∷ (codes "watch", WithOptions Watched)
+    ∷ (codes "replay", WithFlag OfReplay)
     ∷ (codes "settle", Alone Settle)
     ∷ (codes "compile", WithFlag OfCompile)
     ∷ (codes "demo", WithNumber)
@@ -36,9 +39,19 @@ abbrev pub no_more : Command → List (List ℕ) → Result Command Usage
 no_more command [] = Ok command
 no_more command (word ∷ rest) = bad_at 1 Unknown
 
-abbrev pub to_run : Result RunSpec Usage → Result Command Usage
-to_run (Ok spec) = Ok (Run spec)
-to_run (Err usage) = Err usage
+-- the command that makes a run of this kind
+abbrev pub run_command : RunKind → RunSpec → Command
+run_command Whole spec = Run spec
+run_command Watched spec = Watch spec
+
+-- the command that replays a journal of a run of this kind
+abbrev pub replay_command : RunKind → Command
+replay_command Whole = Replay
+replay_command Watched = ReplayWatched
+
+abbrev pub to_run : RunKind → Result RunSpec Usage → Result Command Usage
+to_run kind (Ok spec) = Ok (run_command kind spec)
+to_run kind (Err usage) = Err usage
 
 abbrev pub demo_with : Option ℕ → List (List ℕ) → Result Command Usage
 demo_with None rest = bad_at 1 Value
@@ -52,12 +65,15 @@ demo_meaning (number ∷ rest) = demo_with (number_within 0 DEMO_LIMIT number) r
 
 abbrev pub flag_name : Flag → List ℕ
 flag_name OfCompile = codes "--flocks"
+flag_name OfReplay = codes "--watched"
 
 abbrev pub unflagged : Flag → Command
 unflagged OfCompile = Compile
+unflagged OfReplay = Replay
 
 abbrev pub flagged : Flag → Command
 flagged OfCompile = Flocks
+flagged OfReplay = ReplayWatched
 
 abbrev pub behind_flag : Command → List (List ℕ) → Result Command Usage
 behind_flag command [] = Ok command
@@ -72,7 +88,7 @@ flag_meaning flag (word ∷ rest) = if bytes_eq word (flag_name flag) then behin
 abbrev pub meaning_behind : Option Form → List (List ℕ) → Result Command Usage
 meaning_behind None words = bad_at 0 Unknown
 meaning_behind (Some (Alone command)) words = no_more command words
-meaning_behind (Some WithOptions) words = to_run (options_meaning words)
+meaning_behind (Some (WithOptions kind)) words = to_run kind (options_meaning kind words)
 meaning_behind (Some WithNumber) words = demo_meaning words
 meaning_behind (Some (WithFlag flag)) words = flag_meaning flag words
 
@@ -87,7 +103,9 @@ HasLimits Play = Unit {0}
 HasLimits Eval = Unit {0}
 HasLimits Check = Unit {0}
 HasLimits (Run spec) = IsWithinLimits spec
+HasLimits (Watch spec) = IsWithinLimits spec × (spec.workers ≤ WATCHED_WORKERS)
 HasLimits Replay = Unit {0}
+HasLimits ReplayWatched = Unit {0}
 HasLimits Settle = Unit {0}
 HasLimits Compile = Unit {0}
 HasLimits Flocks = Unit {0}
@@ -95,6 +113,6 @@ HasLimits (Demo number) = number ≤ DEMO_LIMIT
 
 abbrev pub FormHasLimits : Form → Type 0
 FormHasLimits (Alone command) = HasLimits command
-FormHasLimits WithOptions = Unit {0}
+FormHasLimits (WithOptions kind) = Unit {0}
 FormHasLimits WithNumber = Unit {0}
 FormHasLimits (WithFlag flag) = Unit {0}

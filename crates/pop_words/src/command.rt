@@ -10,7 +10,11 @@ pub enum Command {
     Eval,
     Check,
     Run(RunSpec),
+    /// Runs, and stops the last round once the crowd is terminal.
+    Watch(RunSpec),
     Replay,
+    /// Replays a journal of `watch`.
+    ReplayWatched,
     /// Settles a crowd by the layers of a proof.
     Settle,
     Compile,

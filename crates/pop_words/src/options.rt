@@ -1,17 +1,21 @@
-//! The options of `run`: each is followed by its number.
+//! The options of `run` and `watch`: each is followed by its number.
 
 ghost use Rattle.std.specs.Prelude.{◌≡◌, ◌<◌, ◌≤◌, ◌^◌, ◌+◌, ◌*◌, length, map, Some, IfSome, IfOk, position};
 ghost use Rattle.std.specs.List.{list_any};
 ghost use Rattle.std.specs.Str.{bytes_eq};
+ghost use Rattle.pop_io.specs.declared.gate.TheConstants.{WORKER_LIMIT};
+ghost use Rattle.pop_words.specs.declared.kind.RunKind.TheVariants.{Whole};
+ghost use Rattle.pop_words.specs.Kinds.{most_workers};
 ghost use Rattle.pop_words.specs.Options.{IsWithin, IsWithinLimits, name_of, value_of, spec_of, options_meaning};
 ghost use Rattle.pop_words.specs.Options.{word_fault, name_fault, number_fault, first_fault};
 
 use crate::command::{Usage, UsageWhy};
+use crate::kind::RunKind;
 use crate::spec::{MEETING_LIMIT, RunSpec, SEED_LIMIT, TURN_LIMIT};
-use pop_io::{SHARD_LIMIT, WORKER_LIMIT};
+use pop_io::SHARD_LIMIT;
 use pop_lines::number_within;
 
-/// An option of `run`.
+/// An option of a run.
 #[derive(Clone, Copy, Debug, PartialEq, Eq)]
 pub(crate) enum RunOption {
     Workers,
@@ -48,39 +52,40 @@ impl RunOption {
     }
 
     /// The least and the greatest number, and the one that stands if the option isn't given.
-    fn numbers(self) -> (u64, u64, u64)
-        ensures { result ≡ (least_of self, most_of self, default_of self) }
+    fn numbers(self, kind: RunKind) -> (u64, u64, u64)
+        ensures { result ≡ (least_of self, most_of kind self, default_of self) }
     {
         match self {
-            RunOption::Workers => (1, u64::from(WORKER_LIMIT), 1),
+            RunOption::Workers => (1, u64::from(kind.most_workers()), 1),
             RunOption::Shards => (1, u64::from(SHARD_LIMIT), 16),
             RunOption::Turns => (0, TURN_LIMIT, 10_000),
             RunOption::Seed => (0, SEED_LIMIT, 0),
         }
     }
 
-    fn number_of(self, word: &str) -> Option<u64>
-        ensures number { result ≡ number_behind self word.now }
-        ensures within { IfSome result (IsWithin self) }
+    fn number_of(self, kind: RunKind, word: &str) -> Option<u64>
+        ensures number { result ≡ number_behind kind self word.now }
+        ensures within { IfSome result (IsWithin kind self) }
     {
-        let (least, most, _default) = self.numbers();
+        let (least, most, _default) = self.numbers(kind);
         number_within(word.as_bytes(), least, most)
     }
 }
 
-/// The run that the words behind `run` ask for. `run` itself is word 0.
-pub(crate) fn read_options(words: &[&str]) -> Result<RunSpec, Usage>
+/// The run of this kind that the words behind the command's own ask for. The command's own is word 0.
+pub(crate) fn read_options(kind: RunKind, words: &[&str]) -> Result<RunSpec, Usage>
     requires { length words.now + 1 < 2 ^ 32 }
-    ensures meaning { result ≡ options_meaning (map (λ w. w.now) words.now) }
+    ensures meaning { result ≡ options_meaning kind (map (λ w. w.now) words.now) }
     ensures limits { IfOk result IsWithinLimits }
+    ensures workers { IfOk result (λ spec. spec.workers ≤ most_workers kind) }
 {
-    if let Some((at, why)) = first_fault_of(words) {
+    if let Some((at, why)) = first_fault_of(kind, words) {
         return Err(behind(at, why));
     }
     if words.len() % 2 == 1 {
         return Err(behind(words.len(), UsageWhy::Missing));
     }
-    let spec = spec_in(words);
+    let spec = spec_in(kind, words);
     if MEETING_LIMIT < u64::from(spec.workers) * spec.turns {
         return Err(behind(words.len(), UsageWhy::Product));
     }
@@ -97,12 +102,12 @@ fn behind(at: usize, why: UsageWhy) -> Usage
     }
 }
 
-fn first_fault_of(words: &[&str]) -> Option<(usize, UsageWhy)>
-    ensures first { result ≡ first_fault (map (λ w. w.now) words.now) }
+fn first_fault_of(kind: RunKind, words: &[&str]) -> Option<(usize, UsageWhy)>
+    ensures first { result ≡ first_fault kind (map (λ w. w.now) words.now) }
     ensures place { IfSome result (λ fault. fault.0 < length words.now) }
 {
     for at in 0..words.len() {
-        if let Some(why) = fault_at(words, at) {
+        if let Some(why) = fault_at(kind, words, at) {
             return Some((at, why));
         }
     }
@@ -110,14 +115,14 @@ fn first_fault_of(words: &[&str]) -> Option<(usize, UsageWhy)>
 }
 
 /// Options and numbers take turns.
-fn fault_at(words: &[&str], at: usize) -> Option<UsageWhy>
+fn fault_at(kind: RunKind, words: &[&str], at: usize) -> Option<UsageWhy>
     requires { at < length words.now }
-    ensures { result ≡ word_fault (map (λ w. w.now) words.now) at }
+    ensures { result ≡ word_fault kind (map (λ w. w.now) words.now) at }
 {
     if at % 2 == 0 {
         fault_of_name(&words[..at], words[at])
     } else {
-        fault_of_number(RunOption::named(words[at - 1])?, words[at])
+        fault_of_number(kind, RunOption::named(words[at - 1])?, words[at])
     }
 }
 
@@ -147,10 +152,10 @@ fn place_of_option(words: &[&str], option: RunOption) -> Option<usize>
     words.iter().position(|word| *word == name)
 }
 
-fn fault_of_number(option: RunOption, word: &str) -> Option<UsageWhy>
-    ensures { result ≡ number_fault (Some option) word.now }
+fn fault_of_number(kind: RunKind, option: RunOption, word: &str) -> Option<UsageWhy>
+    ensures { result ≡ number_fault kind (Some option) word.now }
 {
-    if option.number_of(word).is_some() {
+    if option.number_of(kind, word).is_some() {
         None
     } else {
         Some(UsageWhy::Value)
@@ -158,28 +163,32 @@ fn fault_of_number(option: RunOption, word: &str) -> Option<UsageWhy>
 }
 
 /// The spec of options without a fault.
-fn spec_in(words: &[&str]) -> RunSpec
-    ensures spec { result ≡ spec_of (map (λ w. w.now) words.now) }
+fn spec_in(kind: RunKind, words: &[&str]) -> RunSpec
+    ensures spec { result ≡ spec_of kind (map (λ w. w.now) words.now) }
     ensures limits { IsWithinLimits result }
+    ensures workers { result.workers ≤ most_workers kind }
     ensures few { result.workers * result.turns ≤ WORKER_LIMIT * TURN_LIMIT }
 {
     RunSpec {
-        workers: value_in(words, RunOption::Workers) as u16,
-        shards: value_in(words, RunOption::Shards) as u32,
-        turns: value_in(words, RunOption::Turns),
-        seed: value_in(words, RunOption::Seed),
+        workers: value_in(kind, words, RunOption::Workers) as u16,
+        shards: value_in(kind, words, RunOption::Shards) as u32,
+        turns: value_in(kind, words, RunOption::Turns),
+        seed: value_in(kind, words, RunOption::Seed),
     }
 }
 
 /// The number behind an option's name, or its default.
-#[tactic(auto, using(crate::proofs::Firsts::position_map))]
-fn value_in(words: &[&str], option: RunOption) -> u64
-    ensures value { result ≡ value_of (map (λ w. w.now) words.now) option }
-    ensures within { IsWithin option result }
+#[tactic(auto, using(crate::proofs::Firsts::position_map, crate::proofs::Limits::default_within, crate::proofs::Limits::within_whole))]
+fn value_in(kind: RunKind, words: &[&str], option: RunOption) -> u64
+    ensures value { result ≡ value_of kind (map (λ w. w.now) words.now) option }
+    ensures within { IsWithin kind option result }
+    ensures whole { IsWithin Whole option result }
 {
-    let (_least, _most, default) = option.numbers();
+    let (_least, _most, default) = option.numbers(kind);
     match place_of_option(words, option) {
-        Some(at) if at + 1 < words.len() => option.number_of(words[at + 1]).unwrap_or(default),
+        Some(at) if at + 1 < words.len() => option
+            .number_of(kind, words[at + 1])
+            .unwrap_or(default),
         _ => default,
     }
 }

@@ -1,11 +1,14 @@
 //! The words of the command line.
 
-ghost use Rattle.std.specs.Prelude.{◌≡◌, ◌<◌, ◌^◌, ◌+◌, length, map, Some, IfSome, IfOk};
-ghost use Rattle.pop_words.specs.Words.{meaning_of, meaning_behind, form_named, demo_meaning, flag_meaning, HasLimits, FormHasLimits};
+ghost use Rattle.std.specs.Prelude.{◌≡◌, ◌<◌, ◌≤◌, ◌^◌, ◌+◌, length, map, Some, IfSome, IfOk};
+ghost use Rattle.pop_words.specs.Kinds.{most_workers};
+ghost use Rattle.pop_words.specs.Options.{IsWithinLimits};
+ghost use Rattle.pop_words.specs.Words.{meaning_of, meaning_behind, form_named, run_command, demo_meaning, flag_meaning, HasLimits, FormHasLimits};
 
 use crate::command::{Command, Usage, UsageWhy};
+use crate::kind::RunKind;
 use crate::options::read_options;
-use crate::spec::DEMO_LIMIT;
+use crate::spec::{DEMO_LIMIT, RunSpec};
 use pop_lines::number_within;
 
 /// What stands behind a command's own word.
@@ -13,8 +16,8 @@ use pop_lines::number_within;
 pub(crate) enum Form {
     /// Nothing.
     Alone(Command),
-    /// The options of a run, each with its number.
-    WithOptions,
+    /// The options of a run of this kind, each with its number.
+    WithOptions(RunKind),
     /// The number of a demo case.
     WithNumber,
     /// Nothing, or the flag that makes another command of it.
@@ -25,6 +28,7 @@ pub(crate) enum Form {
 #[derive(Clone, Copy, Debug, PartialEq, Eq)]
 pub(crate) enum Flag {
     OfCompile,
+    OfReplay,
 }
 
 impl Flag {
@@ -36,6 +40,7 @@ impl Flag {
     {
         match self {
             Flag::OfCompile => "--flocks",
+            Flag::OfReplay => "--watched",
         }
     }
 
@@ -45,6 +50,7 @@ impl Flag {
     {
         match self {
             Flag::OfCompile => Command::Compile,
+            Flag::OfReplay => Command::Replay,
         }
     }
 
@@ -54,6 +60,7 @@ impl Flag {
     {
         match self {
             Flag::OfCompile => Command::Flocks,
+            Flag::OfReplay => Command::ReplayWatched,
         }
     }
 }
@@ -82,8 +89,9 @@ fn form_of(word: &str) -> Option<Form>
         "play" => Some(Form::Alone(Command::Play)),
         "eval" => Some(Form::Alone(Command::Eval)),
         "check" => Some(Form::Alone(Command::Check)),
-        "run" => Some(Form::WithOptions),
-        "replay" => Some(Form::Alone(Command::Replay)),
+        "run" => Some(Form::WithOptions(RunKind::Whole)),
+        "watch" => Some(Form::WithOptions(RunKind::Watched)),
+        "replay" => Some(Form::WithFlag(Flag::OfReplay)),
         "settle" => Some(Form::Alone(Command::Settle)),
         "compile" => Some(Form::WithFlag(Flag::OfCompile)),
         "demo" => Some(Form::WithNumber),
@@ -100,9 +108,22 @@ fn read_behind(form: Form, words: &[&str]) -> Result<Command, Usage>
     match form {
         Form::Alone(command) if words.is_empty() => Ok(command),
         Form::Alone(_) => Err(bad(1, UsageWhy::Unknown)),
-        Form::WithOptions => Ok(Command::Run(read_options(words)?)),
+        Form::WithOptions(kind) => Ok(command_of(kind, read_options(kind, words)?)),
         Form::WithNumber => read_number(words),
         Form::WithFlag(flag) => read_flag(flag, words),
+    }
+}
+
+/// The command that makes a run of this kind.
+fn command_of(kind: RunKind, spec: RunSpec) -> Command
+    requires limits { IsWithinLimits spec }
+    requires workers { spec.workers ≤ most_workers kind }
+    ensures command { result ≡ run_command kind spec }
+    ensures limits { HasLimits result }
+{
+    match kind {
+        RunKind::Whole => Command::Run(spec),
+        RunKind::Watched => Command::Watch(spec),
     }
 }
 
