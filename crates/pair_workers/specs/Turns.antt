@@ -18,7 +18,8 @@ pub record HasPicked (n turns : ℕ) (before after : List ℕ) (made : List (ℕ
 pub record ArePlayed (net : NetModel) (start : CrowdModel) (workers turns : ℕ) (before after : List (List ℕ)) (meetings : List Meeting) (end : CrowdModel) : Type 0 where
   pub marked : AreMarked net meetings start
   pub replays : replay net meetings start ≡ end
-  pub picked : (w : ℕ) (d : List ℕ) → w < workers → HasPicked (length start) turns (slice_index_or before w d) (slice_index_or after w d) (pairs (meetings_of w meetings))
+  pub picked : (w : ℕ) (d : List ℕ) → w < workers
+      → HasPicked (length start) turns (slice_index_or before w d) (slice_index_or after w d) (pairs (meetings_of w meetings))
   pub nobody_else : All (λ m. m.worker < workers) meetings
 
 -- a round from this crowd: each worker makes its turns by its picker, and the pickers stand after them

@@ -49,7 +49,9 @@ Told = ℕ × ℕ × ℕ × Bool
 
 abbrev pub three_numbers : List ℕ → List ℕ → List ℕ → Bool → Option Told
 three_numbers w a b mark =
-    option_and_then (λ worker. option_and_then (λ first. option_map (λ second. (worker, first, second, mark)) (printed_number_of b)) (printed_number_of a)) (printed_number_of w)
+    option_and_then
+    (λ worker. option_and_then (λ first. option_map (λ second. (worker, first, second, mark)) (printed_number_of b)) (printed_number_of a))
+    (printed_number_of w)
 
 abbrev pub told_words : List (List ℕ) → Option Told
 told_words (w ∷ a ∷ b ∷ []) = three_numbers w a b false
@@ -85,7 +87,9 @@ abbrev pub meeting_told : RunSpec → ℕ → List (List Meeting) → List Meeti
 meeting_told spec agents rounds meetings None = Err Form
 meeting_told spec agents rounds meetings (Some (w, a, b, mark)) =
     if nat_lt w spec.workers && nat_lt (length (meetings_of w meetings)) (turns_in spec (length rounds + 1))
-    then if not (a == b) && (nat_lt a agents && nat_lt b agents) then Ok (Some (settled spec rounds (meetings ++ record { worker = w; a = a; b = b; changed = mark } ∷ []))) else Err Agents
+    then if not (a == b) && (nat_lt a agents && nat_lt b agents)
+    then Ok (Some (settled spec rounds (meetings ++ record { worker = w; a = a; b = b; changed = mark } ∷ [])))
+    else Err Agents
     else Err Worker
 
 -- a reading with one meeting more, where a line gave one
@@ -103,7 +107,9 @@ abbrev pub line_read : RunKind → RunSpec → ℕ → Reading → List ℕ → 
 line_read kind spec agents (rounds, None) line =
     if bytes_eq line (codes "end")
     then Ok None
-    else if bytes_eq line (round_line (length rounds + 1)) then if turns_in spec (length rounds + 1) == 0 then Err Round else Ok (Some (rounds, Some [])) else Err Form
+    else if bytes_eq line (round_line (length rounds + 1))
+    then if turns_in spec (length rounds + 1) == 0 then Err Round else Ok (Some (rounds, Some []))
+    else Err Form
 line_read kind spec agents (rounds, Some meetings) line =
     if ends_inside kind line then Ok None else meeting_told spec agents rounds meetings (told_in line)
 

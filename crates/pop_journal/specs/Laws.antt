@@ -42,7 +42,8 @@ IsReadBack kind net start spec rounds end first =
 abbrev pub IsWrittenHeld : Type 0
 IsWrittenHeld =
     (kind : RunKind) (net : NetModel) (start : CrowdModel) (spec : RunSpec) (rounds : List (List Meeting)) (end : CrowdModel) (first : ℕ)
-    → AGENT_LEAST ≤ length start → length start ≤ AGENT_LIMIT → IsWithinLimits spec → spec.workers ≤ most_workers kind → spec.workers * spec.turns ≤ MEETING_LIMIT
+    → AGENT_LEAST ≤ length start → length start ≤ AGENT_LIMIT → IsWithinLimits spec
+    → spec.workers ≤ most_workers kind → spec.workers * spec.turns ≤ MEETING_LIMIT
     → IsRunOf kind net start spec rounds end
     → IsReadBack kind net start spec rounds end first
     × Holds net start (record { kind = kind; spec = spec; rounds = rounds; tail = lines_of (tail_text net end); first = first })

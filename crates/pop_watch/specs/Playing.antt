@@ -23,7 +23,8 @@ of_worker m = record { worker = m.worker - 1; a = m.a; b = m.b; changed = m.chan
 pub record ArePlaying (net : NetModel) (start : CrowdModel) (workers : ℕ) (before after : List (List ℕ)) (meetings : List Meeting) (end : CrowdModel) : Type 0 where
   pub marked : AreMarked net meetings start
   pub replays : replay net meetings start ≡ end
-  pub picked : (w : ℕ) (d : List ℕ) → w < workers → HasPicked (length start) (made_by w meetings) (slice_index_or before w d) (slice_index_or after w d) (pairs (meetings_of w meetings))
+  pub picked : (w : ℕ) (d : List ℕ) → w < workers
+      → HasPicked (length start) (made_by w meetings) (slice_index_or before w d) (slice_index_or after w d) (pairs (meetings_of w meetings))
   pub nobody_else : All (λ m. m.worker < workers) meetings
 
 -- the same, where the crowd, the pickers and the meetings stand together
@@ -33,7 +34,8 @@ IsPlayed net start workers before p =
 
 -- what was played from some crowd is still played from it
 pub record GoesOn (net : NetModel) (before after : Played) : Type 0 where
-  pub more : (start : CrowdModel) (first : List (List ℕ)) → IsPlayed net start (length before.pickers.items) first before → IsPlayed net start (length before.pickers.items) first after
+  pub more : (start : CrowdModel) (first : List (List ℕ)) → IsPlayed net start (length before.pickers.items) first before
+      → IsPlayed net start (length before.pickers.items) first after
   pub pickers : length after.pickers.items ≡ length before.pickers.items
   pub agents : length after.crowd ≡ length before.crowd
 
