@@ -8,8 +8,11 @@ use Rattle.pop_net.specs.NetModel.{NetModel, CrowdModel, IsTuple}
 use Rattle.pop_net.specs.Lanes.{crowd_of, tuple_of}
 use Rattle.pop_lines.specs.Lines.{lines_of}
 use Rattle.pop_crowd.specs.declared.limits.TheConstants.{AGENT_LEAST, AGENT_LIMIT}
+use Rattle.pop_crowd.specs.Replay.{replay}
 use Rattle.pop_crowd.proofs.Words.{crowd_tuples}
 use Rattle.pop_words.specs.Options.{IsWithinLimits}
+use Rattle.pair_workers.specs.Run.{joined}
+use Rattle.pair_workers.specs.WatchedRun.{IsWatchedRun}
 use Rattle.pop_journal.specs.declared.fault.VerifyFault.{VerifyFault}
 use Rattle.pop_journal.specs.declared.fault.VerifyFault.TheVariants.{Differs, NoMemory}
 use Rattle.pop_journal.specs.declared.journal.Journal.{Journal}
@@ -18,9 +21,6 @@ use Rattle.pop_journal.specs.Expected.{Difference, first_difference, journal_com
 use Rattle.pop_journal.specs.Standing.{Passes}
 use Rattle.pop_journal.proofs.Holds.{run_of_none, none_of_run}
 use Rattle.pop_journal.proofs.RunKinds.{are_watched, is_watched, is_of_kind}
-use Rattle.pair_workers.specs.Run.{joined}
-use Rattle.pair_workers.specs.WatchedRun.{IsWatchedRun}
-use Rattle.pop_crowd.specs.Replay.{replay}
 
 module _ (net : NetModel) (start : CrowdModel) (journal : Journal) (two : AGENT_LEAST ≤ length start) (few : length start ≤ AGENT_LIMIT) (workers : (1 ≤ journal.spec.workers) × (journal.spec.workers ≤ WORKER_LIMIT)) (tuples : All (IsTuple net) start) (form : AreRoundsOf journal.kind journal.spec (length start) journal.rounds) where
   -- a journal in form without a difference holds

@@ -75,7 +75,7 @@ fn ends_here(kind: RunKind, text: &[u8]) -> bool
 
 /// The same, where the first line of the text tells this of a meeting. A line that tells one is not `end`.
 #[inline(always)]
-pub(crate) fn is_stopped(kind: RunKind, told: Option<(u128, u128, u128, bool)>, text: &[u8]) -> bool
+pub(crate) fn stops_here(kind: RunKind, told: Option<(u128, u128, u128, bool)>, text: &[u8]) -> bool
     ensures { (others : Items (Items ℕ)) → Tells (lines_of text.now) told others → result ≡ first_ends kind (lines_of text.now) }
 {
     match told {

@@ -31,7 +31,7 @@ fn made_by_workers(
 }
 
 /// The first worker that has made fewer meetings than its turns.
-fn first_below(workers: u16, made: &[u64], turns: u64) -> Option<u16>
+fn first_lacking(workers: u16, made: &[u64], turns: u64) -> Option<u16>
     requires { length made.now ≡ workers }
     ensures { result ≡ find (λ w. nat_lt (slice_index_or made.now w 0) turns) (range_with_len 0 workers) }
 {
@@ -51,7 +51,7 @@ fn lacking_worker(
 {
     let turns = ROUND_TURNS.min(spec.turns - ROUND_TURNS * (round - 1));
     let made = made_by_workers(alloc, spec.workers, meetings)?;
-    Ok(first_below(spec.workers, &made, turns))
+    Ok(first_lacking(spec.workers, &made, turns))
 }
 
 /// The least worker that lacks meetings of the last round.

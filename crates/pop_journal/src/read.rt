@@ -12,7 +12,7 @@ ghost use Rattle.pop_journal.specs.declared.fault.JournalFault.TheVariants.{NoMe
 ghost use Rattle.pop_journal.specs.ReadLines.{ReadsRound, ReadsRounds, ReadsJournal};
 
 use crate::fault::{JournalFault, JournalWhy};
-use crate::form::{checked, is_stopped, next_told, spec_of};
+use crate::form::{checked, next_told, spec_of, stops_here};
 use crate::journal::{Journal, LINE_LIMIT};
 use itoa::Buffer;
 use pair_workers::ROUND_TURNS;
@@ -61,7 +61,7 @@ fn read_round<'t>(
                 why: JournalWhy::Missing,
             });
         };
-        if is_stopped(kind, told, rest) {
+        if stops_here(kind, told, rest) {
             return Ok((RoundEnd::Stopped, more));
         }
         let meeting = match checked(told, spec, agents, &made, turns) {

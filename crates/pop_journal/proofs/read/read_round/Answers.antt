@@ -24,15 +24,15 @@ lines-preserved c =
       read = λ rounds e.
           let short : length ms < wanted spec rounds = subst (λ (t : ℕ). length ms < spec.workers * t) e (omega (arith, c.lines-test.true, c.len.ensures, ap (λ (n : ℕ). n * c.args.turns) c.from.ensures)) in
           was.read rounds e
-          ∙ read_told c.args.kind spec c.args.agents c.requires.spec.workers.0 c.requires.spec.workers.1 (omega arith) (c.args.number + length ms) rounds ms (settled spec rounds (ms ++ m ∷ [])) c.in-Some.told (lines_of c.lines.rest.now) (lines_of c.in-Some.more.now) c.in-Some.ensures short (sym (c.is_stopped.ensures (lines_of c.in-Some.more.now) c.in-Some.ensures) ∙ c.if-is_stopped.false) (c.in-Ok.ensures.read rounds ms e (λ w d l. ap (λ (ys : List ℕ). get_or ys w d) c.deref.ensures.value ∙ was.counts w d l))
+          ∙ read_told c.args.kind spec c.args.agents c.requires.spec.workers.0 c.requires.spec.workers.1 (omega arith) (c.args.number + length ms) rounds ms (settled spec rounds (ms ++ m ∷ [])) c.in-Some.told (lines_of c.lines.rest.now) (lines_of c.in-Some.more.now) c.in-Some.ensures short (sym (c.stops_here.ensures (lines_of c.in-Some.more.now) c.in-Some.ensures) ∙ c.if-stops_here.false) (c.in-Ok.ensures.read rounds ms e (λ w d l. ap (λ (ys : List ℕ). get_or ys w d) c.deref.ensures.value ∙ was.counts w d l))
           ∙ ap (λ (t : ℕ × List Meeting). lines_read c.args.kind spec c.args.agents t.0 (settled spec rounds t.1) (lines_of c.in-Some.more.now)) (λ i. ((let n : c.args.number + length ms + 1 ≡ c.args.number + length c.push.new.self.items = omega (arith, longer) in n) i, sym items i));
     }
 
-pub returns-then-is_stopped-clause-read : goal.returns-then-is_stopped-clause-read
-returns-then-is_stopped-clause-read c rounds e =
+pub returns-then-stops_here-clause-read : goal.returns-then-stops_here-clause-read
+returns-then-stops_here-clause-read c rounds e =
     let spec = c.args.spec.now in
     let ms : List Meeting = c.lines.meetings.items in
     let short : length ms < wanted spec rounds = subst (λ (t : ℕ). length ms < spec.workers * t) e (omega (arith, c.lines-test.true, c.len.ensures, ap (λ (n : ℕ). n * c.args.turns) c.from.ensures)) in
     c.lines.invariant.read rounds e
     ∙ read_stopped c.args.kind spec c.args.agents c.requires.spec.workers.0 c.requires.spec.workers.1 (omega arith) (c.args.number + length ms) rounds ms c.in-Some.told (lines_of c.lines.rest.now) (lines_of c.in-Some.more.now) c.in-Some.ensures short
-    (sym (c.is_stopped.ensures (lines_of c.in-Some.more.now) c.in-Some.ensures) ∙ c.if-is_stopped.true)
+    (sym (c.stops_here.ensures (lines_of c.in-Some.more.now) c.in-Some.ensures) ∙ c.if-stops_here.true)

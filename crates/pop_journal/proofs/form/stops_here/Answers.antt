@@ -5,7 +5,7 @@ use Rattle.pop_words.specs.declared.kind.RunKind.{RunKind}
 use Rattle.pop_journal.specs.Form.{Told, Tells}
 use Rattle.pop_journal.specs.ReadLines.{first_ends}
 use Rattle.pop_journal.proofs.FormLaws.{told_no_end}
-use Rattle.pop_journal.proofs.form.is_stopped.Goals as goal
+use Rattle.pop_journal.proofs.form.stops_here.Goals as goal
 
 told_first : (kind : RunKind) (lines : List (List ℕ)) (o : Option Told) (told : Told) (others : List (List ℕ)) → o ≡ Some told → Tells lines o others → false ≡ first_ends kind lines
 told_first kind [] o told others is t = absurd t
