@@ -1,11 +1,12 @@
 //! Watched runs and their journals.
 
-ghost use Rattle.std.specs.Prelude.{◌≤◌};
+ghost use Rattle.std.specs.Prelude.{◌≡◌, ◌≤◌, length};
 
 use crate::fields::meeting;
 use pair_workers::{End, RunEnd};
 use pop_crowd::{Crowd, Meeting};
 use pop_io::{Gate, OpenGate};
+use pop_net::Net;
 use pop_watch::{read_watched, run_watched, verify_watched, whole_runs_are_watched, write_watched};
 use pop_words::{RunSpec, TURN_LIMIT, WATCHED_WORKERS};
 use sample_nets::majority;
@@ -131,6 +132,17 @@ fn the_observer_stops_a_round(rt: HostRuntime) -> Result<(), Fail> {
     Ok(())
 }
 
+/// How many meetings the journal of a watched run of two agents has, if it holds.
+fn verified(alloc: Global, net: &Net, text: &[u8]) -> Result<Option<u64>, Fail>
+    requires { length net.now.variables ≡ 2 }
+{
+    let crowd = Crowd::of_counts(alloc, net, &[1, 1]).ok().ok_or("a crowd")?;
+    let journal = read_watched(alloc, text, 1, crowd.len())
+        .ok()
+        .ok_or("a journal")?;
+    Ok(verify_watched(alloc, net, crowd, &journal).ok())
+}
+
 /// Whether a watched run of two agents by one worker has this text, which is read as so many meetings.
 fn is_told<R: Threads + Wait + Sync>(
     rt: &R,
@@ -145,7 +157,6 @@ fn is_told<R: Threads + Wait + Sync>(
     let crowd = Crowd::of_counts(alloc, &net, &[1, 1])
         .ok()
         .ok_or("a crowd")?;
-    let start = crowd.copy(alloc).ok().ok_or("a crowd")?;
     let spec = RunSpec {
         workers: 1,
         shards: 16,
@@ -158,10 +169,8 @@ fn is_told<R: Threads + Wait + Sync>(
     let written = write_watched(alloc, &net, &spec, &run, false)
         .ok()
         .ok_or("a text")?;
-    let read = read_watched(alloc, written.as_slice(), 1, start.len());
-    let journal = read.ok().ok_or("a journal")?;
-    let told = verify_watched(alloc, &net, start, &journal);
-    Ok(written.as_slice() == text.as_bytes() && told.ok() == Some(meetings))
+    let told = verified(alloc, &net, written.as_slice())?;
+    Ok(written.as_slice() == text.as_bytes() && told == Some(meetings))
 }
 
 #[test]
