@@ -8,7 +8,8 @@ use Rattle.pop_crowd.specs.declared.crowd.Meeting.{Meeting}
 use Rattle.pop_words.specs.Options.{IsWithinLimits}
 use Rattle.pop_words.specs.declared.spec.RunSpec.{RunSpec}
 use Rattle.pair_workers.specs.Run.{joined, IsRun}
-use Rattle.pair_workers.proofs.AllMeet.{all_run_meets}
+use Rattle.pop_words.specs.declared.kind.RunKind.TheVariants.{Whole}
+use Rattle.pop_journal.proofs.RunKinds.{run_form}
 use Rattle.pop_journal.proofs.Written.{few_meetings}
 use Rattle.tool_commands.specs.Demo.{changed}
 
@@ -30,4 +31,4 @@ changed_small rounds few = let most = changed_at_most rounds in omega (arith, mo
 pub run_small : (net : NetModel) (start : CrowdModel) (spec : RunSpec) (rounds : List (List Meeting)) (end : CrowdModel) → 2 ≤ length start → IsWithinLimits spec → IsRun net start spec rounds end
     → length (joined rounds) < 2 ^ 64
 run_small net start spec rounds end two limits run =
-    few_meetings spec (length start) rounds limits (record { whole = run.each_round; meetings = all_run_meets net start spec rounds end two run })
+    few_meetings Whole spec (length start) rounds limits (run_form net start spec rounds end two Whole run)

@@ -5,7 +5,9 @@ use Rattle.pres_read.specs.Reading.{pred_read}
 use Rattle.pop_words.specs.Vars.{vars_of}
 use Rattle.pop_words.specs.Counts.{counts_of}
 use Rattle.pop_words.specs.declared.command.Command.{Command}
-use Rattle.pop_words.specs.declared.command.Command.TheVariants.{Play, Eval, Check, Run, Replay, Settle, Compile, Flocks, Demo}
+use Rattle.pop_words.specs.declared.command.Command.TheVariants.{Play, Eval, Check, Run, Watch, Replay, ReplayWatched, Settle, Compile, Flocks, Demo}
+use Rattle.pop_words.specs.declared.kind.RunKind.{RunKind}
+use Rattle.pop_words.specs.declared.kind.RunKind.TheVariants.{Whole, Watched}
 use Rattle.pop_words.specs.declared.spec.RunSpec.{RunSpec}
 use Rattle.pop_net.specs.InputCrowd.{input_crowd}
 use Rattle.pair_workers.specs.Run.{joined}
@@ -67,32 +69,32 @@ run_ending_other : (pair : Option (ℕ × ℕ)) → run_ending pair ≢ ReadFaul
 run_ending_other None e = absurd cc
 run_ending_other (Some pair) e = absurd cc
 
-judged_other : (spec : RunSpec) (lines : List ℕ) (bundle : Bundle) (counts : List ℕ) (judged : Option Rejected) (output : Output) → OfJudged spec lines bundle counts judged output → IsOther (Ok output)
-judged_other spec lines bundle counts None output is e = run_ending_other is.pair (sym is.ending ∙ e)
-judged_other spec lines bundle counts (Some rejected) output is e = absurd (cc (ap (λ (o : Output). o.ending) is, e))
+judged_other : (kind : RunKind) (spec : RunSpec) (lines : List ℕ) (bundle : Bundle) (counts : List ℕ) (judged : Option Rejected) (output : Output) → OfJudged kind spec lines bundle counts judged output → IsOther (Ok output)
+judged_other kind spec lines bundle counts None output is e = run_ending_other is.pair (sym is.ending ∙ e)
+judged_other kind spec lines bundle counts (Some rejected) output is e = absurd (cc (ap (λ (o : Output). o.ending) is, e))
 
-run_other : (spec : RunSpec) (lines : List (List ℕ)) (given : Result Output Refusal) → RunGives spec lines given → IsOther given
-run_other spec lines =
-    after_keeps IsOther refused (just_two lines) (OfRunLines spec)
+run_other : (kind : RunKind) (spec : RunSpec) (lines : List (List ℕ)) (given : Result Output Refusal) → RunGives kind spec lines given → IsOther given
+run_other kind spec lines =
+    after_keeps IsOther refused (just_two lines) (OfRunLines kind spec)
     (λ found given is. after_keeps IsOther refused is.0 _
-    (λ begin given is. subst IsOther (sym is.4) (judged_other spec _ begin.0 begin.1 is.0 is.1 is.3)) given is.2)
+    (λ begin given is. subst IsOther (sym is.4) (judged_other kind spec _ begin.0 begin.1 is.0 is.1 is.3)) given is.2)
 
 compared_other : (meetings : ℕ) (found : Option Difference) → IsOther (Ok (compared_output meetings found))
 compared_other meetings None e = absurd cc
 compared_other meetings (Some difference) e = absurd cc
 
-replay_judged_other : (bundle : Bundle) (counts : List ℕ) (lines : List (List ℕ)) (judged : Option Rejected) → IsOther (judged_output bundle counts lines judged)
-replay_judged_other bundle counts lines None =
+replay_judged_other : (kind : RunKind) (bundle : Bundle) (counts : List ℕ) (lines : List (List ℕ)) (judged : Option Rejected) → IsOther (judged_output kind bundle counts lines judged)
+replay_judged_other kind bundle counts lines None =
     let start = input_crowd bundle.net counts in
-    bind_keeps IsOther refused (journal_read (journal_in (length start) JOURNAL_LINE lines)) (λ journal. Ok (journal_output bundle.net start journal))
+    bind_keeps IsOther refused (journal_read kind (journal_in kind (length start) JOURNAL_LINE lines)) (λ journal. Ok (journal_output bundle.net start journal))
     (λ journal. compared_other (length (joined journal.rounds)) (first_difference (journal.first + 1) (journal_compared bundle.net start journal)))
-replay_judged_other bundle counts lines (Some rejected) = λ e. absurd cc
+replay_judged_other kind bundle counts lines (Some rejected) = λ e. absurd cc
 
-replay_other : (lines : List (List ℕ)) (given : Result Output Refusal) → ReplayGives lines given → IsOther given
-replay_other lines =
-    after_keeps IsOther refused (two_and_some lines) OfReplayLines
-    (λ found given is. after_keeps IsOther refused is.0 (OfReplayBegun found.2)
-    (λ begin given is. subst IsOther (sym is.2) (replay_judged_other begin.0 begin.1 found.2 is.0)) given is.2)
+replay_other : (kind : RunKind) (lines : List (List ℕ)) (given : Result Output Refusal) → ReplayGives kind lines given → IsOther given
+replay_other kind lines =
+    after_keeps IsOther refused (two_and_some lines) (OfReplayLines kind)
+    (λ found given is. after_keeps IsOther refused is.0 (OfReplayBegun kind found.2)
+    (λ begin given is. subst IsOther (sym is.2) (replay_judged_other kind begin.0 begin.1 found.2 is.0)) given is.2)
 
 settle_judged_other : (bundle : Bundle) (counts : List ℕ) (judged : Option Rejected) (given : Result Output Refusal) → OfSettleJudged bundle counts judged given → IsOther given
 settle_judged_other bundle counts None given is = by_length (nat_lt TAKE_LIMIT (takes_allowed bundle counts)) is
@@ -119,8 +121,10 @@ pub given_ending : (command : Command) (lines : List (List ℕ)) (given : Result
 given_ending Play lines given is = play_other lines given is
 given_ending Eval lines given is = subst IsOther (sym is) (eval_other lines)
 given_ending Check lines given is = check_other lines given is
-given_ending (Run spec) lines given is = run_other spec lines given is
-given_ending Replay lines given is = replay_other lines given is
+given_ending (Run spec) lines given is = run_other Whole spec lines given is
+given_ending (Watch spec) lines given is = run_other Watched spec lines given is
+given_ending Replay lines given is = replay_other Whole lines given is
+given_ending ReplayWatched lines given is = replay_other Watched lines given is
 given_ending Settle lines given is = settle_other lines given is
 given_ending Compile lines given is = compile_other leaves.Plain lines given is
 given_ending Flocks lines given is = compile_other leaves.Flocks lines given is

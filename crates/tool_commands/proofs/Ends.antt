@@ -1,5 +1,5 @@
 -- The last line of a play and of a run.
-use Rattle.std.proofs.Common.{◌≡◌, ℕ, Option, Some, None, refl}
+use Rattle.std.proofs.Common.{◌≡◌, ℕ, List, Option, Some, None, refl}
 use Rattle.std.specs.Prelude.{◌↔◌, IfSome, option_map}
 use Rattle.pop_net.specs.NetModel.{NetModel, CrowdModel}
 use Rattle.pop_net.specs.Step.{Step}
@@ -7,6 +7,8 @@ use Rattle.pop_net.specs.Terminal.{IsTerminal}
 use Rattle.terminal_test.specs.Pairs.{IsLeastPair}
 use Rattle.pop_words.specs.declared.spec.RunSpec.{RunSpec}
 use Rattle.pair_workers.specs.Ends.{EndsBy}
+use Rattle.pop_watch.specs.WatchedEnds.{EndsBy as WatchedEndsBy}
+use Rattle.pop_crowd.specs.declared.crowd.Meeting.{Meeting}
 use Rattle.pair_workers.specs.declared.alone.End.{End}
 use Rattle.pair_workers.specs.declared.alone.End.TheVariants.{Terminal, Open}
 use Rattle.tool_commands.specs.Play.{IsLast}
@@ -21,3 +23,7 @@ last_is net crowd (Some (a, b)) terminal least = least
 pub run_last : (net : NetModel) (crowd : CrowdModel) (spec : RunSpec) (rounds : ℕ) (end : End) → EndsBy net crowd spec rounds end → IsLast net crowd (open_pair end)
 run_last net crowd spec rounds Terminal by = by
 run_last net crowd spec rounds (Open a b) by = by.0
+
+pub watched_last : (net : NetModel) (crowd : CrowdModel) (spec : RunSpec) (rounds : List (List Meeting)) (end : End) → WatchedEndsBy net crowd spec rounds end → IsLast net crowd (open_pair end)
+watched_last net crowd spec rounds Terminal by = by
+watched_last net crowd spec rounds (Open a b) by = by.0

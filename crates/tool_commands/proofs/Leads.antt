@@ -1,5 +1,6 @@
 -- What is prepared leads to outputs of a rule.
 use Rattle.std.proofs.Common.{◌≡◌, Result, Ok, Err, sym, subst}
+use Rattle.pop_words.specs.declared.kind.RunKind.TheVariants.{Whole}
 use Rattle.tool_texts.specs.declared.refusal.Refusal.{Refusal}
 use Rattle.tool_texts.specs.declared.stop.Stop.{Stop}
 use Rattle.tool_texts.specs.declared.stop.Stop.TheVariants.{Refused, NoMemory}
@@ -16,16 +17,16 @@ pub pending_leads : (rule : Output → Type 0) (run : PendingRun) → CanRun run
     → (prepared : Prepared) → IsPending run prepared → LeadsTo rule prepared
 pending_leads rule run can so (Text output) is = absurd is
 pending_leads rule run can so (Alone other) is =
-    subst (λ (r : PendingRun). LeadsTo rule (Alone r)) (sym is.0) (record { can = (can, is.1); allowed = so })
+    subst (λ (r : PendingRun). LeadsTo rule (Alone r)) (sym is.0) (record { can = (can, is.1, is.2); allowed = so })
 pending_leads rule run can so (Threads other) is =
     subst (λ (r : PendingRun). LeadsTo rule (Threads r)) (sym is.0) (record { can = can; allowed = so })
 pending_leads rule run can so (Demo demo) is = absurd is
 
-pub pending_plain : (run : PendingRun) (prepared : Prepared) → IsPending run prepared → run.spec.workers ≡ 1 → NeedsNoThreads prepared
-pending_plain run (Text output) is one = absurd is
-pending_plain run (Alone other) is one = tt
-pending_plain run (Threads other) is one = is.1 one
-pending_plain run (Demo demo) is one = absurd is
+pub pending_plain : (run : PendingRun) (prepared : Prepared) → IsPending run prepared → run.kind ≡ Whole → run.spec.workers ≡ 1 → NeedsNoThreads prepared
+pending_plain run (Text output) is whole one = absurd is
+pending_plain run (Alone other) is whole one = tt
+pending_plain run (Threads other) is whole one = is.1 whole one
+pending_plain run (Demo demo) is whole one = absurd is
 
 pub leads_wider : (rule wider : Output → Type 0) → ((output : Output) → rule output → wider output) → (prepared : Prepared) → LeadsTo rule prepared → LeadsTo wider prepared
 leads_wider rule wider so prepared leads = record { can = leads.can; allowed = λ output is. so output (leads.allowed output is) }

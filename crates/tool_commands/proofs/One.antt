@@ -1,7 +1,8 @@
 -- A command that leaves no choice gives one output for its input.
 use Rattle.std.proofs.Common.{◌≡◌, ℕ, List, Result, sym, ◌∙◌}
 use Rattle.pop_words.specs.declared.command.Command.{Command}
-use Rattle.pop_words.specs.declared.command.Command.TheVariants.{Play, Eval, Check, Run, Replay, Settle, Compile, Flocks, Demo}
+use Rattle.pop_words.specs.declared.command.Command.TheVariants.{Play, Eval, Check, Run, Watch, Replay, ReplayWatched, Settle, Compile, Flocks, Demo}
+use Rattle.pop_words.specs.declared.kind.RunKind.TheVariants.{Whole, Watched}
 use Rattle.tool_texts.specs.declared.refusal.Refusal.{Refusal}
 use Rattle.tool_texts.specs.declared.output.Output.{Output}
 use Rattle.tool_commands.specs.Commands.{CommandGives, IsDetermined}
@@ -17,7 +18,9 @@ one_given Play plain lines x y p q = one_play lines x y p q
 one_given Eval plain lines x y p q = p ∙ sym q
 one_given Check plain lines x y p q = one_check lines x y p q
 one_given (Run spec) plain lines x y p q = one_run spec plain lines x y p q
-one_given Replay plain lines x y p q = one_replay lines x y p q
+one_given (Watch spec) plain lines x y p q = absurd plain
+one_given Replay plain lines x y p q = one_replay Whole lines x y p q
+one_given ReplayWatched plain lines x y p q = one_replay Watched lines x y p q
 one_given Settle plain lines x y p q = one_settle lines x y p q
 one_given Compile plain lines x y p q = absurd plain
 one_given Flocks plain lines x y p q = absurd plain

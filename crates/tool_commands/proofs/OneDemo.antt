@@ -2,6 +2,7 @@
 use Rattle.std.proofs.Common.{◌≡◌, ℕ, List, Option, Result, Ok, refl, sym, ap, subst, ◌∙◌}
 use Rattle.pop_net.specs.NetModel.{CrowdModel}
 use Rattle.pop_crowd.specs.declared.crowd.Meeting.{Meeting}
+use Rattle.pop_words.specs.declared.kind.RunKind.TheVariants.{Whole}
 use Rattle.pair_workers.proofs.OnlyRun.{only_run}
 use Rattle.pres_ast.specs.PredicateValue.{predicate_value}
 use Rattle.pop_journal.specs.Journal.{text_of}
@@ -21,7 +22,7 @@ one_summary number x y p q =
     let net = demo_net number in
     let truth = predicate_value (demo_tree number) (demo_counts number) in
     let only = only_run net (demo_start number) (demo_spec number) p.rounds p.end refl p.run q.rounds q.end q.run in
-    let tuples = run_tuples net (demo_counts number) (some_agents number) (demo_spec number) p.rounds p.end p.run in
+    let tuples = run_tuples net (demo_counts number) (some_agents number) Whole (demo_spec number) p.rounds p.end p.run in
     let pair = one_last net p.end tuples p.pair q.pair p.last (subst (λ (c : CrowdModel). IsLast net c q.pair) only.1 q.last) in
     same_output x y
     (p.text

@@ -9,18 +9,22 @@ use Rattle.pop_net.proofs.Tuples.{input_tuples, reachable_tuples}
 use Rattle.tool_commands.proofs.InputSize.{length-input_crowd}
 use Rattle.pop_crowd.specs.declared.crowd.Meeting.{Meeting}
 use Rattle.pop_crowd.proofs.Reached.{replay_leads}
+use Rattle.pop_words.specs.declared.kind.RunKind.{RunKind}
 use Rattle.pop_words.specs.declared.spec.RunSpec.{RunSpec}
-use Rattle.pair_workers.specs.Run.{IsRun, joined}
-use Rattle.pair_workers.proofs.AllMeet.{all_run_meets}
+use Rattle.pair_workers.specs.Run.{joined}
+use Rattle.pair_workers.specs.WatchedRun.{IsRunOf}
+use Rattle.pop_journal.proofs.RunKinds.{are_watched, is_watched, run_form}
 
-module _ (net : NetModel) (counts : List ℕ) (two : 2 ≤ sum counts + helper_count net) (spec : RunSpec) (rounds : List (List Meeting)) (end : CrowdModel) (is : IsRun net (input_crowd net counts) spec rounds end) where
+module _ (net : NetModel) (counts : List ℕ) (two : 2 ≤ sum counts + helper_count net) (kind : RunKind) (spec : RunSpec) (rounds : List (List Meeting)) (end : CrowdModel) (is : IsRunOf kind net (input_crowd net counts) spec rounds end) where
   -- the last crowd is reached from the input crowd
   pub run_reaches : Reachable (Step net) (input_crowd net counts) end
   run_reaches =
       let start = input_crowd net counts in
       let long : 2 ≤ length start = omega (arith, two, length-input_crowd net counts) in
-      let r = replay_leads net (joined rounds) start (input_tuples net counts) (all_run_meets net start spec rounds end long is) in
-      subst (λ (c : CrowdModel). Reachable (Step net) start c) is.replays (r.0, r.2)
+      let run = is_watched net start spec rounds end kind is in
+      let form = are_watched spec (length start) rounds kind (run_form net start spec rounds end long kind is) in
+      let r = replay_leads net (joined rounds) start (input_tuples net counts) form.meetings in
+      subst (λ (c : CrowdModel). Reachable (Step net) start c) run.replays (r.0, r.2)
 
   pub run_tuples : All (IsTuple net) end
   run_tuples = reachable_tuples net (input_crowd net counts) end (input_tuples net counts) run_reaches

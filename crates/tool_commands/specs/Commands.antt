@@ -1,7 +1,8 @@
 -- The table of commands.
 use Rattle.std.specs.Prelude.{◌≡◌, ℕ, Bool, true, false, List, Result}
 use Rattle.pop_words.specs.declared.command.Command.{Command}
-use Rattle.pop_words.specs.declared.command.Command.TheVariants.{Play, Eval, Check, Run, Replay, Settle, Compile, Flocks, Demo}
+use Rattle.pop_words.specs.declared.command.Command.TheVariants.{Play, Eval, Check, Run, Watch, Replay, ReplayWatched, Settle, Compile, Flocks, Demo}
+use Rattle.pop_words.specs.declared.kind.RunKind.TheVariants.{Whole, Watched}
 use Rattle.tool_texts.specs.declared.refusal.Refusal.{Refusal}
 use Rattle.tool_texts.specs.declared.output.Output.{Output}
 use Rattle.tool_commands.specs.Eval.{eval_output}
@@ -19,8 +20,10 @@ abbrev pub CommandGives : Command → List (List ℕ) → Result Output Refusal 
 CommandGives Play lines given = PlayGives lines given
 CommandGives Eval lines given = given ≡ eval_output lines
 CommandGives Check lines given = CheckGives lines given
-CommandGives (Run spec) lines given = RunGives spec lines given
-CommandGives Replay lines given = ReplayGives lines given
+CommandGives (Run spec) lines given = RunGives Whole spec lines given
+CommandGives (Watch spec) lines given = RunGives Watched spec lines given
+CommandGives Replay lines given = ReplayGives Whole lines given
+CommandGives ReplayWatched lines given = ReplayGives Watched lines given
 CommandGives Settle lines given = SettleGives lines given
 CommandGives Compile lines given = CompileGives leaves.Plain lines given
 CommandGives Flocks lines given = CompileGives leaves.Flocks lines given
@@ -32,31 +35,37 @@ reads Play = true
 reads Eval = true
 reads Check = true
 reads (Run spec) = true
+reads (Watch spec) = true
 reads Replay = true
+reads ReplayWatched = true
 reads Settle = true
 reads Compile = true
 reads Flocks = true
 reads (Demo number) = false
 
--- which need no threads: all but a run by two or more workers
+-- which need no threads: all but a run by two or more workers, and `watch`
 abbrev pub IsPlain : Command → Type 0
 IsPlain Play = Unit {0}
 IsPlain Eval = Unit {0}
 IsPlain Check = Unit {0}
 IsPlain (Run spec) = spec.workers ≡ 1
+IsPlain (Watch spec) = ⊥
 IsPlain Replay = Unit {0}
+IsPlain ReplayWatched = Unit {0}
 IsPlain Settle = Unit {0}
 IsPlain Compile = Unit {0}
 IsPlain Flocks = Unit {0}
 IsPlain (Demo number) = Unit {0}
 
--- Which leave no choice: all but a run by two or more workers, and `compile`, with flocks or without, of which any valid proof will do.
+-- Which leave no choice: all but a run by two or more workers, `watch`, and `compile`, with flocks or without, of which any valid proof will do.
 abbrev pub IsDetermined : Command → Type 0
 IsDetermined Play = Unit {0}
 IsDetermined Eval = Unit {0}
 IsDetermined Check = Unit {0}
 IsDetermined (Run spec) = spec.workers ≡ 1
+IsDetermined (Watch spec) = ⊥
 IsDetermined Replay = Unit {0}
+IsDetermined ReplayWatched = Unit {0}
 IsDetermined Settle = Unit {0}
 IsDetermined Compile = ⊥
 IsDetermined Flocks = ⊥

@@ -1,5 +1,7 @@
 -- What is prepared, and the outputs that it leads to.
-use Rattle.std.specs.Prelude.{◌≡◌, Result, Ok, Err}
+use Rattle.std.specs.Prelude.{◌≡◌, ◌≤◌, Result, Ok, Err}
+use Rattle.pop_words.specs.declared.kind.RunKind.TheVariants.{Whole}
+use Rattle.pop_words.specs.Kinds.{most_workers}
 use Rattle.pop_words.specs.Options.{IsWithinLimits}
 use Rattle.tool_texts.specs.declared.refusal.Refusal.{Refusal}
 use Rattle.tool_texts.specs.declared.stop.Stop.{Stop}
@@ -15,14 +17,15 @@ use Rattle.tool_commands.specs.Demo.{CanDemo, IsDemoOutput}
 -- a run that can be made
 pub record CanRun (run : PendingRun) : Type 0 where
   pub limits : IsWithinLimits run.spec
+  pub workers : run.spec.workers ≤ most_workers run.kind
   pub start : IsStart run.checked.net run.start
 
 abbrev pub IsOutputOfRun : PendingRun → Output → Type 0
-IsOutputOfRun run output = IsRunOutput run.spec run.lines run.checked.net run.checked.pred run.start.counts output
+IsOutputOfRun run output = IsRunOutput run.kind run.spec run.lines run.checked.net run.checked.pred run.start.counts output
 
 abbrev pub CanBeMade : Prepared → Type 0
 CanBeMade (Text output) = Unit {0}
-CanBeMade (Alone run) = CanRun run × (run.spec.workers ≡ 1)
+CanBeMade (Alone run) = CanRun run × (run.spec.workers ≡ 1) × (run.kind ≡ Whole)
 CanBeMade (Threads run) = CanRun run
 CanBeMade (Demo demo) = CanDemo demo
 
@@ -49,9 +52,9 @@ abbrev pub Prepares : (Result Output Refusal → Type 0) → Result Prepared Sto
 Prepares rule (Ok prepared) = LeadsTo (λ output. rule (Ok output)) prepared
 Prepares rule (Err stop) = MayStop rule stop
 
--- this run is what is prepared: alone just if it has one worker
+-- this run is what is prepared: alone just if it is a whole run by one worker
 abbrev pub IsPending : PendingRun → Prepared → Type 0
 IsPending run (Text output) = ⊥
-IsPending run (Alone other) = (other ≡ run) × (run.spec.workers ≡ 1)
-IsPending run (Threads other) = (other ≡ run) × (run.spec.workers ≡ 1 → ⊥)
+IsPending run (Alone other) = (other ≡ run) × (run.spec.workers ≡ 1) × (run.kind ≡ Whole)
+IsPending run (Threads other) = (other ≡ run) × (run.kind ≡ Whole → run.spec.workers ≡ 1 → ⊥)
 IsPending run (Demo demo) = ⊥

@@ -1,8 +1,9 @@
--- What `replay` makes of the lines of its input: a bundle, a crowd line, and a journal.
+-- What `replay` makes of the lines of its input: a bundle, a crowd line, and a journal of a run of one kind.
 use Rattle.std.specs.Prelude.{◌≡◌, ℕ, ◌+◌, List, ◌++◌, length, codes, decimal, Option, Some, None, Result, Ok, Err}
 use Rattle.pop_lines.specs.Lines.{ended}
 use Rattle.pop_net.specs.NetModel.{NetModel, CrowdModel}
 use Rattle.pop_net.specs.InputCrowd.{input_crowd}
+use Rattle.pop_words.specs.declared.kind.RunKind.{RunKind}
 use Rattle.pop_words.specs.declared.spec.RunSpec.{RunSpec}
 use Rattle.pair_workers.specs.Run.{joined}
 use Rattle.pop_journal.specs.declared.journal.Journal.{Journal}
@@ -28,10 +29,10 @@ holds_text meetings = codes "holds " ++ decimal meetings
 abbrev pub holds_output : ℕ → Output
 holds_output meetings = record { text = ended (holds_text meetings); ending = Done }
 
--- the journal that these lines tell, of which the first has the number JOURNAL_LINE
-abbrev pub journal_read : Result (RunSpec × Parts) Out → Result Journal Refusal
-journal_read (Ok (spec, parts)) = Ok (record { spec = spec; rounds = parts.0; tail = parts.1; first = JOURNAL_LINE })
-journal_read (Err out) = Err (refusal.Journal out.0 out.1)
+-- the journal of a run of this kind that lines tell, of which the first has the number JOURNAL_LINE
+abbrev pub journal_read : RunKind → Result (RunSpec × Parts) Out → Result Journal Refusal
+journal_read kind (Ok (spec, parts)) = Ok (record { kind = kind; spec = spec; rounds = parts.0; tail = parts.1; first = JOURNAL_LINE })
+journal_read kind (Err out) = Err (refusal.Journal out.0 out.1)
 
 abbrev pub compared_output : ℕ → Option Difference → Output
 compared_output meetings None = holds_output meetings
@@ -43,20 +44,20 @@ journal_output net start journal =
     compared_output (length (joined journal.rounds)) (first_difference (journal.first + 1) (journal_compared net start journal))
 
 -- the same for the journal of these lines, if there is one
-abbrev pub replay_output : NetModel → CrowdModel → List (List ℕ) → Result Output Refusal
-replay_output net start lines = journal_read (journal_in (length start) JOURNAL_LINE lines) >>= λ journal. Ok (journal_output net start journal)
+abbrev pub replay_output : RunKind → NetModel → CrowdModel → List (List ℕ) → Result Output Refusal
+replay_output kind net start lines = journal_read kind (journal_in kind (length start) JOURNAL_LINE lines) >>= λ journal. Ok (journal_output net start journal)
 
 -- a valid proof lets its net's journal be replayed
-abbrev pub judged_output : Bundle → List ℕ → List (List ℕ) → Option Rejected → Result Output Refusal
-judged_output bundle counts lines None = replay_output bundle.net (input_crowd bundle.net counts) lines
-judged_output bundle counts lines (Some rejected) = Ok (rejection_output rejected)
+abbrev pub judged_output : RunKind → Bundle → List ℕ → List (List ℕ) → Option Rejected → Result Output Refusal
+judged_output kind bundle counts lines None = replay_output kind bundle.net (input_crowd bundle.net counts) lines
+judged_output kind bundle counts lines (Some rejected) = Ok (rejection_output rejected)
 
-abbrev pub OfBegun : List (List ℕ) → Bundle × List ℕ → Result Output Refusal → Type 0
-OfBegun lines begin given = (judged : Option Rejected) × IsJudged begin.0 judged × (given ≡ judged_output begin.0 begin.1 lines judged)
+abbrev pub OfBegun : RunKind → List (List ℕ) → Bundle × List ℕ → Result Output Refusal → Type 0
+OfBegun kind lines begin given = (judged : Option Rejected) × IsJudged begin.0 judged × (given ≡ judged_output kind begin.0 begin.1 lines judged)
 
-abbrev pub OfLines : List ℕ × List ℕ × List (List ℕ) → Result Output Refusal → Type 0
-OfLines lines given = (begin : Result (Bundle × List ℕ) Refusal) × IsBegunBy lines.0 lines.1 begin × After begin (OfBegun lines.2) given
+abbrev pub OfLines : RunKind → List ℕ × List ℕ × List (List ℕ) → Result Output Refusal → Type 0
+OfLines kind lines given = (begin : Result (Bundle × List ℕ) Refusal) × IsBegunBy lines.0 lines.1 begin × After begin (OfBegun kind lines.2) given
 
--- what `replay` gives for the lines of its input
-abbrev pub ReplayGives : List (List ℕ) → Result Output Refusal → Type 0
-ReplayGives lines given = After (two_and_some lines) OfLines given
+-- what `replay` gives for the lines of its input, where the journal is to be of a run of this kind
+abbrev pub ReplayGives : RunKind → List (List ℕ) → Result Output Refusal → Type 0
+ReplayGives kind lines given = After (two_and_some lines) (OfLines kind) given

@@ -1,4 +1,4 @@
--- What `run` makes of the lines of its input: a bundle and a crowd line.
+-- What `run` and `watch` make of the lines of their input: a bundle and a crowd line.
 use Rattle.std.specs.Prelude.{◌≡◌, ℕ, Bool, List, length, ◌++◌, Option, Some, None, Result, Ok}
 use Rattle.pop_lines.specs.Lines.{ended}
 use Rattle.pres_ast.specs.PredModel.{PredModel}
@@ -6,8 +6,9 @@ use Rattle.pres_ast.specs.PredicateValue.{predicate_value}
 use Rattle.pop_net.specs.NetModel.{NetModel, CrowdModel, helper_count}
 use Rattle.pop_net.specs.InputCrowd.{IsInput, input_crowd}
 use Rattle.pop_crowd.specs.declared.crowd.Meeting.{Meeting}
+use Rattle.pop_words.specs.declared.kind.RunKind.{RunKind}
 use Rattle.pop_words.specs.declared.spec.RunSpec.{RunSpec}
-use Rattle.pair_workers.specs.Run.{IsRun}
+use Rattle.pair_workers.specs.WatchedRun.{IsRunOf}
 use Rattle.pair_workers.specs.declared.alone.End.{End}
 use Rattle.pair_workers.specs.declared.alone.End.TheVariants.{Terminal, Open}
 use Rattle.pop_journal.specs.Journal.{journal_text}
@@ -39,30 +40,30 @@ abbrev pub open_pair : End → Option (ℕ × ℕ)
 open_pair Terminal = None
 open_pair (Open a b) = Some (a, b)
 
--- the input lines, and the journal of a run of the net from the input crowd
-pub record IsRunOutput (spec : RunSpec) (lines : List ℕ) (net : NetModel) (pred : PredModel) (counts : List ℕ) (output : Output) : Type 0 where
+-- the input lines, and the journal of a run of this kind of the net from the input crowd
+pub record IsRunOutput (kind : RunKind) (spec : RunSpec) (lines : List ℕ) (net : NetModel) (pred : PredModel) (counts : List ℕ) (output : Output) : Type 0 where
   pub input : IsInput (length net.variables) (helper_count net) counts
   pub rounds : List (List Meeting)
   pub end : CrowdModel
-  pub run : IsRun net (input_crowd net counts) spec rounds end
+  pub run : IsRunOf kind net (input_crowd net counts) spec rounds end
   pub pair : Option (ℕ × ℕ)
   pub last : IsLast net end pair
-  pub text : output.text ≡ lines ++ journal_text net spec rounds end (journal_end (predicate_value pred.tree counts) pair)
+  pub text : output.text ≡ lines ++ journal_text kind net spec rounds end (journal_end (predicate_value pred.tree counts) pair)
   pub ending : output.ending ≡ run_ending pair
 
 -- a valid proof lets its net run
-abbrev pub OfJudged : RunSpec → List ℕ → Bundle → List ℕ → Option Rejected → Output → Type 0
-OfJudged spec lines bundle counts None output = IsRunOutput spec lines bundle.net bundle.pred counts output
-OfJudged spec lines bundle counts (Some rejected) output = output ≡ rejection_output rejected
+abbrev pub OfJudged : RunKind → RunSpec → List ℕ → Bundle → List ℕ → Option Rejected → Output → Type 0
+OfJudged kind spec lines bundle counts None output = IsRunOutput kind spec lines bundle.net bundle.pred counts output
+OfJudged kind spec lines bundle counts (Some rejected) output = output ≡ rejection_output rejected
 
-abbrev pub OfBegun : RunSpec → List ℕ → Bundle × List ℕ → Result Output Refusal → Type 0
-OfBegun spec lines begin given =
-    (judged : Option Rejected) × (output : Output) × IsJudged begin.0 judged × OfJudged spec lines begin.0 begin.1 judged output × (given ≡ Ok output)
+abbrev pub OfBegun : RunKind → RunSpec → List ℕ → Bundle × List ℕ → Result Output Refusal → Type 0
+OfBegun kind spec lines begin given =
+    (judged : Option Rejected) × (output : Output) × IsJudged begin.0 judged × OfJudged kind spec lines begin.0 begin.1 judged output × (given ≡ Ok output)
 
-abbrev pub OfLines : RunSpec → List ℕ × List ℕ → Result Output Refusal → Type 0
-OfLines spec lines given =
-    (begin : Result (Bundle × List ℕ) Refusal) × IsBegunBy lines.0 lines.1 begin × After begin (OfBegun spec (ended lines.0 ++ ended lines.1)) given
+abbrev pub OfLines : RunKind → RunSpec → List ℕ × List ℕ → Result Output Refusal → Type 0
+OfLines kind spec lines given =
+    (begin : Result (Bundle × List ℕ) Refusal) × IsBegunBy lines.0 lines.1 begin × After begin (OfBegun kind spec (ended lines.0 ++ ended lines.1)) given
 
--- what `run` gives for the lines of its input
-abbrev pub RunGives : RunSpec → List (List ℕ) → Result Output Refusal → Type 0
-RunGives spec lines given = After (just_two lines) (OfLines spec) given
+-- what the command that makes a run of this kind gives for the lines of its input
+abbrev pub RunGives : RunKind → RunSpec → List (List ℕ) → Result Output Refusal → Type 0
+RunGives kind spec lines given = After (just_two lines) (OfLines kind spec) given

@@ -162,7 +162,7 @@ pub fn make_demo<G: Gate>(alloc: Global, demo: PendingDemo, gate: &G) -> Result<
     } = demo;
     let spec = demo_run(number);
     let run = run_alone(alloc, checked.net(), crowd, &spec, gate)?;
-    let (last, ending) = last_and_ending(&checked, counts.as_slice(), &spec, &run);
+    let (last, ending) = last_and_ending(&checked, counts.as_slice(), &run);
     let text = summary_of(alloc, number, &checked, &run, last)?;
     Ok(Output::new(text, ending))
 }

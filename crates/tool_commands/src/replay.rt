@@ -1,10 +1,10 @@
-//! The command `replay`.
+//! The command `replay`, with the flag `--watched` or without.
 
 ghost use Rattle.std.specs.Prelude.{◌≡◌, length, Ok, IfOk};
 ghost use Rattle.pop_lines.specs.Lines.{lines_of, ended};
 ghost use Rattle.pop_net.specs.Lanes.{crowd_of, AreValid};
 ghost use Rattle.pop_words.specs.Options.{IsWithinLimits};
-ghost use Rattle.pop_journal.specs.Rounds.{AreRounds};
+ghost use Rattle.pop_journal.specs.Rounds.{AreRoundsOf};
 ghost use Rattle.pop_journal.specs.Form.{journal_in};
 ghost use Rattle.tool_texts.specs.Steps.{Gives, Obeys};
 ghost use Rattle.tool_commands.specs.Start.{IsStart};
@@ -18,6 +18,7 @@ use pop_checker::{CheckFault, check};
 use pop_crowd::Crowd;
 use pop_journal::{Journal, JournalFault, VerifyFault, read_journal, verify};
 use pop_net::Net;
+use pop_words::RunKind;
 use std::alloc::{AllocError, Global};
 use tool_texts::{Ending, Output, Refusal, Stop, two_and_some_lines};
 
@@ -31,14 +32,14 @@ fn holds_line(alloc: Global, meetings: u64) -> Result<Vec<u8>, AllocError>
     Ok(text.into_bytes())
 }
 
-/// The journal of a text, for so many agents.
-fn journal_of(alloc: Global, text: &[u8], agents: u32) -> Result<Journal, Stop>
-    ensures read { Gives (λ journal. journal) result (journal_read (journal_in agents JOURNAL_LINE (lines_of text.now))) }
+/// The journal of a run of this kind that a text tells, for so many agents.
+fn journal_of(alloc: Global, kind: RunKind, text: &[u8], agents: u32) -> Result<Journal, Stop>
+    ensures read { Gives (λ journal. journal) result (journal_read kind (journal_in kind agents JOURNAL_LINE (lines_of text.now))) }
     ensures first { IfOk result (λ journal. journal.first ≡ JOURNAL_LINE) }
     ensures limits { IfOk result (λ journal. IsWithinLimits journal.spec) }
-    ensures rounds { IfOk result (λ journal. AreRounds journal.spec agents journal.rounds) }
+    ensures rounds { IfOk result (λ journal. AreRoundsOf journal.kind journal.spec agents journal.rounds) }
 {
-    match read_journal(alloc, text, JOURNAL_LINE, agents) {
+    match read_journal(alloc, kind, text, JOURNAL_LINE, agents) {
         Ok(journal) => Ok(journal),
         Err(JournalFault::Out { line, why }) => Err(Stop::Refused(Refusal::Journal(line, why))),
         Err(JournalFault::NoMemory) => Err(Stop::NoMemory),
@@ -50,7 +51,7 @@ fn compare(alloc: Global, net: &Net, crowd: Crowd, journal: &Journal) -> Result<
     requires valid { AreValid net.now crowd }
     requires first { journal.now.first ≡ JOURNAL_LINE }
     requires limits { IsWithinLimits journal.now.spec }
-    requires rounds { AreRounds journal.now.spec (length crowd) journal.now.rounds }
+    requires rounds { AreRoundsOf journal.now.kind journal.now.spec (length crowd) journal.now.rounds }
     ensures { Gives (λ output. output) result (Ok (journal_output net.now (crowd_of net.now crowd) journal.now)) }
 {
     match verify(alloc, net, crowd, journal) {
@@ -66,33 +67,45 @@ fn compare(alloc: Global, net: &Net, crowd: Crowd, journal: &Journal) -> Result<
 }
 
 /// What is said of a journal's text, for a net from this crowd.
-fn replay_from(alloc: Global, net: &Net, crowd: Crowd, text: &[u8]) -> Result<Output, Stop>
+fn replay_from(
+    alloc: Global,
+    kind: RunKind,
+    net: &Net,
+    crowd: Crowd,
+    text: &[u8],
+) -> Result<Output, Stop>
     requires { AreValid net.now crowd }
-    ensures { Gives (λ output. output) result (replay_output net.now (crowd_of net.now crowd) (lines_of text.now)) }
+    ensures { Gives (λ output. output) result (replay_output kind net.now (crowd_of net.now crowd) (lines_of text.now)) }
 {
-    let journal = journal_of(alloc, text, crowd.len())?;
+    let journal = journal_of(alloc, kind, text, crowd.len())?;
     compare(alloc, net, crowd, &journal)
 }
 
 /// What is said of a journal's text, if the proof of the bundle is valid.
-fn replay_begun(alloc: Global, bundle: Bundle, start: Start, text: &[u8]) -> Result<Output, Stop>
+fn replay_begun(
+    alloc: Global,
+    kind: RunKind,
+    bundle: Bundle,
+    start: Start,
+    text: &[u8],
+) -> Result<Output, Stop>
     requires limits { HasLimits bundle }
     requires start { IsStart bundle.net start }
-    ensures { Obeys (OfBegun (lines_of text.now) (bundle, start.counts)) (λ output. output) result }
+    ensures { Obeys (OfBegun kind (lines_of text.now) (bundle, start.counts)) (λ output. output) result }
 {
     let Bundle { net, pred, proof } = bundle;
     match check(alloc, net, pred, &proof) {
-        Ok(checked) => replay_from(alloc, checked.net(), start.crowd, text),
+        Ok(checked) => replay_from(alloc, kind, checked.net(), start.crowd, text),
         Err(CheckFault::Rejected(rejected)) => Ok(Output::of_rejection(alloc, rejected)?),
         Err(CheckFault::NoMemory) => Err(Stop::NoMemory),
     }
 }
 
-/// What `replay` gives for an input that isn't too long.
-pub(crate) fn replay(alloc: Global, input: &[u8]) -> Result<Output, Stop>
-    ensures { Obeys (ReplayGives (lines_of input.now)) (λ output. output) result }
+/// What the command that replays a journal of a run of this kind gives for an input that isn't too long.
+pub(crate) fn replay(alloc: Global, kind: RunKind, input: &[u8]) -> Result<Output, Stop>
+    ensures { Obeys (ReplayGives kind (lines_of input.now)) (λ output. output) result }
 {
     let (first, second, text) = two_and_some_lines(input)?;
     let (bundle, start) = begin(alloc, (first, second))?;
-    replay_begun(alloc, bundle, start, text)
+    replay_begun(alloc, kind, bundle, start, text)
 }

@@ -1,14 +1,18 @@
-//! The command `run`.
+//! The commands `run` and `watch`.
 
-ghost use Rattle.std.specs.Prelude.{◌≡◌, ◌↔◌, ◌++◌, length, IfOk, IsTrue};
+ghost use Rattle.std.specs.Prelude.{◌≡◌, ◌≤◌, ◌↔◌, ◌++◌, length, IfOk, IsTrue};
 ghost use Rattle.pop_lines.specs.Lines.{lines_of, ended};
 ghost use Rattle.pres_ast.specs.PredicateValue.{predicate_value};
 ghost use Rattle.pop_net.specs.NetModel.{helper_count};
 ghost use Rattle.pop_net.specs.InputCrowd.{IsInput, input_crowd};
+ghost use Rattle.pop_net.specs.Step.{Step};
+ghost use Rattle.pop_net.specs.Reachable.{Reachable};
 ghost use Rattle.pop_net.specs.Lanes.{crowd_of, AreValid};
+ghost use Rattle.pop_words.specs.declared.kind.RunKind.TheVariants.{Whole};
+ghost use Rattle.pop_words.specs.Kinds.{most_workers};
 ghost use Rattle.pop_words.specs.Options.{IsWithinLimits};
-ghost use Rattle.pair_workers.specs.Run.{IsRun};
-ghost use Rattle.pair_workers.specs.Ends.{EndsBy};
+ghost use Rattle.pair_workers.specs.WatchedRun.{IsRunOf};
+ghost use Rattle.tool_commands.specs.Play.{IsLast};
 ghost use Rattle.tool_commands.specs.Start.{IsStart};
 ghost use Rattle.tool_commands.specs.Bundles.{HasLimits};
 ghost use Rattle.tool_commands.specs.Run.{journal_end, run_ending, open_pair, IsRunOutput, OfBegun, RunGives};
@@ -20,15 +24,18 @@ use crate::start::Start;
 use cert_json::Bundle;
 use pair_workers::{End, RunEnd, run_all, run_alone};
 use pop_checker::{CheckFault, Checked, check};
+use pop_crowd::Crowd;
 use pop_io::{Gate, List, NoMemory};
 use pop_journal::{Last, write_journal};
-use pop_words::RunSpec;
+use pop_net::Net;
+use pop_watch::run_watched;
+use pop_words::{RunKind, RunSpec};
 use std::alloc::{AllocError, Global};
 use std::sync::Wait;
 use std::thread::Threads;
 use tool_texts::{Ending, Output, Stop, just_two_lines};
 
-/// Whether a run has one worker. Nothing else decides whether it is made on threads.
+/// Whether a run has one worker. A whole run by one worker is made without threads, and no other run.
 pub(crate) fn is_by_one(spec: &RunSpec) -> bool
     ensures { IsTrue result ↔ (spec.now.workers ≡ 1) }
 {
@@ -36,16 +43,11 @@ pub(crate) fn is_by_one(spec: &RunSpec) -> bool
 }
 
 /// The journal's last line for the end of a run from these counts, and how the command ends.
-pub(crate) fn last_and_ending(
-    checked: &Checked,
-    counts: &[u64],
-    spec: &RunSpec,
-    run: &RunEnd,
-) -> (Last, Ending)
+pub(crate) fn last_and_ending(checked: &Checked, counts: &[u64], run: &RunEnd) -> (Last, Ending)
     requires input { IsInput (length checked.now.net.variables) (helper_count checked.now.net) counts.now }
     requires valid { AreValid checked.now.net run.now.crowd }
-    requires run { IsRun checked.now.net (input_crowd checked.now.net counts.now) spec.now run.now.rounds (crowd_of checked.now.net run.now.crowd) }
-    requires end { EndsBy checked.now.net (crowd_of checked.now.net run.now.crowd) spec.now (length run.now.rounds) run.now.end }
+    requires reached { Reachable (Step checked.now.net) (input_crowd checked.now.net counts.now) (crowd_of checked.now.net run.now.crowd) }
+    requires last { IsLast checked.now.net (crowd_of checked.now.net run.now.crowd) (open_pair run.now.end) }
     ensures { result ≡ (journal_end (predicate_value checked.now.pred.tree counts.now) (open_pair run.now.end), run_ending (open_pair run.now.end)) }
 {
     match run.end {
@@ -68,9 +70,10 @@ fn both_lines(alloc: Global, first: &[u8], second: &[u8]) -> Result<List<u8>, Al
     Ok(List::from_vec(text))
 }
 
-/// The output of a run: the input lines, and its journal.
+/// The output of a run of this kind: the input lines, and its journal.
 fn run_output(
     alloc: Global,
+    kind: RunKind,
     spec: &RunSpec,
     lines: List<u8>,
     checked: &Checked,
@@ -79,31 +82,56 @@ fn run_output(
 ) -> Result<Output, NoMemory>
     requires input { IsInput (length checked.now.net.variables) (helper_count checked.now.net) counts.now }
     requires valid { AreValid checked.now.net run.now.crowd }
-    requires run { IsRun checked.now.net (input_crowd checked.now.net counts.now) spec.now run.now.rounds (crowd_of checked.now.net run.now.crowd) }
-    requires end { EndsBy checked.now.net (crowd_of checked.now.net run.now.crowd) spec.now (length run.now.rounds) run.now.end }
-    ensures { IfOk result (IsRunOutput spec.now lines checked.now.net checked.now.pred counts.now) }
+    requires run { IsRunOf kind checked.now.net (input_crowd checked.now.net counts.now) spec.now run.now.rounds (crowd_of checked.now.net run.now.crowd) }
+    requires last { IsLast checked.now.net (crowd_of checked.now.net run.now.crowd) (open_pair run.now.end) }
+    ensures { IfOk result (IsRunOutput kind spec.now lines checked.now.net checked.now.pred counts.now) }
 {
-    let (last, ending) = last_and_ending(checked, counts, spec, run);
+    let (last, ending) = last_and_ending(checked, counts, run);
     let mut text = lines.into_vec();
-    let journal = write_journal(alloc, checked.net(), spec, run, last)?;
+    let journal = write_journal(alloc, kind, checked.net(), spec, run, last)?;
     text.extend_from_slice(journal.as_slice())?;
     Ok(Output::new(text, ending))
 }
 
-/// Makes a run by one worker. It waits for no thread.
+/// Makes a whole run by one worker. It waits for no thread.
 pub fn make_alone<G: Gate>(alloc: Global, run: PendingRun, gate: &G) -> Result<Output, NoMemory>
     requires can { CanRun run }
     requires alone { run.spec.workers ≡ 1 }
+    requires kind { run.kind ≡ Whole }
     ensures { IfOk result (IsOutputOfRun run) }
 {
     let PendingRun {
+        kind,
         spec,
         lines,
         checked,
         start: Start { counts, crowd },
     } = run;
     let end = run_alone(alloc, checked.net(), crowd, &spec, gate)?;
-    run_output(alloc, &spec, lines, &checked, counts.as_slice(), &end)
+    run_output(alloc, kind, &spec, lines, &checked, counts.as_slice(), &end)
+}
+
+/// A run of this kind by workers on threads.
+fn run_on_threads<R: Threads + Wait + Sync, G: Gate>(
+    rt: &R,
+    alloc: Global,
+    kind: RunKind,
+    net: &Net,
+    crowd: Crowd,
+    spec: &RunSpec,
+    gate: &G,
+) -> Result<RunEnd, NoMemory>
+    requires limits { IsWithinLimits spec.now }
+    requires workers { spec.now.workers ≤ most_workers kind }
+    requires valid { AreValid net.now crowd }
+    ensures run { IfOk result (λ run. IsRunOf kind net.now (crowd_of net.now crowd) spec.now run.rounds (crowd_of net.now run.crowd)) }
+    ensures last { IfOk result (λ run. IsLast net.now (crowd_of net.now run.crowd) (open_pair run.end)) }
+    ensures valid { IfOk result (λ run. AreValid net.now run.crowd) }
+{
+    match kind {
+        RunKind::Whole => Ok(run_all(rt, alloc, net, crowd, spec, gate)?),
+        RunKind::Watched => Ok(run_watched(rt, alloc, net, crowd, spec, gate)?),
+    }
 }
 
 /// Makes a run by workers on threads, which may wait for one another.
@@ -117,45 +145,48 @@ pub fn make_on_threads<R: Threads + Wait + Sync, G: Gate>(
     ensures { IfOk result (IsOutputOfRun run) }
 {
     let PendingRun {
+        kind,
         spec,
         lines,
         checked,
         start: Start { counts, crowd },
     } = run;
-    let end = run_all(rt, alloc, checked.net(), crowd, &spec, gate)?;
-    run_output(alloc, &spec, lines, &checked, counts.as_slice(), &end)
+    let end = run_on_threads(rt, alloc, kind, checked.net(), crowd, &spec, gate)?;
+    run_output(alloc, kind, &spec, lines, &checked, counts.as_slice(), &end)
 }
 
 /// The run that is still to be made, alone or on threads.
 fn pending(run: PendingRun) -> Prepared
     ensures { IsPending run result }
 {
-    if is_by_one(&run.spec) {
-        Prepared::Alone(run)
-    } else {
-        Prepared::Threads(run)
+    match run.kind {
+        RunKind::Whole if is_by_one(&run.spec) => Prepared::Alone(run),
+        _ => Prepared::Threads(run),
     }
 }
 
 /// The run of a bundle's net, if its proof is valid.
 fn prepare_begun(
     alloc: Global,
+    kind: RunKind,
     spec: RunSpec,
     lines: (&[u8], &[u8]),
     bundle: Bundle,
     start: Start,
 ) -> Result<Prepared, Stop>
     requires spec { IsWithinLimits spec }
+    requires workers { spec.workers ≤ most_workers kind }
     requires limits { HasLimits bundle }
     requires start { IsStart bundle.net start }
-    ensures leads { Prepares (OfBegun spec (ended lines.entry.0.now ++ ended lines.entry.1.now) (bundle, start.counts)) result }
-    ensures plain { spec.workers ≡ 1 → IfOk result NeedsNoThreads }
+    ensures leads { Prepares (OfBegun kind spec (ended lines.entry.0.now ++ ended lines.entry.1.now) (bundle, start.counts)) result }
+    ensures plain { kind ≡ Whole → spec.workers ≡ 1 → IfOk result NeedsNoThreads }
 {
     let Bundle { net, pred, proof } = bundle;
     match check(alloc, net, pred, &proof) {
         Ok(checked) => {
             let lines = both_lines(alloc, lines.0, lines.1)?;
             Ok(pending(PendingRun {
+                kind,
                 spec,
                 lines,
                 checked,
@@ -169,13 +200,19 @@ fn prepare_begun(
     }
 }
 
-/// What `run` prepares for an input that isn't too long.
-pub(crate) fn prepare_run(alloc: Global, spec: RunSpec, input: &[u8]) -> Result<Prepared, Stop>
-    requires { IsWithinLimits spec }
-    ensures leads { Prepares (RunGives spec (lines_of input.now)) result }
-    ensures plain { spec.workers ≡ 1 → IfOk result NeedsNoThreads }
+/// What the command that makes a run of this kind prepares for an input that isn't too long.
+pub(crate) fn prepare_run(
+    alloc: Global,
+    kind: RunKind,
+    spec: RunSpec,
+    input: &[u8],
+) -> Result<Prepared, Stop>
+    requires spec { IsWithinLimits spec }
+    requires workers { spec.workers ≤ most_workers kind }
+    ensures leads { Prepares (RunGives kind spec (lines_of input.now)) result }
+    ensures plain { kind ≡ Whole → spec.workers ≡ 1 → IfOk result NeedsNoThreads }
 {
     let lines = just_two_lines(input)?;
     let (bundle, start) = begin(alloc, lines)?;
-    prepare_begun(alloc, spec, lines, bundle, start)
+    prepare_begun(alloc, kind, spec, lines, bundle, start)
 }

@@ -16,7 +16,7 @@ use crate::replay::replay;
 use crate::run::{is_by_one, prepare_run};
 use crate::settle::settle;
 use comp_net::LeafChoice;
-use pop_words::Command;
+use pop_words::{Command, RunKind};
 use std::alloc::Global;
 use tool_texts::Stop;
 
@@ -31,8 +31,10 @@ pub fn prepare_command(alloc: Global, command: Command, input: &[u8]) -> Result<
         Command::Play => Ok(Prepared::Text(play(alloc, input)?)),
         Command::Eval => Ok(Prepared::Text(eval(alloc, input)?)),
         Command::Check => Ok(Prepared::Text(check(alloc, input)?)),
-        Command::Run(spec) => prepare_run(alloc, spec, input),
-        Command::Replay => Ok(Prepared::Text(replay(alloc, input)?)),
+        Command::Run(spec) => prepare_run(alloc, RunKind::Whole, spec, input),
+        Command::Watch(spec) => prepare_run(alloc, RunKind::Watched, spec, input),
+        Command::Replay => Ok(Prepared::Text(replay(alloc, RunKind::Whole, input)?)),
+        Command::ReplayWatched => Ok(Prepared::Text(replay(alloc, RunKind::Watched, input)?)),
         Command::Settle => Ok(Prepared::Text(settle(alloc, input)?)),
         Command::Compile => Ok(Prepared::Text(compile(alloc, LeafChoice::Plain, input)?)),
         Command::Flocks => Ok(Prepared::Text(compile(alloc, LeafChoice::Flocks, input)?)),
@@ -56,6 +58,7 @@ pub fn is_plain_command(command: &Command) -> bool
 {
     match command {
         Command::Run(spec) => is_by_one(spec),
+        Command::Watch(_) => false,
         _ => true,
     }
 }

@@ -4,6 +4,7 @@ use Rattle.pres_ast.specs.PredicateValue.{predicate_value}
 use Rattle.pop_net.specs.NetModel.{NetModel, CrowdModel}
 use Rattle.pop_net.specs.Lanes.{crowd_of, tuple_of}
 use Rattle.pop_net.specs.InputCrowd.{input_crowd}
+use Rattle.pop_words.specs.declared.kind.RunKind.TheVariants.{Whole}
 use Rattle.pop_words.specs.declared.spec.RunSpec.{RunSpec}
 use Rattle.pair_workers.specs.Run.{IsRun}
 use Rattle.pop_journal.specs.Journal.{text_of}
@@ -18,6 +19,7 @@ use Rattle.tool_commands.proofs.InputSize.{length-input_crowd}
 use Rattle.tool_commands.proofs.DemoCases.{some_agents}
 use Rattle.tool_commands.proofs.Changed.{run_small}
 use Rattle.tool_commands.proofs.Ends.{run_last}
+use Rattle.tool_commands.proofs.Ran.{run_reaches}
 use Rattle.tool_commands.proofs.demo.make_demo.Goals as goal
 
 pub summary_of-requires-clause-agents : goal.summary_of-requires-clause-agents
@@ -33,6 +35,24 @@ summary_of-requires-clause-few g c =
     let start = c.requires.start.crowd ∙ (λ i. input_crowd (c.requires.checked.net i) (c.requires.counts i)) in
     let two : 2 ≤ length (crowd_of demo.checked.net demo.start.crowd) = (let long = ap (length {A = List ℕ}) start ∙ length-input_crowd (demo_net demo.number) (demo_counts demo.number) in omega (arith, long, some_agents demo.number)) in
     run_small demo.checked.net (crowd_of demo.checked.net demo.start.crowd) c.demo_run-spec.result c.in_ok-run.run'.rounds _ two c.demo_run-spec.ensures.limits run.run
+
+pub last_and_ending-last-requires-clause-last : goal.last_and_ending-last-requires-clause-last
+last_and_ending-last-requires-clause-last g c =
+    let net = c.args.demo.checked.net in
+    let ran = c.in_ok-run.run' in
+    let run = rw c.net.ensures at c.in_ok-run.ensures.run in
+    run_last net (crowd_of net ran.crowd) c.demo_run-spec.result (length ran.rounds) ran.end run.ends
+
+pub last_and_ending-last-requires-clause-reached : goal.last_and_ending-last-requires-clause-reached
+last_and_ending-last-requires-clause-reached g c =
+    let demo = c.args.demo in
+    let net = demo.checked.net in
+    let ran = c.in_ok-run.run' in
+    let end = crowd_of net ran.crowd in
+    let run = rw c.net.ensures at c.in_ok-run.ensures.run in
+    let from : IsRun net (input_crowd net demo.start.counts) c.demo_run-spec.result ran.rounds end =
+    subst (λ (s : CrowdModel). IsRun net s c.demo_run-spec.result ran.rounds end) c.requires.start.crowd run.run in
+    rw c.as_slice.ensures (run_reaches net demo.start.counts c.requires.start.input.two_agents Whole c.demo_run-spec.result ran.rounds end from)
 
 pub returns : goal.returns
 returns g c =

@@ -18,12 +18,12 @@ returns-in-Ok c =
     let start = c.args.start in
     let lines = lines_of c.args.text.now in
     let net : c.net.result.now ≡ bundle.net = c.net.ensures ∙ ap (λ (m : CheckedModel). m.net) kept in
-    let same : replay_output c.net.result.now (crowd_of c.net.result.now start.crowd) lines ≡ judged_output bundle start.counts lines None =
-    ap (λ (n : NetModel). replay_output n (crowd_of n start.crowd) lines) net ∙ ap (λ (s : CrowdModel). replay_output bundle.net s lines) c.requires.start.crowd in
-    gives_obeys (OfBegun lines (bundle, start.counts)) (λ (o : Output). o) c.replay_from.result (judged_output bundle start.counts lines None)
+    let same : replay_output c.args.kind c.net.result.now (crowd_of c.net.result.now start.crowd) lines ≡ judged_output c.args.kind bundle start.counts lines None =
+    ap (λ (n : NetModel). replay_output c.args.kind n (crowd_of n start.crowd) lines) net ∙ ap (λ (s : CrowdModel). replay_output c.args.kind bundle.net s lines) c.requires.start.crowd in
+    gives_obeys (OfBegun c.args.kind lines (bundle, start.counts)) (λ (o : Output). o) c.replay_from.result (judged_output c.args.kind bundle start.counts lines None)
     (None, (c.in-Ok.ensures.valid, checked), refl)
     (subst (λ (r : Result Output Refusal). Gives (λ (o : Output). o) c.replay_from.result r) same c.replay_from.ensures)
 
 pub returns-in-Err-Rejected : goal.returns-in-Err-Rejected
 returns-in-Err-Rejected c =
-    (Some c.in-Err-Rejected.rejected, rw c.in-Err-Rejected.field-0-is at c.in-Err-Rejected.ensures.fault, ap (λ (o : Output). Ok o) c.in_ok-of_rejection-in-Err-Rejected.ensures)
+    (Some c.in-Err-Rejected.rejected, rw c.in-Err-Rejected.field-0-is at c.in-Err-Rejected.ensures.fault, ap (λ (o : Output). Ok o) (rw c.in-Err-Rejected.rejected-is at c.in_ok-of_rejection-in-Err-Rejected.ensures))

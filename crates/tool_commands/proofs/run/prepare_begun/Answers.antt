@@ -12,22 +12,22 @@ returns-in-Ok-clause-leads c =
     let text = ended c.args.lines.0.now ++ ended c.args.lines.1.now in
     let counts = c.args.start.counts in
     let checked = subst IsChecked kept (subst IsChecked c.checked.view_is c.checked.invariant) in
-    pending_leads (λ output. OfBegun c.args.spec text (c.args.bundle, counts) (Ok output)) _
-    (record { limits = c.requires.spec; start = subst (λ (m : CheckedModel). IsStart m.net c.args.start) (sym kept) c.requires.start })
+    pending_leads (λ output. OfBegun c.args.kind c.args.spec text (c.args.bundle, counts) (Ok output)) _
+    (record { limits = c.requires.spec; workers = c.requires.workers; start = subst (λ (m : CheckedModel). IsStart m.net c.args.start) (sym kept) c.requires.start })
     (λ output is. (
       None,
       output,
       (c.in-Ok.ensures.valid, checked),
-      subst (λ (m : CheckedModel). IsRunOutput c.args.spec text m.net m.pred counts output) kept (rw c.in_ok-lines-in-Ok.ensures at is),
+      subst (λ (m : CheckedModel). IsRunOutput c.args.kind c.args.spec text m.net m.pred counts output) kept (rw c.in_ok-lines-in-Ok.ensures at is),
       refl,
     ))
     c.pending.result c.pending.ensures
 
 pub returns-in-Ok-clause-plain : goal.returns-in-Ok-clause-plain
-returns-in-Ok-clause-plain c = λ one. pending_plain _ c.pending.result c.pending.ensures one
+returns-in-Ok-clause-plain c = λ whole one. pending_plain _ c.pending.result c.pending.ensures whole one
 
 pub returns-in-Err-Rejected-clause-leads : goal.returns-in-Err-Rejected-clause-leads
 returns-in-Err-Rejected-clause-leads c =
     let output = c.in_ok-of_rejection-in-Err-Rejected.field-0 in
-    text_leads (λ o. OfBegun c.args.spec (ended c.args.lines.0.now ++ ended c.args.lines.1.now) (c.args.bundle, c.args.start.counts) (Ok o)) output
+    text_leads (λ o. OfBegun c.args.kind c.args.spec (ended c.args.lines.0.now ++ ended c.args.lines.1.now) (c.args.bundle, c.args.start.counts) (Ok o)) output
     (Some c.in-Err-Rejected.rejected, output, rw c.in-Err-Rejected.field-0-is at c.in-Err-Rejected.ensures.fault, rw c.in-Err-Rejected.rejected-is at c.in_ok-of_rejection-in-Err-Rejected.ensures, refl)

@@ -3,6 +3,7 @@ use Rattle.pres_ast.specs.PredicateValue.{predicate_value}
 use Rattle.pop_net.specs.NetModel.{NetModel, CrowdModel}
 use Rattle.pop_net.specs.Lanes.{crowd_of}
 use Rattle.pop_crowd.specs.declared.crowd.Meeting.{Meeting}
+use Rattle.pop_words.specs.declared.kind.RunKind.{RunKind}
 use Rattle.pop_words.specs.declared.spec.RunSpec.{RunSpec}
 use Rattle.pair_workers.specs.declared.alone.End.{End}
 use Rattle.pop_journal.specs.Journal.{journal_text}
@@ -10,14 +11,20 @@ use Rattle.pop_journal.specs.declared.last.Last.{Last}
 use Rattle.tool_texts.specs.declared.output.Ending.{Ending}
 use Rattle.tool_texts.specs.declared.output.Output.{Output}
 use Rattle.tool_commands.specs.Run.{open_pair, journal_end, run_ending}
-use Rattle.tool_commands.proofs.Ends.{run_last}
+use Rattle.tool_commands.proofs.Ran.{run_reaches}
 use Rattle.tool_commands.proofs.run.run_output.Goals as goal
 
 -- the text that was put together
-joined : (net : NetModel) (spec : RunSpec) (rounds : List (List Meeting)) (crowd : CrowdModel) (end : End) (truth : Bool) (lines whole start journal : List ℕ) (last : Last × Ending)
-    → last ≡ (journal_end truth (open_pair end), run_ending (open_pair end)) → journal ≡ journal_text net spec rounds crowd last.0 → start ≡ lines → whole ≡ start ++ journal
-    → whole ≡ lines ++ journal_text net spec rounds crowd (journal_end truth (open_pair end))
-joined net spec rounds crowd end truth lines whole start journal last is text begins all = rw (all, begins, text, is) refl
+joined : (kind : RunKind) (net : NetModel) (spec : RunSpec) (rounds : List (List Meeting)) (crowd : CrowdModel) (end : End) (truth : Bool) (lines whole start journal : List ℕ) (last : Last × Ending)
+    → last ≡ (journal_end truth (open_pair end), run_ending (open_pair end)) → journal ≡ journal_text kind net spec rounds crowd last.0 → start ≡ lines → whole ≡ start ++ journal
+    → whole ≡ lines ++ journal_text kind net spec rounds crowd (journal_end truth (open_pair end))
+joined kind net spec rounds crowd end truth lines whole start journal last is text begins all = rw (all, begins, text, is) refl
+
+pub last_and_ending-last-requires-clause-reached : goal.last_and_ending-last-requires-clause-reached
+last_and_ending-last-requires-clause-reached c =
+    let net = c.args.checked.now.net in
+    let run = c.args.run.now in
+    run_reaches net c.args.counts.now c.requires.input.two_agents c.args.kind c.args.spec.now run.rounds (crowd_of net run.crowd) c.requires.run
 
 pub returns : goal.returns
 returns c =
@@ -29,8 +36,8 @@ returns c =
       end = crowd_of net run.crowd;
       run = c.requires.run;
       pair = open_pair run.end;
-      last = run_last net (crowd_of net run.crowd) c.args.spec.now _ run.end c.requires.end;
-      text = ap (λ (o : Output). o.text) c.new.ensures ∙ joined net c.args.spec.now run.rounds (crowd_of net run.crowd) run.end (predicate_value c.args.checked.now.pred.tree c.args.counts.now) c.args.lines c.extend_from_slice.new.self.items _ c.in_ok-journal.journal c.last_and_ending-last.result last
+      last = c.requires.last;
+      text = ap (λ (o : Output). o.text) c.new.ensures ∙ joined c.args.kind net c.args.spec.now run.rounds (crowd_of net run.crowd) run.end (predicate_value c.args.checked.now.pred.tree c.args.counts.now) c.args.lines c.extend_from_slice.new.self.items _ c.in_ok-journal.journal c.last_and_ending-last.result last
           (rw c.net.ensures at c.in_ok-journal.ensures) c.into_vec-text.ensures (rw c.as_slice.ensures at c.in_ok-extend_from_slice.ensures.items);
       ending = ap (λ (o : Output). o.ending) c.new.ensures ∙ ap (λ (l : Last × Ending). l.1) last;
     }
