@@ -5,10 +5,12 @@ use Rattle.std.specs.Io.KnownBytes.{Appends}
 use Rattle.std.proofs.lemmas.List.{append_cancel_left}
 use Rattle.pop_lines.specs.Lines.{ended}
 use Rattle.pop_words.specs.declared.command.Command.{Command}
-use Rattle.pop_words.specs.declared.command.Command.TheVariants.{Check, Run, Replay, Settle, Compile, Flocks}
+use Rattle.pop_words.specs.declared.command.Command.TheVariants.{Check, Settle, Compile, Flocks}
+use Rattle.pop_words.specs.declared.kind.RunKind.{RunKind}
+use Rattle.pop_words.specs.declared.kind.RunKind.TheVariants.{Whole, Watched}
 use Rattle.pop_words.specs.declared.command.Usage.{Usage as BadWord}
 use Rattle.pop_words.specs.declared.spec.RunSpec.{RunSpec}
-use Rattle.pop_words.specs.Words.{meaning_of}
+use Rattle.pop_words.specs.Words.{meaning_of, run_command, replay_command}
 use Rattle.cert_json.specs.declared.bundle.Bundle.{Bundle}
 use Rattle.tool_texts.specs.declared.refusal.Refusal.{Refusal}
 use Rattle.tool_texts.specs.declared.output.Output.{Output}
@@ -44,17 +46,18 @@ module _ (words : List (List ℕ)) (input : List ℕ) (output : Output) (answer 
       let a = given_for Check is in
       check_only k input a.0 a.1 (subst (λ (o : Output). o.text ≡ ended (certified_text k)) a.2 printed)
 
-  run_headline : (spec : RunSpec) → meaning_of words ≡ Ok (Run spec) → WasRun (status_of output.ending) → RunSays spec input output.text
-  run_headline spec is ran =
-      let a = given_for (Run spec) is in
-      subst (λ (o : Output). RunSays spec input o.text) (sym a.2) (run_says spec input a.0 a.1 (subst (λ (o : Output). WasRun (status_of o.ending)) a.2 ran))
+  run_headline : (kind : RunKind) (spec : RunSpec) → meaning_of words ≡ Ok (run_command kind spec) → WasRun (status_of output.ending) → RunSays kind spec input output.text
+  run_headline kind spec is ran =
+      let a = given_for (run_command kind spec) is in
+      subst (λ (o : Output). RunSays kind spec input o.text) (sym a.2) (run_says kind spec input a.0 a.1 (subst (λ (o : Output). WasRun (status_of o.ending)) a.2 ran))
 
-  replay_headline : meaning_of words ≡ Ok Replay → (k : ℕ) → k < 2 ^ 64 → ((output.text ≡ ended (holds_text k)) × (status_of output.ending ≡ Done)) ↔ IsHeldInput input k
-  replay_headline is k small =
-      let a = given_for Replay is in (
-        λ printed. replay_only k small input a.0 a.1 (subst (λ (o : Output). o.text ≡ ended (holds_text k)) a.2 printed.0),
+  replay_headline : (kind : RunKind) → meaning_of words ≡ Ok (replay_command kind) → (k : ℕ) → k < 2 ^ 64
+      → ((output.text ≡ ended (holds_text k)) × (status_of output.ending ≡ Done)) ↔ IsHeldInput kind input k
+  replay_headline kind is k small =
+      let a = given_for (replay_command kind) is in (
+        λ printed. replay_only k small kind input a.0 a.1 (subst (λ (o : Output). o.text ≡ ended (holds_text k)) a.2 printed.0),
         λ held.
-            let out : output ≡ holds_output k = a.2 ∙ ap output_for (held_given input k held a.0 a.1) in
+            let out : output ≡ holds_output k = a.2 ∙ ap output_for (held_given kind input k held a.0 a.1) in
             (ap (λ (o : Output). o.text) out, ap (λ (o : Output). status_of o.ending) out),
       )
 
@@ -74,7 +77,18 @@ module _ (words : List (List ℕ)) (input : List ℕ) (output : Output) (answer 
       subst (λ (o : Output). SettleSays input o.text) (sym a.2) (settle_says input a.0 a.1 (subst (λ (o : Output). status_of o.ending ≡ Done) a.2 done))
 
   answer_says : Headline words input output.text (status_of output.ending)
-  answer_says = record { check = check_headline; only = only_headline; run = run_headline; compile = compile_headline; flocks = flocks_headline; settle = settle_headline; replay = replay_headline }
+  answer_says =
+      record {
+        check = check_headline;
+        only = only_headline;
+        run = run_headline Whole;
+        watch = run_headline Watched;
+        compile = compile_headline;
+        flocks = flocks_headline;
+        settle = settle_headline;
+        replay = replay_headline Whole;
+        replay_watched = replay_headline Watched;
+      }
 
 -- a text that answers what was left, and that the sink took
 module _ (words : List (List ℕ)) (left old new : Option (List ℕ)) (input before text : List ℕ) (left_is : left ≡ Some input) (old_is : old ≡ Some before) (new_is : new ≡ Some (before ++ text)) where

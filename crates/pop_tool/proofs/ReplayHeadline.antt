@@ -10,12 +10,14 @@ use Rattle.pop_net.specs.NetModel.{NetModel, CrowdModel}
 use Rattle.pop_net.specs.InputCrowd.{input_crowd}
 use Rattle.pop_net.proofs.Tuples.{input_tuples}
 use Rattle.pop_crowd.specs.declared.limits.TheConstants.{AGENT_LEAST, AGENT_LIMIT}
-use Rattle.pop_words.specs.declared.command.Command.TheVariants.{Replay}
+use Rattle.pop_words.specs.declared.kind.RunKind.{RunKind}
+use Rattle.pop_words.specs.declared.kind.RunKind.TheVariants.{Whole, Watched}
+use Rattle.pop_words.specs.Words.{replay_command}
 use Rattle.pop_words.specs.declared.spec.RunSpec.{RunSpec}
 use Rattle.pop_words.specs.Options.{IsWithinLimits}
 use Rattle.pair_workers.specs.Run.{joined}
 use Rattle.pop_journal.specs.declared.journal.Journal.{Journal}
-use Rattle.pop_journal.specs.Rounds.{AreRounds}
+use Rattle.pop_journal.specs.Rounds.{AreRoundsOf}
 use Rattle.pop_journal.specs.Form.{Parts, Out, journal_in}
 use Rattle.pop_journal.specs.Expected.{Difference, first_difference, journal_compared, Holds}
 use Rattle.pop_journal.proofs.Written.{journal_form, few_meetings}
@@ -88,7 +90,7 @@ abbrev Printed : Result Output Refusal → ℕ → Type 0
 Printed given k = (output_for given).text ≡ ended (holds_text k)
 
 -- how a bundle and its counts begin
-module _ (first second : List ℕ) (bundle : Bundle) (counts : List ℕ) (begins : IsBegunBy first second (Ok (bundle, counts))) where
+module _ (kind : RunKind) (first second : List ℕ) (bundle : Bundle) (counts : List ℕ) (begins : IsBegunBy first second (Ok (bundle, counts))) where
   abbrev start : CrowdModel
   start = input_crowd bundle.net counts
 
@@ -102,27 +104,28 @@ module _ (first second : List ℕ) (bundle : Bundle) (counts : List ℕ) (begins
       let l = begun_few begins.0 second bundle counts (sym begins.2) in
       let e = length-input_crowd bundle.net counts in omega (arith, l, e)
 
-  read_ok : (r : Result (RunSpec × Parts) Out) (journal : Journal) → journal_read r ≡ Ok journal → (r ≡ Ok (journal.spec, (journal.rounds, journal.tail))) × (journal.first ≡ JOURNAL_LINE)
+  read_ok : (r : Result (RunSpec × Parts) Out) (journal : Journal) → journal_read kind r ≡ Ok journal → (r ≡ Ok (journal.spec, (journal.rounds, journal.tail))) × (kind ≡ journal.kind)
   read_ok (Ok (spec, parts)) journal e =
-      let made : Journal = record { spec = spec; rounds = parts.0; tail = parts.1; first = JOURNAL_LINE } in
+      let made : Journal = record { kind = kind; spec = spec; rounds = parts.0; tail = parts.1; first = JOURNAL_LINE } in
       let same : made ≡ journal = (let ok : ◌≡◌ {A = Result Journal Refusal} (Ok made) (Ok journal) = e in cc) in
-      (ap (λ (j : Journal). Ok (j.spec, (j.rounds, j.tail))) same, sym (ap (λ (j : Journal). j.first) same))
+      (ap (λ (j : Journal). Ok (j.spec, (j.rounds, j.tail))) same, ap (λ (j : Journal). j.kind) same)
   read_ok (Err out) journal e = absurd cc
 
-  module _ (more : List (List ℕ)) (journal : Journal) (read : journal_read (journal_in (length start) JOURNAL_LINE more) ≡ Ok journal) where
-    formed : IsWithinLimits journal.spec × AreRounds journal.spec (length start) journal.rounds
+  module _ (more : List (List ℕ)) (journal : Journal) (read : journal_read kind (journal_in kind (length start) JOURNAL_LINE more) ≡ Ok journal) where
+    formed : IsWithinLimits journal.spec × AreRoundsOf journal.kind journal.spec (length start) journal.rounds
     formed =
-        let form = journal_form (length start) JOURNAL_LINE more journal.spec (journal.rounds, journal.tail) (omega (arith, few)) (read_ok (journal_in (length start) JOURNAL_LINE more) journal read).0 in
-        (form.1, form.2)
+        let is = read_ok (journal_in kind (length start) JOURNAL_LINE more) journal read in
+        let form = journal_form kind (length start) JOURNAL_LINE more journal.spec (journal.rounds, journal.tail) (omega (arith, few)) is.0 in
+        (form.1, subst (λ (k : RunKind). AreRoundsOf k journal.spec (length start) journal.rounds) is.1 form.2)
 
     none_differs : Holds bundle.net start journal → first_difference (journal.first + 1) (journal_compared bundle.net start journal) ≡ None
-    none_differs = held_none bundle.net start journal two few formed.0.workers.1 (input_tuples bundle.net counts) formed.1
+    none_differs = held_none bundle.net start journal two few formed.0.workers (input_tuples bundle.net counts) formed.1
 
     none_is_held : first_difference (journal.first + 1) (journal_compared bundle.net start journal) ≡ None → Holds bundle.net start journal
-    none_is_held = none_held bundle.net start journal two few formed.0.workers.1 (input_tuples bundle.net counts) formed.1
+    none_is_held = none_held bundle.net start journal two few formed.0.workers (input_tuples bundle.net counts) formed.1
 
     -- a journal that holds is said to hold
-    pub held_output : Holds bundle.net start journal → replay_output bundle.net start more ≡ Ok (holds_output (length (joined journal.rounds)))
+    pub held_output : Holds bundle.net start journal → replay_output kind bundle.net start more ≡ Ok (holds_output (length (joined journal.rounds)))
     held_output holds =
         ap (λ (r : Result Journal Refusal). r >>= λ j. Ok (journal_output bundle.net start j)) read
         ∙ ap (λ (d : Option Difference). Ok (compared_output (length (joined journal.rounds)) d)) (none_differs holds)
@@ -130,49 +133,54 @@ module _ (first second : List ℕ) (bundle : Bundle) (counts : List ℕ) (begins
     compared_held : (k : ℕ) → k < 2 ^ 64 → (found : Option Difference) → first_difference (journal.first + 1) (journal_compared bundle.net start journal) ≡ found
         → (compared_output (length (joined journal.rounds)) found).text ≡ ended (holds_text k) → Holds bundle.net start journal × (length (joined journal.rounds) ≡ k)
     compared_held k small None is printed =
-        (none_is_held is, one_number (length (joined journal.rounds)) k (few_meetings journal.spec (length start) journal.rounds formed.0 formed.1) small printed)
+        (none_is_held is, one_number (length (joined journal.rounds)) k (few_meetings journal.kind journal.spec (length start) journal.rounds formed.0 formed.1) small printed)
     compared_held k small (Some difference) is printed = absurd (not_difference difference k printed)
 
     -- and no other one
     pub output_held : (k : ℕ) → k < 2 ^ 64 → (journal_output bundle.net start journal).text ≡ ended (holds_text k) → Holds bundle.net start journal × (length (joined journal.rounds) ≡ k)
     output_held k small printed = compared_held k small (first_difference (journal.first + 1) (journal_compared bundle.net start journal)) refl printed
 
-short_lines : (input : List ℕ) (given : Result Output Refusal) → length input ≤ INPUT_LIMIT → InputGives Replay input given → ReplayGives (lines_of input) given
-short_lines input given short is = rw (le-ltb INPUT_LIMIT (length input) short) at is
+replay_given : (kind : RunKind) (input : List ℕ) (given : Result Output Refusal) → InputGives (replay_command kind) input given
+    → MatchBool (nat_lt INPUT_LIMIT (length input)) (given ≡ Err TooLong) (ReplayGives kind (lines_of input) given)
+replay_given Whole input given is = is
+replay_given Watched input given is = is
+
+short_lines : (kind : RunKind) (input : List ℕ) (given : Result Output Refusal) → length input ≤ INPUT_LIMIT → InputGives (replay_command kind) input given → ReplayGives kind (lines_of input) given
+short_lines kind input given short is = rw (le-ltb INPUT_LIMIT (length input) short) at (replay_given kind input given is)
 
 -- there is a journal only where there is a line
-some_more : (agents : ℕ) (first second : List ℕ) (more : List (List ℕ)) (journal : Journal) (given : Result Output Refusal) → journal_read (journal_in agents JOURNAL_LINE more) ≡ Ok journal
-    → After (two_and_some (first ∷ second ∷ more)) OfLines given → OfLines (first, second, more) given
-some_more agents first second [] journal given read of = absurd cc
-some_more agents first second (third ∷ more) journal given read of = of
+some_more : (kind : RunKind) (agents : ℕ) (first second : List ℕ) (more : List (List ℕ)) (journal : Journal) (given : Result Output Refusal) → journal_read kind (journal_in kind agents JOURNAL_LINE more) ≡ Ok journal
+    → After (two_and_some (first ∷ second ∷ more)) (OfLines kind) given → OfLines kind (first, second, more) given
+some_more kind agents first second [] journal given read of = absurd cc
+some_more kind agents first second (third ∷ more) journal given read of = of
 
-judged_given : (bundle : Bundle) (counts : List ℕ) (lines : List (List ℕ)) (judged : Option Rejected) → IsJudged bundle judged → IsValid bundle → judged_output bundle counts lines judged ≡ replay_output bundle.net (input_crowd bundle.net counts) lines
-judged_given bundle counts lines None is valid = refl
-judged_given bundle counts lines (Some rejected) is valid = absurd (none_rejected bundle.net bundle.pred bundle.proof rejected valid is)
+judged_given : (kind : RunKind) (bundle : Bundle) (counts : List ℕ) (lines : List (List ℕ)) (judged : Option Rejected) → IsJudged bundle judged → IsValid bundle → judged_output kind bundle counts lines judged ≡ replay_output kind bundle.net (input_crowd bundle.net counts) lines
+judged_given kind bundle counts lines None is valid = refl
+judged_given kind bundle counts lines (Some rejected) is valid = absurd (none_rejected bundle.net bundle.pred bundle.proof rejected valid is)
 
 -- a journal that holds is answered by `holds`
-pub held_given : (input : List ℕ) (k : ℕ) → IsHeldInput input k → (given : Result Output Refusal) → InputGives Replay input given → given ≡ Ok (holds_output k)
-held_given input k held given is =
+pub held_given : (kind : RunKind) (input : List ℕ) (k : ℕ) → IsHeldInput kind input k → (given : Result Output Refusal) → InputGives (replay_command kind) input given → given ≡ Ok (holds_output k)
+held_given kind input k held given is =
     let start = input_crowd held.bundle.net held.counts in
-    let lines : After (two_and_some (held.first ∷ held.second ∷ held.more)) OfLines given = subst (λ (ls : List (List ℕ)). After (two_and_some ls) OfLines given) held.lines (short_lines input given held.short is) in
-    let of = some_more (length start) held.first held.second held.more held.journal given held.read lines in
+    let lines : After (two_and_some (held.first ∷ held.second ∷ held.more)) (OfLines kind) given = subst (λ (ls : List (List ℕ)). After (two_and_some ls) (OfLines kind) given) held.lines (short_lines kind input given held.short is) in
+    let of = some_more kind (length start) held.first held.second held.more held.journal given held.read lines in
     let begins = input_begins held.first held.second held.bundle held.counts held.begins in
     let begin = one_begin held.first held.second of.0 (Ok (held.bundle, held.counts)) of.1 begins in
-    let begun : OfBegun held.more (held.bundle, held.counts) given = subst (λ (r : Result (Bundle × List ℕ) Refusal). After r (OfBegun held.more) given) begin of.2 in
-    begun.2 ∙ judged_given held.bundle held.counts held.more begun.0 begun.1 held.valid
-    ∙ held_output held.first held.second held.bundle held.counts begins held.more held.journal held.read held.holds
+    let begun : OfBegun kind held.more (held.bundle, held.counts) given = subst (λ (r : Result (Bundle × List ℕ) Refusal). After r (OfBegun kind held.more) given) begin of.2 in
+    begun.2 ∙ judged_given kind held.bundle held.counts held.more begun.0 begun.1 held.valid
+    ∙ held_output kind held.first held.second held.bundle held.counts begins held.more held.journal held.read held.holds
     ∙ ap (λ (n : ℕ). Ok (holds_output n)) held.all
 
 module _ (k : ℕ) (small : k < 2 ^ 64) where
   refused : (refusal : Refusal) (given : Result Output Refusal) → given ≡ Err refusal → Printed given k → ⊥
   refused refusal given is printed = not_refusal refusal k (subst (λ (g : Result Output Refusal). Printed g k) is printed)
 
-  module _ (input first second : List ℕ) (more : List (List ℕ)) (short : length input ≤ INPUT_LIMIT) (lines : lines_of input ≡ first ∷ second ∷ more) where
-    read_only : (bundle : Bundle) (counts : List ℕ) → IsBegunBy first second (Ok (bundle, counts)) → IsValid bundle → (r : Result Journal Refusal) → journal_read (journal_in (length (input_crowd bundle.net counts)) JOURNAL_LINE more) ≡ r
-        → Printed (r >>= λ journal. Ok (journal_output bundle.net (input_crowd bundle.net counts) journal)) k → IsHeldInput input k
+  module _ (kind : RunKind) (input first second : List ℕ) (more : List (List ℕ)) (short : length input ≤ INPUT_LIMIT) (lines : lines_of input ≡ first ∷ second ∷ more) where
+    read_only : (bundle : Bundle) (counts : List ℕ) → IsBegunBy first second (Ok (bundle, counts)) → IsValid bundle → (r : Result Journal Refusal) → journal_read kind (journal_in kind (length (input_crowd bundle.net counts)) JOURNAL_LINE more) ≡ r
+        → Printed (r >>= λ journal. Ok (journal_output bundle.net (input_crowd bundle.net counts) journal)) k → IsHeldInput kind input k
     read_only bundle counts begins valid (Err refusal) read printed = absurd (not_refusal refusal k printed)
     read_only bundle counts begins valid (Ok journal) read printed =
-        let held = output_held first second bundle counts begins more journal read k small printed in
+        let held = output_held kind first second bundle counts begins more journal read k small printed in
         record {
           short = short;
           first = first;
@@ -189,27 +197,27 @@ module _ (k : ℕ) (small : k < 2 ^ 64) where
           all = held.1;
         }
 
-    judged_only : (bundle : Bundle) (counts : List ℕ) → IsBegunBy first second (Ok (bundle, counts)) → (judged : Option Rejected) → IsJudged bundle judged → Printed (judged_output bundle counts more judged) k → IsHeldInput input k
+    judged_only : (bundle : Bundle) (counts : List ℕ) → IsBegunBy first second (Ok (bundle, counts)) → (judged : Option Rejected) → IsJudged bundle judged → Printed (judged_output kind bundle counts more judged) k → IsHeldInput kind input k
     judged_only bundle counts begins None is printed =
-        read_only bundle counts begins is.0 (journal_read (journal_in (length (input_crowd bundle.net counts)) JOURNAL_LINE more)) refl printed
+        read_only bundle counts begins is.0 (journal_read kind (journal_in kind (length (input_crowd bundle.net counts)) JOURNAL_LINE more)) refl printed
     judged_only bundle counts begins (Some rejected) is printed = absurd (not_rejection rejected k printed)
 
-    begun_only : (r : Result (Bundle × List ℕ) Refusal) → IsBegunBy first second r → (given : Result Output Refusal) → After r (OfBegun more) given → Printed given k → IsHeldInput input k
+    begun_only : (r : Result (Bundle × List ℕ) Refusal) → IsBegunBy first second r → (given : Result Output Refusal) → After r (OfBegun kind more) given → Printed given k → IsHeldInput kind input k
     begun_only (Err refusal) begins given of printed = absurd (refused refusal given of printed)
     begun_only (Ok begin) begins given of printed =
         judged_only begin.0 begin.1 begins of.0 of.1 (subst (λ (g : Result Output Refusal). Printed g k) of.2 printed)
 
-  lines_only : (input : List ℕ) (lines : List (List ℕ)) → length input ≤ INPUT_LIMIT → lines_of input ≡ lines → (given : Result Output Refusal) → ReplayGives lines given → Printed given k → IsHeldInput input k
-  lines_only input [] short is given of printed = absurd (refused _ given of printed)
-  lines_only input (first ∷ []) short is given of printed = absurd (refused _ given of printed)
-  lines_only input (first ∷ second ∷ []) short is given of printed = absurd (refused _ given of printed)
-  lines_only input (first ∷ second ∷ third ∷ more) short is given of printed =
-      begun_only input first second (third ∷ more) short is of.0 of.1 given of.2 printed
+  lines_only : (kind : RunKind) (input : List ℕ) (lines : List (List ℕ)) → length input ≤ INPUT_LIMIT → lines_of input ≡ lines → (given : Result Output Refusal) → ReplayGives kind lines given → Printed given k → IsHeldInput kind input k
+  lines_only kind input [] short is given of printed = absurd (refused _ given of printed)
+  lines_only kind input (first ∷ []) short is given of printed = absurd (refused _ given of printed)
+  lines_only kind input (first ∷ second ∷ []) short is given of printed = absurd (refused _ given of printed)
+  lines_only kind input (first ∷ second ∷ third ∷ more) short is given of printed =
+      begun_only kind input first second (third ∷ more) short is of.0 of.1 given of.2 printed
 
-  by_length : (input : List ℕ) (long : Bool) → nat_lt INPUT_LIMIT (length input) ≡ long → (given : Result Output Refusal) → MatchBool long (given ≡ Err TooLong) (ReplayGives (lines_of input) given) → Printed given k → IsHeldInput input k
-  by_length input true is given of printed = absurd (refused TooLong given of printed)
-  by_length input false is given of printed = lines_only input (lines_of input) (ltb-false INPUT_LIMIT (length input) is) refl given of printed
+  by_length : (kind : RunKind) (input : List ℕ) (long : Bool) → nat_lt INPUT_LIMIT (length input) ≡ long → (given : Result Output Refusal) → MatchBool long (given ≡ Err TooLong) (ReplayGives kind (lines_of input) given) → Printed given k → IsHeldInput kind input k
+  by_length kind input true is given of printed = absurd (refused TooLong given of printed)
+  by_length kind input false is given of printed = lines_only kind input (lines_of input) (ltb-false INPUT_LIMIT (length input) is) refl given of printed
 
   -- `holds` is given for a journal that holds alone
-  pub replay_only : (input : List ℕ) (given : Result Output Refusal) → InputGives Replay input given → Printed given k → IsHeldInput input k
-  replay_only input given is printed = by_length input (nat_lt INPUT_LIMIT (length input)) refl given is printed
+  pub replay_only : (kind : RunKind) (input : List ℕ) (given : Result Output Refusal) → InputGives (replay_command kind) input given → Printed given k → IsHeldInput kind input k
+  replay_only kind input given is printed = by_length kind input (nat_lt INPUT_LIMIT (length input)) refl given (replay_given kind input given is) printed

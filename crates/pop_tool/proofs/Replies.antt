@@ -7,7 +7,7 @@ use Rattle.pop_io.specs.Causes.{HasRisen}
 use Rattle.pop_io.specs.declared.whole.TheConstants.{INPUT_LIMIT}
 use Rattle.pop_lines.specs.Lines.{lines_of}
 use Rattle.pop_words.specs.declared.command.Command.{Command}
-use Rattle.pop_words.specs.declared.command.Command.TheVariants.{Play, Eval, Check, Run, Replay, Settle, Compile, Flocks, Demo}
+use Rattle.pop_words.specs.declared.command.Command.TheVariants.{Play, Eval, Check, Run, Watch, Replay, ReplayWatched, Settle, Compile, Flocks, Demo}
 use Rattle.pop_words.specs.declared.command.Usage.{Usage}
 use Rattle.pop_words.specs.Words.{meaning_of}
 use Rattle.tool_texts.specs.declared.refusal.Refusal.{Refusal}
@@ -52,7 +52,9 @@ unread_given Play unread lines others given is = absurd cc
 unread_given Eval unread lines others given is = absurd cc
 unread_given Check unread lines others given is = absurd cc
 unread_given (Run spec) unread lines others given is = absurd cc
+unread_given (Watch spec) unread lines others given is = absurd cc
 unread_given Replay unread lines others given is = absurd cc
+unread_given ReplayWatched unread lines others given is = absurd cc
 unread_given Settle unread lines others given is = absurd cc
 unread_given Compile unread lines others given is = absurd cc
 unread_given Flocks unread lines others given is = absurd cc

@@ -1,4 +1,4 @@
--- What a printed text of `run` says of a bundle.
+-- What a printed text of `run` or `watch` says of a bundle.
 use Rattle.std.proofs.Common.{◌≡◌, inl, inr, ℕ, Bool, true, false, nat_lt, List, [], ◌∷◌, ◌++◌, length, Option, Some, None, Result, Ok, Err, refl, sym, ap, subst}
 use Rattle.std.specs.Prelude.{All, MatchBool}
 use Rattle.pop_io.specs.declared.whole.TheConstants.{INPUT_LIMIT}
@@ -8,7 +8,9 @@ use Rattle.pop_net.specs.NetModel.{NetModel, CrowdModel, IsTuple}
 use Rattle.pop_net.specs.Step.{Step}
 use Rattle.pop_net.specs.Terminal.{IsTerminal}
 use Rattle.terminal_test.proofs.Ends.{not_terminal}
-use Rattle.pop_words.specs.declared.command.Command.TheVariants.{Run}
+use Rattle.pop_words.specs.declared.kind.RunKind.{RunKind}
+use Rattle.pop_words.specs.declared.kind.RunKind.TheVariants.{Whole, Watched}
+use Rattle.pop_words.specs.Words.{run_command}
 use Rattle.pop_words.specs.declared.spec.RunSpec.{RunSpec}
 use Rattle.pop_journal.specs.declared.last.Last.TheVariants.{Verdict}
 use Rattle.cert_json.specs.declared.bundle.Bundle.{Bundle}
@@ -61,8 +63,14 @@ Ran given = WasRun (status_of (output_for given).ending)
 refused : (refusal : Refusal) (given : Result Output Refusal) → given ≡ Err refusal → Ran given → ⊥
 refused refusal given is ran = not_refused (subst Ran is ran)
 
+-- what is given for an input to the command that makes a run of this kind
+run_given : (kind : RunKind) (spec : RunSpec) (input : List ℕ) (given : Result Output Refusal) → InputGives (run_command kind spec) input given
+    → MatchBool (nat_lt INPUT_LIMIT (length input)) (given ≡ Err TooLong) (RunGives kind spec (lines_of input) given)
+run_given Whole spec input given of = of
+run_given Watched spec input given of = of
+
 -- a run that was made: its bundle, whose proof is valid, its counts, and its output
-pub record IsMade (spec : RunSpec) (input : List ℕ) (output : Output) : Type 0 where
+pub record IsMade (kind : RunKind) (spec : RunSpec) (input : List ℕ) (output : Output) : Type 0 where
   pub first : List ℕ
   pub second : List ℕ
   pub lines : lines_of input ≡ first ∷ second ∷ []
@@ -70,39 +78,39 @@ pub record IsMade (spec : RunSpec) (input : List ℕ) (output : Output) : Type 0
   pub counts : List ℕ
   pub begins : IsBegunBy first second (Ok (bundle, counts))
   pub judged : IsJudged bundle None
-  pub is : IsRunOutput spec (ended first ++ ended second) bundle.net bundle.pred counts output
+  pub is : IsRunOutput kind spec (ended first ++ ended second) bundle.net bundle.pred counts output
 
-module _ (spec : RunSpec) (input : List ℕ) where
+module _ (kind : RunKind) (spec : RunSpec) (input : List ℕ) where
   module _ (first second : List ℕ) (lines : lines_of input ≡ first ∷ second ∷ []) where
     judged_made : (bundle : Bundle) (counts : List ℕ) → IsBegunBy first second (Ok (bundle, counts)) → (judged : Option Rejected) → IsJudged bundle judged → (output : Output)
-        → OfJudged spec (ended first ++ ended second) bundle counts judged output → WasRun (status_of output.ending) → IsMade spec input output
+        → OfJudged kind spec (ended first ++ ended second) bundle counts judged output → WasRun (status_of output.ending) → IsMade kind spec input output
     judged_made bundle counts begins None is output of ran =
         record { first = first; second = second; lines = lines; bundle = bundle; counts = counts; begins = begins; judged = is; is = of }
     judged_made bundle counts begins (Some rejected) is output of ran =
         absurd (not_rejected (status_of output.ending) (ap (λ (o : Output). status_of o.ending) of) ran)
 
-    begun_made : (r : Result (Bundle × List ℕ) Refusal) → IsBegunBy first second r → (given : Result Output Refusal) → After r (OfBegun spec (ended first ++ ended second)) given → Ran given → IsMade spec input (output_for given)
+    begun_made : (r : Result (Bundle × List ℕ) Refusal) → IsBegunBy first second r → (given : Result Output Refusal) → After r (OfBegun kind spec (ended first ++ ended second)) given → Ran given → IsMade kind spec input (output_for given)
     begun_made (Err refusal) begins given of ran = absurd (refused refusal given of ran)
     begun_made (Ok begin) begins given of ran =
-        subst (λ (g : Result Output Refusal). IsMade spec input (output_for g)) (sym of.4)
+        subst (λ (g : Result Output Refusal). IsMade kind spec input (output_for g)) (sym of.4)
         (judged_made begin.0 begin.1 begins of.0 of.2 of.1 of.3 (subst Ran of.4 ran))
 
-  lines_made : (r : Result (List ℕ × List ℕ) Refusal) → just_two (lines_of input) ≡ r → (given : Result Output Refusal) → After r (OfLines spec) given → Ran given → IsMade spec input (output_for given)
+  lines_made : (r : Result (List ℕ × List ℕ) Refusal) → just_two (lines_of input) ≡ r → (given : Result Output Refusal) → After r (OfLines kind spec) given → Ran given → IsMade kind spec input (output_for given)
   lines_made (Err refusal) is given of ran = absurd (refused refusal given of ran)
   lines_made (Ok found) is given of ran =
       begun_made found.0 found.1 (two_lines (lines_of input) found is) of.0 of.1 given of.2 ran
 
-  by_length : (long : Bool) (given : Result Output Refusal) → MatchBool long (given ≡ Err TooLong) (RunGives spec (lines_of input) given) → Ran given → IsMade spec input (output_for given)
+  by_length : (long : Bool) (given : Result Output Refusal) → MatchBool long (given ≡ Err TooLong) (RunGives kind spec (lines_of input) given) → Ran given → IsMade kind spec input (output_for given)
   by_length true given of ran = absurd (refused TooLong given of ran)
   by_length false given of ran = lines_made (just_two (lines_of input)) refl given of ran
 
-  pub run_made : (given : Result Output Refusal) → InputGives (Run spec) input given → Ran given → IsMade spec input (output_for given)
-  run_made given of ran = by_length (nat_lt INPUT_LIMIT (length input)) given of ran
+  pub run_made : (given : Result Output Refusal) → InputGives (run_command kind spec) input given → Ran given → IsMade kind spec input (output_for given)
+  run_made given of ran = by_length (nat_lt INPUT_LIMIT (length input)) given (run_given kind spec input given of) ran
 
-  made_says : (output : Output) → IsMade spec input output → RunSays spec input output.text
+  made_says : (output : Output) → IsMade kind spec input output → RunSays kind spec input output.text
   made_says output made =
       let net = made.bundle.net in
-      let tuples = run_tuples net made.counts (begun_two made.begins.0 made.second made.bundle made.counts (sym made.begins.2)) spec made.is.rounds made.is.end made.is.run in
+      let tuples = run_tuples net made.counts (begun_two made.begins.0 made.second made.bundle made.counts (sym made.begins.2)) kind spec made.is.rounds made.is.end made.is.run in
       let truth = predicate_value made.bundle.pred.tree made.counts in
       record {
         first = made.first;
@@ -121,5 +129,5 @@ module _ (spec : RunSpec) (input : List ℕ) where
         terminal = λ v. verdict_ends net made.is.end tuples truth made.is.pair v made.is.last;
       }
 
-  pub run_says : (given : Result Output Refusal) → InputGives (Run spec) input given → Ran given → RunSays spec input (output_for given).text
+  pub run_says : (given : Result Output Refusal) → InputGives (run_command kind spec) input given → Ran given → RunSays kind spec input (output_for given).text
   run_says given of ran = made_says (output_for given) (run_made given of ran)

@@ -1,6 +1,5 @@
 -- What a run wrote is a journal that holds.
 use Rattle.std.proofs.Common.{◌≡◌, ◌≢◌, ℕ, ◌*◌, ◌≤◌, ◌==◌, Bool, true, false, List, [], ◌∷◌, ◌++◌, length, codes, Option, Some, None, Result, Ok, All, refl, sym, ap, subst, ◌∙◌, arith, append-nil}
-use Rattle.std.specs.Prelude.{IfOk}
 use Rattle.std.specs.List.{list_any}
 use Rattle.std.proofs.lemmas.Bool.{ne_eqb, or_from}
 use Rattle.std.proofs.lemmas.List.Elements.{All-head, All-tail}
@@ -17,13 +16,15 @@ use Rattle.pop_crowd.proofs.Reached.{length-after_meeting}
 use Rattle.pop_crowd.specs.Crowds.{input_size}
 use Rattle.pop_crowd.specs.declared.limits.TheConstants.{AGENT_LEAST, AGENT_LIMIT}
 use Rattle.pop_words.specs.declared.command.Command.{Command}
-use Rattle.pop_words.specs.declared.command.Command.TheVariants.{Run, Replay}
+use Rattle.pop_words.specs.declared.kind.RunKind.{RunKind}
+use Rattle.pop_words.specs.declared.kind.RunKind.TheVariants.{Whole, Watched}
 use Rattle.pop_words.specs.declared.command.Usage.{Usage}
 use Rattle.pop_words.specs.declared.spec.RunSpec.{RunSpec}
 use Rattle.pop_words.specs.declared.spec.TheConstants.{MEETING_LIMIT}
 use Rattle.pop_words.specs.Options.{IsWithinLimits}
-use Rattle.pop_words.specs.Words.{meaning_of, HasLimits}
-use Rattle.pop_words.proofs.Limits.{meaning_limits}
+use Rattle.pop_words.specs.Kinds.{most_workers}
+use Rattle.pop_words.specs.Words.{meaning_of, run_command, replay_command}
+use Rattle.pop_words.proofs.Limits.{run_bounded}
 use Rattle.pair_workers.specs.Run.{joined}
 use Rattle.pop_journal.specs.declared.journal.Journal.{Journal}
 use Rattle.pop_journal.specs.declared.last.Last.{Last}
@@ -48,13 +49,13 @@ use Rattle.tool_commands.specs.Replay.{holds_output, journal_read}
 use Rattle.tool_commands.proofs.InputSize.{length-input_crowd}
 use Rattle.tool_commands.proofs.Begun.{begun_two, begun_few}
 use Rattle.tool_commands.proofs.Ran.{run_reaches, run_tuples}
+use Rattle.pop_journal.proofs.RunKinds.{is_watched}
 use Rattle.pop_tool.specs.Answer.{InputGives, OfMeaning, Answer}
 use Rattle.pop_tool.specs.Headline.{WasRun, IsHeldInput}
-use Rattle.pop_tool.specs.ReplayHeld.{IsReplayHeld}
+use Rattle.pop_tool.specs.ReplayHeld.{replay_words, IsReplayHeld}
 use Rattle.pop_tool.proofs.BundleInput.{begins_input}
 use Rattle.pop_tool.proofs.RunHeadline.{IsMade, run_made}
 use Rattle.pop_tool.proofs.ReplayHeadline.{held_given}
-use Rattle.pop_words.proofs.Spent.{run_spent}
 
 all_unbroken : (line : List ℕ) → All (λ b. b ≢ 10) line → IsUnbroken line
 all_unbroken [] all = refl
@@ -72,7 +73,8 @@ length_replay : (net : NetModel) (meetings : List Meeting) (crowd : CrowdModel) 
 length_replay net [] crowd = refl
 length_replay net (m ∷ meetings) crowd = length_replay net meetings (after_meeting net m.a m.b crowd) ∙ length-after_meeting net m.a m.b crowd
 
-module _ (spec : RunSpec) (input : List ℕ) (output : Output) (made : IsMade spec input output) (limits : IsWithinLimits spec) (spent : spec.workers * spec.turns ≤ MEETING_LIMIT) where
+module _ (kind : RunKind) (spec : RunSpec) (input : List ℕ) (output : Output) (made : IsMade kind spec input output)
+    (bounded : IsWithinLimits spec × (spec.workers ≤ most_workers kind) × (spec.workers * spec.turns ≤ MEETING_LIMIT)) where
   abbrev net : NetModel
   net = made.bundle.net
 
@@ -102,45 +104,45 @@ module _ (spec : RunSpec) (input : List ℕ) (output : Output) (made : IsMade sp
   -- the last line of the run is that of its last crowd
   last_is : (pair : Option (ℕ × ℕ)) → IsLast net end pair → journal_end truth pair ≡ ending_of net end
   last_is None is =
-      let reached = run_reaches net made.counts enough spec made.is.rounds end made.is.run in
+      let reached = run_reaches net made.counts enough kind spec made.is.rounds end made.is.run in
       let right = (made.judged.1.computes made.counts end made.is.input reached).right is in
-      let tuples = run_tuples net made.counts enough spec made.is.rounds end made.is.run in
+      let tuples = run_tuples net made.counts enough kind spec made.is.rounds end made.is.run in
       sym (ap (λ (o : Option (ℕ × ℕ)). ending_for o (common_output net end)) (least_of_terminal net end tuples is) ∙ ap (ending_for None) (common_some net end truth some_agent right))
     where
       some_agent : 1 ≤ length end
       some_agent =
           let same : length (replay net (joined made.is.rounds) start) ≡ length start = length_replay net (joined made.is.rounds) start in
-          let ends : length (replay net (joined made.is.rounds) start) ≡ length end = ap (length {A = Tuple}) made.is.run.replays in
+          let ends : length (replay net (joined made.is.rounds) start) ≡ length end = ap (length {A = Tuple}) (is_watched net start spec made.is.rounds end kind made.is.run).replays in
           omega (arith, same, ends, two)
   last_is (Some (a, b)) is = sym (ap (λ (o : Option (ℕ × ℕ)). ending_for o (common_output net end)) (least_some net end a b is))
 
   abbrev journal : Journal
-  journal = record { spec = spec; rounds = made.is.rounds; tail = lines_of (tail_text net end); first = JOURNAL_LINE }
+  journal = record { kind = kind; spec = spec; rounds = made.is.rounds; tail = lines_of (tail_text net end); first = JOURNAL_LINE }
 
-  written : IsReadBack net start spec made.is.rounds end JOURNAL_LINE × Holds net start journal
-  written = written_is_held net start spec made.is.rounds end JOURNAL_LINE two few limits spent made.is.run
+  written : IsReadBack kind net start spec made.is.rounds end JOURNAL_LINE × Holds net start journal
+  written = written_is_held kind net start spec made.is.rounds end JOURNAL_LINE two few bounded.0 bounded.1 bounded.2 made.is.run
 
-  lines_are : lines_of output.text ≡ made.first ∷ made.second ∷ lines_of (journal_text net spec made.is.rounds end (ending_of net end))
+  lines_are : lines_of output.text ≡ made.first ∷ made.second ∷ lines_of (journal_text kind net spec made.is.rounds end (ending_of net end))
   lines_are =
       let both = two_unbroken input made.first made.second made.lines in
-      ap lines_of (made.is.text ∙ ap (λ (l : Last). ended made.first ++ ended made.second ++ journal_text net spec made.is.rounds end l) (last_is made.is.pair made.is.last)
-      ∙ ap (λ (t : List ℕ). ended made.first ++ t ++ journal_text net spec made.is.rounds end (ending_of net end)) (sym (append-nil (ended made.second))))
-      ∙ lines_text (made.first ∷ made.second ∷ []) (journal_text net spec made.is.rounds end (ending_of net end)) (both.0, (both.1, tt))
+      ap lines_of (made.is.text ∙ ap (λ (l : Last). ended made.first ++ ended made.second ++ journal_text kind net spec made.is.rounds end l) (last_is made.is.pair made.is.last)
+      ∙ ap (λ (t : List ℕ). ended made.first ++ t ++ journal_text kind net spec made.is.rounds end (ending_of net end)) (sym (append-nil (ended made.second))))
+      ∙ lines_text (made.first ∷ made.second ∷ []) (journal_text kind net spec made.is.rounds end (ending_of net end)) (both.0, (both.1, tt))
 
-  pub made_held : length output.text ≤ INPUT_LIMIT → IsHeldInput output.text (length (joined made.is.rounds))
+  pub made_held : length output.text ≤ INPUT_LIMIT → IsHeldInput kind output.text (length (joined made.is.rounds))
   made_held short =
       record {
         short = short;
         first = made.first;
         second = made.second;
-        more = lines_of (journal_text net spec made.is.rounds end (ending_of net end));
+        more = lines_of (journal_text kind net spec made.is.rounds end (ending_of net end));
         lines = lines_are;
         bundle = made.bundle;
         counts = made.counts;
         begins = begins_input made.first made.second made.bundle made.counts made.begins;
         valid = made.judged.0;
         journal = journal;
-        read = ap journal_read written.0;
+        read = ap (journal_read kind) written.0;
         holds = written.1;
         all = refl;
       }
@@ -148,15 +150,15 @@ module _ (spec : RunSpec) (input : List ℕ) (output : Output) (made : IsMade sp
 given_for : (words : List (List ℕ)) (command : Command) (input : List ℕ) (output : Output) → meaning_of words ≡ Ok command → Answer words input output → (given : Result Output Refusal) × InputGives command input given × (output ≡ output_for given)
 given_for words command input output is answer = subst (λ (m : Result Command Usage). OfMeaning m input output) is answer
 
-limits_of : (m : Result Command Usage) (spec : RunSpec) → m ≡ Ok (Run spec) → IfOk m HasLimits → IsWithinLimits spec
-limits_of m spec e is = subst (λ (r : Result Command Usage). IfOk r HasLimits) e is
+replay_means : (kind : RunKind) → meaning_of (replay_words kind) ≡ Ok (replay_command kind)
+replay_means Whole = refl
+replay_means Watched = refl
 
 pub replay_is_held : IsReplayHeld
-replay_is_held words spec input written answer is answered ran short replayed =
-    let a = given_for words (Run spec) input written is answered in
-    let limits = limits_of (meaning_of words) spec is (meaning_limits words) in
-    let made : IsMade spec input written = subst (IsMade spec input) (sym a.2) (run_made spec input a.0 a.1 (subst (λ (o : Output). WasRun (status_of o.ending)) a.2 ran)) in
-    let held = made_held spec input written made limits (run_spent words spec is) short in
+replay_is_held kind words spec input written answer is answered ran short replayed =
+    let a = given_for words (run_command kind spec) input written is answered in
+    let made : IsMade kind spec input written = subst (IsMade kind spec input) (sym a.2) (run_made kind spec input a.0 a.1 (subst (λ (o : Output). WasRun (status_of o.ending)) a.2 ran)) in
+    let held = made_held kind spec input written made (run_bounded words kind spec is) short in
     let k = length (joined made.is.rounds) in
-    let b = given_for (codes "replay" ∷ []) Replay written.text answer refl replayed in
-    (k, b.2 ∙ ap output_for (held_given written.text k held b.0 b.1))
+    let b = given_for (replay_words kind) (replay_command kind) written.text answer (replay_means kind) replayed in
+    (k, b.2 ∙ ap output_for (held_given kind written.text k held b.0 b.1))

@@ -11,10 +11,13 @@ use Rattle.pop_net.specs.Step.{Step}
 use Rattle.pop_net.specs.Reachable.{Reachable}
 use Rattle.pop_net.specs.Terminal.{IsTerminal}
 use Rattle.pop_crowd.specs.declared.crowd.Meeting.{Meeting}
+use Rattle.pop_words.specs.declared.kind.RunKind.{RunKind}
+use Rattle.pop_words.specs.declared.kind.RunKind.TheVariants.{Whole, Watched}
 use Rattle.pop_words.specs.declared.spec.RunSpec.{RunSpec}
-use Rattle.pop_words.specs.declared.command.Command.TheVariants.{Check, Run, Replay, Settle, Compile, Flocks}
+use Rattle.pop_words.specs.declared.command.Command.TheVariants.{Check, Run, Watch, Replay, ReplayWatched, Settle, Compile, Flocks}
 use Rattle.pop_words.specs.Words.{meaning_of}
-use Rattle.pair_workers.specs.Run.{joined, IsRun}
+use Rattle.pair_workers.specs.Run.{joined}
+use Rattle.pair_workers.specs.WatchedRun.{IsRunOf}
 use Rattle.pop_journal.specs.Journal.{journal_text}
 use Rattle.pop_journal.specs.Form.{journal_in}
 use Rattle.pop_journal.specs.Expected.{Holds}
@@ -71,9 +74,9 @@ pub record IsValidLine (input : List ℕ) : Type 0 where
   pub line : IsBundleLine input bundle
   pub valid : IsValid bundle
 
--- The printed journal is a run of the bundle's net from the input crowd. A verdict stands there exactly when the last crowd is
+-- The printed journal is a run of this kind of the bundle's net from the input crowd. A verdict stands there exactly when the last crowd is
 -- terminal, and is the predicate's value.
-pub record RunSays (spec : RunSpec) (input text : List ℕ) : Type 0 where
+pub record RunSays (kind : RunKind) (spec : RunSpec) (input text : List ℕ) : Type 0 where
   pub first : List ℕ
   pub second : List ℕ
   pub lines : lines_of input ≡ first ∷ second ∷ []
@@ -83,9 +86,9 @@ pub record RunSays (spec : RunSpec) (input text : List ℕ) : Type 0 where
   pub computes : Computes bundle.net bundle.pred.tree (proof_bound bundle.proof)
   pub rounds : List (List Meeting)
   pub end : CrowdModel
-  pub run : IsRun bundle.net (input_crowd bundle.net counts) spec rounds end
+  pub run : IsRunOf kind bundle.net (input_crowd bundle.net counts) spec rounds end
   pub last : Last
-  pub printed : text ≡ ended first ++ ended second ++ journal_text bundle.net spec rounds end last
+  pub printed : text ≡ ended first ++ ended second ++ journal_text kind bundle.net spec rounds end last
   pub verdict : IsTerminal (Step bundle.net) end → last ≡ Verdict (predicate_value bundle.pred.tree counts)
   pub terminal : (value : Bool) → last ≡ Verdict value → IsTerminal (Step bundle.net) end
 
@@ -107,9 +110,9 @@ pub record SettleSays (input text : List ℕ) : Type 0 where
   pub outputs : All (λ tuple. output_of bundle.net tuple ≡ predicate_value bundle.pred.tree counts) end
   pub printed : text ≡ settle_text bundle.net takes end (predicate_value bundle.pred.tree counts)
 
--- The input is a bundle whose proof is valid, a crowd line, and a journal: as it is read, its rounds are a run of the bundle's net
--- from the input crowd with so many meetings, and it tells the crowd in which they end.
-pub record IsHeldInput (input : List ℕ) (meetings : ℕ) : Type 0 where
+-- The input is a bundle whose proof is valid, a crowd line, and a journal: as it is read, its rounds are a run of this kind of the
+-- bundle's net from the input crowd with so many meetings, and it tells the crowd in which they end.
+pub record IsHeldInput (kind : RunKind) (input : List ℕ) (meetings : ℕ) : Type 0 where
   pub short : length input ≤ INPUT_LIMIT
   pub first : List ℕ
   pub second : List ℕ
@@ -120,7 +123,7 @@ pub record IsHeldInput (input : List ℕ) (meetings : ℕ) : Type 0 where
   pub begins : IsBundleInput first second bundle counts
   pub valid : IsValid bundle
   pub journal : Journal
-  pub read : journal_read (journal_in (length (input_crowd bundle.net counts)) JOURNAL_LINE more) ≡ Ok journal
+  pub read : journal_read kind (journal_in kind (length (input_crowd bundle.net counts)) JOURNAL_LINE more) ≡ Ok journal
   pub holds : Holds bundle.net (input_crowd bundle.net counts) journal
   pub all : length (joined journal.rounds) ≡ meetings
 
@@ -142,12 +145,14 @@ pub record Headline (words : List (List ℕ)) (input text : List ℕ) (status : 
   pub check : (bundle : Bundle) → meaning_of words ≡ Ok Check → IsBundleLine input bundle → CheckSays bundle text status
   -- `certified`, with whatever number, is printed only for a valid proof
   pub only : meaning_of words ≡ Ok Check → (k : ℕ) → text ≡ ended (certified_text k) → IsValidLine input
-  pub run : (spec : RunSpec) → meaning_of words ≡ Ok (Run spec) → WasRun status → RunSays spec input text
+  pub run : (spec : RunSpec) → meaning_of words ≡ Ok (Run spec) → WasRun status → RunSays Whole spec input text
+  pub watch : (spec : RunSpec) → meaning_of words ≡ Ok (Watch spec) → WasRun status → RunSays Watched spec input text
   pub compile : meaning_of words ≡ Ok Compile → status ≡ Done → CompileSays leaves.Plain input text
   pub flocks : meaning_of words ≡ Ok Flocks → status ≡ Done → CompileSays leaves.Flocks input text
   pub settle : meaning_of words ≡ Ok Settle → status ≡ Done → SettleSays input text
-  -- `holds`, with a number of 64 bits, is printed exactly for a journal of a run with so many meetings
-  pub replay : meaning_of words ≡ Ok Replay → (k : ℕ) → k < 2 ^ 64 → ((text ≡ ended (holds_text k)) × (status ≡ Done)) ↔ IsHeldInput input k
+  -- `holds`, with a number of 64 bits, is printed exactly for a journal of a run of the kind with so many meetings
+  pub replay : meaning_of words ≡ Ok Replay → (k : ℕ) → k < 2 ^ 64 → ((text ≡ ended (holds_text k)) × (status ≡ Done)) ↔ IsHeldInput Whole input k
+  pub replay_watched : meaning_of words ≡ Ok ReplayWatched → (k : ℕ) → k < 2 ^ 64 → ((text ≡ ended (holds_text k)) × (status ≡ Done)) ↔ IsHeldInput Watched input k
 
 -- if it is known what the source had left and what the sink holds, then what the sink gained says so
 abbrev pub IsHeadline : List (List ℕ) → Option (List ℕ) → Option (List ℕ) → Option (List ℕ) → Status → Type 0

@@ -1,18 +1,25 @@
--- That a replay accepts what a run wrote.
+-- That a replay accepts what a run of its kind wrote.
 use Rattle.std.specs.Prelude.{◌≡◌, ℕ, ◌≤◌, List, [], ◌∷◌, length, codes, Ok}
 use Rattle.pop_io.specs.declared.whole.TheConstants.{INPUT_LIMIT}
-use Rattle.pop_words.specs.declared.command.Command.TheVariants.{Run}
+use Rattle.pop_words.specs.declared.kind.RunKind.{RunKind}
+use Rattle.pop_words.specs.declared.kind.RunKind.TheVariants.{Whole, Watched}
 use Rattle.pop_words.specs.declared.spec.RunSpec.{RunSpec}
-use Rattle.pop_words.specs.Words.{meaning_of}
+use Rattle.pop_words.specs.Words.{meaning_of, run_command}
 use Rattle.tool_texts.specs.declared.output.Output.{Output}
 use Rattle.tool_texts.specs.Statuses.{status_of}
 use Rattle.tool_commands.specs.Replay.{holds_output}
 use Rattle.pop_tool.specs.Answer.{Answer}
 use Rattle.pop_tool.specs.Headline.{WasRun}
 
--- If a run was made, and its text isn't too long for an input, then `replay` answers this text by `holds`.
+-- the words that replay a journal of a run of this kind
+abbrev pub replay_words : RunKind → List (List ℕ)
+replay_words Whole = codes "replay" ∷ []
+replay_words Watched = codes "replay" ∷ codes "--watched" ∷ []
+
+-- If a run was made, and its text isn't too long for an input, then `replay`, with `--watched` where the run was one of `watch`, answers
+-- this text by `holds`.
 abbrev pub IsReplayHeld : Type 0
 IsReplayHeld =
-    (words : List (List ℕ)) (spec : RunSpec) (input : List ℕ) (written answer : Output) → meaning_of words ≡ Ok (Run spec)
+    (kind : RunKind) (words : List (List ℕ)) (spec : RunSpec) (input : List ℕ) (written answer : Output) → meaning_of words ≡ Ok (run_command kind spec)
     → Answer words input written → WasRun (status_of written.ending) → length written.text ≤ INPUT_LIMIT
-    → Answer (codes "replay" ∷ []) written.text answer → (k : ℕ) × (answer ≡ holds_output k)
+    → Answer (replay_words kind) written.text answer → (k : ℕ) × (answer ≡ holds_output k)

@@ -30,7 +30,7 @@ pub fn run_plain<S: Source, K: Sink, G: Gate>(
     gate: &G,
 ) -> Status
     requires few { length words.now < 2 ^ 32 }
-    // The words don't ask for a run with two or more workers.
+    // The words ask neither for a run with two or more workers nor for `watch`.
     requires plain { ArePlain (map (λ w. w.now) words.now) }
     // The sink accepts each text that might be written.
     requires room { (output : Written) → IsReply (map (λ w. w.now) words.now) (S.left source.old) output
@@ -55,7 +55,7 @@ pub fn run_plain<S: Source, K: Sink, G: Gate>(
     write(sink, output)
 }
 
-/// `run_plain` for all words. It makes a run with two or more workers on threads, and may wait then.
+/// `run_plain` for all words. It makes a run with two or more workers and that of `watch` on threads, and may wait then.
 pub fn run_tool<R: Threads + Wait + Sync, S: Source, K: Sink, G: Gate>(
     rt: &R,
     alloc: Global,
@@ -82,7 +82,7 @@ pub fn run_tool<R: Threads + Wait + Sync, S: Source, K: Sink, G: Gate>(
     write(sink, output)
 }
 
-/// Whether `run_plain` answers the words: they don't ask for a run with two or more workers.
+/// Whether `run_plain` answers the words: they ask neither for a run with two or more workers nor for `watch`.
 pub fn is_plain(words: &[&str]) -> bool
     requires { length words.now < 2 ^ 32 }
     ensures { IsTrue result ↔ ArePlain (map (λ w. w.now) words.now) }
