@@ -21,3 +21,4 @@ bin/pop check < examples/rejected/wrong-trap.json
 bin/pop replay < examples/replays/held.txt
 bin/pop replay < examples/replays/changed-mark.txt
 cat examples/majority/bundle.json examples/majority/crowd.txt | bin/pop run --workers 4 | bin/pop replay | cut -d ' ' -f 1
+cat examples/majority/bundle.json examples/majority/crowd.txt | bin/pop watch --workers 4 | bin/pop replay --watched | cut -d ' ' -f 1
