@@ -101,7 +101,9 @@ abbrev pub run_with : RunKind → List (List ℕ) → Result RunSpec Usage
 run_with kind words =
     if length words % 2 == 1
     then bad_at (length words + 1) Missing
-    else (if nat_lt MEETING_LIMIT ((spec_of kind words).workers * (spec_of kind words).turns) then bad_at (length words + 1) Product else Ok (spec_of kind words))
+    else (if nat_lt MEETING_LIMIT ((spec_of kind words).workers * (spec_of kind words).turns)
+    then bad_at (length words + 1) Product
+    else Ok (spec_of kind words))
 
 abbrev pub or_fault : Option (ℕ × UsageWhy) → Result RunSpec Usage → Result RunSpec Usage
 or_fault None run = run
