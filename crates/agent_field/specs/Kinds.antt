@@ -22,19 +22,25 @@ pub record Sits (views : List View) (id : ℕ) (v : View) : Type 0 where
 
 -- every kind of step but the draw
 pub data QuietStep (k : Setup) : List ℕ → List View → List ℕ → List View → Type 0 where
-  makes : (words : List ℕ) (views : List View) (id : ℕ) → get_elem? views id ≡ some (founder k) → QuietStep k words views (slice_set words FOUNDER 1) (slice_set views id (first_seat k))
+  makes : (words : List ℕ) (views : List View) (id : ℕ) → get_elem? views id ≡ some (founder k)
+      → QuietStep k words views (slice_set words FOUNDER 1) (slice_set views id (first_seat k))
   locks : (words : List ℕ) (views : List View) (id : ℕ) (v : View) (s : ℕ) → Sits views id v → s < k.shards → v.due ≡ [] → slice_index words (lock_at s) ≡ 0
       → QuietStep k words views (slice_set words (lock_at s) (v.number + 1)) (slice_set views id (holding s v))
-  finds_locked : (words : List ℕ) (views : List View) (id : ℕ) (v : View) (s : ℕ) → Sits views id v → s < k.shards → slice_index words (lock_at s) ≢ 0 → QuietStep k words views words views
-  reads : (words : List ℕ) (views : List View) (id : ℕ) (v : View) (a : ℕ) → Sits views id v → a < agents_of k → In (shard_of k a) v.held → ((y : Word) → In (a, y) v.due → ⊥)
+  finds_locked : (words : List ℕ) (views : List View) (id : ℕ) (v : View) (s : ℕ) → Sits views id v → s < k.shards → slice_index words (lock_at s) ≢ 0
+      → QuietStep k words views words views
+  reads : (words : List ℕ) (views : List View) (id : ℕ) (v : View) (a : ℕ) → Sits views id v → a < agents_of k → In (shard_of k a) v.held
+      → ((y : Word) → In (a, y) v.due → ⊥)
       → QuietStep k words views words (slice_set views id (knowing a (agent_word k words a) v))
-  writes : (words : List ℕ) (views : List View) (id : ℕ) (v : View) (a : ℕ) (y : Word) (due : List (ℕ × Word)) → Sits views id v → v.due ≡ (a, y) ∷ due → ((x : Word) → In (a, x) due → ⊥)
+  writes : (words : List ℕ) (views : List View) (id : ℕ) (v : View) (a : ℕ) (y : Word) (due : List (ℕ × Word)) → Sits views id v
+      → v.due ≡ (a, y) ∷ due → ((x : Word) → In (a, x) due → ⊥)
       → QuietStep k words views (slice_set words (agent_at k a) y.0) (slice_set views id (writing v))
-  unlocks : (words : List ℕ) (views : List View) (id : ℕ) (v : View) (s : ℕ) (held : List ℕ) → Sits views id v → v.held ≡ s ∷ held → (In s held → ⊥) → v.due ≡ []
+  unlocks : (words : List ℕ) (views : List View) (id : ℕ) (v : View) (s : ℕ) (held : List ℕ) → Sits views id v → v.held ≡ s ∷ held → (In s held → ⊥)
+      → v.due ≡ []
       → QuietStep k words views (slice_set words (lock_at s) 0) (slice_set views id (releasing v))
   splits : (words : List ℕ) (views : List View) (id : ℕ) (v : View) → Sits views id v → v.number ≡ 0 → v.next < k.seats
       → QuietStep k words views words (slice_set views id (kept_back v) ++ newcomer v ∷ [])
-  joins : (words : List ℕ) (views : List View) (id other : ℕ) (v w : View) → Sits views id v → v.number ≡ 0 → other ≢ id → Sits views other w → w.due ≡ [] → w.held ≡ []
+  joins : (words : List ℕ) (views : List View) (id other : ℕ) (v w : View) → Sits views id v → v.number ≡ 0 → other ≢ id → Sits views other w
+      → w.due ≡ [] → w.held ≡ []
       → QuietStep k words views words (slice_set (slice_set views id (taking_in v w)) other spent)
   looks : (words : List ℕ) (views : List View) (id : ℕ) (v : View) → Sits views id v → HasSeenAll k v
       → QuietStep k words views words (slice_set views id (looking (slice_index words CLOCK) v))
@@ -42,7 +48,8 @@ pub data QuietStep (k : Setup) : List ℕ → List View → List ℕ → List Vi
 -- the draw, and the meeting that it makes
 pub data DrawStep (k : Setup) : List ℕ → List View → Meeting → List ℕ → List View → Type 0 where
   draws : (words : List ℕ) (views : List View) (id : ℕ) (v : View) (a b : ℕ) (x y x' y' : Word) → Sits views id v → MayDraw k v a b x y x' y'
-      → DrawStep k words views (made v.number a b (reacts k.net.value (tuple_of k.net.value x) (tuple_of k.net.value y))) (slice_set words CLOCK (slice_index words CLOCK + 1)) (slice_set views id (meeting (slice_index words CLOCK) a b x y x' y' v))
+      → DrawStep k words views (made v.number a b (reacts k.net.value (tuple_of k.net.value x) (tuple_of k.net.value y)))
+      (slice_set words CLOCK (slice_index words CLOCK + 1)) (slice_set views id (meeting (slice_index words CLOCK) a b x y x' y' v))
 
 -- any number of steps, with the meetings that they make
 pub data FieldRun (k : Setup) : List ℕ → List View → List Meeting → List ℕ → List View → Type 0 where
@@ -67,7 +74,8 @@ pub record MomentsStand (k : Setup) : Type 0 where
   pub stands : (words : List ℕ) (views : List View) (history : List Meeting) → HasHistory k words views history → Stands k words views
   pub has_history : (words : List ℕ) (views : List View) → Stands k words views → (history : List Meeting) × HasHistory k words views history
   -- there is just one such history
-  pub one : (words : List ℕ) (views : List View) (first second : List Meeting) → HasHistory k words views first → HasHistory k words views second → first ≡ second
+  pub one : (words : List ℕ) (views : List View) (first second : List Meeting) → HasHistory k words views first → HasHistory k words views second
+      → first ≡ second
   -- no step but the draw changes the history, and so what it gives for any agent
   pub quiet : (words : List ℕ) (views : List View) (words' : List ℕ) (views' : List View) (history : List Meeting)
       → QuietStep k words views words' views' → HasHistory k words views history → HasHistory k words' views' history

@@ -1,6 +1,7 @@
 -- FieldStands: the rule of the field's table, over its words and the views of all seats.
 -- The clock and the founder word come first, then the lock words of the shards and the words of the agents.
-use Rattle.std.specs.Prelude.{◌≡◌, ℕ, ◌+◌, ◌<◌, ◌≤◌, ◌%◌, ◌^◌, ◌⊎◌, ◌==◌, min, max, IsSome, Bool, true, false, List, [], ◌∷◌, ◌++◌, length, map, take, replicate, slice_index, slice_index_or, Option as Maybe, Some as Given, None as Missing}
+use Rattle.std.specs.Prelude.{◌≡◌, ℕ, ◌+◌, ◌<◌, ◌≤◌, ◌%◌, ◌^◌, ◌⊎◌, ◌==◌, min, max, IsSome, Bool, true, false, List, [], ◌∷◌, ◌++◌}
+use Rattle.std.specs.Prelude.{length, map, take, replicate, slice_index, slice_index_or, Option as Maybe, Some as Given, None as Missing}
 use mathlib.Core.Option.{Option, none, some}
 use lib.ListN.{get_elem?}
 use Rattle.atomic_table.specs.Table.{State}
@@ -64,7 +65,13 @@ abbrev pub founder : Setup → View
 founder k = record { setup = k; founding = true; live = false; number = 0; held = []; known = []; due = []; log = []; next = 0; taken = []; looks = [] }
 
 abbrev pub no_field : Setup
-no_field = record { net = record { marker = record {}; value = record { variables = []; leaves = []; combine = [] } }; opening = record { marker = record {}; value = [] }; shards = 0; seats = 0 }
+no_field =
+    record {
+      net = record { marker = record {}; value = record { variables = []; leaves = []; combine = [] } };
+      opening = record { marker = record {}; value = [] };
+      shards = 0;
+      seats = 0;
+    }
 
 -- a seat that was joined away
 abbrev pub spent : View
@@ -75,7 +82,8 @@ abbrev pub idle : Setup → ℕ → List Logged → ℕ → List (Maybe (List Lo
 idle k number log next taken looks =
     record { setup = k; founding = false; live = true; number = number; held = []; known = []; due = []; log = log; next = next; taken = taken; looks = looks }
 
--- NumbersPart, of number 0's view: the numbers from `next` on are fresh and have made no meeting; each number below it has a seat, or its log was taken in and is whole
+-- NumbersPart, of number 0's view: the numbers from `next` on are fresh and have made no meeting;
+-- each number below it has a seat, or its log was taken in and is whole
 pub record IsFirst (k : Setup) (history : List Meeting) (seat : ℕ → Option ℕ) (next : ℕ) (taken : List (Maybe (List Logged))) : Type 0 where
   pub some_next : (0 < next) × (next ≤ k.seats)
   pub places : length taken ≡ k.seats
@@ -95,7 +103,8 @@ KnownPart k words v =
 -- DuePart and ValidPart: of whom a word is due, it holds the shard, and the due word is what the history gives, and valid
 abbrev pub DuePart : Setup → List Meeting → View → Type 0
 DuePart k history v =
-    (a : ℕ) (x : Word) → In (a, x) v.due → (a < agents_of k) × In (shard_of k a) v.held × (tuple_of k.net.value x ≡ tuple_after k history a) × IsValid k.net.value x
+    (a : ℕ) (x : Word) → In (a, x) v.due
+    → (a < agents_of k) × In (shard_of k a) v.held × (tuple_of k.net.value x ≡ tuple_after k history a) × IsValid k.net.value x
 
 -- while words of a pair are due, that pair made the view's last meeting, and the view holds the pair's shards and no other
 abbrev pub TightPart : Setup → View → Type 0

@@ -1,5 +1,6 @@
 -- What each step of a seat tells.
-use Rattle.std.specs.Prelude.{zero, suc, ◌≡◌, ◌≢◌, ℕ, ◌+◌, ◌-◌, ◌<◌, ◌≤◌, ◌^◌, List, [], ◌∷◌, ◌++◌, length, slice_index_or, slice_set, replicate, Option as Maybe, Some as Given, None as Missing}
+use Rattle.std.specs.Prelude.{zero, suc, ◌≡◌, ◌≢◌, ℕ, ◌+◌, ◌-◌, ◌<◌, ◌≤◌, ◌^◌, List, [], ◌∷◌, ◌++◌, length}
+use Rattle.std.specs.Prelude.{slice_index_or, slice_set, replicate, Option as Maybe, Some as Given, None as Missing}
 use Rattle.atomic_table.specs.Table.{Me, Step}
 use Rattle.pop_net.specs.declared.net.Word.{Word}
 use Rattle.pop_net.specs.NetModel.{NetModel}
@@ -48,7 +49,12 @@ pub record IsReaction (net : NetModel) (x y x' y' : Word) : Type 0 where
 
 -- the agents a and b, with the words x and y, meet, and x' and y' are due
 abbrev pub meeting : ℕ → ℕ → ℕ → Word → Word → Word → Word → View → View
-meeting ticket a b x y x' y' v = record v { known = []; due = (a, x') ∷ (b, y') ∷ []; log = v.log ++ logged ticket a b (reacts v.setup.net.value (tuple_of v.setup.net.value x) (tuple_of v.setup.net.value y)) ∷ [] }
+meeting ticket a b x y x' y' v =
+    record v {
+      known = [];
+      due = (a, x') ∷ (b, y') ∷ [];
+      log = v.log ++ logged ticket a b (reacts v.setup.net.value (tuple_of v.setup.net.value x) (tuple_of v.setup.net.value y)) ∷ [];
+    }
 
 abbrev pub writing : View → View
 writing v = record v { due = rest_of v.due }

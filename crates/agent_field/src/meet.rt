@@ -1,6 +1,6 @@
 //! A meeting: two agents react under the locks of their shards.
 
-ghost use Rattle.std.specs.Prelude.{◌≡◌, ◌≢◌, ◌+◌, ◌<◌, ◌≤◌, ◌==◌, ◌||◌, not, length, [], ◌∷◌, ◌++◌};
+ghost use Rattle.std.specs.Prelude.{◌≡◌, ◌≢◌, ◌+◌, ◌<◌, ◌≤◌, ◌==◌, length, [], ◌∷◌, ◌++◌};
 ghost use Rattle.pop_net.specs.Lanes.{tuple_of, IsValid};
 ghost use Rattle.pop_crowd.specs.Replay.{reacts};
 ghost use Rattle.agent_field.specs.History.{logged};
@@ -11,16 +11,10 @@ use crate::field::{Field, FieldSeat, Met};
 use crate::limits::LOG_LIMIT;
 use crate::view::{Logged, View};
 use atomic_table::Seat;
+use pop_crowd::differ;
 use pop_io::Gate;
 use pop_net::{Net, Word};
 use std::sync::Wait;
-
-/// Whether one of two words is another than before.
-fn differ(old: (Word, Word), new: (Word, Word)) -> bool
-    ensures { result ≡ (not (new.0.0 == old.0.0) || not (new.1.0 == old.1.0)) }
-{
-    new.0 != old.0 || new.1 != old.1
-}
 
 /// What two words become, and whether that changes one.
 fn reacted(net: &Net, x: Word, y: Word) -> (Word, Word, bool)

@@ -19,3 +19,4 @@ pub mod WeightedSums
 pub mod FlowSums
 pub mod FlowBalance
 pub mod HelperCounts
+pub mod Meetings

@@ -10,7 +10,7 @@ ghost use Rattle.cert_base.specs.Ends.{CoverValue};
 
 use crate::fact::{Fact, Row};
 use pop_io::{List, NoMemory, VARIABLE_LIMIT};
-use pres_ast::{BOUND_LIMIT, Pred, Tree};
+use pres_ast::{BOUND_LIMIT, Pred, Tree, turned};
 use std::alloc::Global;
 
 /// One case with a linear fact for an atom; else the values of the parts, in one case or in two.
@@ -77,18 +77,6 @@ fn less(alloc: Global, coefs: &[i64], bound: i64, value: bool) -> Result<Fact, N
     } else {
         Ok(Fact::Ge(Row::over_inputs(alloc, coefs, -bound)?))
     }
-}
-
-/// The coefficients with all signs turned.
-fn turned(alloc: Global, coefs: &[i64]) -> Result<Vec<i64>, NoMemory>
-    requires { AreCoefs (length coefs.now) coefs.now }
-    ensures { IfOk result (λ turned. turned.items ≡ map neg_ℤ coefs.now) }
-{
-    let mut turned = Vec::new(alloc);
-    for coef in coefs {
-        turned.push(-*coef)?;
-    }
-    Ok(turned)
 }
 
 fn congruent(

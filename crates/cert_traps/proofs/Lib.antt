@@ -1,5 +1,4 @@
 pub mod Lists
-pub mod Meetings
 pub mod PresentEnds
 pub mod TakenMoves
 pub mod TrapEnds

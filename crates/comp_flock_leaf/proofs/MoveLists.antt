@@ -1,5 +1,5 @@
 -- The moves of a built leaf of a flock atom.
-use Rattle.std.proofs.Common.{◌≡◌, ◌≢◌, ℕ, ◌+◌, ◌<◌, ◌≤◌, Bool, true, false, ◌&&◌, List, length, map, refl, arith}
+use Rattle.std.proofs.Common.{◌≡◌, ◌≢◌, inl, inr, ℕ, ◌+◌, ◌<◌, ◌≤◌, true, false, List, length, map, refl, arith}
 use Rattle.std.specs.Prelude.{◌==◌, All, Contains}
 use Rattle.std.specs.List.{range_with_len, list_any}
 use Rattle.std.proofs.lemmas.Bool.{eq-eqb, ne_eqb}
@@ -11,6 +11,7 @@ use Rattle.pop_net.specs.LeafModel.{is_silent, same_pair}
 use Rattle.pop_net.specs.Reaction.{takes}
 use Rattle.cert_base.proofs.WeightedSums.{list_any-from}
 use Rattle.comp_layers.proofs.Members.{all_range, range_has, has_map}
+use Rattle.comp_layers.proofs.Single.{and_no, differ-by}
 use Rattle.comp_flock_leaf.specs.FlockLeaf.{doubling, conversion, moves_of}
 
 abbrev doublings : ℕ → List Move
@@ -43,13 +44,8 @@ moves-long k =
 
 -- ---- no move is silent
 
-and_no : (a : Bool) → (a && false) ≡ false
-and_no true = refl
-and_no false = refl
-
 pub differ_pair : (p q u v : ℕ) → q ≢ v → p ≢ v → same_pair p q u v ≡ false
-differ_pair p q u v e f =
-    let first = ne_eqb q v e in let second = ne_eqb p v f in let none = and_no (p == u) in rw (first, second, none) refl
+differ_pair p q u v e f = differ-by p q u v (inr e) (inl f)
 
 pub doubling-loud : (i : ℕ) → is_silent (doubling i) ≡ false
 doubling-loud i = differ_pair (i + 1) (i + 1) (i + 2) 0 (λ e. omega arith) (λ e. omega arith)

@@ -1,23 +1,17 @@
 -- No two moves of a built leaf of a flock atom take the same states.
-use Rattle.std.proofs.Common.{◌≡◌, ◌≢◌, ℕ, ◌+◌, Bool, true, false, ◌&&◌, map, refl, arith}
-use Rattle.std.specs.Prelude.{◌==◌, All, AllPairs}
+use Rattle.std.proofs.Common.{◌≡◌, ◌≢◌, inl, inr, ℕ, ◌+◌, false, map, arith}
+use Rattle.std.specs.Prelude.{All, AllPairs}
 use Rattle.std.specs.List.{range_with_len}
-use Rattle.std.proofs.lemmas.Bool.{ne_eqb}
 use Rattle.pop_net.specs.LeafModel.{same_pair}
 use Rattle.pop_net.specs.Reaction.{Differ}
 use Rattle.comp_layers.proofs.SortedLayers.{AllPairs-append}
-use Rattle.comp_layers.proofs.Single.{pairs_map}
+use Rattle.comp_layers.proofs.Single.{pairs_map, differ-by}
 use Rattle.comp_flock_leaf.specs.FlockLeaf.{doubling, conversion, moves_of}
 use Rattle.comp_flock_leaf.proofs.MoveLists.{all_doublings, all_conversions, differ_pair}
 
 -- the first states are other ones
 differ_first : (p q u v : ℕ) → p ≢ u → q ≢ u → same_pair p q u v ≡ false
-differ_first p q u v e f =
-    let first = ne_eqb p u e in let second = ne_eqb q u f in let none = and_no (p == v) in rw (first, second, none) refl
-  where
-    and_no : (a : Bool) → (a && false) ≡ false
-    and_no true = refl
-    and_no false = refl
+differ_first p q u v e f = differ-by p q u v (inl e) (inr f)
 
 pub moves-single : (k : ℕ) → AllPairs Differ (moves_of k)
 moves-single k =

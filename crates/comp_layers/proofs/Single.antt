@@ -1,9 +1,11 @@
--- Lists made of ranges, of which each two items are related.
-use Rattle.std.proofs.Common.{ℕ, zero, suc, ◌+◌, ◌<◌, ◌≤◌, List, map, get_or, arith}
-use Rattle.std.specs.Prelude.{All, AllPairs, flat_map}
+-- Lists made of ranges, of which each two items are related; pairs that are not the same.
+use Rattle.std.proofs.Common.{◌≡◌, ◌≢◌, ◌⊎◌, inl, inr, ℕ, zero, suc, ◌+◌, ◌<◌, ◌≤◌, Bool, true, false, ◌&&◌, List, map, get_or, refl, arith}
+use Rattle.std.specs.Prelude.{All, AllPairs, flat_map, ◌==◌}
 use Rattle.std.specs.List.{range_with_len}
+use Rattle.std.proofs.lemmas.Bool.{ne_eqb}
 use Rattle.std.proofs.lemmas.List.Elements.{All-map}
 use Rattle.std.proofs.lemmas.List.Kept.{AllPairs-cons}
+use Rattle.pop_net.specs.LeafModel.{same_pair}
 use Rattle.comp_layers.proofs.Members.{all_range, all_flat}
 use Rattle.comp_layers.proofs.SortedLayers.{AllPairs-append}
 
@@ -20,3 +22,18 @@ pairs_flat R g a (suc n) f h =
     AllPairs-append R (g a) (flat_map g (range_with_len (a + 1) n)) (f a (omega arith) (omega arith))
     (pairs_flat R g (a + 1) n (λ i l m. f i (omega arith) (omega arith)) (λ i j l m k. h i j (omega arith) m (omega arith)))
     (λ k d l. all_flat (R (get_or (g a) k d)) g (range_with_len (a + 1) n) (all_range (λ j. All (R (get_or (g a) k d)) (g j)) (a + 1) n (λ j p q. h a j (omega arith) (omega arith) (omega arith) k d l)))
+
+pub and_no : (a : Bool) → (a && false) ≡ false
+and_no true = refl
+and_no false = refl
+
+-- no pair in one order, and none in the other
+pub differ-by : (p q u v : ℕ) → (p ≢ u) ⊎ (q ≢ v) → (p ≢ v) ⊎ (q ≢ u) → same_pair p q u v ≡ false
+differ-by p q u v a b =
+    let first = one p q u v a in
+    let second = one p q v u b in
+    rw (first, second) refl
+  where
+    one : (p q u v : ℕ) → (p ≢ u) ⊎ (q ≢ v) → ((p == u) && (q == v)) ≡ false
+    one p q u v (inl n) = let e = ne_eqb p u n in rw e refl
+    one p q u v (inr n) = let e = ne_eqb q v n in rw e (and_no (p == u))

@@ -1,30 +1,14 @@
 -- No two moves of a built leaf of `Rest` take the same states.
-use Rattle.std.proofs.Common.{◌≡◌, ◌≢◌, ◌⊎◌, inl, inr, ℕ, ◌-◌, ◌<◌, ◌≤◌, Bool, true, false, ◌&&◌, map, refl, arith}
+use Rattle.std.proofs.Common.{◌≢◌, inl, inr, ℕ, ◌-◌, ◌<◌, ◌≤◌, map, arith}
 use Rattle.std.specs.Prelude.{All, AllPairs, flat_map, not, ◌==◌}
 use Rattle.std.specs.List.{range_with_len}
-use Rattle.std.proofs.lemmas.Bool.{ne_eqb}
 use Rattle.std.proofs.lemmas.List.Elements.{All-map}
-use Rattle.pop_net.specs.LeafModel.{same_pair}
 use Rattle.pop_net.specs.Reaction.{Differ}
 use Rattle.comp_layers.proofs.Members.{all_range, all_flat}
 use Rattle.comp_layers.proofs.SortedLayers.{AllPairs-append}
-use Rattle.comp_layers.proofs.Single.{pairs_map, pairs_flat}
+use Rattle.comp_layers.proofs.Single.{pairs_map, pairs_flat, differ-by}
 use Rattle.comp_remainder_leaf.specs.RemainderLeaf.{follower, meeting, turn, pairs_of, moves_of}
 use Rattle.comp_remainder_leaf.proofs.MoveLists.{follower-above}
-
-and_no : (a : Bool) → (a && false) ≡ false
-and_no true = refl
-and_no false = refl
-
-differ-by : (p q u v : ℕ) → (p ≢ u) ⊎ (q ≢ v) → (p ≢ v) ⊎ (q ≢ u) → same_pair p q u v ≡ false
-differ-by p q u v a b =
-    let first = one p q u v a in
-    let second = one p q v u b in
-    rw (first, second) refl
-  where
-    one : (p q u v : ℕ) → (p ≢ u) ⊎ (q ≢ v) → ((p == u) && (q == v)) ≡ false
-    one p q u v (inl n) = let e = ne_eqb p u n in rw e refl
-    one p q u v (inr n) = let e = ne_eqb q v n in rw e (and_no (p == u))
 
 apart : (m p q : ℕ) → p < m → m ≤ q → p ≢ q
 apart m p q l k e = omega arith

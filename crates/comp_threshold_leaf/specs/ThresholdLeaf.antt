@@ -1,7 +1,8 @@
 -- ThresholdLeaf: the built leaf of `Less`. With s as its width, a leader `L(u)` or a follower `F(bit,v)` has a value from -s to s;
 -- the value u stands at place u + s. The leaders come first, then the followers with the bit false, then those with the bit true
 -- (Angluin, Aspnes, Diamadi, Fischer, Peralta 2006).
-use Rattle.std.specs.Prelude.{ℕ, ◌+◌, ◌-◌, Bool, not, ◌&&◌, ◌==◌, nat_lt, if◌then◌else◌, List, [], ◌∷◌, ◌++◌, map, filter, flat_map, fold, ℤ, pos, ◌+ℤ◌, ◌-ℤ◌, nat_abs}
+use Rattle.std.specs.Prelude.{ℕ, ◌+◌, ◌-◌, Bool, not, ◌&&◌, ◌==◌, nat_lt, if◌then◌else◌, List, []}
+use Rattle.std.specs.Prelude.{◌∷◌, ◌++◌, map, filter, flat_map, fold, ℤ, pos, ◌+ℤ◌, ◌-ℤ◌, nat_abs}
 use Rattle.std.specs.List.{range_with_len}
 use Rattle.std.specs.Fmt.{signed_decimal}
 use Rattle.pop_net.specs.declared.leaf.Move.{Move}

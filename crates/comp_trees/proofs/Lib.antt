@@ -6,4 +6,4 @@ pub mod ValueNodes
 pub mod TreeOfEnds
 pub mod SameMix
 pub mod Limits
-pub mod CanMeet
+pub mod Company

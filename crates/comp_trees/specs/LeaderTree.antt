@@ -1,6 +1,7 @@
 -- LeaderTree: trees for a leaf with leaders, which are its first states: the predicate is opened; the leaders are a trap, so one of them
 -- is left; each leader in turn is absent, or it is the only one.
-use Rattle.std.specs.Prelude.{◌≡◌, ◌<◌, ◌≤◌, All, ℕ, zero, suc, ◌+◌, Bool, true, false, not, ◌&&◌, ◌==◌, if◌then◌else◌, List, [], ◌∷◌, ◌++◌, map, filter, length, ℤ, pos, negsuc, neg_ℤ, reverse, replicate, slice_index_or}
+use Rattle.std.specs.Prelude.{◌≡◌, ◌<◌, ◌≤◌, All, ℕ, zero, suc, ◌+◌, Bool, true, false, not, ◌&&◌, ◌==◌, if◌then◌else◌, List}
+use Rattle.std.specs.Prelude.{[], ◌∷◌, ◌++◌, map, filter, length, ℤ, pos, negsuc, neg_ℤ, reverse, replicate, slice_index_or}
 use Rattle.std.specs.List.{range_with_len}
 use Rattle.pop_net.specs.LeafModel.{LeafModel}
 use Rattle.cert_base.specs.declared.limits.TheConstants.{FACT_LIMIT}
@@ -72,7 +73,8 @@ weighed multipliers = Linear (terms_from 0 multipliers)
 
 abbrev pub leader_tree : LeafModel → ℕ → (ℕ → Node) → List Node
 leader_tree leaf n ends =
-    Open (length leaf.states + 1) ∷ Trap (leaders n) ∷ weighed (no_leak_by leaf) ∷ weighed (no_start_by leaf) ∷ leader_nodes ends (weighed (no_leader_by leaf n)) 0 n
+    Open (length leaf.states + 1) ∷ Trap (leaders n) ∷ weighed (no_leak_by leaf) ∷ weighed (no_start_by leaf)
+    ∷ leader_nodes ends (weighed (no_leader_by leaf n)) 0 n
 
 -- ---- the two kinds of nodes of a leader
 

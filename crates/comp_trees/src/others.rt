@@ -1,9 +1,10 @@
 //! The states that one state's presence rules out.
 
-ghost use Rattle.std.specs.Prelude.{◌≡◌, ◌<◌, ◌++◌, ◌∷◌, ◌==◌, ◌&&◌, ◌||◌, not, [], length, All, if◌then◌else◌, IfOk, OnOk};
+ghost use Rattle.std.specs.Prelude.{◌≡◌, ◌<◌, ◌++◌, ◌∷◌, ◌==◌, ◌&&◌, not, [], length, All, if◌then◌else◌, IfOk, OnOk};
 ghost use Rattle.cert_base.specs.FactsAndCases.{can_meet as can_meet_in};
 ghost use Rattle.comp_trees.specs.LeaderTree.{company as company_of};
 
+use cert_base::can_meet;
 use pop_io::NoMemory;
 use pop_net::Leaf;
 use std::alloc::Global;
@@ -29,22 +30,6 @@ fn is_other(leaf: &Leaf, state: u16, q: u16) -> bool
     ensures { result ≡ (not (q == state) && can_meet_in leaf.now state q) }
 {
     q != state && can_meet(leaf, state, q)
-}
-
-/// Whether two states can meet.
-fn can_meet(leaf: &Leaf, p: u16, q: u16) -> bool
-    requires first { p < length leaf.now.states }
-    requires second { q < length leaf.now.states }
-    ensures { result ≡ can_meet_in leaf.now p q }
-{
-    let (r, s) = leaf.react(p, q);
-    is_changed(r, s, p, q)
-}
-
-fn is_changed(r: u16, s: u16, p: u16, q: u16) -> bool
-    ensures { result ≡ (not (r == p) || not (s == q)) }
-{
-    r != p || s != q
 }
 
 fn push_if(states: &mut Vec<u16>, state: u16, passes: bool) -> Result<(), NoMemory>

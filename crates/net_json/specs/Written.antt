@@ -48,7 +48,8 @@ unfoldable pub leaf_data : Bool → LeafModel → Data
 leaf_data false leaf =
     leaf_members (numbers_data leaf.inputs) (list_data (map move_data leaf.moves)) (truths_data leaf.outputs) (texts_data leaf.states)
 leaf_data true leaf =
-    helped_members (numbers_data leaf.helpers) (numbers_data leaf.inputs) (list_data (map move_data leaf.moves)) (truths_data leaf.outputs) (texts_data leaf.states)
+    helped_members (numbers_data leaf.helpers) (numbers_data leaf.inputs) (list_data (map move_data leaf.moves))
+    (truths_data leaf.outputs) (texts_data leaf.states)
 
 abbrev pub net_members : Data → Data → Data → Data → Data
 net_members combine format leaves vars =
@@ -63,4 +64,5 @@ format_of helped = if helped then HELPER_FORMAT else PLAIN_FORMAT
 
 unfoldable pub net_data : NetModel → Data
 net_data net =
-    net_members (list_data (map item_data net.combine)) (number_data (format_of (is_helped net))) (list_data (map (leaf_data (is_helped net)) net.leaves)) (texts_data net.variables)
+    net_members (list_data (map item_data net.combine)) (number_data (format_of (is_helped net)))
+    (list_data (map (leaf_data (is_helped net)) net.leaves)) (texts_data net.variables)

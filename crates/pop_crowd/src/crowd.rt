@@ -38,8 +38,8 @@ pub struct Meeting {
     pub changed: bool,
 }
 
-/// Whether one of two words was written anew.
-fn differ(old: (Word, Word), new: (Word, Word)) -> bool
+/// Whether one of two words is another than before.
+pub fn differ(old: (Word, Word), new: (Word, Word)) -> bool
     ensures { result ≡ (not (new.0.0 == old.0.0) || not (new.1.0 == old.1.0)) }
 {
     new.0 != old.0 || new.1 != old.1

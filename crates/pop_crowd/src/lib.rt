@@ -10,7 +10,7 @@ mod limits;
 mod lines;
 mod starts;
 
-pub use crowd::{Crowd, Meeting};
+pub use crowd::{Crowd, Meeting, differ};
 pub use examples::replay_examples;
 pub use fault::CrowdFault;
 pub use limits::{AGENT_LEAST, AGENT_LIMIT};

@@ -19,3 +19,5 @@ pub mod Values
 pub mod Within
 pub mod Tables
 pub mod Widths
+pub mod DigitSet
+pub mod StateSet

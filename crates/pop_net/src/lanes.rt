@@ -26,7 +26,7 @@ impl LaneWidth {
         }
     }
 
-    fn bits(self) -> usize
+    pub(crate) fn bits(self) -> usize
         ensures { result ≡ bits_of self }
     {
         match self {

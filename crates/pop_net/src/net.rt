@@ -1,6 +1,6 @@
 //! Protocols that run side by side on the same agents, and a combination of their outputs.
 
-ghost use Rattle.std.specs.Prelude.{◌≡◌, ◌<◌, ◌↔◌, length, Some, IfOk, IfErr, IfSome, IsTrue, slice_get};
+ghost use Rattle.std.specs.Prelude.{◌≡◌, ◌<◌, ◌↔◌, length, Some, IfOk, IfErr, IfSome, IsTrue, slice_get, slice_set};
 ghost use Rattle.pop_net.specs.NetFaults.{names_below};
 
 use crate::combination::value_of;
@@ -167,6 +167,20 @@ impl Net {
         // A net has at most as many leaves as a word has lanes.
         let _ = &self.leaves;
         self.lanes.state(word.0, leaf as usize)
+    }
+
+    /// The word with another state of one leaf.
+    pub fn with_state(&self, word: Word, leaf: u8, state: u16) -> Word
+        requires valid { IsValid self.now word }
+        requires leaf_in { leaf < length self.now.leaves }
+        requires state_in { IfSome (slice_get self.now.leaves leaf) (λ l. state < length l.states) }
+        ensures tuple { tuple_of self.now result ≡ slice_set (tuple_of self.now word) leaf state }
+        ensures valid { IsValid self.now result }
+    {
+        let at = self.lanes.bits() * usize::from(leaf);
+        let had = u64::from(self.lane(word, leaf)) << at;
+        let gets = u64::from(state) << at;
+        Word(word.0 - had + gets)
     }
 
     /// Each leaf reacts by itself.

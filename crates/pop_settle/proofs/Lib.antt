@@ -1,5 +1,4 @@
 mod Bounds
-mod DigitSet
 pub mod Endings
 mod Firsts
 mod Fuel
@@ -10,7 +9,6 @@ mod Layering
 pub mod Once
 mod Running
 mod Searching
-mod StateSet
 mod Taking
 mod Walking
 mod Words

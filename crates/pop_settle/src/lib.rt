@@ -6,7 +6,6 @@
 mod bound;
 mod fault;
 mod groups;
-mod lanes;
 mod law;
 mod limits;
 mod runs;

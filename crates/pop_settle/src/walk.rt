@@ -6,7 +6,6 @@ ghost use Rattle.pop_net.specs.Lanes.{crowd_of, AreValid};
 ghost use Rattle.pop_settle.specs.Settlement.{with_state as changed};
 ghost use Rattle.pop_settle.specs.Walks.{TakesTo};
 
-use crate::lanes::with_state;
 use crate::take::Take;
 use pop_crowd::Crowd;
 use pop_io::NoMemory;
@@ -68,6 +67,6 @@ impl Walk {
         ensures agents { length self.new.words.items ≡ length self.old.words.items }
     {
         let word = self.words[agent as usize];
-        self.words[agent as usize] = with_state(net, word, leaf, state);
+        self.words[agent as usize] = net.with_state(word, leaf, state);
     }
 }

@@ -3,12 +3,13 @@
 ghost use Rattle.std.specs.Prelude.{◌≡◌, ◌≤◌, ◌^◌, ◌-◌, All, nat_abs, IfOk};
 ghost use Rattle.pres_ast.specs.PredTree.{LessThan};
 ghost use Rattle.pres_ast.specs.TreeOf.{tree_of};
-ghost use Rattle.pres_read.specs.Atoms.{turned as turned_coefs, negated_if as negation_if, equality as equality_tree, compared as compared_tree, congruent as congruent_tree, constant_limit as limit_of};
+ghost use Rattle.pres_read.specs.Atoms.{negated_if as negation_if, equality as equality_tree};
+ghost use Rattle.pres_read.specs.Atoms.{compared as compared_tree, congruent as congruent_tree, constant_limit as limit_of};
 
 use pop_io::{List, NoMemory};
-use pres_ast::{BOUND_LIMIT, COEFFICIENT_LIMIT, MODULUS_LIMIT, Tree};
+use pres_ast::{BOUND_LIMIT, COEFFICIENT_LIMIT, MODULUS_LIMIT, Tree, turned};
 use pres_tokens::Relation;
-use std::alloc::{AllocError, Global};
+use std::alloc::Global;
 
 /// The greatest constant after a relation.
 pub(crate) fn constant_limit(relation: Relation) -> u64
@@ -18,17 +19,6 @@ pub(crate) fn constant_limit(relation: Relation) -> u64
         Relation::Less => BOUND_LIMIT,
         _ => BOUND_LIMIT - 1,
     }
-}
-
-fn turned(alloc: Global, coefs: &[i64]) -> Result<Vec<i64>, AllocError>
-    requires { All (λ a. nat_abs a ≤ COEFFICIENT_LIMIT) coefs.now }
-    ensures { IfOk result (λ sum. sum.items ≡ turned_coefs coefs.now) }
-{
-    let mut turned = Vec::with_capacity(alloc, coefs.len())?;
-    for coef in coefs {
-        turned.push(-*coef)?;
-    }
-    Ok(turned)
 }
 
 fn less(coefs: Vec<i64>, bound: i64) -> Tree

@@ -42,7 +42,8 @@ IsLeafOf net i P = (leaf : LeafModel) → slice_get net.leaves i ≡ Some leaf �
 -- such marks for each of the first n leaves
 pub record AreRestlessTo (net : NetModel) (crowd : CrowdModel) (marks : List (List Bool)) (n : ℕ) : Type 0 where
   pub one_each : length marks ≡ n
-  pub each : (i : ℕ) (leaf : LeafModel) (here : List Bool) → slice_get net.leaves i ≡ Some leaf → slice_get marks i ≡ Some here → IsMarked leaf (component i crowd) here
+  pub each : (i : ℕ) (leaf : LeafModel) (here : List Bool) → slice_get net.leaves i ≡ Some leaf → slice_get marks i ≡ Some here
+      → IsMarked leaf (component i crowd) here
 
 abbrev pub AreRestless : NetModel → CrowdModel → List (List Bool) → Type 0
 AreRestless net crowd marks = AreRestlessTo net crowd marks (length net.leaves)
@@ -56,4 +57,6 @@ IsCalm marks tuple = IsCalmTo marks tuple (length marks)
 
 -- one mark for each state of each leaf
 abbrev pub AreSizes : NetModel → List (List Bool) → Type 0
-AreSizes net marks = (i : ℕ) (leaf : LeafModel) (here : List Bool) → slice_get net.leaves i ≡ Some leaf → slice_get marks i ≡ Some here → length here ≡ length leaf.states
+AreSizes net marks =
+    (i : ℕ) (leaf : LeafModel) (here : List Bool) → slice_get net.leaves i ≡ Some leaf → slice_get marks i ≡ Some here
+    → length here ≡ length leaf.states

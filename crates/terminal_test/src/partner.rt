@@ -1,11 +1,11 @@
 //! The first agent that another one can react with.
 
-ghost use Rattle.std.specs.Prelude.{◌≡◌, ◌<◌, ◌==◌, ◌||◌, not, length};
+ghost use Rattle.std.specs.Prelude.{◌≡◌, ◌<◌, length};
 ghost use Rattle.pop_net.specs.Lanes.{tuple_of, crowd_of, IsValid, AreValid};
 ghost use Rattle.pop_crowd.specs.Replay.{reacts};
 ghost use Rattle.terminal_test.specs.Pairs.{IsPartner};
 
-use pop_crowd::Crowd;
+use pop_crowd::{Crowd, differ};
 use pop_net::{Net, Word};
 
 /// The first agent after a whose meeting with a changes a word.
@@ -32,10 +32,4 @@ fn is_enabled(net: &Net, x: Word, y: Word) -> bool
 {
     let (first, second) = net.react(x, y);
     differ((x, y), (first, second))
-}
-
-fn differ(old: (Word, Word), new: (Word, Word)) -> bool
-    ensures { result ≡ (not (new.0.0 == old.0.0) || not (new.1.0 == old.1.0)) }
-{
-    new.0 != old.0 || new.1 != old.1
 }

@@ -1,7 +1,7 @@
 use Rattle.std.proofs.Common.{◌∙◌, ap, sym}
 use Rattle.std.specs.Prelude.{not, ◌==◌, ◌||◌, ℕ}
-use Rattle.cert_traps.proofs.Meetings.{meet-react}
-use Rattle.cert_traps.proofs.partners.can_meet.Goals as goal
+use Rattle.cert_base.proofs.Meetings.{meet-react}
+use Rattle.cert_base.proofs.meet.can_meet.Goals as goal
 
 pub returns : goal.returns
 returns c =
