@@ -1,6 +1,6 @@
 //! Facts about the counts of an execution.
 
-ghost use Rattle.std.specs.Prelude.{◌≡◌, IfOk};
+ghost use Rattle.std.specs.Prelude.{◌≡◌, ◌∷◌, [], IfOk};
 
 use pop_io::{List, NoMemory};
 use pres_ast::Pred;
@@ -51,4 +51,13 @@ impl Fact {
             Fact::Holds(pred, value) => Fact::Holds(pred.copy(alloc)?, *value),
         })
     }
+}
+
+/// The list of one fact.
+pub fn only(alloc: Global, fact: Fact) -> Result<List<Fact>, NoMemory>
+    ensures { IfOk result (λ facts. facts ≡ fact ∷ []) }
+{
+    let mut facts = Vec::new(alloc);
+    facts.push(fact)?;
+    Ok(List::from_vec(facts))
 }

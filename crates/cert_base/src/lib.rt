@@ -22,7 +22,7 @@ mod variables;
 
 pub use base::base_facts;
 pub use combination::net_pred_is;
-pub use fact::{Fact, Row, Term};
+pub use fact::{Fact, Row, Term, only};
 pub use law::flow_law;
 pub use layer::Layer;
 pub use limits::{FACT_LIMIT, LAYER_LIMIT, NODE_LIMIT, PATH_LIMIT, SIZE_LIMIT, TERM_LIMIT};

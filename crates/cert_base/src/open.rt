@@ -8,7 +8,7 @@ ghost use Rattle.cert_base.specs.declared.fact.Fact.TheVariants.{Holds};
 ghost use Rattle.cert_base.specs.FactsAndCases.{open_tree, open_cases as open_list, both_of, one_of, over};
 ghost use Rattle.cert_base.specs.Ends.{CoverValue};
 
-use crate::fact::{Fact, Row};
+use crate::fact::{Fact, Row, only};
 use pop_io::{List, NoMemory, VARIABLE_LIMIT};
 use pres_ast::{BOUND_LIMIT, Pred, Tree, turned};
 use std::alloc::Global;
@@ -120,13 +120,4 @@ fn one_case(alloc: Global, fact: Fact) -> Result<List<List<Fact>>, NoMemory>
     let mut cases = Vec::new(alloc);
     cases.push(only(alloc, fact)?)?;
     Ok(List::from_vec(cases))
-}
-
-/// The list of one fact.
-pub(crate) fn only(alloc: Global, fact: Fact) -> Result<List<Fact>, NoMemory>
-    ensures { IfOk result (λ facts. facts ≡ fact ∷ []) }
-{
-    let mut facts = Vec::new(alloc);
-    facts.push(fact)?;
-    Ok(List::from_vec(facts))
 }

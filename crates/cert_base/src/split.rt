@@ -4,9 +4,8 @@ ghost use Rattle.std.specs.Prelude.{◌≡◌, ◌≤◌, nat_abs, neg_ℤ, negs
 ghost use Rattle.cert_base.specs.FactsAndCases.{plus, negated as turned_row, split_cases as split_list};
 ghost use Rattle.cert_base.specs.Ends.{CoverAll};
 
-use crate::fact::{Fact, Row, Term};
+use crate::fact::{Fact, Row, Term, only};
 use crate::limits::SIZE_LIMIT;
-use crate::open::only;
 use pop_io::{List, NoMemory};
 use std::alloc::Global;
 

@@ -8,7 +8,9 @@ ghost use Rattle.std.specs.Prelude.{◌≡◌, ◌<◌, ◌≤◌, length, Optio
 ghost use Rattle.std.specs.List.{list_any, range_with_len};
 ghost use Rattle.pop_net.specs.FirstFault.{first_below};
 ghost use Rattle.pop_net.specs.LeafModel.{IsLeaf, IsMoveBelow};
-ghost use Rattle.cert_layers.specs.Waking.{is_early, brings as brings_state, brings_both as brings_two, wakes_with as wakes_pair, wakes as wakes_states, wakes_beside as wakes_beside_state, may_wake as may_wake_any, wakes_move as wakes_numbered, wakes_at, IsTable, FindsFirst, FindsWaking};
+ghost use Rattle.cert_layers.specs.Waking.{is_early, brings as brings_state, brings_both as brings_two, wakes_with as wakes_pair};
+ghost use Rattle.cert_layers.specs.Waking.{wakes as wakes_states, wakes_beside as wakes_beside_state, may_wake as may_wake_any};
+ghost use Rattle.cert_layers.specs.Waking.{wakes_move as wakes_numbered, wakes_at, IsTable, FindsFirst, FindsWaking};
 
 use crate::pairs::PairTable;
 use pop_net::{Leaf, Move, STATE_LIMIT};

@@ -1,6 +1,7 @@
 //! A sum of rows.
 
-ghost use Rattle.std.specs.Prelude.{◌≡◌, ◌≤◌, ◌<◌, ◌+◌, ◌^◌, ◌+ℤ◌, ◌*ℤ◌, ℕ, ◌&&◌, not, ◌==◌, if◌then◌else◌, pos, negsuc, nat_abs, int_le, length, true, OnOk, IfSome};
+ghost use Rattle.std.specs.Prelude.{◌≡◌, ◌≤◌, ◌<◌, ◌+◌, ◌^◌, ◌+ℤ◌, ◌*ℤ◌, ℕ, ◌&&◌, not, ◌==◌, if◌then◌else◌, pos, negsuc, nat_abs};
+ghost use Rattle.std.specs.Prelude.{int_le, length, true, OnOk, IfSome};
 ghost use Rattle.std.specs.List.{list_all};
 ghost use Rattle.pres_ast.specs.PredicateValue.{divides as is_multiple};
 ghost use Rattle.cert_base.specs.declared.fact.Row.{Row};

@@ -10,15 +10,6 @@ use cert_base::{Fact, Row};
 use pop_io::{List, NoMemory};
 use std::alloc::Global;
 
-/// The list of one fact.
-pub(crate) fn only(alloc: Global, fact: Fact) -> Result<List<Fact>, NoMemory>
-    ensures { IfOk result (λ facts. facts ≡ fact ∷ []) }
-{
-    let mut facts = Vec::new(alloc);
-    facts.push(fact)?;
-    Ok(List::from_vec(facts))
-}
-
 /// The variable is 0.
 pub(crate) fn is_zero(alloc: Global, variable: u32) -> Result<Fact, NoMemory>
     ensures { IfOk result (λ fact. fact ≡ Eq (single_row variable (pos 1) (pos 0))) }

@@ -1,13 +1,16 @@
 //! What a terminal end says of one state.
 
-ghost use Rattle.std.specs.Prelude.{◌≡◌, ◌<◌, ◌≤◌, ◌^◌, ◌∷◌, ◌++◌, ◌==◌, ◌&&◌, not, [], length, map, filter, if◌then◌else◌, slice_index_or, false, Some, None, IfOk, OnOk, IfSome};
-ghost use Rattle.cert_base.specs.FactsAndCases.{states_of, can_meet, absent as absent_fact, occurs as occurs_fact, alone as alone_fact, not_twice, present_cases as present_list, twin_case as twin_list};
+ghost use Rattle.std.specs.Prelude.{◌≡◌, ◌<◌, ◌≤◌, ◌^◌, ◌∷◌, ◌++◌, ◌==◌, ◌&&◌, not, [], length, map, filter, if◌then◌else◌};
+ghost use Rattle.std.specs.Prelude.{slice_index_or, false, Some, None, IfOk, OnOk, IfSome};
+ghost use Rattle.cert_base.specs.FactsAndCases.{states_of, can_meet, absent as absent_fact, occurs as occurs_fact};
+ghost use Rattle.cert_base.specs.FactsAndCases.{alone as alone_fact, not_twice, present_cases as present_list};
+ghost use Rattle.cert_base.specs.FactsAndCases.{twin_case as twin_list};
 ghost use Rattle.cert_base.specs.Ends.{Cover};
 ghost use Rattle.cert_traps.specs.Facts.{alone_if};
 
-use crate::facts::{is_zero, only, push_zero};
+use crate::facts::{is_zero, push_zero};
 use crate::partners::partners;
-use cert_base::{Fact, Row, variable_of_state};
+use cert_base::{Fact, Row, only, variable_of_state};
 use pop_io::{List, NoMemory};
 use pop_net::Leaf;
 use std::alloc::Global;

@@ -4,14 +4,15 @@ ghost use Rattle.std.specs.Prelude.{◌≡◌, ◌++◌, ◌∷◌, [], pos, ◌
 ghost use Rattle.pop_net.specs.LeafModel.{IsLeaf};
 ghost use Rattle.cert_base.specs.declared.fact.Fact.TheVariants.{Ge, Eq};
 ghost use Rattle.cert_base.specs.Rows.{input_row};
-ghost use Rattle.cert_base.specs.FactsAndCases.{indicator, is_in, helpers_among, takes_from, none_taken as no_moves, count_in as count_row, siphon_cases as siphon_list};
+ghost use Rattle.cert_base.specs.FactsAndCases.{indicator, is_in, helpers_among, takes_from, none_taken as no_moves};
+ghost use Rattle.cert_base.specs.FactsAndCases.{count_in as count_row, siphon_cases as siphon_list};
 ghost use Rattle.cert_base.specs.Ends.{Cover};
 
-use crate::facts::{coefs, only};
+use crate::facts::coefs;
 use crate::role::Role;
 use crate::set::StateSet;
 use crate::trap::{count_in, none_taken, some_taken};
-use cert_base::{Fact, Row};
+use cert_base::{Fact, Row, only};
 use pop_io::{List, NoMemory};
 use pop_net::Leaf;
 use std::alloc::Global;

@@ -3,14 +3,16 @@
 ghost use Rattle.std.specs.Prelude.{◌≡◌, ◌≤◌, ◌^◌, ◌++◌, ◌∷◌, [], pos, length, map, IfOk, OnOk};
 ghost use Rattle.pop_net.specs.LeafModel.{IsLeaf};
 ghost use Rattle.cert_base.specs.declared.fact.Fact.TheVariants.{Ge, Eq};
-ghost use Rattle.cert_base.specs.FactsAndCases.{none_taken as no_moves, none_started as no_inputs, none_helps as no_helpers, some_taken as some_moves, count_in as count_row, puts_into, trap_cases as trap_list};
+ghost use Rattle.cert_base.specs.FactsAndCases.{none_taken as no_moves, none_started as no_inputs, none_helps as no_helpers};
+ghost use Rattle.cert_base.specs.FactsAndCases.{some_taken as some_moves, count_in as count_row, puts_into};
+ghost use Rattle.cert_base.specs.FactsAndCases.{trap_cases as trap_list};
 ghost use Rattle.cert_base.specs.Ends.{Cover};
 ghost use Rattle.cert_traps.specs.Roles.{passes};
 
-use crate::facts::{coefs, only, push_zeros};
+use crate::facts::{coefs, push_zeros};
 use crate::role::{Role, move_flags};
 use crate::set::StateSet;
-use cert_base::{Fact, Row, variable_of_input, variable_of_move};
+use cert_base::{Fact, Row, only, variable_of_input, variable_of_move};
 use pop_io::{List, NoMemory};
 use pop_net::Leaf;
 use std::alloc::Global;

@@ -5,7 +5,8 @@ ghost use Rattle.std.specs.List.{range_with_len};
 ghost use Rattle.pres_ast.specs.declared.limits.TheConstants.{MODULUS_LIMIT};
 ghost use Rattle.cert_base.specs.FactsAndCases.{states_of, indicator, differs};
 ghost use Rattle.comp_remainder_leaf.specs.RemainderLeaf.{state_count};
-ghost use Rattle.comp_remainder.specs.RemainderProof.{value_of, opened_by, value_node as value_node_of, wrong_node as wrong_node_of, leader_node as node_of, remainder_tree};
+ghost use Rattle.comp_remainder.specs.RemainderProof.{value_of, opened_by, value_node as value_node_of};
+ghost use Rattle.comp_remainder.specs.RemainderProof.{wrong_node as wrong_node_of, leader_node as node_of, remainder_tree};
 
 use cert_base::Node;
 use comp_remainder_leaf::output;

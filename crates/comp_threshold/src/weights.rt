@@ -4,7 +4,9 @@ ghost use Rattle.std.specs.Prelude.{◌≡◌, ◌≤◌, map, length, IfOk};
 ghost use Rattle.std.specs.List.{range_with_len};
 ghost use Rattle.comp_threshold_leaf.specs.ThresholdLeaf.{state_count};
 ghost use Rattle.comp_threshold_leaf.specs.declared.limits.TheConstants.{WIDTH_LIMIT};
-ghost use Rattle.comp_threshold.specs.ThresholdProof.{distance as distance_of, first_weight as first_of, false_weight as false_of, true_weight as true_of, weights_by, threshold_layers};
+ghost use Rattle.comp_threshold.specs.ThresholdProof.{distance as distance_of, first_weight as first_of};
+ghost use Rattle.comp_threshold.specs.ThresholdProof.{false_weight as false_of, true_weight as true_of, weights_by};
+ghost use Rattle.comp_threshold.specs.ThresholdProof.{threshold_layers};
 
 use cert_base::Layer;
 use comp_layers::layer;

@@ -3,7 +3,8 @@
 ghost use Rattle.std.specs.Prelude.{◌≡◌, ◌++◌, ◌≤◌, ◌+◌, ◌^◌, map, reverse, length, IfOk, OnOk};
 ghost use Rattle.std.specs.List.{range_with_len};
 ghost use Rattle.cert_base.specs.declared.node.Node.TheVariants.{Present as present_node};
-ghost use Rattle.comp_trees.specs.LeaderTree.{tree_of_ends, no_leak_by as leak_list, no_start_by as start_list, no_leader_by as leader_list, top_nodes, weighed as weighed_list};
+ghost use Rattle.comp_trees.specs.LeaderTree.{tree_of_ends, no_leak_by as leak_list, no_start_by as start_list};
+ghost use Rattle.comp_trees.specs.LeaderTree.{no_leader_by as leader_list, top_nodes, weighed as weighed_list};
 
 use crate::mixing::weighed;
 use cert_base::Node;

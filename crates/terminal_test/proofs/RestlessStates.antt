@@ -17,7 +17,7 @@ use Rattle.pop_net.proofs.Quiet.{leaf_quiet, leaves_quiet, All-slice_get}
 use Rattle.pop_net.proofs.Silent.{same_pair_cases}
 use Rattle.pop_crowd.specs.Replay.{reacts, changes}
 use Rattle.terminal_test.specs.Loud.{pairs_of, ArePairsBelow}
-use Rattle.terminal_test.specs.Restless.{CountsTo, AreSeen, can_meet_by, AreMarkedTo, AreMarked, IsMarked, AreRestlessTo, AreRestless, IsCalmTo, IsCalm}
+use Rattle.terminal_test.specs.Restless.{CountsTo, AreSeen, are_held_by, AreMarkedTo, AreMarked, IsMarked, AreRestlessTo, AreRestless, IsCalmTo, IsCalm}
 use Rattle.terminal_test.proofs.LoudPairs.{in_pairs, pairs_below}
 use Rattle.terminal_test.proofs.Pairwise.{moved}
 use Rattle.terminal_test.proofs.Searches.{changes_at}
@@ -85,17 +85,17 @@ module _ (marks : List Bool) (p : ℕ) where
 
 module _ (pairs : List (ℕ × ℕ)) (seen : List ℕ) (marks : List Bool) (k p q : ℕ) (is : slice_get pairs k ≡ Some (p, q)) (h : AreMarkedTo pairs seen marks k) where
   -- a pair that cannot meet
-  pub marked_skip : can_meet_by seen p q ≡ false → AreMarkedTo pairs seen marks (k + 1)
+  pub marked_skip : are_held_by seen p q ≡ false → AreMarkedTo pairs seen marks (k + 1)
   marked_skip none = record { size = h.size; first = λ j u v l hj m. h.first j u v (earlier j u v l hj m) hj m; second = λ j u v l hj m. h.second j u v (earlier j u v l hj m) hj m }
     where
-      earlier : (j u v : ℕ) → j < k + 1 → slice_get pairs j ≡ Some (u, v) → can_meet_by seen u v ≡ true → j < k
+      earlier : (j u v : ℕ) → j < k + 1 → slice_get pairs j ≡ Some (u, v) → are_held_by seen u v ≡ true → j < k
       earlier j u v l hj m = go (cases_eq j k)
         where
           go : (j ≡ k) ⊎ (j ≡ k → ⊥) → j < k
           go (inr ne) = omega (arith, l, ne)
           go (inl same) =
               let pair : ◌≡◌ {A = ℕ × ℕ} (u, v) (p, q) = same_Some (u, v) (p, q) (sym hj ∙ ap (slice_get pairs) same ∙ is) in
-              absurd (false≢true (sym none ∙ ap (λ (z : ℕ × ℕ). can_meet_by seen z.0 z.1) (sym pair) ∙ m))
+              absurd (false≢true (sym none ∙ ap (λ (z : ℕ × ℕ). are_held_by seen z.0 z.1) (sym pair) ∙ m))
 
   -- a pair that can meet
   pub marked_more : p < length marks → q < length marks → AreMarkedTo pairs seen (slice_set (slice_set marks p true) q true) (k + 1)
@@ -121,19 +121,19 @@ module _ (pairs : List (ℕ × ℕ)) (seen : List ℕ) (marks : List Bool) (k p 
       pair : (j u v : ℕ) → slice_get pairs j ≡ Some (u, v) → j ≡ k → ◌≡◌ {A = ℕ × ℕ} (u, v) (p, q)
       pair j u v hj same = same_Some (u, v) (p, q) (sym hj ∙ ap (slice_get pairs) same ∙ is)
 
-      first : (j u v : ℕ) → j < k + 1 → slice_get pairs j ≡ Some (u, v) → can_meet_by seen u v ≡ true → (j ≡ k) ⊎ (j ≡ k → ⊥) → slice_get (slice_set (slice_set marks p true) q true) u ≡ Some true
+      first : (j u v : ℕ) → j < k + 1 → slice_get pairs j ≡ Some (u, v) → are_held_by seen u v ≡ true → (j ≡ k) ⊎ (j ≡ k → ⊥) → slice_get (slice_set (slice_set marks p true) q true) u ≡ Some true
       first j u v l hj m (inr ne) = keeps_true (slice_set marks p true) q u (keeps_true marks p u (h.first j u v (omega (arith, l, ne)) hj m))
       first j u v l hj m (inl same) = ap (λ (z : ℕ × ℕ). slice_get (slice_set (slice_set marks p true) q true) z.0) (pair j u v hj same) ∙ at_p
 
-      second : (j u v : ℕ) → j < k + 1 → slice_get pairs j ≡ Some (u, v) → can_meet_by seen u v ≡ true → (j ≡ k) ⊎ (j ≡ k → ⊥) → slice_get (slice_set (slice_set marks p true) q true) v ≡ Some true
+      second : (j u v : ℕ) → j < k + 1 → slice_get pairs j ≡ Some (u, v) → are_held_by seen u v ≡ true → (j ≡ k) ⊎ (j ≡ k → ⊥) → slice_get (slice_set (slice_set marks p true) q true) v ≡ Some true
       second j u v l hj m (inr ne) = keeps_true (slice_set marks p true) q v (keeps_true marks p v (h.second j u v (omega (arith, l, ne)) hj m))
       second j u v l hj m (inl same) = ap (λ (z : ℕ × ℕ). slice_get (slice_set (slice_set marks p true) q true) z.1) (pair j u v hj same) ∙ at_q
 
 -- two agents in these states can meet
-can_meet : (seen : List ℕ) (p q : ℕ) → 1 ≤ get_or seen p 0 → 1 ≤ get_or seen q 0 → (p ≡ q → 2 ≤ get_or seen p 0) → can_meet_by seen p q ≡ true
-can_meet seen p q one other two = go (eqb_tells p q)
+are_held : (seen : List ℕ) (p q : ℕ) → 1 ≤ get_or seen p 0 → 1 ≤ get_or seen q 0 → (p ≡ q → 2 ≤ get_or seen p 0) → are_held_by seen p q ≡ true
+are_held seen p q one other two = go (eqb_tells p q)
   where
-    go : ((p == q) ≡ true) × (p ≡ q) ⊎ ((p == q) ≡ false) × (p ≢ q) → can_meet_by seen p q ≡ true
+    go : ((p == q) ≡ true) × (p ≡ q) ⊎ ((p == q) ≡ false) × (p ≢ q) → are_held_by seen p q ≡ true
     go (inl same) =
         ap (λ b. if b then nat_le 2 (get_or seen p 0) else (nat_le 1 (get_or seen p 0) && nat_le 1 (get_or seen q 0))) same.0 ∙ le-leb 2 (get_or seen p 0) (two same.1)
     go (inr ne) =
@@ -170,10 +170,10 @@ module _ (leaf : LeafModel) (states seen : List ℕ) (marks : List Bool) (n : �
     where
       go : (t : Move) → (j : ℕ) × (slice_get (pairs_of leaf.moves) j ≡ Some (t.p, t.q)) → ((x ≡ t.p) × (y ≡ t.q)) ⊎ ((x ≡ t.q) × (y ≡ t.p)) → slice_get marks x ≡ Some true
       go t at (inl e) =
-          let met : can_meet_by seen t.p t.q ≡ true = rw (← e.0, ← e.1) (can_meet seen x y (there a x ha) (there b y hb) (λ same. both a b x ne ha (hb ∙ ap Some (sym same)))) in
+          let met : are_held_by seen t.p t.q ≡ true = rw (← e.0, ← e.1) (are_held seen x y (there a x ha) (there b y hb) (λ same. both a b x ne ha (hb ∙ ap Some (sym same)))) in
           ap (slice_get marks) e.0 ∙ marked.first at.0 t.p t.q (slice_get_within (pairs_of leaf.moves) at.0 (t.p, t.q) at.1) at.1 met
       go t at (inr e) =
-          let met : can_meet_by seen t.p t.q ≡ true = rw (← e.0, ← e.1) (can_meet seen y x (there b y hb) (there a x ha) (λ same. both b a y (λ e. ne (sym e)) hb (ha ∙ ap Some (sym same)))) in
+          let met : are_held_by seen t.p t.q ≡ true = rw (← e.0, ← e.1) (are_held seen y x (there b y hb) (there a x ha) (λ same. both b a y (λ e. ne (sym e)) hb (ha ∙ ap Some (sym same)))) in
           ap (slice_get marks) e.0 ∙ marked.second at.0 t.p t.q (slice_get_within (pairs_of leaf.moves) at.0 (t.p, t.q) at.1) at.1 met
 
 -- where no leaf has a move for two tuples, a reaction changes nothing

@@ -15,8 +15,8 @@ pub record AreSeen (net : NetModel) (i : ℕ) (crowd : CrowdModel) (seen : List 
   pub counted : CountsTo (component i crowd) seen (length crowd)
 
 -- whether two different agents stand in these states
-abbrev pub can_meet_by : List ℕ → ℕ → ℕ → Bool
-can_meet_by seen p q =
+abbrev pub are_held_by : List ℕ → ℕ → ℕ → Bool
+are_held_by seen p q =
     if p == q
     then nat_le 2 (slice_index_or seen p 0)
     else (nat_le 1 (slice_index_or seen p 0) && nat_le 1 (slice_index_or seen q 0))
@@ -24,8 +24,8 @@ can_meet_by seen p q =
 -- the states of the first k pairs are marked where they can meet
 pub record AreMarkedTo (pairs : List (ℕ × ℕ)) (seen : List ℕ) (marks : List Bool) (k : ℕ) : Type 0 where
   pub size : length marks ≡ length seen
-  pub first : (j p q : ℕ) → j < k → slice_get pairs j ≡ Some (p, q) → can_meet_by seen p q ≡ true → slice_get marks p ≡ Some true
-  pub second : (j p q : ℕ) → j < k → slice_get pairs j ≡ Some (p, q) → can_meet_by seen p q ≡ true → slice_get marks q ≡ Some true
+  pub first : (j p q : ℕ) → j < k → slice_get pairs j ≡ Some (p, q) → are_held_by seen p q ≡ true → slice_get marks p ≡ Some true
+  pub second : (j p q : ℕ) → j < k → slice_get pairs j ≡ Some (p, q) → are_held_by seen p q ≡ true → slice_get marks q ≡ Some true
 
 abbrev pub AreMarked : List (ℕ × ℕ) → List ℕ → List Bool → Type 0
 AreMarked pairs seen marks = AreMarkedTo pairs seen marks (length pairs)

@@ -4,7 +4,7 @@ ghost use Rattle.std.specs.Prelude.{◌≡◌, ◌<◌, length, map, IfOk, false
 ghost use Rattle.pop_net.specs.Lanes.{tuple_of, crowd_of, IsValid, AreValid};
 ghost use Rattle.pop_net.proofs.Projection.{component};
 ghost use Rattle.terminal_test.specs.Loud.{pairs_of, ArePairsBelow};
-ghost use Rattle.terminal_test.specs.Restless.{AreSeen, can_meet_by, AreMarked, IsMarked, IsLeafOf, AreRestless, AreSizes, IsCalm};
+ghost use Rattle.terminal_test.specs.Restless.{AreSeen, are_held_by, AreMarked, IsMarked, IsLeafOf, AreRestless, AreSizes, IsCalm};
 
 use pop_crowd::Crowd;
 use pop_io::{List, NoMemory};
@@ -91,7 +91,7 @@ fn marked_states(alloc: Global, pairs: &[(u16, u16)], seen: &[u8]) -> Result<Lis
     let mut marks = vec![in alloc; false; seen.len()]?;
     for pair in pairs {
         let (p, q) = *pair;
-        if can_meet(seen, p, q) {
+        if are_held(seen, p, q) {
             marks[p as usize] = true;
             marks[q as usize] = true;
         }
@@ -100,10 +100,10 @@ fn marked_states(alloc: Global, pairs: &[(u16, u16)], seen: &[u8]) -> Result<Lis
 }
 
 /// Whether two different agents stand in these states.
-fn can_meet(seen: &[u8], p: u16, q: u16) -> bool
+fn are_held(seen: &[u8], p: u16, q: u16) -> bool
     requires p_in { p < length seen.now }
     requires q_in { q < length seen.now }
-    ensures { result ≡ can_meet_by seen.now p q }
+    ensures { result ≡ are_held_by seen.now p q }
 {
     let first = seen[p as usize];
     let second = seen[q as usize];
