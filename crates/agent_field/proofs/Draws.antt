@@ -17,7 +17,7 @@ use Rattle.agent_field.specs.declared.view.Look.{Look}
 use Rattle.agent_field.specs.declared.view.Setup.{Setup}
 use Rattle.agent_field.specs.declared.view.View.{View}
 use Rattle.agent_field.specs.History.{IsHistory, logged, calls, made}
-use Rattle.agent_field.specs.Standing.{agents_of, lock_at, agent_at, shard_of, packed, crowd_after, tuple_after, In, locks_of, spent, IsFirst, IsLook, LooksPart, Agrees, IsHeldBySome, StandsAt}
+use Rattle.agent_field.specs.Standing.{agents_of, lock_at, agent_at, shard_of, packed, crowd_after, tuple_after, In, locks_of, joined_away, IsFirst, IsLook, LooksPart, Agrees, IsHeldBySome, StandsAt}
 use Rattle.agent_field.specs.Steps.{IsReaction, meeting, IsNewest, IsDrawnAt}
 use Rattle.agent_field.proofs.Histories.{length-replay, replay-push, history-push, calls-push_mine, calls-push_other, calls_from-below, length-most, after_meeting-first, after_meeting-second, after_meeting-other}
 use Rattle.agent_field.proofs.Views.{at_length, set_each, one_seat, one_holder, owed_back, held_after, sits_set, not_dead}
@@ -185,5 +185,5 @@ module _ (k : Setup) (words : List ℕ) (views : List View) (history : List Meet
               tight = g.tight;
               looked = looks_later k history m u.looks g.looked;
             });
-        others = set_each views id w (λ j u. u.live ≡ false → u ≡ spent) (not_dead v live (w ≡ spent)) (λ j u other e. st.others j u e);
+        others = set_each views id w (λ j u. u.live ≡ false → u ≡ joined_away) (not_dead v live (w ≡ joined_away)) (λ j u other e. st.others j u e);
       }

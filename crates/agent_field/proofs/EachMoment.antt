@@ -18,7 +18,7 @@ use Rattle.pop_crowd.specs.Replay.{reacts}
 use Rattle.agent_field.specs.declared.view.Setup.{Setup}
 use Rattle.agent_field.specs.declared.view.View.{View}
 use Rattle.agent_field.specs.History.{made}
-use Rattle.agent_field.specs.Standing.{agents_of, crowd_after, Stands, In, StandsAt, IsUnfounded, founder, spent}
+use Rattle.agent_field.specs.Standing.{agents_of, crowd_after, Stands, In, StandsAt, IsUnfounded, founder, joined_away}
 use Rattle.agent_field.specs.Steps.{IsReaction, first_seat, meeting, looking}
 use Rattle.agent_field.specs.Kinds.{Sits, QuietStep, makes, locks, finds_locked, reads, writes, unlocks, splits, joins, looks, DrawStep, draws, FieldRun, stays, goes, meets, HasHistory, opening_words, EachMomentStands}
 use Rattle.agent_field.proofs.Keeps.{locks_keep, releases_keep, reads_keep, writes_keep}
@@ -40,7 +40,7 @@ module _ (k : Setup) where
       (λ (un : IsUnfounded k words views × (history ≡ [])).
       ⊎_elim
       (λ (t : (id ≡ 0) × (v ≡ founder k)). absurd (true≢false (sym s.live ∙ ap (λ (u : View). u.live) t.1)))
-      (λ (e : v ≡ spent). absurd (true≢false (sym s.live ∙ ap (λ (u : View). u.live) e)))
+      (λ (e : v ≡ joined_away). absurd (true≢false (sym s.live ∙ ap (λ (u : View). u.live) e)))
       (un.0.each id v s.at))
       (λ (t : At k words views history). t)
       h
@@ -109,7 +109,7 @@ module _ (k : Setup) where
   opened : 0 < k.shards → 0 < k.seats → k.seats ≤ 64 → AreValid k.net.value k.opening.value → HasHistory k (opening_words k) (founder k ∷ []) []
   opened shards seats few valid = inl (record { limits = (shards, seats, few); valid = valid; fresh = refl; each = each }, refl)
     where
-      each : (id : ℕ) (v : View) → get_elem? (founder k ∷ []) id ≡ some v → ((id ≡ 0) × (v ≡ founder k)) ⊎ (v ≡ spent)
+      each : (id : ℕ) (v : View) → get_elem? (founder k ∷ []) id ≡ some v → ((id ≡ 0) × (v ≡ founder k)) ⊎ (v ≡ joined_away)
       each zero v e = inl (refl, sym (some-injective (founder k) v e))
       each (suc id) v e = absurd (some-ne-none v (sym e))
 

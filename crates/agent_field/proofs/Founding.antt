@@ -14,7 +14,7 @@ use Rattle.pop_crowd.specs.declared.crowd.Meeting.{Meeting}
 use Rattle.pop_crowd.specs.Replay.{IsMeeting}
 use Rattle.agent_field.specs.declared.view.Setup.{Setup}
 use Rattle.agent_field.specs.declared.view.View.{View}
-use Rattle.agent_field.specs.Standing.{agents_of, lock_at, agent_at, packed, agent_word, founder, spent, Agrees, StandsAt, IsUnfounded}
+use Rattle.agent_field.specs.Standing.{agents_of, lock_at, agent_at, packed, agent_word, founder, joined_away, Agrees, StandsAt, IsUnfounded}
 use Rattle.agent_field.specs.Steps.{first_seat}
 use Rattle.agent_field.proofs.Views.{at_length, set_each}
 use Rattle.agent_field.proofs.Seating.{seat_for, seat_for-same, seat_for-other}
@@ -68,8 +68,8 @@ module _ (k : Setup) (words : List ℕ) (views : List View) (un : IsUnfounded k 
       let net = k.net.value in
       let as_before : (i : ℕ) → i ≢ 1 → get_or words' i 0 ≡ get_or words i 0 = λ i apart. get_or-set_other words 1 i 1 0 apart in
       let agent : (a : ℕ) → a < agents_of k → agent_word k words' a ≡ get_or k.opening.value a (packed 0) = λ a h. ap packed (as_before (agent_at k a) (λ e. absurd (omega arith))) ∙ opening_word a h in
-      let at_zero : id ≡ 0 = ⊎_elim (λ (t : (id ≡ 0) × (founder k ≡ founder k)). t.0) (λ (s : founder k ≡ spent). absurd (true≢false (ap (λ (u : View). u.founding) s))) (un.each id (founder k) at) in
-      let only_spent : (j : ℕ) (u : View) → j ≢ id → get_elem? views j ≡ some u → u ≡ spent = λ j u apart e. ⊎_elim (λ (t : (j ≡ 0) × (u ≡ founder k)). absurd (apart (t.0 ∙ sym at_zero))) (λ (s : u ≡ spent). s) (un.each j u e) in
+      let at_zero : id ≡ 0 = ⊎_elim (λ (t : (id ≡ 0) × (founder k ≡ founder k)). t.0) (λ (s : founder k ≡ joined_away). absurd (true≢false (ap (λ (u : View). u.founding) s))) (un.each id (founder k) at) in
+      let only_joined_away : (j : ℕ) (u : View) → j ≢ id → get_elem? views j ≡ some u → u ≡ joined_away = λ j u apart e. ⊎_elim (λ (t : (j ≡ 0) × (u ≡ founder k)). absurd (apart (t.0 ∙ sym at_zero))) (λ (s : u ≡ joined_away). s) (un.each j u e) in
       let seat = seat_for (λ n. none) 0 (some id) in
       let seated : seat 0 ≡ some id = seat_for-same (λ n. none) 0 (some id) in
       let new : Agrees k words' [] seat id w = record {
@@ -110,7 +110,7 @@ module _ (k : Setup) (words : List ℕ) (views : List View) (un : IsUnfounded k 
           settled = λ a inside free_now. ap (tuple_of net) (agent a inside) ∙ sym (get_or-map (tuple_of net) k.opening.value a (packed 0) [] inside);
           valid = λ a inside. subst (IsValid net) (sym (agent a inside)) (un.valid a (packed 0) inside);
           each = set_each views id w (λ j u. u.live ≡ true → Agrees k words' [] seat j u) (λ _. new)
-              (λ j u apart e alive. absurd (true≢false (sym alive ∙ ap (λ (z : View). z.live) (only_spent j u apart e))));
-          others = set_each views id w (λ j u. u.live ≡ false → u ≡ spent) (λ no. absurd (true≢false no)) (λ j u apart e no. only_spent j u apart e);
+              (λ j u apart e alive. absurd (true≢false (sym alive ∙ ap (λ (z : View). z.live) (only_joined_away j u apart e))));
+          others = set_each views id w (λ j u. u.live ≡ false → u ≡ joined_away) (λ no. absurd (true≢false no)) (λ j u apart e no. only_joined_away j u apart e);
         },
       )

@@ -9,7 +9,7 @@ use Rattle.pop_net.specs.Lanes.{tuple_of, IsValid}
 use Rattle.pop_crowd.specs.declared.crowd.Meeting.{Meeting}
 use Rattle.agent_field.specs.declared.view.Setup.{Setup}
 use Rattle.agent_field.specs.declared.view.View.{View}
-use Rattle.agent_field.specs.Standing.{agents_of, lock_at, agent_at, shard_of, packed, agent_word, tuple_after, In, spent, Agrees, IsOwedByNone, IsHeldBySome, StandsAt}
+use Rattle.agent_field.specs.Standing.{agents_of, lock_at, agent_at, shard_of, packed, agent_word, tuple_after, In, joined_away, Agrees, IsOwedByNone, IsHeldBySome, StandsAt}
 use Rattle.agent_field.specs.Steps.{holding, rest_of, releasing, knowing, writing}
 use Rattle.agent_field.proofs.Views.{at_length, set_each, agrees_word, one_holder, lock_is_no_agent, owed_back, held_after, sits_set, not_dead}
 
@@ -62,7 +62,7 @@ module _ (k : Setup) (words : List ℕ) (views : List View) (history : List Meet
             (λ j u apart e alive. agrees_word k words history seat j u (lock_at s) n (st.each j u e alive)
             (λ t h same. let p = ((st.each j u e alive).locks t h).1 in let q : get_or words (lock_at t) 0 ≡ get_or words (lock_at s) 0 = ap (λ (z : ℕ). get_or words z 0) same in omega arith)
             (λ a x h same. lock_is_no_agent k s a inside (sym same)));
-        others = set_each views id w (λ j u. u.live ≡ false → u ≡ spent) (not_dead v live (w ≡ spent)) (λ j u apart e. st.others j u e);
+        others = set_each views id w (λ j u. u.live ≡ false → u ≡ joined_away) (not_dead v live (w ≡ joined_away)) (λ j u apart e. st.others j u e);
       }
 
   -- the last lock that was taken, where nothing is due
@@ -109,7 +109,7 @@ module _ (k : Setup) (words : List ℕ) (views : List View) (history : List Meet
             (λ j u apart e alive. let g = st.each j u e alive in agrees_word k words history seat j u (lock_at s) 0 g
             (λ t h same. apart (one_holder k words history seat id j v u f g s (subst (In s) (sym is) (inl refl)) (subst (λ (z : ℕ). In z u.held) (let q : t ≡ s = omega arith in q) h)))
             (λ a x h same. lock_is_no_agent k s a inside (sym same)));
-        others = set_each views id w (λ j u. u.live ≡ false → u ≡ spent) (not_dead v live (w ≡ spent)) (λ j u apart e. st.others j u e);
+        others = set_each views id w (λ j u. u.live ≡ false → u ≡ joined_away) (not_dead v live (w ≡ joined_away)) (λ j u apart e. st.others j u e);
       }
 
   -- a step that changes this view alone, and neither its locks nor what it owes
@@ -131,7 +131,7 @@ module _ (k : Setup) (words : List ℕ) (views : List View) (history : List Meet
     settled = λ b inside free_now. st.settled b inside (owed_back views id v w b at alive (λ y h. (y, subst (In (b, y)) (sym due) h)) free_now);
     valid = st.valid;
     each = set_each views id w (λ j u. u.live ≡ true → Agrees k words history seat j u) (λ _. new) (λ j u apart e alive. st.each j u e alive);
-    others = set_each views id w (λ j u. u.live ≡ false → u ≡ spent) (not_dead w alive (w ≡ spent)) (λ j u apart e. st.others j u e);
+    others = set_each views id w (λ j u. u.live ≡ false → u ≡ joined_away) (not_dead w alive (w ≡ joined_away)) (λ j u apart e. st.others j u e);
   }
 
   pub reads_keep : (a : ℕ) → a < agents_of k → In (shard_of k a) v.held → ((y : Word) → In (a, y) v.due → ⊥) → StandsAt k words (set views id (knowing a (agent_word k words a) v)) history seat
@@ -207,7 +207,7 @@ module _ (k : Setup) (words : List ℕ) (views : List View) (history : List Meet
             (λ j u apart e alive. let g = st.each j u e alive in agrees_word k words history seat j u (agent_at k a) y.0 g
             (λ t h same. lock_is_no_agent k t a (g.locks t h).0 same)
             (λ b x h same. let q : b ≡ a = omega arith in apart (one_holder k words history seat id j v u f g (shard_of k a) owed.1 (subst (λ (z : ℕ). In (shard_of k z) u.held) q (g.knows b x h).1))));
-        others = set_each views id w (λ j u. u.live ≡ false → u ≡ spent) (not_dead v live (w ≡ spent)) (λ j u apart e. st.others j u e);
+        others = set_each views id w (λ j u. u.live ≡ false → u ≡ joined_away) (not_dead v live (w ≡ joined_away)) (λ j u apart e. st.others j u e);
       }
 
   pub owed_by_none : (a : ℕ) → In (shard_of k a) v.held → v.due ≡ [] → IsOwedByNone views a

@@ -15,7 +15,7 @@ use Rattle.pop_crowd.specs.Replay.{reacts}
 use Rattle.agent_field.specs.declared.view.Setup.{Setup}
 use Rattle.agent_field.specs.declared.view.View.{View}
 use Rattle.agent_field.specs.History.{made}
-use Rattle.agent_field.specs.Standing.{agents_of, lock_at, agent_at, agent_word, shard_of, In, founder, spent, StandsAt, IsUnfounded, FieldStands}
+use Rattle.agent_field.specs.Standing.{agents_of, lock_at, agent_at, agent_word, shard_of, In, founder, joined_away, StandsAt, IsUnfounded, FieldStands}
 use Rattle.agent_field.specs.Steps.{Mine, first_seat, holding, releasing, knowing, IsReaction, MayDraw, HasSeenAll, meeting, writing, kept_back, newcomer, taking_in, looking, IsNewest, IsDrawnAt, IsSeenAt, Founds, Locks, Unlocks, Reads, Draws, Writes, Watches}
 use Rattle.agent_field.proofs.Keeps.{locks_keep, releases_keep, reads_keep, writes_keep}
 use Rattle.agent_field.proofs.Draws.{draws_keep, is_newest, is_drawn_at, history_fits}
@@ -37,7 +37,7 @@ module _ (k : Setup) where
       (λ (un : IsUnfounded k s.words s.views).
       ⊎_elim
       (λ (t : (id ≡ 0) × (v ≡ founder k)). absurd (true≢false (sym live ∙ ap (λ (u : View). u.live) t.1)))
-      (λ (e : v ≡ spent). absurd (true≢false (sym live ∙ ap (λ (u : View). u.live) e)))
+      (λ (e : v ≡ joined_away). absurd (true≢false (sym live ∙ ap (λ (u : View). u.live) e)))
       (un.each id v at))
       (λ (t : Standing k s.words s.views). t)
       h
@@ -146,7 +146,7 @@ module _ (k : Setup) where
       let t' = splits_keep k state.words state.views t.0 t.1 t.2 id v at live zeroth room in
       inr (t.0, t'.0, t'.1)
 
-  pub joins : (id : ℕ) (v : View) (other : ℕ) (z : View) → v.live ≡ true → v.number ≡ 0 → z.live ≡ true → z.due ≡ [] → z.held ≡ [] → Joins (FieldStands k) id v other z (taking_in v z) spent
+  pub joins : (id : ℕ) (v : View) (other : ℕ) (z : View) → v.live ≡ true → v.number ≡ 0 → z.live ≡ true → z.due ≡ [] → z.held ≡ [] → Joins (FieldStands k) id v other z (taking_in v z) joined_away
   joins id v other z live zeroth alive none_due none_held state h at away there =
       let t = founded state h id v at live in
       let t' = joins_keep k state.words state.views t.0 t.1 t.2 id v at live zeroth other z away (sym (set_else state.views id other (taking_in v z) away) ∙ there) alive none_due none_held in

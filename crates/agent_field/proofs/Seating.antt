@@ -9,7 +9,7 @@ use Rattle.pop_crowd.specs.declared.crowd.Meeting.{Meeting}
 use Rattle.agent_field.specs.declared.view.Setup.{Setup}
 use Rattle.agent_field.specs.declared.view.View.{View}
 use Rattle.agent_field.specs.History.{calls}
-use Rattle.agent_field.specs.Standing.{lock_at, In, spent, IsFirst, Agrees, IsHeldBySome, StandsAt}
+use Rattle.agent_field.specs.Standing.{lock_at, In, joined_away, IsFirst, Agrees, IsHeldBySome, StandsAt}
 use Rattle.agent_field.specs.Steps.{kept_back, newcomer, taking_in}
 use Rattle.agent_field.proofs.Views.{set_each, one_seat, owed_back, held_after, sits_set}
 
@@ -98,8 +98,8 @@ module _ (k : Setup) (words : List ℕ) (views : List View) (history : List Meet
       set_each views id w (λ j u. u.live ≡ true → Agrees k words history seat' j u) (λ _. mine')
       (λ j u apart e alive. let g = st.each j u e alive in
       reseated k words history seat seat' j u g (same_seat u.number j g.seated) (λ zero_too. only j u apart g (IsFirst k history seat' u.next u.taken) zero_too)) in
-      let dead : (j : ℕ) (u : View) → get_elem? (set views id w) j ≡ some u → u.live ≡ false → u ≡ spent =
-      set_each views id w (λ j u. u.live ≡ false → u ≡ spent) (λ no. absurd (true≢false (sym live ∙ no))) (λ j u apart e. st.others j u e) in (
+      let dead : (j : ℕ) (u : View) → get_elem? (set views id w) j ≡ some u → u.live ≡ false → u ≡ joined_away =
+      set_each views id w (λ j u. u.live ≡ false → u ≡ joined_away) (λ no. absurd (true≢false (sym live ∙ no))) (λ j u apart e. st.others j u e) in (
         seat',
         record {
           wide = st.wide;
@@ -136,7 +136,7 @@ module _ (k : Setup) (words : List ℕ) (views : List View) (history : List Meet
       )
 
   pub joins_keep : (other : ℕ) (z : View) → other ≢ id → get_elem? views other ≡ some z → z.live ≡ true → z.due ≡ [] → z.held ≡ []
-      → (seat' : ℕ → Option ℕ) × StandsAt k words (set (set views id (taking_in v z)) other spent) history seat'
+      → (seat' : ℕ → Option ℕ) × StandsAt k words (set (set views id (taking_in v z)) other joined_away) history seat'
   joins_keep other z away there alive_too none_due none_held =
       let f = st.each id v at live in
       let g = st.each other z there alive_too in
@@ -181,8 +181,8 @@ module _ (k : Setup) (words : List ℕ) (views : List View) (history : List Meet
       (λ i y apart e' not_other' alive'. let h = st.each i y e' alive' in
       reseated k words history seat seat' i y h (stays y.number i (λ same. not_other' (one_seat k words history seat other i z y g h same)) h.seated) (λ zero_too. only i y apart h (IsFirst k history seat' y.next y.taken) zero_too))
       j u e not_other alive in
-      let dead : (j : ℕ) (u : View) → get_elem? (set views id w) j ≡ some u → u.live ≡ false → u ≡ spent =
-      set_each views id w (λ j u. u.live ≡ false → u ≡ spent) (λ no. absurd (true≢false (sym live ∙ no))) (λ j u apart e. st.others j u e) in
+      let dead : (j : ℕ) (u : View) → get_elem? (set views id w) j ≡ some u → u.live ≡ false → u ≡ joined_away =
+      set_each views id w (λ j u. u.live ≡ false → u ≡ joined_away) (λ no. absurd (true≢false (sym live ∙ no))) (λ j u apart e. st.others j u e) in
       let there' : get_elem? (set views id w) other ≡ some z = set_else views id other w away ∙ there in (
         seat',
         record {
@@ -199,12 +199,12 @@ module _ (k : Setup) (words : List ℕ) (views : List View) (history : List Meet
               (λ (apart : m ≢ n).
               let was = sits_set seat views id v w at live refl st.sits m j (sym (seat_for-other seat n m none apart) ∙ sat) in
               let not_other : j ≢ other = λ same. apart (sym was.3 ∙ ap (λ (u : View). u.number) (some-injective was.0 z (sym was.1 ∙ ap (get_elem? (set views id w)) same ∙ there'))) in
-              (was.0, set_else (set views id w) other j spent not_other ∙ was.1, was.2, was.3))
+              (was.0, set_else (set views id w) other j joined_away not_other ∙ was.1, was.2, was.3))
               (cases_eq m n);
           locked = λ t within. ⊎_elim
               (λ (zero_word : get_or words (lock_at t) 0 ≡ 0). inl zero_word)
               (λ (by : IsHeldBySome views t). let now = held_after views id v w t at (λ h. (live, h)) by in
-              inr (held_after (set views id w) other z spent t there' (λ h. absurd (subst (In t) none_held h)) now))
+              inr (held_after (set views id w) other z joined_away t there' (λ h. absurd (subst (In t) none_held h)) now))
               (st.locked t within);
           settled = λ a inside free_now. st.settled a inside
               (owed_back views id v w a at live (λ x h. (x, h))
@@ -212,10 +212,10 @@ module _ (k : Setup) (words : List ℕ) (views : List View) (history : List Meet
               (λ (same : j ≡ other).
               let is : u ≡ z = some-injective u z (sym e ∙ ap (get_elem? (set views id w)) same ∙ there') in
               subst (In (a, x)) none_due (subst (λ (y : View). In (a, x) y.due) is h))
-              (λ (apart : j ≢ other). free_now j u x (set_else (set views id w) other j spent apart ∙ e) alive h)
+              (λ (apart : j ≢ other). free_now j u x (set_else (set views id w) other j joined_away apart ∙ e) alive h)
               (cases_eq j other)));
           valid = st.valid;
-          each = set_each (set views id w) other spent (λ j u. u.live ≡ true → Agrees k words history seat' j u) (λ no. absurd (true≢false (sym no))) rest;
-          others = set_each (set views id w) other spent (λ j u. u.live ≡ false → u ≡ spent) (λ _. refl) (λ j u _ e no. dead j u e no);
+          each = set_each (set views id w) other joined_away (λ j u. u.live ≡ true → Agrees k words history seat' j u) (λ no. absurd (true≢false (sym no))) rest;
+          others = set_each (set views id w) other joined_away (λ j u. u.live ≡ false → u ≡ joined_away) (λ _. refl) (λ j u _ e no. dead j u e no);
         },
       )

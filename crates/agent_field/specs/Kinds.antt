@@ -12,7 +12,7 @@ use Rattle.agent_field.specs.declared.limits.TheConstants.{SEAT_LIMIT}
 use Rattle.agent_field.specs.declared.view.Setup.{Setup}
 use Rattle.agent_field.specs.declared.view.View.{View}
 use Rattle.agent_field.specs.History.{made}
-use Rattle.agent_field.specs.Standing.{In, agents_of, lock_at, agent_at, agent_word, shard_of, crowd_after, founder, spent, IsUnfounded, StandsAt, Stands}
+use Rattle.agent_field.specs.Standing.{In, agents_of, lock_at, agent_at, agent_word, shard_of, crowd_after, founder, joined_away, IsUnfounded, StandsAt, Stands}
 use Rattle.agent_field.specs.Steps.{first_seat, holding, releasing, knowing, MayDraw, HasSeenAll, meeting, writing, kept_back, newcomer, taking_in, looking}
 
 -- the seat `id` is live and has this view
@@ -41,7 +41,7 @@ pub data QuietStep (k : Setup) : List ℕ → List View → List ℕ → List Vi
       → QuietStep k words views words (slice_set views id (kept_back v) ++ newcomer v ∷ [])
   joins : (words : List ℕ) (views : List View) (id other : ℕ) (v w : View) → Sits views id v → v.number ≡ 0 → other ≢ id → Sits views other w
       → w.due ≡ [] → w.held ≡ []
-      → QuietStep k words views words (slice_set (slice_set views id (taking_in v w)) other spent)
+      → QuietStep k words views words (slice_set (slice_set views id (taking_in v w)) other joined_away)
   looks : (words : List ℕ) (views : List View) (id : ℕ) (v : View) → Sits views id v → HasSeenAll k v
       → QuietStep k words views words (slice_set views id (looking (slice_index words CLOCK) v))
 

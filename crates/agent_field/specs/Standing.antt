@@ -74,8 +74,8 @@ no_field =
     }
 
 -- a seat that was joined away
-abbrev pub spent : View
-spent = record { setup = no_field; founding = false; live = false; number = 0; held = []; known = []; due = []; log = []; next = 0; taken = []; looks = [] }
+abbrev pub joined_away : View
+joined_away = record { setup = no_field; founding = false; live = false; number = 0; held = []; known = []; due = []; log = []; next = 0; taken = []; looks = [] }
 
 -- a seat between its calls
 abbrev pub idle : Setup → ℕ → List Logged → ℕ → List (Maybe (List Logged)) → List Look → View
@@ -180,14 +180,14 @@ pub record StandsAt (k : Setup) (words : List ℕ) (views : List View) (history 
   pub settled : SettledPart k words views history
   pub valid : ValidPart k words
   pub each : (id : ℕ) (v : View) → get_elem? views id ≡ some v → v.live ≡ true → Agrees k words history seat id v
-  pub others : (id : ℕ) (v : View) → get_elem? views id ≡ some v → v.live ≡ false → v ≡ spent
+  pub others : (id : ℕ) (v : View) → get_elem? views id ≡ some v → v.live ≡ false → v ≡ joined_away
 
 -- FounderPart, where the founder word is 0: nothing has happened
 pub record IsUnfounded (k : Setup) (words : List ℕ) (views : List View) : Type 0 where
   pub limits : (0 < k.shards) × (0 < k.seats) × (k.seats ≤ SEAT_LIMIT)
   pub valid : AreValid k.net.value k.opening.value
   pub fresh : words ≡ replicate (LOCKS + k.shards) 0 ++ map (λ w. w.0) k.opening.value
-  pub each : (id : ℕ) (v : View) → get_elem? views id ≡ some v → ((id ≡ 0) × (v ≡ founder k)) ⊎ (v ≡ spent)
+  pub each : (id : ℕ) (v : View) → get_elem? views id ≡ some v → ((id ≡ 0) × (v ≡ founder k)) ⊎ (v ≡ joined_away)
 
 abbrev pub Stands : Setup → List ℕ → List View → Type 0
 Stands k words views =

@@ -35,7 +35,7 @@ pub struct View {
     pub setup: Setup,
     /// The field is not founded, and this seat will found it.
     pub founding: bool,
-    /// The seat is neither spent nor founding.
+    /// The seat is neither joined away nor founding.
     pub live: bool,
     pub number: u16,
     /// The shards whose locks it has, the last one taken first.
@@ -139,9 +139,9 @@ impl Split<View> for Deal {
 
 impl Join<View> for Deal {
     ghost use Rattle.agent_field.specs.Steps.{taking_in};
-    ghost use Rattle.agent_field.specs.Standing.{spent};
+    ghost use Rattle.agent_field.specs.Standing.{joined_away};
 
     ghost both = { taking_in };
 
-    ghost spent = { spent };
+    ghost spent = { joined_away };
 }

@@ -8,7 +8,7 @@ use Rattle.pres_ast.specs.PredModel.{PredModel}
 use Rattle.cert_base.specs.declared.fact.Fact.{Fact}
 use Rattle.cert_base.specs.declared.node.Node.{Node}
 use Rattle.cert_base.specs.FactsAndCases.{base_facts}
-use Rattle.cert_base.specs.Closes.{IsWithinLimits, ClosesUnder, refuted, by_cases, ClosesEach, no_case, next_case, Closes}
+use Rattle.cert_base.specs.Closes.{MayStand, ClosesUnder, refuted, by_cases, ClosesEach, no_case, next_case, Closes}
 use Rattle.cert_tree.specs.declared.fault.TreeWhy.{TreeWhy}
 use Rattle.cert_tree.specs.Refusals.{cases_at, all_fit, refusal, Waiting, cases_below, go_on, first_from, first_refused}
 use Rattle.cert_tree.proofs.Passing.{Passes, unrefused-passes, refuting-unrefused, dividing-unrefused}
@@ -63,7 +63,7 @@ go_on_none (Some why) number later e = cc
 
 first_closes : (leaf : LeafModel) (above : ℕ) (facts : List Fact) (waiting : List Waiting) (node : Node) (nodes : List Node) → Passes leaf above facts node → length facts ≤ 65536 → ClosesAll leaf (cases_below leaf (above, facts) node ++ waiting) nodes → ClosesAll leaf ((above, facts) ∷ waiting) (node ∷ nodes)
 first_closes leaf above facts waiting node nodes passes few h =
-    let limits : IsWithinLimits above facts = record { depth = passes.depth; fact_count = few } in
+    let limits : MayStand above facts = record { depth = passes.depth; fact_count = few } in
     elim passes.ways [
       | inl r ↦ one_waits above facts waiting (node ∷ nodes) nodes (refuted above facts node nodes limits r.0) (let h' : ClosesAll leaf (below_of (above + 1) facts [] ++ waiting) nodes = rw r.1 at h in h')
       | inr d ↦

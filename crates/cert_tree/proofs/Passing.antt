@@ -12,7 +12,7 @@ use Rattle.cert_base.specs.declared.node.Node.{Node}
 use Rattle.cert_base.specs.declared.node.Node.TheVariants.{Linear, Residue, Split, Present, Twin, Trap, Siphon, Open}
 use Rattle.cert_base.specs.FactsAndCases.{can_meet}
 use Rattle.cert_base.specs.ClosingTests.{may_have, all_named, may_add, may_add_modulo}
-use Rattle.cert_base.specs.Closes.{name_below, refutes, cases_of, where_in_range, opened, only_case, IsWithinLimits}
+use Rattle.cert_base.specs.Closes.{name_below, refutes, cases_of, where_in_range, opened, only_case, MayStand}
 use Rattle.cert_tree.specs.declared.fault.TreeWhy.{TreeWhy}
 use Rattle.cert_tree.specs.declared.fault.TreeWhy.TheVariants.{TooDeep, BadIndex, NoTwin, NotOpen, NotClosed, TooManyFacts}
 use Rattle.cert_tree.specs.Refusals.{in_range, has_twin, is_holds, opens_holds, refutes_facts, cases_at, all_fit, own_refusal, or_else, refusal}
@@ -138,12 +138,12 @@ own_none leaf facts node h = rw (h.0, h.1, h.2, h.3) refl
 unrefused : (leaf : LeafModel) (above : ℕ) (facts : List Fact) (node : Node) → above < 4096 → own_refusal leaf facts node ≡ None → all_fit facts (cases_at leaf facts node) ≡ true → refusal leaf above facts node ≡ None
 unrefused leaf above facts node l own fit = rw (lt-ltb above 4096 l, own, fit) refl
 
-pub refuting-unrefused : (leaf : LeafModel) (above : ℕ) (facts : List Fact) (node : Node) → IsWithinLimits above facts → refutes facts node ≡ true → (refusal leaf above facts node ≡ None) × (cases_at leaf facts node ≡ [])
+pub refuting-unrefused : (leaf : LeafModel) (above : ℕ) (facts : List Fact) (node : Node) → MayStand above facts → refutes facts node ≡ true → (refusal leaf above facts node ≡ None) × (cases_at leaf facts node ≡ [])
 refuting-unrefused leaf above facts node limits e =
     let h = refutes-passes leaf facts node e in
     (unrefused leaf above facts node limits.depth (own_none leaf facts node h.0) (rw h.1 refl), h.1)
 
-pub dividing-unrefused : (leaf : LeafModel) (above : ℕ) (facts : List Fact) (node : Node) (cases : List (List Fact)) → IsWithinLimits above facts → cases_of leaf facts node ≡ Some cases → all_fit facts cases ≡ true → (refusal leaf above facts node ≡ None) × (cases_at leaf facts node ≡ cases)
+pub dividing-unrefused : (leaf : LeafModel) (above : ℕ) (facts : List Fact) (node : Node) (cases : List (List Fact)) → MayStand above facts → cases_of leaf facts node ≡ Some cases → all_fit facts cases ≡ true → (refusal leaf above facts node ≡ None) × (cases_at leaf facts node ≡ cases)
 dividing-unrefused leaf above facts node cases limits e fit =
     let same : cases_at leaf facts node ≡ cases = rw e refl in
     (unrefused leaf above facts node limits.depth (own_none leaf facts node (divides-passes leaf facts node cases e)) (rw same fit), same)

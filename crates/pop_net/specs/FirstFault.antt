@@ -18,7 +18,7 @@ first_of (None ∷ rest) = first_of rest
 abbrev pub first_below : ℕ → (ℕ → Bool) → Option ℕ
 first_below n p = find p (range_with_len 0 n)
 
--- whether name k is out of form or equal to an earlier one
+-- whether name k is malformed or equal to an earlier one
 abbrev pub is_bad_name : (List ℕ → Bool) → List (List ℕ) → ℕ → Bool
 is_bad_name is_name names k =
     let name = slice_index_or names k [] in not (is_name name) || list_any (bytes_eq name) (take k names)

@@ -11,7 +11,7 @@ use pop_io::NoMemory;
 pub enum LeafFault {
     /// The number of states is outside 1 to `STATE_LIMIT`.
     States(u64),
-    /// The first name that is out of form or equal to an earlier one.
+    /// The first name that is malformed or equal to an earlier one.
     Name(u32),
     /// There are more than `MOVE_LIMIT` moves.
     Moves(u64),
@@ -35,7 +35,7 @@ pub enum LeafFault {
 pub enum NetFault {
     /// The number of variables is outside 1 to `VARIABLE_LIMIT`.
     Vars(u64),
-    /// The first name that is out of form or equal to an earlier one.
+    /// The first name that is malformed or equal to an earlier one.
     VarName(u32),
     /// The number of leaves is outside 1 to `LEAF_LIMIT`.
     Leaves(u64),

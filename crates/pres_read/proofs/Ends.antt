@@ -16,7 +16,7 @@ use Rattle.pres_read.specs.Atoms.{negated_if, equality}
 use Rattle.pres_read.specs.Progress.{Span, Around, Next, AUnit, ATerm, AStar, AName, ARelation, AConstant, ANumber, AModulo, AModulus, ASign, Progress}
 use Rattle.pres_read.specs.Depth.{Depth, charge_of, deeper, sunk}
 use Rattle.pres_read.specs.Reading.{up_to_unit, ended, finish_by, finish, step}
-use Rattle.pres_read.specs.Sound.{option_weight, span_weight, spans_weight, next_weight, HasOption, HasSpan, HasSpans, HasNext, IsSettled, IsSound}
+use Rattle.pres_read.specs.Sound.{option_weight, span_weight, spans_weight, next_weight, HasOption, HasSpan, HasSpans, HasNext, IsSettled, IsSoundProgress}
 use Rattle.pres_read.proofs.Limits.{weight-disjoined, HasAtoms-disjoined, HasAtoms-negated_if, HasAtoms-equality}
 use Rattle.pres_read.proofs.Steps.{weight-up_to_unit, HasAtoms-up_to_unit, weight-unequal, step_goes}
 
@@ -28,11 +28,11 @@ pub charge-sunk : (d e : Depth) (t : Placed) → sunk d t ≡ Ok e → e.charge 
 charge-sunk d e t h = charge-within t (deeper d t.symbol) e (ltb WEIGHT_LIMIT (deeper d t.symbol).charge || ltb PARENTHESIS_LIMIT (deeper d t.symbol).parentheses) h
 
 pub sound_further : (names : List (List ℕ)) (p q : Progress) (d e : Depth) (t : Placed)
-    → IsSound (length names) p d.charge → step names p t ≡ Ok q → sunk d t ≡ Ok e → IsSound (length names) q e.charge
+    → IsSoundProgress (length names) p d.charge → step names p t ≡ Ok q → sunk d t ≡ Ok e → IsSoundProgress (length names) q e.charge
 sound_further names p q d e t sound stepped deep =
     let goes = step_goes d.charge names p t sound in
-    let here : IsSound (length names) q (d.charge + charge_of t.symbol) = (rw stepped at goes) in
-    subst (λ c. IsSound (length names) q c) (sym (charge-sunk d e t deep)) here
+    let here : IsSoundProgress (length names) q (d.charge + charge_of t.symbol) = (rw stepped at goes) in
+    subst (λ c. IsSoundProgress (length names) q c) (sym (charge-sunk d e t deep)) here
 
 ended_fits : (n charge end : ℕ) (above : List Span) (ors : Option PredTree) (p : PredTree)
     → 1 ≤ n → n ≤ VARIABLE_LIMIT → charge ≤ WEIGHT_LIMIT → HasOption n ors → HasAtoms n p → spans_weight above + option_weight ors + weight_of p ≡ charge
@@ -64,7 +64,7 @@ finish_by_fits n charge end a (ASign p) one most small above span h settled w =
     ended_fits n charge end a.above a.span.ors p one most small span.0 h
     (let none = ap option_weight settled.0 in let nots = settled.1 in omega (arith, w, none, nots))
 
-pub finish_fits : (n charge end : ℕ) (p : Progress) → 1 ≤ n → n ≤ VARIABLE_LIMIT → charge ≤ WEIGHT_LIMIT → IsSound n p charge → IfOk (finish p end) (IsPred n)
+pub finish_fits : (n charge end : ℕ) (p : Progress) → 1 ≤ n → n ≤ VARIABLE_LIMIT → charge ≤ WEIGHT_LIMIT → IsSoundProgress n p charge → IfOk (finish p end) (IsPred n)
 unfolding finish
 finish_fits n charge end p one most small sound =
     finish_by_fits n charge end p.around p.next one most small sound.above sound.span sound.next sound.settled sound.weight

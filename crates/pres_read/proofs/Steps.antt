@@ -14,7 +14,7 @@ use Rattle.pres_read.specs.Atoms.{signed, negated_if, equality, compared, congru
 use Rattle.pres_read.specs.Progress.{Span, Around, Next, AUnit, ATerm, AStar, AName, ARelation, AConstant, ANumber, AModulo, AModulus, ASign, Progress}
 use Rattle.pres_read.specs.Depth.{charge_of, relation_charge}
 use Rattle.pres_read.specs.Reading.{negated, disjoined, zeros, after_unit, going_on, after_sum, at_term, at_unit, at_star, at_name, at_relation, after_constant, with_constant, at_number, at_constant, with_modulus, at_modulus, closed, at_sign, up_to_unit, after_equality, at_modulo, by_next, step}
-use Rattle.pres_read.specs.Sound.{option_weight, span_weight, spans_weight, equality_weight, next_weight, HasOption, HasSpan, HasSpans, IsConstant, HasNext, IsSettled, IsSound}
+use Rattle.pres_read.specs.Sound.{option_weight, span_weight, spans_weight, equality_weight, next_weight, HasOption, HasSpan, HasSpans, IsConstant, HasNext, IsSettled, IsSoundProgress}
 use Rattle.pres_read.proofs.Limits.{weight-negated, weight-conjoined, weight-disjoined, HasAtoms-negated, HasAtoms-conjoined, HasAtoms-disjoined, HasAtoms-negated_if, HasAtoms-equality, HasAtoms-compared, HasAtoms-congruent, AreCoefs-zeros, abs-signed, within_limit, added_fits}
 
 -- the spans weigh this much, and their trees are within the limits
@@ -24,7 +24,7 @@ pub record Rests (n : ℕ) (a : Around) (charge : ℕ) : Type 0 where
   pub weight : spans_weight a.above + span_weight a.span ≡ charge
 
 abbrev pub Goes : ℕ → ℕ → Result Progress TextFault → Type 0
-Goes n charge r = IfOk r (λ q. IsSound n q charge)
+Goes n charge r = IfOk r (λ q. IsSoundProgress n q charge)
 
 pub weight-up_to_unit : (span : Span) (p : PredTree) → weight_of (up_to_unit span p) ≡ option_weight span.ands + (weight_of p + span.nots)
 weight-up_to_unit span p = weight-conjoined span.ands (negated span.nots p) ∙ ap (λ w. option_weight span.ands + w) (weight-negated span.nots p)
@@ -33,7 +33,7 @@ pub HasAtoms-up_to_unit : (n : ℕ) (span : Span) (p : PredTree) → HasSpan n s
 HasAtoms-up_to_unit n span p h g = HasAtoms-conjoined n span.ands (negated span.nots p) h.1 (HasAtoms-negated n span.nots p g)
 
 sound-after_unit : (n charge more : ℕ) (a : Around) (p : PredTree) → Rests n a charge → HasAtoms n p → weight_of p ≡ more
-    → IsSound n (after_unit a p) (charge + more)
+    → IsSoundProgress n (after_unit a p) (charge + more)
 sound-after_unit n charge more a p r g w = record {
   above = r.above;
   span = (r.span.0, tt);
@@ -48,7 +48,7 @@ after_sum_goes n charge more a (Ok coefs) rests e h =
 after_sum_goes n charge more a (Err f) rests e h = tt
 
 -- a next place that weighs `more`
-sound-going_on : (n charge more : ℕ) (a : Around) (next : Next) → Rests n a charge → HasNext n next → IsSettled a.span next → next_weight next ≡ more → IsSound n (going_on a next) (charge + more)
+sound-going_on : (n charge more : ℕ) (a : Around) (next : Next) → Rests n a charge → HasNext n next → IsSettled a.span next → next_weight next ≡ more → IsSoundProgress n (going_on a next) (charge + more)
 sound-going_on n charge more a next rests h settled e =
     record { above = rests.above; span = rests.span; next = h; settled = settled; weight = (let w = rests.weight in omega (arith, w, e)) }
 
@@ -100,7 +100,7 @@ relation_goes n charge a coefs place (Compare r) rests h = sound-going_on n char
 relation_goes n charge a coefs place s rests h = tt
 
 after_constant_sound : (n charge : ℕ) (a : Around) (coefs : List ℤ) (r : Relation) (c : ℤ)
-    → Rests n a charge → AreCoefs n coefs → nat_abs c ≤ constant_limit r → IsSound n (after_constant a coefs r c) (charge + relation_charge r)
+    → Rests n a charge → AreCoefs n coefs → nat_abs c ≤ constant_limit r → IsSoundProgress n (after_constant a coefs r c) (charge + relation_charge r)
 after_constant_sound n charge a coefs Less c rests h g = sound-after_unit n charge 0 a (compared coefs Less c) rests (HasAtoms-compared n coefs Less c h g) refl
 after_constant_sound n charge a coefs AtMost c rests h g = sound-after_unit n charge 0 a (compared coefs AtMost c) rests (HasAtoms-compared n coefs AtMost c h g) refl
 after_constant_sound n charge a coefs Greater c rests h g = sound-after_unit n charge 0 a (compared coefs Greater c) rests (HasAtoms-compared n coefs Greater c h g) refl
@@ -223,7 +223,7 @@ next_goes charge names a (ASign p) place s rests h settled =
     (let w = rests.weight in let none = ap option_weight settled.0 in let nots = settled.1 in omega (arith, w, none, nots))
 
 pub step_goes : (charge : ℕ) (names : List (List ℕ)) (p : Progress) (t : Placed)
-    → IsSound (length names) p charge → Goes (length names) (charge + charge_of t.symbol) (step names p t)
+    → IsSoundProgress (length names) p charge → Goes (length names) (charge + charge_of t.symbol) (step names p t)
 unfolding step
 step_goes charge names p t h =
     weighs (length names) (spans_weight p.around.above + span_weight p.around.span + next_weight p.next + charge_of t.symbol) (charge + charge_of t.symbol)

@@ -73,7 +73,7 @@ IsSettled span (AModulo coefs unequal c) = Unit {0}
 IsSettled span (AModulus coefs unequal c) = Unit {0}
 IsSettled span (ASign p) = (span.ands ≡ None) × (span.nots ≡ 0)
 
-pub record IsSound (n : ℕ) (p : Progress) (charge : ℕ) : Type 0 where
+pub record IsSoundProgress (n : ℕ) (p : Progress) (charge : ℕ) : Type 0 where
   pub above : HasSpans n p.around.above
   pub span : HasSpan n p.around.span
   pub next : HasNext n p.next

@@ -15,7 +15,7 @@ ghost use Rattle.pres_read.specs.Grammar.{APred, Phrase, symbols, meaning, Deriv
 ghost use Rattle.pres_read.specs.Faults.{IsReadFault};
 ghost use Rattle.pres_read.specs.Texts.{text_symbols, IsReadAs, IsReadTo};
 ghost use Rattle.pres_read.specs.Rules.{Fits, IsShallow, KeepsRules};
-ghost use Rattle.pres_read.specs.Sound.{IsSound};
+ghost use Rattle.pres_read.specs.Sound.{IsSoundProgress};
 ghost use Rattle.pres_read.specs.Views.{progress_of, depth_of};
 
 use crate::depth::{Depth, PARENTHESIS_LIMIT};
@@ -95,10 +95,10 @@ impl<'a> Reader<'a> {
         names: &List<Text>,
         token: Token<'a>,
     ) -> Result<Reader<'a>, ReadPred>
-        requires sound { IsSound (length names.now) (progress_of self.parser) self.depth.charge }
+        requires sound { IsSoundProgress (length names.now) (progress_of self.parser) self.depth.charge }
         requires charge { self.depth.charge ≤ WEIGHT_LIMIT }
         requires parentheses { self.depth.parentheses ≤ PARENTHESIS_LIMIT }
-        ensures sound { IfOk result (λ r. IsSound (length names.now) (progress_of r.parser) r.depth.charge) }
+        ensures sound { IfOk result (λ r. IsSoundProgress (length names.now) (progress_of r.parser) r.depth.charge) }
         ensures charge { IfOk result (λ r. r.depth.charge ≤ WEIGHT_LIMIT) }
         ensures parentheses { IfOk result (λ r. r.depth.parentheses ≤ PARENTHESIS_LIMIT) }
         ensures exact { Gives (λ r. (progress_of r.parser, depth_of r.depth)) result (read_on names.now (progress_of self.entry.parser) (depth_of self.entry.depth) (token_of token.entry)) }
