@@ -1,6 +1,7 @@
 //! The end of a field: its words and its history.
 
-ghost use Rattle.std.specs.Prelude.{◌≡◌, ℕ, ◌+◌, ◌<◌, ◌≤◌, false, List as Items, length, map, [], IfOk, IsTrue, ◌↔◌, All, None};
+ghost use Rattle.std.specs.Prelude.{◌≡◌, ℕ, ◌+◌, ◌<◌, ◌≤◌, false, List as Items, length, map, [], IfOk, IsTrue, ◌↔◌};
+ghost use Rattle.std.specs.Prelude.{All, None};
 ghost use Rattle.std.specs.Prelude.{Some, drop, replicate, slice_index_or, vec_capacity};
 ghost use Rattle.std.specs.Mem.Slots.{slots_items, slots_len, IsFull};
 ghost use Rattle.agent_field.specs.History.{placed, placed_some, placed_logs, made};
@@ -68,8 +69,10 @@ fn arrange(
 ) -> Result<Vec<Meeting>, NoMemory>
     requires few { length taken.now ≤ SEAT_LIMIT }
     requires own { All (λ e. e.ticket < count) own.now }
-    requires taken { (w : ℕ) (l : Items Logged) → slice_index_or taken.now w None ≡ Some l → All (λ e. e.ticket < count) l }
-    ensures { IfOk result (λ v. v.items ≡ placed_logs (0, placed 0 (replicate count (made 0 0 0 false)) own.now) taken.now) }
+    requires taken { (w : ℕ) (l : Items Logged) → slice_index_or taken.now w None ≡ Some l
+        → All (λ e. e.ticket < count) l }
+    ensures { IfOk result
+        (λ v. v.items ≡ placed_logs (0, placed 0 (replicate count (made 0 0 0 false)) own.now) taken.now) }
 {
     let mut out = vec![in alloc; nobody(); count]?;
     place(out.as_mut_slice(), 0, own);

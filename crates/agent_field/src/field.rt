@@ -1,6 +1,7 @@
 //! The field and its seats.
 
-ghost use Rattle.std.specs.Prelude.{◌≡◌, ◌+◌, ◌<◌, ◌≤◌, length, [], All, Some, OnOk, OnErr, vec_len, vec_capacity, slice_get};
+ghost use Rattle.std.specs.Prelude.{◌≡◌, ◌+◌, ◌<◌, ◌≤◌, length, [], All, Some, OnOk, OnErr, vec_len, vec_capacity};
+ghost use Rattle.std.specs.Prelude.{slice_get};
 ghost use Rattle.agent_field.specs.declared.places.TheConstants.{LOCKS};
 ghost use Rattle.agent_field.specs.declared.limits.TheConstants.{LOG_LIMIT, LOOK_LIMIT, SEAT_LIMIT};
 ghost use Rattle.agent_field.specs.Standing.{idle};
@@ -43,9 +44,12 @@ pub struct FieldSeat {
     pub(crate) rooms: Vec<Vec<Word>>,
     ghost room: { (vec_len log + spare ≤ vec_capacity log) × (vec_len log + spare ≤ LOG_LIMIT) },
     ghost known: { number < seat.me.0.setup.seats },
-    ghost places: { number ≡ 0 → (0 < next) × (next + left ≡ seat.me.0.setup.seats) × (vec_len taken ≡ seat.me.0.setup.seats) },
-    ghost looks_fit: { (vec_len looks + vec_len rooms ≤ vec_capacity looks) × (vec_len looks + vec_len rooms ≤ LOOK_LIMIT) },
-    ghost rooms_fit: { All (λ room. (room.items ≡ []) × (length seat.me.0.setup.opening.value ≤ vec_capacity room)) rooms.items },
+    ghost places: { number ≡ 0
+        → (0 < next) × (next + left ≡ seat.me.0.setup.seats) × (vec_len taken ≡ seat.me.0.setup.seats) },
+    ghost looks_fit: { (vec_len looks + vec_len rooms ≤ vec_capacity looks)
+        × (vec_len looks + vec_len rooms ≤ LOOK_LIMIT) },
+    ghost rooms_fit: { All
+        (λ room. (room.items ≡ []) × (length seat.me.0.setup.opening.value ≤ vec_capacity room)) rooms.items },
     ghost is_idle: { seat.me ≡ (idle seat.me.0.setup number log.items next taken.items looks.items, []) },
 }
 
@@ -68,7 +72,8 @@ impl<'n> Field<'n> {
 }
 
 impl FieldSeat {
-    ghost use Rattle.agent_field.specs.Seats.{number_of, log_of, made_of, spare_of, left_of, looks_of, spare_looks_of, KeepsField, KeepsRest};
+    ghost use Rattle.agent_field.specs.Seats.{number_of, log_of, made_of, spare_of, left_of, looks_of, spare_looks_of};
+    ghost use Rattle.agent_field.specs.Seats.{KeepsField, KeepsRest};
 
     pub fn number(&self) -> u16
         ensures { result ≡ number_of self.now }

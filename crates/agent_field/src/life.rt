@@ -1,7 +1,8 @@
 //! How a field begins, and how its seats are dealt and taken in.
 
 ghost use Rattle.agent_field.specs.declared.places.TheConstants.{LOCKS as LOCKS_AT};
-ghost use Rattle.std.specs.Prelude.{◌≡◌, ◌+◌, ◌<◌, ◌≤◌, length, map, ◌++◌, IfOk, IfErr, OnOk, OnErr, replicate, slice_set, slice_index_or, None, Some};
+ghost use Rattle.std.specs.Prelude.{◌≡◌, ◌+◌, ◌<◌, ◌≤◌, length, map, ◌++◌, IfOk, IfErr, OnOk, OnErr, replicate};
+ghost use Rattle.std.specs.Prelude.{slice_set, slice_index_or, None, Some};
 
 use crate::field::{Field, FieldSeat};
 use crate::limits::SEAT_LIMIT;
@@ -38,7 +39,8 @@ fn no_logs(alloc: Global, seats: u16) -> Result<Vec<Option<List<Logged>>>, NoMem
 
 impl<'n> Field<'n> {
     ghost use Rattle.pop_net.specs.Lanes.{AreValid};
-    ghost use Rattle.agent_field.specs.Seats.{IsOpened, IsSeatOf, number_of, log_of, next_of, left_of, taken_of, IsFresh, KeepsOwn};
+    ghost use Rattle.agent_field.specs.Seats.{IsOpened, IsSeatOf, number_of, log_of, next_of, left_of, taken_of};
+    ghost use Rattle.agent_field.specs.Seats.{IsFresh, KeepsOwn};
 
     /// A field with these words, and its seat with the number 0.
     pub fn open<R: Wait>(
@@ -104,7 +106,8 @@ impl<'n> Field<'n> {
         ensures ours { IsSeatOf self.now seat.new }
         ensures theirs { IfOk result (IsSeatOf self.now) }
         ensures new { IfOk result (λ r. (number_of r ≡ next_of seat.old) × (left_of r ≡ 0) × IsFresh r) }
-        ensures dealt { OnOk result ((next_of seat.new ≡ next_of seat.old + 1) × (left_of seat.new + 1 ≡ left_of seat.old)) }
+        ensures dealt { OnOk result
+            ((next_of seat.new ≡ next_of seat.old + 1) × (left_of seat.new + 1 ≡ left_of seat.old)) }
         ensures rest { KeepsOwn seat.old seat.new × (taken_of seat.new ≡ taken_of seat.old) }
         ensures refused { OnErr result ((next_of seat.new ≡ next_of seat.old) × (left_of seat.new ≡ left_of seat.old)) }
     {
@@ -131,9 +134,11 @@ impl<'n> Field<'n> {
         requires theirs { IsSeatOf self.now other }
         requires first { number_of seat.old ≡ 0 }
         ensures ours { IsSeatOf self.now seat.new }
-        ensures taken { OnOk result (taken_of seat.new ≡ slice_set (taken_of seat.old) (number_of other) (Some (log_of other))) }
+        ensures taken { OnOk result
+            (taken_of seat.new ≡ slice_set (taken_of seat.old) (number_of other) (Some (log_of other))) }
         ensures there { OnOk result (slice_index_or (taken_of seat.new) (number_of other) None ≡ Some (log_of other)) }
-        ensures rest { KeepsOwn seat.old seat.new × (next_of seat.new ≡ next_of seat.old) × (left_of seat.new ≡ left_of seat.old) }
+        ensures rest { KeepsOwn seat.old seat.new × (next_of seat.new ≡ next_of seat.old)
+            × (left_of seat.new ≡ left_of seat.old) }
         ensures refused { IfErr result (λ r. (r.0 ≡ other) × (taken_of seat.new ≡ taken_of seat.old)) }
     {
         let FieldSeat {

@@ -1,6 +1,7 @@
 //! Looks at all agents at once.
 
-ghost use Rattle.std.specs.Prelude.{◌≡◌, ◌+◌, ◌<◌, ◌≤◌, List as Items, length, [], ◌∷◌, ◌++◌, vec_capacity, All, IfOk, OnOk, OnErr};
+ghost use Rattle.std.specs.Prelude.{◌≡◌, ◌+◌, ◌<◌, ◌≤◌, List as Items, length, [], ◌∷◌, ◌++◌, vec_capacity, All, IfOk};
+ghost use Rattle.std.specs.Prelude.{OnOk, OnErr};
 ghost use Rattle.pop_net.specs.declared.net.Word.{Word as WordModel};
 ghost use Rattle.agent_field.specs.Steps.{below, with_locks, look_of, HasReadAll};
 
@@ -26,7 +27,8 @@ fn look_rooms(alloc: Global, looks: u16, agents: u32) -> Result<Vec<Vec<Word>>, 
 }
 
 impl<'n> Field<'n> {
-    ghost use Rattle.agent_field.specs.Seats.{opening_of, IsUsable, IsSeatOf, number_of, looks_of, spare_looks_of, KeepsLogs, IsNewestOf, IsGlance};
+    ghost use Rattle.agent_field.specs.Seats.{opening_of, IsUsable, IsSeatOf, number_of, looks_of, spare_looks_of};
+    ghost use Rattle.agent_field.specs.Seats.{KeepsLogs, IsNewestOf, IsGlance};
 
     /// Takes the locks of all shards, in ascending order.
     pub(crate) fn lock_all<R: Wait>(&self, rt: &R, token: &mut Seat<(), View>, number: u16)
@@ -102,7 +104,8 @@ impl<'n> Field<'n> {
         requires first { number_of seat.old ≡ 0 }
         requires room { 1 ≤ spare_looks_of seat.old }
         ensures ours { IsSeatOf self.now seat.new }
-        ensures looked { (words : Items WordModel) × (looks_of seat.new ≡ looks_of seat.old ++ look_of result words ∷ [])
+        ensures looked { (words : Items WordModel)
+            × (looks_of seat.new ≡ looks_of seat.old ++ look_of result words ∷ [])
             × (length words ≡ length (opening_of self.now)) × IsGlance self.now seat.old (look_of result words) }
         ensures spare { spare_looks_of seat.new + 1 ≡ spare_looks_of seat.old }
         ensures newest { IsNewestOf result seat.old }

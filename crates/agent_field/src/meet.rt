@@ -28,7 +28,8 @@ fn reacted(net: &Net, x: Word, y: Word) -> (Word, Word, bool)
 }
 
 impl<'n> Field<'n> {
-    ghost use Rattle.agent_field.specs.Seats.{opening_of, IsUsable, IsSeatOf, log_of, spare_of, KeepsRest, IsMoment, IsNewestOf, IsMetAt};
+    ghost use Rattle.agent_field.specs.Seats.{opening_of, IsUsable, IsSeatOf, log_of, spare_of, KeepsRest, IsMoment};
+    ghost use Rattle.agent_field.specs.Seats.{IsNewestOf, IsMetAt};
 
     /// Takes the locks of a pair's shards, the lower one first.
     fn lock_pair<R: Wait>(
@@ -44,7 +45,8 @@ impl<'n> Field<'n> {
         requires shards { (low ≤ high) × (high < self.now.shards) }
         requires clear { (token.old.me.0.held ≡ []) × (token.old.me.0.known ≡ []) × (token.old.me.0.due ≡ []) }
         ensures table { token.new.table_id ≡ token.old.table_id }
-        ensures locked { token.new.me ≡ (with_locks (pair_locks low high (low == high)) token.old.me.0, token.old.me.1) }
+        ensures locked { token.new.me
+            ≡ (with_locks (pair_locks low high (low == high)) token.old.me.0, token.old.me.1) }
     {
         if low == high {
             self.lock(rt, token, number, low);

@@ -4,7 +4,8 @@ ghost use Rattle.std.specs.Prelude.{◌≡◌, ℕ, ◌<◌, List, [], ◌∷◌
 ghost use Rattle.pop_net.specs.declared.net.Word.{Word as WordModel};
 ghost use Rattle.pop_net.specs.Lanes.{IsValid};
 ghost use Rattle.agent_field.specs.Standing.{In, shard_of};
-ghost use Rattle.agent_field.specs.Steps.{holding, releasing, knowing, writing, looking, MayDraw, HasDrawn, HasSeenAll, IsNewest, IsDrawnAt, IsSeenAt};
+ghost use Rattle.agent_field.specs.Steps.{holding, releasing, knowing, writing, looking, MayDraw, HasDrawn, HasSeenAll};
+ghost use Rattle.agent_field.specs.Steps.{IsNewest, IsDrawnAt, IsSeenAt};
 
 use crate::field::Field;
 use crate::places::{CLOCK, LOCKS};
@@ -70,7 +71,8 @@ impl<'n> Field<'n> {
     /// Draws a ticket for the pair whose words were read.
     pub(crate) fn draw(&self, token: &mut Seat<(), View>) -> u64
         requires usable { IsUsable self.now token.old.table_id token.old.me.0 }
-        requires pair { (a b : ℕ) × (x y x' y' : WordModel) × MayDraw self.now.table.shared.key token.old.me.0 a b x y x' y' }
+        requires pair { (a b : ℕ) × (x y x' y' : WordModel)
+            × MayDraw self.now.table.shared.key token.old.me.0 a b x y x' y' }
         ensures table { token.new.table_id ≡ token.old.table_id }
         ensures drawn { HasDrawn result token.old.me token.new.me }
         ensures newest { IsNewest result token.old.me.0 }
@@ -83,7 +85,8 @@ impl<'n> Field<'n> {
     pub(crate) fn write(&self, token: &mut Seat<(), View>, a: u32, word: Word)
         requires usable { IsUsable self.now token.old.table_id token.old.me.0 }
         requires agent { a < self.now.agents }
-        requires due { (due : List (ℕ × WordModel)) × (token.old.me.0.due ≡ (a, word) ∷ due) × ((x : WordModel) → In (a, x) due → ⊥) }
+        requires due { (due : List (ℕ × WordModel)) × (token.old.me.0.due ≡ (a, word) ∷ due)
+            × ((x : WordModel) → In (a, x) due → ⊥) }
         ensures table { token.new.table_id ≡ token.old.table_id }
         ensures written { token.new.me ≡ (writing token.old.me.0, token.old.me.1) }
     {

@@ -1,7 +1,8 @@
 //! The facts that every wrong end meets.
 
 ghost use Rattle.std.specs.Prelude.{◌≡◌, ◌<◌, length, map, slice_index_or, false, IfOk};
-ghost use Rattle.cert_base.specs.FactsAndCases.{indicator, states_of, differs, base_facts as base_list, two_agents as at_least_two, wrong_output as some_wrong};
+ghost use Rattle.cert_base.specs.FactsAndCases.{indicator, states_of, differs, base_facts as base_list};
+ghost use Rattle.cert_base.specs.FactsAndCases.{two_agents as at_least_two, wrong_output as some_wrong};
 ghost use Rattle.cert_base.specs.Ends.{HoldAtWrongEnds};
 
 use crate::fact::{Fact, Row};
@@ -11,8 +12,8 @@ use pop_net::Leaf;
 use pres_ast::Pred;
 use std::alloc::Global;
 
-/// First the flow fact of each state; then that there are two agents with the helpers, that the predicate has the value, and that
-/// some agent has another output (the state equation of Blondin, Esparza, Jaax, Meyer 2017).
+/// First the flow fact of each state; then that there are two agents with the helpers, that the predicate has the
+/// value, and that some agent has another output (the state equation of Blondin, Esparza, Jaax, Meyer 2017).
 pub fn base_facts(
     alloc: Global,
     leaf: &Leaf,
@@ -47,7 +48,9 @@ fn wrong_output(alloc: Global, leaf: &Leaf, value: bool) -> Result<Fact, NoMemor
 
 /// 1 for each state that has another output than the value, and 0 for the others.
 fn wrong_states(alloc: Global, leaf: &Leaf, value: bool) -> Result<Vec<i64>, NoMemory>
-    ensures { IfOk result (λ coefs. coefs.items ≡ map (λ q. indicator (differs value (slice_index_or leaf.now.outputs q false))) (states_of leaf.now)) }
+    ensures { IfOk result
+        (λ coefs. coefs.items
+        ≡ map (λ q. indicator (differs value (slice_index_or leaf.now.outputs q false))) (states_of leaf.now)) }
 {
     let coefs = (0..leaf.state_count())
         .map(|q| is_wrong(leaf, value, q))

@@ -2,8 +2,8 @@
 
 ghost use Rattle.cert_base.specs.FlowLaw.{FlowLaw};
 
-/// The sum of the states' base facts, each times the value of its state, balances the values (a weighted sum of the state
-/// equation of Blondin, Esparza, Jaax, Meyer 2017). The call does nothing: it is its contract.
+/// The sum of the states' base facts, each times the value of its state, balances the values (a weighted sum of the
+/// state equation of Blondin, Esparza, Jaax, Meyer 2017). The call does nothing: it is its contract.
 pub fn flow_law()
     ensures { FlowLaw }
 {}

@@ -87,7 +87,8 @@ fn congruent(
     value: bool,
 ) -> Result<Fact, NoMemory>
     requires few { length coefs.now ≤ VARIABLE_LIMIT }
-    ensures { IfOk result (λ fact. (fact ∷ []) ∷ [] ≡ open_tree (length coefs.now) (Congruent coefs.now modulus rest) value) }
+    ensures { IfOk result
+        (λ fact. (fact ∷ []) ∷ [] ≡ open_tree (length coefs.now) (Congruent coefs.now modulus rest) value) }
 {
     let row = Row::over_inputs(alloc, coefs, -i64::from(rest))?;
     Ok(if value {

@@ -47,7 +47,8 @@ fn enter_layer(
     layer: &Layer,
     number: u16,
 ) -> bool
-    ensures entered { MatchBool result (layer_entered states layer_of_move.old.items number layer.now ≡ Some layer_of_move.new.items)
+    ensures entered { MatchBool result
+        (layer_entered states layer_of_move.old.items number layer.now ≡ Some layer_of_move.new.items)
         (layer_entered states layer_of_move.old.items number layer.now ≡ None) }
 {
     layer.weights.as_slice().len() == usize::from(states)
@@ -55,7 +56,8 @@ fn enter_layer(
 }
 
 fn enter_moves(layer_of_move: &mut Vec<Option<u16>>, moves: &[u32], layer: u16) -> bool
-    ensures entered { MatchBool result (enter_all layer_of_move.old.items layer moves.now ≡ Some layer_of_move.new.items)
+    ensures entered { MatchBool result
+        (enter_all layer_of_move.old.items layer moves.now ≡ Some layer_of_move.new.items)
         (enter_all layer_of_move.old.items layer moves.now ≡ None) }
 {
     for number in moves {

@@ -98,7 +98,8 @@ fn enter_pair(layers: &mut Vec<u16>, x: u16, y: u16, layer: u16)
     requires long { length layers.old.items ≡ PAIR_COUNT }
     requires x_in { x < STATE_LIMIT }
     requires y_in { y < STATE_LIMIT }
-    ensures entered { layers.new.items ≡ slice_set layers.old.items (x * STATE_LIMIT + y) (min (first_at layers.old.items x y) layer) }
+    ensures entered { layers.new.items
+        ≡ slice_set layers.old.items (x * STATE_LIMIT + y) (min (first_at layers.old.items x y) layer) }
     ensures len { length layers.new.items ≡ PAIR_COUNT }
 {
     let at = x as usize * STATE_LIMIT + y as usize;

@@ -1,15 +1,17 @@
 //! Which moves wake moves of earlier layers.
 //!
 //! Let t be a move of layer i that brings a state m, and u a move of an earlier layer that takes m and o. Then t wakes u
-//! unless a move of a layer before i was enabled on the states that t takes and those of u that t doesn't bring: one that
-//! takes both states of t, or, where t doesn't bring o beside m, one that takes o and a state of t.
+//! unless a move of a layer before i was enabled on the states that t takes and those of u that t doesn't bring: one
+//! that takes both states of t, or, where t doesn't bring o beside m, one that takes o and a state of t.
 
 ghost use Rattle.std.specs.Prelude.{◌≡◌, ◌<◌, ◌≤◌, length, Option, Some, slice_get};
 ghost use Rattle.std.specs.List.{list_any, range_with_len};
 ghost use Rattle.pop_net.specs.FirstFault.{first_below};
 ghost use Rattle.pop_net.specs.LeafModel.{IsLeaf, IsMoveBelow};
-ghost use Rattle.cert_layers.specs.Waking.{is_early, brings as brings_state, brings_both as brings_two, wakes_with as wakes_pair};
-ghost use Rattle.cert_layers.specs.Waking.{wakes as wakes_states, wakes_beside as wakes_beside_state, may_wake as may_wake_any};
+ghost use Rattle.cert_layers.specs.Waking.{is_early, brings as brings_state, brings_both as brings_two};
+ghost use Rattle.cert_layers.specs.Waking.{wakes_with as wakes_pair};
+ghost use Rattle.cert_layers.specs.Waking.{wakes as wakes_states, wakes_beside as wakes_beside_state};
+ghost use Rattle.cert_layers.specs.Waking.{may_wake as may_wake_any};
 ghost use Rattle.cert_layers.specs.Waking.{wakes_move as wakes_numbered, wakes_at, IsTable, FindsFirst, FindsWaking};
 
 use crate::pairs::PairTable;
@@ -80,7 +82,8 @@ fn least_woken(
     requires formed { IsLeaf leaf.now }
     requires long { length layer_of_move.now ≡ length leaf.now.moves }
     requires below { IsMoveBelow STATE_LIMIT taken }
-    ensures { result ≡ first_below (length leaf.now.moves) (wakes_numbered leaf.now layer_of_move.now table.now layer taken) }
+    ensures { result
+        ≡ first_below (length leaf.now.moves) (wakes_numbered leaf.now layer_of_move.now table.now layer taken) }
 {
     (0..leaf.move_count()).find(|u| wakes_move(leaf, layer_of_move, table, layer, taken, *u))
 }

@@ -1,9 +1,11 @@
 //! Whether a combination of facts refutes them.
 
-ghost use Rattle.std.specs.Prelude.{◌≡◌, ◌≤◌, ◌<◌, ◌^◌, length, nat_abs, All, MatchOption, IfOk, IsTrue, OnOk, true, false, negsuc, Some, None};
+ghost use Rattle.std.specs.Prelude.{◌≡◌, ◌≤◌, ◌<◌, ◌^◌, length, nat_abs, All, MatchOption, IfOk, IsTrue, OnOk, true};
+ghost use Rattle.std.specs.Prelude.{false, negsuc, Some, None};
 ghost use Rattle.std.specs.List.{list_any};
 ghost use Rattle.cert_base.specs.declared.fact.Row.{Row};
-ghost use Rattle.cert_base.specs.ClosingTests.{linear_closes as closes_by_sum, residue_closes as closes_by_residue, row_of, denies, vanishes, add_rows, times};
+ghost use Rattle.cert_base.specs.ClosingTests.{linear_closes as closes_by_sum, residue_closes as closes_by_residue};
+ghost use Rattle.cert_base.specs.ClosingTests.{row_of, denies, vanishes, add_rows, times};
 ghost use Rattle.cert_base.specs.Ends.{AreRefuted};
 ghost use Rattle.cert_linear.specs.Conditions.{AreAscending, IsOrdered, AreMultipliers, AreNamed};
 ghost use Rattle.cert_linear.specs.Sums.{may_by, SumsUp, IsTidy, IsSum, IsSame, IsWithin};
@@ -30,8 +32,8 @@ pub fn linear_closes(
     Tally::new(alloc).closes(facts.as_slice(), 0, terms.as_slice())
 }
 
-/// Whether the sum of the named facts, each times its multiplier, is no multiple of the modulus by its constant alone or by
-/// a `NotCong` of the list. An `Eq` may be named, and a `Cong` with this modulus.
+/// Whether the sum of the named facts, each times its multiplier, is no multiple of the modulus by its constant alone
+/// or by a `NotCong` of the list. An `Eq` may be named, and a `Cong` with this modulus.
 pub fn residue_closes(
     alloc: Global,
     facts: &List<Fact>,
@@ -103,7 +105,8 @@ pub(crate) fn sum_up(
 
 /// The row of a fact, if it may have the multiplier.
 fn row_to_add(fact: &Fact, by: i64, modulus: Option<u32>) -> Option<&Row>
-    ensures { MatchOption result (may_by modulus by fact.now ≡ false) (λ row. (may_by modulus by fact.now ≡ true) × (row.now ≡ row_of fact.now)) }
+    ensures { MatchOption result (may_by modulus by fact.now ≡ false)
+        (λ row. (may_by modulus by fact.now ≡ true) × (row.now ≡ row_of fact.now)) }
 {
     match (fact, modulus) {
         (Fact::Ge(row), None) if by >= 0 => Some(row),
@@ -113,13 +116,15 @@ fn row_to_add(fact: &Fact, by: i64, modulus: Option<u32>) -> Option<&Row>
     }
 }
 
-/// Whether a `NotCong` of the facts, with this modulus, has a row that differs from the sum by multiples of the modulus.
+/// Whether a `NotCong` of the facts, with this modulus, has a row that differs from the sum by multiples of the
+/// modulus.
 fn is_denied(sum: &mut Sum, facts: &[Fact], modulus: u32) -> Result<bool, NoMemory>
     requires modulus { 0 < modulus }
     requires ordered { All IsOrdered facts.now }
     requires tidy { IsTidy sum.old }
     requires size { IsWithin (2 ^ 119) sum.old }
-    ensures denied { IfOk result (λ denied. (row : Row) → IsSum row sum.old → denied ≡ list_any (denies modulus row) facts.now) }
+    ensures denied { IfOk result
+        (λ denied. (row : Row) → IsSum row sum.old → denied ≡ list_any (denies modulus row) facts.now) }
     ensures tidy { IsTidy sum.new }
 {
     for fact in facts {
@@ -152,7 +157,9 @@ fn agrees(sum: &mut Sum, row: &Row, modulus: u32) -> Result<bool, NoMemory>
     requires ascending { AreAscending row.now.terms }
     requires tidy { IsTidy sum.old }
     requires size { IsWithin (2 ^ 119) sum.old }
-    ensures value { IfOk result (λ agrees. (other : Row) → IsSum other sum.old → agrees ≡ vanishes modulus (add_rows other (times (negsuc 0) row.now))) }
+    ensures value { IfOk result
+        (λ agrees. (other : Row) → IsSum other sum.old
+        → agrees ≡ vanishes modulus (add_rows other (times (negsuc 0) row.now))) }
     ensures stays { OnOk result (IsSame sum.old sum.new) }
     ensures tidy { IsTidy sum.new }
 {

@@ -1,6 +1,7 @@
 //! A sum of rows.
 
-ghost use Rattle.std.specs.Prelude.{◌≡◌, ◌≤◌, ◌<◌, ◌+◌, ◌^◌, ◌+ℤ◌, ◌*ℤ◌, ℕ, ◌&&◌, not, ◌==◌, if◌then◌else◌, pos, negsuc, nat_abs};
+ghost use Rattle.std.specs.Prelude.{◌≡◌, ◌≤◌, ◌<◌, ◌+◌, ◌^◌, ◌+ℤ◌, ◌*ℤ◌, ℕ, ◌&&◌, not, ◌==◌, if◌then◌else◌, pos};
+ghost use Rattle.std.specs.Prelude.{negsuc, nat_abs};
 ghost use Rattle.std.specs.Prelude.{int_le, length, true, OnOk, IfSome};
 ghost use Rattle.std.specs.List.{list_all};
 ghost use Rattle.pres_ast.specs.PredicateValue.{divides as is_multiple};
@@ -66,7 +67,8 @@ impl Sum {
     }
 
     fn clear_rest(&mut self, variable: u32)
-        ensures rests { (q : ℕ) → rest_at self.new.rests.items q ≡ (if variable == q then pos 0 else rest_at self.old.rests.items q) }
+        ensures rests { (q : ℕ)
+            → rest_at self.new.rests.items q ≡ (if variable == q then pos 0 else rest_at self.old.rests.items q) }
         ensures entries { self.new.entries ≡ self.old.entries }
         ensures touched { self.new.touched ≡ self.old.touched }
         ensures constant { self.new.constant ≡ self.old.constant }
@@ -98,7 +100,9 @@ impl Sum {
         requires tidy { IsTidy self.old }
         requires small { nat_abs by ≤ 2 ^ 103 }
         requires room { nat_abs (coefficient_of self.old variable) ≤ 2 ^ 121 }
-        ensures terms { OnOk result ((q : ℕ) → coefficient_of self.new q ≡ (coefficient_of self.old q +ℤ (if variable == q then by else pos 0))) }
+        ensures terms { OnOk result
+            ((q : ℕ)
+            → coefficient_of self.new q ≡ (coefficient_of self.old q +ℤ (if variable == q then by else pos 0))) }
         ensures constant { self.new.constant ≡ self.old.constant }
         ensures tidy { IsTidy self.new }
     {
@@ -114,7 +118,9 @@ impl Sum {
         requires touched { (entry_at self.old.entries.items variable).touched ≡ true }
         requires small { nat_abs by ≤ 2 ^ 103 }
         requires room { nat_abs (coefficient_of self.old variable) ≤ 2 ^ 121 }
-        ensures terms { OnOk result ((q : ℕ) → coefficient_of self.new q ≡ (coefficient_of self.old q +ℤ (if variable == q then by else pos 0))) }
+        ensures terms { OnOk result
+            ((q : ℕ)
+            → coefficient_of self.new q ≡ (coefficient_of self.old q +ℤ (if variable == q then by else pos 0))) }
         ensures constant { self.new.constant ≡ self.old.constant }
         ensures tidy { IsTidy self.new }
     {
@@ -134,7 +140,9 @@ impl Sum {
         requires touched { (entry_at self.old.entries.items variable).touched ≡ true }
         requires small { nat_abs by ≤ 2 ^ 103 }
         requires room { nat_abs (rest_at self.old.rests.items variable) ≤ 2 ^ 121 + 2 ^ 31 }
-        ensures terms { OnOk result ((q : ℕ) → coefficient_of self.new q ≡ (coefficient_of self.old q +ℤ (if variable == q then by else pos 0))) }
+        ensures terms { OnOk result
+            ((q : ℕ)
+            → coefficient_of self.new q ≡ (coefficient_of self.old q +ℤ (if variable == q then by else pos 0))) }
         ensures constant { self.new.constant ≡ self.old.constant }
         ensures tidy { IsTidy self.new }
     {
@@ -230,7 +238,8 @@ impl Sum {
     pub(crate) fn is_negative_with(&self, other: &Sum) -> bool
         requires own { IsTidy self.now × IsWithin (2 ^ 119) self.now }
         requires other { IsTidy other.now × IsWithin (2 ^ 119) other.now }
-        ensures { (row : Row) → AreSum row self.now other.now → result ≡ (each_coefficient (λ a. int_le a (pos 0)) row && int_le row.constant (negsuc 0)) }
+        ensures { (row : Row) → AreSum row self.now other.now
+            → result ≡ (each_coefficient (λ a. int_le a (pos 0)) row && int_le row.constant (negsuc 0)) }
     {
         self.has_negative_constant_with(other) && self.have_no_positive(other)
     }
@@ -238,7 +247,9 @@ impl Sum {
     fn have_no_positive(&self, other: &Sum) -> bool
         requires own { IsTidy self.now × IsWithin (2 ^ 119) self.now }
         requires other { IsTidy other.now × IsWithin (2 ^ 119) other.now }
-        ensures { result ≡ (list_all (λ q. int_le (coefficient_of self.now q +ℤ coefficient_of other.now q) (pos 0)) self.now.touched.items
+        ensures { result
+            ≡ (list_all
+            (λ q. int_le (coefficient_of self.now q +ℤ coefficient_of other.now q) (pos 0)) self.now.touched.items
             && list_all (λ q. int_le (coefficient_of other.now q +ℤ coefficient_of self.now q) (pos 0)) other.now.touched.items) }
     {
         self.has_no_positive_with(other) && other.has_no_positive_with(self)
@@ -256,7 +267,9 @@ impl Sum {
     fn has_no_positive_with(&self, other: &Sum) -> bool
         requires own { IsTidy self.now × IsWithin (2 ^ 119) self.now }
         requires other { IsTidy other.now × IsWithin (2 ^ 119) other.now }
-        ensures { result ≡ list_all (λ q. int_le (coefficient_of self.now q +ℤ coefficient_of other.now q) (pos 0)) self.now.touched.items }
+        ensures { result
+            ≡ list_all
+            (λ q. int_le (coefficient_of self.now q +ℤ coefficient_of other.now q) (pos 0)) self.now.touched.items }
     {
         self.touched
             .iter()
@@ -276,7 +289,8 @@ impl Sum {
     pub(crate) fn is_constant(&self, modulus: u32) -> bool
         requires modulus { 0 < modulus }
         requires tidy { IsTidy self.now }
-        ensures { (row : Row) → IsSum row self.now → result ≡ (each_coefficient (is_multiple modulus) row && not (is_multiple modulus row.constant)) }
+        ensures { (row : Row) → IsSum row self.now
+            → result ≡ (each_coefficient (is_multiple modulus) row && not (is_multiple modulus row.constant)) }
     {
         self.has_multiples(modulus) && !divides(modulus, self.constant)
     }

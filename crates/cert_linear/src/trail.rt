@@ -33,11 +33,13 @@ impl Model for Trail {
 
     ghost view = { λ t. t.facts.items };
 
-    ghost invariant = { λ t. (length t.facts.items ≤ FACT_LIMIT) × (t.stable ≤ length t.facts.items) × IsKept t.stable t.facts.items t.tally };
+    ghost invariant = { λ t. (length t.facts.items ≤ FACT_LIMIT) × (t.stable ≤ length t.facts.items)
+        × IsKept t.stable t.facts.items t.tally };
 }
 
 impl Trail {
-    ghost use Rattle.std.specs.Prelude.{◌≡◌, ◌≤◌, ◌<◌, ◌++◌, [], ◌∷◌, take, length, Some, slice_get, All, IfOk, IfErr, OnOk, OnErr, IsTrue};
+    ghost use Rattle.std.specs.Prelude.{◌≡◌, ◌≤◌, ◌<◌, ◌++◌, [], ◌∷◌, take, length, Some, slice_get, All, IfOk, IfErr};
+    ghost use Rattle.std.specs.Prelude.{OnOk, OnErr, IsTrue};
     ghost use Rattle.cert_base.specs.ClosingTests.{linear_closes as closes_by_sum, residue_closes as closes_by_residue};
     ghost use Rattle.cert_base.specs.Ends.{AreRefuted};
     ghost use Rattle.cert_linear.specs.Conditions.{IsOrdered, AreMultipliers, AreNamed};

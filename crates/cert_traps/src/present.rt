@@ -1,6 +1,7 @@
 //! What a terminal end says of one state.
 
-ghost use Rattle.std.specs.Prelude.{◌≡◌, ◌<◌, ◌≤◌, ◌^◌, ◌∷◌, ◌++◌, ◌==◌, ◌&&◌, not, [], length, map, filter, if◌then◌else◌};
+ghost use Rattle.std.specs.Prelude.{◌≡◌, ◌<◌, ◌≤◌, ◌^◌, ◌∷◌, ◌++◌, ◌==◌, ◌&&◌, not, [], length, map, filter};
+ghost use Rattle.std.specs.Prelude.{if◌then◌else◌};
 ghost use Rattle.std.specs.Prelude.{slice_index_or, false, Some, None, IfOk, OnOk, IfSome};
 ghost use Rattle.cert_base.specs.FactsAndCases.{states_of, can_meet, absent as absent_fact, occurs as occurs_fact};
 ghost use Rattle.cert_base.specs.FactsAndCases.{alone as alone_fact, not_twice, present_cases as present_list};

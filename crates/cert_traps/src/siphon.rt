@@ -39,7 +39,8 @@ pub fn siphon_cases(
 /// Some input starts in the set, or a helper is in it.
 fn some_started(alloc: Global, leaf: &Leaf, set: &StateSet) -> Result<Fact, NoMemory>
     ensures formed { IsLeaf leaf.now }
-    ensures fact { IfOk result (λ fact. fact ≡ Ge (input_row (map (λ start. indicator (is_in set.now start)) leaf.now.inputs)
+    ensures fact { IfOk result
+        (λ fact. fact ≡ Ge (input_row (map (λ start. indicator (is_in set.now start)) leaf.now.inputs)
         (pos (helpers_among leaf.now set.now) -ℤ pos 1))) }
 {
     let flags = set.starts(alloc, leaf)?;
@@ -49,7 +50,8 @@ fn some_started(alloc: Global, leaf: &Leaf, set: &StateSet) -> Result<Fact, NoMe
 
 fn never_marked(alloc: Global, leaf: &Leaf, set: &StateSet) -> Result<List<Fact>, NoMemory>
     requires { IsLeaf leaf.now }
-    ensures { IfOk result (λ facts. facts ≡ no_moves leaf.now (takes_from set.now) ++ Eq (count_row leaf.now set.now (pos 0)) ∷ []) }
+    ensures { IfOk result
+        (λ facts. facts ≡ no_moves leaf.now (takes_from set.now) ++ Eq (count_row leaf.now set.now (pos 0)) ∷ []) }
 {
     let mut facts = Vec::new(alloc);
     none_taken(alloc, &mut facts, leaf, set, Role::Takes)?;

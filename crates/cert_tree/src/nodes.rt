@@ -4,7 +4,8 @@ ghost use Rattle.std.specs.Prelude.{◌≡◌, ◌<◌, ◌≤◌, ◌^◌, nat_
 ghost use Rattle.std.specs.List.{list_all};
 ghost use Rattle.pop_net.specs.LeafModel.{LeafModel};
 ghost use Rattle.cert_base.specs.declared.fact.Fact.{Fact};
-ghost use Rattle.cert_base.specs.declared.node.Node.TheVariants.{Linear, Residue, Split, Present, Twin, Trap, Siphon, Open};
+ghost use Rattle.cert_base.specs.declared.node.Node.TheVariants.{Linear, Residue, Split, Present, Twin, Trap, Siphon};
+ghost use Rattle.cert_base.specs.declared.node.Node.TheVariants.{Open};
 ghost use Rattle.cert_base.specs.Closes.{name_below};
 ghost use Rattle.cert_linear.specs.Conditions.{IsOrdered, AreMultipliers};
 ghost use Rattle.cert_tree.specs.Format.{IsWithinFormat};
@@ -76,7 +77,8 @@ fn residue_node(
     requires multipliers { AreMultipliers terms.now }
     requires ordered { All IsOrdered trail.old }
     ensures passed { (leaf : LeafModel) → IfOk result (IsPassed leaf trail.old (Residue modulus terms.now)) }
-    ensures halts { (leaf : LeafModel) → IfErr result (HaltsBy (own_refusal leaf trail.old (Residue modulus terms.now))) }
+    ensures halts { (leaf : LeafModel)
+        → IfErr result (HaltsBy (own_refusal leaf trail.old (Residue modulus terms.now))) }
     ensures unchanged { trail.new ≡ trail.old }
 {
     if !name_facts(terms.as_slice(), trail.len()) {

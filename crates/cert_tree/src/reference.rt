@@ -31,8 +31,10 @@ pub(crate) fn closes(
 ) -> Result<bool, NoMemory>
     requires variables { pred.now.variables ≡ length leaf.now.inputs }
     requires within { All IsWithinFormat nodes.now }
-    ensures closes { IfOk result (λ closes. IsTrue closes → Closes leaf.now (base_list leaf.now pred.now value) nodes.now []) }
-    ensures only { Closes leaf.now (base_list leaf.now pred.now value) nodes.now [] → IfOk result (λ closes. closes ≡ true) }
+    ensures closes { IfOk result
+        (λ closes. IsTrue closes → Closes leaf.now (base_list leaf.now pred.now value) nodes.now []) }
+    ensures only { Closes leaf.now (base_list leaf.now pred.now value) nodes.now []
+        → IfOk result (λ closes. closes ≡ true) }
 {
     let _formed = leaf.state_count();
     all_pass(alloc, leaf, pred, value, nodes)
@@ -104,7 +106,8 @@ fn push_cases(
     mut cases: Vec<List<Fact>>,
 ) -> Result<(), NoMemory>
     requires { all_fit facts.now cases.items ≡ true }
-    ensures { OnOk result (reverse waiting.new.items ≡ all_below above facts.now cases.items ++ reverse waiting.old.items) }
+    ensures { OnOk result
+        (reverse waiting.new.items ≡ all_below above facts.now cases.items ++ reverse waiting.old.items) }
 {
     while let Some(own) = cases.pop() {
         let all = joined(alloc, facts, own)?;

@@ -32,7 +32,8 @@ pub fn check_tree(
     requires within { All IsWithinFormat nodes.now }
     ensures closes { OnOk result (Closes leaf.now (base_list leaf.now pred.now value) nodes.now []) }
     ensures fault { IfErr result (IsTreeFault leaf.now pred.now value nodes.now) }
-    ensures accepts { Closes leaf.now (base_list leaf.now pred.now value) nodes.now [] → IfErr result (λ fault. fault ≡ TreeFault.NoMemory) }
+    ensures accepts { Closes leaf.now (base_list leaf.now pred.now value) nodes.now []
+        → IfErr result (λ fault. fault ≡ TreeFault.NoMemory) }
     // For every input at which the predicate has the value, each agent of each terminal crowd outputs it.
     ensures right { OnOk result (EndsRight leaf.now pred.now.tree value) }
 {

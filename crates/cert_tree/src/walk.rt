@@ -1,11 +1,13 @@
 //! Where a walk over the nodes of a tree stands.
 
-ghost use Rattle.std.specs.Prelude.{◌≡◌, ◌≤◌, ◌<◌, ◌+◌, ◌++◌, ◌∷◌, [], true, length, reverse, take, All, IfOk, IfErr, OnOk, MatchOption, nat_le};
+ghost use Rattle.std.specs.Prelude.{◌≡◌, ◌≤◌, ◌<◌, ◌+◌, ◌++◌, ◌∷◌, [], true, length, reverse, take, All, IfOk, IfErr};
+ghost use Rattle.std.specs.Prelude.{OnOk, MatchOption, nat_le};
 ghost use Rattle.std.specs.List.{list_all};
 ghost use Rattle.cert_base.specs.declared.fact.Fact.{Fact};
 ghost use Rattle.cert_tree.specs.Format.{IsWithinFormat};
 ghost use Rattle.cert_tree.specs.Refusals.{all_fit};
-ghost use Rattle.cert_tree.specs.Frames.{waiting, waiting_with, AreNested, IsNested, IsFit, FindsCase, IsLatest, GoesOn, HaltsAt, StillCover};
+ghost use Rattle.cert_tree.specs.Frames.{waiting, waiting_with, AreNested, IsNested, IsFit, FindsCase, IsLatest};
+ghost use Rattle.cert_tree.specs.Frames.{GoesOn, HaltsAt, StillCover};
 
 use crate::fault::TreeWhy;
 use crate::halt::Halt;

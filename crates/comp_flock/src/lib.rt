@@ -2,9 +2,9 @@
 //! It stands on `comp_flock_leaf`, `comp_layers` and `comp_trees`.
 //! The layer above uses: `flock` gives exactly the built leaf, and a proof that is valid for it and within the limits.
 //!
-//! *It ends.* A joining leaves an agent with nothing, and an agent with 2^k converts all others. *It ends right.* The first
-//! 2^k takes 2^k agents. Where it never came, each smaller power is there once at most, and all of them add up to 2^k - 1
-//! at most.
+//! *It ends.* A joining leaves an agent with nothing, and an agent with 2^k converts all others. *It ends right.* The
+//! first 2^k takes 2^k agents. Where it never came, each smaller power is there once at most, and all of them add up
+//! to 2^k - 1 at most.
 #![tactic(auto)]
 
 mod multipliers;

@@ -5,7 +5,8 @@ ghost use Rattle.std.specs.List.{range_with_len};
 ghost use Rattle.comp_flock_leaf.specs.declared.limits.TheConstants.{POWER_LIMIT as GREATEST_POWER};
 ghost use Rattle.comp_flock_leaf.specs.FlockLeaf.{size_of as size_in, state_count};
 ghost use Rattle.comp_flock.specs.FlockProof.{mix as mix_list, size_below as below_in, few_by as few_list};
-ghost use Rattle.comp_flock.specs.FlockProof.{converted_by as converted_list, first_by as first_list, start_by as start_list};
+ghost use Rattle.comp_flock.specs.FlockProof.{converted_by as converted_list, first_by as first_list};
+ghost use Rattle.comp_flock.specs.FlockProof.{start_by as start_list};
 ghost use Rattle.comp_flock.specs.FlockProof.{never_by as never_list};
 
 use comp_flock_leaf::size_of;

@@ -3,7 +3,8 @@
 ghost use Rattle.std.specs.Prelude.{◌≡◌, ◌<◌, ◌≤◌, ◌+◌, map, IfOk};
 ghost use Rattle.std.specs.List.{range_with_len};
 ghost use Rattle.comp_flock_leaf.specs.declared.limits.TheConstants.{POWER_LIMIT as GREATEST_POWER};
-ghost use Rattle.comp_flock_leaf.specs.FlockLeaf.{doubling as doubling_in, conversion as conversion_in, moves_of as move_list};
+ghost use Rattle.comp_flock_leaf.specs.FlockLeaf.{doubling as doubling_in, conversion as conversion_in};
+ghost use Rattle.comp_flock_leaf.specs.FlockLeaf.{moves_of as move_list};
 
 use pop_io::NoMemory;
 use pop_net::Move;

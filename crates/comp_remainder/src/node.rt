@@ -6,7 +6,8 @@ ghost use Rattle.pres_ast.specs.declared.limits.TheConstants.{MODULUS_LIMIT};
 ghost use Rattle.cert_base.specs.FactsAndCases.{states_of, indicator, differs};
 ghost use Rattle.comp_remainder_leaf.specs.RemainderLeaf.{state_count};
 ghost use Rattle.comp_remainder.specs.RemainderProof.{value_of, opened_by, value_node as value_node_of};
-ghost use Rattle.comp_remainder.specs.RemainderProof.{wrong_node as wrong_node_of, leader_node as node_of, remainder_tree};
+ghost use Rattle.comp_remainder.specs.RemainderProof.{wrong_node as wrong_node_of, leader_node as node_of};
+ghost use Rattle.comp_remainder.specs.RemainderProof.{remainder_tree};
 
 use cert_base::Node;
 use comp_remainder_leaf::output;
@@ -40,7 +41,8 @@ fn sign(leaf: &Leaf, answer: bool, q: u16) -> i64
 
 fn signs(alloc: Global, leaf: &Leaf, answer: bool) -> Result<Vec<i64>, NoMemory>
     ensures { IfOk result (λ signs. signs.items
-        ≡ map (λ q. neg_ℤ (indicator (differs answer (slice_index_or leaf.now.outputs q false)))) (states_of leaf.now)) }
+        ≡ map (λ q. neg_ℤ (indicator (differs answer (slice_index_or leaf.now.outputs q false))))
+        (states_of leaf.now)) }
 {
     let signs = (0..leaf.state_count())
         .map(|q| sign(leaf, answer, q))
@@ -125,7 +127,8 @@ fn ends(
 ) -> Result<Vec<Node>, NoMemory>
     requires few { modulus ≤ MODULUS_LIMIT }
     requires states { length leaf.now.states ≡ state_count modulus }
-    ensures { IfOk result (λ nodes. nodes.items ≡ map (node_of leaf.now modulus rest answer) (range_with_len 0 modulus)) }
+    ensures { IfOk result
+        (λ nodes. nodes.items ≡ map (node_of leaf.now modulus rest answer) (range_with_len 0 modulus)) }
 {
     let mut nodes = Vec::new(alloc);
     for p in 0..modulus {

@@ -5,7 +5,8 @@ ghost use Rattle.std.specs.List.{range_with_len};
 ghost use Rattle.pop_io.specs.declared.names.TheConstants.{VARIABLE_LIMIT};
 ghost use Rattle.pres_ast.specs.declared.limits.TheConstants.{MODULUS_LIMIT};
 ghost use Rattle.pop_net.specs.Reaction.{Differ};
-ghost use Rattle.comp_remainder_leaf.specs.RemainderLeaf.{residue as residue_of, state_count, output_of as output_in, remainder_leaf as built_leaf};
+ghost use Rattle.comp_remainder_leaf.specs.RemainderLeaf.{residue as residue_of, state_count, output_of as output_in};
+ghost use Rattle.comp_remainder_leaf.specs.RemainderLeaf.{remainder_leaf as built_leaf};
 
 use crate::listing::moves;
 use crate::naming::names;
@@ -27,7 +28,8 @@ pub fn output(modulus: u16, rest: u16, q: u16) -> bool
 
 fn outputs(alloc: Global, modulus: u16, rest: u16) -> Result<Vec<bool>, NoMemory>
     requires { modulus ≤ MODULUS_LIMIT }
-    ensures { IfOk result (λ outputs. outputs.items ≡ map (output_in modulus rest) (range_with_len 0 (state_count modulus))) }
+    ensures { IfOk result
+        (λ outputs. outputs.items ≡ map (output_in modulus rest) (range_with_len 0 (state_count modulus))) }
 {
     let outputs = (0..modulus + 2)
         .map(|q| output(modulus, rest, q))

@@ -3,7 +3,8 @@
 ghost use Rattle.std.specs.Prelude.{◌≡◌, ◌<◌, ◌≤◌, IfOk, map};
 ghost use Rattle.std.specs.List.{range_with_len};
 ghost use Rattle.pres_ast.specs.declared.limits.TheConstants.{MODULUS_LIMIT};
-ghost use Rattle.comp_remainder_leaf.specs.RemainderLeaf.{follower as follower_in, meeting as meeting_in, turn as turn_in};
+ghost use Rattle.comp_remainder_leaf.specs.RemainderLeaf.{follower as follower_in, meeting as meeting_in};
+ghost use Rattle.comp_remainder_leaf.specs.RemainderLeaf.{turn as turn_in};
 ghost use Rattle.comp_remainder_leaf.specs.RemainderLeaf.{pairs_of as pair_list, moves_of as move_list};
 
 use pop_io::NoMemory;

@@ -2,12 +2,12 @@
 //! It stands on `comp_threshold_leaf`, `comp_trees` and `comp_layers`.
 //! The layer above uses: `threshold` gives exactly the built leaf, and a proof that is valid for it and within the limits.
 //!
-//! *It ends.* First leaders meet, and leaders take from followers: one leader fewer, or the follower comes closer to 0.
-//! Then leaders turn followers to true, then to false; a turned follower wakes no earlier layer, for another leader that
-//! could change it could also meet the leader that turned it.
-//! *It ends right.* At a terminal end there is one leader. If it answers the wanted value, all who answer otherwise could
-//! still meet it, and so are absent. If not, the values at the end don't add up to a sum for which the predicate has
-//! that value: what the leader left has no value, or one beyond the end of the range at which the leader stands.
+//! *It ends.* First leaders meet, and leaders take from followers: one leader fewer, or the follower comes closer to
+//! 0. Then leaders turn followers to true, then to false; a turned follower wakes no earlier layer, for another
+//! leader that could change it could also meet the leader that turned it. *It ends right.* At a terminal end there is
+//! one leader. If it answers the wanted value, all who answer otherwise could still meet it, and so are absent. If
+//! not, the values at the end don't add up to a sum for which the predicate has that value: what the leader left has
+//! no value, or one beyond the end of the range at which the leader stands.
 #![tactic(auto)]
 
 mod fault;

@@ -6,7 +6,8 @@ ghost use Rattle.cert_base.specs.FactsAndCases.{states_of, indicator, differs};
 ghost use Rattle.comp_threshold_leaf.specs.ThresholdLeaf.{span as span_of, state_count, output_of, built};
 ghost use Rattle.comp_threshold_leaf.specs.declared.limits.TheConstants.{WIDTH_LIMIT};
 ghost use Rattle.comp_threshold.specs.ThresholdProof.{signed_value, leader_node as node_of, wrong_sign};
-ghost use Rattle.comp_threshold.specs.ThresholdProof.{value_node as value_node_of, wrong_node as wrong_node_of, threshold_tree};
+ghost use Rattle.comp_threshold.specs.ThresholdProof.{value_node as value_node_of, wrong_node as wrong_node_of};
+ghost use Rattle.comp_threshold.specs.ThresholdProof.{threshold_tree};
 
 use cert_base::Node;
 use comp_threshold_leaf::{output, place_in, span};

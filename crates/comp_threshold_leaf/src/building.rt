@@ -5,7 +5,8 @@ ghost use Rattle.std.specs.List.{range_with_len};
 ghost use Rattle.pop_io.specs.declared.names.TheConstants.{VARIABLE_LIMIT};
 ghost use Rattle.pop_net.specs.LeafModel.{IsLeaf};
 ghost use Rattle.pop_net.specs.Reaction.{Differ};
-ghost use Rattle.comp_threshold_leaf.specs.ThresholdLeaf.{width as width_of, place as place_of_value, output_of, state_count, built, threshold_leaf as leaf_of};
+ghost use Rattle.comp_threshold_leaf.specs.ThresholdLeaf.{width as width_of, place as place_of_value, output_of};
+ghost use Rattle.comp_threshold_leaf.specs.ThresholdLeaf.{state_count, built, threshold_leaf as leaf_of};
 ghost use Rattle.comp_threshold_leaf.specs.declared.limits.TheConstants.{WIDTH_LIMIT};
 
 use crate::listing::moves;

@@ -4,7 +4,8 @@ ghost use Rattle.std.specs.Prelude.{◌≡◌, ◌≤◌, length, map, nat_abs, 
 ghost use Rattle.serde_json.specs.View.{view};
 ghost use Rattle.json_shape.specs.Faults.{Gives};
 ghost use Rattle.json_shape.specs.Paths.{path_text};
-ghost use Rattle.json_shape.specs.Shapes.{object_at, member_at, list_at, number_at, integer_at, ascending_at, comes_after, text_at, truth_at};
+ghost use Rattle.json_shape.specs.Shapes.{object_at, member_at, list_at, number_at, integer_at, ascending_at};
+ghost use Rattle.json_shape.specs.Shapes.{comes_after, text_at, truth_at};
 
 use crate::fault::{FormatFault, Why, broken};
 use crate::path::Path;

@@ -5,7 +5,8 @@ ghost use Rattle.serde_json.specs.Data.{string};
 ghost use Rattle.serde_json.specs.View.{view};
 ghost use Rattle.net_json.specs.Examined.{net_at};
 ghost use Rattle.net_json.specs.NetFile.{IsNetFile};
-ghost use Rattle.net_json.specs.Written.{number_data, list_data, texts_data, numbers_data, truths_data, move_data, item_data};
+ghost use Rattle.net_json.specs.Written.{number_data, list_data, texts_data, numbers_data, truths_data, move_data};
+ghost use Rattle.net_json.specs.Written.{item_data};
 ghost use Rattle.net_json.specs.Written.{leaf_members, helped_members, leaf_data, net_members, format_of, net_data};
 
 use crate::format::{HELPER_FORMAT, PLAIN_FORMAT};

@@ -136,7 +136,8 @@ impl Crowd {
         ensures valid { AreValid net.now self.new }
         ensures agents { length self.new ≡ length self.old }
         // The crowd afterwards is reached by at most as many steps as there are meetings.
-        ensures reached { ReachedWithin (Step net.now) (length meetings.now) (crowd_of net.now self.old) (crowd_of net.now self.new) }
+        ensures reached { ReachedWithin (Step net.now) (length meetings.now) (crowd_of net.now self.old)
+            (crowd_of net.now self.new) }
     {
         let mut changed = 0;
         for meeting in meetings {

@@ -67,7 +67,8 @@ fn push_line(text: &mut Vec<u8>, net: &Net, tuple: &[u16], count: u64) -> Result
 fn push_names(text: &mut Vec<u8>, net: &Net, tuple: &[u16]) -> Result<(), NoMemory>
     requires whole { IsTuple net.now tuple.now }
     requires states { HasStates net.now tuple.now }
-    ensures { OnOk result (text.new.items ≡ text.old.items ++ join_with_byte slash (names_of net.now.leaves tuple.now)) }
+    ensures { OnOk result
+        (text.new.items ≡ text.old.items ++ join_with_byte slash (names_of net.now.leaves tuple.now)) }
 {
     for i in 0..net.leaf_count() {
         push_separator(text, i)?;

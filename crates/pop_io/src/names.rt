@@ -3,7 +3,8 @@
 ghost use Rattle.std.specs.Prelude.{◌≡◌, position};
 ghost use Rattle.std.specs.List.{list_all, list_any};
 ghost use Rattle.std.specs.Str.{bytes_eq};
-ghost use Rattle.pop_io.specs.Names.{is_variable_name as variable_name, is_state_name as state_name, starts_name, is_name_start, is_name_byte, is_printed};
+ghost use Rattle.pop_io.specs.Names.{is_variable_name as variable_name, is_state_name as state_name, starts_name};
+ghost use Rattle.pop_io.specs.Names.{is_name_start, is_name_byte, is_printed};
 
 use crate::text::Text;
 
@@ -13,7 +14,8 @@ pub const NAME_LIMIT: usize = 32;
 /// The greatest number of variables of a predicate, and of a net's inputs.
 pub const VARIABLE_LIMIT: usize = 16;
 
-/// Whether a text can name a variable: 1 to `NAME_LIMIT` letters, digits and `_`, no digit first, and not `mod`. Allocates nothing.
+/// Whether a text can name a variable: 1 to `NAME_LIMIT` letters, digits and `_`, no digit first, and not `mod`.
+/// Allocates nothing.
 pub fn is_variable_name(name: &str) -> bool
     ensures { result ≡ variable_name name.now }
 {

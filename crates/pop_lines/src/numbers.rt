@@ -2,7 +2,8 @@
 
 ghost use Rattle.std.specs.Prelude.{◌≡◌, ◌^◌, ◌<◌, decimal, IfSome};
 ghost use Rattle.pop_lines.specs.Numbers.{number_of, small_number_of, number_within as value_within};
-ghost use Rattle.pop_lines.specs.Numbers.{printed_number_of, printed_within as printed_value_within, has_no_leading_zero};
+ghost use Rattle.pop_lines.specs.Numbers.{printed_number_of, printed_within as printed_value_within};
+ghost use Rattle.pop_lines.specs.Numbers.{has_no_leading_zero};
 
 /// The greatest number of digits that are read.
 pub const DIGIT_LIMIT: usize = 20;

@@ -23,7 +23,8 @@ pub fn line_count(bytes: &[u8]) -> usize
 
 /// The first line, and the bytes after it. A missing line is the line 1.
 pub fn one_line_and_more(bytes: &[u8]) -> Result<(&[u8], &[u8]), LineFault>
-    ensures { MatchResult result (λ found. lines_of bytes.now ≡ found.0.now ∷ lines_of found.1.now) (IsTooFew 1 (lines_of bytes.now)) }
+    ensures { MatchResult result (λ found. lines_of bytes.now ≡ found.0.now ∷ lines_of found.1.now)
+        (IsTooFew 1 (lines_of bytes.now)) }
 {
     match next_line(bytes) {
         Some((first, rest)) => Ok((first, rest)),
@@ -45,7 +46,8 @@ pub fn two_lines_and_more(bytes: &[u8]) -> Result<(&[u8], &[u8], &[u8]), LineFau
 
 /// The first three lines, and the bytes after them.
 pub fn three_lines_and_more(bytes: &[u8]) -> Result<(&[u8], &[u8], &[u8], &[u8]), LineFault>
-    ensures { MatchResult result (λ found. lines_of bytes.now ≡ found.0.now ∷ found.1.now ∷ found.2.now ∷ lines_of found.3.now)
+    ensures { MatchResult result
+        (λ found. lines_of bytes.now ≡ found.0.now ∷ found.1.now ∷ found.2.now ∷ lines_of found.3.now)
         (IsTooFew 3 (lines_of bytes.now)) }
 {
     let (first, second, rest) = two_lines_and_more(bytes)?;

@@ -69,7 +69,8 @@ impl Model for Leaf {
 
     ghost Value = { LeafModel };
 
-    ghost view = { λ l. record { states = l.states; moves = l.moves; inputs = l.inputs; outputs = l.outputs; helpers = l.helpers } };
+    ghost view = { λ l.
+        record { states = l.states; moves = l.moves; inputs = l.inputs; outputs = l.outputs; helpers = l.helpers } };
 
     ghost invariant = { λ l.
         IsLeaf (record { states = l.states; moves = l.moves; inputs = l.inputs; outputs = l.outputs; helpers = l.helpers })
@@ -93,9 +94,14 @@ impl Leaf {
         inputs: List<u16>,
         outputs: List<bool>,
     ) -> Result<Leaf, LeafFault>
-        ensures kept { IfOk result (λ leaf. leaf ≡ record { states = states; moves = moves; inputs = inputs; outputs = outputs; helpers = [] }) }
-        ensures refused { IfErr result (RefusesLeaf (record { states = states; moves = moves; inputs = inputs; outputs = outputs; helpers = [] })) }
-        ensures accepts { IsLeaf (record { states = states; moves = moves; inputs = inputs; outputs = outputs; helpers = [] })
+        ensures kept { IfOk result
+            (λ leaf. leaf
+            ≡ record { states = states; moves = moves; inputs = inputs; outputs = outputs; helpers = [] }) }
+        ensures refused { IfErr result
+            (RefusesLeaf
+            (record { states = states; moves = moves; inputs = inputs; outputs = outputs; helpers = [] })) }
+        ensures accepts { IsLeaf
+            (record { states = states; moves = moves; inputs = inputs; outputs = outputs; helpers = [] })
             → IfErr result (λ fault. fault ≡ OutOfMemory) }
     {
         let helpers = List::from_vec(Vec::new(alloc));
@@ -113,8 +119,11 @@ impl Leaf {
     ) -> Result<Leaf, LeafFault>
         ensures kept { IfOk result (λ leaf. leaf
             ≡ record { states = states; moves = moves; inputs = inputs; outputs = outputs; helpers = helpers }) }
-        ensures refused { IfErr result (RefusesLeaf (record { states = states; moves = moves; inputs = inputs; outputs = outputs; helpers = helpers })) }
-        ensures accepts { IsLeaf (record { states = states; moves = moves; inputs = inputs; outputs = outputs; helpers = helpers })
+        ensures refused { IfErr result
+            (RefusesLeaf
+            (record { states = states; moves = moves; inputs = inputs; outputs = outputs; helpers = helpers })) }
+        ensures accepts { IsLeaf
+            (record { states = states; moves = moves; inputs = inputs; outputs = outputs; helpers = helpers })
             → IfErr result (λ fault. fault ≡ OutOfMemory) }
     {
         match leaf_fault(
@@ -138,7 +147,8 @@ impl Leaf {
         outputs: List<bool>,
         helpers: List<u16>,
     ) -> Result<Leaf, NoMemory>
-        requires { IsLeaf (record { states = states; moves = moves; inputs = inputs; outputs = outputs; helpers = helpers }) }
+        requires { IsLeaf
+            (record { states = states; moves = moves; inputs = inputs; outputs = outputs; helpers = helpers }) }
         ensures { IfOk result (λ leaf. leaf
             ≡ record { states = states; moves = moves; inputs = inputs; outputs = outputs; helpers = helpers }) }
     {

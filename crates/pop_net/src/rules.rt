@@ -26,7 +26,9 @@ pub(crate) fn leaf_fault(
     outputs: &[bool],
     helpers: &[u16],
 ) -> Option<LeafFault>
-    ensures { result ≡ fault_of_leaf (record { states = states.now; moves = moves.now; inputs = inputs.now; outputs = outputs.now; helpers = helpers.now }) }
+    ensures { result
+        ≡ fault_of_leaf
+        (record { states = states.now; moves = moves.now; inputs = inputs.now; outputs = outputs.now; helpers = helpers.now }) }
 {
     let count = states.len();
     if count < 1 || STATE_LIMIT < count {
@@ -88,7 +90,8 @@ fn outside(numbers: &[u16], states: usize) -> Option<usize>
 
 /// The leaves are right by their type; where no rule is broken, all of them were looked at.
 pub(crate) fn net_fault(vars: &[Text], leaves: &[Leaf], combine: &[Item]) -> Option<NetFault>
-    ensures first { result ≡ fault_of_net (record { variables = vars.now; leaves = leaves.now; combine = combine.now }) }
+    ensures first { result
+        ≡ fault_of_net (record { variables = vars.now; leaves = leaves.now; combine = combine.now }) }
     ensures formed { IfNone result (All IsLeaf leaves.now) }
 {
     if vars.len() < 1 || VARIABLE_LIMIT < vars.len() {

@@ -17,9 +17,13 @@ pub(crate) fn react_words(lanes: LaneWidth, leaves: &[Leaf], a: u64, b: u64) -> 
     requires a_valid { AreStates leaves.now (digits (2 ^ bits_of lanes) (length leaves.now) a) }
     requires b_valid { AreStates leaves.now (digits (2 ^ bits_of lanes) (length leaves.now) b) }
     ensures first { digits (2 ^ bits_of lanes) (length leaves.now) result.0
-        ≡ map (λ z. z.0) (reactions leaves.now (digits (2 ^ bits_of lanes) (length leaves.now) a) (digits (2 ^ bits_of lanes) (length leaves.now) b)) }
+        ≡ map (λ z. z.0)
+        (reactions leaves.now (digits (2 ^ bits_of lanes) (length leaves.now) a)
+        (digits (2 ^ bits_of lanes) (length leaves.now) b)) }
     ensures second { digits (2 ^ bits_of lanes) (length leaves.now) result.1
-        ≡ map (λ z. z.1) (reactions leaves.now (digits (2 ^ bits_of lanes) (length leaves.now) a) (digits (2 ^ bits_of lanes) (length leaves.now) b)) }
+        ≡ map (λ z. z.1)
+        (reactions leaves.now (digits (2 ^ bits_of lanes) (length leaves.now) a)
+        (digits (2 ^ bits_of lanes) (length leaves.now) b)) }
     ensures first_ends { result.0 < (2 ^ bits_of lanes) ^ length leaves.now }
     ensures second_ends { result.1 < (2 ^ bits_of lanes) ^ length leaves.now }
 {
@@ -38,7 +42,8 @@ pub(crate) fn start_word(lanes: LaneWidth, leaves: &[Leaf], variable: u16) -> u6
     requires few { bits_of lanes * length leaves.now ≤ WORD_BITS }
     requires narrow { All (λ leaf. length leaf.states ≤ 2 ^ bits_of lanes) leaves.now }
     requires input { All (λ leaf. variable < length leaf.inputs) leaves.now }
-    ensures start { digits (2 ^ bits_of lanes) (length leaves.now) result ≡ map (λ leaf. slice_index leaf.inputs variable) leaves.now }
+    ensures start { digits (2 ^ bits_of lanes) (length leaves.now) result
+        ≡ map (λ leaf. slice_index leaf.inputs variable) leaves.now }
     ensures ends { result < (2 ^ bits_of lanes) ^ length leaves.now }
 {
     let mut word = 0;
@@ -53,7 +58,8 @@ pub(crate) fn helper_word(lanes: LaneWidth, leaves: &[Leaf], helper: u32) -> u64
     requires few { bits_of lanes * length leaves.now ≤ WORD_BITS }
     requires narrow { All (λ leaf. length leaf.states ≤ 2 ^ bits_of lanes) leaves.now }
     requires helper { All (λ leaf. helper < length leaf.helpers) leaves.now }
-    ensures start { digits (2 ^ bits_of lanes) (length leaves.now) result ≡ map (λ leaf. slice_index leaf.helpers helper) leaves.now }
+    ensures start { digits (2 ^ bits_of lanes) (length leaves.now) result
+        ≡ map (λ leaf. slice_index leaf.helpers helper) leaves.now }
     ensures ends { result < (2 ^ bits_of lanes) ^ length leaves.now }
 {
     let mut word = 0;
@@ -67,7 +73,8 @@ pub(crate) fn helper_word(lanes: LaneWidth, leaves: &[Leaf], helper: u32) -> u64
 pub(crate) fn is_valid_word(lanes: LaneWidth, leaves: &[Leaf], word: u64) -> bool
     requires { bits_of lanes * length leaves.now ≤ WORD_BITS }
     ensures { IsTrue result
-        ↔ (AreStates leaves.now (digits (2 ^ bits_of lanes) (length leaves.now) word) × (word < (2 ^ bits_of lanes) ^ length leaves.now)) }
+        ↔ (AreStates leaves.now (digits (2 ^ bits_of lanes) (length leaves.now) word)
+        × (word < (2 ^ bits_of lanes) ^ length leaves.now)) }
 {
     for (i, leaf) in leaves.iter().enumerate() {
         if lanes.state(word, i) >= leaf.state_count() {
@@ -82,7 +89,8 @@ pub(crate) fn word_outputs(lanes: LaneWidth, leaves: &[Leaf], word: u64) -> [boo
     requires few { bits_of lanes * length leaves.now ≤ WORD_BITS }
     requires room { length leaves.now ≤ LEAF_LIMIT }
     requires valid { AreStates leaves.now (digits (2 ^ bits_of lanes) (length leaves.now) word) }
-    ensures { take (length leaves.now) result ≡ leaf_outputs leaves.now (digits (2 ^ bits_of lanes) (length leaves.now) word) }
+    ensures { take (length leaves.now) result
+        ≡ leaf_outputs leaves.now (digits (2 ^ bits_of lanes) (length leaves.now) word) }
 {
     let mut outputs = [false; LEAF_LIMIT];
     for (i, leaf) in leaves.iter().enumerate() {

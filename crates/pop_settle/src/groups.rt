@@ -30,7 +30,8 @@ impl Groups {
         requires valid { AreValid net.now words.now }
         requires few { length words.now ≤ AGENT_LIMIT }
         ensures grouped { IfOk result (λ g. AreGroups (states_in leaf (crowd_of net.now words.now)) g.groups.items) }
-        ensures count { IfOk result (λ g. IfSome (slice_get net.now.leaves leaf) (λ l. length g.groups.items ≡ length l.states)) }
+        ensures count { IfOk result
+            (λ g. IfSome (slice_get net.now.leaves leaf) (λ l. length g.groups.items ≡ length l.states)) }
     {
         let mut groups = Groups::empty(alloc, net.leaf(leaf).state_count())?;
         for (agent, word) in words.iter().enumerate() {
@@ -55,7 +56,9 @@ impl Groups {
     pub(crate) fn make(&mut self, t: Move) -> Result<Option<(u32, u32)>, NoMemory>
         requires { IsMoveBelow (length self.old.groups.items) t }
         ensures count { length self.new.groups.items ≡ length self.old.groups.items }
-        ensures made { IfOk result (λ found. (states : List ℕ) → AreGroups states self.old.groups.items → IsMade states t found self.new.groups.items) }
+        ensures made { IfOk result
+            (λ found. (states : List ℕ) → AreGroups states self.old.groups.items
+            → IsMade states t found self.new.groups.items) }
     {
         if t.is_silent() || self.is_empty(t.q) {
             return Ok(None);

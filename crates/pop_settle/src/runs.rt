@@ -42,7 +42,8 @@ fn run_end(leaf: &Leaf, moves: &[u32], ends: &[usize], place: usize) -> usize
 fn begin_alike(leaf: &Leaf, one: u32, other: u32) -> bool
     requires one_in { one < length leaf.now.moves }
     requires other_in { other < length leaf.now.moves }
-    ensures { IsTrue result → (t t' : Move) → slice_get leaf.now.moves one ≡ Some t → slice_get leaf.now.moves other ≡ Some t' → t'.p ≡ t.p }
+    ensures { IsTrue result → (t t' : Move) → slice_get leaf.now.moves one ≡ Some t
+        → slice_get leaf.now.moves other ≡ Some t' → t'.p ≡ t.p }
 {
     leaf.move_at(one).p == leaf.move_at(other).p
 }

@@ -1,6 +1,7 @@
 //! Settling a crowd.
 
-ghost use Rattle.std.specs.Prelude.{◌≡◌, ℕ, ◌+◌, ◌*◌, ◌<◌, ◌≤◌, List, length, All, Some, IfOk, IfErr, IfSome, OnOk, slice_get};
+ghost use Rattle.std.specs.Prelude.{◌≡◌, ℕ, ◌+◌, ◌*◌, ◌<◌, ◌≤◌, List, length, All, Some, IfOk, IfErr, IfSome, OnOk};
+ghost use Rattle.std.specs.Prelude.{slice_get};
 ghost use Rattle.pop_net.specs.LeafModel.{IsLeaf};
 ghost use Rattle.pop_net.specs.NetModel.{IsNet};
 ghost use Rattle.pop_net.specs.Lanes.{crowd_of, AreValid};
@@ -29,17 +30,20 @@ use pop_io::{List, NoMemory};
 use pop_net::{Leaf, Net};
 use std::alloc::Global;
 
-/// Takes the moves by the proof's layers until none can be taken (layered termination of Blondin, Esparza, Jaax, Meyer 2017).
-/// The definition looks at all leaves and layers each time; this call never goes back to an earlier one.
+/// Takes the moves by the proof's layers until none can be taken (layered termination of Blondin, Esparza, Jaax,
+/// Meyer 2017). The definition looks at all leaves and layers each time; this call never goes back to an earlier one.
 pub fn settle(alloc: Global, net: &Net, proof: &Proof, crowd: Crowd) -> Result<Settled, SettleFault>
     requires layers { HasLayers net.now proof.now }
     requires valid { AreValid net.now crowd }
-    ensures settled { IfOk result (λ s. IsSettlement net.now proof.now (crowd_of net.now crowd) s.takes (crowd_of net.now s.crowd)) }
+    ensures settled { IfOk result
+        (λ s. IsSettlement net.now proof.now (crowd_of net.now crowd) s.takes (crowd_of net.now s.crowd)) }
     // There is no other settlement.
-    ensures only { IfOk result (λ s. IsOnlySettlement net.now proof.now (crowd_of net.now crowd) s.takes (crowd_of net.now s.crowd)) }
+    ensures only { IfOk result
+        (λ s. IsOnlySettlement net.now proof.now (crowd_of net.now crowd) s.takes (crowd_of net.now s.crowd)) }
     ensures short { IfOk result (λ s. length s.takes ≤ proof_bound proof.now * length crowd) }
     // The takes are steps of the model, and no step leads further.
-    ensures reached { IfOk result (λ s. ReachedWithin (Step net.now) (length s.takes) (crowd_of net.now crowd) (crowd_of net.now s.crowd)) }
+    ensures reached { IfOk result
+        (λ s. ReachedWithin (Step net.now) (length s.takes) (crowd_of net.now crowd) (crowd_of net.now s.crowd)) }
     ensures terminal { IfOk result (λ s. IsTerminal (Step net.now) (crowd_of net.now s.crowd)) }
     ensures valid { IfOk result (λ s. AreValid net.now s.crowd) }
     ensures agents { IfOk result (λ s. length s.crowd ≡ length crowd) }
@@ -65,7 +69,8 @@ fn settle_leaves(alloc: Global, net: &Net, proof: &Proof, walk: &mut Walk) -> Re
     requires valid { AreValid net.now walk.old.words.items }
     requires few { length walk.old.words.items ≤ AGENT_LIMIT }
     ensures walked { OnOk result (WalksOn net.now proof.now walk.old walk.new) }
-    ensures quiet { OnOk result (IsQuietBefore net.now proof.now (crowd_of net.now walk.new.words.items) (length net.now.leaves) 0) }
+    ensures quiet { OnOk result
+        (IsQuietBefore net.now proof.now (crowd_of net.now walk.new.words.items) (length net.now.leaves) 0) }
 {
     for leaf in 0..net.leaf_count() {
         settle_leaf(alloc, net, proof, leaf, walk)?;
@@ -110,15 +115,18 @@ fn settle_layer(
     requires formed { IsNet net.now }
     requires layers { HasLayers net.now proof.now }
     requires leaf_in { place.0 < length net.now.leaves }
-    requires layer_is { IfSome (slice_get proof.now.leaves place.0) (λ part. slice_get part.layers place.1 ≡ Some layer.now) }
+    requires layer_is { IfSome (slice_get proof.now.leaves place.0)
+        (λ part. slice_get part.layers place.1 ≡ Some layer.now) }
     requires valid { AreValid net.now walk.old.words.items }
     requires count { IfSome (slice_get net.now.leaves place.0) (λ l. length groups.old.groups.items ≡ length l.states) }
     requires grouped { AreGroups (states_in place.0 (crowd_of net.now walk.old.words.items)) groups.old.groups.items }
     requires quiet { IsQuietBefore net.now proof.now (crowd_of net.now walk.old.words.items) place.0 place.1 }
     ensures walked { OnOk result (WalksOn net.now proof.now walk.old walk.new) }
     ensures count { length groups.new.groups.items ≡ length groups.old.groups.items }
-    ensures grouped { OnOk result (AreGroups (states_in place.0 (crowd_of net.now walk.new.words.items)) groups.new.groups.items) }
-    ensures quiet { OnOk result (IsQuietBefore net.now proof.now (crowd_of net.now walk.new.words.items) place.0 (place.1 + 1)) }
+    ensures grouped { OnOk result
+        (AreGroups (states_in place.0 (crowd_of net.now walk.new.words.items)) groups.new.groups.items) }
+    ensures quiet { OnOk result
+        (IsQuietBefore net.now proof.now (crowd_of net.now walk.new.words.items) place.0 (place.1 + 1)) }
 {
     let leaf = net.leaf(place.0);
     let moves = layer.moves.as_slice();
@@ -129,8 +137,8 @@ fn settle_layer(
     Ok(())
 }
 
-/// The first move of a list that agents can take, taken by the least that can. Moves that begin with a state that nobody
-/// holds are passed over as far as the run goes.
+/// The first move of a list that agents can take, taken by the least that can. Moves that begin with a state that
+/// nobody holds are passed over as far as the run goes.
 fn next_take(
     leaf: &Leaf,
     number: u8,

@@ -42,7 +42,8 @@ impl Walk {
         requires different { take.a ≢ take.b }
         requires first_in { take.a < length self.old.words.items }
         requires second_in { take.b < length self.old.words.items }
-        ensures taken { OnOk result (TakesTo net.now take (crowd_of net.now self.old.words.items) (crowd_of net.now self.new.words.items)) }
+        ensures taken { OnOk result
+            (TakesTo net.now take (crowd_of net.now self.old.words.items) (crowd_of net.now self.new.words.items)) }
         ensures takes { OnOk result (self.new.takes.items ≡ self.old.takes.items ++ take ∷ []) }
         ensures valid { AreValid net.now self.new.words.items }
         ensures agents { length self.new.words.items ≡ length self.old.words.items }
@@ -61,7 +62,8 @@ impl Walk {
         requires state_in { IfSome (slice_get net.now.leaves leaf) (λ l. state < length l.states) }
         requires agent_in { agent < length self.old.words.items }
         ensures changed { crowd_of net.now self.new.words.items
-            ≡ slice_set (crowd_of net.now self.old.words.items) agent (changed leaf agent state (crowd_of net.now self.old.words.items)) }
+            ≡ slice_set (crowd_of net.now self.old.words.items) agent
+            (changed leaf agent state (crowd_of net.now self.old.words.items)) }
         ensures takes { self.new.takes ≡ self.old.takes }
         ensures valid { AreValid net.now self.new.words.items }
         ensures agents { length self.new.words.items ≡ length self.old.words.items }

@@ -1,6 +1,7 @@
 //! The crowd line.
 
-ghost use Rattle.std.specs.Prelude.{◌≡◌, ◌≤◌, ◌+◌, ℕ, true, Option, None, Some, length, map, option_map, position, unwrap_or, IfOk, IfErr, MatchBool, false};
+ghost use Rattle.std.specs.Prelude.{◌≡◌, ◌≤◌, ◌+◌, ℕ, true, Option, None, Some, length, map, option_map, position};
+ghost use Rattle.std.specs.Prelude.{unwrap_or, IfOk, IfErr, MatchBool, false};
 ghost use Rattle.std.specs.Str.{bytes_eq};
 ghost use Rattle.std.specs.Option.{option_copied};
 ghost use Rattle.pop_words.specs.Vars.{AreVariables};
@@ -64,7 +65,8 @@ fn counts_behind(
     words: Option<&[u8]>,
 ) -> Result<List<Option<u64>>, CountFault>
     requires few { length names.now ≤ VARIABLE_LIMIT }
-    ensures counts { Counted result (with_words names.now (map (λ _. None) names.now) 1 (words_after (option_copied words.entry))) }
+    ensures counts { Counted result
+        (with_words names.now (map (λ _. None) names.now) 1 (words_after (option_copied words.entry))) }
     ensures len { IfOk result (λ found. length found ≡ length names.now) }
 {
     let mut found = none_of(alloc, names)?;

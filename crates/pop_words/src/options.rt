@@ -26,7 +26,8 @@ pub(crate) enum RunOption {
 
 impl RunOption {
     ghost use Rattle.std.specs.Prelude.{◌≡◌, IfSome};
-    ghost use Rattle.pop_words.specs.Options.{option_named, name_of, least_of, most_of, default_of, number_behind, IsWithin};
+    ghost use Rattle.pop_words.specs.Options.{option_named, name_of, least_of, most_of, default_of, number_behind};
+    ghost use Rattle.pop_words.specs.Options.{IsWithin};
 
     fn named(word: &str) -> Option<RunOption>
         ensures { result ≡ option_named word.now }

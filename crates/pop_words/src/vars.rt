@@ -1,6 +1,7 @@
 //! The vars line.
 
-ghost use Rattle.std.specs.Prelude.{◌≡◌, ◌∷◌, ◌++◌, [], Bool, true, false, nat_le, nat_lt, not, ◌&&◌, length, IfOk, OnOk, Ok, Err, Option, MatchOption};
+ghost use Rattle.std.specs.Prelude.{◌≡◌, ◌∷◌, ◌++◌, [], Bool, true, false, nat_le, nat_lt, not, ◌&&◌, length, IfOk};
+ghost use Rattle.std.specs.Prelude.{OnOk, Ok, Err, Option, MatchOption};
 ghost use Rattle.std.specs.Option.{option_copied};
 ghost use Rattle.pop_io.specs.Names.{is_variable_name as variable_name};
 ghost use Rattle.pop_words.specs.Vars.{vars_of, Named, AreVariables};
@@ -76,7 +77,8 @@ fn names_behind(alloc: Global, words: Option<&[u8]>) -> Result<List<Text>, VarsF
 
 /// The word as a text, if it is a further name.
 fn further_name<'w>(names: &[Text], word: &'w [u8]) -> Option<&'w str>
-    ensures { MatchOption result (can_join names.now word.now ≡ false) (λ name. (name.now ≡ word.now) × (can_join names.now word.now ≡ true)) }
+    ensures { MatchOption result (can_join names.now word.now ≡ false)
+        (λ name. (name.now ≡ word.now) × (can_join names.now word.now ≡ true)) }
 {
     let name = name_of(word)?;
     if names.len() < VARIABLE_LIMIT && !is_among(names, word) {
@@ -88,7 +90,8 @@ fn further_name<'w>(names: &[Text], word: &'w [u8]) -> Option<&'w str>
 
 /// The word as a text, if it has the form of a name.
 fn name_of(word: &[u8]) -> Option<&str>
-    ensures { MatchOption result (variable_name word.now ≡ false) (λ name. (name.now ≡ word.now) × (variable_name word.now ≡ true)) }
+    ensures { MatchOption result (variable_name word.now ≡ false)
+        (λ name. (name.now ≡ word.now) × (variable_name word.now ≡ true)) }
 {
     let Ok(name) = str::from_utf8(word) else {
         return None;

@@ -3,7 +3,8 @@
 ghost use Rattle.std.specs.Prelude.{◌≡◌, ◌<◌, ◌≤◌, ◌^◌, ◌+◌, length, map, Some, IfSome, IfOk};
 ghost use Rattle.pop_words.specs.Kinds.{most_workers};
 ghost use Rattle.pop_words.specs.Options.{IsWithinLimits};
-ghost use Rattle.pop_words.specs.Words.{meaning_of, meaning_behind, form_named, run_command, demo_meaning, flag_meaning, HasLimits, FormHasLimits};
+ghost use Rattle.pop_words.specs.Words.{meaning_of, meaning_behind, form_named, run_command, demo_meaning};
+ghost use Rattle.pop_words.specs.Words.{flag_meaning, HasLimits, FormHasLimits};
 
 use crate::command::{Command, Usage, UsageWhy};
 use crate::kind::RunKind;

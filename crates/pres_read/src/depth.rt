@@ -3,7 +3,8 @@
 ghost use Rattle.std.specs.Prelude.{◌≡◌, ◌≤◌};
 ghost use Rattle.pres_tokens.specs.Symbols.{symbol_of, token_of};
 ghost use Rattle.pres_read.specs.Outcome.{Gives};
-ghost use Rattle.pres_read.specs.Depth.{charge_of as symbol_charge, relation_charge as charge_of_relation, sunk, surface};
+ghost use Rattle.pres_read.specs.Depth.{charge_of as symbol_charge, relation_charge as charge_of_relation, sunk};
+ghost use Rattle.pres_read.specs.Depth.{surface};
 ghost use Rattle.pres_read.specs.Views.{depth_of};
 
 use crate::fault::ReadPred;

@@ -6,13 +6,17 @@ ghost use Rattle.pres_ast.specs.TreeOf.{tree_of};
 ghost use Rattle.pres_tokens.specs.Symbols.{symbol_of, token_of};
 ghost use Rattle.pres_read.specs.Outcome.{Gives};
 ghost use Rattle.pres_read.specs.Progress.{start, clear, AUnit};
-ghost use Rattle.pres_read.specs.Reading.{zeros as zero_coefs, at_unit as unit_step, at_term as term_step, at_star as star_step};
-ghost use Rattle.pres_read.specs.Reading.{at_name as name_step, at_relation as relation_step, at_constant as constant_step};
-ghost use Rattle.pres_read.specs.Reading.{at_number as number_step, with_constant as constant_given, at_modulo as modulo_step};
+ghost use Rattle.pres_read.specs.Reading.{zeros as zero_coefs, at_unit as unit_step, at_term as term_step};
+ghost use Rattle.pres_read.specs.Reading.{at_star as star_step};
+ghost use Rattle.pres_read.specs.Reading.{at_name as name_step, at_relation as relation_step};
+ghost use Rattle.pres_read.specs.Reading.{at_constant as constant_step};
+ghost use Rattle.pres_read.specs.Reading.{at_number as number_step, with_constant as constant_given};
+ghost use Rattle.pres_read.specs.Reading.{at_modulo as modulo_step};
 ghost use Rattle.pres_read.specs.Reading.{after_equality as equality_step, at_modulus as modulus_step};
 ghost use Rattle.pres_read.specs.Reading.{with_modulus as modulus_given, step, finish, going_on};
 ghost use Rattle.pres_read.specs.Reading.{after_constant as progress_after_constant, up_to_unit as tree_up_to_unit};
-ghost use Rattle.pres_read.specs.Atoms.{constant_limit as limit_of, negated_if as negation_if, equality as equality_tree};
+ghost use Rattle.pres_read.specs.Atoms.{constant_limit as limit_of, negated_if as negation_if};
+ghost use Rattle.pres_read.specs.Atoms.{equality as equality_tree};
 ghost use Rattle.pres_read.specs.Sound.{HasNext};
 ghost use Rattle.pres_read.specs.Views.{span_of, factor_of, around_of, progress_of, next_of};
 
@@ -40,7 +44,8 @@ fn at_unit<'a>(
     token: Token<'a>,
 ) -> Result<Parser<'a>, ReadPred>
     requires { around.level.nots < 2 ^ 31 }
-    ensures { Gives progress_of result (unit_step names.now (around_of around) token.entry.place (symbol_of token.entry.kind)) }
+    ensures { Gives progress_of result
+        (unit_step names.now (around_of around) token.entry.place (symbol_of token.entry.kind)) }
 {
     match token.kind {
         Kind::Not => {
@@ -70,7 +75,9 @@ fn at_unit<'a>(
 }
 
 fn opened<'a>(around: Around) -> Result<Parser<'a>, NoMemory>
-    ensures { IfOk result (λ p. progress_of p ≡ going_on (record { above = (around_of around).span ∷ (around_of around).above; span = clear }) AUnit) }
+    ensures { IfOk result
+        (λ p. progress_of p
+        ≡ going_on (record { above = (around_of around).span ∷ (around_of around).above; span = clear }) AUnit) }
 {
     let Around { mut above, level } = around;
     above.push(level)?;
@@ -93,7 +100,8 @@ fn at_term<'a>(
     token: Token<'a>,
 ) -> Result<Parser<'a>, ReadPred>
     requires { AreCoefs (length names.now) coefs.items }
-    ensures { Gives progress_of result (term_step names.now (around_of around) coefs.items negative token.entry.place (symbol_of token.entry.kind)) }
+    ensures { Gives progress_of result
+        (term_step names.now (around_of around) coefs.items negative token.entry.place (symbol_of token.entry.kind)) }
 {
     let place = token.place;
     match token.kind {
@@ -131,7 +139,9 @@ fn at_star<'a>(
     factor: Factor<'a>,
     token: Token<'a>,
 ) -> Result<Parser<'a>, ReadPred>
-    ensures { Gives progress_of result (star_step (around_of around) coefs.items (factor_of factor.entry) token.entry.place (symbol_of token.entry.kind)) }
+    ensures { Gives progress_of result
+        (star_step (around_of around) coefs.items (factor_of factor.entry) token.entry.place
+        (symbol_of token.entry.kind)) }
 {
     match token.kind {
         Kind::Star => Ok(Parser {
@@ -150,7 +160,9 @@ fn at_name<'a>(
     token: Token<'a>,
 ) -> Result<Parser<'a>, ReadPred>
     requires { AreCoefs (length names.now) coefs.items }
-    ensures { Gives progress_of result (name_step names.now (around_of around) coefs.items (factor_of factor.entry) token.entry.place (symbol_of token.entry.kind)) }
+    ensures { Gives progress_of result
+        (name_step names.now (around_of around) coefs.items (factor_of factor.entry) token.entry.place
+        (symbol_of token.entry.kind)) }
 {
     let Kind::Name(word) = token.kind else {
         return Err(ReadPred::Syntax(token.place));
@@ -167,7 +179,8 @@ fn at_relation<'a>(
     coefs: Vec<i64>,
     token: Token<'a>,
 ) -> Result<Parser<'a>, ReadPred>
-    ensures { Gives progress_of result (relation_step (around_of around) coefs.items token.entry.place (symbol_of token.entry.kind)) }
+    ensures { Gives progress_of result
+        (relation_step (around_of around) coefs.items token.entry.place (symbol_of token.entry.kind)) }
 {
     let expect = match token.kind {
         Kind::Plus => Expect::Term {
@@ -192,7 +205,8 @@ fn at_constant<'a>(
     token: Token<'a>,
 ) -> Result<Parser<'a>, ReadPred>
     requires { All (λ a. nat_abs a ≤ COEFFICIENT_LIMIT) coefs.items }
-    ensures { Gives progress_of result (constant_step (around_of around) coefs.items relation token.entry.place (symbol_of token.entry.kind)) }
+    ensures { Gives progress_of result
+        (constant_step (around_of around) coefs.items relation token.entry.place (symbol_of token.entry.kind)) }
 {
     match token.kind {
         Kind::Minus => Ok(Parser {
@@ -212,7 +226,8 @@ fn at_number<'a>(
     token: Token<'a>,
 ) -> Result<Parser<'a>, ReadPred>
     requires { All (λ a. nat_abs a ≤ COEFFICIENT_LIMIT) coefs.items }
-    ensures { Gives progress_of result (number_step (around_of around) coefs.items relation negative token.entry.place (symbol_of token.entry.kind)) }
+    ensures { Gives progress_of result
+        (number_step (around_of around) coefs.items relation negative token.entry.place (symbol_of token.entry.kind)) }
 {
     let Kind::Number(digits) = token.kind else {
         return Err(ReadPred::Syntax(token.place));
@@ -232,7 +247,8 @@ fn after_constant<'a>(
 ) -> Result<Parser<'a>, NoMemory>
     requires coefs { All (λ a. nat_abs a ≤ COEFFICIENT_LIMIT) coefs.items }
     requires constant { nat_abs constant ≤ limit_of relation }
-    ensures { IfOk result (λ p. progress_of p ≡ progress_after_constant (around_of around) coefs.items relation constant) }
+    ensures { IfOk result
+        (λ p. progress_of p ≡ progress_after_constant (around_of around) coefs.items relation constant) }
 {
     let unequal = match relation {
         Relation::Equal => false,
@@ -260,7 +276,8 @@ fn at_modulo<'a>(
 ) -> Result<Parser<'a>, ReadPred>
     requires coefs { All (λ a. nat_abs a ≤ COEFFICIENT_LIMIT) coefs.items }
     requires constant { nat_abs constant ≤ BOUND_LIMIT - 1 }
-    ensures { Gives progress_of result (modulo_step (around_of around) coefs.items unequal constant token.entry.place (symbol_of token.entry.kind)) }
+    ensures { Gives progress_of result
+        (modulo_step (around_of around) coefs.items unequal constant token.entry.place (symbol_of token.entry.kind)) }
 {
     match token.kind {
         Kind::Mod => Ok(Parser {
@@ -285,7 +302,8 @@ fn after_equality<'a>(
 ) -> Result<Parser<'a>, ReadPred>
     requires coefs { All (λ a. nat_abs a ≤ COEFFICIENT_LIMIT) coefs.items }
     requires constant { nat_abs constant ≤ BOUND_LIMIT - 1 }
-    ensures { Gives progress_of result (equality_step (around_of around) coefs.items unequal constant token.entry.place (symbol_of token.entry.kind)) }
+    ensures { Gives progress_of result
+        (equality_step (around_of around) coefs.items unequal constant token.entry.place (symbol_of token.entry.kind)) }
 {
     let Around { above, level } = around;
     let (ors, tree) = compared_up_to(alloc, level, coefs, unequal, constant)?;
@@ -303,7 +321,9 @@ fn compared_up_to(
     requires coefs { All (λ a. nat_abs a ≤ COEFFICIENT_LIMIT) coefs.items }
     requires constant { nat_abs constant ≤ BOUND_LIMIT - 1 }
     ensures ors { IfOk result (λ found. option_map tree_of found.0 ≡ option_map tree_of level.ors) }
-    ensures tree { IfOk result (λ found. tree_of found.1 ≡ tree_up_to_unit (span_of level) (negation_if unequal (equality_tree coefs.items constant))) }
+    ensures tree { IfOk result
+        (λ found. tree_of found.1
+        ≡ tree_up_to_unit (span_of level) (negation_if unequal (equality_tree coefs.items constant))) }
 {
     let tree = equality(alloc, coefs, constant)?;
     up_to_unit(alloc, level, negated_if(alloc, unequal, tree)?)
@@ -317,7 +337,8 @@ fn at_modulus<'a>(
     constant: i64,
     token: Token<'a>,
 ) -> Result<Parser<'a>, ReadPred>
-    ensures { Gives progress_of result (modulus_step (around_of around) coefs.items unequal constant token.entry.place (symbol_of token.entry.kind)) }
+    ensures { Gives progress_of result
+        (modulus_step (around_of around) coefs.items unequal constant token.entry.place (symbol_of token.entry.kind)) }
 {
     let Kind::Number(digits) = token.kind else {
         return Err(ReadPred::Syntax(token.place));

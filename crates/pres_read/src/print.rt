@@ -1,6 +1,7 @@
 //! Printing a predicate.
 
-ghost use Rattle.std.specs.Prelude.{◌≡◌, ◌≤◌, ◌<◌, ◌^◌, ◌++◌, Ok, IfOk, OnOk, length, nat_abs, decimal, string_bytes, codes, true};
+ghost use Rattle.std.specs.Prelude.{◌≡◌, ◌≤◌, ◌<◌, ◌^◌, ◌++◌, Ok, IfOk, OnOk, length, nat_abs, decimal, string_bytes};
+ghost use Rattle.std.specs.Prelude.{codes, true};
 ghost use Rattle.std.specs.List.{list_all};
 ghost use Rattle.std.specs.Fmt.{signed_decimal};
 ghost use Rattle.pop_io.specs.Names.{is_variable_name, AreNames};
@@ -34,7 +35,8 @@ fn canonical_text(alloc: Global, tree: &Tree, names: &List<Text>) -> Result<Text
     requires names { AreNames is_variable_name names.now }
     ensures canonical { IfOk result (λ text. text ≡ tree_text names.now (tree_of tree.now)) }
     ensures derived { IfOk result (λ text. Derives names.now (text_symbols text) (tree_of tree.now)) }
-    ensures again { IfOk result (λ text. pred_read names.now text ≡ Ok (record { variables = length names.now; tree = tree_of tree.now })) }
+    ensures again { IfOk result
+        (λ text. pred_read names.now text ≡ Ok (record { variables = length names.now; tree = tree_of tree.now })) }
 {
     let mut out = String::new(alloc);
     push_tree(&mut out, tree, names)?;
@@ -82,7 +84,8 @@ fn push_tree(out: &mut String, tree: &Tree, names: &List<Text>) -> Result<(), Al
 }
 
 fn push_rest(out: &mut String, rest: u32, modulus: u32) -> Result<(), AllocError>
-    ensures { OnOk result (string_bytes out.new ≡ string_bytes out.old ++ decimal rest ++ codes " mod " ++ decimal modulus) }
+    ensures { OnOk result
+        (string_bytes out.new ≡ string_bytes out.old ++ decimal rest ++ codes " mod " ++ decimal modulus) }
 {
     out.push_str(Buffer::new().format(rest))?;
     out.push_str(" mod ")?;

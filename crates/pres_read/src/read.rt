@@ -42,10 +42,13 @@ pub fn read_pred(alloc: Global, text: &[u8], names: &List<Text>) -> Result<Pred,
     ensures kept_rules { IfOk result (λ pred. KeepsRules names.now (text_symbols text.now)) }
     // A text that the grammar relates to a tree is read to no other one, and is no fault of syntax.
     ensures only { (tree : PredTree) → Derives names.now (text_symbols text.now) tree → IsReadAs tree result }
-    // A text of the grammar is read where it is short, its names are known, and its numbers and depth are within the limits.
+    // A text of the grammar is read where it is short, its names are known, and its numbers and depth are within the
+    // limits.
     ensures kept { (phrase : Phrase APred) → symbols phrase ≡ text_symbols text.now → length text.now ≤ TEXT_LIMIT
-        → Fits names.now phrase → IsShallow surface (text_symbols text.now) → IsReadTo (meaning names.now phrase) result }
-    // The tokens before the place begin a text of the grammar and keep all rules, and this one breaks that of the fault.
+        → Fits names.now phrase → IsShallow surface (text_symbols text.now)
+        → IsReadTo (meaning names.now phrase) result }
+    // The tokens before the place begin a text of the grammar and keep all rules, and this one breaks that of the
+    // fault.
     ensures faults { IfErr result (λ fault. IfSome (fault_of fault) (IsReadFault names.now text.now)) }
 {
     read_exactly(alloc, text, names)
@@ -101,7 +104,8 @@ impl<'a> Reader<'a> {
         ensures sound { IfOk result (λ r. IsSoundProgress (length names.now) (progress_of r.parser) r.depth.charge) }
         ensures charge { IfOk result (λ r. r.depth.charge ≤ WEIGHT_LIMIT) }
         ensures parentheses { IfOk result (λ r. r.depth.parentheses ≤ PARENTHESIS_LIMIT) }
-        ensures exact { Gives (λ r. (progress_of r.parser, depth_of r.depth)) result (read_on names.now (progress_of self.entry.parser) (depth_of self.entry.depth) (token_of token.entry)) }
+        ensures exact { Gives (λ r. (progress_of r.parser, depth_of r.depth)) result
+            (read_on names.now (progress_of self.entry.parser) (depth_of self.entry.depth) (token_of token.entry)) }
     {
         let Reader { parser, depth } = self;
         let parser = parser.take(alloc, names, token)?;

@@ -6,7 +6,8 @@ ghost use Rattle.pres_tokens.specs.Symbols.{symbol_of};
 ghost use Rattle.pres_read.specs.Progress.{AUnit};
 ghost use Rattle.pres_read.specs.Outcome.{Gives};
 ghost use Rattle.pres_read.specs.Reading.{negated as negation, conjoined as conjunction, disjoined as disjunction};
-ghost use Rattle.pres_read.specs.Reading.{up_to_unit as tree_up_to_unit, after_unit as progress_after_unit, at_sign as sign_step};
+ghost use Rattle.pres_read.specs.Reading.{up_to_unit as tree_up_to_unit, after_unit as progress_after_unit};
+ghost use Rattle.pres_read.specs.Reading.{at_sign as sign_step};
 ghost use Rattle.pres_read.specs.Reading.{ended as end_step, closed as close_step, going_on};
 ghost use Rattle.pres_read.specs.Views.{span_of, spans_of, around_of, progress_of};
 
@@ -88,7 +89,9 @@ pub(crate) fn at_sign<'a>(
     tree: Tree,
     token: Token<'a>,
 ) -> Result<Parser<'a>, ReadPred>
-    ensures { Gives progress_of result (sign_step (spans_of above) (option_map tree_of ors) (tree_of tree) token.entry.place (symbol_of token.entry.kind)) }
+    ensures { Gives progress_of result
+        (sign_step (spans_of above) (option_map tree_of ors) (tree_of tree) token.entry.place
+        (symbol_of token.entry.kind)) }
 {
     match token.kind {
         Kind::And => Ok(before_unit(

@@ -4,7 +4,8 @@ ghost use Rattle.std.specs.Prelude.{◌≡◌, ◌+◌, ◌<◌, ◌≤◌, ◌^
 ghost use Rattle.std.specs.List.{prefix_len};
 ghost use Rattle.pop_io.specs.Names.{is_name_start as starts_word, is_name_byte as word_byte};
 ghost use Rattle.pres_tokens.specs.Symbols.{symbol_of, token_of};
-ghost use Rattle.pres_tokens.specs.Tokens.{blank, digit, byte_symbol, pair_symbol, first_sign, word_symbol, first_symbol, tokens_from};
+ghost use Rattle.pres_tokens.specs.Tokens.{blank, digit, byte_symbol, pair_symbol, first_sign, word_symbol};
+ghost use Rattle.pres_tokens.specs.Tokens.{first_symbol, tokens_from};
 
 use crate::token::{Kind, Relation, Token};
 
@@ -118,12 +119,14 @@ fn signs(bytes: &[u8]) -> (Kind<'_>, usize)
     (byte_kind(bytes[0]), 1)
 }
 
-/// The next token of a text from the offset `at` on, and where it ends. Blanks before it are passed over. Allocates nothing.
+/// The next token of a text from the offset `at` on, and where it ends. Blanks before it are passed over. Allocates
+/// nothing.
 pub fn next_token(text: &[u8], at: usize) -> Option<(Token<'_>, usize)>
     requires within { at ≤ length text.now }
     requires limit { length text.now < 2 ^ 32 }
     ensures tokens { MatchOption result (tokens_from 0 at (drop at text.now) ≡ [])
-        (λ found. tokens_from 0 at (drop at text.now) ≡ token_of found.0 ∷ tokens_from 0 found.1 (drop found.1 text.now)) }
+        (λ found. tokens_from 0 at (drop at text.now)
+        ≡ token_of found.0 ∷ tokens_from 0 found.1 (drop found.1 text.now)) }
     ensures further { MatchOption result (Unit {0}) (λ found. (at < found.1) × (found.1 ≤ length text.now)) }
 {
     let mut start = at;

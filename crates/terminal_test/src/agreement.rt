@@ -10,7 +10,8 @@ use pop_net::Net;
 /// The output of every agent, where they have one. It allocates nothing.
 pub fn agreed(net: &Net, crowd: &Crowd) -> Option<bool>
     requires { AreValid net.now crowd.now }
-    ensures { MatchOption result (OutputsDiffer net.now (crowd_of net.now crowd.now)) (AllOutput net.now (crowd_of net.now crowd.now)) }
+    ensures { MatchOption result (OutputsDiffer net.now (crowd_of net.now crowd.now))
+        (AllOutput net.now (crowd_of net.now crowd.now)) }
 {
     let agents = crowd.len();
     let first = net.output(crowd.word(0));

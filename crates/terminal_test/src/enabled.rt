@@ -17,7 +17,8 @@ use std::alloc::Global;
 pub fn enabled_pair(alloc: Global, net: &Net, crowd: &Crowd) -> Result<Option<(u32, u32)>, NoMemory>
     requires { AreValid net.now crowd.now }
     ensures none { IfOk result (λ found. (found ≡ None) ↔ IsTerminal (Step net.now) (crowd_of net.now crowd.now)) }
-    ensures least { IfOk result (λ found. IfSome found (λ pair. IsLeastPair net.now (crowd_of net.now crowd.now) pair.0 pair.1)) }
+    ensures least { IfOk result
+        (λ found. IfSome found (λ pair. IsLeastPair net.now (crowd_of net.now crowd.now) pair.0 pair.1)) }
     // Where a pair is enabled, a step of the model leads to another crowd.
     ensures moves { IfOk result (λ found. IfSome found (λ _. MovesOn net.now (crowd_of net.now crowd.now))) }
 {

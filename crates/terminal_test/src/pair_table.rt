@@ -42,10 +42,14 @@ impl<'n> PairTable<'n> {
     /// word, the least by `a` and then by `b`.
     pub fn enabled_pair(&self, alloc: Global, crowd: &Crowd) -> Result<Option<(u32, u32)>, NoMemory>
         requires { AreValid (net_of self.now) crowd.now }
-        ensures none { IfOk result (λ found. (found ≡ None) ↔ IsTerminal (Step (net_of self.now)) (crowd_of (net_of self.now) crowd.now)) }
-        ensures least { IfOk result (λ found. IfSome found (λ pair. IsLeastPair (net_of self.now) (crowd_of (net_of self.now) crowd.now) pair.0 pair.1)) }
+        ensures none { IfOk result
+            (λ found. (found ≡ None) ↔ IsTerminal (Step (net_of self.now)) (crowd_of (net_of self.now) crowd.now)) }
+        ensures least { IfOk result
+            (λ found.
+            IfSome found (λ pair. IsLeastPair (net_of self.now) (crowd_of (net_of self.now) crowd.now) pair.0 pair.1)) }
         // Where a pair is enabled, a step of the model leads to another crowd.
-        ensures moves { IfOk result (λ found. IfSome found (λ _. MovesOn (net_of self.now) (crowd_of (net_of self.now) crowd.now))) }
+        ensures moves { IfOk result
+            (λ found. IfSome found (λ _. MovesOn (net_of self.now) (crowd_of (net_of self.now) crowd.now))) }
     {
         let restless = restless_states(alloc, self.net, self.loud.as_slice(), crowd)?;
         for a in 0..crowd.len() {

@@ -4,7 +4,8 @@ ghost use Rattle.std.specs.Prelude.{◌≡◌, ◌<◌, length, map, IfOk, false
 ghost use Rattle.pop_net.specs.Lanes.{tuple_of, crowd_of, IsValid, AreValid};
 ghost use Rattle.pop_net.proofs.Projection.{component};
 ghost use Rattle.terminal_test.specs.Loud.{pairs_of, ArePairsBelow};
-ghost use Rattle.terminal_test.specs.Restless.{AreSeen, are_held_by, AreMarked, IsMarked, IsLeafOf, AreRestless, AreSizes, IsCalm};
+ghost use Rattle.terminal_test.specs.Restless.{AreSeen, are_held_by, AreMarked, IsMarked, IsLeafOf, AreRestless};
+ghost use Rattle.terminal_test.specs.Restless.{AreSizes, IsCalm};
 
 use pop_crowd::Crowd;
 use pop_io::{List, NoMemory};
@@ -45,7 +46,8 @@ fn leaf_marks(
     requires leaf_in { leaf < length net.now.leaves }
     requires pairs { IsLeafOf net.now leaf (λ here. pairs.now ≡ pairs_of here.moves) }
     requires valid { AreValid net.now crowd.now }
-    ensures { IfOk result (λ marks. IsLeafOf net.now leaf (λ here. IsMarked here (component leaf (crowd_of net.now crowd.now)) marks)) }
+    ensures { IfOk result
+        (λ marks. IsLeafOf net.now leaf (λ here. IsMarked here (component leaf (crowd_of net.now crowd.now)) marks)) }
 {
     // The pairs are of moves of this leaf, which are in its range.
     let _formed = net.leaf(leaf).state_count();
