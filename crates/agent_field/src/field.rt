@@ -75,6 +75,7 @@ impl FieldSeat {
     ghost use Rattle.agent_field.specs.Seats.{number_of, log_of, made_of, spare_of, left_of, looks_of, spare_looks_of};
     ghost use Rattle.agent_field.specs.Seats.{KeepsField, KeepsRest};
 
+    /// The seat's number, from 0.
     pub fn number(&self) -> u16
         ensures { result ≡ number_of self.now }
     {
@@ -116,6 +117,7 @@ impl FieldSeat {
         self.rooms.len() as u16
     }
 
+    /// One of the looks, in the order in which they were made.
     pub fn look_at(&self, i: u16) -> &Look
         requires { i < length (looks_of self.now) }
         ensures { slice_get (looks_of self.now) i ≡ Some result.now }

@@ -53,6 +53,7 @@ pub struct View {
     pub looks: List<Look>,
 }
 
+/// The rule of the field's table: `Stands`.
 pub struct Rule;
 
 impl TableRule<(), View, Setup> for Rule {

@@ -1,10 +1,11 @@
-//! Why a crowd is not settled.
+//! The faults of settling.
 
 ghost use Rattle.std.specs.Prelude.{◌≡◌};
 ghost use Rattle.pop_settle.specs.declared.fault.SettleFault.TheVariants.{NoMemory as OutOfMemory};
 
 use pop_io::NoMemory;
 
+/// Why a crowd is not settled.
 #[derive(Clone, Copy, Debug, PartialEq, Eq)]
 pub enum SettleFault {
     /// The proof's bound times the number of agents is over `TAKE_LIMIT`.
