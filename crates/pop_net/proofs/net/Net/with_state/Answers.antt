@@ -62,7 +62,7 @@ old_is c =
 at_lane : (c : After-from-3) (x state : ℕ) → x ≡ state → state < base c → x * 2 ^ (c.bits.result * c.from.result) % 2 ^ 64 ≡ state * base c ^ c.args.leaf
 at_lane c x state e l =
     ap (λ s. s * 2 ^ (c.bits.result * c.from.result) % 2 ^ 64) e
-    ∙ ap (λ b. state * 2 ^ (b * c.from.result) % 2 ^ 64) bits_is c
+    ∙ ap (λ b. state * 2 ^ (b * c.from.result) % 2 ^ 64) (bits_is c)
     ∙ ap (λ i. state * 2 ^ (bits c * i) % 2 ^ 64) c.from.ensures
     ∙ shifted (bits c) state c.args.leaf l (room c)
 
