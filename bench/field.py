@@ -2,8 +2,8 @@
 """Meetings per second of `run` on threads, beside one worker and beside a plain Rust program with a mutex per shard.
 
 Run from the top of the repository: python3 bench/field.py
-Majority with 1,000 agents, nearly as many of one kind as of the other, so that the turns are spent. The times are of whole
-commands, the printing of the journal included.
+Majority with 1,000 and with 65,536 agents, nearly as many of one kind as of the other, so that the turns are used up. The times are
+of whole commands, the printing of the journal included.
 """
 
 import os
@@ -64,11 +64,10 @@ fn meet(shards: &[Shard], clock: &AtomicU64, a: usize, b: usize) -> (u64, bool) 
 
 fn main() {
     let words: Vec<u64> = std::env::args().skip(1).map(|w| w.parse().unwrap()).collect();
-    let (workers, shards, turns) = (words[0], words[1] as usize, words[2]);
-    let n = 1000usize;
+    let (workers, shards, turns, n) = (words[0], words[1] as usize, words[2], words[3] as usize);
     let mut field: Vec<Vec<u8>> = vec![Vec::new(); shards];
     for a in 0..n {
-        field[a % shards].push(if a < 501 { 0 } else { 1 });
+        field[a % shards].push(if a <= n / 2 { 0 } else { 1 });
     }
     let field: Vec<Shard> = field.into_iter().map(Mutex::new).collect();
     let mut picks: Vec<Words> = (0..workers).map(Words::new).collect();
@@ -134,18 +133,22 @@ def main():
         with open(source, "w") as f:
             f.write(PLAIN + generator.WORDS)
         subprocess.run(["rustc", "-O", "--edition", "2021", "-o", plain, source], check=True)
+        with open(os.path.join(TOP, "examples/majority/bundle.json")) as f:
+            bundle = f.read().rstrip("\n")
         given = os.path.join(folder, "input")
-        with open(os.path.join(TOP, "examples/majority/bundle.json")) as f, open(given, "w") as to:
-            to.write(f.read().rstrip("\n") + "\ncrowd x=501 y=499\n")
-        print("| Workers | Shards | Meetings | pop, per second | plain program, per second |")
-        print("|---|---|---|---|---|")
-        for workers in (1, 2, 4):
-            for shards in (1, 16, 1024):
-                turns = str(MEETINGS // workers)
-                words = ["run", "--workers", str(workers), "--shards", str(shards), "--turns", turns]
-                ours, made = timed([PROGRAM] + words, given)
-                theirs, others = timed([plain, str(workers), str(shards), turns], os.devnull)
-                print(f"| {workers} | {shards} | {made} | {made / ours:,.0f} | {others / theirs:,.0f} |", flush=True)
+        print("| Agents | Workers | Shards | Meetings | pop, per second | plain program, per second |")
+        print("|---|---|---|---|---|---|")
+        for agents, many in ((1000, (1, 16, 1024)), (65536, (1024,))):
+            with open(given, "w") as to:
+                to.write(f"{bundle}\ncrowd x={agents // 2 + 1} y={agents // 2 - 1}\n")
+            for workers in (1, 2, 4):
+                for shards in many:
+                    turns = str(MEETINGS // workers)
+                    words = ["run", "--workers", str(workers), "--shards", str(shards), "--turns", turns]
+                    ours, made = timed([PROGRAM] + words, given)
+                    theirs, others = timed([plain, str(workers), str(shards), turns, str(agents)], os.devnull)
+                    rates = f"{made / ours:,.0f} | {others / theirs:,.0f}"
+                    print(f"| {agents} | {workers} | {shards} | {made} | {rates} |", flush=True)
 
 
 main()

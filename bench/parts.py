@@ -1,0 +1,67 @@
+#!/usr/bin/env python3
+"""Where the time of `run` goes, by part: samples of Linux's `perf`, put to the parts that their functions belong to.
+
+Run from the top of the repository: python3 bench/parts.py
+Majority with 65,536 agents, 1,024 shards and 1,000,000 meetings. The parts of each run add up to 100 percent of the processors' time.
+"""
+
+import os
+import subprocess
+import tempfile
+from collections import defaultdict
+
+TOP = os.path.dirname(os.path.dirname(os.path.abspath(__file__)))
+PROGRAM = os.environ.get("POP_PROGRAM", os.path.join(TOP, "crates/pop_main/out/pop_main"))
+AGENTS = 65_536
+SHARDS = 1_024
+MEETINGS = 1_000_000
+WORKERS = (1, 2, 4)
+
+# The first part with a word that a function's name has.
+PARTS = [
+    ("waiting for a lock", ["sched_yield", "__schedule", "finish_task_switch", "schedule", "futex"]),
+    ("locks", ["Field::lock", "unlock"]),
+    ("words and ticket of a meeting", ["Field::meet", "Crowd::meet", "Net::react"]),
+    ("picks and the loop of meetings", ["Picker", "work::work", "play_round"]),
+    ("opening the field of a round", ["Field::open", "words_of", "layout"]),
+    ("closing it: the logs by ticket", ["Field::close", "Field::join", "run_round"]),
+    ("the test of the end", ["enabled_pair", "restless", "partner"]),
+    ("starting and ending threads", ["clone", "pthread", "mmap", "exit", "thread"]),
+    ("text", ["itoa", "push_number", "extend_from_slice", "Vec::grow", "run_output", "tally", "memmove", "push_", "rep_movs"]),
+]
+REST = "reading, checking, memory, the rest"
+
+
+def part_of(name):
+    return next((part for part, words in PARTS if any(word in name for word in words)), REST)
+
+
+def shares(folder, workers, given):
+    """The percentage of each part."""
+    data = os.path.join(folder, "data")
+    words = ["run", "--workers", str(workers), "--shards", str(SHARDS), "--turns", str(MEETINGS // workers)]
+    with open(given) as lines:
+        record = ["perf", "record", "-q", "-e", "cpu-clock", "-F", "10000", "-o", data, PROGRAM]
+        subprocess.run(record + words, stdin=lines, stdout=subprocess.DEVNULL, stderr=subprocess.DEVNULL)
+    report = ["perf", "report", "-i", data, "--stdio", "--no-children", "-F", "overhead,symbol"]
+    found = defaultdict(float)
+    for line in subprocess.run(report, capture_output=True, text=True).stdout.splitlines():
+        share, _, name = line.strip().partition("%")
+        if name and not line.startswith("#"):
+            found[part_of(name)] += float(share)
+    return found
+
+
+def main():
+    with tempfile.TemporaryDirectory() as folder:
+        given = os.path.join(folder, "input")
+        with open(os.path.join(TOP, "examples/majority/bundle.json")) as bundle, open(given, "w") as to:
+            to.write(f"{bundle.read().rstrip()}\ncrowd x={AGENTS // 2 + 1} y={AGENTS // 2 - 1}\n")
+        runs = [shares(folder, workers, given) for workers in WORKERS]
+    print("| Part | " + " | ".join(f"{workers} workers" if workers > 1 else "1 worker" for workers in WORKERS) + " |")
+    print("|---|" + "---|" * len(WORKERS))
+    for part in [part for part, _ in PARTS] + [REST]:
+        print(f"| {part} | " + " | ".join(f"{run[part]:.0f}" for run in runs) + " |")
+
+
+main()
