@@ -7,7 +7,6 @@ use Rattle.pop_net.specs.FirstFault.{unless, first_of}
 use Rattle.comp_threshold_leaf.specs.declared.limits.TheConstants.{WIDTH_LIMIT}
 use Rattle.comp_net.specs.Atoms.{atoms, width_of}
 use Rattle.comp_net.specs.declared.choice.LeafChoice.{LeafChoice}
-use Rattle.comp_net.specs.declared.choice.LeafChoice.TheVariants.{Plain}
 use Rattle.comp_net.specs.declared.limits.TheConstants.{NARROW_WIDTH_LIMIT}
 use Rattle.comp_net.specs.declared.fault.CompileFault.{CompileFault}
 use Rattle.comp_net.specs.declared.fault.CompileFault.TheVariants as fault
@@ -35,13 +34,6 @@ fault_by ws =
 abbrev pub fault_with : LeafChoice → PredTree → Option CompileFault
 fault_with choice tree = fault_by (widths choice tree)
 
--- that of `compile`
-abbrev pub fault_of : PredTree → Option CompileFault
-fault_of = fault_with Plain
-
 -- the fault is the first that the predicate has, unless memory ran out
 abbrev pub RefusesWith : LeafChoice → PredTree → CompileFault → Type 0
 RefusesWith choice tree f = (f ≡ fault.NoMemory) ⊎ (fault_with choice tree ≡ Some f)
-
-abbrev pub RefusesTree : PredTree → CompileFault → Type 0
-RefusesTree = RefusesWith Plain

@@ -1,3 +1,4 @@
 pub mod Atoms
 pub mod CompileFaults
 pub mod BuiltNet
+pub mod Compiles

@@ -1,13 +1,8 @@
 //! A predicate in, a certified net out.
 
-ghost use Rattle.std.specs.Prelude.{◌≡◌, None, length, IfOk, IfErr};
+ghost use Rattle.std.specs.Prelude.{◌≡◌, length};
 ghost use Rattle.pop_io.specs.Names.{AreNames, is_variable_name};
-ghost use Rattle.pop_net.specs.Reaction.{IsSingle};
-ghost use Rattle.cert_base.specs.ProofLimits.{IsProofWithin};
-ghost use Rattle.cert_base.specs.ValidProof.{ValidProof};
-ghost use Rattle.comp_net.specs.declared.choice.LeafChoice.TheVariants.{Flocks as flock_leaves};
-ghost use Rattle.comp_net.specs.BuiltNet.{net_with, built_net};
-ghost use Rattle.comp_net.specs.CompileFaults.{fault_with, fault_of as fault_of_tree, RefusesWith, RefusesTree};
+ghost use Rattle.comp_net.specs.Compiles.{Compiles};
 
 use crate::building::build;
 use crate::choice::LeafChoice;
@@ -28,12 +23,7 @@ fn compile_with(
 ) -> Result<(Net, Proof), CompileFault>
     requires formed { AreNames is_variable_name names.now }
     requires count { length names.now ≡ pred.now.variables }
-    ensures net { IfOk result (λ both. both.0 ≡ net_with choice names.now pred.now.tree) }
-    ensures valid { IfOk result (λ both. ValidProof both.0 pred.now both.1) }
-    ensures within { IfOk result (λ both. IsProofWithin pred.now.variables (length both.0.leaves) both.1) }
-    ensures single { IfOk result (λ both. IsSingle both.0) }
-    ensures accepted { IfOk result (λ _. fault_with choice pred.now.tree ≡ None) }
-    ensures refused { IfErr result (RefusesWith choice pred.now.tree) }
+    ensures { Compiles choice names.now pred.now result }
 {
     if let Some(fault) = fault_of(alloc, choice, pred)? {
         return Err(fault);
@@ -46,13 +36,7 @@ fn compile_with(
 pub fn compile(alloc: Global, pred: &Pred, names: &List<Text>) -> Result<(Net, Proof), CompileFault>
     requires formed { AreNames is_variable_name names.now }
     requires count { length names.now ≡ pred.now.variables }
-    ensures net { IfOk result (λ both. both.0 ≡ built_net names.now pred.now.tree) }
-    ensures valid { IfOk result (λ both. ValidProof both.0 pred.now both.1) }
-    ensures within { IfOk result (λ both. IsProofWithin pred.now.variables (length both.0.leaves) both.1) }
-    // No leaf has two moves for the same states.
-    ensures single { IfOk result (λ both. IsSingle both.0) }
-    ensures accepted { IfOk result (λ _. fault_of_tree pred.now.tree ≡ None) }
-    ensures refused { IfErr result (RefusesTree pred.now.tree) }
+    ensures { Compiles LeafChoice.Plain names.now pred.now result }
 {
     compile_with(alloc, LeafChoice::Plain, pred, names)
 }
@@ -66,13 +50,7 @@ pub fn compile_flocks(
 ) -> Result<(Net, Proof), CompileFault>
     requires formed { AreNames is_variable_name names.now }
     requires count { length names.now ≡ pred.now.variables }
-    ensures net { IfOk result (λ both. both.0 ≡ net_with flock_leaves names.now pred.now.tree) }
-    ensures valid { IfOk result (λ both. ValidProof both.0 pred.now both.1) }
-    ensures within { IfOk result (λ both. IsProofWithin pred.now.variables (length both.0.leaves) both.1) }
-    // No leaf has two moves for the same states.
-    ensures single { IfOk result (λ both. IsSingle both.0) }
-    ensures accepted { IfOk result (λ _. fault_with flock_leaves pred.now.tree ≡ None) }
-    ensures refused { IfErr result (RefusesWith flock_leaves pred.now.tree) }
+    ensures { Compiles LeafChoice.Flocks names.now pred.now result }
 {
     compile_with(alloc, LeafChoice::Flocks, pred, names)
 }

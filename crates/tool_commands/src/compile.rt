@@ -1,13 +1,9 @@
 //! The commands `compile` and `compile --flocks`.
 
-ghost use Rattle.std.specs.Prelude.{◌≡◌, None, length, IfOk, IfErr};
+ghost use Rattle.std.specs.Prelude.{◌≡◌, length, IfOk};
 ghost use Rattle.pop_lines.specs.Lines.{lines_of};
 ghost use Rattle.pop_words.specs.Vars.{AreVariables};
-ghost use Rattle.pop_net.specs.Reaction.{IsSingle};
-ghost use Rattle.cert_base.specs.ProofLimits.{IsProofWithin};
-ghost use Rattle.cert_base.specs.ValidProof.{ValidProof};
-ghost use Rattle.comp_net.specs.BuiltNet.{net_with};
-ghost use Rattle.comp_net.specs.CompileFaults.{fault_with, RefusesWith};
+ghost use Rattle.comp_net.specs.Compiles.{Compiles};
 ghost use Rattle.tool_texts.specs.Steps.{Gives, Obeys};
 ghost use Rattle.tool_commands.specs.Compile.{asked as asked_by, fitting, bundle_line, IsCompiled, CompileGives};
 
@@ -44,12 +40,7 @@ fn build_with(
 ) -> Result<(Net, Proof), CompileFault>
     requires formed { AreVariables names.now }
     requires count { pred.now.variables ≡ length names.now }
-    ensures net { IfOk result (λ both. both.0 ≡ net_with choice names.now pred.now.tree) }
-    ensures valid { IfOk result (λ both. ValidProof both.0 pred.now both.1) }
-    ensures within { IfOk result (λ both. IsProofWithin pred.now.variables (length both.0.leaves) both.1) }
-    ensures single { IfOk result (λ both. IsSingle both.0) }
-    ensures accepted { IfOk result (λ _. fault_with choice pred.now.tree ≡ None) }
-    ensures refused { IfErr result (RefusesWith choice pred.now.tree) }
+    ensures { Compiles choice names.now pred.now result }
 {
     match choice {
         LeafChoice::Plain => comp_net::compile(alloc, pred, names),
