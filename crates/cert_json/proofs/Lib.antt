@@ -6,3 +6,4 @@ pub mod ProofLaws
 pub mod Short
 pub mod WrittenFiles
 pub mod BundleLaws
+pub mod ReadPreds

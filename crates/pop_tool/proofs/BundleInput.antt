@@ -1,14 +1,20 @@
--- The order in which a bundle and a crowd line are examined, and what they are.
+-- The order in which a bundle and a crowd line are examined, what they are, and what a valid proof in a bundle shows.
 use Rattle.std.proofs.Common.{◌≡◌, ℕ, List, Option, Some, Result, Ok, refl, sym, subst}
+use Rattle.serde_json.specs.Data.{Data}
+use Rattle.cert_base.specs.ProofBound.{proof_bound}
 use Rattle.cert_json.specs.declared.bundle.Bundle.{Bundle}
+use Rattle.cert_json.specs.BundleFile.{IsBundleFile}
 use Rattle.cert_json.specs.Bundles.{bundle_at}
 use Rattle.cert_json.proofs.BundleLaws.{bundle_takes, bundle_again}
+use Rattle.cert_json.proofs.ReadPreds.{file_net, file_preds}
+use Rattle.pop_checker.specs.Computes.{Computes}
+use Rattle.pop_checker.proofs.RightEnds.{sound}
 use Rattle.tool_texts.specs.Steps.{◌>>=◌}
 use Rattle.tool_texts.proofs.Goes.{bind_ok, same_ok}
 use Rattle.tool_commands.specs.Start.{fitting_in}
 use Rattle.tool_commands.specs.Bundles.{bundle_in, begun, IsBegunBy}
 use Rattle.tool_commands.proofs.Certified.{some_value}
-use Rattle.pop_tool.specs.Headline.{IsBundleInput}
+use Rattle.pop_tool.specs.Headline.{IsBundleInput, IsValid}
 
 pub begins_input : (first second : List ℕ) (bundle : Bundle) (counts : List ℕ) → IsBegunBy first second (Ok (bundle, counts)) → IsBundleInput first second bundle counts
 unfolding begun
@@ -29,3 +35,8 @@ pub input_begins : (first second : List ℕ) (bundle : Bundle) (counts : List �
 unfolding begun
 input_begins first second bundle counts input =
     (Some input.value, input.reads, rw (bundle_again input.value bundle input.file, input.fits) refl)
+
+-- the net of a file whose proof is valid computes the predicate
+pub file_computes : (bundle : Bundle) (d : Data) → IsBundleFile bundle d → IsValid bundle → Computes bundle.net bundle.pred.tree (proof_bound bundle.proof)
+file_computes bundle d file valid =
+    (sound bundle.net bundle.pred bundle.proof (file_net bundle d file) (file_preds bundle d file) valid).computes

@@ -1,17 +1,18 @@
 -- What a printed text of `check` says of a bundle.
-use Rattle.std.proofs.Common.{◌≡◌, ℕ, ◌≤◌, Bool, true, false, nat_lt, List, [], ◌∷◌, get_or, length, Option, Some, None, Result, Ok, Err, refl, sym, ap, subst, ◌∙◌, arith}
+use Rattle.std.proofs.Common.{◌≡◌, ℕ, ◌≤◌, Bool, true, false, nat_lt, List, [], ◌∷◌, length, Option, Some, None, Result, Ok, Err, refl, sym, ap, subst, ◌∙◌, arith}
 use Rattle.std.specs.Prelude.{MatchBool}
 use Rattle.std.proofs.lemmas.Bool.{le-ltb, ltb-false}
 use Rattle.pop_io.specs.declared.whole.TheConstants.{INPUT_LIMIT}
 use Rattle.pop_lines.specs.Lines.{lines_of, ended}
 use Rattle.pop_words.specs.declared.command.Command.TheVariants.{Check}
+use Rattle.serde_json.specs.Data.{Data}
 use Rattle.cert_json.specs.declared.bundle.Bundle.{Bundle}
+use Rattle.cert_json.specs.BundleFile.{IsBundleFile}
 use Rattle.cert_json.proofs.BundleLaws.{bundle_takes, bundle_again}
 use Rattle.pop_checker.specs.declared.fault.Rejected.{Rejected}
-use Rattle.pop_checker.specs.declared.fault.Rejected.TheVariants.{Layers, Tree, Predicate}
 use Rattle.pop_checker.proofs.OneFault.{none_rejected}
 use Rattle.tool_texts.specs.declared.refusal.Refusal.{Refusal}
-use Rattle.tool_texts.specs.declared.refusal.Refusal.TheVariants.{TooLong, Line, NotJson, Format, Pred, Count, Size, Journal, Atoms, Width, Wide, Settle}
+use Rattle.tool_texts.specs.declared.refusal.Refusal.TheVariants.{TooLong}
 use Rattle.tool_texts.specs.declared.output.Output.{Output}
 use Rattle.tool_texts.specs.declared.output.Ending.TheVariants as ending
 use Rattle.tool_texts.specs.declared.status.Status.TheVariants.{Done}
@@ -26,45 +27,32 @@ use Rattle.tool_commands.specs.Check.{certified_text, judgement, OfBundle, OfLin
 use Rattle.tool_commands.proofs.Certified.{some_value}
 use Rattle.pop_tool.specs.Answer.{InputGives}
 use Rattle.pop_tool.specs.Headline.{IsBundleLine, IsValid, CheckSays, IsValidLine}
-
-first_byte : List ℕ → ℕ
-first_byte bytes = get_or bytes 0 0
+use Rattle.pop_tool.proofs.BundleInput.{file_computes}
+use Rattle.pop_tool.proofs.FirstBytes.{first_byte, refusal_begins, rejection_begins}
 
 -- a refusal begins with an f, a rejection with an r, and `certified` with a c
 not_refusal : (refusal : Refusal) (k : ℕ) → ended (refusal_text refusal) ≡ ended (certified_text k) → ⊥
 unfolding first_byte
-not_refusal TooLong k e = let b : 102 ≡ 99 = ap first_byte e in absurd (omega (arith, b))
-not_refusal (Line number why) k e = let b : 102 ≡ 99 = ap first_byte e in absurd (omega (arith, b))
-not_refusal NotJson k e = let b : 102 ≡ 99 = ap first_byte e in absurd (omega (arith, b))
-not_refusal (Format path why) k e = let b : 102 ≡ 99 = ap first_byte e in absurd (omega (arith, b))
-not_refusal (Pred why) k e = let b : 102 ≡ 99 = ap first_byte e in absurd (omega (arith, b))
-not_refusal (Count word) k e = let b : 102 ≡ 99 = ap first_byte e in absurd (omega (arith, b))
-not_refusal (Size agents) k e = let b : 102 ≡ 99 = ap first_byte e in absurd (omega (arith, b))
-not_refusal (Journal number why) k e = let b : 102 ≡ 99 = ap first_byte e in absurd (omega (arith, b))
-not_refusal (Atoms count) k e = let b : 102 ≡ 99 = ap first_byte e in absurd (omega (arith, b))
-not_refusal (Width atom width) k e = let b : 102 ≡ 99 = ap first_byte e in absurd (omega (arith, b))
-not_refusal (Wide atom) k e = let b : 102 ≡ 99 = ap first_byte e in absurd (omega (arith, b))
-not_refusal (Settle takes) k e = let b : 102 ≡ 99 = ap first_byte e in absurd (omega (arith, b))
+not_refusal refusal k e = let b : 102 ≡ 99 = sym (refusal_begins refusal) ∙ ap first_byte e in absurd (omega (arith, b))
 
 not_rejection : (rejected : Rejected) (k : ℕ) → ended (rejected_text rejected) ≡ ended (certified_text k) → ⊥
 unfolding first_byte
-not_rejection (Layers leaf fault) k e = let b : 114 ≡ 99 = ap first_byte e in absurd (omega (arith, b))
-not_rejection (Tree leaf value fault) k e = let b : 114 ≡ 99 = ap first_byte e in absurd (omega (arith, b))
-not_rejection Predicate k e = let b : 114 ≡ 99 = ap first_byte e in absurd (omega (arith, b))
+not_rejection rejected k e = let b : 114 ≡ 99 = sym (rejection_begins rejected) ∙ ap first_byte e in absurd (omega (arith, b))
 
 done : (text : List ℕ) (output : Output) → text ≡ output.text → output.ending ≡ ending.Done → (text ≡ output.text) × (status_of output.ending ≡ Done)
 done text output is ends = (is, ap status_of ends)
 
 module _ (text : List ℕ) (bundle : Bundle) where
-  judged_says : (judged : Option Rejected) → IsJudged bundle judged → text ≡ (judgement bundle judged).text → CheckSays bundle text (status_of (judgement bundle judged).ending)
-  judged_says None is printed =
-      record { certified = ((λ p. is.0), (λ valid. (printed, refl))); computes = λ valid. is.1.computes }
-  judged_says (Some rejected) is printed =
+  judged_says : (value : Data) → IsBundleFile bundle value → (judged : Option Rejected) → IsJudged bundle judged → text ≡ (judgement bundle judged).text
+      → CheckSays bundle text (status_of (judgement bundle judged).ending)
+  judged_says value file None is printed =
+      record { certified = ((λ p. is), (λ valid. (printed, refl))); computes = file_computes bundle value file }
+  judged_says value file (Some rejected) is printed =
       let never : IsValid bundle → ⊥ = λ valid. none_rejected bundle.net bundle.pred bundle.proof rejected valid is in
-      record { certified = ((λ p. absurd (cc (p.1))), (λ valid. absurd (never valid))); computes = λ valid. absurd (never valid) }
+      record { certified = ((λ p. absurd (cc (p.1))), (λ valid. absurd (never valid))); computes = file_computes bundle value file }
 
   judged_valid : (judged : Option Rejected) → IsJudged bundle judged → (k : ℕ) → (judgement bundle judged).text ≡ ended (certified_text k) → IsValid bundle
-  judged_valid None is k e = is.0
+  judged_valid None is k e = is
   judged_valid (Some rejected) is k e = absurd (not_rejection rejected k e)
 
 short_lines : (input : List ℕ) (given : Result Output Refusal) → length input ≤ INPUT_LIMIT → InputGives Check input given → CheckGives (lines_of input) given
@@ -78,7 +66,7 @@ check_says input bundle given line is =
     let read : of_line.0 ≡ Ok bundle = of_line.1.2 ∙ ap bundle_in value ∙ rw (bundle_again line.value bundle line.file) refl in
     let of_bundle : OfBundle bundle given = subst (λ (r : Result Bundle Refusal). After r OfBundle given) read of_line.2 in
     subst (λ (g : Result Output Refusal). CheckSays bundle (output_for g).text (status_of (output_for g).ending)) (sym of_bundle.2)
-    (judged_says (judgement bundle of_bundle.0).text bundle of_bundle.0 of_bundle.1 refl)
+    (judged_says (judgement bundle of_bundle.0).text bundle line.value line.file of_bundle.0 of_bundle.1 refl)
 
 abbrev Printed : Result Output Refusal → ℕ → Type 0
 Printed given k = (output_for given).text ≡ ended (certified_text k)

@@ -25,7 +25,7 @@ use Rattle.tool_commands.specs.Replay.{holds_text, holds_output}
 use Rattle.pop_tool.specs.Answer.{InputGives, OfMeaning, Answer}
 use Rattle.pop_tool.specs.Outcome.{HasLeft, Wrote, Outcome}
 use Rattle.comp_net.specs.declared.choice.LeafChoice.TheVariants as leaves
-use Rattle.pop_tool.specs.Headline.{IsBundleLine, CheckSays, IsValidLine, IsHeldInput, CompileSays, SettleSays, RunSays, WasRun, Headline, IsHeadline}
+use Rattle.pop_tool.specs.Headline.{IsBundleLine, CheckSays, IsValidLine, IsHeldInput, CompileSays, SettleSays, RunSays, SaysHolds, WasRun, Headline, IsHeadline}
 use Rattle.pop_tool.proofs.CheckHeadline.{check_says, check_only}
 use Rattle.pop_tool.proofs.RunHeadline.{run_says}
 use Rattle.pop_tool.proofs.CompileHeadline.{compile_says}
@@ -52,7 +52,7 @@ module _ (words : List (List ℕ)) (input : List ℕ) (output : Output) (answer 
       subst (λ (o : Output). RunSays kind spec input o.text) (sym a.2) (run_says kind spec input a.0 a.1 (subst (λ (o : Output). WasRun (status_of o.ending)) a.2 ran))
 
   replay_headline : (kind : RunKind) → meaning_of words ≡ Ok (replay_command kind) → (k : ℕ) → k < 2 ^ 64
-      → ((output.text ≡ ended (holds_text k)) × (status_of output.ending ≡ Done)) ↔ IsHeldInput kind input k
+      → SaysHolds k output.text (status_of output.ending) ↔ IsHeldInput kind input k
   replay_headline kind is k small =
       let a = given_for (replay_command kind) is in (
         λ printed. replay_only k small kind input a.0 a.1 (subst (λ (o : Output). o.text ≡ ended (holds_text k)) a.2 printed.0),

@@ -2,6 +2,7 @@ mod Replies
 mod Puts
 mod One
 mod BundleInput
+mod FirstBytes
 mod CheckHeadline
 mod RunHeadline
 mod ReplayHeadline

@@ -1,5 +1,5 @@
 -- What a printed text of `replay` says of a journal.
-use Rattle.std.proofs.Common.{◌≡◌, ℕ, ◌+◌, ◌<◌, ◌≤◌, ◌^◌, Bool, true, false, nat_lt, List, [], ◌∷◌, ◌++◌, get_or, length, decimal, Option, Some, None, Result, Ok, Err, refl, sym, ap, subst, ◌∙◌, arith}
+use Rattle.std.proofs.Common.{◌≡◌, ℕ, ◌+◌, ◌<◌, ◌≤◌, ◌^◌, Bool, true, false, nat_lt, List, [], ◌∷◌, ◌++◌, length, decimal, Option, Some, None, Result, Ok, Err, refl, sym, ap, subst, ◌∙◌, arith}
 use Rattle.std.specs.Prelude.{MatchBool}
 use Rattle.std.proofs.lemmas.Bool.{le-ltb, ltb-false}
 use Rattle.std.proofs.lemmas.Fmt.{decimal_injective}
@@ -24,10 +24,9 @@ use Rattle.pop_journal.proofs.Written.{journal_form, few_meetings}
 use Rattle.pop_journal.proofs.Verdicts.{none_held, held_none}
 use Rattle.cert_json.specs.declared.bundle.Bundle.{Bundle}
 use Rattle.pop_checker.specs.declared.fault.Rejected.{Rejected}
-use Rattle.pop_checker.specs.declared.fault.Rejected.TheVariants.{Layers, Tree, Predicate}
 use Rattle.pop_checker.proofs.OneFault.{none_rejected}
 use Rattle.tool_texts.specs.declared.refusal.Refusal.{Refusal}
-use Rattle.tool_texts.specs.declared.refusal.Refusal.TheVariants.{TooLong, Line, NotJson, Format, Pred, Count, Size, Journal as OfJournal, Atoms, Width, Wide, Settle}
+use Rattle.tool_texts.specs.declared.refusal.Refusal.TheVariants.{TooLong}
 use Rattle.tool_texts.specs.declared.output.Output.{Output}
 use Rattle.tool_texts.specs.declared.status.Status.TheVariants.{Done}
 use Rattle.tool_texts.specs.Statuses.{status_of}
@@ -45,35 +44,20 @@ use Rattle.tool_commands.proofs.Begun.{begun_two, begun_few}
 use Rattle.pop_tool.specs.Answer.{InputGives}
 use Rattle.pop_tool.specs.Headline.{IsValid, IsHeldInput}
 use Rattle.pop_tool.proofs.BundleInput.{begins_input, input_begins}
-
-first_byte : List ℕ → ℕ
-first_byte bytes = get_or bytes 0 0
+use Rattle.pop_tool.proofs.FirstBytes.{first_byte, refusal_begins, rejection_begins, difference_begins}
 
 -- a refusal begins with an f, a rejection with an r, a difference with a d, and `holds` with an h
 not_refusal : (refusal : Refusal) (k : ℕ) → ended (refusal_text refusal) ≡ ended (holds_text k) → ⊥
 unfolding first_byte
-not_refusal TooLong k e = let b : 102 ≡ 104 = ap first_byte e in absurd (omega (arith, b))
-not_refusal (Line number why) k e = let b : 102 ≡ 104 = ap first_byte e in absurd (omega (arith, b))
-not_refusal NotJson k e = let b : 102 ≡ 104 = ap first_byte e in absurd (omega (arith, b))
-not_refusal (Format path why) k e = let b : 102 ≡ 104 = ap first_byte e in absurd (omega (arith, b))
-not_refusal (Pred why) k e = let b : 102 ≡ 104 = ap first_byte e in absurd (omega (arith, b))
-not_refusal (Count word) k e = let b : 102 ≡ 104 = ap first_byte e in absurd (omega (arith, b))
-not_refusal (Size agents) k e = let b : 102 ≡ 104 = ap first_byte e in absurd (omega (arith, b))
-not_refusal (OfJournal number why) k e = let b : 102 ≡ 104 = ap first_byte e in absurd (omega (arith, b))
-not_refusal (Atoms count) k e = let b : 102 ≡ 104 = ap first_byte e in absurd (omega (arith, b))
-not_refusal (Width atom width) k e = let b : 102 ≡ 104 = ap first_byte e in absurd (omega (arith, b))
-not_refusal (Wide atom) k e = let b : 102 ≡ 104 = ap first_byte e in absurd (omega (arith, b))
-not_refusal (Settle takes) k e = let b : 102 ≡ 104 = ap first_byte e in absurd (omega (arith, b))
+not_refusal refusal k e = let b : 102 ≡ 104 = sym (refusal_begins refusal) ∙ ap first_byte e in absurd (omega (arith, b))
 
 not_rejection : (rejected : Rejected) (k : ℕ) → ended (rejected_text rejected) ≡ ended (holds_text k) → ⊥
 unfolding first_byte
-not_rejection (Layers leaf fault) k e = let b : 114 ≡ 104 = ap first_byte e in absurd (omega (arith, b))
-not_rejection (Tree leaf value fault) k e = let b : 114 ≡ 104 = ap first_byte e in absurd (omega (arith, b))
-not_rejection Predicate k e = let b : 114 ≡ 104 = ap first_byte e in absurd (omega (arith, b))
+not_rejection rejected k e = let b : 114 ≡ 104 = sym (rejection_begins rejected) ∙ ap first_byte e in absurd (omega (arith, b))
 
 not_difference : (difference : Difference) (k : ℕ) → difference_text difference ≡ ended (holds_text k) → ⊥
 unfolding first_byte
-not_difference difference k e = let b : 100 ≡ 104 = ap first_byte e in absurd (omega (arith, b))
+not_difference difference k e = let b : 100 ≡ 104 = sym (difference_begins difference) ∙ ap first_byte e in absurd (omega (arith, b))
 
 tail_of : List ℕ → List ℕ
 tail_of [] = []
@@ -199,7 +183,7 @@ module _ (k : ℕ) (small : k < 2 ^ 64) where
 
     judged_only : (bundle : Bundle) (counts : List ℕ) → IsBegunBy first second (Ok (bundle, counts)) → (judged : Option Rejected) → IsJudged bundle judged → Printed (judged_output kind bundle counts more judged) k → IsHeldInput kind input k
     judged_only bundle counts begins None is printed =
-        read_only bundle counts begins is.0 (journal_read kind (journal_in kind (length (input_crowd bundle.net counts)) JOURNAL_LINE more)) refl printed
+        read_only bundle counts begins is (journal_read kind (journal_in kind (length (input_crowd bundle.net counts)) JOURNAL_LINE more)) refl printed
     judged_only bundle counts begins (Some rejected) is printed = absurd (not_rejection rejected k printed)
 
     begun_only : (r : Result (Bundle × List ℕ) Refusal) → IsBegunBy first second r → (given : Result Output Refusal) → After r (OfBegun kind more) given → Printed given k → IsHeldInput kind input k

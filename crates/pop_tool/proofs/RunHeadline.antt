@@ -30,8 +30,8 @@ use Rattle.tool_commands.specs.Run.{journal_end, IsRunOutput, OfJudged, OfBegun,
 use Rattle.tool_commands.proofs.Begun.{begun_two}
 use Rattle.tool_commands.proofs.Ran.{run_tuples}
 use Rattle.pop_tool.specs.Answer.{InputGives}
-use Rattle.pop_tool.specs.Headline.{RunSays, WasRun}
-use Rattle.pop_tool.proofs.BundleInput.{begins_input}
+use Rattle.pop_tool.specs.Headline.{IsValid, RunSays, WasRun}
+use Rattle.pop_tool.proofs.BundleInput.{begins_input, file_computes}
 
 pub two_lines : (lines : List (List ℕ)) (found : List ℕ × List ℕ) → just_two lines ≡ Ok found → lines ≡ found.0 ∷ found.1 ∷ []
 two_lines [] found e = absurd cc
@@ -77,7 +77,7 @@ pub record IsMade (kind : RunKind) (spec : RunSpec) (input : List ℕ) (output :
   pub bundle : Bundle
   pub counts : List ℕ
   pub begins : IsBegunBy first second (Ok (bundle, counts))
-  pub judged : IsJudged bundle None
+  pub valid : IsValid bundle
   pub is : IsRunOutput kind spec (ended first ++ ended second) bundle.net bundle.pred counts output
 
 module _ (kind : RunKind) (spec : RunSpec) (input : List ℕ) where
@@ -85,7 +85,7 @@ module _ (kind : RunKind) (spec : RunSpec) (input : List ℕ) where
     judged_made : (bundle : Bundle) (counts : List ℕ) → IsBegunBy first second (Ok (bundle, counts)) → (judged : Option Rejected) → IsJudged bundle judged → (output : Output)
         → OfJudged kind spec (ended first ++ ended second) bundle counts judged output → WasRun (status_of output.ending) → IsMade kind spec input output
     judged_made bundle counts begins None is output of ran =
-        record { first = first; second = second; lines = lines; bundle = bundle; counts = counts; begins = begins; judged = is; is = of }
+        record { first = first; second = second; lines = lines; bundle = bundle; counts = counts; begins = begins; valid = is; is = of }
     judged_made bundle counts begins (Some rejected) is output of ran =
         absurd (not_rejected (status_of output.ending) (ap (λ (o : Output). status_of o.ending) of) ran)
 
@@ -112,14 +112,15 @@ module _ (kind : RunKind) (spec : RunSpec) (input : List ℕ) where
       let net = made.bundle.net in
       let tuples = run_tuples net made.counts (begun_two made.begins.0 made.second made.bundle made.counts (sym made.begins.2)) kind spec made.is.rounds made.is.end made.is.run in
       let truth = predicate_value made.bundle.pred.tree made.counts in
+      let begins = begins_input made.first made.second made.bundle made.counts made.begins in
       record {
         first = made.first;
         second = made.second;
         lines = made.lines;
         bundle = made.bundle;
         counts = made.counts;
-        begins = begins_input made.first made.second made.bundle made.counts made.begins;
-        computes = made.judged.1.computes;
+        begins = begins;
+        computes = file_computes made.bundle begins.value begins.file made.valid;
         rounds = made.is.rounds;
         end = made.is.end;
         run = made.is.run;

@@ -37,6 +37,8 @@ use Rattle.pop_journal.specs.Form.{journal_in}
 use Rattle.pop_journal.proofs.Looks.{least_some, least_of_terminal, common_some}
 use Rattle.pop_journal.proofs.Feeds.{IsUnbroken, lines_text}
 use Rattle.pop_journal.proofs.Written.{written_is_held}
+use Rattle.cert_base.specs.ProofBound.{proof_bound}
+use Rattle.pop_checker.specs.Computes.{Computes}
 use Rattle.tool_texts.specs.declared.refusal.Refusal.{Refusal}
 use Rattle.tool_texts.specs.declared.output.Output.{Output}
 use Rattle.tool_texts.specs.Statuses.{status_of}
@@ -51,9 +53,9 @@ use Rattle.tool_commands.proofs.Begun.{begun_two, begun_few}
 use Rattle.tool_commands.proofs.Ran.{run_reaches, run_tuples}
 use Rattle.pop_journal.proofs.RunKinds.{is_watched}
 use Rattle.pop_tool.specs.Answer.{InputGives, OfMeaning, Answer}
-use Rattle.pop_tool.specs.Headline.{WasRun, IsHeldInput}
+use Rattle.pop_tool.specs.Headline.{IsBundleInput, WasRun, IsHeldInput}
 use Rattle.pop_tool.specs.ReplayHeld.{replay_words, IsReplayHeld}
-use Rattle.pop_tool.proofs.BundleInput.{begins_input}
+use Rattle.pop_tool.proofs.BundleInput.{begins_input, file_computes}
 use Rattle.pop_tool.proofs.RunHeadline.{IsMade, run_made}
 use Rattle.pop_tool.proofs.ReplayHeadline.{held_given}
 
@@ -90,6 +92,12 @@ module _ (kind : RunKind) (spec : RunSpec) (input : List ℕ) (output : Output) 
   begins : begun made.begins.0 made.second ≡ Ok (made.bundle, made.counts)
   begins = sym made.begins.2
 
+  bundle_input : IsBundleInput made.first made.second made.bundle made.counts
+  bundle_input = begins_input made.first made.second made.bundle made.counts made.begins
+
+  computes : Computes net made.bundle.pred.tree (proof_bound made.bundle.proof)
+  computes = file_computes made.bundle bundle_input.value bundle_input.file made.valid
+
   enough : AGENT_LEAST ≤ input_size net made.counts
   enough = begun_two made.begins.0 made.second made.bundle made.counts begins
 
@@ -105,7 +113,7 @@ module _ (kind : RunKind) (spec : RunSpec) (input : List ℕ) (output : Output) 
   last_is : (pair : Option (ℕ × ℕ)) → IsLast net end pair → journal_end truth pair ≡ ending_of net end
   last_is None is =
       let reached = run_reaches net made.counts enough kind spec made.is.rounds end made.is.run in
-      let right = (made.judged.1.computes made.counts end made.is.input reached).right is in
+      let right = (computes made.counts end made.is.input reached).right is in
       let tuples = run_tuples net made.counts enough kind spec made.is.rounds end made.is.run in
       sym (ap (λ (o : Option (ℕ × ℕ)). ending_for o (common_output net end)) (least_of_terminal net end tuples is) ∙ ap (ending_for None) (common_some net end truth some_agent right))
     where
@@ -139,8 +147,8 @@ module _ (kind : RunKind) (spec : RunSpec) (input : List ℕ) (output : Output) 
         lines = lines_are;
         bundle = made.bundle;
         counts = made.counts;
-        begins = begins_input made.first made.second made.bundle made.counts made.begins;
-        valid = made.judged.0;
+        begins = bundle_input;
+        valid = made.valid;
         journal = journal;
         read = ap (journal_read kind) written.0;
         holds = written.1;

@@ -26,7 +26,7 @@ use Rattle.tool_commands.specs.Bundles.{IsBegunBy, IsJudged}
 use Rattle.tool_commands.specs.Settle.{takes_allowed, IsSettled, OfJudged, OfBegun, OfLines, SettleGives}
 use Rattle.pop_tool.specs.Answer.{InputGives}
 use Rattle.pop_tool.specs.Headline.{SettleSays}
-use Rattle.pop_tool.proofs.BundleInput.{begins_input}
+use Rattle.pop_tool.proofs.BundleInput.{begins_input, file_computes}
 use Rattle.pop_tool.proofs.RunHeadline.{two_lines}
 
 abbrev IsDone : Result Output Refusal → Type 0
@@ -40,9 +40,11 @@ module _ (input : List ℕ) (given : Result Output Refusal) (done : IsDone given
     settled_says : (bundle : Bundle) (counts : List ℕ) → IsBegunBy first second (Ok (bundle, counts)) → IsJudged bundle None → IsSettled bundle counts given → SettleSays input (output_for given).text
     settled_says bundle counts begins judged s =
         let net = bundle.net in
+        let begun = begins_input first second bundle counts begins in
+        let computes = file_computes bundle begun.value begun.file judged in
         let start = input_crowd net counts in
         let tuples = input_tuples net counts in
-        let valid : AreLayersValid net bundle.proof = record { one_each = judged.0.one_each; valid = λ i leaf part h k. (judged.0.leaves i leaf part h k).layers } in
+        let valid : AreLayersValid net bundle.proof = record { one_each = judged.one_each; valid = λ i leaf part h k. (judged.leaves i leaf part h k).layers } in
         let way = leads_reached net bundle.proof start s.end s.takes tuples s.settlement.leads in
         let terminal = are_terminal net bundle.proof start s.end s.takes valid tuples s.settlement in
         record {
@@ -51,14 +53,14 @@ module _ (input : List ℕ) (given : Result Output Refusal) (done : IsDone given
           lines = lines;
           bundle = bundle;
           counts = counts;
-          begins = begins_input first second bundle counts begins;
-          computes = judged.1.computes;
+          begins = begun;
+          computes = computes;
           takes = s.takes;
           end = s.end;
           settlement = s.settlement;
           reached = (way.0, way.2);
           terminal = terminal;
-          outputs = (judged.1.computes counts s.end s.input (way.0, way.2)).right terminal;
+          outputs = (computes counts s.end s.input (way.0, way.2)).right terminal;
           printed = ap (λ (g : Result Output Refusal). (output_for g).text) s.is;
         }
 

@@ -14,8 +14,8 @@ use Rattle.tool_commands.specs.Check.{judgement, OfBundle, OfLine, CheckGives}
 
 pub one_judged : (bundle : Bundle) (v w : Option Rejected) → IsJudged bundle v → IsJudged bundle w → v ≡ w
 one_judged bundle None None p q = refl
-one_judged bundle None (Some rejected) p q = absurd (none_rejected bundle.net bundle.pred bundle.proof rejected p.0 q)
-one_judged bundle (Some rejected) None p q = absurd (none_rejected bundle.net bundle.pred bundle.proof rejected q.0 p)
+one_judged bundle None (Some rejected) p q = absurd (none_rejected bundle.net bundle.pred bundle.proof rejected p q)
+one_judged bundle (Some rejected) None p q = absurd (none_rejected bundle.net bundle.pred bundle.proof rejected q p)
 one_judged bundle (Some v) (Some w) p q =
     ap (λ (r : Rejected). Some r) (one_rejected bundle.net bundle.pred bundle.proof v w p q)
 

@@ -1,12 +1,10 @@
 -- The bundle of a line, how its net starts, and what the check says of its proof.
 use Rattle.std.specs.Prelude.{◌≡◌, ℕ, List, length, Option, Some, None, Result, Ok, Err}
 use Rattle.serde_json.specs.Data.{Data}
-use Rattle.cert_base.specs.ProofBound.{proof_bound}
 use Rattle.cert_base.specs.ProofLimits.{IsProofWithin}
 use Rattle.cert_base.specs.ValidProof.{ValidProof}
 use Rattle.cert_json.specs.Bundles.{bundle_at}
 use Rattle.cert_json.specs.declared.bundle.Bundle.{Bundle}
-use Rattle.pop_checker.specs.CheckedModel.{CheckedModel, IsChecked}
 use Rattle.pop_checker.specs.declared.fault.Rejected.{Rejected}
 use Rattle.pop_checker.specs.Rejections.{IsRejected}
 use Rattle.tool_texts.specs.declared.refusal.Refusal.{Refusal}
@@ -40,11 +38,7 @@ pub record HasLimits (bundle : Bundle) : Type 0 where
   pub variables : bundle.pred.variables ≡ length bundle.net.variables
   pub within : IsProofWithin (length bundle.net.variables) (length bundle.net.leaves) bundle.proof
 
--- a bundle's net and predicate with the bound of its proof
-abbrev pub bounded : Bundle → CheckedModel
-bounded bundle = record { net = bundle.net; pred = bundle.pred; bound = proof_bound bundle.proof }
-
--- The proof is valid, and then the net computes the predicate; or this is the first part that is not valid.
+-- the proof is valid, or this is its first part that is not valid
 abbrev pub IsJudged : Bundle → Option Rejected → Type 0
-IsJudged bundle None = ValidProof bundle.net bundle.pred bundle.proof × IsChecked (bounded bundle)
+IsJudged bundle None = ValidProof bundle.net bundle.pred bundle.proof
 IsJudged bundle (Some rejected) = IsRejected bundle.net bundle.pred bundle.proof rejected

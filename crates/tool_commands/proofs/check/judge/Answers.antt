@@ -1,5 +1,4 @@
-use Rattle.std.proofs.Common.{Some, None, ap, Ok, subst}
-use Rattle.pop_checker.specs.CheckedModel.{IsChecked}
+use Rattle.std.proofs.Common.{Some, None, ap, Ok}
 use Rattle.tool_texts.specs.declared.output.Output.{Output}
 use Rattle.tool_commands.proofs.Certified.{certified_as}
 use Rattle.tool_commands.proofs.check.judge.Goals as goal
@@ -7,7 +6,7 @@ use Rattle.tool_commands.proofs.check.judge.Goals as goal
 pub returns-in-Ok : goal.returns-in-Ok
 returns-in-Ok c =
     let kept = c.in-Ok.ensures.kept in
-    (None, (c.in-Ok.ensures.valid, subst IsChecked kept c.bound.ensures.kept), certified_as c.args.bundle c.in-Ok.checked _ _ _ kept c.bound.ensures.value c.in_ok-text-in-Ok.ensures c.new.ensures)
+    (None, c.in-Ok.ensures.valid, certified_as c.args.bundle c.in-Ok.checked _ _ _ kept c.bound.ensures.value c.in_ok-text-in-Ok.ensures c.new.ensures)
 
 pub returns-in-Err-Rejected : goal.returns-in-Err-Rejected
 returns-in-Err-Rejected c =

@@ -1,6 +1,6 @@
 use Rattle.std.proofs.Common.{Ok, Some, None, ◌++◌, refl, sym, subst}
 use Rattle.pop_lines.specs.Lines.{ended}
-use Rattle.pop_checker.specs.CheckedModel.{CheckedModel, IsChecked}
+use Rattle.pop_checker.specs.CheckedModel.{CheckedModel}
 use Rattle.tool_commands.specs.Start.{IsStart}
 use Rattle.tool_commands.specs.Run.{IsRunOutput, OfBegun}
 use Rattle.tool_commands.proofs.Leads.{text_leads, pending_leads, pending_plain}
@@ -11,13 +11,12 @@ returns-in-Ok-clause-leads c =
     let kept = c.in-Ok.ensures.kept in
     let text = ended c.args.lines.0.now ++ ended c.args.lines.1.now in
     let counts = c.args.start.counts in
-    let checked = subst IsChecked kept (subst IsChecked c.checked.view_is c.checked.invariant) in
     pending_leads (λ output. OfBegun c.args.kind c.args.spec text (c.args.bundle, counts) (Ok output)) _
     (record { limits = c.requires.spec; workers = c.requires.workers; start = subst (λ (m : CheckedModel). IsStart m.net c.args.start) (sym kept) c.requires.start })
     (λ output is. (
       None,
       output,
-      (c.in-Ok.ensures.valid, checked),
+      c.in-Ok.ensures.valid,
       subst (λ (m : CheckedModel). IsRunOutput c.args.kind c.args.spec text m.net m.pred counts output) kept (rw c.in_ok-lines-in-Ok.ensures at is),
       refl,
     ))

@@ -1,5 +1,5 @@
 use Rattle.std.proofs.Common.{Some, None, Ok, sym, ap, subst}
-use Rattle.pop_checker.specs.CheckedModel.{CheckedModel, IsChecked}
+use Rattle.pop_checker.specs.CheckedModel.{CheckedModel}
 use Rattle.pop_settle.specs.Settling.{HasLayers}
 use Rattle.tool_texts.specs.declared.output.Output.{Output}
 use Rattle.tool_texts.specs.Steps.{Obeys}
@@ -21,9 +21,8 @@ settle_start-requires-clause-layers c =
 pub returns-in-Ok : goal.returns-in-Ok
 returns-in-Ok c =
     let kept = c.in-Ok.ensures.kept in
-    let checked = subst IsChecked kept (subst IsChecked c.checked.view_is c.checked.invariant) in
     let bundle = c.args.bundle in
     let counts = c.args.start.counts in
     let of_bundle : Obeys (OfJudged bundle counts None) (λ (o : Output). o) c.settle_start.result =
     subst (λ (m : CheckedModel). Obeys (OfJudged (record { net = m.net; pred = m.pred; proof = bundle.proof }) counts None) (λ (o : Output). o) c.settle_start.result) kept c.settle_start.ensures in
-    obeys_wider (OfJudged bundle counts None) (OfBegun (bundle, counts)) (λ given of. (None, (c.in-Ok.ensures.valid, checked), of)) _ c.settle_start.result of_bundle
+    obeys_wider (OfJudged bundle counts None) (OfBegun (bundle, counts)) (λ given of. (None, c.in-Ok.ensures.valid, of)) _ c.settle_start.result of_bundle

@@ -1,0 +1,108 @@
+-- The predicates of a bundle's file are within the limits: no text is read to another one.
+use Rattle.std.proofs.Common.{◌≡◌, ℕ, zero, suc, ◌≤◌, Bool, true, false, List, [], ◌∷◌, length, ltb, IfOk, Result, Ok, Err, refl, subst, arith}
+use Rattle.std.specs.Prelude.{Some, slice_get, if◌then◌else◌, ◌||◌}
+use Rattle.std.proofs.lemmas.Bool.{ltb-false}
+use Rattle.serde_json.specs.Data.{Data}
+use Rattle.json_shape.specs.Parts.{AreItems}
+use Rattle.json_shape.specs.Shapes.{listed}
+use Rattle.pop_io.specs.declared.names.TheConstants.{VARIABLE_LIMIT}
+use Rattle.pop_net.specs.NetModel.{IsNet}
+use Rattle.pres_ast.specs.declared.limits.TheConstants.{WEIGHT_LIMIT}
+use Rattle.pres_ast.specs.PredTree.{PredTree}
+use Rattle.pres_ast.specs.PredModel.{PredModel, HasAtoms, IsPred}
+use Rattle.pres_tokens.specs.Symbols.{Placed}
+use Rattle.pres_tokens.specs.Tokens.{tokens_of}
+use Rattle.pres_read.specs.declared.depth.TheConstants.{PARENTHESIS_LIMIT}
+use Rattle.pres_read.specs.declared.read.TheConstants.{TEXT_LIMIT}
+use Rattle.pres_read.specs.TextFault.{TextFault, TooDeep, LongText}
+use Rattle.pres_read.specs.Outcome.{◌>>=◌}
+use Rattle.pres_read.specs.Progress.{Progress, start}
+use Rattle.pres_read.specs.Depth.{Depth, surface, deeper, sunk}
+use Rattle.pres_read.specs.Reading.{step, with_progress, run, tree_read, over, pred_read}
+use Rattle.pres_read.specs.Sound.{IsSoundProgress}
+use Rattle.pres_read.proofs.Ends.{sound_further, finish_fits}
+use Rattle.cert_base.specs.declared.proof.LeafProof.{LeafProof}
+use Rattle.cert_json.specs.declared.bundle.Bundle.{Bundle}
+use Rattle.cert_json.specs.ProofFile.{IsPredText, IsLeafProofFile}
+use Rattle.cert_json.specs.BundleFile.{IsBundleFile}
+
+-- ---- one text
+
+charge_small : (t : Placed) (d e : Depth) (heavy deep : Bool) → ltb WEIGHT_LIMIT d.charge ≡ heavy
+    → ◌≡◌ {A = Result Depth TextFault} (if heavy || deep then Err (TooDeep t.place) else Ok d) (Ok e) → e.charge ≤ WEIGHT_LIMIT
+charge_small t d e true deep is h = absurd cc
+charge_small t d e false true is h = absurd cc
+charge_small t d e false false is h =
+    let same : d ≡ e = cc in subst (λ (x : Depth). x.charge ≤ WEIGHT_LIMIT) same (ltb-false WEIGHT_LIMIT d.charge is)
+
+sunk_small : (t : Placed) (d e : Depth) → sunk d t ≡ Ok e → e.charge ≤ WEIGHT_LIMIT
+sunk_small t d e h =
+    charge_small t (deeper d t.symbol) e (ltb WEIGHT_LIMIT (deeper d t.symbol).charge) (ltb PARENTHESIS_LIMIT (deeper d t.symbol).parentheses) refl h
+
+module _ (names : List (List ℕ)) (one : 1 ≤ length names) (most : length names ≤ VARIABLE_LIMIT) where
+  abbrev Fits : Result PredTree TextFault → Type 0
+  Fits r = IfOk r (IsPred (length names))
+
+  depth_fits : (end : ℕ) (ts : List Placed) (t : Placed) (q : Progress) (d : Depth) (r : Result Depth TextFault) → sunk d t ≡ r
+      → ((e : Depth) → sunk d t ≡ Ok e → Fits (run names end q e ts)) → Fits (with_progress q r >>= λ x. run names end x.0 x.1 ts)
+  depth_fits end ts t q d (Ok e) is later = later e is
+  depth_fits end ts t q d (Err e) is later = tt
+
+  step_fits : (end : ℕ) (ts : List Placed) (t : Placed) (p : Progress) (d : Depth) (r : Result Progress TextFault) → step names p t ≡ r
+      → ((q : Progress) (e : Depth) → step names p t ≡ Ok q → sunk d t ≡ Ok e → Fits (run names end q e ts))
+      → Fits ((r >>= λ q. with_progress q (sunk d t)) >>= λ x. run names end x.0 x.1 ts)
+  step_fits end ts t p d (Ok q) is later = depth_fits end ts t q d (sunk d t) refl (λ e deep. later q e is deep)
+  step_fits end ts t p d (Err e) is later = tt
+
+  run_fits : (end : ℕ) (ts : List Placed) (p : Progress) (d : Depth) → d.charge ≤ WEIGHT_LIMIT → IsSoundProgress (length names) p d.charge → Fits (run names end p d ts)
+  run_fits end [] p d small sound = finish_fits (length names) d.charge end p one most small sound
+  run_fits end (t ∷ ts) p d small sound =
+      step_fits end ts t p d (step names p t) refl
+      (λ q e stepped deep. run_fits end ts q e (sunk_small t d e deep) (sound_further names p q d e t sound stepped deep))
+
+  start_sound : IsSoundProgress (length names) start 0
+  start_sound = record { above = tt; span = (tt, tt); next = tt; settled = tt; weight = refl }
+
+  tree_fits : (text : List ℕ) → Fits (tree_read names text)
+  tree_fits text = by_length (ltb TEXT_LIMIT (length text))
+    where
+      by_length : (long : Bool) → Fits (if long then Err (LongText (length text)) else run names (length text) start surface (tokens_of text))
+      by_length true = tt
+      by_length false = run_fits (length text) (tokens_of text) start surface (omega arith) start_sound
+
+  abbrev IsOver : PredModel → Type 0
+  IsOver p = (p.variables ≡ length names) × HasAtoms p.variables p.tree
+
+  over_fits : (r : Result PredTree TextFault) → Fits r → IfOk (over (length names) r) IsOver
+  over_fits (Ok tree) fits = (refl, fits.atoms)
+  over_fits (Err e) fits = tt
+
+  read_fits : (text : List ℕ) → IfOk (pred_read names text) IsOver
+  read_fits text = over_fits (tree_read names text) (tree_fits text)
+
+  -- ---- the predicates of a proof
+
+  text_over : (p : PredModel) (d : Data) → IsPredText names p d → IsOver p
+  text_over p d is = subst (λ (r : Result PredModel TextFault). IfOk r IsOver) is.2 (read_fits is.0)
+
+  both_some : {A : Type 0} {x y : A} → Some x ≡ Some y → x ≡ y
+  both_some e = cc
+
+  parts_over : (parts : List LeafProof) (ds : List Data) → AreItems (IsLeafProofFile names) parts ds
+      → (i : ℕ) (part : LeafProof) → slice_get parts i ≡ Some part → IsOver part.pred
+  parts_over [] [] are i part e = cc
+  parts_over [] (d ∷ ds) are i part e = absurd are
+  parts_over (p ∷ parts) [] are i part e = absurd are
+  parts_over (p ∷ parts) (d ∷ ds) are zero part e =
+      subst (λ (q : LeafProof). IsOver q.pred) (both_some e) (text_over p.pred are.0.pred.0 are.0.pred.2)
+  parts_over (p ∷ parts) (d ∷ ds) are (suc i) part e = parts_over parts ds are.1 i part e
+
+pub file_net : (bundle : Bundle) (d : Data) → IsBundleFile bundle d → IsNet bundle.net
+file_net bundle d file = file.net.2.fits
+
+-- the predicates of the leaves are over the net's variables, with coefficients for these alone
+pub file_preds : (bundle : Bundle) (d : Data) → IsBundleFile bundle d
+    → (i : ℕ) (part : LeafProof) → slice_get bundle.proof.leaves i ≡ Some part → (part.pred.variables ≡ length bundle.net.variables) × HasAtoms part.pred.variables part.pred.tree
+file_preds bundle d file =
+    let net = file_net bundle d file in
+    parts_over bundle.net.variables net.some_variable net.variables bundle.proof.leaves (listed file.proof.2.0) file.proof.2.2
