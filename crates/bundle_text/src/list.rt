@@ -27,7 +27,8 @@ pub(crate) trait WriteItems {
     fn write(&self, alloc: Global, out: &mut Vec<u8>, i: usize) -> Result<(), NoMemory>
         requires can { can_write self.now }
         requires within { i < length (items self.now) }
-        ensures { OnOk result (out.new.items ≡ out.old.items ++ compact_text (slice_index_or (items self.now) i null)) };
+        ensures { OnOk result (out.new.items
+            ≡ out.old.items ++ compact_text (slice_index_or (items self.now) i null)) };
 }
 
 /// Adds a comma where something stands before.

@@ -77,7 +77,8 @@ impl WriteItems for Places<'_> {
 }
 
 fn write_linear(alloc: Global, out: &mut Vec<u8>, terms: &[Term]) -> Result<(), NoMemory>
-    ensures { OnOk result (out.new.items ≡ out.old.items ++ compact_text (one_part (codes "lin") (terms_data terms.now))) }
+    ensures { OnOk result (out.new.items
+        ≡ out.old.items ++ compact_text (one_part (codes "lin") (terms_data terms.now))) }
 {
     push_text(out, b"[\"lin\",")?;
     write_list(alloc, out, &Terms { terms })?;
@@ -104,7 +105,8 @@ fn write_residue(
 
 fn write_split(alloc: Global, out: &mut Vec<u8>, row: &Row) -> Result<(), NoMemory>
     ensures { OnOk result (out.new.items
-        ≡ out.old.items ++ compact_text (two_parts (codes "split") (terms_data row.now.terms) (integer_data row.now.constant))) }
+        ≡ out.old.items
+        ++ compact_text (two_parts (codes "split") (terms_data row.now.terms) (integer_data row.now.constant))) }
 {
     push_text(out, b"[\"split\",")?;
     let terms = row.terms.as_slice();

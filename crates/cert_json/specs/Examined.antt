@@ -7,7 +7,8 @@ use Rattle.json_shape.specs.declared.fault.PredWhy.{PredWhy}
 use Rattle.json_shape.specs.declared.fault.PredWhy.TheVariants as why
 use Rattle.json_shape.specs.Faults.{Fault, ◌>>=◌, broken}
 use Rattle.json_shape.specs.Paths.{item_path}
-use Rattle.json_shape.specs.Shapes.{object_at, member_by, number_at, integer_at, last_of, ascending_at, text_at, items_at, pair_at, word_at, one_after, two_after, each_at}
+use Rattle.json_shape.specs.Shapes.{object_at, member_by, number_at, integer_at, last_of, ascending_at, text_at}
+use Rattle.json_shape.specs.Shapes.{items_at, pair_at, word_at, one_after, two_after, each_at}
 use Rattle.pres_ast.specs.PredModel.{PredModel}
 use Rattle.pres_read.specs.TextFault.{TextFault, Syntax, UnknownName, TooLarge, TooDeep, LongText}
 use Rattle.pres_read.specs.Reading.{pred_read}
@@ -100,7 +101,8 @@ with_one read make path ds = do
   x ← read (item_path path 1) d
   Ok (make x)
 
-abbrev pub with_two : {A B : Type 0} → (List ℕ → Data → Result A Fault) → (List ℕ → Data → Result B Fault) → (A → B → Node) → List ℕ → List Data → Result Node Fault
+abbrev pub with_two : {A B : Type 0} → (List ℕ → Data → Result A Fault) → (List ℕ → Data → Result B Fault) → (A → B → Node)
+    → List ℕ → List Data → Result Node Fault
 with_two read other make path ds = do
   p ← two_after path ds
   x ← read (item_path path 1) p.0

@@ -40,12 +40,13 @@ fn bundle_of(alloc: Global, value: &Value) -> Result<Bundle, FormatFault>
 
 /// The bundle of a file, or the first rule that the file breaks, with its path from the file's root.
 ///
-/// The members are examined in the order `net`, `pred`, `proof`, each whole before the next is looked for. Other members
-/// are ignored.
+/// The members are examined in the order `net`, `pred`, `proof`, each whole before the next is looked for. Other
+/// members are ignored.
 pub fn read_bundle(alloc: Global, value: &Value) -> Result<Bundle, FormatFault>
     ensures exact { Gives (λ bundle. bundle) result (bundle_at (view value.now)) }
     ensures variables { IfOk result (λ bundle. bundle.pred.variables ≡ length bundle.net.variables) }
-    ensures within { IfOk result (λ bundle. IsProofWithin (length bundle.net.variables) (length bundle.net.leaves) bundle.proof) }
+    ensures within { IfOk result (λ bundle.
+        IsProofWithin (length bundle.net.variables) (length bundle.net.leaves) bundle.proof) }
 
     // Just the files of bundles are read, and each to its bundle.
     ensures file { IfOk result (λ bundle. IsBundleFile bundle (view value.now)) }

@@ -5,7 +5,8 @@ ghost use Rattle.serde_json.specs.View.{view};
 ghost use Rattle.json_shape.specs.Faults.{Gives};
 ghost use Rattle.json_shape.specs.Paths.{path_text};
 ghost use Rattle.json_shape.specs.Shapes.{ascending_at, last_of};
-ghost use Rattle.cert_json.specs.Examined.{index_at, state_at, modulus_at, small_at, terms_at, numbers_of, row_terms_at, states_at};
+ghost use Rattle.cert_json.specs.Examined.{index_at, state_at, modulus_at, small_at};
+ghost use Rattle.cert_json.specs.Examined.{terms_at, numbers_of, row_terms_at, states_at};
 
 use cert_base::{SIZE_LIMIT, TERM_LIMIT, Term};
 use json_shape::{

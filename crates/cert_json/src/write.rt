@@ -10,7 +10,8 @@ ghost use Rattle.pres_ast.specs.PredModel.{IsPred};
 ghost use Rattle.net_json.specs.Written.{list_data, numbers_data};
 ghost use Rattle.cert_base.specs.ProofLimits.{IsProofWithin};
 ghost use Rattle.cert_json.specs.Examined.{proof_at};
-ghost use Rattle.cert_json.specs.Written.{integers_data, layer_members, layer_data, leaf_proof_members, leaf_proof_data, proof_data};
+ghost use Rattle.cert_json.specs.Written.{integers_data, layer_members, layer_data};
+ghost use Rattle.cert_json.specs.Written.{leaf_proof_members, leaf_proof_data, proof_data};
 
 use crate::write_node::nodes_value;
 use cert_base::{Layer, LeafProof, Proof};

@@ -140,7 +140,8 @@ impl Built {
         requires atoms { AreBuildable choice (tree_of tree.now) }
         ensures leaves { OnOk result (self.new.leaves.items
             ≡ self.old.leaves.items ++ map (leaf_of choice) (atoms (tree_of tree.now))) }
-        ensures parts { OnOk result (AddProofs choice (atoms (tree_of tree.now)) self.old.parts.items self.new.parts.items) }
+        ensures parts { OnOk result
+            (AddProofs choice (atoms (tree_of tree.now)) self.old.parts.items self.new.parts.items) }
         ensures items { OnOk result (self.new.items.items
             ≡ self.old.items.items ++ postfix (length self.old.leaves.items) (tree_of tree.now)) }
     {

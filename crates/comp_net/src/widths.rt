@@ -5,7 +5,8 @@ ghost use Rattle.pres_ast.specs.PredModel.{IsPred};
 ghost use Rattle.pres_ast.specs.TreeOf.{tree_of};
 ghost use Rattle.pres_ast.specs.PredTree.{LessThan};
 ghost use Rattle.comp_net.specs.Atoms.{width_of as width_of_atom};
-ghost use Rattle.comp_net.specs.CompileFaults.{widths as widths_of, first_over as first_width, first_wide as first_wide_width, fault_by as fault_in, fault_with};
+ghost use Rattle.comp_net.specs.CompileFaults.{fault_by as fault_in, fault_with, widths as widths_of};
+ghost use Rattle.comp_net.specs.CompileFaults.{first_over as first_width, first_wide as first_wide_width};
 
 use crate::choice::{LeafChoice, flock_in};
 use crate::fault::CompileFault;

@@ -75,7 +75,8 @@ impl Checked {
     pub fn verdict(&self, counts: &[u64], crowd: &Crowd) -> bool
         requires input { IsInput (length self.now.net.variables) (helper_count self.now.net) counts.now }
         requires valid { AreValid self.now.net crowd.now }
-        requires reached { Reachable (Step self.now.net) (input_crowd self.now.net counts.now) (crowd_of self.now.net crowd.now) }
+        requires reached { Reachable (Step self.now.net)
+            (input_crowd self.now.net counts.now) (crowd_of self.now.net crowd.now) }
         requires terminal { IsTerminal (Step self.now.net) (crowd_of self.now.net crowd.now) }
         ensures value { result ≡ predicate_value self.now.pred.tree counts.now }
         ensures outputs { All (λ tuple. output_of self.now.net tuple ≡ result) (crowd_of self.now.net crowd.now) }

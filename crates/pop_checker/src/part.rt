@@ -29,7 +29,8 @@ pub(crate) fn check_part(
     requires variables { part.now.pred.variables ≡ length leaf.now.inputs }
     requires within { IsLeafProofWithin part.now.pred.variables part.now }
     ensures right { IfOk result (λ bound. IsRightPart leaf.now part.now) }
-    ensures bound { IfOk result (λ bound. (bound ≡ layers_bound part.now.layers) × (bound ≤ LAYER_LIMIT * (2 * SIZE_LIMIT))) }
+    ensures bound { IfOk result (λ bound.
+        (bound ≡ layers_bound part.now.layers) × (bound ≤ LAYER_LIMIT * (2 * SIZE_LIMIT))) }
     ensures fault { IfErr result (IsPartFault leaf.now part.now number) }
     ensures accepts { ValidLeafProof leaf.now part.now → IfErr result (λ fault. fault ≡ CheckFault.NoMemory) }
 {
@@ -43,7 +44,8 @@ fn check_order(alloc: Global, leaf: &Leaf, number: u8, part: &LeafProof) -> Resu
     requires few { length part.now.layers ≤ LAYER_LIMIT }
     requires within { All IsLayerWithin part.now.layers }
     ensures valid { IfOk result (λ bound. ValidLayers leaf.now part.now.layers) }
-    ensures bound { IfOk result (λ bound. (bound ≡ layers_bound part.now.layers) × (bound ≤ LAYER_LIMIT * (2 * SIZE_LIMIT))) }
+    ensures bound { IfOk result (λ bound.
+        (bound ≡ layers_bound part.now.layers) × (bound ≤ LAYER_LIMIT * (2 * SIZE_LIMIT))) }
     ensures fault { IfErr result (IsLayersFault leaf.now part.now number) }
     ensures accepts { ValidLayers leaf.now part.now.layers → IfErr result (λ fault. fault ≡ CheckFault.NoMemory) }
 {
@@ -70,7 +72,8 @@ fn check_value(
     ensures closes { OnOk result (Closes leaf.now (base_list leaf.now pred.now value) nodes.now []) }
     ensures right { OnOk result (EndsRight leaf.now pred.now.tree value) }
     ensures fault { IfErr result (IsValueFault leaf.now pred.now value nodes.now number) }
-    ensures accepts { Closes leaf.now (base_list leaf.now pred.now value) nodes.now [] → IfErr result (λ fault. fault ≡ CheckFault.NoMemory) }
+    ensures accepts { Closes leaf.now (base_list leaf.now pred.now value) nodes.now []
+        → IfErr result (λ fault. fault ≡ CheckFault.NoMemory) }
 {
     match check_tree(alloc, leaf, pred, value, nodes) {
         Ok(()) => Ok(()),

@@ -23,7 +23,8 @@ pub fn check(alloc: Global, net: Net, pred: Pred, proof: &Proof) -> Result<Check
     requires variables { pred.variables ≡ length net.variables }
     requires within { IsProofWithin (length net.variables) (length net.leaves) proof.now }
     ensures valid { OnOk result (ValidProof net pred proof.now) }
-    // The net computes the predicate, and meetings alone lead a net to its end that has no two moves for the same states.
+    // The net computes the predicate, and meetings alone lead a net to its end that has no two moves for the same
+    // states.
     ensures right { OnOk result (IsRight net pred proof.now) }
     ensures fault { IfErr result (IsCheckFault net pred proof.now) }
     ensures accepts { ValidProof net pred proof.now → IfErr result (λ fault. fault ≡ CheckFault.NoMemory) }
@@ -44,7 +45,8 @@ fn check_parts(alloc: Global, net: &Net, proof: &Proof) -> Result<u64, CheckFaul
     ensures right { OnOk result (AreRightBefore net.now proof.now.leaves (length net.now.leaves)) }
     ensures bound { IfOk result (λ bound. bound ≡ proof_bound proof.now) }
     ensures fault { IfErr result (λ fault. (p : PredModel) → IsCheckFault net.now p proof.now fault) }
-    ensures accepts { AreValidBefore net.now proof.now (length net.now.leaves) → IfErr result (λ fault. fault ≡ CheckFault.NoMemory) }
+    ensures accepts { AreValidBefore net.now proof.now (length net.now.leaves)
+        → IfErr result (λ fault. fault ≡ CheckFault.NoMemory) }
 {
     let _leaves = net.leaf_count();
     let parts = proof.leaves.as_slice();

@@ -127,6 +127,10 @@ pub record IsHeldInput (kind : RunKind) (input : List ℕ) (meetings : ℕ) : Ty
   pub holds : Holds bundle.net (input_crowd bundle.net counts) journal
   pub all : length (joined journal.rounds) ≡ meetings
 
+-- `holds` is printed, with so many meetings
+abbrev pub SaysHolds : ℕ → List ℕ → Status → Type 0
+SaysHolds meetings text status = (text ≡ ended (holds_text meetings)) × (status ≡ Done)
+
 -- The input tells a predicate over some names, and the printed line is a bundle of its built net with these leaves, the predicate and a valid proof, so
 -- that `check` accepts it.
 pub record CompileSays (choice : LeafChoice) (input text : List ℕ) : Type 0 where
@@ -151,8 +155,8 @@ pub record Headline (words : List (List ℕ)) (input text : List ℕ) (status : 
   pub flocks : meaning_of words ≡ Ok Flocks → status ≡ Done → CompileSays leaves.Flocks input text
   pub settle : meaning_of words ≡ Ok Settle → status ≡ Done → SettleSays input text
   -- `holds`, with a number of 64 bits, is printed exactly for a journal of a run of the kind with so many meetings
-  pub replay : meaning_of words ≡ Ok Replay → (k : ℕ) → k < 2 ^ 64 → ((text ≡ ended (holds_text k)) × (status ≡ Done)) ↔ IsHeldInput Whole input k
-  pub replay_watched : meaning_of words ≡ Ok ReplayWatched → (k : ℕ) → k < 2 ^ 64 → ((text ≡ ended (holds_text k)) × (status ≡ Done)) ↔ IsHeldInput Watched input k
+  pub replay : meaning_of words ≡ Ok Replay → (k : ℕ) → k < 2 ^ 64 → SaysHolds k text status ↔ IsHeldInput Whole input k
+  pub replay_watched : meaning_of words ≡ Ok ReplayWatched → (k : ℕ) → k < 2 ^ 64 → SaysHolds k text status ↔ IsHeldInput Watched input k
 
 -- if it is known what the source had left and what the sink holds, then what the sink gained says so
 abbrev pub IsHeadline : List (List ℕ) → Option (List ℕ) → Option (List ℕ) → Option (List ℕ) → Status → Type 0

@@ -23,7 +23,8 @@ pub fn run_calm<G: Gate>(
     requires plain { ArePlain (map (λ w. w.now) words.now) }
     requires room { (output : Written) → IsReply (map (λ w. w.now) words.now) (Some source.old) output
         → length output.text ≤ sink.old.spare }
-    ensures outcome { Outcome (map (λ w. w.now) words.now) (Some source.old) (Some sink.old.held) (Some sink.new.held) result }
+    ensures outcome { Outcome (map (λ w. w.now) words.now) (Some source.old)
+        (Some sink.old.held) (Some sink.new.held) result }
     ensures calm { (result ≢ Status.ReadFault) × (result ≢ Status.WriteFault) }
     ensures complete { IsValidInput (map (λ w. w.now) words.now) source.old → IsCarriedOut result }
 {

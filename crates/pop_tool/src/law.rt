@@ -3,14 +3,14 @@
 ghost use Rattle.pop_tool.specs.OneAnswer.{IsOneAnswer};
 ghost use Rattle.pop_tool.specs.ReplayHeld.{IsReplayHeld};
 
-/// The output is a function of the words and the input, but for a run with two or more workers, for `watch` and for `compile`, of
-/// which any valid proof will do. The call does nothing: it is its contract.
+/// The output is a function of the words and the input, but for a run with two or more workers, for `watch` and for
+/// `compile`, of which any valid proof will do. The call does nothing: it is its contract.
 pub fn one_answer()
     ensures { IsOneAnswer }
 {}
 
-/// What `run` wrote, if its run was made, holds for `replay`, unless it is too long for an input, and so does what `watch` wrote
-/// for `replay --watched`. The call does nothing: it is its contract.
+/// What `run` wrote, if its run was made, holds for `replay`, unless it is too long for an input, and so does what
+/// `watch` wrote for `replay --watched`. The call does nothing: it is its contract.
 pub fn replay_holds()
     ensures { IsReplayHeld }
 {}

@@ -37,8 +37,8 @@ pub(crate) fn prepare<S: Source>(
     source: &mut S,
 ) -> Result<Prepared, NoMemory>
     requires { length words.now < 2 ^ 32 }
-    ensures leads { IfOk result (LeadsTo (IsRightOutput (map (λ w. w.now) words.now) (S.left source.old) (S.left source.new)
-        (S.faults source.old) (S.faults source.new))) }
+    ensures leads { IfOk result (LeadsTo (IsRightOutput (map (λ w. w.now) words.now)
+        (S.left source.old) (S.left source.new) (S.faults source.old) (S.faults source.new))) }
     ensures plain { ArePlain (map (λ w. w.now) words.now) → IfOk result NeedsNoThreads }
     ensures suffix { HasSuffix (S.left source.old) (S.left source.new) }
     ensures untouched { words_read (map (λ w. w.now) words.now) ≡ false → source.new ≡ source.old }

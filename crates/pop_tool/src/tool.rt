@@ -55,7 +55,8 @@ pub fn run_plain<S: Source, K: Sink, G: Gate>(
     write(sink, output)
 }
 
-/// `run_plain` for all words. It makes a run with two or more workers and that of `watch` on threads, and may wait then.
+/// `run_plain` for all words. It makes a run with two or more workers and that of `watch` on threads, and may wait
+/// then.
 pub fn run_tool<R: Threads + Wait + Sync, S: Source, K: Sink, G: Gate>(
     rt: &R,
     alloc: Global,

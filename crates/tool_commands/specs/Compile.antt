@@ -60,7 +60,8 @@ abbrev pub bundle_line : Bundle → List ℕ
 bundle_line bundle = ended (compact_text (bundle_data bundle))
 
 abbrev pub OfFitting : LeafChoice → List (List ℕ) → PredModel → Unit {0} → Result Output Refusal → Type 0
-OfFitting choice names pred fits given = (bundle : Bundle) × IsCompiled choice names pred bundle × (given ≡ Ok (record { text = bundle_line bundle; ending = Done }))
+OfFitting choice names pred fits given =
+    (bundle : Bundle) × IsCompiled choice names pred bundle × (given ≡ Ok (record { text = bundle_line bundle; ending = Done }))
 
 abbrev pub OfAsked : LeafChoice → List (List ℕ) × PredModel → Result Output Refusal → Type 0
 OfAsked choice asked = After (fitting choice asked.1.tree) (OfFitting choice asked.0 asked.1)

@@ -11,7 +11,8 @@ ghost use Rattle.pop_journal.specs.Journal.{text_of};
 ghost use Rattle.pop_demo.specs.DemoCase.{demo_counts, demo_spec};
 ghost use Rattle.tool_commands.specs.Prepared.{LeadsTo, NeedsNoThreads};
 ghost use Rattle.tool_commands.specs.Start.{IsStart};
-ghost use Rattle.tool_commands.specs.Demo.{changed, demo_start, summary_lines, DemoGives, IsCheckedCase, IsDemoOutput, CanDemo};
+ghost use Rattle.tool_commands.specs.Demo.{changed, demo_start, summary_lines};
+ghost use Rattle.tool_commands.specs.Demo.{DemoGives, IsCheckedCase, IsDemoOutput, CanDemo};
 
 use crate::prepared::Prepared;
 use crate::run::last_and_ending;

@@ -105,7 +105,8 @@ fn output_for(
     meetings: &[u8],
 ) -> Result<Output, Stop>
     requires { length (lines_of meetings.now) < 2 ^ 32 }
-    ensures { Obeys (After (end_crowd (option_map view value.now) crowd.now (lines_of meetings.now)) OfEnd) (λ output. output) result }
+    ensures { Obeys (After (end_crowd (option_map view value.now) crowd.now (lines_of meetings.now)) OfEnd)
+        (λ output. output) result }
 {
     match net_and_end(alloc, value, crowd, meetings) {
         Ok((net, end)) => Ok(end_output(alloc, &net, &end)?),

@@ -9,7 +9,8 @@ ghost use Rattle.pop_journal.specs.Form.{journal_in};
 ghost use Rattle.tool_texts.specs.Steps.{Gives, Obeys};
 ghost use Rattle.tool_commands.specs.Start.{IsStart};
 ghost use Rattle.tool_commands.specs.Bundles.{HasLimits};
-ghost use Rattle.tool_commands.specs.Replay.{holds_text, journal_read, journal_output, replay_output, OfBegun, ReplayGives};
+ghost use Rattle.tool_commands.specs.Replay.{holds_text, journal_read, journal_output, replay_output};
+ghost use Rattle.tool_commands.specs.Replay.{OfBegun, ReplayGives};
 
 use crate::bundle::begin;
 use crate::start::Start;
@@ -34,7 +35,8 @@ fn holds_line(alloc: Global, meetings: u64) -> Result<Vec<u8>, AllocError>
 
 /// The journal of a run of this kind that a text tells, for so many agents.
 fn journal_of(alloc: Global, kind: RunKind, text: &[u8], agents: u32) -> Result<Journal, Stop>
-    ensures read { Gives (λ journal. journal) result (journal_read kind (journal_in kind agents JOURNAL_LINE (lines_of text.now))) }
+    ensures read { Gives (λ journal. journal) result
+        (journal_read kind (journal_in kind agents JOURNAL_LINE (lines_of text.now))) }
     ensures first { IfOk result (λ journal. journal.first ≡ JOURNAL_LINE) }
     ensures limits { IfOk result (λ journal. IsWithinLimits journal.spec) }
     ensures rounds { IfOk result (λ journal. AreRoundsOf journal.kind journal.spec agents journal.rounds) }
@@ -75,7 +77,8 @@ fn replay_from(
     text: &[u8],
 ) -> Result<Output, Stop>
     requires { AreValid net.now crowd }
-    ensures { Gives (λ output. output) result (replay_output kind net.now (crowd_of net.now crowd) (lines_of text.now)) }
+    ensures { Gives (λ output. output) result
+        (replay_output kind net.now (crowd_of net.now crowd) (lines_of text.now)) }
 {
     let journal = journal_of(alloc, kind, text, crowd.len())?;
     compare(alloc, net, crowd, &journal)

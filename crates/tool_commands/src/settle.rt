@@ -58,7 +58,8 @@ fn settled_text(
     verdict: bool,
 ) -> Result<Vec<u8>, NoMemory>
     requires { AreValid net.now settled.now.crowd }
-    ensures { IfOk result (λ text. text.items ≡ settle_text net.now settled.now.takes (crowd_of net.now settled.now.crowd) verdict) }
+    ensures { IfOk result (λ text.
+        text.items ≡ settle_text net.now settled.now.takes (crowd_of net.now settled.now.crowd) verdict) }
 {
     let mut text = Vec::new(alloc);
     push_takes(&mut text, settled.takes.as_slice())?;
@@ -78,7 +79,9 @@ fn settle_start(
 ) -> Result<Output, Stop>
     requires layers { HasLayers checked.now.net proof.now }
     requires start { IsStart checked.now.net start }
-    ensures { Obeys (OfJudged (record { net = checked.now.net; pred = checked.now.pred; proof = proof.now }) start.counts None) (λ output. output) result }
+    ensures { Obeys
+        (OfJudged (record { net = checked.now.net; pred = checked.now.pred; proof = proof.now }) start.counts None)
+        (λ output. output) result }
 {
     let Start { counts, crowd } = start;
     match pop_settle::settle(alloc, checked.net(), proof, crowd) {

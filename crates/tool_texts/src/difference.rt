@@ -15,7 +15,8 @@ impl Output {
         kept: &[u8],
         found: &[u8],
     ) -> Result<Output, AllocError>
-        ensures { IfOk result (λ output. output ≡ difference_output (record { line = line; kept = kept.now; found = found.now })) }
+        ensures { IfOk result (λ output.
+            output ≡ difference_output (record { line = line; kept = kept.now; found = found.now })) }
     {
         let mut text = Vec::from_slice(alloc, b"differs ")?;
         push_number(&mut text, line)?;

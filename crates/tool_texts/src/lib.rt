@@ -1,6 +1,8 @@
-//! What the text of every command is made of: refusals, rejections, differences, endings and statuses, the lines of an input and the JSON of a line.
+//! What the text of every command is made of: refusals, rejections, differences, endings and statuses, the lines of an
+//! input and the JSON of a line.
 //! It stands on `pop_lines`, `pop_words`, `json_shape`, `pop_journal` and `pop_checker`.
-//! The layer above uses: an `Output` for a refusal, a rejection or a difference has exactly the text of `specs/Refusals.antt`, Rejections or Differences.
+//! The layer above uses: an `Output` for a refusal, a rejection or a difference has exactly the text of
+//! `specs/Refusals.antt`, Rejections or Differences.
 #![tactic(auto)]
 
 mod difference;
