@@ -33,7 +33,8 @@ use Rattle.comp_net.specs.declared.choice.LeafChoice.{LeafChoice}
 use Rattle.comp_net.specs.declared.choice.LeafChoice.TheVariants.{Plain, Flocks}
 use Rattle.comp_net.specs.declared.limits.TheConstants.{NARROW_WIDTH_LIMIT}
 use Rattle.comp_net.specs.Atoms.{atoms, postfix, flock_in, less_width, width_of, IsSum, AreBuildable}
-use Rattle.comp_net.specs.BuiltNet.{less_leaf, leaf_of, net_with, AreAtomProofs}
+use Rattle.comp_net.specs.BuiltNet.{less_leaf, leaf_of, net_with}
+use Rattle.comp_net.specs.Building.{AreAtomProofs}
 use Rattle.comp_net.specs.CompileFaults.{fault_with}
 use Rattle.comp_net.proofs.Postfix.{value_at, combined-postfix, tree-again, depth-most, items-most, some_atom, names-below}
 use Rattle.comp_net.proofs.Narrow.{KeepsWidths, keeps_widths, buildable}

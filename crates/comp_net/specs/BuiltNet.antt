@@ -1,11 +1,8 @@
 -- BuiltNet: the built net of a predicate: one leaf for each atom, from left to right, and the tree in postfix.
-use Rattle.std.specs.Prelude.{◌≡◌, ℕ, List, [], ◌∷◌, ◌++◌, ℤ, pos, length, map, Option, Some, None}
+use Rattle.std.specs.Prelude.{ℕ, List, [], ◌∷◌, ℤ, pos, map, Option, Some, None}
 use Rattle.pop_net.specs.LeafModel.{LeafModel}
 use Rattle.pop_net.specs.NetModel.{NetModel}
 use Rattle.pres_ast.specs.PredTree.{PredTree, LessThan, Congruent, Negation, Conjunction, Disjunction}
-use Rattle.cert_base.specs.declared.proof.LeafProof.{LeafProof}
-use Rattle.cert_base.specs.ValidProof.{ValidLeafProof}
-use Rattle.cert_base.specs.ProofLimits.{IsLeafProofWithin}
 use Rattle.comp_threshold_leaf.specs.ThresholdLeaf.{threshold_leaf}
 use Rattle.comp_remainder_leaf.specs.RemainderLeaf.{remainder_leaf}
 use Rattle.comp_flock_leaf.specs.FlockLeaf.{flock_leaf}
@@ -33,23 +30,3 @@ net_with choice names tree =
 -- that of `compile`
 abbrev pub built_net : List (List ℕ) → PredTree → NetModel
 built_net = net_with Plain
-
--- ---- while it is built
-
--- a valid proof for an atom and its leaf
-pub record IsAtomProof (choice : LeafChoice) (atom : PredTree) (part : LeafProof) : Type 0 where
-  pub tree_is : part.pred.tree ≡ atom
-  pub valid : ValidLeafProof (leaf_of choice atom) part
-  pub within : IsLeafProofWithin (length (leaf_of choice atom).inputs) part
-
--- one for each atom
-abbrev pub AreAtomProofs : LeafChoice → List PredTree → List LeafProof → Type 0
-AreAtomProofs choice [] [] = Unit {0}
-AreAtomProofs choice [] (part ∷ parts) = ⊥
-AreAtomProofs choice (atom ∷ more) [] = ⊥
-AreAtomProofs choice (atom ∷ more) (part ∷ parts) = IsAtomProof choice atom part × AreAtomProofs choice more parts
-
--- the proofs of these atoms were added behind those of any others
-abbrev pub AddProofs : LeafChoice → List PredTree → List LeafProof → List LeafProof → Type 0
-AddProofs choice added before after =
-    (others : List PredTree) → AreAtomProofs choice others before → AreAtomProofs choice (others ++ added) after

@@ -1,4 +1,5 @@
 pub mod Atoms
 pub mod CompileFaults
 pub mod BuiltNet
+pub mod Building
 pub mod Compiles

@@ -1,16 +1,16 @@
 //! The net and its proof, put together.
 
-ghost use Rattle.std.specs.Prelude.{◌≡◌, ◌≤◌, ◌<◌, ◌+◌, ◌++◌, ◌∷◌, [], Some, None, map, length, OnOk, IfOk};
+ghost use Rattle.std.specs.Prelude.{◌≡◌, ◌≤◌, ◌<◌, ◌+◌, Some, None, length, OnOk, IfOk};
 ghost use Rattle.pop_io.specs.Names.{AreNames, is_variable_name};
 ghost use Rattle.pres_ast.specs.TreeOf.{tree_of};
 ghost use Rattle.pres_ast.specs.PredTree.{LessThan, Congruent};
 ghost use Rattle.pop_net.specs.declared.limits.TheConstants.{LEAF_LIMIT};
-ghost use Rattle.pop_net.specs.declared.net.Item.TheVariants.{Leaf as leaf_item};
 ghost use Rattle.pop_net.specs.Reaction.{IsSingle};
 ghost use Rattle.cert_base.specs.ProofLimits.{IsProofWithin};
 ghost use Rattle.cert_base.specs.ValidProof.{ValidProof};
-ghost use Rattle.comp_net.specs.Atoms.{atoms, postfix, flock_in as flock_of_atom, AreBuildable};
-ghost use Rattle.comp_net.specs.BuiltNet.{leaf_of, net_with, AddProofs};
+ghost use Rattle.comp_net.specs.Atoms.{atoms, flock_in as flock_of_atom, AreBuildable};
+ghost use Rattle.comp_net.specs.BuiltNet.{net_with};
+ghost use Rattle.comp_net.specs.Building.{AddsLeaf, AddsTree};
 ghost use Rattle.comp_net.specs.CompileFaults.{fault_with};
 
 use crate::choice::{LeafChoice, flock_in};
@@ -34,10 +34,7 @@ struct Built {
 impl Built {
     fn push_atom(&mut self, leaf: Leaf, part: LeafProof) -> Result<(), NoMemory>
         requires { length self.old.leaves.items < LEAF_LIMIT }
-        ensures leaves { OnOk result (self.new.leaves.items ≡ self.old.leaves.items ++ leaf ∷ []) }
-        ensures parts { OnOk result (self.new.parts.items ≡ self.old.parts.items ++ part ∷ []) }
-        ensures items { OnOk result (self.new.items.items
-            ≡ self.old.items.items ++ leaf_item (length self.old.leaves.items) ∷ []) }
+        ensures { OnOk result (AddsLeaf leaf part self.old self.new) }
     {
         self.items.push(Item::Leaf(self.leaves.len() as u8))?;
         self.leaves.push(leaf)?;
@@ -54,12 +51,7 @@ impl Built {
     ) -> Result<(), NoMemory>
         requires few { length self.old.leaves.items < LEAF_LIMIT }
         requires atom { AreBuildable choice (LessThan coefs.now bound) }
-        ensures leaves { OnOk result (self.new.leaves.items
-            ≡ self.old.leaves.items ++ leaf_of choice (LessThan coefs.now bound) ∷ []) }
-        ensures parts { OnOk result
-            (AddProofs choice (LessThan coefs.now bound ∷ []) self.old.parts.items self.new.parts.items) }
-        ensures items { OnOk result (self.new.items.items
-            ≡ self.old.items.items ++ leaf_item (length self.old.leaves.items) ∷ []) }
+        ensures { OnOk result (AddsTree choice (LessThan coefs.now bound) self.old self.new) }
     {
         match flock_in(choice, coefs, bound) {
             Some(power) => self.push_flock(alloc, choice, coefs, bound, power),
@@ -78,12 +70,7 @@ impl Built {
         requires few { length self.old.leaves.items < LEAF_LIMIT }
         requires atom { AreBuildable choice (LessThan coefs.now bound) }
         requires power { flock_of_atom choice coefs.now bound ≡ Some power }
-        ensures leaves { OnOk result (self.new.leaves.items
-            ≡ self.old.leaves.items ++ leaf_of choice (LessThan coefs.now bound) ∷ []) }
-        ensures parts { OnOk result
-            (AddProofs choice (LessThan coefs.now bound ∷ []) self.old.parts.items self.new.parts.items) }
-        ensures items { OnOk result (self.new.items.items
-            ≡ self.old.items.items ++ leaf_item (length self.old.leaves.items) ∷ []) }
+        ensures { OnOk result (AddsTree choice (LessThan coefs.now bound) self.old self.new) }
     {
         let (leaf, part) = flock(alloc, coefs, power)?;
         self.push_atom(leaf, part)
@@ -99,12 +86,7 @@ impl Built {
         requires few { length self.old.leaves.items < LEAF_LIMIT }
         requires atom { AreBuildable choice (LessThan coefs.now bound) }
         requires none { flock_of_atom choice coefs.now bound ≡ None }
-        ensures leaves { OnOk result (self.new.leaves.items
-            ≡ self.old.leaves.items ++ leaf_of choice (LessThan coefs.now bound) ∷ []) }
-        ensures parts { OnOk result
-            (AddProofs choice (LessThan coefs.now bound ∷ []) self.old.parts.items self.new.parts.items) }
-        ensures items { OnOk result (self.new.items.items
-            ≡ self.old.items.items ++ leaf_item (length self.old.leaves.items) ∷ []) }
+        ensures { OnOk result (AddsTree choice (LessThan coefs.now bound) self.old self.new) }
     {
         match threshold(alloc, coefs, bound) {
             Ok((leaf, part)) => self.push_atom(leaf, part),
@@ -123,12 +105,7 @@ impl Built {
     ) -> Result<(), NoMemory>
         requires few { length self.old.leaves.items < LEAF_LIMIT }
         requires atom { AreBuildable choice (Congruent coefs.now modulus rest) }
-        ensures leaves { OnOk result (self.new.leaves.items
-            ≡ self.old.leaves.items ++ leaf_of choice (Congruent coefs.now modulus rest) ∷ []) }
-        ensures parts { OnOk result
-            (AddProofs choice (Congruent coefs.now modulus rest ∷ []) self.old.parts.items self.new.parts.items) }
-        ensures items { OnOk result (self.new.items.items
-            ≡ self.old.items.items ++ leaf_item (length self.old.leaves.items) ∷ []) }
+        ensures { OnOk result (AddsTree choice (Congruent coefs.now modulus rest) self.old self.new) }
     {
         let (leaf, part) = remainder(alloc, coefs, modulus, rest)?;
         self.push_atom(leaf, part)
@@ -138,12 +115,7 @@ impl Built {
     fn push_tree(&mut self, alloc: Global, choice: LeafChoice, tree: &Tree) -> Result<(), NoMemory>
         requires few { length self.old.leaves.items + length (atoms (tree_of tree.now)) ≤ LEAF_LIMIT }
         requires atoms { AreBuildable choice (tree_of tree.now) }
-        ensures leaves { OnOk result (self.new.leaves.items
-            ≡ self.old.leaves.items ++ map (leaf_of choice) (atoms (tree_of tree.now))) }
-        ensures parts { OnOk result
-            (AddProofs choice (atoms (tree_of tree.now)) self.old.parts.items self.new.parts.items) }
-        ensures items { OnOk result (self.new.items.items
-            ≡ self.old.items.items ++ postfix (length self.old.leaves.items) (tree_of tree.now)) }
+        ensures { OnOk result (AddsTree choice (tree_of tree.now) self.old self.new) }
     {
         match tree {
             Tree::Less { coefs, bound } => {
