@@ -1,6 +1,7 @@
 //! Journals: the lines that tell a run.
 //! It stands on `pair_workers`, `pop_crowd` and `pop_lines`.
-//! The layer above uses: `write_journal` writes exactly `journal_text`, `read_journal` reads exactly `journal_in`, `verify` passes exactly if `Holds`.
+//! The layer above uses: `write_journal` writes exactly `journal_text`, and `push_journal` adds it to a text;
+//! `read_journal` reads exactly `journal_in`, `verify` passes exactly if `Holds`.
 #![tactic(auto)]
 
 mod fault;
@@ -21,4 +22,4 @@ pub use last::Last;
 pub use law::{one_spelling, written_holds};
 pub use read::read_journal;
 pub use verdict::verify;
-pub use write::{push_last_line, write_journal};
+pub use write::{push_journal, push_last_line, write_journal};

@@ -26,7 +26,7 @@ use pair_workers::{End, RunEnd, run_all, run_alone};
 use pop_checker::{CheckFault, Checked, check};
 use pop_crowd::Crowd;
 use pop_io::{Gate, List, NoMemory};
-use pop_journal::{Last, write_journal};
+use pop_journal::{Last, push_journal};
 use pop_net::Net;
 use pop_watch::run_watched;
 use pop_words::{RunKind, RunSpec};
@@ -88,8 +88,7 @@ fn run_output(
 {
     let (last, ending) = last_and_ending(checked, counts, run);
     let mut text = lines.into_vec();
-    let journal = write_journal(alloc, kind, checked.net(), spec, run, last)?;
-    text.extend_from_slice(journal.as_slice())?;
+    push_journal(alloc, &mut text, kind, checked.net(), spec, run, last)?;
     Ok(Output::new(text, ending))
 }
 

@@ -15,10 +15,10 @@ use Rattle.tool_commands.proofs.Ran.{run_reaches}
 use Rattle.tool_commands.proofs.run.run_output.Goals as goal
 
 -- the text that was put together
-joined : (kind : RunKind) (net : NetModel) (spec : RunSpec) (rounds : List (List Meeting)) (crowd : CrowdModel) (end : End) (truth : Bool) (lines whole start journal : List ℕ) (last : Last × Ending)
-    → last ≡ (journal_end truth (open_pair end), run_ending (open_pair end)) → journal ≡ journal_text kind net spec rounds crowd last.0 → start ≡ lines → whole ≡ start ++ journal
+joined : (kind : RunKind) (net : NetModel) (spec : RunSpec) (rounds : List (List Meeting)) (crowd : CrowdModel) (end : End) (truth : Bool) (lines start whole : List ℕ) (last : Last × Ending)
+    → last ≡ (journal_end truth (open_pair end), run_ending (open_pair end)) → start ≡ lines → whole ≡ start ++ journal_text kind net spec rounds crowd last.0
     → whole ≡ lines ++ journal_text kind net spec rounds crowd (journal_end truth (open_pair end))
-joined kind net spec rounds crowd end truth lines whole start journal last is text begins all = rw (all, begins, text, is) refl
+joined kind net spec rounds crowd end truth lines start whole last is begins all = rw (all, begins, is) refl
 
 pub last_and_ending-last-requires-clause-reached : goal.last_and_ending-last-requires-clause-reached
 last_and_ending-last-requires-clause-reached c =
@@ -37,7 +37,8 @@ returns c =
       run = c.requires.run;
       pair = open_pair run.end;
       last = c.requires.last;
-      text = ap (λ (o : Output). o.text) c.new.ensures ∙ joined c.args.kind net c.args.spec.now run.rounds (crowd_of net run.crowd) run.end (predicate_value c.args.checked.now.pred.tree c.args.counts.now) c.args.lines c.extend_from_slice.new.self.items _ c.in_ok-journal.journal c.last_and_ending-last.result last
-          (rw c.net.ensures at c.in_ok-journal.ensures) c.into_vec-text.ensures (rw c.as_slice.ensures at c.in_ok-extend_from_slice.ensures.items);
+      text = ap (λ (o : Output). o.text) c.new.ensures
+          ∙ joined c.args.kind net c.args.spec.now run.rounds (crowd_of net run.crowd) run.end (predicate_value c.args.checked.now.pred.tree c.args.counts.now) c.args.lines _ c.push_journal.new.text.items c.last_and_ending-last.result last
+          c.into_vec-text.ensures (rw c.net.ensures at c.in_ok-push_journal.ensures);
       ending = ap (λ (o : Output). o.ending) c.new.ensures ∙ ap (λ (l : Last × Ending). l.1) last;
     }
