@@ -7,6 +7,7 @@ ghost use Rattle.pair_workers.specs.WatchedRun.{IsWatchedRound};
 ghost use Rattle.pop_journal.specs.Expected.{lacking};
 ghost use Rattle.pop_journal.specs.Standing.{lacking_behind};
 
+use crate::limits::ROUND_LIMIT;
 use pair_workers::ROUND_TURNS;
 use pop_crowd::Meeting;
 use pop_io::List;
@@ -45,7 +46,7 @@ fn lacking_worker(
     round: u64,
     meetings: &[Meeting],
 ) -> Result<Option<u16>, AllocError>
-    requires number { (1 ≤ round) × (round ≤ 1000) }
+    requires number { (1 ≤ round) × (round ≤ ROUND_LIMIT) }
     requires round { IsWatchedRound spec.now round meetings.now }
     ensures { IfOk result (λ worker. worker ≡ lacking spec.now round meetings.now) }
 {
@@ -60,7 +61,7 @@ pub(crate) fn lacking_last(
     spec: &RunSpec,
     rounds: &[List<Meeting>],
 ) -> Result<Option<u16>, AllocError>
-    requires few { length rounds.now ≤ 1000 }
+    requires few { length rounds.now ≤ ROUND_LIMIT }
     requires rounds { (k : ℕ) (meetings : Items Meeting) → slice_get rounds.now k ≡ Some meetings → IsWatchedRound spec.now (k + 1) meetings }
     ensures { IfOk result (λ worker. worker ≡ lacking_behind spec.now rounds.now (length rounds.now)) }
 {

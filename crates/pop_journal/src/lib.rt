@@ -10,6 +10,7 @@ mod journal;
 mod lacking;
 mod last;
 mod law;
+mod limits;
 mod read;
 mod replayer;
 mod short;

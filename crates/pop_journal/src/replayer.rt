@@ -16,6 +16,7 @@ ghost use Rattle.terminal_test.specs.TableNet.{net_of};
 
 use crate::fault::VerifyFault;
 use crate::last::Last;
+use crate::limits::ROUND_LIMIT;
 use crate::write::push_last_line;
 use pair_workers::{Picker, ROUND_TURNS};
 use pop_crowd::{AGENT_LEAST, AGENT_LIMIT, Crowd, Meeting};
@@ -174,7 +175,7 @@ impl Replayer {
         last: Last,
     ) -> Result<Option<List<u8>>, AllocError>
         requires valid { AreValid net.now self.old.crowd }
-        requires round { (1 ≤ round) × (round ≤ 1000) }
+        requires round { (1 ≤ round) × (round ≤ ROUND_LIMIT + 1) }
         requires worker { IfSome lacking (λ worker. worker < length self.old.pickers.items) }
         ensures { IfOk result (λ found. (start : CrowdModel) (before : List Meeting) → IsReplaying net.now start spec.now before self.old
             → last ≡ ending_of net.now (replay net.now before start) → IsForEnd (line_at_end net.now start spec.now before round lacking) found) }
@@ -206,7 +207,7 @@ impl Replayer {
     ) -> Result<(), VerifyFault>
         requires table { net_of table.now ≡ net.now }
         requires valid { AreValid net.now self.old.crowd }
-        requires round { (1 ≤ round) × (round ≤ 1000) }
+        requires round { (1 ≤ round) × (round ≤ ROUND_LIMIT + 1) }
         requires worker { IfSome lacking (λ worker. worker < length self.old.pickers.items) }
         requires line { line + 1 + length tail.now < 2 ^ 64 }
         ensures { (start : CrowdModel) (before : List Meeting) → IsReplaying net.now start spec.now before self.old
