@@ -1,14 +1,15 @@
 -- The meetings of a run by any number of workers are of two different agents.
 use Rattle.std.proofs.Common.{◌≡◌, ℕ, suc, ◌+◌, ◌<◌, ◌≤◌, Bool, true, false, cond, eqb, eq-eqb, List, [], ◌∷◌, length, refl, subst, arith}
-use Rattle.std.specs.Prelude.{All, Some, slice_get}
-use Rattle.std.proofs.lemmas.List.Elements.{All-head, All-tail, All-nil, All-cons, All-append}
+use Rattle.std.specs.Prelude.{All}
+use Rattle.std.proofs.lemmas.List.Elements.{All-head, All-tail, All-nil, All-cons}
 use Rattle.pop_net.specs.NetModel.{NetModel, CrowdModel}
 use Rattle.pop_crowd.specs.declared.crowd.Meeting.{Meeting}
 use Rattle.pop_crowd.specs.Replay.{IsMeeting, AreMeetings}
 use Rattle.pop_words.specs.declared.spec.RunSpec.{RunSpec}
 use Rattle.pair_workers.specs.Picks.{words_from, first_state}
-use Rattle.pair_workers.specs.Run.{IsRun, IsRound, joined, meetings_of}
+use Rattle.pair_workers.specs.Run.{IsRun, joined, meetings_of}
 use Rattle.pair_workers.proofs.Meets.{picked_meet}
+use Rattle.pair_workers.proofs.Rounds.{joined_all}
 
 abbrev IsBelow : ℕ → Meeting → Type 0
 IsBelow bound m = m.worker < bound
@@ -28,17 +29,9 @@ each_of P bound (m ∷ ms) below each =
     All-cons P m ms (All-head P m mine first)
     (each_of P bound ms (All-tail (IsBelow bound) m ms below) (λ w l. kept_tail P (eqb m.worker w) m (meetings_of w ms) (each w l)))
 
-module _ (spec : RunSpec) where
-  -- nobody but the workers meets in rounds
-  pub joined_below : (rounds : List (List Meeting)) (k : ℕ) → ((i : ℕ) (r : List Meeting) → slice_get rounds i ≡ Some r → IsRound spec (k + i + 1) r) → All (IsBelow spec.workers) (joined rounds)
-  joined_below [] k each = All-nil (IsBelow spec.workers)
-  joined_below (r ∷ rounds) k each =
-      All-append (IsBelow spec.workers) r (joined rounds) ((each 0 r refl).nobody_else)
-      (joined_below rounds (k + 1) (λ i s h. subst (λ n. IsRound spec n s) (let e : k + suc i + 1 ≡ k + 1 + i + 1 = omega arith in e) (each (suc i) s h)))
-
 -- the meetings of a run are of two different agents
 pub all_run_meets : (net : NetModel) (start : CrowdModel) (spec : RunSpec) (rounds : List (List Meeting)) (end : CrowdModel) → 2 ≤ length start → IsRun net start spec rounds end → AreMeetings (length start) (joined rounds)
 all_run_meets net start spec rounds end two run =
     each_of (IsMeeting (length start)) spec.workers (joined rounds)
-    (joined_below spec rounds 0 (λ i r h. subst (λ n. IsRound spec n r) (let e : i + 1 ≡ 0 + i + 1 = omega arith in e) (run.each_round i r h)))
+    (joined_all (IsBelow spec.workers) rounds (λ k r h. (run.each_round k r h).nobody_else))
     (λ w l. picked_meet (words_from (first_state spec.seed w)) (length start) (meetings_of w (joined rounds)) two (run.picked w l))

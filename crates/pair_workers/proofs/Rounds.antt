@@ -2,7 +2,7 @@
 use Rattle.std.proofs.Common.{◌≡◌, ◌⊎◌, inl, inr, ℕ, zero, suc, ◌==◌, cond, List, [], ◌∷◌, ◌++◌, length, refl, ap, ◌∙◌}
 use Rattle.std.specs.Prelude.{All, Some, slice_get}
 use Rattle.std.proofs.lemmas.List.{append-nil}
-use Rattle.std.proofs.lemmas.List.Elements.{All-head, All-tail}
+use Rattle.std.proofs.lemmas.List.Elements.{All-head, All-tail, All-nil, All-append}
 use Rattle.std.proofs.lemmas.Grind.{flat_map-append}
 use Rattle.pop_crowd.specs.declared.crowd.Meeting.{Meeting}
 use Rattle.pair_workers.specs.Run.{joined, meetings_of}
@@ -21,6 +21,11 @@ get_pushed (z ∷ xs) x y (suc k) h = on (get_pushed xs x y k h)
 pub joined_push : (rounds : List (List Meeting)) (round : List Meeting) → joined (rounds ++ round ∷ []) ≡ joined rounds ++ round
 joined_push [] round = append-nil round
 joined_push (r ∷ rounds) round = flat_map-append (λ (ms : List Meeting). ms) (r ∷ rounds) (round ∷ []) ∙ ap (λ ms. joined (r ∷ rounds) ++ ms) (append-nil round)
+
+-- what holds of the meetings of each round holds of all
+pub joined_all : (P : Meeting → Type 0) (rounds : List (List Meeting)) → ((i : ℕ) (r : List Meeting) → slice_get rounds i ≡ Some r → All P r) → All P (joined rounds)
+joined_all P [] each = All-nil P
+joined_all P (r ∷ rounds) each = All-append P r (joined rounds) (each 0 r refl) (joined_all P rounds (λ i s h. each (suc i) s h))
 
 -- what a worker alone makes are all meetings
 pub all_mine : (meetings : List Meeting) → All (λ (m : Meeting). m.worker ≡ 0) meetings → meetings_of 0 meetings ≡ meetings

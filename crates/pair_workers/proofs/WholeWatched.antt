@@ -10,15 +10,14 @@ use Rattle.pop_net.specs.Step.{Step}
 use Rattle.pop_net.specs.Terminal.{IsTerminal}
 use Rattle.pop_crowd.specs.declared.crowd.Meeting.{Meeting}
 use Rattle.pop_words.specs.declared.spec.RunSpec.{RunSpec}
-use Rattle.pair_workers.specs.Run.{IsRun, IsRound, joined, meetings_of, turns_in}
+use Rattle.pair_workers.specs.Run.{IsRun, IsRound, joined, meetings_of, made_by, turns_in}
 use Rattle.pair_workers.specs.WatchedRun.{IsWatchedRound, IsWatchedRun, AreSpent}
 
--- how many meetings a worker has made
-abbrev made_by : ℕ → List Meeting → ℕ
-made_by w meetings = length (meetings_of w meetings)
+pub joined_made : (w : ℕ) (r : List Meeting) (rounds : List (List Meeting)) → made_by w (joined (r ∷ rounds)) ≡ made_by w r + made_by w (joined rounds)
+joined_made w r rounds = ap length (filter-append (λ (m : Meeting). m.worker == w) r (joined rounds)) ∙ length-append (meetings_of w r) (meetings_of w (joined rounds))
 
 -- the turns of a round and those behind it
-turns_on : (turns k : ℕ) → min 4096 (turns - 4096 * k) + (turns - 4096 * (k + 1)) ≡ turns - 4096 * k
+pub turns_on : (turns k : ℕ) → min 4096 (turns - 4096 * k) + (turns - 4096 * (k + 1)) ≡ turns - 4096 * k
 turns_on turns k = by_size (cases_lt (turns - 4096 * k) 4096)
   where
     by_size : (turns - 4096 * k < 4096) ⊎ (4096 ≤ turns - 4096 * k) → min 4096 (turns - 4096 * k) + (turns - 4096 * (k + 1)) ≡ turns - 4096 * k
@@ -36,8 +35,7 @@ module _ (spec : RunSpec) (w : ℕ) (within : w < spec.workers) where
   all_turns (r ∷ rounds) k each over =
       let first : made_by w r ≡ min 4096 (spec.turns - 4096 * k) = (each 0 r refl).each_worker w within ∙ ap (λ (n : ℕ). min 4096 (spec.turns - 4096 * n)) (let e : k + 0 + 1 - 1 ≡ k = omega arith in e) in
       let rest = all_turns rounds (k + 1) (λ i s h. subst (λ n. IsRound spec n s) (let e : k + suc i + 1 ≡ k + 1 + i + 1 = omega arith in e) (each (suc i) s h)) (omega (arith, over)) in
-      ap length (filter-append (λ (m : Meeting). m.worker == w) r (joined rounds))
-      ∙ length-append (meetings_of w r) (meetings_of w (joined rounds))
+      joined_made w r rounds
       ∙ ap (λ (n : ℕ). n + made_by w (joined rounds)) first
       ∙ ap (λ (n : ℕ). min 4096 (spec.turns - 4096 * k) + n) rest
       ∙ turns_on spec.turns k

@@ -13,6 +13,10 @@ use Rattle.pair_workers.specs.Picks.{picks}
 abbrev pub meetings_of : ℕ → List Meeting → List Meeting
 meetings_of w meetings = filter (λ m. m.worker == w) meetings
 
+-- how many meetings a worker has made
+abbrev pub made_by : ℕ → List Meeting → ℕ
+made_by w meetings = length (meetings_of w meetings)
+
 abbrev pub pairs : List Meeting → List (ℕ × ℕ)
 pairs meetings = map (λ m. (m.a, m.b)) meetings
 
@@ -27,13 +31,13 @@ turns_in spec k = min ROUND_TURNS (spec.turns - ROUND_TURNS * (k - 1))
 -- round k: each worker makes its turns, one at least, and nobody else makes any
 pub record IsRound (spec : RunSpec) (k : ℕ) (meetings : List Meeting) : Type 0 where
   pub some_turn : 1 ≤ turns_in spec k
-  pub each_worker : (w : ℕ) → w < spec.workers → length (meetings_of w meetings) ≡ turns_in spec k
+  pub each_worker : (w : ℕ) → w < spec.workers → made_by w meetings ≡ turns_in spec k
   pub nobody_else : All (λ m. m.worker < spec.workers) meetings
 
 pub record IsRun (net : NetModel) (start : CrowdModel) (spec : RunSpec) (rounds : List (List Meeting)) (end : CrowdModel) : Type 0 where
   pub each_round : (k : ℕ) (meetings : List Meeting) → slice_get rounds k ≡ Some meetings → IsRound spec (k + 1) meetings
   -- the meetings of a worker are its picks, from the first on
-  pub picked : (w : ℕ) → w < spec.workers → pairs (meetings_of w (joined rounds)) ≡ picks spec.seed w (length start) (length (meetings_of w (joined rounds)))
+  pub picked : (w : ℕ) → w < spec.workers → pairs (meetings_of w (joined rounds)) ≡ picks spec.seed w (length start) (made_by w (joined rounds))
   -- each meeting says rightly whether it changes a tuple
   pub marked : AreMarked net (joined rounds) start
   pub replays : replay net (joined rounds) start ≡ end

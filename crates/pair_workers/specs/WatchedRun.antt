@@ -9,24 +9,24 @@ use Rattle.pop_words.specs.declared.spec.RunSpec.{RunSpec}
 use Rattle.pop_words.specs.declared.kind.RunKind.{RunKind}
 use Rattle.pop_words.specs.declared.kind.RunKind.TheVariants.{Whole, Watched}
 use Rattle.pair_workers.specs.Picks.{picks}
-use Rattle.pair_workers.specs.Run.{IsRound, IsRun, meetings_of, pairs, joined, turns_in}
+use Rattle.pair_workers.specs.Run.{IsRound, IsRun, meetings_of, made_by, pairs, joined, turns_in}
 
 -- round k, counted from 1: there is a turn to make, each worker makes its turns at most, and nobody else makes any
 pub record IsWatchedRound (spec : RunSpec) (k : ℕ) (meetings : List Meeting) : Type 0 where
   pub some_turn : 1 ≤ turns_in spec k
-  pub each_worker : (w : ℕ) → w < spec.workers → length (meetings_of w meetings) ≤ turns_in spec k
+  pub each_worker : (w : ℕ) → w < spec.workers → made_by w meetings ≤ turns_in spec k
   pub nobody_else : All (λ m. m.worker < spec.workers) meetings
 
 -- every worker has made all its turns
 abbrev pub AreSpent : RunSpec → List (List Meeting) → Type 0
-AreSpent spec rounds = (w : ℕ) → w < spec.workers → length (meetings_of w (joined rounds)) ≡ spec.turns
+AreSpent spec rounds = (w : ℕ) → w < spec.workers → made_by w (joined rounds) ≡ spec.turns
 
 pub record IsWatchedRun (net : NetModel) (start : CrowdModel) (spec : RunSpec) (rounds : List (List Meeting)) (end : CrowdModel) : Type 0 where
   pub each_round : (k : ℕ) (meetings : List Meeting) → slice_get rounds k ≡ Some meetings → IsWatchedRound spec (k + 1) meetings
   -- every round but the last is whole
   pub whole : (k : ℕ) (meetings : List Meeting) → k + 1 < length rounds → slice_get rounds k ≡ Some meetings → IsRound spec (k + 1) meetings
   -- the meetings of a worker are its picks, from the first on
-  pub picked : (w : ℕ) → w < spec.workers → pairs (meetings_of w (joined rounds)) ≡ picks spec.seed w (length start) (length (meetings_of w (joined rounds)))
+  pub picked : (w : ℕ) → w < spec.workers → pairs (meetings_of w (joined rounds)) ≡ picks spec.seed w (length start) (made_by w (joined rounds))
   -- each meeting says rightly whether it changes a tuple
   pub marked : AreMarked net (joined rounds) start
   pub replays : replay net (joined rounds) start ≡ end

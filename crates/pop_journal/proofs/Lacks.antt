@@ -2,13 +2,12 @@
 use Rattle.std.proofs.Common.{◌≡◌, ◌⊎◌, inl, inr, ℕ, zero, suc, ◌+◌, ◌-◌, ◌*◌, ◌<◌, ◌≤◌, ◌==◌, min, nat_lt, cond, Bool, true, false, List, [], ◌∷◌, length, get_or, Option, Some, None, refl, sym, ap, subst, ◌∙◌, arith}
 use Rattle.std.specs.Prelude.{IfSome, find, slice_get}
 use Rattle.std.specs.List.{range_with_len}
-use Rattle.std.proofs.lemmas.Bool.{cases_lt, ltb-true, ltb-false}
-use Rattle.std.proofs.lemmas.List.{length-append}
-use Rattle.std.proofs.lemmas.List.Elements.{filter-append}
+use Rattle.std.proofs.lemmas.Bool.{ltb-true, ltb-false}
 use Rattle.pop_crowd.specs.declared.crowd.Meeting.{Meeting}
 use Rattle.pop_words.specs.declared.spec.RunSpec.{RunSpec}
-use Rattle.pair_workers.specs.Run.{IsRound, joined, meetings_of, turns_in}
+use Rattle.pair_workers.specs.Run.{IsRound, joined, made_by, turns_in}
 use Rattle.pair_workers.specs.WatchedRun.{IsWatchedRound, AreSpent}
+use Rattle.pair_workers.proofs.WholeWatched.{joined_made, turns_on}
 use Rattle.pop_journal.specs.Expected.{lacking}
 use Rattle.pop_journal.specs.Standing.{lacking_behind}
 
@@ -44,21 +43,6 @@ found_alike p q a (suc n) same =
     λ i l. ap p (let e : a + 1 + i ≡ a + suc i = omega arith in e) ∙ same (suc i) (omega (arith, l)) ∙ ap q (let e : a + suc i ≡ a + 1 + i = omega arith in e) in
     let rest = found_alike p q (a + 1) n next in
     ap (λ (b : Bool). cond b (Some a) (find p (range_with_len (a + 1) n))) here ∙ ap (λ (o : Option ℕ). cond (q a) (Some a) o) rest
-
--- how many meetings a worker has made
-abbrev made_by : ℕ → List Meeting → ℕ
-made_by w meetings = length (meetings_of w meetings)
-
-joined_made : (w : ℕ) (r : List Meeting) (rounds : List (List Meeting)) → made_by w (joined (r ∷ rounds)) ≡ made_by w r + made_by w (joined rounds)
-joined_made w r rounds = ap length (filter-append (λ (m : Meeting). m.worker == w) r (joined rounds)) ∙ length-append (meetings_of w r) (meetings_of w (joined rounds))
-
--- the turns of a round and those behind it are no more than those that are left
-turns_left : (turns k : ℕ) → min 4096 (turns - 4096 * k) + (turns - 4096 * (k + 1)) ≤ turns - 4096 * k
-turns_left turns k = by_size (cases_lt (turns - 4096 * k) 4096)
-  where
-    by_size : (turns - 4096 * k < 4096) ⊎ (4096 ≤ turns - 4096 * k) → min 4096 (turns - 4096 * k) + (turns - 4096 * (k + 1)) ≤ turns - 4096 * k
-    by_size (inl l) = let most : min 4096 (turns - 4096 * k) ≤ turns - 4096 * k = omega arith in omega (arith, l, most)
-    by_size (inr l) = let most : min 4096 (turns - 4096 * k) ≤ 4096 = omega arith in omega (arith, l, most)
 
 module _ (spec : RunSpec) where
   pub lacking_some : (k : ℕ) (ms : List Meeting) (w : ℕ) → lacking spec k ms ≡ Some w → (w < spec.workers) × (made_by w ms < turns_in spec k)
@@ -134,7 +118,7 @@ module _ (spec : RunSpec) where
     made_most k (r ∷ rounds) each =
         let first = first_turns k r rounds each in
         let rest = made_most (k + 1) rounds (next_turns k r rounds each) in
-        let all = turns_left spec.turns k in
+        let all = turns_on spec.turns k in
         let sum = joined_made w r rounds in omega (arith, first, rest, all, sum)
 
     made_few : (k : ℕ) (rounds : List (List Meeting)) → HasTurns k rounds → made_by w (joined rounds) ≤ 4096 * length rounds
@@ -158,11 +142,11 @@ module _ (spec : RunSpec) where
             let here : made_by w r < min 4096 (spec.turns - 4096 * k) =
             subst (λ (n : ℕ). made_by w r < min 4096 (spec.turns - 4096 * n)) (let same : k + 1 - 1 ≡ k = omega arith in same) (lacking_some (k + 1) r w h).1 in
             let rest = made_most (k + 1) rounds next in
-            let all = turns_left spec.turns k in
+            let all = turns_on spec.turns k in
             let sum = joined_made w r rounds in omega (arith, here, rest, all, sum)
         by_rest (inr less) =
             let first = first_turns k r rounds each in
-            let all = turns_left spec.turns k in
+            let all = turns_on spec.turns k in
             let sum = joined_made w r rounds in omega (arith, first, less, all, sum)
 
   module _ (rounds : List (List Meeting)) (each : (i : ℕ) (r : List Meeting) → slice_get rounds i ≡ Some r → IsWatchedRound spec (i + 1) r) (spent : AreSpent spec rounds) where

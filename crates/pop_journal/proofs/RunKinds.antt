@@ -1,7 +1,7 @@
 -- What holds of the rounds and runs of both kinds.
 use Rattle.std.proofs.Common.{◌≡◌, ◌⊎◌, inl, inr, ℕ, suc, ◌+◌, ◌*◌, ◌<◌, ◌≤◌, List, [], ◌∷◌, ◌++◌, length, All, refl, sym, subst, arith}
 use Rattle.std.specs.Prelude.{Some, slice_get}
-use Rattle.std.proofs.lemmas.List.Elements.{All-head, All-nil, All-cons, All-append}
+use Rattle.std.proofs.lemmas.List.Elements.{All-head, All-nil, All-cons}
 use Rattle.pop_net.specs.NetModel.{NetModel, CrowdModel}
 use Rattle.pop_net.specs.Step.{Step}
 use Rattle.pop_net.specs.Terminal.{IsTerminal}
@@ -15,6 +15,7 @@ use Rattle.pair_workers.specs.Picks.{words_from, first_state}
 use Rattle.pair_workers.specs.Run.{IsRun, joined, meetings_of}
 use Rattle.pair_workers.specs.WatchedRun.{IsWatchedRound, IsWatchedRun, IsRunOf, AreSpent}
 use Rattle.pair_workers.proofs.Meets.{picked_meet}
+use Rattle.pair_workers.proofs.Rounds.{joined_all}
 use Rattle.pair_workers.proofs.WholeWatched.{watched_round, whole_is_watched}
 use Rattle.pop_journal.specs.Expected.{words_after, next_meeting}
 use Rattle.pop_journal.specs.Rounds.{AreRounds, AreWatchedRounds, AreRoundsOf}
@@ -27,14 +28,8 @@ few_workers Watched n l = omega (arith, l)
 
 module _ (spec : RunSpec) where
   -- nobody but the workers meets in rounds
-  pub watched_below : (rounds : List (List Meeting)) (k : ℕ) → ((i : ℕ) (r : List Meeting) → slice_get rounds i ≡ Some r → IsWatchedRound spec (k + i + 1) r) → All (λ (m : Meeting). m.worker < spec.workers) (joined rounds)
-  watched_below [] k each = All-nil (λ (m : Meeting). m.worker < spec.workers)
-  watched_below (r ∷ rounds) k each =
-      All-append (λ (m : Meeting). m.worker < spec.workers) r (joined rounds) ((each 0 r refl).nobody_else)
-      (watched_below rounds (k + 1) (λ i s h. subst (λ (n : ℕ). IsWatchedRound spec n s) (let e : k + suc i + 1 ≡ k + 1 + i + 1 = omega arith in e) (each (suc i) s h)))
-
   pub all_below : (rounds : List (List Meeting)) → ((k : ℕ) (r : List Meeting) → slice_get rounds k ≡ Some r → IsWatchedRound spec (k + 1) r) → All (λ (m : Meeting). m.worker < spec.workers) (joined rounds)
-  all_below rounds each = watched_below rounds 0 (λ i r h. subst (λ (n : ℕ). IsWatchedRound spec n r) (let e : i + 1 ≡ 0 + i + 1 = omega arith in e) (each i r h))
+  all_below rounds each = joined_all (λ (m : Meeting). m.worker < spec.workers) rounds (λ k r h. (each k r h).nobody_else)
 
   module _ (agents : ℕ) (rounds : List (List Meeting)) where
     watched_rounds : AreRounds spec agents rounds → AreWatchedRounds spec agents rounds

@@ -1,5 +1,6 @@
 -- The form of a journal, line by line.
-use Rattle.std.specs.Prelude.{◌≡◌, ℕ, ◌+◌, ◌*◌, ◌==◌, ◌&&◌, not, nat_lt, nat_le, Bool, true, false, List, [], ◌∷◌, ◌++◌, length, codes, Option, Some, None, option_map, option_and_then, Result, Ok, Err, if◌then◌else◌}
+use Rattle.std.specs.Prelude.{◌≡◌, ℕ, ◌+◌, ◌*◌, ◌==◌, ◌&&◌, not, nat_lt, nat_le, Bool, true, false, if◌then◌else◌, List, [], ◌∷◌, ◌++◌, length, codes}
+use Rattle.std.specs.Prelude.{Option, Some, None, option_map, option_and_then, Result, Ok, Err}
 use Rattle.std.specs.Str.{bytes_eq}
 use Rattle.pop_lines.specs.Lines.{pieces}
 use Rattle.pop_lines.specs.Numbers.{printed_number_of, printed_within}
@@ -10,7 +11,7 @@ use Rattle.pop_words.specs.declared.kind.RunKind.TheVariants.{Whole, Watched}
 use Rattle.pop_words.specs.Kinds.{kind_word, most_workers}
 use Rattle.pop_words.specs.declared.spec.TheConstants.{TURN_LIMIT, MEETING_LIMIT, SEED_LIMIT}
 use Rattle.pop_words.specs.declared.spec.RunSpec.{RunSpec}
-use Rattle.pair_workers.specs.Run.{meetings_of, turns_in}
+use Rattle.pair_workers.specs.Run.{made_by, turns_in}
 use Rattle.pop_journal.specs.Journal.{round_line}
 use Rattle.pop_journal.specs.declared.fault.JournalWhy.{JournalWhy}
 use Rattle.pop_journal.specs.declared.fault.JournalWhy.TheVariants.{Missing, Form, Worker, Agents, Round}
@@ -86,7 +87,7 @@ settled spec rounds meetings = if length meetings == wanted spec rounds then (ro
 abbrev pub meeting_told : RunSpec → ℕ → List (List Meeting) → List Meeting → Option Told → Result (Option Reading) JournalWhy
 meeting_told spec agents rounds meetings None = Err Form
 meeting_told spec agents rounds meetings (Some (w, a, b, mark)) =
-    if nat_lt w spec.workers && nat_lt (length (meetings_of w meetings)) (turns_in spec (length rounds + 1))
+    if nat_lt w spec.workers && nat_lt (made_by w meetings) (turns_in spec (length rounds + 1))
     then if not (a == b) && (nat_lt a agents && nat_lt b agents)
     then Ok (Some (settled spec rounds (meetings ++ record { worker = w; a = a; b = b; changed = mark } ∷ [])))
     else Err Agents

@@ -1,8 +1,9 @@
 //! The worker that lacks meetings of a journal's last round.
 
-ghost use Rattle.std.specs.Prelude.{◌≡◌, ◌+◌, ◌*◌, ◌<◌, ◌≤◌, ℕ, List as Items, length, All, IfOk, Some, find, nat_lt, slice_get, slice_index_or};
+ghost use Rattle.std.specs.Prelude.{◌≡◌, ◌+◌, ◌*◌, ◌<◌, ◌≤◌, ℕ, List as Items, length, All, IfOk, Some, find, nat_lt};
+ghost use Rattle.std.specs.Prelude.{slice_get, slice_index_or};
 ghost use Rattle.std.specs.List.{range_with_len};
-ghost use Rattle.pair_workers.specs.Run.{meetings_of};
+ghost use Rattle.pair_workers.specs.Run.{made_by};
 ghost use Rattle.pair_workers.specs.WatchedRun.{IsWatchedRound};
 ghost use Rattle.pop_journal.specs.Expected.{lacking};
 ghost use Rattle.pop_journal.specs.Standing.{lacking_behind};
@@ -22,7 +23,8 @@ fn made_by_workers(
 ) -> Result<Vec<u64>, AllocError>
     requires { All (λ m. m.worker < workers) meetings.now }
     ensures long { IfOk result (λ made. length made.items ≡ workers) }
-    ensures made { IfOk result (λ made. (w d : ℕ) → w < workers → slice_index_or made.items w d ≡ length (meetings_of w meetings.now)) }
+    ensures made { IfOk result
+        (λ made. (w d : ℕ) → w < workers → slice_index_or made.items w d ≡ made_by w meetings.now) }
 {
     let mut made = vec![in alloc; 0u64; usize::from(workers)]?;
     for meeting in meetings {
@@ -62,7 +64,8 @@ pub(crate) fn lacking_last(
     rounds: &[List<Meeting>],
 ) -> Result<Option<u16>, AllocError>
     requires few { length rounds.now ≤ ROUND_LIMIT }
-    requires rounds { (k : ℕ) (meetings : Items Meeting) → slice_get rounds.now k ≡ Some meetings → IsWatchedRound spec.now (k + 1) meetings }
+    requires rounds { (k : ℕ) (meetings : Items Meeting) → slice_get rounds.now k ≡ Some meetings
+        → IsWatchedRound spec.now (k + 1) meetings }
     ensures { IfOk result (λ worker. worker ≡ lacking_behind spec.now rounds.now (length rounds.now)) }
 {
     let Some(meetings) = rounds.last() else {

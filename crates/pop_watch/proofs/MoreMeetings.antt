@@ -10,10 +10,10 @@ use Rattle.pop_crowd.specs.Replay.{replay, changes, AreMarked}
 use Rattle.pop_crowd.proofs.InARow.{replay_append}
 use Rattle.pair_workers.specs.Picks.{picks_from, words_from}
 use Rattle.pair_workers.specs.Turns.{HasPicked}
-use Rattle.pair_workers.specs.Run.{meetings_of, pairs}
+use Rattle.pair_workers.specs.Run.{meetings_of, pairs, made_by}
 use Rattle.pair_workers.proofs.Played.{marked_append}
 use Rattle.pop_watch.specs.declared.played.Played.{Played}
-use Rattle.pop_watch.specs.Playing.{ArePlaying, IsPlayed, GoesOn, HasMore, made_by}
+use Rattle.pop_watch.specs.Playing.{ArePlaying, IsPlayed, GoesOn, HasMore}
 
 picked_more : (n turns : ℕ) (before now after : List ℕ) (made : List (ℕ × ℕ)) (pick : ℕ × ℕ) → HasPicked n turns before now made
     → ((count : ℕ) → picks_from (words_from now) n (suc count) ≡ pick ∷ picks_from (words_from after) n count) → HasPicked n (turns + 1) before after (made ++ pick ∷ [])

@@ -13,11 +13,11 @@ use Rattle.agent_field.specs.declared.view.Logged.{Logged}
 use Rattle.agent_field.specs.History.{IsHistory, calls}
 use Rattle.agent_field.specs.Seats.{log_of, taken_of}
 use Rattle.pair_workers.specs.Turns.{HasPicked}
-use Rattle.pair_workers.specs.Run.{meetings_of, pairs}
+use Rattle.pair_workers.specs.Run.{meetings_of, pairs, made_by}
 use Rattle.pair_workers.specs.Work.{agents_of, pairs_of}
 use Rattle.pop_watch.specs.declared.work.Worker.{Worker}
 use Rattle.pop_watch.specs.Work.{AreDone, HasAll}
-use Rattle.pop_watch.specs.Playing.{ArePlaying, made_by, of_worker}
+use Rattle.pop_watch.specs.Playing.{ArePlaying, of_worker}
 use Rattle.pop_watch.proofs.Renumbered.{IsOfWorker, pairs_called, pairs_of_worker, replay_of_workers, marked_of_workers, numbers_of_workers}
 
 pair : Meeting → ℕ × ℕ

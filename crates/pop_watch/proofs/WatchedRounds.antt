@@ -14,7 +14,7 @@ use Rattle.pop_crowd.proofs.InARow.{replay_append}
 use Rattle.agent_field.proofs.Histories.{length-replay}
 use Rattle.pop_words.specs.declared.spec.RunSpec.{RunSpec}
 use Rattle.pair_workers.specs.Picks.{picks, first_state}
-use Rattle.pair_workers.specs.Run.{IsRun, IsRound, joined, pairs, meetings_of, turns_in}
+use Rattle.pair_workers.specs.Run.{IsRun, IsRound, joined, pairs, meetings_of, turns_in, made_by}
 use Rattle.pair_workers.specs.Turns.{HasPicked, ArePlayed}
 use Rattle.pair_workers.proofs.Played.{marked_append}
 use Rattle.pair_workers.proofs.Rounds.{get_pushed, joined_push}
@@ -22,7 +22,7 @@ use Rattle.pair_workers.proofs.Turns.{picked_on}
 use Rattle.pair_workers.proofs.ManyRounds.{AreOnTheRun, all_more_rounds, all_run_over}
 use Rattle.pair_workers.specs.WatchedRun.{IsWatchedRound, IsWatchedRun, AreSpent}
 use Rattle.pair_workers.proofs.WholeWatched.{watched_round, whole_is_watched}
-use Rattle.pop_watch.specs.Playing.{ArePlaying, AreAllMade, made_by}
+use Rattle.pop_watch.specs.Playing.{ArePlaying, AreAllMade}
 
 -- the run goes on, or it is over in a terminal crowd
 abbrev pub IsOnTheWay : NetModel → CrowdModel → RunSpec → List (List Meeting) → CrowdModel → List (List ℕ) → ℕ → Type 0

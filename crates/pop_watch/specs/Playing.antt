@@ -8,19 +8,16 @@ use Rattle.pop_net.specs.declared.net.Word.{Word}
 use Rattle.pop_crowd.specs.declared.crowd.Meeting.{Meeting}
 use Rattle.pop_crowd.specs.Replay.{replay, AreMarked}
 use Rattle.pair_workers.specs.Turns.{HasPicked}
-use Rattle.pair_workers.specs.Run.{meetings_of, pairs}
+use Rattle.pair_workers.specs.Run.{meetings_of, made_by, pairs}
 use Rattle.pop_watch.specs.declared.played.Played.{Played}
-
--- how many meetings a worker has made
-abbrev pub made_by : ℕ → List Meeting → ℕ
-made_by w meetings = length (meetings_of w meetings)
 
 -- a meeting of a seat as one of its worker: worker w has the seat w + 1
 abbrev pub of_worker : Meeting → Meeting
 of_worker m = record { worker = m.worker - 1; a = m.a; b = m.b; changed = m.changed }
 
 -- the meetings lead from one crowd to another, those of each worker are its next picks, and nobody else meets
-pub record ArePlaying (net : NetModel) (start : CrowdModel) (workers : ℕ) (before after : List (List ℕ)) (meetings : List Meeting) (end : CrowdModel) : Type 0 where
+pub record ArePlaying (net : NetModel) (start : CrowdModel) (workers : ℕ) (before after : List (List ℕ)) (meetings : List Meeting)
+    (end : CrowdModel) : Type 0 where
   pub marked : AreMarked net meetings start
   pub replays : replay net meetings start ≡ end
   pub picked : (w : ℕ) (d : List ℕ) → w < workers

@@ -2,7 +2,8 @@
 
 ghost use Rattle.std.specs.Prelude.{◌≡◌, ℕ, ◌<◌, ◌≤◌, length, OnOk, slice_index_or};
 ghost use Rattle.pop_net.specs.Lanes.{AreValid};
-ghost use Rattle.pop_watch.specs.Playing.{GoesOn, HasMore, AreAllMade, made_by};
+ghost use Rattle.pair_workers.specs.Run.{made_by};
+ghost use Rattle.pop_watch.specs.Playing.{GoesOn, HasMore, AreAllMade};
 
 use crate::played::Played;
 use pop_crowd::Meeting;
@@ -52,7 +53,8 @@ pub(crate) fn make_missing(
 ) -> Result<(), NoMemory>
     requires valid { AreValid net.now played.old.crowd }
     requires workers { (length made.now ≡ length played.old.pickers.items) × (length made.now ≤ WATCHED_WORKERS) }
-    requires made { (w d : ℕ) → w < length made.now → slice_index_or made.now w d ≡ made_by w played.old.meetings.items }
+    requires made { (w d : ℕ) → w < length made.now
+        → slice_index_or made.now w d ≡ made_by w played.old.meetings.items }
     requires few { (w : ℕ) → w < length made.now → made_by w played.old.meetings.items ≤ turns }
     ensures goes_on { OnOk result (GoesOn net.now played.old played.new) }
     ensures all { OnOk result (AreAllMade (length made.now) turns played.new.meetings.items) }

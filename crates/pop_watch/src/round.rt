@@ -7,8 +7,9 @@ ghost use Rattle.agent_field.specs.Seats.{IsOpened, IsSeatOf, KeepsLogs, number_
 ghost use Rattle.terminal_test.specs.TableNet.{net_of as table_net};
 ghost use Rattle.pop_words.specs.Options.{IsWithinLimits};
 ghost use Rattle.pair_workers.specs.Work.{agents_of};
+ghost use Rattle.pair_workers.specs.Run.{made_by};
 ghost use Rattle.pop_watch.specs.Work.{MayWatch, MayWork, AreReady, HasWorked};
-ghost use Rattle.pop_watch.specs.Playing.{IsPartOfRound, IsWatchedRoundFrom, made_by, of_worker};
+ghost use Rattle.pop_watch.specs.Playing.{IsPartOfRound, IsWatchedRoundFrom, of_worker};
 
 use crate::limits::LOOKS_A_ROUND;
 use crate::missing::make_missing;
@@ -65,14 +66,16 @@ fn watch_beside<R: Threads + Wait + Sync, G: Gate>(
     requires seat { IsSeatOf field.now seat.old × (number_of seat.old ≡ 0) × (LOOKS_A_ROUND ≤ spare_looks_of seat.old) }
     requires workers { All (MayWork field.now turns) workers.old }
     ensures seat { IsSeatOf field.now seat.new × KeepsLogs seat.old seat.new }
-    ensures workers { (i : ℕ) (d : Worker) → i < length workers.old → HasWorked field.now turns (slice_index_or workers.old i d) (slice_index_or workers.new i d) }
+    ensures workers { (i : ℕ) (d : Worker) → i < length workers.old
+        → HasWorked field.now turns (slice_index_or workers.old i d) (slice_index_or workers.new i d) }
 {
     let signals = Signals::new();
     let shared = &signals;
     let (observed, ()) = join_mut(
         rt,
         &mut || -> Result<(), NoMemory>
-            requires { (table_net table.now ≡ net.now) × (net_of field.now ≡ net.now) × (AGENT_LEAST ≤ agents_of field.now) × (agents_of field.now ≤ AGENT_LIMIT) × (turns ≤ ROUND_TURNS)
+            requires { (table_net table.now ≡ net.now) × (net_of field.now ≡ net.now)
+                × (AGENT_LEAST ≤ agents_of field.now) × (agents_of field.now ≤ AGENT_LIMIT) × (turns ≤ ROUND_TURNS)
                 × IsSeatOf field.now seat.now × (number_of seat.now ≡ 0) × (LOOKS_A_ROUND ≤ spare_looks_of seat.now) }
             ensures { IsSeatOf field.entry.now seat.exit.now × KeepsLogs seat.entry.now seat.exit.now }
         {
@@ -81,8 +84,11 @@ fn watch_beside<R: Threads + Wait + Sync, G: Gate>(
             )
         },
         &mut ||
-            requires { (AGENT_LEAST ≤ agents_of field.now) × (agents_of field.now ≤ AGENT_LIMIT) × All (MayWork field.now turns) workers.now }
-            ensures { (i : ℕ) (d : Worker) → i < length workers.entry.now → HasWorked field.entry.now turns (slice_index_or workers.entry.now i d) (slice_index_or workers.exit.now i d) }
+            requires { (AGENT_LEAST ≤ agents_of field.now) × (agents_of field.now ≤ AGENT_LIMIT)
+                × All (MayWork field.now turns) workers.now }
+            ensures { (i : ℕ) (d : Worker) → i < length workers.entry.now
+                → HasWorked field.entry.now turns
+                (slice_index_or workers.entry.now i d) (slice_index_or workers.exit.now i d) }
         { work_all(rt, field, workers, turns, shared, gate) },
     );
     observed
@@ -134,7 +140,9 @@ fn field_round<R: Threads + Wait + Sync, G: Gate>(
     requires pickers { length pickers.items ≡ spec.now.workers }
     requires turns { turns ≤ ROUND_TURNS }
     ensures part { IfOk result (λ r. IsPartOfRound net.now crowd.now spec.now.workers turns pickers.items r.0) }
-    ensures made { IfOk result (λ r. (length r.1.items ≡ spec.now.workers) × ((w d : ℕ) → w < spec.now.workers → slice_index_or r.1.items w d ≡ made_by w r.0.meetings.items)) }
+    ensures made { IfOk result
+        (λ r. (length r.1.items ≡ spec.now.workers)
+        × ((w d : ℕ) → w < spec.now.workers → slice_index_or r.1.items w d ≡ made_by w r.0.meetings.items)) }
 {
     let (field, mut seat, mut workers) = open_round(rt, alloc, net, crowd, spec, pickers, turns)?;
     watch_beside(

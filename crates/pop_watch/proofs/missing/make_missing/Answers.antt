@@ -1,6 +1,6 @@
 use Rattle.std.proofs.Common.{◌≡◌, ℕ, ◌+◌, ◌-◌, ◌<◌, ◌≤◌, length, get_or, refl, ap, ◌∙◌, arith, rules, ⊎_elim}
 use Rattle.std.proofs.lemmas.Bool.{cases_eq}
-use Rattle.pop_watch.specs.Playing.{made_by}
+use Rattle.pair_workers.specs.Run.{made_by}
 use Rattle.pop_watch.proofs.MoreMeetings.{goes_on_none, goes_on_more, has_mine, has_others}
 use Rattle.pop_watch.proofs.missing.make_missing.Goals as goal
 

@@ -1,6 +1,7 @@
 use Rattle.std.proofs.Common.{◌≡◌, ℕ, ◌<◌, ◌≤◌}
 use Rattle.pop_net.specs.Lanes.{AreValid}
-use Rattle.pop_watch.specs.Playing.{GoesOn, made_by}
+use Rattle.pair_workers.specs.Run.{made_by}
+use Rattle.pop_watch.specs.Playing.{GoesOn}
 use Rattle.pop_watch.proofs.missing.make_missing.Given as goal
 
 abbrev pub invariant-workers : goal.invariant-workers

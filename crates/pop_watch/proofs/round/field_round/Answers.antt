@@ -8,9 +8,10 @@ use Rattle.pop_crowd.specs.declared.crowd.Meeting.{Meeting}
 use Rattle.agent_field.specs.History.{calls}
 use Rattle.agent_field.specs.Seats.{net_of, opening_of, seats_of, log_of}
 use Rattle.pair_workers.proofs.FieldRounds.{whole_written, as_long}
+use Rattle.pair_workers.specs.Run.{made_by}
 use Rattle.pop_watch.specs.declared.work.Worker.{Worker}
 use Rattle.pop_watch.specs.Work.{MayWork, HasWorked, AreDone, HasAll}
-use Rattle.pop_watch.specs.Playing.{ArePlaying, made_by, of_worker}
+use Rattle.pop_watch.specs.Playing.{ArePlaying, of_worker}
 use Rattle.pop_watch.proofs.Seating.{are_done}
 use Rattle.pop_watch.proofs.Renumbered.{IsOfWorker, all_of_workers}
 use Rattle.pop_watch.proofs.Parts.{are_playing, all_picked, few_made, made_each}

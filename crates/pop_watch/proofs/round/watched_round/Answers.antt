@@ -4,7 +4,8 @@ use Rattle.pop_net.specs.NetModel.{NetModel}
 use Rattle.pop_net.specs.Step.{Step}
 use Rattle.pop_net.specs.Terminal.{IsTerminal}
 use Rattle.pop_net.specs.Lanes.{crowd_of}
-use Rattle.pop_watch.specs.Playing.{IsPlayed, made_by}
+use Rattle.pair_workers.specs.Run.{made_by}
+use Rattle.pop_watch.specs.Playing.{IsPlayed}
 use Rattle.pop_watch.proofs.round.watched_round.Goals as goal
 
 pub returns-then-are_made : goal.returns-then-are_made

@@ -8,7 +8,8 @@ use Rattle.pop_crowd.specs.declared.crowd.Meeting.{Meeting}
 use Rattle.terminal_test.specs.Pairs.{IsLeastPair}
 use Rattle.pair_workers.proofs.ManyRounds.{all_no_rounds}
 use Rattle.pair_workers.specs.WatchedRun.{IsWatchedRun, AreSpent}
-use Rattle.pop_watch.specs.Playing.{AreAllMade, made_by}
+use Rattle.pair_workers.specs.Run.{made_by}
+use Rattle.pop_watch.specs.Playing.{AreAllMade}
 use Rattle.pop_watch.proofs.WatchedRounds.{IsOnTheWay, one_round_more, ended, used_up}
 use Rattle.pop_watch.proofs.watched.run_watched.Goals as goal
 
