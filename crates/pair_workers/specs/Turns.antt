@@ -15,7 +15,8 @@ pub record HasPicked (n turns : ℕ) (before after : List ℕ) (made : List (ℕ
   pub picked : (count : ℕ) → picks_from (words_from before) n (turns + count) ≡ made ++ picks_from (words_from after) n count
 
 -- the meetings lead from one crowd to another, each worker makes its next picks, and nobody else meets
-pub record ArePlayed (net : NetModel) (start : CrowdModel) (workers turns : ℕ) (before after : List (List ℕ)) (meetings : List Meeting) (end : CrowdModel) : Type 0 where
+pub record ArePlayed (net : NetModel) (start : CrowdModel) (workers turns : ℕ) (before after : List (List ℕ)) (meetings : List Meeting)
+    (end : CrowdModel) : Type 0 where
   pub marked : AreMarked net meetings start
   pub replays : replay net meetings start ≡ end
   pub picked : (w : ℕ) (d : List ℕ) → w < workers

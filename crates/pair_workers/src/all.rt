@@ -24,7 +24,9 @@ use terminal_test::PairTable;
 pub fn first_pickers(alloc: Global, spec: &RunSpec) -> Result<Vec<Picker>, NoMemory>
     requires seed { spec.now.seed ≤ SEED_LIMIT }
     ensures long { IfOk result (λ pickers. length pickers.items ≡ spec.now.workers) }
-    ensures first { IfOk result (λ pickers. (w : ℕ) (d : _) → w < spec.now.workers → slice_index_or pickers.items w d ≡ first_state spec.now.seed w) }
+    ensures first { IfOk result
+        (λ pickers. (w : ℕ) (d : _) → w < spec.now.workers
+        → slice_index_or pickers.items w d ≡ first_state spec.now.seed w) }
 {
     let mut pickers = Vec::new(alloc);
     'workers: for worker in 0..spec.workers {
@@ -96,7 +98,9 @@ pub fn run_all<R: Threads + Wait + Sync, G: Gate>(
     requires valid { AreValid net.now crowd }
     ensures run { IfOk result (IsRunFrom net.now crowd spec.now) }
     // No other rounds and no other end are a run by one worker.
-    ensures only { spec.now.workers ≡ 1 → IfOk result (λ run. IsOnlyRun net.now (crowd_of net.now crowd) spec.now run.rounds (crowd_of net.now run.crowd)) }
+    ensures only { spec.now.workers ≡ 1
+        → IfOk result
+        (λ run. IsOnlyRun net.now (crowd_of net.now crowd) spec.now run.rounds (crowd_of net.now run.crowd)) }
 {
     if spec.workers == 1 {
         return run_alone(alloc, net, crowd, spec, gate);

@@ -50,7 +50,8 @@ pub fn run_alone<G: Gate>(
     requires valid { AreValid net.now crowd }
     ensures run { IfOk result (IsRunFrom net.now crowd spec.now) }
     // No other rounds and no other end are a run.
-    ensures only { IfOk result (λ run. IsOnlyRun net.now (crowd_of net.now crowd) spec.now run.rounds (crowd_of net.now run.crowd)) }
+    ensures only { IfOk result
+        (λ run. IsOnlyRun net.now (crowd_of net.now crowd) spec.now run.rounds (crowd_of net.now run.crowd)) }
 {
     let mut crowd = crowd;
     let mut picker = Picker::new(spec.seed, 0);
@@ -88,7 +89,9 @@ pub(crate) fn play_round<G: Gate>(
 ) -> Result<Vec<Meeting>, NoMemory>
     requires valid { AreValid net.now crowd.old }
     requires few { turns ≤ ROUND_TURNS }
-    ensures played { IfOk result (λ log. IsPlayed net.now (crowd_of net.now crowd.old) (words_from picker.old) log.items (crowd_of net.now crowd.new) (words_from picker.new)) }
+    ensures played { IfOk result
+        (λ log. IsPlayed net.now (crowd_of net.now crowd.old) (words_from picker.old) log.items
+        (crowd_of net.now crowd.new) (words_from picker.new)) }
     ensures turns { IfOk result (λ log. length log.items ≡ turns) }
     ensures valid { AreValid net.now crowd.new }
     ensures agents { length crowd.new ≡ length crowd.old }
@@ -104,7 +107,8 @@ pub(crate) fn play_round<G: Gate>(
 /// The meeting of the next pick.
 fn meet_next(net: &Net, crowd: &mut Crowd, picker: &mut Picker) -> Meeting
     requires { AreValid net.now crowd.old }
-    ensures played { IsPlayed net.now (crowd_of net.now crowd.old) (words_from picker.old) (result ∷ []) (crowd_of net.now crowd.new) (words_from picker.new) }
+    ensures played { IsPlayed net.now (crowd_of net.now crowd.old) (words_from picker.old) (result ∷ [])
+        (crowd_of net.now crowd.new) (words_from picker.new) }
     ensures valid { AreValid net.now crowd.new }
     ensures agents { length crowd.new ≡ length crowd.old }
 {

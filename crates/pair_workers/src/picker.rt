@@ -56,7 +56,8 @@ impl Picker {
         ensures pick { result ≡ pick_of n (next_u64 (words_from self.old)).0 }
         ensures rest { words_from self.new ≡ (next_u64 (words_from self.old)).1 }
         // Picks in a row are those of the definition.
-        ensures picks { (count : ℕ) → picks_from (words_from self.old) n (suc count) ≡ result ∷ picks_from (words_from self.new) n count }
+        ensures picks { (count : ℕ)
+            → picks_from (words_from self.old) n (suc count) ≡ result ∷ picks_from (words_from self.new) n count }
         ensures different { result.0 ≢ result.1 }
         ensures first { result.0 < n }
         ensures second { result.1 < n }

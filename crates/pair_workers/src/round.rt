@@ -2,7 +2,8 @@
 
 ghost use Rattle.std.specs.Prelude.{◌≡◌, ℕ, ◌+◌, ◌<◌, ◌≤◌, length, [], All, IfOk, IfErr, slice_index_or};
 ghost use Rattle.pop_net.specs.Lanes.{crowd_of, AreValid};
-ghost use Rattle.agent_field.specs.Seats.{IsSeatOf, KeepsOwn, number_of, next_of, left_of, log_of, opening_of, taken_of, seats_of};
+ghost use Rattle.agent_field.specs.Seats.{IsSeatOf, KeepsOwn, number_of, next_of, left_of, log_of, opening_of};
+ghost use Rattle.agent_field.specs.Seats.{taken_of, seats_of};
 ghost use Rattle.pop_words.specs.Options.{IsWithinLimits};
 ghost use Rattle.pair_workers.specs.Turns.{HasPicked, IsRoundFrom};
 ghost use Rattle.pair_workers.specs.Work.{MayWork, HasWorked, AreReady, AreDone, HasAll, agents_of};
@@ -40,11 +41,13 @@ fn seat_others(
     turns: u64,
 ) -> Result<Vec<Worker>, NoMemory>
     requires ours { IsSeatOf field.now first.old }
-    requires fresh { (number_of first.old ≡ 0) × (next_of first.old ≡ 1) × (left_of first.old + 1 ≡ length pickers.now) }
+    requires fresh { (number_of first.old ≡ 0) × (next_of first.old ≡ 1)
+        × (left_of first.old + 1 ≡ length pickers.now) }
     requires turns { turns ≤ ROUND_TURNS }
     ensures ours { IsSeatOf field.now first.new }
     ensures own { KeepsOwn first.old first.new × (taken_of first.new ≡ taken_of first.old) }
-    ensures ready { IfOk result (λ workers. (next_of first.new ≡ length pickers.now) × AreReady field.now turns pickers.now workers.items) }
+    ensures ready { IfOk result
+        (λ workers. (next_of first.new ≡ length pickers.now) × AreReady field.now turns pickers.now workers.items) }
 {
     let mut others = Vec::new(alloc);
     'workers: for w in 1..pickers.len() {
@@ -66,12 +69,17 @@ fn take_in(
     pickers: &mut [Picker],
 ) -> Result<FieldSeat, NoMemory>
     requires ours { IsSeatOf field.now first }
-    requires first { (number_of first ≡ 0) × (next_of first ≡ length others.items + 1) × (next_of first ≤ seats_of field.now) }
-    requires others { (i : ℕ) (d : Worker) → i < length others.items → IsSeatOf field.now (slice_index_or others.items i d).seat × (number_of (slice_index_or others.items i d).seat ≡ i + 1) }
+    requires first { (number_of first ≡ 0) × (next_of first ≡ length others.items + 1)
+        × (next_of first ≤ seats_of field.now) }
+    requires others { (i : ℕ) (d : Worker) → i < length others.items
+        → IsSeatOf field.now (slice_index_or others.items i d).seat
+        × (number_of (slice_index_or others.items i d).seat ≡ i + 1) }
     requires pickers { length others.items + 1 ≡ length pickers.old }
     ensures all { IfOk result (HasAll field.now others.items first) }
     ensures long { length pickers.new ≡ length pickers.old }
-    ensures moved { IfOk result (λ _. (i : ℕ) (d : Worker) (e : _) → i < length others.items → slice_index_or pickers.new (i + 1) e ≡ (slice_index_or others.items i d).picker) }
+    ensures moved { IfOk result
+        (λ _. (i : ℕ) (d : Worker) (e : _) → i < length others.items
+        → slice_index_or pickers.new (i + 1) e ≡ (slice_index_or others.items i d).picker) }
 {
     let mut first = first;
     'workers: while let Some(worker) = others.pop() {
@@ -98,17 +106,22 @@ fn work_beside<R: Threads + Wait + Sync, G: Gate>(
     requires first { MayWork field.now turns first.old }
     requires others { All (MayWork field.now turns) others.old }
     ensures first { HasWorked field.now turns first.old first.new }
-    ensures others { (i : ℕ) (d : Worker) → i < length others.old → HasWorked field.now turns (slice_index_or others.old i d) (slice_index_or others.new i d) }
+    ensures others { (i : ℕ) (d : Worker) → i < length others.old
+        → HasWorked field.now turns (slice_index_or others.old i d) (slice_index_or others.new i d) }
 {
     join_mut(
         rt,
         &mut ||
-            requires { (AGENT_LEAST ≤ agents_of field.now) × (agents_of field.now ≤ AGENT_LIMIT) × MayWork field.now turns first.now }
+            requires { (AGENT_LEAST ≤ agents_of field.now) × (agents_of field.now ≤ AGENT_LIMIT)
+                × MayWork field.now turns first.now }
             ensures { HasWorked field.entry.now turns first.entry.now first.exit.now }
         { work(rt, field, first, turns, gate) },
         &mut ||
-            requires { (AGENT_LEAST ≤ agents_of field.now) × (agents_of field.now ≤ AGENT_LIMIT) × All (MayWork field.now turns) others.now }
-            ensures { (i : ℕ) (d : Worker) → i < length others.entry.now → HasWorked field.entry.now turns (slice_index_or others.entry.now i d) (slice_index_or others.exit.now i d) }
+            requires { (AGENT_LEAST ≤ agents_of field.now) × (agents_of field.now ≤ AGENT_LIMIT)
+                × All (MayWork field.now turns) others.now }
+            ensures { (i : ℕ) (d : Worker) → i < length others.entry.now
+                → HasWorked field.entry.now turns
+                (slice_index_or others.entry.now i d) (slice_index_or others.exit.now i d) }
         { work_all(rt, field, others, turns, gate) },
     );
 }

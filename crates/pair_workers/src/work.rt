@@ -47,7 +47,8 @@ pub(crate) fn work_all<R: Threads + Wait + Sync, G: Gate>(
 )
     requires agents { (AGENT_LEAST ≤ agents_of field.now) × (agents_of field.now ≤ AGENT_LIMIT) }
     requires may { All (MayWork field.now turns) workers.old }
-    ensures { (i : ℕ) (d : Worker) → i < length workers.old → HasWorked field.now turns (slice_index_or workers.old i d) (slice_index_or workers.new i d) }
+    ensures { (i : ℕ) (d : Worker) → i < length workers.old
+        → HasWorked field.now turns (slice_index_or workers.old i d) (slice_index_or workers.new i d) }
 {
     let threads = workers.len().max(1);
     thread::for_each_mut(
@@ -55,7 +56,8 @@ pub(crate) fn work_all<R: Threads + Wait + Sync, G: Gate>(
         workers,
         threads,
         &|_i: usize, worker: &mut Worker|
-            requires { (AGENT_LEAST ≤ agents_of field.now) × (agents_of field.now ≤ AGENT_LIMIT) × MayWork field.now turns worker.now }
+            requires { (AGENT_LEAST ≤ agents_of field.now) × (agents_of field.now ≤ AGENT_LIMIT)
+                × MayWork field.now turns worker.now }
             ensures { HasWorked field.entry.now turns worker.entry.now worker.exit.now }
         { work(rt, field, worker, turns, gate) },
     );

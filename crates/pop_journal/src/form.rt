@@ -1,10 +1,12 @@
 //! The numbers of a journal's lines.
 
-ghost use Rattle.std.specs.Prelude.{◌≡◌, ◌+◌, ◌<◌, ◌≤◌, ℕ, IfOk, IfSome, MatchOption, None, List as Items, [], length, Some, slice_index_or};
+ghost use Rattle.std.specs.Prelude.{◌≡◌, ◌+◌, ◌<◌, ◌≤◌, ℕ, IfOk, IfSome, MatchOption, None, List as Items, [], length};
+ghost use Rattle.std.specs.Prelude.{Some, slice_index_or};
 ghost use Rattle.pop_lines.specs.Lines.{lines_of};
 ghost use Rattle.pair_workers.specs.Run.{meetings_of, turns_in};
 ghost use Rattle.pop_journal.specs.ReadLines.{first_ends};
-ghost use Rattle.pop_journal.specs.Form.{Tells, told_in, three_numbers, meeting_told, onward, number_named, spec_in, at_the_end};
+ghost use Rattle.pop_journal.specs.Form.{Tells, told_in, three_numbers, meeting_told, onward, number_named, spec_in};
+ghost use Rattle.pop_journal.specs.Form.{at_the_end};
 ghost use Rattle.pop_words.specs.Walk.{words_after};
 ghost use Rattle.pop_words.specs.Kinds.{most_workers};
 ghost use Rattle.pop_words.specs.Options.{IsWithinLimits};
@@ -21,7 +23,8 @@ use pop_words::{MEETING_LIMIT, RunKind, RunSpec, SEED_LIMIT, TURN_LIMIT};
 /// It is `None` of a text without lines.
 #[inline(always)]
 pub(crate) fn next_told(text: &[u8]) -> Option<(Option<(u128, u128, u128, bool)>, &[u8])>
-    ensures { MatchOption result (lines_of text.now ≡ []) (λ found. Tells (lines_of text.now) found.0 (lines_of found.1.now)) }
+    ensures { MatchOption result (lines_of text.now ≡ [])
+        (λ found. Tells (lines_of text.now) found.0 (lines_of found.1.now)) }
 {
     if let Some((worker, first, second, mark, rest)) = short_meeting(text) {
         let told = (
@@ -76,7 +79,8 @@ fn ends_here(kind: RunKind, text: &[u8]) -> bool
 /// The same, where the first line of the text tells this of a meeting. A line that tells one is not `end`.
 #[inline(always)]
 pub(crate) fn stops_here(kind: RunKind, told: Option<(u128, u128, u128, bool)>, text: &[u8]) -> bool
-    ensures { (others : Items (Items ℕ)) → Tells (lines_of text.now) told others → result ≡ first_ends kind (lines_of text.now) }
+    ensures { (others : Items (Items ℕ)) → Tells (lines_of text.now) told others
+        → result ≡ first_ends kind (lines_of text.now) }
 {
     match told {
         Some(_) => false,
@@ -95,7 +99,8 @@ pub(crate) fn checked(
     requires workers { length made.now ≡ spec.now.workers }
     requires few { spec.now.workers ≤ WORKER_LIMIT }
     ensures worker { IfOk result (λ m. (m.worker < spec.now.workers) × (slice_index_or made.now m.worker 0 < turns)) }
-    ensures read { (rounds : Items (Items Meeting)) (meetings : Items Meeting) → turns ≡ turns_in spec.now (length rounds + 1)
+    ensures read { (rounds : Items (Items Meeting)) (meetings : Items Meeting)
+        → turns ≡ turns_in spec.now (length rounds + 1)
         → ((w : ℕ) (d : ℕ) → w < spec.now.workers → slice_index_or made.now w d ≡ length (meetings_of w meetings))
         → meeting_told spec.now agents rounds meetings told ≡ onward spec.now rounds meetings result }
 {
@@ -125,8 +130,10 @@ fn number_behind<'t>(
     least: u64,
     most: u64,
 ) -> Option<(u64, Option<&'t [u8]>)>
-    ensures read { MatchOption result (number_named name.now least most (words_after (option_copied words.entry)) ≡ None)
-        (λ found. number_named name.now least most (words_after (option_copied words.entry)) ≡ Some (found.0, words_after (option_copied found.1))) }
+    ensures read { MatchOption result
+        (number_named name.now least most (words_after (option_copied words.entry)) ≡ None)
+        (λ found. number_named name.now least most (words_after (option_copied words.entry))
+        ≡ Some (found.0, words_after (option_copied found.1))) }
     ensures within { IfSome result (λ found. (least ≤ found.0) × (found.0 ≤ most)) }
 {
     let (word, rest) = cut(words?, b' ');

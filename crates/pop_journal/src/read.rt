@@ -1,6 +1,7 @@
 //! Journals read from their lines.
 
-ghost use Rattle.std.specs.Prelude.{◌≡◌, ◌+◌, ◌*◌, ◌<◌, ◌≤◌, ◌^◌, ℕ, List as Items, [], ◌∷◌, ◌++◌, length, codes, Some, None, Ok, Err, IfOk, IfErr};
+ghost use Rattle.std.specs.Prelude.{◌≡◌, ◌+◌, ◌*◌, ◌<◌, ◌≤◌, ◌^◌, ℕ, List as Items, [], ◌∷◌, ◌++◌, length, codes, Some};
+ghost use Rattle.std.specs.Prelude.{None, Ok, Err, IfOk, IfErr};
 ghost use Rattle.std.specs.Str.{bytes_eq};
 ghost use Rattle.pop_journal.specs.Journal.{run_line, round_line, round_lines};
 ghost use Rattle.pop_journal.specs.Rounds.{AreRoundsOf};
@@ -31,7 +32,7 @@ pub(crate) enum RoundEnd {
     Stopped,
 }
 
-/// Reads the meeting lines of a round, of which the first has this number. The answer are its end and the bytes behind it.
+/// Reads the meeting lines of a round, of which the first has this number: how the round ends, and the bytes behind it.
 fn read_round<'t>(
     alloc: Global,
     kind: RunKind,
@@ -217,7 +218,9 @@ pub fn read_journal(
     // The rounds are what `verify` asks for.
     ensures rounds { IfOk result (λ journal. AreRoundsOf kind journal.spec agents journal.rounds) }
     // The lines of the text are those of the journal.
-    ensures spelled { IfOk result (λ journal. lines_of text.now ≡ run_line kind journal.spec ∷ (round_lines 1 journal.rounds ++ codes "end" ∷ journal.tail)) }
+    ensures spelled { IfOk result
+        (λ journal. lines_of text.now
+        ≡ run_line kind journal.spec ∷ (round_lines 1 journal.rounds ++ codes "end" ∷ journal.tail)) }
 {
     read_lines(alloc, kind, text, first, agents)
 }

@@ -82,7 +82,8 @@ impl Replayer {
     ghost use Rattle.std.specs.Prelude.{codes};
     ghost use Rattle.pop_lines.specs.Lines.{lines_of};
     ghost use Rattle.pop_crowd.specs.Replay.{replay};
-    ghost use Rattle.pop_journal.specs.Expected.{next_meeting, meetings_compared, tail_compared, both, line_between, line_at_end, tail_text as whole_tail};
+    ghost use Rattle.pop_journal.specs.Expected.{next_meeting, meetings_compared, tail_compared, both, line_between};
+    ghost use Rattle.pop_journal.specs.Expected.{line_at_end, tail_text as whole_tail};
     ghost use Rattle.pop_journal.specs.Standing.{IsReplaying, IsForEnd, Passes};
     ghost use Rattle.terminal_test.specs.TableNet.{net_of};
 
@@ -90,8 +91,10 @@ impl Replayer {
     fn meet_next(&mut self, net: &Net, worker: u16) -> Meeting
         requires valid { AreValid net.now self.old.crowd }
         requires worker { worker < length self.old.pickers.items }
-        ensures next { (start : CrowdModel) (spec : RunSpec) (before : List Meeting) → IsReplaying net.now start spec before self.old
-            → (result ≡ next_meeting net.now start spec before worker) × IsReplaying net.now start spec (before ++ result ∷ []) self.new }
+        ensures next { (start : CrowdModel) (spec : RunSpec) (before : List Meeting)
+            → IsReplaying net.now start spec before self.old
+            → (result ≡ next_meeting net.now start spec before worker)
+            × IsReplaying net.now start spec (before ++ result ∷ []) self.new }
         ensures valid { AreValid net.now self.new.crowd }
         ensures agents { length self.new.crowd ≡ length self.old.crowd }
         ensures workers { length self.new.pickers.items ≡ length self.old.pickers.items }
@@ -117,10 +120,13 @@ impl Replayer {
         requires valid { AreValid net.now self.old.crowd }
         requires meetings { AreMeetings (length self.old.crowd) meetings.now }
         requires workers { All (λ m. m.worker < length self.old.pickers.items) meetings.now }
-        requires few { (AGENT_LEAST ≤ length self.old.crowd) × (length self.old.crowd ≤ AGENT_LIMIT) × (length self.old.pickers.items ≤ WORKER_LIMIT) }
+        requires few { (AGENT_LEAST ≤ length self.old.crowd) × (length self.old.crowd ≤ AGENT_LIMIT)
+            × (length self.old.pickers.items ≤ WORKER_LIMIT) }
         requires line { line + length meetings.now < 2 ^ 64 }
-        ensures passes { (start : CrowdModel) (spec : RunSpec) (before : List Meeting) → IsReplaying net.now start spec before self.old
-            → Passes line (meetings_compared net.now start spec before meetings.now) result × IfOk result (λ _. IsReplaying net.now start spec (before ++ meetings.now) self.new) }
+        ensures passes { (start : CrowdModel) (spec : RunSpec) (before : List Meeting)
+            → IsReplaying net.now start spec before self.old
+            → Passes line (meetings_compared net.now start spec before meetings.now) result
+            × IfOk result (λ _. IsReplaying net.now start spec (before ++ meetings.now) self.new) }
         ensures valid { AreValid net.now self.new.crowd }
         ensures agents { length self.new.crowd ≡ length self.old.crowd }
         ensures workers { length self.new.pickers.items ≡ length self.old.pickers.items }
@@ -148,10 +154,14 @@ impl Replayer {
         requires valid { AreValid net.now self.old.crowd }
         requires meetings { AreMeetings (length self.old.crowd) meetings.now }
         requires workers { All (λ m. m.worker < length self.old.pickers.items) meetings.now }
-        requires few { (AGENT_LEAST ≤ length self.old.crowd) × (length self.old.crowd ≤ AGENT_LIMIT) × (length self.old.pickers.items ≤ WORKER_LIMIT) }
+        requires few { (AGENT_LEAST ≤ length self.old.crowd) × (length self.old.crowd ≤ AGENT_LIMIT)
+            × (length self.old.pickers.items ≤ WORKER_LIMIT) }
         requires line { line + 1 + length meetings.now < 2 ^ 64 }
-        ensures passes { (start : CrowdModel) (spec : RunSpec) (before : List Meeting) → IsReplaying net.now start spec before self.old → 1 ≤ turns_in spec round
-            → Passes line (both (round_line round) (line_between net.now start spec before round) ∷ meetings_compared net.now start spec before meetings.now) result
+        ensures passes { (start : CrowdModel) (spec : RunSpec) (before : List Meeting)
+            → IsReplaying net.now start spec before self.old → 1 ≤ turns_in spec round
+            → Passes line
+            (both (round_line round) (line_between net.now start spec before round)
+            ∷ meetings_compared net.now start spec before meetings.now) result
             × IfOk result (λ _. IsReplaying net.now start spec (before ++ meetings.now) self.new) }
         ensures valid { AreValid net.now self.new.crowd }
         ensures agents { length self.new.crowd ≡ length self.old.crowd }
@@ -163,8 +173,8 @@ impl Replayer {
         self.compare_meetings(alloc, net, meetings, line + 1)
     }
 
-    /// The line that is expected in place of `end`, where it is another one. A round with this number might begin there,
-    /// and the round before it lacks a meeting of the worker, if there is one.
+    /// The line that is expected in place of `end`, where it is another one. A round with this number might begin
+    /// there, and the round before it lacks a meeting of the worker, if there is one.
     fn line_for_end(
         &mut self,
         alloc: Global,
@@ -177,8 +187,10 @@ impl Replayer {
         requires valid { AreValid net.now self.old.crowd }
         requires round { (1 ≤ round) × (round ≤ ROUND_LIMIT + 1) }
         requires worker { IfSome lacking (λ worker. worker < length self.old.pickers.items) }
-        ensures { IfOk result (λ found. (start : CrowdModel) (before : List Meeting) → IsReplaying net.now start spec.now before self.old
-            → last ≡ ending_of net.now (replay net.now before start) → IsForEnd (line_at_end net.now start spec.now before round lacking) found) }
+        ensures { IfOk result
+            (λ found. (start : CrowdModel) (before : List Meeting) → IsReplaying net.now start spec.now before self.old
+            → last ≡ ending_of net.now (replay net.now before start)
+            → IsForEnd (line_at_end net.now start spec.now before round lacking) found) }
     {
         if !is_undecided(last) {
             return Ok(None);
@@ -211,7 +223,9 @@ impl Replayer {
         requires worker { IfSome lacking (λ worker. worker < length self.old.pickers.items) }
         requires line { line + 1 + length tail.now < 2 ^ 64 }
         ensures { (start : CrowdModel) (before : List Meeting) → IsReplaying net.now start spec.now before self.old
-            → Passes line (both (codes "end") (line_at_end net.now start spec.now before round lacking) ∷ tail_compared tail.now (lines_of (whole_tail net.now (replay net.now before start)))) result }
+            → Passes line
+            (both (codes "end") (line_at_end net.now start spec.now before round lacking)
+            ∷ tail_compared tail.now (lines_of (whole_tail net.now (replay net.now before start)))) result }
     {
         let last = ending(alloc, net, table, &self.crowd)?;
         let wanted = tail_text(alloc, net, &self.crowd, last)?;
@@ -238,7 +252,8 @@ fn is_undecided(last: Last) -> bool
 /// The crowd lines, and the last line.
 fn tail_text(alloc: Global, net: &Net, crowd: &Crowd, last: Last) -> Result<Vec<u8>, NoMemory>
     requires { AreValid net.now crowd.now }
-    ensures { IfOk result (λ text. text.items ≡ crowd_lines net.now (crowd_of net.now crowd.now) ++ ended (last_line last)) }
+    ensures { IfOk result
+        (λ text. text.items ≡ crowd_lines net.now (crowd_of net.now crowd.now) ++ ended (last_line last)) }
 {
     let mut text = crowd.tally(alloc, net)?.into_vec();
     push_last_line(&mut text, last)?;

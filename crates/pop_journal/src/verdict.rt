@@ -46,7 +46,8 @@ fn compare(alloc: Global, net: &Net, crowd: Crowd, journal: &Journal) -> Result<
     requires first { journal.now.first ≤ LINE_LIMIT }
     requires spec { IsWithinLimits journal.now.spec }
     requires rounds { AreWatchedRounds journal.now.spec (length crowd) journal.now.rounds }
-    ensures passes { Passes (journal.now.first + 1) (journal_compared net.now (crowd_of net.now crowd) journal.now) result }
+    ensures passes { Passes (journal.now.first + 1)
+        (journal_compared net.now (crowd_of net.now crowd) journal.now) result }
     ensures meetings { IfOk result (λ k. k ≡ length (joined journal.now.rounds)) }
     ensures agents { (AGENT_LEAST ≤ length crowd) × (length crowd ≤ AGENT_LIMIT) }
 {
@@ -85,7 +86,8 @@ pub fn verify(alloc: Global, net: &Net, crowd: Crowd, journal: &Journal) -> Resu
     requires spec { IsWithinLimits journal.now.spec }
     requires rounds { AreRoundsOf journal.now.kind journal.now.spec (length crowd) journal.now.rounds }
     // The first line that isn't the expected one is the refusal.
-    ensures passes { Passes (journal.now.first + 1) (journal_compared net.now (crowd_of net.now crowd) journal.now) result }
+    ensures passes { Passes (journal.now.first + 1)
+        (journal_compared net.now (crowd_of net.now crowd) journal.now) result }
     ensures meetings { IfOk result (λ k. k ≡ length (joined journal.now.rounds)) }
     // It passes exactly where the rounds are a run of the journal's kind and the tail has the lines of its end.
     ensures holds { IfOk result (λ _. Holds net.now (crowd_of net.now crowd) journal.now) }

@@ -25,7 +25,8 @@ use pop_net::Net;
 use pop_words::{RunKind, RunSpec};
 use std::alloc::Global;
 
-/// The text of a watched run. Its last line is `undecided` where a pair is left that can change, and else `verdict` with this value.
+/// The text of a watched run. Its last line is `undecided` where a pair is left that can change, and else `verdict`
+/// with this value.
 pub fn write_watched(
     alloc: Global,
     net: &Net,
@@ -34,7 +35,9 @@ pub fn write_watched(
     last: bool,
 ) -> Result<List<u8>, NoMemory>
     requires { AreValid net.now end.now.crowd }
-    ensures { IfOk result (λ text. text ≡ journal_text Watched net.now spec.now end.now.rounds (crowd_of net.now end.now.crowd) (watched_last end.now.end last)) }
+    ensures { IfOk result
+        (λ text. text ≡ journal_text Watched net.now spec.now end.now.rounds
+        (crowd_of net.now end.now.crowd) (watched_last end.now.end last)) }
 {
     let last = match end.end {
         End::Open(a, b) => Last::Undecided(a, b),
@@ -54,16 +57,20 @@ pub fn read_watched(
     ensures read { ReadsJournal Watched agents first (lines_of text.now) result }
     ensures kind { IfOk result (λ journal. journal.kind ≡ Watched) }
     ensures first { IfOk result (λ journal. journal.first ≡ first) }
-    ensures limits { IfOk result (λ journal. IsWithinLimits journal.spec × (journal.spec.workers ≤ most_workers Watched)) }
+    ensures limits { IfOk result
+        (λ journal. IsWithinLimits journal.spec × (journal.spec.workers ≤ most_workers Watched)) }
     // The rounds are what `verify_watched` asks for.
     ensures rounds { IfOk result (λ journal. AreRoundsOf Watched journal.spec agents journal.rounds) }
     // The lines of the text are those of the journal.
-    ensures spelled { IfOk result (λ journal. lines_of text.now ≡ run_line Watched journal.spec ∷ (round_lines 1 journal.rounds ++ codes "end" ∷ journal.tail)) }
+    ensures spelled { IfOk result
+        (λ journal. lines_of text.now
+        ≡ run_line Watched journal.spec ∷ (round_lines 1 journal.rounds ++ codes "end" ∷ journal.tail)) }
 {
     read_journal(alloc, RunKind::Watched, text, first, agents)
 }
 
-/// The number of meetings of a watched run, where its journal has the lines that are expected; else the first line that isn't.
+/// The number of meetings of a watched run, where its journal has the lines that are expected; else the first line
+/// that isn't.
 pub fn verify_watched(
     alloc: Global,
     net: &Net,
@@ -76,7 +83,8 @@ pub fn verify_watched(
     requires kind { journal.now.kind ≡ Watched }
     requires rounds { AreRoundsOf Watched journal.now.spec (length crowd) journal.now.rounds }
     // The first line that isn't the expected one is the refusal.
-    ensures passes { Passes (journal.now.first + 1) (journal_compared net.now (crowd_of net.now crowd) journal.now) result }
+    ensures passes { Passes (journal.now.first + 1)
+        (journal_compared net.now (crowd_of net.now crowd) journal.now) result }
     ensures meetings { IfOk result (λ k. k ≡ length (joined journal.now.rounds)) }
     // It passes exactly where the rounds are a watched run and the tail has the lines of its end.
     ensures holds { IfOk result (λ _. Holds net.now (crowd_of net.now crowd) journal.now) }

@@ -23,7 +23,9 @@ pub(crate) fn seat_workers(
     requires turns { turns ≤ ROUND_TURNS }
     ensures ours { IsSeatOf field.now first.new }
     ensures own { KeepsOwn first.old first.new × (taken_of first.new ≡ taken_of first.old) }
-    ensures ready { IfOk result (λ workers. (next_of first.new ≡ length pickers.items + 1) × AreReady field.now turns pickers.items workers.items) }
+    ensures ready { IfOk result
+        (λ workers. (next_of first.new ≡ length pickers.items + 1)
+        × AreReady field.now turns pickers.items workers.items) }
 {
     let mut workers = Vec::new(alloc);
     'pickers: for picker in pickers {
@@ -53,8 +55,11 @@ pub(crate) fn take_in(
     workers: Vec<Worker>,
 ) -> Result<(FieldSeat, Vec<Picker>), NoMemory>
     requires ours { IsSeatOf field.now first }
-    requires first { (number_of first ≡ 0) × (next_of first ≡ length workers.items + 1) × (next_of first ≤ seats_of field.now) }
-    requires workers { (i : ℕ) (d : Worker) → i < length workers.items → IsSeatOf field.now (slice_index_or workers.items i d).seat × (number_of (slice_index_or workers.items i d).seat ≡ i + 1) }
+    requires first { (number_of first ≡ 0) × (next_of first ≡ length workers.items + 1)
+        × (next_of first ≤ seats_of field.now) }
+    requires workers { (i : ℕ) (d : Worker) → i < length workers.items
+        → IsSeatOf field.now (slice_index_or workers.items i d).seat
+        × (number_of (slice_index_or workers.items i d).seat ≡ i + 1) }
     ensures all { IfOk result (λ r. HasAll field.now workers.items first r.0) }
     ensures pickers { IfOk result (λ r. r.1.items ≡ map (λ w. w.picker) workers.items) }
 {

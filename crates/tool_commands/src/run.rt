@@ -46,9 +46,13 @@ pub(crate) fn is_by_one(spec: &RunSpec) -> bool
 pub(crate) fn last_and_ending(checked: &Checked, counts: &[u64], run: &RunEnd) -> (Last, Ending)
     requires input { IsInput (length checked.now.net.variables) (helper_count checked.now.net) counts.now }
     requires valid { AreValid checked.now.net run.now.crowd }
-    requires reached { Reachable (Step checked.now.net) (input_crowd checked.now.net counts.now) (crowd_of checked.now.net run.now.crowd) }
+    requires reached { Reachable (Step checked.now.net) (input_crowd checked.now.net counts.now)
+        (crowd_of checked.now.net run.now.crowd) }
     requires last { IsLast checked.now.net (crowd_of checked.now.net run.now.crowd) (open_pair run.now.end) }
-    ensures { result ≡ (journal_end (predicate_value checked.now.pred.tree counts.now) (open_pair run.now.end), run_ending (open_pair run.now.end)) }
+    ensures { result ≡ (
+      journal_end (predicate_value checked.now.pred.tree counts.now) (open_pair run.now.end),
+      run_ending (open_pair run.now.end),
+    ) }
 {
     match run.end {
         End::Terminal => {
@@ -82,7 +86,8 @@ fn run_output(
 ) -> Result<Output, NoMemory>
     requires input { IsInput (length checked.now.net.variables) (helper_count checked.now.net) counts.now }
     requires valid { AreValid checked.now.net run.now.crowd }
-    requires run { IsRunOf kind checked.now.net (input_crowd checked.now.net counts.now) spec.now run.now.rounds (crowd_of checked.now.net run.now.crowd) }
+    requires run { IsRunOf kind checked.now.net (input_crowd checked.now.net counts.now) spec.now run.now.rounds
+        (crowd_of checked.now.net run.now.crowd) }
     requires last { IsLast checked.now.net (crowd_of checked.now.net run.now.crowd) (open_pair run.now.end) }
     ensures { IfOk result (IsRunOutput kind spec.now lines checked.now.net checked.now.pred counts.now) }
 {
@@ -123,7 +128,8 @@ fn run_on_threads<R: Threads + Wait + Sync, G: Gate>(
     requires limits { IsWithinLimits spec.now }
     requires workers { spec.now.workers ≤ most_workers kind }
     requires valid { AreValid net.now crowd }
-    ensures run { IfOk result (λ run. IsRunOf kind net.now (crowd_of net.now crowd) spec.now run.rounds (crowd_of net.now run.crowd)) }
+    ensures run { IfOk result
+        (λ run. IsRunOf kind net.now (crowd_of net.now crowd) spec.now run.rounds (crowd_of net.now run.crowd)) }
     ensures last { IfOk result (λ run. IsLast net.now (crowd_of net.now run.crowd) (open_pair run.end)) }
     ensures valid { IfOk result (λ run. AreValid net.now run.crowd) }
 {
@@ -177,7 +183,8 @@ fn prepare_begun(
     requires workers { spec.workers ≤ most_workers kind }
     requires limits { HasLimits bundle }
     requires start { IsStart bundle.net start }
-    ensures leads { Prepares (OfBegun kind spec (ended lines.entry.0.now ++ ended lines.entry.1.now) (bundle, start.counts)) result }
+    ensures leads { Prepares
+        (OfBegun kind spec (ended lines.entry.0.now ++ ended lines.entry.1.now) (bundle, start.counts)) result }
     ensures plain { kind ≡ Whole → spec.workers ≡ 1 → IfOk result NeedsNoThreads }
 {
     let Bundle { net, pred, proof } = bundle;
