@@ -11,7 +11,10 @@ import subprocess
 import sys
 
 HERE = os.path.dirname(os.path.abspath(__file__))
-BENCHES = ["net_file", "bundle_file", "layers", "tree", "pairs", "play", "runs", "field", "parts", "replay", "watch", "settle", "demo", "growth"]
+BENCHES = [
+    "net_file", "bundle_file", "layers", "tree", "check", "pairs", "play",
+    "runs", "field", "parts", "replay", "watch", "settle", "demo", "growth",
+]
 
 
 def main():
