@@ -10,7 +10,7 @@ use Rattle.pop_net.specs.Step.{Step}
 use Rattle.pop_net.specs.Terminal.{IsTerminal}
 use Rattle.pop_crowd.specs.declared.crowd.Meeting.{Meeting}
 use Rattle.pop_words.specs.declared.spec.RunSpec.{RunSpec}
-use Rattle.pair_workers.specs.Run.{IsRun, IsRound, joined, meetings_of, made_by, turns_in}
+use Rattle.pair_workers.specs.Run.{IsRun, IsRound, joined, meetings_of, made_by}
 use Rattle.pair_workers.specs.WatchedRun.{IsWatchedRound, IsWatchedRun, AreSpent}
 
 pub joined_made : (w : ℕ) (r : List Meeting) (rounds : List (List Meeting)) → made_by w (joined (r ∷ rounds)) ≡ made_by w r + made_by w (joined rounds)
