@@ -1,7 +1,6 @@
 //! Journals: the lines that tell a run.
 //! It stands on `pair_workers`, `pop_crowd` and `pop_lines`.
-//! The layer above uses: `write_journal` writes exactly `journal_text`, and `push_journal` adds it to a text;
-//! `read_journal` reads exactly `journal_in`, `verify` passes exactly if `Holds`.
+//! The layer above uses: `push_journal` adds exactly `journal_text`, `read_journal` reads `journal_in`, `verify` passes if `Holds`.
 #![tactic(auto)]
 
 mod fault;

@@ -9,7 +9,7 @@ use Rattle.pair_workers.specs.Work.{pairs_of, agents_of}
 use Rattle.pop_watch.specs.declared.work.Worker.{Worker}
 
 -- the worker has made nothing, and has room for so many meetings
-pub record MayWork (f : Field) (turns : ℕ) (w : Worker) : Type 0 where
+pub record MayPlay (f : Field) (turns : ℕ) (w : Worker) : Type 0 where
   pub ours : IsSeatOf f w.seat
   pub room : turns ≤ spare_of w.seat
   pub log : log_of w.seat ≡ []
@@ -21,33 +21,33 @@ pub record HasMade (f : Field) (turns : ℕ) (before after : List ℕ) (log : Li
   pub picked : HasPicked (agents_of f) (length log) before after (pairs_of log)
 
 -- the worker has made its next picks, as many as the turns at most
-pub record HasWorked (f : Field) (turns : ℕ) (before after : Worker) : Type 0 where
+pub record HasPlayed (f : Field) (turns : ℕ) (before after : Worker) : Type 0 where
   pub ours : IsSeatOf f after.seat
   pub kept : KeepsRest before.seat after.seat
   pub made : HasMade f turns before.picker after.picker (log_of after.seat)
 
 -- a worker with this number and this picker
-pub record IsReady (f : Field) (turns number : ℕ) (picker : List ℕ) (w : Worker) : Type 0 where
-  pub may : MayWork f turns w
+pub record IsSeated (f : Field) (turns number : ℕ) (picker : List ℕ) (w : Worker) : Type 0 where
+  pub may : MayPlay f turns w
   pub numbered : number_of w.seat ≡ number
   pub picker_is : w.picker ≡ picker
 
 -- the worker with this number has made its turns, or some of them, from this picker on
-pub record IsDone (f : Field) (turns number : ℕ) (picker : List ℕ) (w : Worker) : Type 0 where
+pub record HasStopped (f : Field) (turns number : ℕ) (picker : List ℕ) (w : Worker) : Type 0 where
   pub ours : IsSeatOf f w.seat
   pub numbered : number_of w.seat ≡ number
   pub made : HasMade f turns picker w.picker (log_of w.seat)
 
 -- the workers are ready, one for each picker
-abbrev pub AreReady : Field → ℕ → List (List ℕ) → List Worker → Type 0
-AreReady f turns pickers workers =
+abbrev pub AreSeated : Field → ℕ → List (List ℕ) → List Worker → Type 0
+AreSeated f turns pickers workers =
     (length workers ≡ length pickers)
-    × ((i : ℕ) (d : Worker) (e : List ℕ) → i < length workers → IsReady f turns (i + 1) (slice_index_or pickers i e) (slice_index_or workers i d))
+    × ((i : ℕ) (d : Worker) (e : List ℕ) → i < length workers → IsSeated f turns (i + 1) (slice_index_or pickers i e) (slice_index_or workers i d))
 
-abbrev pub AreDone : Field → ℕ → List (List ℕ) → List Worker → Type 0
-AreDone f turns pickers workers =
+abbrev pub HaveStopped : Field → ℕ → List (List ℕ) → List Worker → Type 0
+HaveStopped f turns pickers workers =
     (length workers ≡ length pickers)
-    × ((i : ℕ) (d : Worker) (e : List ℕ) → i < length workers → IsDone f turns (i + 1) (slice_index_or pickers i e) (slice_index_or workers i d))
+    × ((i : ℕ) (d : Worker) (e : List ℕ) → i < length workers → HasStopped f turns (i + 1) (slice_index_or pickers i e) (slice_index_or workers i d))
 
 -- the observer's seat: it has made no meeting, has room for so many looks, and has dealt a seat to each worker
 pub record MayWatch (f : Field) (looks workers : ℕ) (s : FieldSeat) : Type 0 where

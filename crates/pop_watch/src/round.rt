@@ -8,7 +8,7 @@ ghost use Rattle.terminal_test.specs.TableNet.{net_of as table_net};
 ghost use Rattle.pop_words.specs.Options.{IsWithinLimits};
 ghost use Rattle.pair_workers.specs.Work.{agents_of};
 ghost use Rattle.pair_workers.specs.Run.{made_by};
-ghost use Rattle.pop_watch.specs.Work.{MayWatch, MayWork, AreReady, HasWorked};
+ghost use Rattle.pop_watch.specs.Work.{MayWatch, MayPlay, AreSeated, HasPlayed};
 ghost use Rattle.pop_watch.specs.Playing.{IsPartOfRound, IsWatchedRoundFrom, of_worker};
 
 use crate::limits::LOOKS_A_ROUND;
@@ -64,10 +64,10 @@ fn watch_beside<R: Threads + Wait + Sync, G: Gate>(
     requires agents { (AGENT_LEAST ≤ agents_of field.now) × (agents_of field.now ≤ AGENT_LIMIT) }
     requires turns { turns ≤ ROUND_TURNS }
     requires seat { IsSeatOf field.now seat.old × (number_of seat.old ≡ 0) × (LOOKS_A_ROUND ≤ spare_looks_of seat.old) }
-    requires workers { All (MayWork field.now turns) workers.old }
+    requires workers { All (MayPlay field.now turns) workers.old }
     ensures seat { IsSeatOf field.now seat.new × KeepsLogs seat.old seat.new }
     ensures workers { (i : ℕ) (d : Worker) → i < length workers.old
-        → HasWorked field.now turns (slice_index_or workers.old i d) (slice_index_or workers.new i d) }
+        → HasPlayed field.now turns (slice_index_or workers.old i d) (slice_index_or workers.new i d) }
 {
     let signals = Signals::new();
     let shared = &signals;
@@ -85,9 +85,9 @@ fn watch_beside<R: Threads + Wait + Sync, G: Gate>(
         },
         &mut ||
             requires { (AGENT_LEAST ≤ agents_of field.now) × (agents_of field.now ≤ AGENT_LIMIT)
-                × All (MayWork field.now turns) workers.now }
+                × All (MayPlay field.now turns) workers.now }
             ensures { (i : ℕ) (d : Worker) → i < length workers.entry.now
-                → HasWorked field.entry.now turns
+                → HasPlayed field.entry.now turns
                 (slice_index_or workers.entry.now i d) (slice_index_or workers.exit.now i d) }
         { work_all(rt, field, workers, turns, shared, gate) },
     );
@@ -112,7 +112,7 @@ fn open_round<'n, R: Wait>(
     ensures field { IfOk result (λ r. IsOpened r.0 net.now crowd.now spec.now.shards (spec.now.workers + 1)) }
     ensures agents { (AGENT_LEAST ≤ length crowd.now) × (length crowd.now ≤ AGENT_LIMIT) }
     ensures observer { IfOk result (λ r. MayWatch r.0 LOOKS_A_ROUND spec.now.workers r.1) }
-    ensures workers { IfOk result (λ r. AreReady r.0 turns pickers.items r.2.items) }
+    ensures workers { IfOk result (λ r. AreSeated r.0 turns pickers.items r.2.items) }
 {
     let words = words_of(alloc, crowd)?;
     let (field, mut seat) = Field::open(rt, alloc, net, words, spec.shards, spec.workers + 1)?;

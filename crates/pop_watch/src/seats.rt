@@ -2,7 +2,7 @@
 
 ghost use Rattle.std.specs.Prelude.{◌≡◌, ℕ, ◌+◌, ◌<◌, ◌≤◌, length, map, IfOk, slice_index_or};
 ghost use Rattle.agent_field.specs.Seats.{IsSeatOf, KeepsOwn, log_of, number_of, next_of, left_of, seats_of, taken_of};
-ghost use Rattle.pop_watch.specs.Work.{AreReady, HasAll};
+ghost use Rattle.pop_watch.specs.Work.{AreSeated, HasAll};
 
 use crate::work::Worker;
 use agent_field::{Field, FieldSeat};
@@ -25,7 +25,7 @@ pub(crate) fn seat_workers(
     ensures own { KeepsOwn first.old first.new × (taken_of first.new ≡ taken_of first.old) }
     ensures ready { IfOk result
         (λ workers. (next_of first.new ≡ length pickers.items + 1)
-        × AreReady field.now turns pickers.items workers.items) }
+        × AreSeated field.now turns pickers.items workers.items) }
 {
     let mut workers = Vec::new(alloc);
     'pickers: for picker in pickers {

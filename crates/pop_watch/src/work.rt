@@ -2,7 +2,7 @@
 
 ghost use Rattle.std.specs.Prelude.{◌≡◌, ℕ, ◌<◌, ◌≤◌, length, All, slice_index_or};
 ghost use Rattle.pair_workers.specs.Work.{agents_of};
-ghost use Rattle.pop_watch.specs.Work.{MayWork, HasWorked};
+ghost use Rattle.pop_watch.specs.Work.{MayPlay, HasPlayed};
 
 use crate::signals::Signals;
 use agent_field::{Field, FieldSeat};
@@ -30,8 +30,8 @@ pub(crate) fn work<R: Wait, G: Gate>(
     gate: &G,
 )
     requires agents { (AGENT_LEAST ≤ agents_of field.now) × (agents_of field.now ≤ AGENT_LIMIT) }
-    requires may { MayWork field.now turns worker.old }
-    ensures { HasWorked field.now turns worker.old worker.new }
+    requires may { MayPlay field.now turns worker.old }
+    ensures { HasPlayed field.now turns worker.old worker.new }
 {
     let number = worker.seat.number() - 1;
     'turns: for turn in 0..turns {
@@ -56,9 +56,9 @@ pub(crate) fn work_all<R: Threads + Wait + Sync, G: Gate>(
     gate: &G,
 )
     requires agents { (AGENT_LEAST ≤ agents_of field.now) × (agents_of field.now ≤ AGENT_LIMIT) }
-    requires may { All (MayWork field.now turns) workers.old }
+    requires may { All (MayPlay field.now turns) workers.old }
     ensures { (i : ℕ) (d : Worker) → i < length workers.old
-        → HasWorked field.now turns (slice_index_or workers.old i d) (slice_index_or workers.new i d) }
+        → HasPlayed field.now turns (slice_index_or workers.old i d) (slice_index_or workers.new i d) }
 {
     let threads = workers.len().max(1);
     thread::for_each_mut(
@@ -67,8 +67,8 @@ pub(crate) fn work_all<R: Threads + Wait + Sync, G: Gate>(
         threads,
         &|_i: usize, worker: &mut Worker|
             requires { (AGENT_LEAST ≤ agents_of field.now) × (agents_of field.now ≤ AGENT_LIMIT)
-                × MayWork field.now turns worker.now }
-            ensures { HasWorked field.entry.now turns worker.entry.now worker.exit.now }
+                × MayPlay field.now turns worker.now }
+            ensures { HasPlayed field.entry.now turns worker.entry.now worker.exit.now }
         { work(rt, field, worker, turns, signals, gate) },
     );
 }

@@ -10,7 +10,7 @@ use Rattle.agent_field.specs.Seats.{net_of, opening_of, seats_of, log_of}
 use Rattle.pair_workers.proofs.FieldRounds.{whole_written, as_long}
 use Rattle.pair_workers.specs.Run.{made_by}
 use Rattle.pop_watch.specs.declared.work.Worker.{Worker}
-use Rattle.pop_watch.specs.Work.{MayWork, HasWorked, AreDone, HasAll}
+use Rattle.pop_watch.specs.Work.{MayPlay, HasPlayed, HaveStopped, HasAll}
 use Rattle.pop_watch.specs.Playing.{ArePlaying, of_worker}
 use Rattle.pop_watch.proofs.Seating.{are_done}
 use Rattle.pop_watch.proofs.Renumbered.{IsOfWorker, all_of_workers}
@@ -25,7 +25,7 @@ watch_beside-requires-clause-agents g c κs within =
 pub watch_beside-requires-clause-workers : goal.watch_beside-requires-clause-workers
 watch_beside-requires-clause-workers g c κs within =
     let ready = c.in_ok-field.ensures.workers.1 in
-    subst (λ (l : List Worker). All (MayWork c.in_ok-field.field c.args.turns) l) (sym c.as_mut_slice.ensures.value) (λ k d h. (ready k d [] h).may)
+    subst (λ (l : List Worker). All (MayPlay c.in_ok-field.field c.args.turns) l) (sym c.as_mut_slice.ensures.value) (λ k d h. (ready k d [] h).may)
 
 pub take_in-requires-clause-workers : goal.take_in-requires-clause-workers
 take_in-requires-clause-workers g c =
@@ -37,7 +37,7 @@ take_in-requires-clause-workers g c =
     let ready = c.in_ok-field.ensures.workers in
     let done = are_done f turns pickers old _ new c.as_mut_slice.ensures.value ready c.watch_beside.auto.workers c.watch_beside.ensures.workers in
     let list = whole_written c.in_ok-field.workers.len new old (done.0 ∙ sym ready.0) (omega arith) in
-    let made = subst (AreDone f turns pickers) (sym list) done in
+    let made = subst (HaveStopped f turns pickers) (sym list) done in
     λ i d h. ((made.1 i d [] h).ours, (made.1 i d [] h).numbered)
 
 pub by_workers-requires : goal.by_workers-requires

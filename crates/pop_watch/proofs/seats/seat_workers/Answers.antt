@@ -3,7 +3,7 @@ use Rattle.std.proofs.lemmas.List.{get_or_default}
 use Rattle.std.proofs.lemmas.Iterator.Adapters.{YieldsList-from_vec}
 use Rattle.std.proofs.lemmas.Iterator.Consumers.{YieldsList-turn, YieldsList-end}
 use Rattle.pop_watch.specs.declared.work.Worker.{Worker}
-use Rattle.pop_watch.specs.Work.{IsReady}
+use Rattle.pop_watch.specs.Work.{IsSeated}
 use Rattle.pair_workers.proofs.Turns.{each-push_is}
 use Rattle.pop_watch.proofs.seats.seat_workers.Goals as goal
 
@@ -35,7 +35,7 @@ pickers-preserved c =
       next = s.dealt.0 ∙ ap more (was.next ∙ sym longer);
       left = let l = was.left in let n = s.dealt.1 in omega (arith, longer);
       count = let n = was.count in let long = ap (length {A = Worker}) items in omega (arith, long, longer, length-append workers (worker ∷ []));
-      ready = λ i d e h. each-push_is (λ (k : ℕ) (w : Worker). (p : List ℕ) → IsReady c.args.field.now c.args.turns (k + 1) (get_or pickers k p) w) workers c.push.new.self.items worker items
+      ready = λ i d e h. each-push_is (λ (k : ℕ) (w : Worker). (p : List ℕ) → IsSeated c.args.field.now c.args.turns (k + 1) (get_or pickers k p) w) workers c.push.new.self.items worker items
           (λ k w within p. was.ready k w p within)
           (λ p. record {
             may = record {
