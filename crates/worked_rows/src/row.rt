@@ -2,12 +2,14 @@
 
 use serde::Deserialize;
 
-/// A part of a text: just this; or lines of the text that an earlier row gave, from the first to the last of these, counted from 1.
+/// A part of a text: just this; lines of the text that an earlier row gave, from the first to the last of these, counted
+/// from 1; or a text so many times.
 #[derive(Debug, Drop, Deserialize)]
 #[serde(untagged)]
 pub(crate) enum Piece {
     Text(String),
     Lines(String, u64, u64),
+    Times(String, u64),
 }
 
 /// At which call a source or a sink has a trouble: it moves at most so many bytes, or it fails.

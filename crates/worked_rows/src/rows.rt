@@ -77,6 +77,7 @@ impl Rows {
                 Piece::Lines(name, first, last) => {
                     push_lines(&mut bytes, self.text_of(name.as_str()), *first, *last)?
                 }
+                Piece::Times(text, times) => push_times(&mut bytes, text.as_bytes(), *times)?,
             }
         }
         Ok(bytes)
@@ -152,6 +153,14 @@ fn push_lines(bytes: &mut Vec<u8>, text: &[u8], first: u64, last: u64) -> Result
             bytes.push(b'\n')?;
         }
         rest = more;
+    }
+    Ok(())
+}
+
+/// Adds these bytes so many times.
+fn push_times(bytes: &mut Vec<u8>, part: &[u8], times: u64) -> Result<(), AllocError> {
+    for _ in 0..times {
+        bytes.extend_from_slice(part)?;
     }
     Ok(())
 }
