@@ -1,176 +1,70 @@
-//! The check of whole proofs.
+//! What is written of a proof, and read again.
 
-ghost use Rattle.std.specs.Prelude.{IfOk};
-ghost use Rattle.cert_base.specs.ProofLimits.{IsLeafProofWithin};
+ghost use Rattle.std.specs.Prelude.{length};
+ghost use Rattle.cert_base.specs.ProofLimits.{IsProofWithin};
 
-use crate::layer_rows::{ALL, STRONG, WEAK};
-use crate::nodes::{Small, SmallLayer, layers, nodes};
-use crate::samples::{Sample, net, pred};
-use crate::tree_rows::{MORE, NOT_MORE, SPREAD};
-use cert_base::{LeafProof, Proof};
-use cert_layers::LayerFault;
-use cert_tree::{TreeFault, TreeWhy};
-use pop_checker::{CheckFault, Rejected, check};
-use pop_io::List;
-use pres_ast::Pred;
+use cert_base::Proof;
+use cert_json::{FormatFault, read_proof, write_proof};
+use net_json::read_net;
+use pop_net::Net;
+use serde_json::Value;
 use std::alloc::Global;
 use std::test::Fail;
 
-/// The layers and both trees of a leaf.
-type Given = (&'static [SmallLayer], &'static [Small], &'static [Small]);
+const NET: &str =
+    "{\"format\":1,\"vars\":[\"x\"],\"leaves\":[{\"states\":[\"A\",\"t\"],\"moves\":[],\"input\":[0],\"output\":[false,true]}],\"combine\":[0]}";
 
-fn part(alloc: Global, pred: Pred, given: &Given) -> Result<LeafProof, Fail>
-    ensures { IfOk result (IsLeafProofWithin pred.variables) }
+/// Nodes of each kind; the greatest and the least numbers are among them.
+const NODES: &str =
+    "[[\"present\",0],[\"lin\",[[0,0],[0,1099511627776]]],[\"residue\",200,[]],[\"split\",[[0,0],[4294967295,-1]],-1099511627776],[\"present\",65535],[\"twin\",0],[\"trap\",[]],[\"siphon\",[0,65535]],[\"open\",4294967295]]";
+
+const LAYERS: &str = "[{\"moves\":[0,1],\"weights\":[1,0]}]";
+
+/// The text of a proof over the net's variables.
+fn written(alloc: Global, net: &Net, proof: &Proof) -> Result<String, Fail>
+    requires { IsProofWithin (length net.now.variables) (length net.now.leaves) proof.now }
 {
-    let (order, on_true, on_false) = given;
-    Ok(LeafProof {
-        pred,
-        layers: layers(alloc, order)?,
-        on_true: nodes(alloc, on_true)?,
-        on_false: nodes(alloc, on_false)?,
-    })
+    let value = write_proof(alloc, proof, net.var_names());
+    let value = value.ok().ok_or("there is memory")?;
+    Ok(value.to_string(alloc)?)
 }
 
-/// A leaf, the predicate of the net and that of the leaf, and the proof of the leaf.
-type Case = (Sample, &'static str, &'static str, Given);
-
-fn answer(alloc: Global, case: &Case) -> Result<Result<u64, Rejected>, Fail> {
-    let (sample, whole, own, given) = case;
-    let net = net(alloc, *sample)?;
-    if net.leaf_count() != 1 {
-        return Err("there is one leaf".into());
-    }
-    let whole = pred(alloc, &net, whole)?;
-    let own = pred(alloc, &net, own)?;
-    let mut leaves = Vec::new(alloc);
-    leaves.push(part(alloc, own, given)?)?;
-    let proof = Proof {
-        leaves: List::from_vec(leaves),
-    };
-    match check(alloc, net, whole, &proof) {
-        Ok(checked) => Ok(Ok(checked.bound())),
-        Err(CheckFault::Rejected(rejected)) => Ok(Err(rejected)),
-        Err(CheckFault::NoMemory) => Err("there is memory".into()),
+/// The text that is written of the proof in a bundle.
+fn read_and_written(alloc: Global, text: &str, net: &Net) -> Result<String, Fail> {
+    let value = Value::from_str(alloc, text)?;
+    match read_proof(alloc, &value, net) {
+        Ok(proof) => written(alloc, net, &proof),
+        Err(_fault) => Err("it is a proof".into()),
     }
 }
-
-const MORE_FIRST: &str = "-x0 + x1 < 0";
-
-const OTHER_TRAP: [Small; 9] = [
-    Small::Open(5),
-    Small::Present(0),
-    Small::Present(2),
-    Small::Linear(&[(6, 1), (8, -1), (9, -1)]),
-    Small::TrapOf(1, 3),
-    Small::Linear(&[(12, 1)]),
-    Small::Linear(&[(2, 1), (9, 1), (12, -1), (13, -1)]),
-    Small::Linear(&[(8, -1), (11, -1), (12, 1)]),
-    Small::Linear(&[(0, 1), (1, -1), (7, 1), (8, 1), (9, -1)]),
-];
-
-const LONGER: [Small; 5] = [
-    Small::Open(5),
-    Small::Present(0),
-    Small::Linear(&[(0, -1), (1, 1), (7, 1), (8, -1)]),
-    Small::Linear(&[(6, 1), (9, -1), (10, -1)]),
-    Small::Linear(&[]),
-];
-
-const SPREAD_FALSE: [Small; 2] = [Small::Open(3), Small::Linear(&[(2, 1), (5, 1)])];
-
-/// A case, and the bound or what is rejected.
-type Expected = (Case, Result<u64, Rejected>);
-
-const ROWS: [Expected; 7] = [
-    (
-        (
-            Sample::Majority,
-            MORE_FIRST,
-            MORE_FIRST,
-            (&[STRONG, WEAK], &MORE, &NOT_MORE),
-        ),
-        Ok(2),
-    ),
-    (
-        (
-            Sample::Majority,
-            MORE_FIRST,
-            MORE_FIRST,
-            (&[WEAK, STRONG], &MORE, &NOT_MORE),
-        ),
-        Err(Rejected::Layers {
-            leaf: 0,
-            fault: LayerFault::Wakes(0, 2),
-        }),
-    ),
-    (
-        (
-            Sample::Majority,
-            MORE_FIRST,
-            MORE_FIRST,
-            (&[ALL], &MORE, &NOT_MORE),
-        ),
-        Err(Rejected::Layers {
-            leaf: 0,
-            fault: LayerFault::NotLower(2),
-        }),
-    ),
-    (
-        (
-            Sample::Majority,
-            MORE_FIRST,
-            MORE_FIRST,
-            (&[STRONG, WEAK], &MORE, &OTHER_TRAP),
-        ),
-        Err(Rejected::Tree {
-            leaf: 0,
-            value: false,
-            fault: TreeFault::Broken {
-                node: 5,
-                why: TreeWhy::NotClosed,
-            },
-        }),
-    ),
-    (
-        (
-            Sample::Majority,
-            MORE_FIRST,
-            MORE_FIRST,
-            (&[STRONG, WEAK], &LONGER, &NOT_MORE),
-        ),
-        Err(Rejected::Tree {
-            leaf: 0,
-            value: true,
-            fault: TreeFault::Broken {
-                node: 4,
-                why: TreeWhy::Rest,
-            },
-        }),
-    ),
-    (
-        (
-            Sample::Majority,
-            "-x0 + x1 < 1",
-            MORE_FIRST,
-            (&[STRONG, WEAK], &MORE, &NOT_MORE),
-        ),
-        Err(Rejected::Predicate),
-    ),
-    (
-        (
-            Sample::Spread,
-            "-x0 < 0",
-            "-x0 < 0",
-            (&[(&[0, 1], &[1, 0])], &SPREAD, &SPREAD_FALSE),
-        ),
-        Ok(1),
-    ),
-];
 
 #[test]
-fn proofs_of_nets(rt: HostRuntime) -> Result<(), Fail> {
-    for (case, want) in ROWS {
-        assert_eq!(rt; answer(rt.alloc(), &case)?, want);
+fn a_proof_is_read_over_a_net(rt: HostRuntime) -> Result<(), Fail> {
+    let alloc = rt.alloc();
+    let net = Value::from_str(alloc, NET)?;
+    let net = read_net(alloc, &net).ok().ok_or("it is a net")?;
+    let bundle = format!(in alloc;
+        "{{\"proof\":[{{\"pred\":\"-x < 0\",\"layers\":{LAYERS},\"true\":{NODES},\"false\":[]}}]}}"
+    )?;
+    let first = read_and_written(alloc, bundle.as_str(), &net)?;
+    let wanted = format!(in alloc;
+        "[{{\"false\":[],\"layers\":{LAYERS},\"pred\":\"-x < 0\",\"true\":{NODES}}}]"
+    )?;
+    assert_eq!(rt; first.as_str(), wanted.as_str());
+    let bundle = format!(in alloc; "{{\"proof\":{first}}}")?;
+    let again = read_and_written(alloc, bundle.as_str(), &net)?;
+    assert_eq!(rt; again.as_str(), first.as_str());
+    Ok(())
+}
+
+#[test]
+fn no_object_has_a_proof(rt: HostRuntime) -> Result<(), Fail> {
+    let alloc = rt.alloc();
+    let net = Value::from_str(alloc, NET)?;
+    let net = read_net(alloc, &net).ok().ok_or("it is a net")?;
+    match read_proof(alloc, &Value::Null, &net) {
+        Err(FormatFault::Broken { path, why: _ }) => assert_eq!(rt; path.as_str(), "/proof"),
+        _ => return Err("it is no object".into()),
     }
     Ok(())
 }

@@ -16,18 +16,8 @@ pub(crate) enum Sample {
     Majority,
     /// One of two agents that meet, or both, take state 1, which alone outputs true.
     Spread,
-    /// The same with the outputs turned.
-    SpreadFalse,
-    /// The same with both outputs true.
-    SpreadTrue,
     /// The same with a helper in state 0.
     SpreadHelped,
-    /// Moves in which a state stands twice.
-    Twice,
-    /// All moves are silent.
-    Silent,
-    /// Each pair of two states goes to each pair.
-    Every,
 }
 
 /// The output of each state, the moves, the start state of each variable, and the helpers.
@@ -40,25 +30,6 @@ type Row = (
 
 const SPREAD: &[[u16; 4]] = &[[0, 0, 1, 1], [0, 1, 1, 1]];
 
-const EVERY: &[[u16; 4]] = &[
-    [0, 0, 0, 0],
-    [0, 0, 0, 1],
-    [0, 0, 1, 0],
-    [0, 0, 1, 1],
-    [0, 1, 0, 0],
-    [0, 1, 0, 1],
-    [0, 1, 1, 0],
-    [0, 1, 1, 1],
-    [1, 0, 0, 0],
-    [1, 0, 0, 1],
-    [1, 0, 1, 0],
-    [1, 0, 1, 1],
-    [1, 1, 0, 0],
-    [1, 1, 0, 1],
-    [1, 1, 1, 0],
-    [1, 1, 1, 1],
-];
-
 fn row(sample: Sample) -> Row {
     match sample {
         Sample::Majority => (
@@ -68,17 +39,7 @@ fn row(sample: Sample) -> Row {
             &[],
         ),
         Sample::Spread => (&[false, true], SPREAD, &[0], &[]),
-        Sample::SpreadFalse => (&[true, false], SPREAD, &[0], &[]),
-        Sample::SpreadTrue => (&[true, true], SPREAD, &[0], &[]),
         Sample::SpreadHelped => (&[false, true], SPREAD, &[0], &[0]),
-        Sample::Twice => (
-            &[true, true],
-            &[[0, 0, 1, 1], [0, 1, 1, 1], [0, 1, 1, 0]],
-            &[0, 1],
-            &[],
-        ),
-        Sample::Silent => (&[true, true], &[[0, 1, 1, 0], [0, 0, 0, 0]], &[0], &[]),
-        Sample::Every => (&[true, true], EVERY, &[0], &[]),
     }
 }
 

@@ -4,16 +4,17 @@ ghost use Rattle.std.specs.Prelude.{◌≡◌, length, All, IfOk};
 ghost use Rattle.cert_base.specs.declared.fact.Fact.TheVariants.{Ge};
 ghost use Rattle.cert_linear.specs.Conditions.{AreMultipliers, AreNamed, IsOrdered};
 
-use crate::nodes::Sum;
-use crate::samples::{Sample, net, pred};
 use cert_base::{Fact, Row, TERM_LIMIT, Term};
 use cert_linear::{Trail, linear_closes, residue_closes};
 use pop_io::List;
 use std::alloc::Global;
 use std::test::Fail;
 
+/// Facts, and a multiplier of each.
+type Sum = &'static [(u8, i8)];
+
 /// The number of facts of the table.
-const COUNT: usize = 11;
+const COUNT: usize = 5;
 
 fn terms(alloc: Global, sum: Sum) -> Result<List<Term>, Fail>
     ensures multipliers { IfOk result AreMultipliers }
@@ -53,34 +54,23 @@ fn term(at: u32, by: i8) -> Term
     }
 }
 
-/// The kinds are `>`, `=`, `c` and `n` for the modulus 2, `3` for another one, and `t` for a predicate.
+/// The kinds are `>` and `=`.
 fn fact(alloc: Global, kind: u8, coefs: [i8; 5], constant: i64) -> Result<Fact, Fail>
     ensures { IfOk result IsOrdered }
 {
     let row = row(alloc, coefs, constant)?;
     Ok(match kind {
         b'>' => Fact::Ge(row),
-        b'=' => Fact::Eq(row),
-        b'c' => Fact::Cong(row, 2),
-        b'n' => Fact::NotCong(row, 2),
-        b'3' => Fact::Cong(row, 3),
-        _ => Fact::Holds(pred(alloc, &net(alloc, Sample::Spread)?, "-x0 < 0")?, true),
+        _ => Fact::Eq(row),
     })
 }
 
-/// The first five are what every wrong end meets of a protocol in which a state spreads, and the sixth is that no agent is left.
 const FACTS: [(u8, [i8; 5], i64); COUNT] = [
     (b'=', [1, -1, 0, -2, -1], 0),
-    (b'=', [0, 0, -1, 2, 1], 0),
     (b'>', [1, 0, 0, 0, 0], -2),
-    (b't', [0, 0, 0, 0, 0], 0),
     (b'>', [0, 1, 0, 0, 0], -1),
     (b'=', [0, 1, 0, 0, 0], 0),
-    (b'c', [1, 0, 0, 0, 0], 0),
-    (b'n', [1, 2, 0, 0, 0], 0),
     (b'=', [0, 2, 0, 0, 0], 1),
-    (b'3', [1, 0, 0, 0, 0], 0),
-    (b'>', [0, 1, 0, 0, 0], 1),
 ];
 
 fn facts(alloc: Global) -> Result<List<Fact>, Fail>
@@ -98,26 +88,11 @@ fn facts(alloc: Global) -> Result<List<Fact>, Fail>
 }
 
 /// The modulus, or 0 for a linear sum; the terms; and whether they close.
-const ROWS: [(u32, Sum, bool); 19] = [
-    (0, &[(4, 1), (5, -1)], true),
-    (0, &[(5, -1), (4, 1)], true),
-    (0, &[(4, 2), (5, -1), (5, -1)], true),
-    (0, &[], false),
-    (0, &[(4, 1)], false),
-    (0, &[(5, -1)], false),
-    (0, &[(10, -1)], false),
-    (0, &[(3, 0), (4, 1), (5, -1)], false),
-    (0, &[(6, 0), (4, 1), (5, -1)], false),
-    (2, &[(8, 1)], true),
-    (2, &[(6, 1)], true),
-    (2, &[(6, 3), (5, 2)], true),
-    (2, &[(8, 2)], false),
-    (2, &[(6, 2)], false),
-    (2, &[(5, 1)], false),
-    (2, &[(9, 1)], false),
-    (2, &[(4, 2), (8, 1)], false),
-    (3, &[(6, 1)], false),
-    (3, &[(8, 3)], false),
+const ROWS: [(u32, Sum, bool); 4] = [
+    (0, &[(2, 1), (3, -1)], true),
+    (0, &[(2, 1)], false),
+    (2, &[(4, 1)], true),
+    (2, &[(4, 2)], false),
 ];
 
 fn closes(alloc: Global, facts: &List<Fact>, modulus: u32, sum: Sum) -> Result<bool, Fail>
@@ -161,12 +136,12 @@ fn trail_closes(alloc: Global, trail: &mut Trail, modulus: u32, sum: Sum) -> Res
 fn a_trail_is_cut(rt: HostRuntime) -> Result<(), Fail> {
     let alloc = rt.alloc();
     let mut trail = Trail::new(alloc, facts(alloc)?);
-    assert!(rt; trail_closes(alloc, &mut trail, 0, &[(4, 1), (5, -1)])?);
-    assert!(rt; !trail_closes(alloc, &mut trail, 2, &[(5, 2)])?);
-    trail.cut(5);
-    assert_eq!(rt; trail.len(), 5);
+    assert!(rt; trail_closes(alloc, &mut trail, 0, &[(2, 1), (3, -1)])?);
+    assert!(rt; !trail_closes(alloc, &mut trail, 2, &[(3, 2)])?);
+    trail.cut(3);
+    assert_eq!(rt; trail.len(), 3);
     let last = fact(alloc, b'=', [0, 1, 0, 0, 0], 0)?;
     assert!(rt; trail.add(last).is_ok());
-    assert_eq!(rt; trail.len(), 6);
+    assert_eq!(rt; trail.len(), 4);
     Ok(())
 }

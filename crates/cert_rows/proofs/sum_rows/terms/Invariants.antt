@@ -7,5 +7,5 @@ abbrev pub invariant-loop-at : goal.invariant-loop-at
 invariant-loop-at l = record {
   count : length l.terms.items ≡ l.at-index;
   small : All (λ t. nat_abs t.by ≤ SIZE_LIMIT) l.terms.items;
-  named : All (λ t. t.at < 11) l.terms.items;
+  named : All (λ t. t.at < 5) l.terms.items;
 }
