@@ -28,15 +28,10 @@ fn fault_of(
     Ok(Net::new(alloc, names, List::from_vec(list_of_leaves), items).err())
 }
 
-const SIZES: [(usize, usize, Option<NetFault>); 8] = [
-    (2, 1, None),
-    (0, 1, Some(NetFault::Vars(0))),
-    (17, 1, Some(NetFault::Vars(17))),
-    (16, 1, Some(NetFault::LeafInputs(0))),
-    (2, 0, Some(NetFault::Leaves(0))),
-    (2, 8, None),
-    (2, 9, Some(NetFault::Leaves(9))),
-    (1, 2, Some(NetFault::LeafInputs(0))),
+const SIZES: [(usize, usize, NetFault); 3] = [
+    (17, 1, NetFault::Vars(17)),
+    (16, 1, NetFault::LeafInputs(0)),
+    (2, 9, NetFault::Leaves(9)),
 ];
 
 #[test]
@@ -44,42 +39,29 @@ fn nets_of_many_sizes(rt: HostRuntime) -> Result<(), Fail> {
     let alloc = rt.alloc();
     for (variables, leaves, fault) in SIZES {
         let names = numbered(alloc, variables)?;
-        assert_eq!(rt; fault_of(alloc, names, leaves, &[Item::Leaf(0)])?, fault);
-    }
-    for second in ["mod", "x"] {
-        let names = texts(alloc, &["x", second])?;
-        let fault = fault_of(alloc, names, 1, &[Item::Leaf(0)])?;
-        assert_eq!(rt; fault, Some(NetFault::VarName(1)));
+        let found = fault_of(alloc, names, leaves, &[Item::Leaf(0)])?;
+        assert_eq!(rt; found, Some(fault));
     }
     Ok(())
 }
 
-const COMBINATIONS: [([Item; 3], Option<NetFault>); 8] = [
+#[test]
+fn a_variable_has_no_name(rt: HostRuntime) -> Result<(), Fail> {
+    let names = texts(rt.alloc(), &["x", "mod"])?;
+    let fault = fault_of(rt.alloc(), names, 1, &[Item::Leaf(0)])?;
+    assert_eq!(rt; fault, Some(NetFault::VarName(1)));
+    Ok(())
+}
+
+const COMBINATIONS: [([Item; 3], Option<NetFault>); 3] = [
     ([Item::Leaf(0), Item::Leaf(1), Item::And], None),
-    ([Item::Leaf(0), Item::Not, Item::Not], None),
-    (
-        [Item::Leaf(0), Item::Leaf(2), Item::And],
-        Some(NetFault::Item(1)),
-    ),
     (
         [Item::Leaf(0), Item::And, Item::Leaf(2)],
         Some(NetFault::Item(1)),
     ),
     (
-        [Item::Not, Item::Leaf(0), Item::And],
-        Some(NetFault::Item(0)),
-    ),
-    (
-        [Item::Leaf(0), Item::Not, Item::Or],
-        Some(NetFault::Item(2)),
-    ),
-    (
         [Item::Leaf(0), Item::Leaf(1), Item::Not],
         Some(NetFault::Open(2)),
-    ),
-    (
-        [Item::Leaf(0), Item::Leaf(0), Item::Leaf(0)],
-        Some(NetFault::Open(3)),
     ),
 ];
 
@@ -93,24 +75,12 @@ fn combinations(rt: HostRuntime) -> Result<(), Fail> {
     Ok(())
 }
 
-/// A leaf that is negated so often.
-fn negated(alloc: Global, times: usize) -> Result<Option<NetFault>, Fail> {
-    let mut items = vec![in alloc; Item::Leaf(0)]?;
-    for _ in 0..times {
-        items.push(Item::Not)?;
-    }
-    fault_of(alloc, numbered(alloc, 2)?, 1, items.as_slice())
-}
-
 #[test]
-fn long_and_deep_combinations(rt: HostRuntime) -> Result<(), Fail> {
+fn a_combination_is_not_long(rt: HostRuntime) -> Result<(), Fail> {
     let alloc = rt.alloc();
-    let none = fault_of(alloc, numbered(alloc, 2)?, 1, &[])?;
-    assert_eq!(rt; none, Some(NetFault::Items(0)));
-    assert_eq!(rt; negated(alloc, 64)?, None);
-    assert_eq!(rt; negated(alloc, 65)?, Some(NetFault::Item(65)));
-    assert_eq!(rt; negated(alloc, 1_023)?, Some(NetFault::Item(65)));
-    assert_eq!(rt; negated(alloc, 1_024)?, Some(NetFault::Items(1_025)));
+    let items = vec![in alloc; Item::Leaf(0); 1_025]?;
+    let fault = fault_of(alloc, numbered(alloc, 2)?, 1, items.as_slice())?;
+    assert_eq!(rt; fault, Some(NetFault::Items(1_025)));
     Ok(())
 }
 
@@ -126,24 +96,21 @@ fn leaves_with_other_helpers(rt: HostRuntime) -> Result<(), Fail> {
     Ok(())
 }
 
-/// Leaves of which the second one is wide.
-fn second_is_wide(alloc: Global, others: usize) -> Result<Option<NetFault>, Fail> {
+/// Five leaves, of which the second one is wide.
+#[test]
+fn wide_leaves_are_few(rt: HostRuntime) -> Result<(), Fail> {
+    let alloc = rt.alloc();
     let mut leaves = vec![in alloc; small_leaf(alloc, &[]).ok_or("a leaf")?]?;
     let net = wide(alloc).ok_or("a net")?;
     if net.leaf_count() > 0 {
         leaves.push(net.leaf(0).copy(alloc)?)?;
     }
-    for _ in 0..others {
+    for _ in 0..3 {
         leaves.push(small_leaf(alloc, &[]).ok_or("a leaf")?)?;
     }
     let items = list(alloc, &[Item::Leaf(0)])?;
-    Ok(Net::new(alloc, numbered(alloc, 2)?, List::from_vec(leaves), items).err())
-}
-
-#[test]
-fn wide_leaves_are_few(rt: HostRuntime) -> Result<(), Fail> {
-    assert_eq!(rt; second_is_wide(rt.alloc(), 2)?, None);
-    assert_eq!(rt; second_is_wide(rt.alloc(), 3)?, Some(NetFault::Wide(1)));
+    let net = Net::new(alloc, numbered(alloc, 2)?, List::from_vec(leaves), items);
+    assert_eq!(rt; net.err(), Some(NetFault::Wide(1)));
     Ok(())
 }
 

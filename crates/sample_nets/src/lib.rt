@@ -6,5 +6,5 @@
 mod nets;
 mod parts;
 
-pub use nets::{flock, helped, majority, pair_of_leaves, silent_swap, wide};
+pub use nets::{flock, helped, majority, pair_of_leaves, wide};
 pub use parts::{leaf_of, list, net_of, numbered, step, texts};

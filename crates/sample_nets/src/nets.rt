@@ -35,24 +35,6 @@ pub fn pair_of_leaves(alloc: Global) -> Option<Net>
     net_of(alloc, &["x", "y"], leaves, &combine)
 }
 
-/// Two leaves, of which the first has a swap that is silent and the second has no move.
-pub fn silent_swap(alloc: Global) -> Option<Net>
-    ensures { IfSome result (λ net. length net.variables ≡ 2) }
-{
-    let first = leaf_of(
-        alloc,
-        &["p", "q"],
-        &[step(0, 1, 1, 0)],
-        &[0, 1],
-        &[true, true],
-        &[],
-    )?;
-    let second = leaf_of(alloc, &["u", "v"], &[], &[0, 1], &[true, true], &[])?;
-    let leaves = vec![in alloc; first, second].ok()?;
-    let combine = [Item::Leaf(0), Item::Leaf(1), Item::And];
-    net_of(alloc, &["x", "y"], leaves, &combine)
-}
-
 /// Two agents in A go on to t, and an agent in t takes one in A along. It has these helpers.
 fn pair_leaf(alloc: Global, helpers: &[u16]) -> Option<Leaf> {
     let moves = [step(0, 0, 1, 1), step(0, 1, 1, 1)];
