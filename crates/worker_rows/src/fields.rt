@@ -57,7 +57,7 @@ fn looks_around<R: Wait>(rt: &R, alloc: Global, net: &Net) -> Result<Option<Roun
     Ok(field.close(alloc, seat).ok())
 }
 
-pub(crate) fn meeting(worker: u16, a: u32, b: u32, changed: bool) -> Meeting {
+fn meeting(worker: u16, a: u32, b: u32, changed: bool) -> Meeting {
     Meeting {
         worker,
         a,

@@ -1,60 +1,21 @@
-//! Picks, and runs by one worker and by many.
+//! Runs on threads.
 
-ghost use Rattle.std.specs.Prelude.{◌≡◌, ◌≤◌, ◌^◌, ◌-◌, length, IfSome};
+ghost use Rattle.std.specs.Prelude.{◌≡◌, ◌≤◌, length, IfSome};
 ghost use Rattle.pop_net.specs.Lanes.{AreValid};
 ghost use Rattle.pop_words.specs.Kinds.{most_workers};
 ghost use Rattle.pop_words.specs.Options.{IsWithinLimits};
 
-use crate::fields::meeting;
-use pair_workers::{End, Picker, RunEnd, run_all, run_alone};
+use pair_workers::{End, RunEnd, run_all};
 use pop_crowd::{Crowd, Meeting};
 use pop_io::{List, NoMemory, OpenGate, WORKER_LIMIT};
 use pop_net::Net;
 use pop_watch::run_watched;
-use pop_words::{RunKind, RunSpec, TURN_LIMIT, WATCHED_WORKERS};
+use pop_words::{RunKind, RunSpec, TURN_LIMIT};
 use sample_nets::majority;
 use std::alloc::Global;
 use std::sync::Wait;
 use std::test::Fail;
 use std::thread::Threads;
-
-#[test]
-fn first_picks(rt: HostRuntime) {
-    let mut two = Picker::new(0, 0);
-    assert_eq!(rt; two.pick(2), (1, 0));
-    assert_eq!(rt; two.pick(2), (1, 0));
-    let mut three = Picker::new(0, 0);
-    assert_eq!(rt; three.pick(3), (2, 1));
-    assert_eq!(rt; three.pick(3), (1, 2));
-}
-
-/// A run of majority with one worker and seed 0, by so many turns.
-fn run(alloc: Global, x: u64, y: u64, turns: u64) -> Result<Option<RunEnd>, Fail>
-    requires { turns ≤ TURN_LIMIT }
-{
-    let net = majority(alloc).ok_or("a net")?;
-    let crowd = Crowd::of_counts(alloc, &net, &[x, y])
-        .ok()
-        .ok_or("a crowd")?;
-    let spec = RunSpec {
-        workers: 1,
-        shards: 16,
-        turns,
-        seed: 0,
-    };
-    Ok(run_alone(alloc, &net, crowd, &spec, &OpenGate).ok())
-}
-
-#[test]
-fn two_agents_come_to_an_end(rt: HostRuntime) -> Result<(), Fail> {
-    let run = run(rt.alloc(), 1, 1, 2)?.ok_or("a run")?;
-    let met = [meeting(0, 1, 0, true); 2];
-    let rounds = run.rounds.as_slice();
-    assert_eq!(rt; rounds.len(), 1);
-    assert_eq!(rt; rounds[0].as_slice(), met.as_slice());
-    assert_eq!(rt; run.end, End::Terminal);
-    Ok(())
-}
 
 #[test]
 fn all_workers_are_one(rt: HostRuntime) -> Result<(), Fail> {
@@ -73,75 +34,6 @@ fn all_workers_are_one(rt: HostRuntime) -> Result<(), Fail> {
         .ok()
         .ok_or("a run")?;
     assert_eq!(rt; run.end, End::Terminal);
-    Ok(())
-}
-
-#[test]
-fn one_turn_leaves_a_pair(rt: HostRuntime) -> Result<(), Fail> {
-    let run = run(rt.alloc(), 1, 1, 1)?.ok_or("a run")?;
-    assert_eq!(rt; run.end, End::Open(0, 1));
-    Ok(())
-}
-
-#[test]
-fn a_terminal_crowd_makes_no_round(rt: HostRuntime) -> Result<(), Fail> {
-    let run = run(rt.alloc(), 2, 0, 10)?.ok_or("a run")?;
-    assert_eq!(rt; run.rounds.as_slice().len(), 0);
-    assert_eq!(rt; run.end, End::Terminal);
-    Ok(())
-}
-
-#[test]
-fn no_turns_leave_a_pair(rt: HostRuntime) -> Result<(), Fail> {
-    let run = run(rt.alloc(), 1, 1, 0)?.ok_or("a run")?;
-    assert_eq!(rt; run.rounds.as_slice().len(), 0);
-    assert_eq!(rt; run.end, End::Open(0, 1));
-    Ok(())
-}
-
-/// Whether the rounds of a run of so many turns have so many meetings.
-fn has_rounds(alloc: Global, turns: u64, lengths: &[usize]) -> Result<bool, Fail>
-    requires { turns ≤ TURN_LIMIT }
-{
-    let run = run(alloc, 2000, 2000, turns)?.ok_or("a run")?;
-    let rounds = run.rounds.as_slice();
-    if rounds.len() != lengths.len() {
-        return Ok(false);
-    }
-    for (round, length) in rounds.iter().zip(lengths) {
-        if round.as_slice().len() != *length {
-            return Ok(false);
-        }
-    }
-    Ok(true)
-}
-
-#[test]
-fn rounds_have_4096_meetings(rt: HostRuntime) -> Result<(), Fail> {
-    let alloc = rt.alloc();
-    assert!(rt; has_rounds(alloc, 4_096, &[4_096])?);
-    assert!(rt; has_rounds(alloc, 4_097, &[4_096, 1])?);
-    assert!(rt; has_rounds(alloc, 10_000, &[4_096, 4_096, 1_808])?);
-    Ok(())
-}
-
-/// Whether the meetings of a run of 10,000 turns are the picks of one stream, through all its rounds.
-fn goes_on(rounds: &[List<Meeting>], picker: &mut Picker) -> bool {
-    for round in rounds {
-        for meeting in round.as_slice() {
-            if picker.pick(4_000) != (meeting.a, meeting.b) {
-                return false;
-            }
-        }
-    }
-    true
-}
-
-#[test]
-fn the_stream_goes_on(rt: HostRuntime) -> Result<(), Fail> {
-    let run = run(rt.alloc(), 2000, 2000, 10_000)?.ok_or("a run")?;
-    let mut picker = Picker::new(0, 0);
-    assert!(rt; goes_on(run.rounds.as_slice(), &mut picker));
     Ok(())
 }
 
@@ -243,13 +135,5 @@ fn four_workers_are_as_one(rt: HostRuntime) -> Result<(), Fail> {
     let alloc = rt.alloc();
     assert!(rt; many_are_as_one(&rt, alloc, RunKind::Whole, 4, 6_000)?);
     assert!(rt; many_are_as_one(&rt, alloc, RunKind::Watched, 4, 6_000)?);
-    Ok(())
-}
-
-#[test]
-fn most_workers_are_as_one(rt: HostRuntime) -> Result<(), Fail> {
-    let alloc = rt.alloc();
-    assert!(rt; many_are_as_one(&rt, alloc, RunKind::Whole, WORKER_LIMIT, 60)?);
-    assert!(rt; many_are_as_one(&rt, alloc, RunKind::Watched, WATCHED_WORKERS, 60)?);
     Ok(())
 }

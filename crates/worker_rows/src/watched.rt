@@ -1,14 +1,10 @@
-//! Watched runs and their journals.
+//! A watched run whose observer stops it.
 
-ghost use Rattle.std.specs.Prelude.{◌≡◌, ◌≤◌, length};
-
-use crate::fields::meeting;
 use pair_workers::{End, RunEnd};
 use pop_crowd::{Crowd, Meeting};
-use pop_io::{Gate, OpenGate};
-use pop_net::Net;
-use pop_watch::{read_watched, run_watched, verify_watched, whole_runs_are_watched, write_watched};
-use pop_words::{RunSpec, TURN_LIMIT, WATCHED_WORKERS};
+use pop_io::Gate;
+use pop_watch::{run_watched, whole_runs_are_watched};
+use pop_words::RunSpec;
 use sample_nets::majority;
 use std::alloc::Global;
 use std::sync::Wait;
@@ -16,61 +12,24 @@ use std::sync::atomic::{AtomicU64, Ordering};
 use std::test::Fail;
 use std::thread::Threads;
 
-/// A watched run of majority over 16 shards with seed 0.
+/// A watched run of two agents of majority by two workers.
 fn watch<R: Threads + Wait + Sync, G: Gate>(
     rt: &R,
     alloc: Global,
-    counts: (u64, u64),
-    workers: u16,
-    turns: u64,
     gate: &G,
-) -> Result<RunEnd, Fail>
-    requires workers { (1 ≤ workers) × (workers ≤ WATCHED_WORKERS) }
-    requires turns { turns ≤ TURN_LIMIT }
-{
+) -> Result<RunEnd, Fail> {
     let net = majority(alloc).ok_or("a net")?;
-    let (x, y) = counts;
-    let crowd = Crowd::of_counts(alloc, &net, &[x, y])
+    let crowd = Crowd::of_counts(alloc, &net, &[1, 1])
         .ok()
         .ok_or("a crowd")?;
     let spec = RunSpec {
-        workers,
+        workers: 2,
         shards: 16,
-        turns,
+        turns: 200,
         seed: 0,
     };
     let run = run_watched(rt, alloc, &net, crowd, &spec, gate);
     Ok(run.ok().ok_or("a run")?)
-}
-
-#[test]
-fn one_worker_makes_its_round(rt: HostRuntime) -> Result<(), Fail> {
-    whole_runs_are_watched();
-    let run = watch(&rt, rt.alloc(), (1, 1), 1, 2, &OpenGate)?;
-    let met = [meeting(0, 1, 0, true); 2];
-    let rounds = run.rounds.as_slice();
-    assert_eq!(rt; rounds.len(), 1);
-    assert_eq!(rt; rounds[0].as_slice(), met.as_slice());
-    assert_eq!(rt; run.end, End::Terminal);
-    Ok(())
-}
-
-#[test]
-fn turns_that_are_spent_leave_a_pair(rt: HostRuntime) -> Result<(), Fail> {
-    for turns in 0..2u64 {
-        let run = watch(&rt, rt.alloc(), (1, 1), 1, turns, &OpenGate)?;
-        assert_eq!(rt; run.rounds.as_slice().len() as u64, turns);
-        assert_eq!(rt; run.end, End::Open(0, 1));
-    }
-    Ok(())
-}
-
-#[test]
-fn nobody_watches_a_terminal_crowd(rt: HostRuntime) -> Result<(), Fail> {
-    let run = watch(&rt, rt.alloc(), (2, 0), 3, 10, &OpenGate)?;
-    assert_eq!(rt; run.rounds.as_slice().len(), 0);
-    assert_eq!(rt; run.end, End::Terminal);
-    Ok(())
 }
 
 /// Holds the observer's first pass until both workers have come to turn 100, and both there until its last pass.
@@ -121,7 +80,8 @@ fn the_observer_stops_a_round(rt: HostRuntime) -> Result<(), Fail> {
         looked: AtomicU64::new(0),
         gave_up: AtomicU64::new(0),
     };
-    let run = watch(&rt, rt.alloc(), (1, 1), 2, 200, &gate)?;
+    whole_runs_are_watched();
+    let run = watch(&rt, rt.alloc(), &gate)?;
     assert_eq!(rt; gate.gave_up.load(Ordering::SeqCst), 0);
     let rounds = run.rounds.as_slice();
     assert_eq!(rt; rounds.len(), 1);
@@ -129,57 +89,5 @@ fn the_observer_stops_a_round(rt: HostRuntime) -> Result<(), Fail> {
     assert_eq!(rt; made_by(rounds[0].as_slice(), 1), 99);
     assert_eq!(rt; rounds[0].as_slice().len(), 198);
     assert_eq!(rt; run.end, End::Terminal);
-    Ok(())
-}
-
-/// How many meetings the journal of a watched run of two agents has, if it holds.
-fn verified(alloc: Global, net: &Net, text: &[u8]) -> Result<Option<u64>, Fail>
-    requires { length net.now.variables ≡ 2 }
-{
-    let crowd = Crowd::of_counts(alloc, net, &[1, 1]).ok().ok_or("a crowd")?;
-    let journal = read_watched(alloc, text, 1, crowd.len())
-        .ok()
-        .ok_or("a journal")?;
-    Ok(verify_watched(alloc, net, crowd, &journal).ok())
-}
-
-/// Whether a watched run of two agents by one worker has this text, which is read as so many meetings.
-fn is_told<R: Threads + Wait + Sync>(
-    rt: &R,
-    alloc: Global,
-    turns: u64,
-    text: &str,
-    meetings: u64,
-) -> Result<bool, Fail>
-    requires { turns ≤ TURN_LIMIT }
-{
-    let net = majority(alloc).ok_or("a net")?;
-    let crowd = Crowd::of_counts(alloc, &net, &[1, 1])
-        .ok()
-        .ok_or("a crowd")?;
-    let spec = RunSpec {
-        workers: 1,
-        shards: 16,
-        turns,
-        seed: 0,
-    };
-    let run = run_watched(rt, alloc, &net, crowd, &spec, &OpenGate)
-        .ok()
-        .ok_or("a run")?;
-    let written = write_watched(alloc, &net, &spec, &run, false)
-        .ok()
-        .ok_or("a text")?;
-    let told = verified(alloc, &net, written.as_slice())?;
-    Ok(written.as_slice() == text.as_bytes() && told == Some(meetings))
-}
-
-#[test]
-fn watched_runs_are_told(rt: HostRuntime) -> Result<(), Fail> {
-    let whole =
-        "watch workers 1 shards 16 turns 2 seed 0\nround 1\n0 1 0 *\n0 1 0 *\nend\nb 2\nverdict false\n";
-    assert!(rt; is_told(&rt, rt.alloc(), 2, whole, 2)?);
-    let open =
-        "watch workers 1 shards 16 turns 1 seed 0\nround 1\n0 1 0 *\nend\na 1\nb 1\nundecided 0 1\n";
-    assert!(rt; is_told(&rt, rt.alloc(), 1, open, 1)?);
     Ok(())
 }
