@@ -1,4 +1,4 @@
-use Rattle.std.proofs.Common.{◌≡◌, ℕ, ◌<◌, ◌≤◌, get_or, List, [], length, map, sym, ap, ◌∙◌, subst, arith}
+use Rattle.std.proofs.Common.{◌≡◌, ℕ, ◌<◌, ◌≤◌, List, [], length, map, sym, ap, ◌∙◌, subst, arith}
 use Rattle.std.specs.Prelude.{All}
 use Rattle.std.proofs.lemmas.List.{length-map}
 use Rattle.pop_net.specs.declared.net.Word.{Word}
@@ -10,7 +10,7 @@ use Rattle.agent_field.specs.Seats.{net_of, opening_of, seats_of, log_of}
 use Rattle.pair_workers.proofs.FieldRounds.{whole_written, as_long}
 use Rattle.pair_workers.specs.Run.{made_by}
 use Rattle.pop_watch.specs.declared.work.Worker.{Worker}
-use Rattle.pop_watch.specs.Work.{MayPlay, HasPlayed, HaveStopped, HasAll}
+use Rattle.pop_watch.specs.Work.{MayPlay, HaveStopped, HasAll}
 use Rattle.pop_watch.specs.Playing.{ArePlaying, of_worker}
 use Rattle.pop_watch.proofs.Seating.{are_done}
 use Rattle.pop_watch.proofs.Renumbered.{IsOfWorker, all_of_workers}
