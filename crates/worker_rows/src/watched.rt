@@ -1,9 +1,12 @@
-//! A watched run whose observer stops it.
+//! Watched runs: one that the observer stops, and the calls that write, read and verify a journal.
+
+ghost use Rattle.std.specs.Prelude.{◌≡◌, length};
 
 use pair_workers::{End, RunEnd};
 use pop_crowd::{Crowd, Meeting};
-use pop_io::Gate;
-use pop_watch::{run_watched, whole_runs_are_watched};
+use pop_io::{Gate, OpenGate};
+use pop_net::Net;
+use pop_watch::{read_watched, run_watched, verify_watched, whole_runs_are_watched, write_watched};
 use pop_words::RunSpec;
 use sample_nets::majority;
 use std::alloc::Global;
@@ -89,5 +92,42 @@ fn the_observer_stops_a_round(rt: HostRuntime) -> Result<(), Fail> {
     assert_eq!(rt; made_by(rounds[0].as_slice(), 1), 99);
     assert_eq!(rt; rounds[0].as_slice().len(), 198);
     assert_eq!(rt; run.end, End::Terminal);
+    Ok(())
+}
+
+/// How many meetings the journal of a watched run of two agents has, if it holds.
+fn verified(alloc: Global, net: &Net, text: &[u8]) -> Result<Option<u64>, Fail>
+    requires { length net.now.variables ≡ 2 }
+{
+    let crowd = Crowd::of_counts(alloc, net, &[1, 1]).ok().ok_or("a crowd")?;
+    let journal = read_watched(alloc, text, 1, crowd.len())
+        .ok()
+        .ok_or("a journal")?;
+    Ok(verify_watched(alloc, net, crowd, &journal).ok())
+}
+
+#[test]
+fn a_journal_is_written_and_verified(rt: HostRuntime) -> Result<(), Fail> {
+    let alloc = rt.alloc();
+    let net = majority(alloc).ok_or("a net")?;
+    let crowd = Crowd::of_counts(alloc, &net, &[1, 1])
+        .ok()
+        .ok_or("a crowd")?;
+    let spec = RunSpec {
+        workers: 1,
+        shards: 16,
+        turns: 1,
+        seed: 0,
+    };
+    let run = run_watched(&rt, alloc, &net, crowd, &spec, &OpenGate)
+        .ok()
+        .ok_or("a run")?;
+    let written = write_watched(alloc, &net, &spec, &run, false)
+        .ok()
+        .ok_or("a text")?;
+    let text =
+        "watch workers 1 shards 16 turns 1 seed 0\nround 1\n0 1 0 *\nend\na 1\nb 1\nundecided 0 1\n";
+    assert_eq!(rt; written.as_slice(), text.as_bytes());
+    assert_eq!(rt; verified(alloc, &net, written.as_slice())?, Some(1));
     Ok(())
 }
