@@ -1,4 +1,5 @@
-//! Tests of proofs and their parts that no row of `worked_rows` can hold: what is written, the very facts of a case, sums by themselves.
+//! Tests of proofs and their parts that no row of `worked_rows` can hold: what is written, the very facts of a case,
+//! sums by themselves.
 //! It stands on the crates that it tests, and has no code but tests.
 //! Nothing stands above it.
 #![tactic(auto)]

@@ -2,8 +2,8 @@
 
 use serde::Deserialize;
 
-/// A part of a text: just this; lines of the text that an earlier row gave, from the first to the last of these, counted
-/// from 1; or a text so many times.
+/// A part of a text: just this; lines of the text that an earlier row gave, from the first to the last of these,
+/// counted from 1; or a text so many times.
 #[derive(Debug, Drop, Deserialize)]
 #[serde(untagged)]
 pub(crate) enum Piece {

@@ -1,4 +1,5 @@
-//! Tests of the shared field and of runs on threads that no row of `worked_rows` can hold: gates, seats, the words of all agents.
+//! Tests of the shared field and of runs on threads that no row of `worked_rows` can hold: gates, seats, the words of
+//! all agents.
 //! It stands on the crates that it tests, and has no code but tests.
 //! Nothing stands above it.
 #![tactic(auto)]
