@@ -139,7 +139,7 @@ impl WriteItems for Parts<'_> {
 
     ghost can_write = { λ list.
         All (λ part. part.pred.variables ≡ length list.names.now) list.parts.now
-            × AreNames is_variable_name list.names.now };
+        × AreNames is_variable_name list.names.now };
 
     ghost items = { λ list. map (leaf_proof_data list.names.now) list.parts.now };
 
