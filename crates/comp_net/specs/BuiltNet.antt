@@ -1,5 +1,5 @@
 -- BuiltNet: the built net of a predicate: one leaf for each atom, from left to right, and the tree in postfix.
-use Rattle.std.specs.Prelude.{ℕ, List, [], ◌∷◌, ℤ, pos, map, Option, Some, None}
+use Rattle.std.specs.Prelude.{ℕ, List, [], ℤ, pos, map, Option, Some, None}
 use Rattle.pop_net.specs.LeafModel.{LeafModel}
 use Rattle.pop_net.specs.NetModel.{NetModel}
 use Rattle.pres_ast.specs.PredTree.{PredTree, LessThan, Congruent, Negation, Conjunction, Disjunction}
