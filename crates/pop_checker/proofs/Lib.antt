@@ -7,4 +7,4 @@ pub mod Outputs
 pub mod Meetings
 pub mod Settles
 pub mod Verdicts
-mod RightEnds
+pub mod RightEnds
