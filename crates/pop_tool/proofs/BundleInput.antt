@@ -1,10 +1,9 @@
 -- The order in which a bundle and a crowd line are examined, what they are, and what a valid proof in a bundle shows.
-use Rattle.std.proofs.Common.{◌≡◌, ℕ, List, Option, Some, Result, Ok, refl, sym, subst}
+use Rattle.std.proofs.Common.{ℕ, List, Some, Ok, refl, sym, subst}
 use Rattle.serde_json.specs.Data.{Data}
 use Rattle.cert_base.specs.ProofBound.{proof_bound}
 use Rattle.cert_json.specs.declared.bundle.Bundle.{Bundle}
 use Rattle.cert_json.specs.BundleFile.{IsBundleFile}
-use Rattle.cert_json.specs.Bundles.{bundle_at}
 use Rattle.cert_json.proofs.BundleLaws.{bundle_takes, bundle_again}
 use Rattle.cert_json.proofs.ReadPreds.{file_net, file_preds}
 use Rattle.pop_checker.specs.Computes.{Computes}

@@ -1,9 +1,8 @@
 -- Valid input is answered where nothing fails but memory.
-use Rattle.std.proofs.Common.{◌≡◌, ◌⊎◌, inl, inr, ℕ, List, Option, Some, refl, sym, subst, arith}
+use Rattle.std.proofs.Common.{inl, inr, ℕ, List, Option, Some, refl, sym, subst, arith}
 use Rattle.std.specs.Prelude.{◌≢◌}
 use Rattle.pop_io.specs.Causes.{HasRisen}
 use Rattle.tool_texts.specs.declared.output.Output.{Output}
-use Rattle.tool_texts.specs.declared.output.Ending.TheVariants as ending
 use Rattle.tool_texts.specs.declared.status.Status.{Status}
 use Rattle.tool_texts.specs.declared.status.Status.TheVariants.{Done, Usage, Refused, Rejected, Undecided, Differs, ReadFault, WriteFault, NoMemory}
 use Rattle.pop_tool.specs.Answer.{Answer}

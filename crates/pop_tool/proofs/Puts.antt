@@ -1,6 +1,6 @@
 -- What a sink did with an output is the call's outcome.
 use Rattle.std.proofs.Common.{◌≡◌, inl, inr, ℕ, List, Option, Result, Ok, Err, refl, sym, ap, subst, ◌∙◌}
-use Rattle.std.specs.Prelude.{◌≢◌, true, false, IfOk, MatchResult}
+use Rattle.std.specs.Prelude.{◌≢◌, false, IfOk, MatchResult}
 use Rattle.std.specs.Io.KnownBytes.{Appends, Keeps}
 use Rattle.pop_io.specs.Causes.{HasRisen}
 use Rattle.tool_texts.specs.declared.output.Output.{Output}

@@ -1,12 +1,12 @@
 -- What a printed text of `replay` says of a journal.
-use Rattle.std.proofs.Common.{◌≡◌, ℕ, ◌+◌, ◌<◌, ◌≤◌, ◌^◌, Bool, true, false, nat_lt, List, [], ◌∷◌, ◌++◌, length, decimal, Option, Some, None, Result, Ok, Err, refl, sym, ap, subst, ◌∙◌, arith}
+use Rattle.std.proofs.Common.{◌≡◌, ℕ, ◌+◌, ◌<◌, ◌≤◌, ◌^◌, Bool, true, false, nat_lt, List, [], ◌∷◌, length, Option, Some, None, Result, Ok, Err, refl, sym, ap, subst, ◌∙◌, arith}
 use Rattle.std.specs.Prelude.{MatchBool}
 use Rattle.std.proofs.lemmas.Bool.{le-ltb, ltb-false}
 use Rattle.std.proofs.lemmas.Fmt.{decimal_injective}
 use Rattle.std.proofs.lemmas.List.{append_cancel_right}
 use Rattle.pop_io.specs.declared.whole.TheConstants.{INPUT_LIMIT}
 use Rattle.pop_lines.specs.Lines.{lines_of, ended}
-use Rattle.pop_net.specs.NetModel.{NetModel, CrowdModel}
+use Rattle.pop_net.specs.NetModel.{CrowdModel}
 use Rattle.pop_net.specs.InputCrowd.{input_crowd}
 use Rattle.pop_net.proofs.Tuples.{input_tuples}
 use Rattle.pop_crowd.specs.declared.limits.TheConstants.{AGENT_LEAST, AGENT_LIMIT}
@@ -28,8 +28,6 @@ use Rattle.pop_checker.proofs.OneFault.{none_rejected}
 use Rattle.tool_texts.specs.declared.refusal.Refusal.{Refusal}
 use Rattle.tool_texts.specs.declared.refusal.Refusal.TheVariants.{TooLong}
 use Rattle.tool_texts.specs.declared.output.Output.{Output}
-use Rattle.tool_texts.specs.declared.status.Status.TheVariants.{Done}
-use Rattle.tool_texts.specs.Statuses.{status_of}
 use Rattle.tool_texts.specs.Steps.{◌>>=◌, After}
 use Rattle.tool_texts.specs.Lines.{two_and_some}
 use Rattle.tool_texts.specs.Differences.{difference_text}

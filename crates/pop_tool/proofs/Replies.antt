@@ -18,7 +18,7 @@ use Rattle.tool_texts.specs.Refusals.{usage_output, refusal_output, output_for, 
 use Rattle.tool_commands.specs.Commands.{CommandGives, reads}
 use Rattle.tool_commands.proofs.Endings.{given_ending}
 use Rattle.pop_tool.specs.Answer.{InputGives, IsOfCommand, OfMeaning, Answer}
-use Rattle.pop_tool.specs.Source.{IsReadToEnd, meaning_reads, words_read}
+use Rattle.pop_tool.specs.Source.{IsReadToEnd, meaning_reads}
 use Rattle.pop_tool.specs.Outcome.{HasLeft}
 use Rattle.pop_tool.specs.Written.{IsRightOutput}
 

@@ -1,5 +1,5 @@
 -- What a run wrote is a journal that holds.
-use Rattle.std.proofs.Common.{◌≡◌, ◌≢◌, ℕ, ◌*◌, ◌≤◌, ◌==◌, Bool, true, false, List, [], ◌∷◌, ◌++◌, length, codes, Option, Some, None, Result, Ok, All, refl, sym, ap, subst, ◌∙◌, arith, append-nil}
+use Rattle.std.proofs.Common.{◌≡◌, ◌≢◌, ℕ, ◌*◌, ◌≤◌, ◌==◌, Bool, List, [], ◌∷◌, ◌++◌, length, Option, Some, None, Result, Ok, All, refl, sym, ap, subst, ◌∙◌, arith, append-nil}
 use Rattle.std.specs.List.{list_any}
 use Rattle.std.proofs.lemmas.Bool.{ne_eqb, or_from}
 use Rattle.std.proofs.lemmas.List.Elements.{All-head, All-tail}
@@ -28,12 +28,10 @@ use Rattle.pop_words.proofs.Limits.{run_bounded}
 use Rattle.pair_workers.specs.Run.{joined}
 use Rattle.pop_journal.specs.declared.journal.Journal.{Journal}
 use Rattle.pop_journal.specs.declared.last.Last.{Last}
-use Rattle.pop_journal.specs.declared.last.Last.TheVariants as last
-use Rattle.pop_journal.specs.Journal.{journal_text, text_of}
-use Rattle.pop_journal.specs.Ending.{common_output, least_pair, ending_for, ending_of}
+use Rattle.pop_journal.specs.Journal.{journal_text}
+use Rattle.pop_journal.specs.Ending.{common_output, ending_for, ending_of}
 use Rattle.pop_journal.specs.Expected.{tail_text, Holds}
 use Rattle.pop_journal.specs.Laws.{IsReadBack}
-use Rattle.pop_journal.specs.Form.{journal_in}
 use Rattle.pop_journal.proofs.Looks.{least_some, least_of_terminal, common_some}
 use Rattle.pop_journal.proofs.Feeds.{IsUnbroken, lines_text}
 use Rattle.pop_journal.proofs.Written.{written_is_held}
@@ -47,7 +45,7 @@ use Rattle.tool_commands.specs.declared.replay.TheConstants.{JOURNAL_LINE}
 use Rattle.tool_commands.specs.Bundles.{begun}
 use Rattle.tool_commands.specs.Play.{IsLast}
 use Rattle.tool_commands.specs.Run.{journal_end}
-use Rattle.tool_commands.specs.Replay.{holds_output, journal_read}
+use Rattle.tool_commands.specs.Replay.{journal_read}
 use Rattle.tool_commands.proofs.InputSize.{length-input_crowd}
 use Rattle.tool_commands.proofs.Begun.{begun_two, begun_few}
 use Rattle.tool_commands.proofs.Ran.{run_reaches, run_tuples}

@@ -1,12 +1,9 @@
 -- What a printed text of `settle` says of a bundle.
-use Rattle.std.proofs.Common.{◌≡◌, ℕ, ◌*◌, Bool, true, false, nat_lt, List, [], ◌∷◌, length, Option, Some, None, Result, Ok, Err, refl, sym, ap, subst}
-use Rattle.std.specs.Prelude.{All, MatchBool}
+use Rattle.std.proofs.Common.{◌≡◌, ℕ, Bool, true, false, nat_lt, List, [], ◌∷◌, length, Option, Some, None, Result, Ok, Err, refl, ap, subst}
+use Rattle.std.specs.Prelude.{MatchBool}
 use Rattle.pop_io.specs.declared.whole.TheConstants.{INPUT_LIMIT}
 use Rattle.pop_lines.specs.Lines.{lines_of}
-use Rattle.pop_net.specs.NetModel.{NetModel, CrowdModel, IsTuple}
 use Rattle.pop_net.specs.InputCrowd.{input_crowd}
-use Rattle.pop_net.specs.Step.{Step}
-use Rattle.pop_net.specs.Terminal.{IsTerminal}
 use Rattle.pop_net.proofs.Tuples.{input_tuples}
 use Rattle.pop_words.specs.declared.command.Command.TheVariants.{Settle}
 use Rattle.cert_json.specs.declared.bundle.Bundle.{Bundle}

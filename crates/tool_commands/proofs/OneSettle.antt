@@ -1,5 +1,5 @@
 -- A crowd is settled in one way.
-use Rattle.std.proofs.Common.{◌≡◌, ℕ, Bool, true, false, nat_lt, List, Option, Some, None, Result, Ok, Err, sym, ap, subst, ◌∙◌}
+use Rattle.std.proofs.Common.{◌≡◌, ℕ, Bool, true, false, nat_lt, List, Option, Some, None, Result, Ok, Err, sym, subst, ◌∙◌}
 use Rattle.std.specs.Prelude.{MatchBool}
 use Rattle.pop_net.specs.InputCrowd.{input_crowd}
 use Rattle.cert_json.specs.declared.bundle.Bundle.{Bundle}

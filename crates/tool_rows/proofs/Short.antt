@@ -1,6 +1,5 @@
 -- What is written for no words is short.
-use Rattle.std.proofs.Common.{◌≡◌, ◌⊎◌, inl, inr, ℕ, ◌≤◌, List, [], ◌++◌, length, Option, ap, arith, length-append}
-use Rattle.std.specs.Prelude.{codes, decimal}
+use Rattle.std.proofs.Common.{inl, inr, ℕ, ◌≤◌, List, [], length, Option, ap, arith, length-append}
 use Rattle.std.proofs.lemmas.Fmt.{length-decimal-le}
 use Rattle.tool_texts.specs.declared.output.Output.{Output}
 use Rattle.pop_tool.specs.Outcome.{IsReply}

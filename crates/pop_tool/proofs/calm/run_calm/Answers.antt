@@ -1,4 +1,4 @@
-use Rattle.std.proofs.Common.{map, Some}
+use Rattle.std.proofs.Common.{map}
 use Rattle.pop_tool.proofs.Complete.{still, carried_out}
 use Rattle.pop_tool.proofs.calm.run_calm.Goals as goal
 
