@@ -20,8 +20,7 @@ WORKERS = (1, 2, 4)
 # The first part with a word that a function's name has.
 PARTS = [
     ("waiting for a lock", ["sched_yield", "__schedule", "finish_task_switch", "schedule", "futex"]),
-    ("locks", ["Field::lock", "unlock"]),
-    ("words and ticket of a meeting", ["Field::meet", "Crowd::meet", "Net::react"]),
+    ("words, locks and ticket of a meeting", ["Field::meet", "Field::lock", "unlock", "Crowd::meet", "Net::react"]),
     ("picks and the loop of meetings", ["Picker", "work::work", "play_round"]),
     ("opening the field of a round", ["Field::open", "words_of", "layout"]),
     ("closing it: the logs by ticket", ["Field::close", "Field::join", "run_round"]),
