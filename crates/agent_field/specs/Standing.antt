@@ -1,6 +1,6 @@
 -- FieldStands: the rule of the field's table, over its words and the views of all seats.
 -- The clock and the founder word come first, then the lock words of the shards and the words of the agents.
-use Rattle.std.specs.Prelude.{◌≡◌, ℕ, ◌+◌, ◌<◌, ◌≤◌, ◌%◌, ◌^◌, ◌⊎◌, ◌==◌, min, max, IsSome, Bool, true, false, List, [], ◌∷◌, ◌++◌}
+use Rattle.std.specs.Prelude.{◌≡◌, ℕ, ◌+◌, ◌<◌, ◌≤◌, ◌%◌, ◌⊎◌, ◌==◌, min, max, IsSome, Bool, true, false, List, [], ◌∷◌, ◌++◌}
 use Rattle.std.specs.Prelude.{length, map, take, replicate, slice_index, slice_index_or, Option as Maybe, Some as Given, None as Missing}
 use mathlib.Core.Option.{Option, none, some}
 use lib.ListN.{get_elem?}

@@ -2,7 +2,7 @@
 
 ghost use Rattle.std.specs.Prelude.{◌≡◌, ◌++◌, All, length, OnOk};
 ghost use Rattle.serde_json.specs.Written.{compact_text};
-ghost use Rattle.pop_io.specs.Names.{is_variable_name, AreNames};
+ghost use Rattle.pop_io.specs.Names.{variable_name, AreNames};
 ghost use Rattle.cert_json.specs.Written.{layer_data, leaf_proof_data, proof_data};
 
 use crate::list::{WriteItems, write_list};
@@ -113,7 +113,7 @@ fn write_part(
     names: &List<Text>,
 ) -> Result<(), NoMemory>
     requires count { part.now.pred.variables ≡ length names.now }
-    requires names { AreNames is_variable_name names.now }
+    requires names { AreNames variable_name names.now }
     ensures { OnOk result (out.new.items ≡ out.old.items ++ compact_text (leaf_proof_data names.now part.now)) }
 {
     push_text(out, b"{\"false\":")?;
@@ -134,12 +134,12 @@ fn write_part(
 
 impl WriteItems for Parts<'_> {
     ghost use Rattle.std.specs.Prelude.{◌≡◌, map, length, All};
-    ghost use Rattle.pop_io.specs.Names.{is_variable_name, AreNames};
+    ghost use Rattle.pop_io.specs.Names.{variable_name, AreNames};
     ghost use Rattle.cert_json.specs.Written.{leaf_proof_data};
 
     ghost can_write = { λ list.
         All (λ part. part.pred.variables ≡ length list.names.now) list.parts.now
-        × AreNames is_variable_name list.names.now };
+        × AreNames variable_name list.names.now };
 
     ghost items = { λ list. map (leaf_proof_data list.names.now) list.parts.now };
 
@@ -160,7 +160,7 @@ pub(crate) fn write_proof(
     names: &List<Text>,
 ) -> Result<(), NoMemory>
     requires count { All (λ part. part.pred.variables ≡ length names.now) proof.now.leaves }
-    requires names { AreNames is_variable_name names.now }
+    requires names { AreNames variable_name names.now }
     ensures { OnOk result (out.new.items ≡ out.old.items ++ compact_text (proof_data names.now proof.now)) }
 {
     let parts = proof.leaves.as_slice();

@@ -5,7 +5,7 @@ use Rattle.std.proofs.lemmas.Bool.{eq-eqb, le-leb, leb-true}
 use Rattle.std.proofs.lemmas.Bool.Decides.{eqb_tells}
 use Rattle.std.proofs.lemmas.List.Elements.{All-set}
 use Rattle.pop_net.specs.declared.leaf.Move.{Move}
-use Rattle.pop_net.specs.LeafModel.{LeafModel, IsLeaf, IsMoveBelow, one_at, is_silent}
+use Rattle.pop_net.specs.LeafModel.{LeafModel, IsLeaf, IsMoveBelow, one_at, silent_move}
 use Rattle.pop_net.specs.Step.{LeafMove, LeafStep}
 use Rattle.pop_net.proofs.Quiet.{All-slice_get}
 use Rattle.pop_net.proofs.Reactions.{and_left, and_right}
@@ -93,7 +93,7 @@ test_by crowd t (inr h) enabled =
 pub enabled_test-true : (crowd : List ℕ) (t : Move) → IsEnabledIn crowd t → enabled_test crowd t ≡ true
 enabled_test-true crowd t enabled = test_by crowd t (eqb_tells t.p t.q) enabled
 
-abbrev pub move_change : (leaf : LeafModel) (n : ℕ) (t : Move) → slice_get leaf.moves n ≡ Some t → is_silent t ≡ false → LeafMove leaf t.p t.q t.r t.s
+abbrev pub move_change : (leaf : LeafModel) (n : ℕ) (t : Move) → slice_get leaf.moves n ≡ Some t → silent_move t ≡ false → LeafMove leaf t.p t.q t.r t.s
 move_change leaf n t m s = record {
   number = n;
   taken = t;
@@ -103,7 +103,7 @@ move_change leaf n t m s = record {
 }
 
 -- the step of two agents that take a move
-abbrev pub move_step : (leaf : LeafModel) (crowd : List ℕ) (n : ℕ) (t : Move) (a b : ℕ) → slice_get leaf.moves n ≡ Some t → is_silent t ≡ false → a ≢ b → slice_get crowd a ≡ Some t.p → slice_get crowd b ≡ Some t.q → LeafStep leaf crowd (slice_set (slice_set crowd a t.r) b t.s)
+abbrev pub move_step : (leaf : LeafModel) (crowd : List ℕ) (n : ℕ) (t : Move) (a b : ℕ) → slice_get leaf.moves n ≡ Some t → silent_move t ≡ false → a ≢ b → slice_get crowd a ≡ Some t.p → slice_get crowd b ≡ Some t.q → LeafStep leaf crowd (slice_set (slice_set crowd a t.r) b t.s)
 move_step leaf crowd n t a b m s ne ha hb =
     record {
       a = a;

@@ -12,7 +12,7 @@ use Rattle.cert_base.specs.declared.fact.Fact.{Fact}
 use Rattle.cert_base.specs.declared.fact.Fact.TheVariants.{Holds}
 use Rattle.cert_base.specs.Rows.{move_variable, variable_count}
 use Rattle.cert_base.specs.ClosingTests.{coefficient_in}
-use Rattle.cert_base.specs.FactsAndCases.{states_of, flow, base_facts, two_agents, wrong_output}
+use Rattle.cert_base.specs.FactsAndCases.{states_of, flow, base_list, two_agents, wrong_output}
 use Rattle.cert_base.specs.WeightedSums.{weighted_sum, coefficient, constant_of}
 use Rattle.cert_base.specs.FlowLaw.{valued_flow, FlowLaw}
 use Rattle.cert_base.proofs.WeightedSums.{none_weighted, all_from, coefficient-sum, constant-sum}
@@ -35,17 +35,17 @@ module _ (leaf : LeafModel) (w : ℕ → ℤ) (p : PredModel) (b : Bool) where
   few_values : length (values leaf w) ≤ length (flows leaf)
   few_values = omega (arith, length-map-range_with_len w 0 (length leaf.states), length-map-range_with_len (flow leaf) 0 (length leaf.states))
 
-  few : length (values leaf w) ≤ length (base_facts leaf p b)
+  few : length (values leaf w) ≤ length (base_list leaf p b)
   few = omega (arith, few_values, length-append (flows leaf) (two_agents leaf ∷ Holds p b ∷ wrong_output leaf b ∷ []))
 
   flow-coefficient : (x : ℕ) → coefficient_in (valued_flow leaf w p b).terms x ≡ weighted_sum (coefficient x) (flows leaf) (values leaf w)
   flow-coefficient x =
-      coefficient-sum x (base_facts leaf p b) (base_facts leaf p b) 0 (values leaf w) (all_from (base_facts leaf p b)) few
+      coefficient-sum x (base_list leaf p b) (base_list leaf p b) 0 (values leaf w) (all_from (base_list leaf p b)) few
       ∙ weighted_sum-first (coefficient x) (flows leaf) (two_agents leaf ∷ Holds p b ∷ wrong_output leaf b ∷ []) (values leaf w) few_values
 
   flow-constant : (valued_flow leaf w p b).constant ≡ weighted_sum constant_of (flows leaf) (values leaf w)
   flow-constant =
-      constant-sum (base_facts leaf p b) (base_facts leaf p b) 0 (values leaf w) (all_from (base_facts leaf p b)) few
+      constant-sum (base_list leaf p b) (base_list leaf p b) 0 (values leaf w) (all_from (base_list leaf p b)) few
       ∙ weighted_sum-first constant_of (flows leaf) (two_agents leaf ∷ Holds p b ∷ wrong_output leaf b ∷ []) (values leaf w) few_values
 
   balanced-input : IsLeaf leaf → (i q : ℕ) → slice_get leaf.inputs i ≡ Some q → coefficient_in (valued_flow leaf w p b).terms i ≡ w q

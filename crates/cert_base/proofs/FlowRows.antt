@@ -15,7 +15,7 @@ use Rattle.cert_base.specs.declared.fact.Term.{Term}
 use Rattle.cert_base.specs.declared.fact.Fact.{Fact}
 use Rattle.cert_base.specs.declared.fact.Fact.TheVariants.{Eq}
 use Rattle.cert_base.specs.Rows.{terms_from, move_variable, state_variable}
-use Rattle.cert_base.specs.FactsAndCases.{indicator, states_of, helpers_in, is_in, flow}
+use Rattle.cert_base.specs.FactsAndCases.{indicator, states_of, helpers_starting, is_in, flow}
 use Rattle.cert_base.specs.Parts.{term_of, change_at, flow_terms, flow_rows, entered}
 use Rattle.cert_base.proofs.Numbers.{slice_get-set_other}
 use Rattle.cert_base.proofs.TermLists.{terms_from-cons, terms_from-append, terms_from-next, minus_one_at, terms_from-state}
@@ -172,7 +172,7 @@ map-same f g a (suc n) e =
     let rest = map-same f g (a + 1) n (λ z l m. e z (omega arith) (omega arith)) in
     cc
 
-flow_row : (leaf : LeafModel) (q : ℕ) → q < length leaf.states → Eq (record { terms = flow_terms leaf (length leaf.moves) q; constant = pos (helpers_in leaf q) }) ≡ flow leaf q
+flow_row : (leaf : LeafModel) (q : ℕ) → q < length leaf.states → Eq (record { terms = flow_terms leaf (length leaf.moves) q; constant = pos (helpers_starting leaf q) }) ≡ flow leaf q
 flow_row leaf q l =
     let inputs = map (λ start. indicator (start == q)) leaf.inputs in
     let states = map (λ z. neg_ℤ (indicator (z == q))) (states_of leaf) in
@@ -188,11 +188,11 @@ flow_row leaf q l =
     ∙ ap (λ k. terms_from 0 inputs ++ terms_from k (states ++ moves)) at_states
     ∙ ap (λ ts. terms_from 0 inputs ++ ts) (terms_from-append n states moves ∙ ap (λ ts. ts ++ terms_from (n + length states) moves) own ∙ ap (λ k. record { at = n + q; by = negsuc 0 } ∷ terms_from k moves) at_moves)
     ∙ ap (λ ms. terms_from 0 inputs ++ (record { at = n + q; by = negsuc 0 } ∷ terms_from (n + m + 0) (map (change_at q) ms))) (sym (take_all (length leaf.moves) leaf.moves (let k : length leaf.moves ≤ length leaf.moves = omega arith in k))) in
-    ap (λ ts. Eq (record { terms = ts; constant = pos (helpers_in leaf q) })) (sym all)
+    ap (λ ts. Eq (record { terms = ts; constant = pos (helpers_starting leaf q) })) (sym all)
 
 -- the facts of the rows after all moves
 abbrev pub fact_of : LeafModel → List Term × ℕ → Fact
-fact_of leaf row = Eq (record { terms = row.0; constant = pos (helpers_in leaf row.1) })
+fact_of leaf row = Eq (record { terms = row.0; constant = pos (helpers_starting leaf row.1) })
 
 map-zip : {A B : Type 0} (f : A × ℕ → B) (g : ℕ → A) (xs : List ℕ) → map f (zip (map g xs) xs) ≡ map (λ x. f (g x, x)) xs
 map-zip f g [] = refl

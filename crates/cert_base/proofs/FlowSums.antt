@@ -15,7 +15,7 @@ use Rattle.pop_net.specs.LeafModel.{LeafModel, one_at, pre, post, IsMoveBelow}
 use Rattle.cert_base.specs.declared.fact.Fact.{Fact}
 use Rattle.cert_base.specs.Rows.{terms_from}
 use Rattle.cert_base.specs.ClosingTests.{coefficient_in}
-use Rattle.cert_base.specs.FactsAndCases.{indicator, states_of, helpers_in, flow}
+use Rattle.cert_base.specs.FactsAndCases.{indicator, states_of, helpers_starting, flow}
 use Rattle.cert_base.proofs.Integers.{mul-add}
 use Rattle.cert_base.specs.WeightedSums.{weighted_sum, coefficient, constant_of, total}
 
@@ -285,5 +285,5 @@ each_variable leaf P inputs states moves past x = first (cases_lt x (length leaf
     first (inr l) = second (cases_lt x (length leaf.inputs + length leaf.states)) l
 
 -- the constant of the sum
-pub law-constant : (leaf : LeafModel) (w : ℕ → ℤ) → weighted_sum constant_of (map (flow leaf) (states_of leaf)) (map w (states_of leaf)) ≡ total (λ q. w q *ℤ pos (helpers_in leaf q)) (states_of leaf)
+pub law-constant : (leaf : LeafModel) (w : ℕ → ℤ) → weighted_sum constant_of (map (flow leaf) (states_of leaf)) (map w (states_of leaf)) ≡ total (λ q. w q *ℤ pos (helpers_starting leaf q)) (states_of leaf)
 law-constant leaf w = weighted_sum-map constant_of (flow leaf) w (states_of leaf)

@@ -1,10 +1,10 @@
 -- Two states can meet exactly when a reaction changes them.
-use Rattle.std.proofs.Common.{◌≡◌, ℕ, Bool, true, false, cond, List, [], ◌∷◌, refl, ap, sym, ◌∙◌}
+use Rattle.std.proofs.Common.{◌≡◌, ℕ, Bool, true, false, cond, List, [], ◌∷◌, refl, sym, ◌∙◌}
 use Rattle.std.specs.Prelude.{Some, None, Option, find, is_some, not, ◌&&◌, ◌||◌, ◌==◌}
 use Rattle.std.specs.List.{list_any}
 use Rattle.std.proofs.lemmas.Bool.{eq-eqb, eqb-true}
 use Rattle.pop_net.specs.declared.leaf.Move.{Move}
-use Rattle.pop_net.specs.LeafModel.{LeafModel, is_silent, same_pair}
+use Rattle.pop_net.specs.LeafModel.{LeafModel, silent_move, same_pair}
 use Rattle.pop_net.specs.Reaction.{takes, after_move, by_move, leaf_reaction}
 use Rattle.pop_net.proofs.Found.{find_some}
 use Rattle.pop_net.proofs.Reactions.{and_left, and_right, or_right, not_true}
@@ -19,7 +19,7 @@ any-find test (t ∷ moves) = go (test t) (any-find test moves)
     go false e = e
 
 -- a move that isn't silent changes its two states
-silent-same : (t : Move) → t.r ≡ t.p → t.s ≡ t.q → is_silent t ≡ true
+silent-same : (t : Move) → t.r ≡ t.p → t.s ≡ t.q → silent_move t ≡ true
 silent-same t e f = let a = eq-eqb t.p t.r (sym e) in let b = eq-eqb t.q t.s (sym f) in rw (a, b) refl
 
 changed : (x y p q : ℕ) → ((x ≡ p) → (y ≡ q) → ⊥) → (not (x == p) || not (y == q)) ≡ true
@@ -30,18 +30,18 @@ changed x y p q h = go (x == p) (y == q) refl refl
     go true false e f = refl
     go false d e f = refl
 
-loud-contradicts : (t : Move) → is_silent t ≡ true → is_silent t ≡ false → ⊥
+loud-contradicts : (t : Move) → silent_move t ≡ true → silent_move t ≡ false → ⊥
 loud-contradicts t e f = absurd (let g : true ≡ false = sym e ∙ f in cc)
 
 after-changes : (p q : ℕ) (t : Move) (b : Bool) → ((p == t.p) && (q == t.q)) ≡ b → takes p q t ≡ true → (not ((after_move b t).0 == p) || not ((after_move b t).1 == q)) ≡ true
 after-changes p q t true e h =
-    let loud = not_true (is_silent t) (and_left (not (is_silent t)) (same_pair p q t.p t.q) h) in
+    let loud = not_true (silent_move t) (and_left (not (silent_move t)) (same_pair p q t.p t.q) h) in
     let first = eqb-true p t.p (and_left (p == t.p) (q == t.q) e) in
     let second = eqb-true q t.q (and_right (p == t.p) (q == t.q) e) in
     changed t.r t.s p q (λ f g. loud-contradicts t (silent-same t (f ∙ first) (g ∙ second)) loud)
 after-changes p q t false e h =
-    let loud = not_true (is_silent t) (and_left (not (is_silent t)) (same_pair p q t.p t.q) h) in
-    let other = or_right ((p == t.p) && (q == t.q)) ((p == t.q) && (q == t.p)) (and_right (not (is_silent t)) (same_pair p q t.p t.q) h) e in
+    let loud = not_true (silent_move t) (and_left (not (silent_move t)) (same_pair p q t.p t.q) h) in
+    let other = or_right ((p == t.p) && (q == t.q)) ((p == t.q) && (q == t.p)) (and_right (not (silent_move t)) (same_pair p q t.p t.q) h) e in
     let first = eqb-true p t.q (and_left (p == t.q) (q == t.p) other) in
     let second = eqb-true q t.p (and_right (p == t.q) (q == t.p) other) in
     changed t.s t.r p q (λ f g. loud-contradicts t (silent-same t (g ∙ second) (f ∙ first)) loud)

@@ -15,7 +15,7 @@ use Rattle.cert_base.specs.declared.fact.Term.{Term}
 use Rattle.cert_base.specs.declared.fact.Row.{Row}
 use Rattle.cert_base.specs.declared.fact.Fact.{Fact}
 use Rattle.cert_base.specs.Rows.{terms_from, zeros}
-use Rattle.cert_base.specs.ClosingTests.{row_of, times, add_rows, scaled, sum_of, coefficient_in, each_coefficient, may_have, all_named, may_add, linear_closes, may_add_modulo, residue_closes, denies}
+use Rattle.cert_base.specs.ClosingTests.{row_of, times, add_rows, scaled, sum_of, coefficient_in, each_coefficient, may_have, all_named, may_add, closes_by_sum, may_add_modulo, closes_by_residue, denies}
 use Rattle.cert_base.proofs.Integers.{mul-add}
 use Rattle.cert_base.specs.WeightedSums.{weighted_sum, coefficient, constant_of, may_weigh, StandFrom}
 
@@ -166,7 +166,7 @@ list_any-from {A} test (y ∷ xs) x (suc k, l, h) e =
     or_yes false r = r
 
 -- the closing tests
-pub linear_closes-weighted : (facts : List Fact) (ms : List ℤ) → may_weigh may_add facts ms ≡ true → ((x : ℕ) → weighted_sum (coefficient x) facts ms ≤ℤ pos 0) → weighted_sum constant_of facts ms ≤ℤ negsuc 0 → linear_closes facts (terms_from 0 ms) ≡ true
+pub linear_closes-weighted : (facts : List Fact) (ms : List ℤ) → may_weigh may_add facts ms ≡ true → ((x : ℕ) → weighted_sum (coefficient x) facts ms ≤ℤ pos 0) → weighted_sum constant_of facts ms ≤ℤ negsuc 0 → closes_by_sum facts (terms_from 0 ms) ≡ true
 linear_closes-weighted facts ms may low constant =
     let l = may_weigh-short may_add facts ms may in
     let named = all_named-weighted may_add facts facts 0 ms (all_from facts) may in
@@ -175,7 +175,7 @@ linear_closes-weighted facts ms may low constant =
     rw (named, each, last) refl
 
 -- modulo m, by the constant alone
-pub residue_closes-constant : (facts : List Fact) (m : ℕ) (ms : List ℤ) → may_weigh (may_add_modulo m) facts ms ≡ true → ((x : ℕ) → divides m (weighted_sum (coefficient x) facts ms) ≡ true) → divides m (weighted_sum constant_of facts ms) ≡ false → residue_closes facts m (terms_from 0 ms) ≡ true
+pub residue_closes-constant : (facts : List Fact) (m : ℕ) (ms : List ℤ) → may_weigh (may_add_modulo m) facts ms ≡ true → ((x : ℕ) → divides m (weighted_sum (coefficient x) facts ms) ≡ true) → divides m (weighted_sum constant_of facts ms) ≡ false → closes_by_residue facts m (terms_from 0 ms) ≡ true
 residue_closes-constant facts m ms may even odd =
     let l = may_weigh-short (may_add_modulo m) facts ms may in
     let named = all_named-weighted (may_add_modulo m) facts facts 0 ms (all_from facts) may in
@@ -184,7 +184,7 @@ residue_closes-constant facts m ms may even odd =
     rw (named, each, last) refl
 
 -- modulo m, by a fact that denies it
-pub residue_closes-denied : (facts : List Fact) (m : ℕ) (ms : List ℤ) (row : Row) → Contains facts (NotCong row m) → may_weigh (may_add_modulo m) facts ms ≡ true → ((x : ℕ) → divides m (weighted_sum (coefficient x) facts ms +ℤ (negsuc 0 *ℤ coefficient_in row.terms x)) ≡ true) → divides m (weighted_sum constant_of facts ms +ℤ (negsuc 0 *ℤ row.constant)) ≡ true → residue_closes facts m (terms_from 0 ms) ≡ true
+pub residue_closes-denied : (facts : List Fact) (m : ℕ) (ms : List ℤ) (row : Row) → Contains facts (NotCong row m) → may_weigh (may_add_modulo m) facts ms ≡ true → ((x : ℕ) → divides m (weighted_sum (coefficient x) facts ms +ℤ (negsuc 0 *ℤ coefficient_in row.terms x)) ≡ true) → divides m (weighted_sum constant_of facts ms +ℤ (negsuc 0 *ℤ row.constant)) ≡ true → closes_by_residue facts m (terms_from 0 ms) ≡ true
 residue_closes-denied facts m ms row there may even constant =
     let l = may_weigh-short (may_add_modulo m) facts ms may in
     let named = all_named-weighted (may_add_modulo m) facts facts 0 ms (all_from facts) may in

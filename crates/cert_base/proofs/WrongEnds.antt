@@ -13,7 +13,7 @@ use Rattle.pop_net.specs.LeafModel.{LeafModel, IsLeaf, one_at}
 use Rattle.pop_net.proofs.Quiet.{All-slice_get}
 use Rattle.cert_base.specs.declared.fact.Fact.TheVariants.{Holds}
 use Rattle.cert_base.specs.Valuation.{Valuation, MeetsFact, input_counts}
-use Rattle.cert_base.specs.FactsAndCases.{states_of, flow, two_agents, differs, wrong_output, base_facts}
+use Rattle.cert_base.specs.FactsAndCases.{states_of, flow, two_agents, differs, wrong_output, base_list}
 use Rattle.cert_base.specs.Ends.{IsWrongEnd, HoldAtWrongEnds}
 use Rattle.cert_base.proofs.Dead.{one_there}
 use Rattle.cert_base.proofs.FlowFacts.{dot, terms_value-terms_from, flow_met}
@@ -114,10 +114,10 @@ module _ (leaf : LeafModel) (p : PredModel) (value : Bool) (count : Valuation) (
       let some = some_wrong (cases_lt 0 (sum_if count is_wrong (length leaf.inputs) (states_of leaf))) in
       omega (arith, ints, row, some)
 
-  all_met : All (MeetsFact count) (base_facts leaf p value)
+  all_met : All (MeetsFact count) (base_list leaf p value)
   all_met =
       All-append (MeetsFact count) (map (flow leaf) (states_of leaf)) (two_agents leaf ∷ Holds p value ∷ wrong_output leaf value ∷ []) flows_met
       (All-cons (MeetsFact count) (two_agents leaf) (Holds p value ∷ wrong_output leaf value ∷ []) two_met (All-cons (MeetsFact count) (Holds p value) (wrong_output leaf value ∷ []) holds_met (All-cons (MeetsFact count) (wrong_output leaf value) [] wrong_met (All-nil (MeetsFact count)))))
 
-pub wrong_ends-met : (leaf : LeafModel) (p : PredModel) (value : Bool) → IsLeaf leaf → p.variables ≡ length leaf.inputs → HoldAtWrongEnds leaf p.tree value (base_facts leaf p value)
+pub wrong_ends-met : (leaf : LeafModel) (p : PredModel) (value : Bool) → IsLeaf leaf → p.variables ≡ length leaf.inputs → HoldAtWrongEnds leaf p.tree value (base_list leaf p value)
 wrong_ends-met leaf p value is variables count end = all_met leaf p value count is variables end

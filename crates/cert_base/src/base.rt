@@ -1,7 +1,7 @@
 //! The facts that every wrong end meets.
 
 ghost use Rattle.std.specs.Prelude.{◌≡◌, ◌<◌, length, map, slice_index_or, false, IfOk};
-ghost use Rattle.cert_base.specs.FactsAndCases.{indicator, states_of, differs, base_facts as base_list};
+ghost use Rattle.cert_base.specs.FactsAndCases.{indicator, states_of, differs, base_list};
 ghost use Rattle.cert_base.specs.FactsAndCases.{two_agents as at_least_two, wrong_output as some_wrong};
 ghost use Rattle.cert_base.specs.Ends.{HoldAtWrongEnds};
 

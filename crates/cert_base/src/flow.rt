@@ -3,7 +3,7 @@
 ghost use Rattle.std.specs.Prelude.{◌≡◌, ◌<◌, ◌+◌, ◌++◌, length, map, slice_index_or, IfOk, OnOk, pos, []};
 ghost use Rattle.std.specs.List.{zip};
 ghost use Rattle.pop_net.specs.LeafModel.{IsLeaf, times_in as times_in_pair};
-ghost use Rattle.cert_base.specs.FactsAndCases.{flow, states_of, helpers_in as count_in};
+ghost use Rattle.cert_base.specs.FactsAndCases.{flow, states_of, helpers_starting};
 ghost use Rattle.cert_base.specs.Parts.{term_of, change_at, input_terms as input_part, flow_terms};
 ghost use Rattle.cert_base.specs.Parts.{flow_rows as rows_after, entered};
 ghost use Rattle.cert_base.specs.declared.fact.Fact.TheVariants.{Eq};
@@ -27,7 +27,7 @@ pub(crate) fn flow_facts(alloc: Global, leaf: &Leaf) -> Result<Vec<Fact>, NoMemo
 /// The facts of the states' rows, with the helpers that are in each state.
 fn facts_of(alloc: Global, leaf: &Leaf, rows: Vec<Terms>) -> Result<Vec<Fact>, NoMemory>
     ensures { IfOk result (λ facts. facts.items
-        ≡ map (λ row. Eq (record { terms = row.0; constant = pos (count_in leaf.now row.1) }))
+        ≡ map (λ row. Eq (record { terms = row.0; constant = pos (helpers_starting leaf.now row.1) }))
         (zip rows.items (states_of leaf.now))) }
 {
     let facts = rows

@@ -1,13 +1,13 @@
 //! The helpers of a leaf, by their states.
 
 ghost use Rattle.std.specs.Prelude.{◌≡◌};
-ghost use Rattle.cert_base.specs.FactsAndCases.{helpers_in as count_in};
+ghost use Rattle.cert_base.specs.FactsAndCases.{helpers_starting};
 
 use pop_net::Leaf;
 
 /// How many helpers are in a state.
 pub(crate) fn helpers_in(leaf: &Leaf, q: u16) -> u32
-    ensures { result ≡ count_in leaf.now q }
+    ensures { result ≡ helpers_starting leaf.now q }
 {
     let mut count = 0;
     for j in 0..leaf.helper_count() {

@@ -8,7 +8,7 @@ use Rattle.std.proofs.lemmas.Bool.{leb-true}
 use Rattle.std.proofs.lemmas.Fmt.{length-decimal-le, length_signed_le}
 use Rattle.std.proofs.lemmas.List.Elements.{All-head, All-tail}
 use Rattle.pop_io.specs.declared.names.TheConstants.{VARIABLE_LIMIT}
-use Rattle.pop_io.specs.Names.{is_variable_name, is_name_byte, starts_name, AreNames}
+use Rattle.pop_io.specs.Names.{variable_name, is_name_byte, starts_name, AreNames}
 use Rattle.pres_ast.specs.PredTree.{PredTree, LessThan, Congruent, Negation, Conjunction, Disjunction}
 use Rattle.pres_ast.specs.PredModel.{HasAtoms, weight_of, IsPred}
 use Rattle.pres_read.specs.Canonical.{is_zero, is_negative, term_text, sign_text, terms_text, zero_text, sum_text, tree_text}
@@ -22,11 +22,11 @@ short_by true true false d h = h
 short_by true false c d h = absurd cc
 short_by false b c d h = absurd cc
 
-short_name : (name : List ℕ) → IsTrue (is_variable_name name) → length name ≤ 32
+short_name : (name : List ℕ) → IsTrue (variable_name name) → length name ≤ 32
 short_name name h =
     leb-true (length name) 32 (short_by (starts_name name) (list_all is_name_byte name) (nat_le (length name) 32) (not (bytes_eq name (codes "mod"))) h)
 
-short_names : (names : List (List ℕ)) → AreNames is_variable_name names → AreShort names
+short_names : (names : List (List ℕ)) → AreNames variable_name names → AreShort names
 short_names names named = λ i name within. short_name _ (named.0 i name within)
 
 term_short : (k : ℕ) (name : List ℕ) → k ≤ 2 ^ 31 → length name ≤ 32 → length (term_text k name) ≤ 43
@@ -124,7 +124,7 @@ module _ (names : List (List ℕ)) (short : AreShort names) (few : length names 
   tree_short (Conjunction p q) atoms = two_short (codes " && ") (tree_text names p) (tree_text names q) (weight_of p) (weight_of q) refl (tree_short p atoms.0) (tree_short q atoms.1)
   tree_short (Disjunction p q) atoms = two_short (codes " || ") (tree_text names p) (tree_text names q) (weight_of p) (weight_of q) refl (tree_short p atoms.0) (tree_short q atoms.1)
 
-pub text_short : (names : List (List ℕ)) (t : PredTree) → AreNames is_variable_name names → IsPred (length names) t → length (tree_text names t) ≤ 1048576
+pub text_short : (names : List (List ℕ)) (t : PredTree) → AreNames variable_name names → IsPred (length names) t → length (tree_text names t) ≤ 1048576
 text_short names t named limits =
     let s = tree_short names (short_names names named) limits.variables t limits.atoms in
     omega (arith, s, limits.weight)

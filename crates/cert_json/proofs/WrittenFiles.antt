@@ -7,7 +7,7 @@ use Rattle.serde_json.specs.Find.{get}
 use Rattle.serde_json.specs.View.{view, items_of}
 use Rattle.serde_json.specs.declared.value.Value.{Value}
 use Rattle.pop_io.specs.declared.fault.NoMemory.{NoMemory}
-use Rattle.pop_io.specs.Names.{is_variable_name, AreNames}
+use Rattle.pop_io.specs.Names.{variable_name, AreNames}
 use Rattle.json_shape.specs.Parts.{IsNumber, IsInteger, IsList}
 use Rattle.pres_ast.specs.PredModel.{PredModel, IsPred}
 use Rattle.pres_read.specs.Canonical.{tree_text}
@@ -67,7 +67,7 @@ layer_is layer fits =
       weights = (integers_data layer.weights, refl, written_list IsSmall IsInteger integer_data integer_is layer.weights fits.weights);
     }
 
-module _ (names : List (List ℕ)) (named : AreNames is_variable_name names) where
+module _ (names : List (List ℕ)) (named : AreNames variable_name names) where
   pred_is : (p : PredModel) → p.variables ≡ length names → IsPred (length names) p.tree → IsPredText names p (string (tree_text names p.tree))
   pred_is p over limits = (
     tree_text names p.tree,

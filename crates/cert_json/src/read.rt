@@ -2,7 +2,7 @@
 
 ghost use Rattle.std.specs.Prelude.{◌≡◌, ◌≢◌, ◌≤◌, length, IfOk, IfErr};
 ghost use Rattle.serde_json.specs.View.{view};
-ghost use Rattle.pop_io.specs.Names.{is_variable_name, AreNames};
+ghost use Rattle.pop_io.specs.Names.{variable_name, AreNames};
 ghost use Rattle.json_shape.specs.Faults.{Gives};
 ghost use Rattle.json_shape.specs.Paths.{path_text};
 ghost use Rattle.cert_base.specs.declared.proof.Proof.{Proof};
@@ -33,7 +33,7 @@ pub(crate) fn pred_of(
 ) -> Result<Pred, FormatFault>
     requires some { 1 ≤ length names.now }
     requires few { length names.now ≤ VARIABLE_LIMIT }
-    requires names { AreNames is_variable_name names.now }
+    requires names { AreNames variable_name names.now }
     ensures pred { Gives (λ pred. pred) result (pred_at names.now (path_text path.now) (view value.now)) }
     ensures variables { IfOk result (λ pred. pred.variables ≡ length names.now) }
 {
@@ -58,14 +58,14 @@ struct LeafProofs<'a> {
 
 impl<'a> ReadItem for LeafProofs<'a> {
     ghost use Rattle.std.specs.Prelude.{◌≤◌, length};
-    ghost use Rattle.pop_io.specs.Names.{is_variable_name, AreNames};
+    ghost use Rattle.pop_io.specs.Names.{variable_name, AreNames};
     ghost use Rattle.pop_io.specs.declared.names.TheConstants.{VARIABLE_LIMIT};
     ghost use Rattle.cert_json.specs.Examined.{leaf_proof_item};
 
     type Item = LeafProof;
 
     ghost can_read = { λ reader. (1 ≤ length reader.names.now) × (length reader.names.now ≤ VARIABLE_LIMIT)
-        × AreNames is_variable_name reader.names.now };
+        × AreNames variable_name reader.names.now };
 
     ghost item_at = { λ reader. leaf_proof_item reader.names.now };
 
@@ -104,7 +104,7 @@ fn leaf_proofs_of(
 ) -> Result<List<LeafProof>, FormatFault>
     requires some { 1 ≤ length names.now }
     requires few { length names.now ≤ VARIABLE_LIMIT }
-    requires names { AreNames is_variable_name names.now }
+    requires names { AreNames variable_name names.now }
     ensures { Gives (λ parts. parts) result
         (leaf_proofs_at names.now leaves (path_text path.now) (view value.now)) }
 {

@@ -5,7 +5,7 @@ ghost use Rattle.serde_json.specs.Data.{Data};
 ghost use Rattle.serde_json.specs.View.{view};
 ghost use Rattle.serde_json.specs.Find.{get};
 ghost use Rattle.std.specs.Prelude.{codes};
-ghost use Rattle.pop_io.specs.Names.{is_variable_name, AreNames};
+ghost use Rattle.pop_io.specs.Names.{variable_name, AreNames};
 ghost use Rattle.pres_ast.specs.PredModel.{IsPred};
 ghost use Rattle.net_json.specs.Written.{list_data, numbers_data};
 ghost use Rattle.cert_base.specs.ProofLimits.{IsProofWithin};
@@ -81,7 +81,7 @@ fn leaf_proof_object(
 #[tactic(auto, unfolding(crate::specs::Written::leaf_proof_data))]
 fn leaf_proof_value(alloc: Global, part: &LeafProof, names: &List<Text>) -> Result<Value, NoMemory>
     requires count { part.now.pred.variables ≡ length names.now }
-    requires names { AreNames is_variable_name names.now }
+    requires names { AreNames variable_name names.now }
     ensures value { IfOk result (λ v. view v ≡ leaf_proof_data names.now part.now) }
     ensures limits { IfOk result (λ v. IsPred (length names.now) part.now.pred.tree) }
 {
@@ -98,7 +98,7 @@ fn leaf_proof_value(alloc: Global, part: &LeafProof, names: &List<Text>) -> Resu
 #[tactic(auto, unfolding(crate::specs::Written::proof_data))]
 fn proof_value(alloc: Global, proof: &Proof, names: &List<Text>) -> Result<Value, NoMemory>
     requires count { All (λ part. part.pred.variables ≡ length names.now) proof.now.leaves }
-    requires names { AreNames is_variable_name names.now }
+    requires names { AreNames variable_name names.now }
     ensures value { IfOk result (λ v. view v ≡ proof_data names.now proof.now) }
     ensures limits { IfOk result (λ v. All (λ part. IsPred (length names.now) part.pred.tree) proof.now.leaves) }
 {
@@ -114,7 +114,7 @@ fn proof_value(alloc: Global, proof: &Proof, names: &List<Text>) -> Result<Value
 /// each predicate as its canonical text.
 pub fn write_proof(alloc: Global, proof: &Proof, names: &List<Text>) -> Result<Value, NoMemory>
     requires count { All (λ part. part.pred.variables ≡ length names.now) proof.now.leaves }
-    requires names { AreNames is_variable_name names.now }
+    requires names { AreNames variable_name names.now }
     ensures value { IfOk result (λ v. view v ≡ proof_data names.now proof.now) }
     // A bundle with this member, over these names and for as many leaves, is read to an equal proof, within the limits.
     ensures again { IfOk result (λ v. (bundle : Data) → get (codes "proof") bundle ≡ Some (view v)

@@ -5,7 +5,7 @@ use Rattle.std.specs.List.{list_any, range_with_len}
 use Rattle.std.proofs.lemmas.Bool.{and_cases, and_left, and_right, or_parts, or_cases, not-false, ltb-true, lt-ltb, cases_Bool, cases_lt, eqb-true}
 use Rattle.std.proofs.lemmas.Option.{slice_get_within, slice_get_past}
 use Rattle.pop_net.specs.declared.leaf.Move.{Move}
-use Rattle.pop_net.specs.LeafModel.{LeafModel, IsLeaf, IsMoveBelow, is_silent}
+use Rattle.pop_net.specs.LeafModel.{LeafModel, IsLeaf, IsMoveBelow, silent_move}
 use Rattle.pop_net.proofs.Quiet.{All-slice_get}
 use Rattle.pop_net.specs.FirstFault.{first_below}
 use Rattle.pop_net.proofs.FirstFault.{none_below}
@@ -59,7 +59,7 @@ module _ (early : ℕ → ℕ → Bool) (t : Move) where
       by_reason (inr none_beside) = by_brought (list_any-none states (wakes_beside early t) none_beside) (cases_Bool (brings t x)) (cases_Bool (brings t y))
 
 -- the states of an early move
-early_both : (leaf : LeafModel) (layer_of_move : List (Option ℕ)) (table : List ℕ) (i m j : ℕ) (u : Move) → IsLeaf leaf → IsTable leaf layer_of_move (length leaf.moves) table → i < 2 ^ 16 → slice_get leaf.moves m ≡ Some u → is_silent u ≡ false → layer_of layer_of_move m ≡ Some j → j < i → (is_early table i u.p u.q ≡ true) × (is_early table i u.q u.p ≡ true)
+early_both : (leaf : LeafModel) (layer_of_move : List (Option ℕ)) (table : List ℕ) (i m j : ℕ) (u : Move) → IsLeaf leaf → IsTable leaf layer_of_move (length leaf.moves) table → i < 2 ^ 16 → slice_get leaf.moves m ≡ Some u → silent_move u ≡ false → layer_of layer_of_move m ≡ Some j → j < i → (is_early table i u.p u.q ≡ true) × (is_early table i u.q u.p ≡ true)
 early_both leaf layer_of_move table i m j u formed h few move loud place before =
     let small = move_small leaf m u formed move in
     let within = slice_get_within leaf.moves m u move in
@@ -71,31 +71,31 @@ early_both leaf layer_of_move table i m j u formed h few move loud place before 
 pub asleep_move : (leaf : LeafModel) (layer_of_move : List (Option ℕ)) (table : List ℕ) (i : ℕ) (t : Move) → IsLeaf leaf → IsTable leaf layer_of_move (length leaf.moves) table → i < 2 ^ 16 → may_wake (is_early table i) t (length leaf.states) ≡ false → (m : ℕ) → wakes_move leaf layer_of_move table i t m ≡ false
 asleep_move leaf layer_of_move table i t formed h few none m = by_move (slice_get leaf.moves m) refl
   where
-    by_before : (u : Move) (j : ℕ) → slice_get leaf.moves m ≡ Some u → is_silent u ≡ false → layer_of layer_of_move m ≡ Some j → (b : Bool) → nat_lt j i ≡ b → (b && wakes (is_early table i) t u.p u.q) ≡ false
+    by_before : (u : Move) (j : ℕ) → slice_get leaf.moves m ≡ Some u → silent_move u ≡ false → layer_of layer_of_move m ≡ Some j → (b : Bool) → nat_lt j i ≡ b → (b && wakes (is_early table i) t u.p u.q) ≡ false
     by_before u j move loud place false e = refl
     by_before u j move loud place true e =
         let both = early_both leaf layer_of_move table i m j u formed h few move loud place (ltb-true j i e) in
         let below = All-slice_get (IsMoveBelow (length leaf.states)) leaf.moves m u formed.moves move in
         asleep_pair (is_early table i) t (length leaf.states) u.p u.q below.0 below.1 both.0 both.1 none
 
-    by_place : (u : Move) → slice_get leaf.moves m ≡ Some u → is_silent u ≡ false → (o : Option ℕ) → layer_of layer_of_move m ≡ o → some_layer (λ j. nat_lt j i && wakes (is_early table i) t u.p u.q) o ≡ false
+    by_place : (u : Move) → slice_get leaf.moves m ≡ Some u → silent_move u ≡ false → (o : Option ℕ) → layer_of layer_of_move m ≡ o → some_layer (λ j. nat_lt j i && wakes (is_early table i) t u.p u.q) o ≡ false
     by_place u move loud None place = refl
     by_place u move loud (Some j) place = by_before u j move loud place (nat_lt j i) refl
 
-    by_silent : (u : Move) → slice_get leaf.moves m ≡ Some u → (b : Bool) → is_silent u ≡ b → (not b && some_layer (λ j. nat_lt j i && wakes (is_early table i) t u.p u.q) (layer_of layer_of_move m)) ≡ false
+    by_silent : (u : Move) → slice_get leaf.moves m ≡ Some u → (b : Bool) → silent_move u ≡ b → (not b && some_layer (λ j. nat_lt j i && wakes (is_early table i) t u.p u.q) (layer_of layer_of_move m)) ≡ false
     by_silent u move true e = refl
     by_silent u move false e = by_place u move e (layer_of layer_of_move m) refl
 
     by_move : (o : Option Move) → slice_get leaf.moves m ≡ o → some_move (λ u. some_layer (λ j. nat_lt j i && wakes (is_early table i) t u.p u.q) (layer_of layer_of_move m)) o ≡ false
     by_move None move = refl
-    by_move (Some u) move = by_silent u move (is_silent u) refl
+    by_move (Some u) move = by_silent u move (silent_move u) refl
 
 -- a move of a layer wakes what the test for its layer says
-pub wakes_at-placed : (leaf : LeafModel) (layer_of_move : List (Option ℕ)) (table : List ℕ) (n m i : ℕ) (t : Move) → slice_get leaf.moves n ≡ Some t → is_silent t ≡ false → layer_of layer_of_move n ≡ Some i → wakes_at leaf layer_of_move table n m ≡ wakes_move leaf layer_of_move table i t m
+pub wakes_at-placed : (leaf : LeafModel) (layer_of_move : List (Option ℕ)) (table : List ℕ) (n m i : ℕ) (t : Move) → slice_get leaf.moves n ≡ Some t → silent_move t ≡ false → layer_of layer_of_move n ≡ Some i → wakes_at leaf layer_of_move table n m ≡ wakes_move leaf layer_of_move table i t m
 wakes_at-placed leaf layer_of_move table n m i t move loud place = rw (move, loud, place) refl
 
 -- so the first that one wakes is the first that the other wakes
-pub finds-placed : (leaf : LeafModel) (layer_of_move : List (Option ℕ)) (table : List ℕ) (n i : ℕ) (t : Move) (found : Option ℕ) → slice_get leaf.moves n ≡ Some t → is_silent t ≡ false → layer_of layer_of_move n ≡ Some i → FindsFirst (wakes_move leaf layer_of_move table i t) found → FindsFirst (wakes_at leaf layer_of_move table n) found
+pub finds-placed : (leaf : LeafModel) (layer_of_move : List (Option ℕ)) (table : List ℕ) (n i : ℕ) (t : Move) (found : Option ℕ) → slice_get leaf.moves n ≡ Some t → silent_move t ≡ false → layer_of layer_of_move n ≡ Some i → FindsFirst (wakes_move leaf layer_of_move table i t) found → FindsFirst (wakes_at leaf layer_of_move table n) found
 finds-placed leaf layer_of_move table n i t None move loud place first = λ m. wakes_at-placed leaf layer_of_move table n m i t move loud place ∙ first m
 finds-placed leaf layer_of_move table n i t (Some u) move loud place first =
     (wakes_at-placed leaf layer_of_move table n u i t move loud place ∙ first.0, λ m l. wakes_at-placed leaf layer_of_move table n m i t move loud place ∙ first.1 m l)

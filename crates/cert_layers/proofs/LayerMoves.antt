@@ -4,7 +4,7 @@ use Rattle.std.specs.Prelude.{Option, Some, None, Contains, slice_get}
 use Rattle.std.specs.List.{list_any}
 use Rattle.std.proofs.lemmas.Option.{get_or_from_slice_get, slice_get_within, slice_get-get_or}
 use Rattle.pop_net.specs.declared.leaf.Move.{Move}
-use Rattle.pop_net.specs.LeafModel.{LeafModel, is_silent}
+use Rattle.pop_net.specs.LeafModel.{LeafModel, silent_move}
 use Rattle.pop_net.proofs.Reactions.{and_left, and_right, not_true}
 use Rattle.cert_base.specs.declared.layer.Layer.{Layer}
 use Rattle.cert_base.specs.ValidLayers.{IsInLayer}
@@ -39,5 +39,5 @@ module _ (leaf : LeafModel) (layers : List Layer) where
           move_is = m;
           non_silent = not_true _ (and_left _ _ h);
         },
-        and_right (not (is_silent t)) _ h,
+        and_right (not (silent_move t)) _ h,
       )

@@ -10,7 +10,7 @@ use Rattle.std.proofs.lemmas.List.Elements.{Contains-append_left, Contains-appen
 use Rattle.std.proofs.lemmas.Option.{get_or_from_slice_get, slice_get_within}
 use Rattle.pop_net.specs.declared.limits.TheConstants.{STATE_LIMIT}
 use Rattle.pop_net.specs.declared.leaf.Move.{Move}
-use Rattle.pop_net.specs.LeafModel.{LeafModel, IsLeaf, IsMoveBelow, is_silent}
+use Rattle.pop_net.specs.LeafModel.{LeafModel, IsLeaf, IsMoveBelow, silent_move}
 use Rattle.pop_net.proofs.Quiet.{All-slice_get}
 use Rattle.cert_base.specs.declared.layer.Layer.{Layer}
 use Rattle.cert_base.specs.ValidLayers.{weight_at, IsLower, listed, IsInLayer}
@@ -31,7 +31,7 @@ placed_below leaf layers layer_of_move n i t d formed p move is =
     rw shape.weights (All-slice_get (IsMoveBelow (length leaf.states)) leaf.moves n t formed.moves move)
 
 -- whether a placed move lowers the weights of its layer
-pub not_lower_at : (leaf : LeafModel) (layers : List Layer) (layer_of_move : List (Option ℕ)) (n i : ℕ) (t : Move) (d : Layer) → AreMoveLayers leaf layers layer_of_move → slice_get leaf.moves n ≡ Some t → layer_of layer_of_move n ≡ Some i → is_silent t ≡ false → not_lower leaf layers layer_of_move n ≡ not (is_lower (get_or layers i d).weights t)
+pub not_lower_at : (leaf : LeafModel) (layers : List Layer) (layer_of_move : List (Option ℕ)) (n i : ℕ) (t : Move) (d : Layer) → AreMoveLayers leaf layers layer_of_move → slice_get leaf.moves n ≡ Some t → layer_of layer_of_move n ≡ Some i → silent_move t ≡ false → not_lower leaf layers layer_of_move n ≡ not (is_lower (get_or layers i d).weights t)
 not_lower_at leaf layers layer_of_move n i t d p move is loud =
     let within = slice_get_within layers i (get_or layers i d) (placed_layer leaf layers layer_of_move n i d p is) in
     rw (move, is, loud, get_or_default layers i no_layer d within) refl
@@ -44,7 +44,7 @@ move_small leaf n t formed move =
     (omega (arith, below.0, few), omega (arith, below.1, few), omega (arith, below.2, few), omega (arith, below.3, few))
 
 -- a placed move that is not silent stands in its layer
-abbrev pub in_layer : (leaf : LeafModel) (layers : List Layer) (layer_of_move : List (Option ℕ)) (n i : ℕ) (t : Move) → AreMoveLayers leaf layers layer_of_move → slice_get leaf.moves n ≡ Some t → is_silent t ≡ false → layer_of layer_of_move n ≡ Some i → IsInLayer leaf layers i t
+abbrev pub in_layer : (leaf : LeafModel) (layers : List Layer) (layer_of_move : List (Option ℕ)) (n i : ℕ) (t : Move) → AreMoveLayers leaf layers layer_of_move → slice_get leaf.moves n ≡ Some t → silent_move t ≡ false → layer_of layer_of_move n ≡ Some i → IsInLayer leaf layers i t
 in_layer leaf layers layer_of_move n i t p move loud is =
     let f = p.listed_in n i is in
     record { layer = f.0; number = n; layer_is = f.1; lists = f.2; move_is = move; non_silent = loud }
@@ -60,17 +60,17 @@ contains-listed (l ∷ layers) zero n layer is c =
 contains-listed (l ∷ layers) (suc i) n layer is c = Contains-append_right l.moves (listed layers) n (contains-listed layers i n layer is c)
 
 -- what a test of a move that is not silent says
-pub some_move-true : (test : Move → Bool) (o : Option Move) → some_move test o ≡ true → (t : Move) × (o ≡ Some t) × (is_silent t ≡ false) × (test t ≡ true)
+pub some_move-true : (test : Move → Bool) (o : Option Move) → some_move test o ≡ true → (t : Move) × (o ≡ Some t) × (silent_move t ≡ false) × (test t ≡ true)
 some_move-true test None e = cc
 some_move-true test (Some t) e =
-    let parts = and_parts (not (is_silent t)) (test t) e in (t, refl, not-true (is_silent t) parts.0, parts.1)
+    let parts = and_parts (not (silent_move t)) (test t) e in (t, refl, not-true (silent_move t) parts.0, parts.1)
 
-pub some_move-false : (test : Move → Bool) (o : Option Move) (t : Move) → some_move test o ≡ false → o ≡ Some t → is_silent t ≡ false → test t ≡ false
+pub some_move-false : (test : Move → Bool) (o : Option Move) (t : Move) → some_move test o ≡ false → o ≡ Some t → silent_move t ≡ false → test t ≡ false
 some_move-false test None t e is loud = cc
 some_move-false test (Some u) t e is loud =
     let same : u ≡ t = cc in
     let found : some_move test (Some t) ≡ false = ap (λ v. some_move test (Some v)) (sym same) ∙ e in
-    let said : (not (is_silent t) && test t) ≡ (true && test t) = ap (λ b. not b && test t) loud in
+    let said : (not (silent_move t) && test t) ≡ (true && test t) = ap (λ b. not b && test t) loud in
     sym said ∙ found
 
 pub unlisted-no : (leaf : LeafModel) (layers : List Layer) (layer_of_move : List (Option ℕ)) (n : ℕ) → AreMoveLayers leaf layers layer_of_move → is_unlisted leaf layer_of_move n ≡ false → ListedAt leaf layers n
@@ -107,12 +107,12 @@ not_lower-no leaf layers layer_of_move n p e i t at number =
 pub not_lower-yes : (leaf : LeafModel) (layers : List Layer) (layer_of_move : List (Option ℕ)) (n : ℕ) → AreMoveLayers leaf layers layer_of_move → not_lower leaf layers layer_of_move n ≡ true → LowerAt leaf layers n → ⊥
 not_lower-yes leaf layers layer_of_move n p e lower = by_move (some_move-true (λ t. some_layer (λ i. not (is_lower (layer_at layers i).weights t)) (layer_of layer_of_move n)) (slice_get leaf.moves n) e)
   where
-    by_place : (t : Move) → slice_get leaf.moves n ≡ Some t → is_silent t ≡ false → (o : Option ℕ) → layer_of layer_of_move n ≡ o → some_layer (λ i. not (is_lower (layer_at layers i).weights t)) o ≡ true → ⊥
+    by_place : (t : Move) → slice_get leaf.moves n ≡ Some t → silent_move t ≡ false → (o : Option ℕ) → layer_of layer_of_move n ≡ o → some_layer (λ i. not (is_lower (layer_at layers i).weights t)) o ≡ true → ⊥
     by_place t move loud None is f = cc
     by_place t move loud (Some i) is f =
         let at = in_layer leaf layers layer_of_move n i t p move loud is in
         let layer : layer_at layers i ≡ at.layer = get_or_from_slice_get layers i at.layer no_layer at.layer_is in
         is_lower-no at.layer.weights t (ap (λ (l : Layer). is_lower l.weights t) (sym layer) ∙ not-true (is_lower (layer_at layers i).weights t) f) (lower i t at refl)
 
-    by_move : (t : Move) × (slice_get leaf.moves n ≡ Some t) × (is_silent t ≡ false) × (some_layer (λ i. not (is_lower (layer_at layers i).weights t)) (layer_of layer_of_move n) ≡ true) → ⊥
+    by_move : (t : Move) × (slice_get leaf.moves n ≡ Some t) × (silent_move t ≡ false) × (some_layer (λ i. not (is_lower (layer_at layers i).weights t)) (layer_of layer_of_move n) ≡ true) → ⊥
     by_move m = by_place m.0 m.1 m.2 (layer_of layer_of_move n) refl m.3

@@ -8,7 +8,7 @@ use Rattle.std.proofs.lemmas.List.{get_or-set_same, get_or-set_other, get_or-rep
 use Rattle.pop_net.specs.declared.limits.TheConstants.{STATE_LIMIT}
 use Rattle.cert_layers.specs.declared.pairs.TheConstants.{PAIR_COUNT, NO_LAYER}
 use Rattle.pop_net.specs.declared.leaf.Move.{Move}
-use Rattle.pop_net.specs.LeafModel.{LeafModel, is_silent}
+use Rattle.pop_net.specs.LeafModel.{LeafModel, silent_move}
 use Rattle.cert_layers.specs.MoveLayers.{layer_of}
 use Rattle.cert_layers.specs.Waking.{first_at, empty_table, IsPair, IsEarly, IsTable}
 
@@ -87,16 +87,16 @@ later leaf layer_of_move n i x y e = record {
 
 module _ (leaf : LeafModel) (layer_of_move : List (Option ℕ)) (n : ℕ) (table : List ℕ) (h : IsTable leaf layer_of_move n table) (t : Move) (move : slice_get leaf.moves n ≡ Some t) where
   -- an early move is one of those before, or this one
-  before_or_now : (i x y : ℕ) → IsEarly leaf layer_of_move (n + 1) i x y → IsEarly leaf layer_of_move n i x y ⊎ ((is_silent t ≡ false) × (k : ℕ) × (layer_of layer_of_move n ≡ Some k) × (k < i) × IsPair x y t)
+  before_or_now : (i x y : ℕ) → IsEarly leaf layer_of_move (n + 1) i x y → IsEarly leaf layer_of_move n i x y ⊎ ((silent_move t ≡ false) × (k : ℕ) × (layer_of layer_of_move n ≡ Some k) × (k < i) × IsPair x y t)
   before_or_now i x y e = by_case (cases_lt e.number n)
     where
-      now : e.number ≡ n → (is_silent t ≡ false) × (k : ℕ) × (layer_of layer_of_move n ≡ Some k) × (k < i) × IsPair x y t
+      now : e.number ≡ n → (silent_move t ≡ false) × (k : ℕ) × (layer_of layer_of_move n ≡ Some k) × (k < i) × IsPair x y t
       now same =
           let found : Some e.taken ≡ Some t = sym e.move_is ∙ ap (slice_get leaf.moves) same ∙ move in
           let taken : e.taken ≡ t = cc in
-          (ap is_silent (sym taken) ∙ e.non_silent, e.layer, ap (layer_of layer_of_move) (sym same) ∙ e.layer_is, e.before, subst (λ (u : Move). IsPair x y u) taken e.takes)
+          (ap silent_move (sym taken) ∙ e.non_silent, e.layer, ap (layer_of layer_of_move) (sym same) ∙ e.layer_is, e.before, subst (λ (u : Move). IsPair x y u) taken e.takes)
 
-      by_case : (e.number < n) ⊎ (n ≤ e.number) → IsEarly leaf layer_of_move n i x y ⊎ ((is_silent t ≡ false) × (k : ℕ) × (layer_of layer_of_move n ≡ Some k) × (k < i) × IsPair x y t)
+      by_case : (e.number < n) ⊎ (n ≤ e.number) → IsEarly leaf layer_of_move n i x y ⊎ ((silent_move t ≡ false) × (k : ℕ) × (layer_of layer_of_move n ≡ Some k) × (k < i) × IsPair x y t)
       by_case (inl old) = inl (record {
         number = e.number;
         layer = e.layer;
@@ -111,14 +111,14 @@ module _ (leaf : LeafModel) (layer_of_move : List (Option ℕ)) (n : ℕ) (table
       by_case (inr past) = inr (now (let same : e.number ≡ n = omega (arith, e.below) in same))
 
   -- a move that is silent, or in no layer, changes nothing
-  pub table-skip : (is_silent t ≡ true) ⊎ (layer_of layer_of_move n ≡ None) → IsTable leaf layer_of_move (n + 1) table
+  pub table-skip : (silent_move t ≡ true) ⊎ (layer_of layer_of_move n ≡ None) → IsTable leaf layer_of_move (n + 1) table
   table-skip why = record {
     long = h.long;
     sound = λ i x y few xs ys e. later leaf layer_of_move n i x y (h.sound i x y few xs ys e);
     complete = λ i x y few xs ys e. h.complete i x y few xs ys (old i x y (before_or_now i x y e));
   }
     where
-      old : (i x y : ℕ) → IsEarly leaf layer_of_move n i x y ⊎ ((is_silent t ≡ false) × (k : ℕ) × (layer_of layer_of_move n ≡ Some k) × (k < i) × IsPair x y t) → IsEarly leaf layer_of_move n i x y
+      old : (i x y : ℕ) → IsEarly leaf layer_of_move n i x y ⊎ ((silent_move t ≡ false) × (k : ℕ) × (layer_of layer_of_move n ≡ Some k) × (k < i) × IsPair x y t) → IsEarly leaf layer_of_move n i x y
       old i x y (inl e) = e
       old i x y (inr e) = absurd (elim why as (λ _. ⊥) [
         | inl silent ↦ true≢false (sym silent ∙ e.0)
@@ -126,7 +126,7 @@ module _ (leaf : LeafModel) (layer_of_move : List (Option ℕ)) (n : ℕ) (table
       ])
 
   -- a move of a layer is entered both ways
-  pub table-enter : (k : ℕ) → is_silent t ≡ false → layer_of layer_of_move n ≡ Some k → t.p < STATE_LIMIT → t.q < STATE_LIMIT → IsTable leaf layer_of_move (n + 1) (with_pair (with_pair table t.p t.q k) t.q t.p k)
+  pub table-enter : (k : ℕ) → silent_move t ≡ false → layer_of layer_of_move n ≡ Some k → t.p < STATE_LIMIT → t.q < STATE_LIMIT → IsTable leaf layer_of_move (n + 1) (with_pair (with_pair table t.p t.q k) t.q t.p k)
   table-enter k loud place ps qs = record {
     long = length-with_pair first t.q t.p k first_long qs ps;
     sound = λ i x y few xs ys e. new i x y few xs ys (with_pair-sound first t.q t.p k first_long qs ps i x y xs ys e);
@@ -159,7 +159,7 @@ module _ (leaf : LeafModel) (layer_of_move : List (Option ℕ)) (n : ℕ) (table
       ]
       new i x y few xs ys (inr here) = this i x y here.1 (inr here.0)
 
-      known : (i x y : ℕ) → i < 2 ^ 16 → x < STATE_LIMIT → y < STATE_LIMIT → IsEarly leaf layer_of_move n i x y ⊎ ((is_silent t ≡ false) × (j : ℕ) × (layer_of layer_of_move n ≡ Some j) × (j < i) × IsPair x y t) → first_at (with_pair (with_pair table t.p t.q k) t.q t.p k) x y < i
+      known : (i x y : ℕ) → i < 2 ^ 16 → x < STATE_LIMIT → y < STATE_LIMIT → IsEarly leaf layer_of_move n i x y ⊎ ((silent_move t ≡ false) × (j : ℕ) × (layer_of layer_of_move n ≡ Some j) × (j < i) × IsPair x y t) → first_at (with_pair (with_pair table t.p t.q k) t.q t.p k) x y < i
       known i x y few xs ys (inl old) =
           with_pair-complete (with_pair table t.p t.q k) t.q t.p k first_long qs ps i x y xs ys
           (inl (with_pair-complete table t.p t.q k h.long ps qs i x y xs ys (inl (h.complete i x y few xs ys old))))

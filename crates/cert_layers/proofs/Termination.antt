@@ -11,7 +11,7 @@ use Rattle.std.proofs.lemmas.List.Elements.{Contains-append_cases}
 use Rattle.std.proofs.lemmas.Bool.{cases_lt}
 use Rattle.std.proofs.lemmas.Option.{get_or_from_slice_get, slice_get_within}
 use Rattle.pop_net.specs.declared.leaf.Move.{Move}
-use Rattle.pop_net.specs.LeafModel.{LeafModel, IsLeaf, is_silent}
+use Rattle.pop_net.specs.LeafModel.{LeafModel, IsLeaf, silent_move}
 use Rattle.pop_net.specs.Step.{LeafChange, LeafStep}
 use Rattle.pop_net.specs.Reachable.{Leads, ReachedWithin}
 use Rattle.pop_net.specs.Terminal.{IsTerminal}
@@ -38,7 +38,7 @@ list_any-true p (y ∷ xs) (suc k) x l e h = rw (list_any-true p xs k x (omega a
     or_true true = refl
     or_true false = refl
 
-some_move-true : (test : Move → Bool) (o : Option Move) (t : Move) → o ≡ Some t → is_silent t ≡ false → test t ≡ true → some_move test o ≡ true
+some_move-true : (test : Move → Bool) (o : Option Move) (t : Move) → o ≡ Some t → silent_move t ≡ false → test t ≡ true → some_move test o ≡ true
 some_move-true test o t e s h = rw e (rw (s, h) refl)
 
 -- a move of layer i that passes the test is found

@@ -6,7 +6,7 @@ use Rattle.std.proofs.lemmas.Option.{slice_get_within}
 use Rattle.pop_net.specs.declared.limits.TheConstants.{STATE_LIMIT}
 use Rattle.cert_base.specs.declared.limits.TheConstants.{LAYER_LIMIT}
 use Rattle.pop_net.specs.declared.leaf.Move.{Move}
-use Rattle.pop_net.specs.LeafModel.{LeafModel, IsLeaf, IsMoveBelow, one_at, times_in, pre, post, is_silent}
+use Rattle.pop_net.specs.LeafModel.{LeafModel, IsLeaf, IsMoveBelow, one_at, times_in, pre, post, silent_move}
 use Rattle.cert_base.specs.declared.layer.Layer.{Layer}
 use Rattle.cert_base.specs.ValidLayers.{IsInLayer}
 use Rattle.cert_layers.specs.LayerFaults.{WakesNone, SleepsAt}
@@ -110,7 +110,7 @@ module _ (leaf : LeafModel) (layers : List Layer) (layer_of_move : List (Option 
 
 module _ (leaf : LeafModel) (layers : List Layer) (layer_of_move : List (Option ℕ)) (table : List ℕ) (formed : IsLeaf leaf) (p : AreMoveLayers leaf layers layer_of_move) (h : IsTable leaf layer_of_move (length leaf.moves) table) (small : length layers ≤ LAYER_LIMIT) (n m : ℕ) where
   -- what the test says of two moves of layers
-  tested : (i j : ℕ) (t u : Move) → j < i → IsInLayer leaf layers i t → slice_get leaf.moves n ≡ Some t → is_silent t ≡ false → layer_of layer_of_move n ≡ Some i → slice_get leaf.moves m ≡ Some u → is_silent u ≡ false → layer_of layer_of_move m ≡ Some j → wakes_at leaf layer_of_move table n m ≡ wakes (is_early table i) t u.p u.q
+  tested : (i j : ℕ) (t u : Move) → j < i → IsInLayer leaf layers i t → slice_get leaf.moves n ≡ Some t → silent_move t ≡ false → layer_of layer_of_move n ≡ Some i → slice_get leaf.moves m ≡ Some u → silent_move u ≡ false → layer_of layer_of_move m ≡ Some j → wakes_at leaf layer_of_move table n m ≡ wakes (is_early table i) t u.p u.q
   tested i j t u before at move loud place move' loud' place' =
       wakes_at-placed leaf layer_of_move table n m i t move loud place ∙ rw (move', loud', place', lt-ltb j i before) refl
 
@@ -127,22 +127,22 @@ module _ (leaf : LeafModel) (layers : List Layer) (layer_of_move : List (Option 
   pub sleeps-yes : wakes_at leaf layer_of_move table n m ≡ true → SleepsAt leaf layers n m → ⊥
   sleeps-yes e sleeps = by_first (some_move-true (λ t. some_layer (λ i. wakes_move leaf layer_of_move table i t m) (layer_of layer_of_move n)) (slice_get leaf.moves n) e)
     where
-      by_before : (t : Move) (i : ℕ) (u : Move) (j : ℕ) → slice_get leaf.moves n ≡ Some t → is_silent t ≡ false → layer_of layer_of_move n ≡ Some i → slice_get leaf.moves m ≡ Some u → is_silent u ≡ false → layer_of layer_of_move m ≡ Some j → (nat_lt j i ≡ true) × (wakes (is_early table i) t u.p u.q ≡ true) → ⊥
+      by_before : (t : Move) (i : ℕ) (u : Move) (j : ℕ) → slice_get leaf.moves n ≡ Some t → silent_move t ≡ false → layer_of layer_of_move n ≡ Some i → slice_get leaf.moves m ≡ Some u → silent_move u ≡ false → layer_of layer_of_move m ≡ Some j → (nat_lt j i ≡ true) × (wakes (is_early table i) t u.p u.q ≡ true) → ⊥
       by_before t i u j move loud place move' loud' place' f =
           let at = in_layer leaf layers layer_of_move n i t p move loud place in
           let earlier = in_layer leaf layers layer_of_move m j u p move' loud' place' in
           let few = slice_get_within layers i at.layer at.layer_is in
           awake leaf layers layer_of_move table formed p h i (omega (arith, few, small)) t u (move_small leaf n t formed move) (move_small leaf m u formed move') f.1 (sleeps i j t u (ltb-true j i f.0) at refl earlier refl)
 
-      by_place' : (t : Move) (i : ℕ) (u : Move) → slice_get leaf.moves n ≡ Some t → is_silent t ≡ false → layer_of layer_of_move n ≡ Some i → slice_get leaf.moves m ≡ Some u → is_silent u ≡ false → (o : Option ℕ) → layer_of layer_of_move m ≡ o → some_layer (λ j. nat_lt j i && wakes (is_early table i) t u.p u.q) o ≡ true → ⊥
+      by_place' : (t : Move) (i : ℕ) (u : Move) → slice_get leaf.moves n ≡ Some t → silent_move t ≡ false → layer_of layer_of_move n ≡ Some i → slice_get leaf.moves m ≡ Some u → silent_move u ≡ false → (o : Option ℕ) → layer_of layer_of_move m ≡ o → some_layer (λ j. nat_lt j i && wakes (is_early table i) t u.p u.q) o ≡ true → ⊥
       by_place' t i u move loud place move' loud' None place' f = cc
       by_place' t i u move loud place move' loud' (Some j) place' f = by_before t i u j move loud place move' loud' place' (and_parts (nat_lt j i) (wakes (is_early table i) t u.p u.q) f)
 
-      by_place : (t : Move) → slice_get leaf.moves n ≡ Some t → is_silent t ≡ false → (o : Option ℕ) → layer_of layer_of_move n ≡ o → some_layer (λ i. wakes_move leaf layer_of_move table i t m) o ≡ true → ⊥
+      by_place : (t : Move) → slice_get leaf.moves n ≡ Some t → silent_move t ≡ false → (o : Option ℕ) → layer_of layer_of_move n ≡ o → some_layer (λ i. wakes_move leaf layer_of_move table i t m) o ≡ true → ⊥
       by_place t move loud None place f = cc
       by_place t move loud (Some i) place f =
           let g = some_move-true (λ u. some_layer (λ j. nat_lt j i && wakes (is_early table i) t u.p u.q) (layer_of layer_of_move m)) (slice_get leaf.moves m) f in
           by_place' t i g.0 move loud place g.1 g.2 (layer_of layer_of_move m) refl g.3
 
-      by_first : (t : Move) × (slice_get leaf.moves n ≡ Some t) × (is_silent t ≡ false) × (some_layer (λ i. wakes_move leaf layer_of_move table i t m) (layer_of layer_of_move n) ≡ true) → ⊥
+      by_first : (t : Move) × (slice_get leaf.moves n ≡ Some t) × (silent_move t ≡ false) × (some_layer (λ i. wakes_move leaf layer_of_move table i t m) (layer_of layer_of_move n) ≡ true) → ⊥
       by_first f = by_place f.0 f.1 f.2 (layer_of layer_of_move n) refl f.3

@@ -1,7 +1,7 @@
 -- The first place at which the layers of a leaf fail.
 use Rattle.std.specs.Prelude.{◌≡◌, ◌≢◌, ℕ, ◌+◌, ◌<◌, ◌≤◌, ◌*◌, false, ℤ, nat_abs, List, Some, slice_get, length, take, All, AllPairs, Contains}
 use Rattle.pop_net.specs.declared.leaf.Move.{Move}
-use Rattle.pop_net.specs.LeafModel.{LeafModel, is_silent}
+use Rattle.pop_net.specs.LeafModel.{LeafModel, silent_move}
 use Rattle.pop_net.specs.Step.{LeafStep}
 use Rattle.pop_net.specs.Reachable.{ReachedWithin}
 use Rattle.pop_net.specs.Terminal.{IsTerminal}
@@ -22,7 +22,7 @@ ShapedAt leaf layers n = (layer : Layer) → slice_get layers n ≡ Some layer �
 
 -- a non-silent move with number n is listed
 abbrev pub ListedAt : LeafModel → List Layer → ℕ → Type 0
-ListedAt leaf layers n = (t : Move) → slice_get leaf.moves n ≡ Some t → is_silent t ≡ false → Contains (listed layers) n
+ListedAt leaf layers n = (t : Move) → slice_get leaf.moves n ≡ Some t → silent_move t ≡ false → Contains (listed layers) n
 
 -- a non-silent move with number n lowers the weights of its layer
 abbrev pub LowerAt : LeafModel → List Layer → ℕ → Type 0

@@ -2,7 +2,7 @@
 use Rattle.std.specs.Prelude.{ℕ, Bool, false, not, ◌&&◌, List, [], ℤ, ◌+ℤ◌, int_lt, Option, Some, None, is_some, slice_get}
 use Rattle.std.specs.List.{slice_index_or}
 use Rattle.pop_net.specs.declared.leaf.Move.{Move}
-use Rattle.pop_net.specs.LeafModel.{LeafModel, is_silent}
+use Rattle.pop_net.specs.LeafModel.{LeafModel, silent_move}
 use Rattle.cert_base.specs.declared.layer.Layer.{Layer}
 use Rattle.cert_base.specs.ValidLayers.{weight_at}
 use Rattle.cert_layers.specs.MoveLayers.{layer_of}
@@ -17,7 +17,7 @@ layer_at layers i = slice_index_or layers i no_layer
 -- whether there is a move, it is not silent, and it passes the test
 abbrev pub some_move : (Move → Bool) → Option Move → Bool
 some_move test None = false
-some_move test (Some t) = not (is_silent t) && test t
+some_move test (Some t) = not (silent_move t) && test t
 
 -- whether there is a layer and it passes the test
 abbrev pub some_layer : (ℕ → Bool) → Option ℕ → Bool

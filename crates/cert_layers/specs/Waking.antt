@@ -5,7 +5,7 @@ use Rattle.std.specs.List.{slice_index_or, list_any, range_with_len}
 use Rattle.pop_net.specs.declared.leaf.Move.{Move}
 use Rattle.pop_net.specs.declared.limits.TheConstants.{STATE_LIMIT}
 use Rattle.cert_layers.specs.declared.pairs.TheConstants.{PAIR_COUNT, NO_LAYER}
-use Rattle.pop_net.specs.LeafModel.{LeafModel, is_silent}
+use Rattle.pop_net.specs.LeafModel.{LeafModel, silent_move}
 use Rattle.cert_layers.specs.MoveLayers.{layer_of}
 use Rattle.cert_layers.specs.Search.{some_move, some_layer}
 
@@ -28,7 +28,7 @@ pub record IsEarly (leaf : LeafModel) (layer_of_move : List (Option ℕ)) (n i x
   pub taken : Move
   pub below : number < n
   pub move_is : slice_get leaf.moves number ≡ Some taken
-  pub non_silent : is_silent taken ≡ false
+  pub non_silent : silent_move taken ≡ false
   pub layer_is : layer_of layer_of_move number ≡ Some layer
   pub before : layer < i
   pub takes : IsPair x y taken

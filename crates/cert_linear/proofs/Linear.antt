@@ -12,7 +12,7 @@ use Rattle.cert_base.specs.declared.fact.Row.{Row}
 use Rattle.cert_base.specs.declared.fact.Fact.{Fact}
 use Rattle.cert_base.specs.declared.fact.Fact.TheVariants.{Ge, Eq, Cong, NotCong, Holds}
 use Rattle.cert_base.specs.Valuation.{Valuation, row_value, MeetsFact}
-use Rattle.cert_base.specs.ClosingTests.{row_of, times, scaled, sum_of, coefficient_in, each_coefficient, may_have, all_named, may_add, linear_closes}
+use Rattle.cert_base.specs.ClosingTests.{row_of, times, scaled, sum_of, coefficient_in, each_coefficient, may_have, all_named, may_add, closes_by_sum}
 use Rattle.cert_base.proofs.Integers.{mul-pos-le_zero, mul-pos_zero-le}
 use Rattle.cert_linear.proofs.RowValues.{row_value-add_rows, row_value-times, total-le_zero, end_of, terms_value-total, each_coefficient-at}
 
@@ -51,7 +51,7 @@ row_value-below_zero count row e f =
     omega (arith, ints, constant, value, sum)
 
 -- what `linear_closes` says true of, no counts meet
-pub linear_closes-none : (count : Valuation) (facts : List Fact) (terms : List Term) → linear_closes facts terms ≡ true → All (MeetsFact count) facts → ⊥
+pub linear_closes-none : (count : Valuation) (facts : List Fact) (terms : List Term) → closes_by_sum facts terms ≡ true → All (MeetsFact count) facts → ⊥
 linear_closes-none count facts terms e m =
     let all = all_named may_add facts terms in
     let each = each_coefficient (λ a. int_le a (pos 0)) (sum_of facts terms) in

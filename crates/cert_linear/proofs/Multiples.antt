@@ -14,7 +14,7 @@ use Rattle.cert_base.specs.declared.fact.Row.{Row}
 use Rattle.cert_base.specs.declared.fact.Fact.{Fact}
 use Rattle.cert_base.specs.declared.fact.Fact.TheVariants.{Ge, Eq, Cong, NotCong, Holds}
 use Rattle.cert_base.specs.Valuation.{Valuation, row_value, MeetsFact}
-use Rattle.cert_base.specs.ClosingTests.{row_of, times, add_rows, scaled, sum_of, coefficient_in, each_coefficient, may_have, all_named, may_add_modulo, vanishes, denies, residue_closes}
+use Rattle.cert_base.specs.ClosingTests.{row_of, times, add_rows, scaled, sum_of, coefficient_in, each_coefficient, may_have, all_named, may_add_modulo, vanishes, denies, closes_by_residue}
 use Rattle.cert_base.proofs.Integers.{add-mul, mul-mul-pos}
 use Rattle.cert_linear.proofs.RowValues.{row_value-add_rows, row_value-times, total, terms_value-total, each_coefficient-at, end_of}
 
@@ -155,7 +155,7 @@ not_true true e f = cc
 not_true false e f = cc
 
 -- what `residue_closes` says true of, no counts meet
-pub residue_closes-none : (count : Valuation) (facts : List Fact) (m : ℕ) (terms : List Term) → residue_closes facts m terms ≡ true → All (MeetsFact count) facts → ⊥
+pub residue_closes-none : (count : Valuation) (facts : List Fact) (m : ℕ) (terms : List Term) → closes_by_residue facts m terms ≡ true → All (MeetsFact count) facts → ⊥
 residue_closes-none count facts m terms e meets =
     let sum = sum_of facts terms in
     let by_constant = each_coefficient (divides m) sum && not (divides m sum.constant) in

@@ -14,7 +14,7 @@ use Rattle.cert_base.specs.declared.limits.TheConstants.{FACT_LIMIT}
 use Rattle.cert_base.specs.declared.fact.Term.{Term}
 use Rattle.cert_base.specs.declared.fact.Row.{Row}
 use Rattle.cert_base.specs.declared.fact.Fact.{Fact}
-use Rattle.cert_base.specs.ClosingTests.{scaled, sum_of, coefficient_in, each_coefficient, all_named, may_add, may_have, linear_closes}
+use Rattle.cert_base.specs.ClosingTests.{scaled, sum_of, coefficient_in, each_coefficient, all_named, may_add, may_have, closes_by_sum}
 use Rattle.cert_linear.specs.declared.sum.Sum.{Sum}
 use Rattle.cert_linear.specs.declared.tally.Tally.{Tally}
 use Rattle.cert_linear.specs.Sums.{IsSum, AreSum, SumsUp}
@@ -75,15 +75,15 @@ sums_true facts terms sum b e k =
     (all.0, all.1)
 
 -- the terms close exactly when the sums of both parts do
-pub parts_close : (facts : List Fact) (terms front back : List Term) (n : ℕ) (r : Bool) (lead rest : Sum) → front ≡ take n terms → back ≡ drop n terms → all_named may_add facts front ≡ true → all_named may_add facts back ≡ true → IsSum (sum_of facts front) lead → IsSum (sum_of facts back) rest → ((row : Row) → AreSum row rest lead → r ≡ (each_coefficient (λ a. int_le a (pos 0)) row && int_le row.constant (negsuc 0))) → r ≡ linear_closes facts terms
+pub parts_close : (facts : List Fact) (terms front back : List Term) (n : ℕ) (r : Bool) (lead rest : Sum) → front ≡ take n terms → back ≡ drop n terms → all_named may_add facts front ≡ true → all_named may_add facts back ≡ true → IsSum (sum_of facts front) lead → IsSum (sum_of facts back) rest → ((row : Row) → AreSum row rest lead → r ≡ (each_coefficient (λ a. int_le a (pos 0)) row && int_le row.constant (negsuc 0))) → r ≡ closes_by_sum facts terms
 parts_close facts terms front back n r lead rest f b may may_rest is other says =
     let whole : front ++ back ≡ terms = rw (f, b) (take-append-drop n terms) in
     let named : all_named may_add facts (front ++ back) ≡ true = list_all-append (λ t. may_have may_add t.by (slice_get facts t.at)) front back ∙ rw (may, may_rest) refl in
     let sum = sum_of facts (front ++ back) in
-    let here : r ≡ linear_closes facts (front ++ back) =
+    let here : r ≡ closes_by_sum facts (front ++ back) =
     says sum (parts_sum facts front back lead rest is other)
     ∙ sym (ap (λ (c : Bool). c && each_coefficient (λ a. int_le a (pos 0)) sum && int_le sum.constant (negsuc 0)) named) in
-    subst (λ ts. r ≡ linear_closes facts ts) whole here
+    subst (λ ts. r ≡ closes_by_sum facts ts) whole here
 
 -- one more term is of a fact below the number
 pub all_more : (stable : ℕ) (ts : List Term) (i : ℕ) (d : Term) → i < length ts → All (λ t. t.at < stable) (take i ts) → (get_or ts i d).at < stable → All (λ t. t.at < stable) (take (i + 1) ts)

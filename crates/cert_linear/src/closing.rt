@@ -4,7 +4,7 @@ ghost use Rattle.std.specs.Prelude.{◌≡◌, ◌≤◌, ◌<◌, ◌^◌, leng
 ghost use Rattle.std.specs.Prelude.{false, negsuc, Some, None};
 ghost use Rattle.std.specs.List.{list_any};
 ghost use Rattle.cert_base.specs.declared.fact.Row.{Row};
-ghost use Rattle.cert_base.specs.ClosingTests.{linear_closes as closes_by_sum, residue_closes as closes_by_residue};
+ghost use Rattle.cert_base.specs.ClosingTests.{closes_by_sum, closes_by_residue};
 ghost use Rattle.cert_base.specs.ClosingTests.{row_of, denies, vanishes, add_rows, times};
 ghost use Rattle.cert_base.specs.Ends.{AreRefuted};
 ghost use Rattle.cert_linear.specs.Conditions.{AreAscending, IsOrdered, AreMultipliers, AreNamed};

@@ -1,7 +1,7 @@
 //! A sum of facts in two parts, of which one is kept.
 
 ghost use Rattle.std.specs.Prelude.{◌≡◌, ◌≤◌, ◌<◌, ℕ, List, [], length, take, All, IfOk, IsTrue};
-ghost use Rattle.cert_base.specs.ClosingTests.{linear_closes as closes_by_sum};
+ghost use Rattle.cert_base.specs.ClosingTests.{closes_by_sum};
 ghost use Rattle.cert_linear.specs.Conditions.{IsOrdered, AreMultipliers, AreNamed};
 ghost use Rattle.cert_base.specs.declared.fact.Fact.{Fact};
 ghost use Rattle.cert_linear.specs.Kept.{IsKept, Keeps, Makes};

@@ -40,7 +40,7 @@ impl Model for Trail {
 impl Trail {
     ghost use Rattle.std.specs.Prelude.{◌≡◌, ◌≤◌, ◌<◌, ◌++◌, [], ◌∷◌, take, length, Some, slice_get, All, IfOk, IfErr};
     ghost use Rattle.std.specs.Prelude.{OnOk, OnErr, IsTrue};
-    ghost use Rattle.cert_base.specs.ClosingTests.{linear_closes as closes_by_sum, residue_closes as closes_by_residue};
+    ghost use Rattle.cert_base.specs.ClosingTests.{closes_by_sum, closes_by_residue};
     ghost use Rattle.cert_base.specs.Ends.{AreRefuted};
     ghost use Rattle.cert_linear.specs.Conditions.{IsOrdered, AreMultipliers, AreNamed};
 

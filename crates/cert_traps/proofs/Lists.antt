@@ -1,6 +1,6 @@
 -- Lists that grow by one item, and flags.
 use Rattle.std.proofs.Common.{◌≡◌, ℕ, zero, suc, ◌+◌, ◌<◌, ◌≤◌, min, Bool, true, false, cond, List, [], ◌∷◌, ◌++◌, length, map, take, get_or, append_assoc, refl, ap, sym, ◌∙◌, zero-add, arith}
-use Rattle.std.specs.Prelude.{ℤ, pos, Some, None, slice_get, filter, if◌then◌else◌, not, ◌&&◌, ◌||◌, ◌==◌}
+use Rattle.std.specs.Prelude.{ℤ, pos, Some, None, slice_get, filter, if◌then◌else◌, not, ◌&&◌, ◌==◌}
 use Rattle.std.specs.List.{range_with_len}
 use Rattle.std.proofs.lemmas.List.{take_all, length-map, length-take}
 use Rattle.std.proofs.lemmas.Option.{slice_get_within, get_or_from_slice_get, slice_get_read}
@@ -8,7 +8,7 @@ use Rattle.std.proofs.lemmas.List.FromFn.{get_or-map-range_with_len, length-rang
 use Rattle.cert_base.specs.declared.fact.Fact.{Fact}
 use Rattle.cert_base.specs.declared.fact.Fact.TheVariants.{Eq}
 use Rattle.cert_base.specs.Rows.{single_row, move_variable, state_variable}
-use Rattle.cert_base.specs.FactsAndCases.{indicator, places_from, states_of, is_in, can_meet, absent, occurs, alone, not_twice, twin_case, none_taken, none_started}
+use Rattle.cert_base.specs.FactsAndCases.{indicator, places_from, states_of, is_in, can_meet, absent, occurs, alone, not_twice, twin_case, no_moves, none_started}
 use Rattle.cert_base.proofs.FlowRows.{take_one_more}
 use Rattle.cert_traps.specs.Facts.{zero_if, alone_if}
 use Rattle.cert_traps.specs.Partners.{ArePartners}
@@ -88,7 +88,7 @@ pub length-coefs : {A : Type 0} (test : A → Bool) (xs : List A) (flags : List 
 length-coefs test xs flags coefs e f =
     ap length (flags_coefs test xs flags coefs e f) ∙ length-map xs (λ x. indicator (test x))
 
-pub moves_zero : (leaf : LeafModel) (test : Move → Bool) (first : ℕ) (flags : List Bool) (start facts : List Fact) → first ≡ move_variable leaf 0 → flags ≡ map test leaf.moves → facts ≡ start ++ map (λ t. Eq (single_row (first + t) (pos 1) (pos 0))) (places_from 0 (λ flag. flag) flags) → facts ≡ start ++ none_taken leaf test
+pub moves_zero : (leaf : LeafModel) (test : Move → Bool) (first : ℕ) (flags : List Bool) (start facts : List Fact) → first ≡ move_variable leaf 0 → flags ≡ map test leaf.moves → facts ≡ start ++ map (λ t. Eq (single_row (first + t) (pos 1) (pos 0))) (places_from 0 (λ flag. flag) flags) → facts ≡ start ++ no_moves leaf test
 moves_zero leaf test first flags start facts at e f =
     f
     ∙ ap (λ fs. start ++ fs) (ap (λ n. map (λ t. Eq (single_row (n + t) (pos 1) (pos 0))) (places_from 0 (λ flag. flag) flags)) (at ∙ (let k : move_variable leaf 0 ≡ length leaf.inputs + length leaf.states = omega arith in k))

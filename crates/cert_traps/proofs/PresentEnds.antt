@@ -8,7 +8,7 @@ use Rattle.std.proofs.lemmas.Bool.{eq-eqb, eqb-true, cases_lt}
 use Rattle.std.proofs.lemmas.Bool.Decides.{eqb_tells}
 use Rattle.std.proofs.lemmas.List.Elements.{All-nil, All-cons, All-map, All-append, All-head, All-tail}
 use Rattle.pop_net.specs.declared.leaf.Move.{Move}
-use Rattle.pop_net.specs.LeafModel.{LeafModel, one_at, pre, is_silent, same_pair}
+use Rattle.pop_net.specs.LeafModel.{LeafModel, one_at, pre, silent_move, same_pair}
 use Rattle.pop_net.specs.Step.{LeafStep}
 use Rattle.pop_net.specs.Terminal.{IsTerminal}
 use Rattle.pop_net.specs.Reaction.{takes}
@@ -31,11 +31,11 @@ slice_get-set_same (z ∷ xs) (suc a) x y h = slice_get-set_same xs a x y h
 same_some : {A : Type 0} (x y : A) → Some x ≡ Some y → x ≡ y
 same_some x y e = cc
 
-unchanged_silent : (t : Move) → t.r ≡ t.p → t.s ≡ t.q → is_silent t ≡ true
+unchanged_silent : (t : Move) → t.r ≡ t.p → t.s ≡ t.q → silent_move t ≡ true
 unchanged_silent t e f = rw (eq-eqb t.p t.r (sym e), eq-eqb t.q t.s (sym f)) refl
 
 -- at a terminal crowd no non-silent move is enabled
-pub terminal_dead : (leaf : LeafModel) (crowd : List ℕ) → IsTerminal (LeafStep leaf) crowd → (n : ℕ) (t : Move) → slice_get leaf.moves n ≡ Some t → is_silent t ≡ false → IsEnabledIn crowd t → ⊥
+pub terminal_dead : (leaf : LeafModel) (crowd : List ℕ) → IsTerminal (LeafStep leaf) crowd → (n : ℕ) (t : Move) → slice_get leaf.moves n ≡ Some t → silent_move t ≡ false → IsEnabledIn crowd t → ⊥
 terminal_dead leaf crowd terminal n t m s enabled =
     let two = agents_of crowd t (enabled_test-true crowd t enabled) in
     let a = two.0 in
@@ -66,7 +66,7 @@ pub cannot_meet : (leaf : LeafModel) (crowd : List ℕ) (p q : ℕ) → IsTermin
 cannot_meet leaf crowd p q terminal e there =
     let found = list_any-contains (takes p q) leaf.moves e in
     let t = found.0 in
-    let pair = pair_cases p q t.p t.q (and_right (not (is_silent t)) _ found.2) in
+    let pair = pair_cases p q t.p t.q (and_right (not (silent_move t)) _ found.2) in
     terminal_dead leaf crowd terminal found.1.0 t (listed leaf.moves found.1.0 t found.1.1 found.1.2) (not_true _ (and_left _ _ found.2)) (λ z. rw (pre_pair t p q z pair) (there z))
   where
     listed : (moves : List Move) (k : ℕ) (t : Move) → k < length moves → get_or moves k t ≡ t → slice_get moves k ≡ Some t

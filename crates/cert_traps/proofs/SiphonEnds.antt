@@ -18,7 +18,7 @@ use Rattle.cert_base.specs.declared.fact.Fact.{Fact}
 use Rattle.cert_base.specs.declared.fact.Fact.TheVariants.{Ge, Eq}
 use Rattle.cert_base.specs.Rows.{input_row}
 use Rattle.cert_base.specs.Valuation.{Valuation, MeetsFact, is_by, times_taken, IsOfExecution}
-use Rattle.cert_base.specs.FactsAndCases.{indicator, states_of, is_in, takes_from, puts_into, helpers_among, none_taken, some_taken, count_in, siphon_cases}
+use Rattle.cert_base.specs.FactsAndCases.{indicator, states_of, is_in, takes_from, puts_into, helpers_among, no_moves, some_taken, count_row, siphon_cases}
 use Rattle.cert_base.specs.Ends.{MeetsOne}
 use Rattle.cert_base.proofs.Dead.{number_in-cons}
 use Rattle.cert_base.proofs.Numbers.{number_in}
@@ -153,7 +153,7 @@ module _ (leaf : LeafModel) (set : List ℕ) (count : Valuation) (counts : List 
   second_case = Ge (input_row (map (λ start. indicator (is_in set start)) leaf.inputs) (pos (helpers_among leaf set) -ℤ pos 1)) ∷ []
 
   abbrev third_case : List Fact
-  third_case = none_taken leaf (takes_from set) ++ Eq (count_in leaf set (pos 0)) ∷ []
+  third_case = no_moves leaf (takes_from set) ++ Eq (count_row leaf set (pos 0)) ∷ []
 
   third_met : sum_if count (enters_set set) places leaf.moves ≡ 0 → sum_if count (is_in set) 0 leaf.inputs + helpers_among leaf set ≡ 0 → All (MeetsFact count) third_case
   third_met e f =
@@ -161,8 +161,8 @@ module _ (leaf : LeafModel) (set : List ℕ) (count : Valuation) (counts : List 
       let on = way_on leaf set (leaf_input_crowd leaf counts) path end way (none_at_start given.0 given.1) (not_entered e) in
       let row = row_value-behind count (is_in set) (length leaf.inputs) (states_of leaf) (pos 0) in
       let zero_sum = none_counted on.0 in
-      All-append (MeetsFact count) (none_taken leaf (takes_from set)) (Eq (count_in leaf set (pos 0)) ∷ []) (untaken_met leaf count (takes_from set) (λ n. times_taken leaf n (leaf_input_crowd leaf counts) path end way) is.moves on.1)
-      (All-cons (MeetsFact count) (Eq (count_in leaf set (pos 0))) [] (omega (arith, ints, row, zero_sum)) (All-nil (MeetsFact count)))
+      All-append (MeetsFact count) (no_moves leaf (takes_from set)) (Eq (count_row leaf set (pos 0)) ∷ []) (untaken_met leaf count (takes_from set) (λ n. times_taken leaf n (leaf_input_crowd leaf counts) path end way) is.moves on.1)
+      (All-cons (MeetsFact count) (Eq (count_row leaf set (pos 0))) [] (omega (arith, ints, row, zero_sum)) (All-nil (MeetsFact count)))
 
   -- the counts of an execution meet all facts of one of the cases
   pub siphon_met : MeetsOne count (siphon_cases leaf set)

@@ -11,7 +11,7 @@ use Rattle.pop_net.specs.LeafModel.{LeafModel, one_at}
 use Rattle.cert_base.specs.declared.fact.Fact.TheVariants.{Eq}
 use Rattle.cert_base.specs.Rows.{single_row, move_variable}
 use Rattle.cert_base.specs.Valuation.{Valuation, MeetsFact}
-use Rattle.cert_base.specs.FactsAndCases.{none_taken}
+use Rattle.cert_base.specs.FactsAndCases.{no_moves}
 use Rattle.cert_base.proofs.Indicators.{all_places}
 use Rattle.cert_traps.proofs.PresentEnds.{one_times}
 
@@ -48,7 +48,7 @@ single_none count v e = let o = one_times (count v) in omega (arith, ints, o, e)
 -- where no move that passes a test was taken, the counts meet the facts that say so
 pub untaken_met : (leaf : LeafModel) (count : Valuation) (test : Move → Bool) (times : ℕ → ℕ)
     → ((n : ℕ) → n < length leaf.moves → count (move_variable leaf n) ≡ times n)
-    → ((n : ℕ) (t : Move) → slice_get leaf.moves n ≡ Some t → test t ≡ true → times n ≡ 0) → All (MeetsFact count) (none_taken leaf test)
+    → ((n : ℕ) (t : Move) → slice_get leaf.moves n ≡ Some t → test t ≡ true → times n ≡ 0) → All (MeetsFact count) (no_moves leaf test)
 untaken_met leaf count test times is f =
     All-map (MeetsFact count) (λ t. Eq (single_row (move_variable leaf t) (pos 1) (pos 0))) _
     (all_places (λ t. MeetsFact count (Eq (single_row (move_variable leaf t) (pos 1) (pos 0)))) test 0 leaf.moves

@@ -18,7 +18,7 @@ use Rattle.cert_base.specs.declared.fact.Fact.{Fact}
 use Rattle.cert_base.specs.declared.fact.Fact.TheVariants.{Ge, Eq}
 use Rattle.cert_base.specs.Rows.{single_row, constant_row, input_variable}
 use Rattle.cert_base.specs.Valuation.{Valuation, MeetsFact, is_by, times_taken, IsOfExecution}
-use Rattle.cert_base.specs.FactsAndCases.{states_of, is_in, takes_from, puts_into, helpers_among, none_taken, none_started, none_helps, some_taken, count_in, trap_cases}
+use Rattle.cert_base.specs.FactsAndCases.{states_of, is_in, takes_from, puts_into, helpers_among, no_moves, none_started, none_helps, some_taken, count_row, trap_cases}
 use Rattle.cert_base.proofs.Agents.{InRange}
 use Rattle.cert_base.proofs.Dead.{one_there}
 use Rattle.cert_base.proofs.Indicators.{sum_if, row_value-behind, sum_if-none, all_places}
@@ -212,7 +212,7 @@ module _ (leaf : LeafModel) (set : List ℕ) (count : Valuation) (counts : List 
   first_case = some_taken leaf (leaves_set set) ∷ []
 
   abbrev second_case : List Fact
-  second_case = none_taken leaf (puts_into set) ++ none_started leaf set ++ Eq (count_in leaf set (pos 0)) ∷ none_helps leaf set
+  second_case = no_moves leaf (puts_into set) ++ none_started leaf set ++ Eq (count_row leaf set (pos 0)) ∷ none_helps leaf set
 
   not_helped : NoneIn set (leaf_input_crowd leaf counts) → All (MeetsFact count) (none_helps leaf set)
   not_helped none =
@@ -220,7 +220,7 @@ module _ (leaf : LeafModel) (set : List ℕ) (count : Valuation) (counts : List 
       subst (λ (b : Bool). All (MeetsFact count) (if b then [] else (Eq (constant_row (pos (helpers_among leaf set))) ∷ []))) (sym zero_helpers) (All-nil (MeetsFact count))
 
   abbrev third_case : List Fact
-  third_case = Ge (count_in leaf set (negsuc 0)) ∷ []
+  third_case = Ge (count_row leaf set (negsuc 0)) ∷ []
 
   -- the counts of an execution meet all facts of one of the cases
   pub trap_met : MeetsOne count (trap_cases leaf set)
@@ -229,16 +229,16 @@ module _ (leaf : LeafModel) (set : List ℕ) (count : Valuation) (counts : List 
       third : sum_if count (leaves_set set) places leaf.moves ≡ 0 → (0 < sum_if count (is_in set) (length leaf.inputs) (states_of leaf)) ⊎ (sum_if count (is_in set) (length leaf.inputs) (states_of leaf) ≤ 0) → MeetsOne count (trap_cases leaf set)
       third e (inl l) =
           let value = row_value-behind count (is_in set) (length leaf.inputs) (states_of leaf) (negsuc 0) in
-          in_rest count first_case (second_case ∷ third_case ∷ []) (in_rest count second_case (third_case ∷ []) (in_first count third_case [] (All-cons (MeetsFact count) (Ge (count_in leaf set (negsuc 0))) [] (omega (arith, ints, value, l)) (All-nil (MeetsFact count)))))
+          in_rest count first_case (second_case ∷ third_case ∷ []) (in_rest count second_case (third_case ∷ []) (in_first count third_case [] (All-cons (MeetsFact count) (Ge (count_row leaf set (negsuc 0))) [] (omega (arith, ints, value, l)) (All-nil (MeetsFact count)))))
       third e (inr l) =
           let zero_sum : sum_if count (is_in set) (length leaf.inputs) (states_of leaf) ≡ 0 = omega (arith, l) in
           let back = way_back leaf set (leaf_input_crowd leaf counts) path end way (none_at_end zero_sum) (not_left e) in
           let value = row_value-behind count (is_in set) (length leaf.inputs) (states_of leaf) (pos 0) in
           in_rest count first_case (second_case ∷ third_case ∷ [])
           (in_first count second_case (third_case ∷ [])
-          (All-append (MeetsFact count) (none_taken leaf (puts_into set) ++ none_started leaf set) (Eq (count_in leaf set (pos 0)) ∷ none_helps leaf set)
-          (All-append (MeetsFact count) (none_taken leaf (puts_into set)) (none_started leaf set) (untaken_met leaf count (puts_into set) (λ n. times_taken leaf n (leaf_input_crowd leaf counts) path end way) is.moves back.1) (not_started back.0))
-          (All-cons (MeetsFact count) (Eq (count_in leaf set (pos 0))) (none_helps leaf set) (omega (arith, ints, value, zero_sum)) (not_helped back.0))))
+          (All-append (MeetsFact count) (no_moves leaf (puts_into set) ++ none_started leaf set) (Eq (count_row leaf set (pos 0)) ∷ none_helps leaf set)
+          (All-append (MeetsFact count) (no_moves leaf (puts_into set)) (none_started leaf set) (untaken_met leaf count (puts_into set) (λ n. times_taken leaf n (leaf_input_crowd leaf counts) path end way) is.moves back.1) (not_started back.0))
+          (All-cons (MeetsFact count) (Eq (count_row leaf set (pos 0))) (none_helps leaf set) (omega (arith, ints, value, zero_sum)) (not_helped back.0))))
 
       first : (0 < sum_if count (leaves_set set) places leaf.moves) ⊎ (sum_if count (leaves_set set) places leaf.moves ≤ 0) → MeetsOne count (trap_cases leaf set)
       first (inl l) =

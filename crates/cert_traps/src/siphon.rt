@@ -4,8 +4,8 @@ ghost use Rattle.std.specs.Prelude.{◌≡◌, ◌++◌, ◌∷◌, [], pos, ◌
 ghost use Rattle.pop_net.specs.LeafModel.{IsLeaf};
 ghost use Rattle.cert_base.specs.declared.fact.Fact.TheVariants.{Ge, Eq};
 ghost use Rattle.cert_base.specs.Rows.{input_row};
-ghost use Rattle.cert_base.specs.FactsAndCases.{indicator, is_in, helpers_among, takes_from, none_taken as no_moves};
-ghost use Rattle.cert_base.specs.FactsAndCases.{count_in as count_row, siphon_cases as siphon_list};
+ghost use Rattle.cert_base.specs.FactsAndCases.{indicator, is_in, helpers_among, takes_from, no_moves};
+ghost use Rattle.cert_base.specs.FactsAndCases.{count_row, siphon_cases as siphon_list};
 ghost use Rattle.cert_base.specs.Ends.{Cover};
 
 use crate::facts::coefs;

@@ -3,9 +3,9 @@
 ghost use Rattle.std.specs.Prelude.{◌≡◌, ◌≤◌, ◌^◌, ◌++◌, ◌∷◌, [], pos, length, map, IfOk, OnOk};
 ghost use Rattle.pop_net.specs.LeafModel.{IsLeaf};
 ghost use Rattle.cert_base.specs.declared.fact.Fact.TheVariants.{Ge, Eq};
-ghost use Rattle.cert_base.specs.FactsAndCases.{none_taken as no_moves, none_started as no_inputs};
+ghost use Rattle.cert_base.specs.FactsAndCases.{no_moves, none_started as no_inputs};
 ghost use Rattle.cert_base.specs.FactsAndCases.{none_helps as no_helpers};
-ghost use Rattle.cert_base.specs.FactsAndCases.{some_taken as some_moves, count_in as count_row, puts_into};
+ghost use Rattle.cert_base.specs.FactsAndCases.{some_taken as some_moves, count_row, puts_into};
 ghost use Rattle.cert_base.specs.FactsAndCases.{trap_cases as trap_list};
 ghost use Rattle.cert_base.specs.Ends.{Cover};
 ghost use Rattle.cert_traps.specs.Roles.{passes};

@@ -7,7 +7,7 @@ use Rattle.pop_net.specs.LeafModel.{LeafModel}
 use Rattle.pres_ast.specs.PredModel.{PredModel}
 use Rattle.cert_base.specs.declared.fact.Fact.{Fact}
 use Rattle.cert_base.specs.declared.node.Node.{Node}
-use Rattle.cert_base.specs.FactsAndCases.{base_facts}
+use Rattle.cert_base.specs.FactsAndCases.{base_list}
 use Rattle.cert_base.specs.Closes.{MayStand, ClosesUnder, refuted, by_cases, ClosesEach, no_case, next_case, Closes}
 use Rattle.cert_tree.specs.declared.fault.TreeWhy.{TreeWhy}
 use Rattle.cert_tree.specs.Refusals.{cases_at, all_fit, refusal, Waiting, cases_below, go_on, first_from, first_refused}
@@ -116,11 +116,11 @@ mutual
 
 -- ---- the whole tree
 
-pub unrefused-Closes : (leaf : LeafModel) (p : PredModel) (value : Bool) (nodes : List Node) → length (base_facts leaf p value) ≤ 65536 → first_refused leaf p value nodes ≡ None → Closes leaf (base_facts leaf p value) nodes []
+pub unrefused-Closes : (leaf : LeafModel) (p : PredModel) (value : Bool) (nodes : List Node) → length (base_list leaf p value) ≤ 65536 → first_refused leaf p value nodes ≡ None → Closes leaf (base_list leaf p value) nodes []
 unrefused-Closes leaf p value nodes few e =
-    let h = all_inverse (unrefused-closes leaf nodes ((0, base_facts leaf p value) ∷ []) 0 (few, tt) e) in
+    let h = all_inverse (unrefused-closes leaf nodes ((0, base_list leaf p value) ∷ []) 0 (few, tt) e) in
     let none : h.0 ≡ [] = all_inverse h.2 in
     rw none at h.1
 
-pub Closes-unrefused : (leaf : LeafModel) (p : PredModel) (value : Bool) (nodes : List Node) → Closes leaf (base_facts leaf p value) nodes [] → first_refused leaf p value nodes ≡ None
+pub Closes-unrefused : (leaf : LeafModel) (p : PredModel) (value : Bool) (nodes : List Node) → Closes leaf (base_list leaf p value) nodes [] → first_refused leaf p value nodes ≡ None
 Closes-unrefused leaf p value nodes h = (closes-same h [] 0).1

@@ -16,7 +16,7 @@ use Rattle.cert_base.specs.declared.fact.Fact.TheVariants.{Ge, Eq, Cong, NotCong
 use Rattle.cert_base.specs.declared.node.Node.{Node}
 use Rattle.cert_base.specs.declared.node.Node.TheVariants.{Linear, Residue, Split, Present, Twin, Trap, Siphon, Open}
 use Rattle.cert_base.specs.Rows.{constant_row, terms_from, single_row, input_row, state_row, zeros, input_variable, state_variable, move_variable, variable_count}
-use Rattle.cert_base.specs.FactsAndCases.{helpers_in, helpers_among, none_helps, indicator, states_of, flow, two_agents, differs, wrong_output, base_facts, absent, occurs, alone, not_twice, can_meet, present_cases, is_in, takes_from, puts_into, places_from, none_taken, none_started, some_taken, count_in, trap_cases, siphon_cases, plus, negated, split_cases, over, open_tree}
+use Rattle.cert_base.specs.FactsAndCases.{helpers_starting, helpers_among, none_helps, indicator, states_of, flow, two_agents, differs, wrong_output, base_list, absent, occurs, alone, not_twice, can_meet, present_cases, is_in, takes_from, puts_into, places_from, no_moves, none_started, some_taken, count_row, trap_cases, siphon_cases, plus, negated, split_cases, over, open_tree}
 use Rattle.cert_base.specs.Closes.{name_below, where_in_range, opened, only_case}
 use Rattle.cert_linear.specs.Conditions.{AreAscending, IsOrdered}
 use Rattle.cert_tree.specs.Refusals.{cases_at}
@@ -148,7 +148,7 @@ one_in_one f h = one_case (f ∷ []) (one_fact f h)
 
 flow_ordered : (leaf : LeafModel) (q : ℕ) → HasOrder (flow leaf q)
 flow_ordered leaf q =
-    dense_eq (map (λ start. indicator (start == q)) leaf.inputs ++ map (λ z. neg_ℤ (indicator (z == q))) (states_of leaf) ++ map (λ t. pos (post t q) -ℤ pos (pre t q)) leaf.moves) (pos (helpers_in leaf q))
+    dense_eq (map (λ start. indicator (start == q)) leaf.inputs ++ map (λ z. neg_ℤ (indicator (z == q))) (states_of leaf) ++ map (λ t. pos (post t q) -ℤ pos (pre t q)) leaf.moves) (pos (helpers_starting leaf q))
 
 two_ordered : (leaf : LeafModel) → HasOrder (two_agents leaf)
 two_ordered leaf = dense_ge (replicate (length leaf.inputs) (pos 1)) (pos (length leaf.helpers) -ℤ pos 2)
@@ -163,7 +163,7 @@ wrong_ordered : (leaf : LeafModel) (value : Bool) → HasOrder (wrong_output lea
 wrong_ordered leaf value =
     over_states leaf (map (λ q. indicator (differs value (slice_index_or leaf.outputs q false))) (states_of leaf)) (negsuc 0)
 
-pub base_ordered : (leaf : LeafModel) (p : PredModel) (value : Bool) → AllOrdered (base_facts leaf p value)
+pub base_ordered : (leaf : LeafModel) (p : PredModel) (value : Bool) → AllOrdered (base_list leaf p value)
 base_ordered leaf p value =
     append_ordered (map (flow leaf) (states_of leaf)) (two_agents leaf ∷ Holds p value ∷ wrong_output leaf value ∷ [])
     (map_ordered (flow leaf) (states_of leaf) (flow_ordered leaf))
@@ -186,7 +186,7 @@ present_ordered leaf p =
     (more_facts (occurs leaf p) (map (absent leaf) others) (single_ge (state_variable leaf p) (pos 1) (negsuc 0)) (map_ordered (absent leaf) others (absent_ordered leaf)))
     (alone_ordered leaf p (can_meet leaf p p)))
 
-none_taken_ordered : (leaf : LeafModel) (test : Move → Bool) → AllOrdered (none_taken leaf test)
+none_taken_ordered : (leaf : LeafModel) (test : Move → Bool) → AllOrdered (no_moves leaf test)
 none_taken_ordered leaf test =
     map_ordered (λ t. Eq (single_row (move_variable leaf t) (pos 1) (pos 0))) (places_from 0 test leaf.moves) (λ t. single_eq (move_variable leaf t) (pos 1) (pos 0))
 
@@ -209,23 +209,23 @@ none_helps_ordered leaf set false =
 trap_ordered : (leaf : LeafModel) (set : List ℕ) → CasesOrdered (trap_cases leaf set)
 trap_ordered leaf set =
     three_cases (some_taken leaf (λ t. takes_from set t && not (puts_into set t)) ∷ [])
-    (none_taken leaf (puts_into set) ++ none_started leaf set ++ Eq (count_in leaf set (pos 0)) ∷ none_helps leaf set)
-    (Ge (count_in leaf set (negsuc 0)) ∷ [])
+    (no_moves leaf (puts_into set) ++ none_started leaf set ++ Eq (count_row leaf set (pos 0)) ∷ none_helps leaf set)
+    (Ge (count_row leaf set (negsuc 0)) ∷ [])
     (one_fact (some_taken leaf (λ t. takes_from set t && not (puts_into set t))) (taken_ordered leaf (λ t. takes_from set t && not (puts_into set t))))
-    (append_ordered (none_taken leaf (puts_into set) ++ none_started leaf set) (Eq (count_in leaf set (pos 0)) ∷ none_helps leaf set)
-    (append_ordered (none_taken leaf (puts_into set)) (none_started leaf set) (none_taken_ordered leaf (puts_into set)) (none_started_ordered leaf set))
-    (more_facts (Eq (count_in leaf set (pos 0))) (none_helps leaf set) (zero_over_states leaf (marks leaf set) (pos 0)) (none_helps_ordered leaf set (helpers_among leaf set == 0))))
-    (one_fact (Ge (count_in leaf set (negsuc 0))) (over_states leaf (marks leaf set) (negsuc 0)))
+    (append_ordered (no_moves leaf (puts_into set) ++ none_started leaf set) (Eq (count_row leaf set (pos 0)) ∷ none_helps leaf set)
+    (append_ordered (no_moves leaf (puts_into set)) (none_started leaf set) (none_taken_ordered leaf (puts_into set)) (none_started_ordered leaf set))
+    (more_facts (Eq (count_row leaf set (pos 0))) (none_helps leaf set) (zero_over_states leaf (marks leaf set) (pos 0)) (none_helps_ordered leaf set (helpers_among leaf set == 0))))
+    (one_fact (Ge (count_row leaf set (negsuc 0))) (over_states leaf (marks leaf set) (negsuc 0)))
 
 siphon_ordered : (leaf : LeafModel) (set : List ℕ) → CasesOrdered (siphon_cases leaf set)
 siphon_ordered leaf set =
     three_cases (some_taken leaf (λ t. puts_into set t && not (takes_from set t)) ∷ [])
     (Ge (input_row (map (λ start. indicator (is_in set start)) leaf.inputs) (pos (helpers_among leaf set) -ℤ pos 1)) ∷ [])
-    (none_taken leaf (takes_from set) ++ Eq (count_in leaf set (pos 0)) ∷ [])
+    (no_moves leaf (takes_from set) ++ Eq (count_row leaf set (pos 0)) ∷ [])
     (one_fact (some_taken leaf (λ t. puts_into set t && not (takes_from set t))) (taken_ordered leaf (λ t. puts_into set t && not (takes_from set t))))
     (one_fact (Ge (input_row (map (λ start. indicator (is_in set start)) leaf.inputs) (pos (helpers_among leaf set) -ℤ pos 1))) (dense_ge (map (λ start. indicator (is_in set start)) leaf.inputs) (pos (helpers_among leaf set) -ℤ pos 1)))
-    (append_ordered (none_taken leaf (takes_from set)) (Eq (count_in leaf set (pos 0)) ∷ []) (none_taken_ordered leaf (takes_from set))
-    (one_fact (Eq (count_in leaf set (pos 0))) (zero_over_states leaf (marks leaf set) (pos 0))))
+    (append_ordered (no_moves leaf (takes_from set)) (Eq (count_row leaf set (pos 0)) ∷ []) (none_taken_ordered leaf (takes_from set))
+    (one_fact (Eq (count_row leaf set (pos 0))) (zero_over_states leaf (marks leaf set) (pos 0))))
 
 split_ordered : (row : Row) → AreAscending row.terms → CasesOrdered (split_cases row)
 split_ordered row up =

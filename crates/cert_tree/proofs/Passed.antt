@@ -10,19 +10,19 @@ use Rattle.cert_base.specs.declared.fact.Fact.{Fact}
 use Rattle.cert_base.specs.declared.node.Node.TheVariants.{Linear, Residue, Split, Present, Twin, Trap, Siphon}
 use Rattle.cert_base.specs.Rows.{variable_count}
 use Rattle.cert_base.specs.FactsAndCases.{can_meet, not_twice, twin_case, split_cases, present_cases, trap_cases, siphon_cases}
-use Rattle.cert_base.specs.ClosingTests.{linear_closes, residue_closes}
+use Rattle.cert_base.specs.ClosingTests.{closes_by_sum, closes_by_residue}
 use Rattle.cert_base.specs.Closes.{name_below}
 use Rattle.cert_base.specs.Ends.{AreRefuted, Cover, CoverAll}
 use Rattle.cert_tree.specs.Frames.{IsPassed}
 
-pub linear_passed : (facts : List Fact) (terms : List Term) (cases : List (List Fact)) → name_below (length facts) terms ≡ true → linear_closes facts terms ≡ true → AreRefuted facts → cases ≡ [] → (leaf : LeafModel) → IsPassed leaf facts (Linear terms) cases
+pub linear_passed : (facts : List Fact) (terms : List Term) (cases : List (List Fact)) → name_below (length facts) terms ≡ true → closes_by_sum facts terms ≡ true → AreRefuted facts → cases ≡ [] → (leaf : LeafModel) → IsPassed leaf facts (Linear terms) cases
 linear_passed facts terms cases named closes refuted none leaf = record {
   cases_are = none;
   unrefused = rw (named, closes) refl;
   cover = λ count end meets. absurd (refuted count meets);
 }
 
-pub residue_passed : (facts : List Fact) (m : ℕ) (terms : List Term) (cases : List (List Fact)) → name_below (length facts) terms ≡ true → residue_closes facts m terms ≡ true → AreRefuted facts → cases ≡ [] → (leaf : LeafModel) → IsPassed leaf facts (Residue m terms) cases
+pub residue_passed : (facts : List Fact) (m : ℕ) (terms : List Term) (cases : List (List Fact)) → name_below (length facts) terms ≡ true → closes_by_residue facts m terms ≡ true → AreRefuted facts → cases ≡ [] → (leaf : LeafModel) → IsPassed leaf facts (Residue m terms) cases
 residue_passed facts m terms cases named closes refuted none leaf = record {
   cases_are = none;
   unrefused = rw (named, closes) refl;

@@ -9,7 +9,7 @@ use Rattle.pop_net.proofs.Reactions.{and_left, and_right}
 use Rattle.pop_io.specs.declared.fault.NoMemory.{NoMemory}
 use Rattle.pres_ast.specs.PredModel.{PredModel}
 use Rattle.pop_net.specs.LeafModel.{LeafModel, IsLeaf}
-use Rattle.cert_base.specs.FactsAndCases.{base_facts}
+use Rattle.cert_base.specs.FactsAndCases.{base_list}
 use Rattle.cert_base.specs.Closes.{Closes}
 use Rattle.cert_base.specs.declared.fact.Fact.{Fact}
 use Rattle.cert_base.specs.declared.node.Node.{Node}
@@ -48,9 +48,9 @@ room_left facts own cases rest e fit =
 
 -- ---- the beginning
 
-pub start_fits : (leaf : LeafModel) (p : PredModel) (value : Bool) (waiting : List Waiting) → IsLeaf leaf → waiting ≡ (0, base_facts leaf p value) ∷ [] → All IsFit waiting
+pub start_fits : (leaf : LeafModel) (p : PredModel) (value : Bool) (waiting : List Waiting) → IsLeaf leaf → waiting ≡ (0, base_list leaf p value) ∷ [] → All IsFit waiting
 start_fits leaf p value waiting is e =
-    rw e (All-cons IsFit (0, base_facts leaf p value) [] (record { few = base_few leaf p value is; ordered = all_of (base_ordered leaf p value) }) (All-nil IsFit))
+    rw e (All-cons IsFit (0, base_list leaf p value) [] (record { few = base_few leaf p value is; ordered = all_of (base_ordered leaf p value) }) (All-nil IsFit))
 
 -- ---- some node is refused
 
@@ -86,12 +86,12 @@ none_is : (o : Option (ℕ × TreeWhy)) → none_refused o ≡ true → o ≡ No
 none_is None e = refl
 none_is (Some at) e = cc
 
-pub closed_where : (leaf : LeafModel) (p : PredModel) (value : Bool) (nodes : List Node) (r : Result Bool NoMemory) → IsLeaf leaf → IfOk r (λ all. all ≡ none_refused (first_refused leaf p value nodes)) → IfOk r (λ closes. IsTrue closes → Closes leaf (base_facts leaf p value) nodes [])
+pub closed_where : (leaf : LeafModel) (p : PredModel) (value : Bool) (nodes : List Node) (r : Result Bool NoMemory) → IsLeaf leaf → IfOk r (λ all. all ≡ none_refused (first_refused leaf p value nodes)) → IfOk r (λ closes. IsTrue closes → Closes leaf (base_list leaf p value) nodes [])
 closed_where leaf p value nodes (Err e) is h = tt
 closed_where leaf p value nodes (Ok false) is h = λ yes. cc
 closed_where leaf p value nodes (Ok true) is h = λ yes. unrefused-Closes leaf p value nodes (base_few leaf p value is) (none_is _ (sym h))
 
-pub where_closed : (leaf : LeafModel) (p : PredModel) (value : Bool) (nodes : List Node) (r : Result Bool NoMemory) → IfOk r (λ all. all ≡ none_refused (first_refused leaf p value nodes)) → Closes leaf (base_facts leaf p value) nodes [] → IfOk r (λ closes. closes ≡ true)
+pub where_closed : (leaf : LeafModel) (p : PredModel) (value : Bool) (nodes : List Node) (r : Result Bool NoMemory) → IfOk r (λ all. all ≡ none_refused (first_refused leaf p value nodes)) → Closes leaf (base_list leaf p value) nodes [] → IfOk r (λ closes. closes ≡ true)
 where_closed leaf p value nodes (Err e) h closes = tt
 where_closed leaf p value nodes (Ok all) h closes = h ∙ ap none_refused (Closes-unrefused leaf p value nodes closes)
 

@@ -11,7 +11,7 @@ use Rattle.pop_net.specs.InputCrowd.{leaf_input_crowd}
 use Rattle.pop_net.specs.Step.{LeafStep}
 use Rattle.pop_net.specs.Reachable.{Leads}
 use Rattle.cert_base.specs.declared.node.Node.{Node}
-use Rattle.cert_base.specs.FactsAndCases.{base_facts}
+use Rattle.cert_base.specs.FactsAndCases.{base_list}
 use Rattle.cert_base.specs.Closes.{Closes}
 use Rattle.cert_base.specs.Valuation.{Valuation, times_taken, IsOfExecution}
 use Rattle.cert_base.specs.Ends.{IsWrongEnd, EndsRight, HoldAtWrongEnds}
@@ -37,7 +37,7 @@ pub none_at : (leaf : LeafModel) (p : PredModel) (value : Bool) (nodes : List No
 none_at leaf p value nodes before number same d e = same ∙ rw (d, e) refl
 
 -- a tree that closes is refused for out of memory alone
-pub only_memory : (leaf : LeafModel) (p : PredModel) (value : Bool) (nodes : List Node) (fault : TreeFault) → IsTreeFault leaf p value nodes fault → Closes leaf (base_facts leaf p value) nodes [] → fault ≡ OutOfMemory
+pub only_memory : (leaf : LeafModel) (p : PredModel) (value : Bool) (nodes : List Node) (fault : TreeFault) → IsTreeFault leaf p value nodes fault → Closes leaf (base_list leaf p value) nodes [] → fault ≡ OutOfMemory
 only_memory leaf p value nodes (Broken number why) is closes =
     let none = Closes-unrefused leaf p value nodes closes in let clash : Some (number, why) ≡ None = sym is ∙ none in cc
 only_memory leaf p value nodes OutOfMemory is closes = refl
@@ -87,10 +87,10 @@ ends_right leaf tree value none counts end input has reached terminal k d l =
     }))
 
 -- where nothing waits any more, there are no wrong ends
-pub closed_right : (leaf : LeafModel) (p : PredModel) (value : Bool) (after : List Waiting) → HoldAtWrongEnds leaf p.tree value (base_facts leaf p value) → StillCover leaf ((0, base_facts leaf p value) ∷ []) after → after ≡ [] → EndsRight leaf p.tree value
+pub closed_right : (leaf : LeafModel) (p : PredModel) (value : Bool) (after : List Waiting) → HoldAtWrongEnds leaf p.tree value (base_list leaf p value) → StillCover leaf ((0, base_list leaf p value) ∷ []) after → after ≡ [] → EndsRight leaf p.tree value
 closed_right leaf p value after met cover none =
     ends_right leaf p.tree value
-    (λ count wrong. let waits = cover count wrong.reached ((0, base_facts leaf p value), (0, omega arith, refl), met count wrong) in nothing (rw none at waits.1))
+    (λ count wrong. let waits = cover count wrong.reached ((0, base_list leaf p value), (0, omega arith, refl), met count wrong) in nothing (rw none at waits.1))
   where
     nothing : {at : Waiting} → Contains [] at → ⊥
     nothing (k, l, e) = absurd (omega arith)

@@ -5,7 +5,7 @@ use Rattle.cert_base.specs.declared.limits.TheConstants.{FACT_LIMIT}
 use Rattle.cert_base.specs.declared.fact.Fact.{Fact}
 use Rattle.cert_base.specs.declared.node.Node.{Node}
 use Rattle.cert_base.specs.Valuation.{Valuation}
-use Rattle.cert_base.specs.FactsAndCases.{base_facts}
+use Rattle.cert_base.specs.FactsAndCases.{base_list}
 use Rattle.cert_base.specs.Ends.{IsEnd, MeetsAll, MeetsOne, HoldAtWrongEnds}
 use Rattle.pres_ast.specs.PredModel.{PredModel}
 use Rattle.cert_linear.specs.Conditions.{IsOrdered}
@@ -105,8 +105,8 @@ fault_at node NoMemory = OutOfMemory
 
 -- the walk stands at the beginning of a tree: the base facts wait alone, and every wrong end meets them
 pub record IsStart (leaf : LeafModel) (p : PredModel) (value : Bool) (walk : Walk) : Type 0 where
-  pub waits : waiting walk ≡ (0, base_facts leaf p value) ∷ []
+  pub waits : waiting walk ≡ (0, base_list leaf p value) ∷ []
   pub nested : IsNested walk
   pub fit : All IsFit (waiting walk)
-  pub few : length (base_facts leaf p value) ≤ FACT_LIMIT
-  pub met : HoldAtWrongEnds leaf p.tree value (base_facts leaf p value)
+  pub few : length (base_list leaf p value) ≤ FACT_LIMIT
+  pub met : HoldAtWrongEnds leaf p.tree value (base_list leaf p value)

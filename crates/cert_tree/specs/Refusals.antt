@@ -10,7 +10,7 @@ use Rattle.cert_base.specs.declared.fact.Fact.TheVariants.{Holds}
 use Rattle.cert_base.specs.declared.node.Node.{Node}
 use Rattle.cert_base.specs.declared.node.Node.TheVariants.{Linear, Residue, Split, Present, Twin, Trap, Siphon, Open}
 use Rattle.cert_base.specs.Rows.{variable_count}
-use Rattle.cert_base.specs.FactsAndCases.{base_facts, can_meet}
+use Rattle.cert_base.specs.FactsAndCases.{base_list, can_meet}
 use Rattle.cert_base.specs.Closes.{name_below, refutes, cases_of}
 use Rattle.cert_tree.specs.declared.fault.TreeWhy.{TreeWhy}
 use Rattle.cert_tree.specs.declared.fault.TreeWhy.TheVariants.{Missing, TooDeep, BadIndex, NoTwin, NotOpen, NotClosed, TooManyFacts, Rest}
@@ -97,7 +97,7 @@ first_from leaf (at ∷ waiting) number (node ∷ nodes) =
     go_on (refusal leaf at.0 at.1 node) number (first_from leaf (cases_below leaf at node ++ waiting) (number + 1) nodes)
 
 abbrev pub first_refused : LeafModel → PredModel → Bool → List Node → Option (ℕ × TreeWhy)
-first_refused leaf p value nodes = first_from leaf ((0, base_facts leaf p value) ∷ []) 0 nodes
+first_refused leaf p value nodes = first_from leaf ((0, base_list leaf p value) ∷ []) 0 nodes
 
 -- the fault names the first node that is refused, and why
 abbrev pub IsTreeFault : LeafModel → PredModel → Bool → List Node → TreeFault → Type 0

@@ -1,7 +1,7 @@
 //! A slow reference for the tests alone: a check of a tree in which each case has a list of all its facts.
 
 ghost use Rattle.std.specs.Prelude.{◌≡◌, ◌+◌, ◌≤◌, ◌++◌, ◌∷◌, [], true, length, reverse, All, IfOk, OnOk, IsTrue};
-ghost use Rattle.cert_base.specs.FactsAndCases.{base_facts as base_list};
+ghost use Rattle.cert_base.specs.FactsAndCases.{base_list};
 ghost use Rattle.cert_base.specs.Closes.{Closes};
 ghost use Rattle.cert_tree.specs.Format.{IsWithinFormat};
 ghost use Rattle.cert_tree.specs.Refusals.{all_fit, first_refused};

@@ -1,7 +1,7 @@
 //! The check of a tree.
 
 ghost use Rattle.std.specs.Prelude.{◌≡◌, ◌≤◌, length, [], All, IfOk, IfErr, OnOk};
-ghost use Rattle.cert_base.specs.FactsAndCases.{base_facts as base_list};
+ghost use Rattle.cert_base.specs.FactsAndCases.{base_list};
 ghost use Rattle.cert_base.specs.Closes.{Closes};
 ghost use Rattle.cert_base.specs.Ends.{EndsRight};
 ghost use Rattle.cert_tree.specs.Format.{IsWithinFormat};

@@ -13,11 +13,11 @@ use Rattle.cert_base.specs.declared.fact.Fact.TheVariants.{Ge, Holds}
 use Rattle.cert_base.specs.declared.node.Node.{Node}
 use Rattle.cert_base.specs.declared.node.Node.TheVariants.{Present, Twin, Siphon, Open}
 use Rattle.cert_base.specs.Rows.{input_row}
-use Rattle.cert_base.specs.FactsAndCases.{states_of, flow, base_facts, two_agents, wrong_output, absent, occurs, alone, not_twice, can_meet, open_cases}
+use Rattle.cert_base.specs.FactsAndCases.{states_of, flow, base_list, two_agents, wrong_output, absent, occurs, alone, not_twice, can_meet, open_cases}
 use Rattle.cert_base.specs.Closes.{cases_of, ClosesUnder, refuted, by_cases, no_case, next_case, Closes}
 use Rattle.comp_trees.specs.LeaderTree.{weighed}
 use Rattle.comp_layers.proofs.Members.{all_range, range_one_more}
-use Rattle.comp_flock_leaf.specs.FlockLeaf.{is_coefficient, bound_of, flock_leaf}
+use Rattle.comp_flock_leaf.specs.FlockLeaf.{is_flock_coefficient, bound_of, flock_leaf_of}
 use Rattle.comp_flock.specs.FlockProof.{few_by, converted_by, first_by, start_by, never_by, true_tree, false_tree, flock_pred}
 use Rattle.comp_flock_leaf.proofs.MoveLists.{doubles, converts}
 use Rattle.comp_flock_leaf.proofs.Formed.{states-long}
@@ -36,9 +36,9 @@ filter-all test (x ∷ xs) all =
     let rest = filter-all test xs (All-tail (λ x. test x ≡ true) x xs all) in
     rw here (ap (λ ys. x ∷ ys) rest)
 
-module _ (coefs : List ℤ) (k : ℕ) (some : 1 ≤ k) (most : k ≤ 39) (are : list_all is_coefficient coefs ≡ true) (formed : IsLeaf (flock_leaf coefs k)) where
+module _ (coefs : List ℤ) (k : ℕ) (some : 1 ≤ k) (most : k ≤ 39) (are : list_all is_flock_coefficient coefs ≡ true) (formed : IsLeaf (flock_leaf_of coefs k)) where
   abbrev leaf : LeafModel
-  leaf = flock_leaf coefs k
+  leaf = flock_leaf_of coefs k
 
   abbrev pred : PredModel
   pred = flock_pred coefs k
@@ -47,7 +47,7 @@ module _ (coefs : List ℤ) (k : ℕ) (some : 1 ≤ k) (most : k ≤ 39) (are : 
   long = states-long k
 
   abbrev base : Bool → List Fact
-  base b = base_facts leaf pred b
+  base b = base_list leaf pred b
 
   length_base : (b : Bool) → length (base b) ≡ k + 5
   length_base b = omega (arith, length-append (map (flow leaf) (states_of leaf)) (two_agents leaf ∷ Holds pred b ∷ wrong_output leaf b ∷ []), length-map-range_with_len (flow leaf) 0 (length leaf.states), long)
@@ -140,7 +140,7 @@ module _ (coefs : List ℤ) (k : ℕ) (some : 1 ≤ k) (most : k ≤ 39) (are : 
   present_is : cases_of leaf true_facts (Present (k + 1)) ≡ Some ((absent leaf (k + 1) ∷ []) ∷ met ∷ [])
   present_is = rw in_states (ap (λ qs. Some ((absent leaf (k + 1) ∷ []) ∷ (occurs leaf (k + 1) ∷ map (absent leaf) qs ++ extra) ∷ [])) company-all)
 
-  pub tree-true : Closes leaf (base_facts leaf pred true) (true_tree k) []
+  pub tree-true : Closes leaf (base_list leaf pred true) (true_tree k) []
   tree-true =
       let last = weighed (converted_by k) in
       let first : ClosesUnder leaf 2 (few_at 0) (map Twin (range_with_len 1 k) ++ weighed (few_by k) ∷ last ∷ []) (last ∷ []) = close_few 0 k (last ∷ []) (zero-add k) in
@@ -178,7 +178,7 @@ module _ (coefs : List ℤ) (k : ℕ) (some : 1 ≤ k) (most : k ≤ 39) (are : 
   siphon_is : cases_of leaf false_facts (Siphon (full k)) ≡ Some (firsts ∷ starts ∷ nevers ∷ [])
   siphon_is = rw in_states refl
 
-  pub tree-false : Closes leaf (base_facts leaf pred false) (false_tree k) []
+  pub tree-false : Closes leaf (base_list leaf pred false) (false_tree k) []
   tree-false =
       let one = weighed (first_by k) in
       let two = weighed (start_by k) in

@@ -16,14 +16,14 @@ use Rattle.pres_ast.specs.PredModel.{PredModel}
 use Rattle.cert_base.specs.declared.fact.Fact.{Fact}
 use Rattle.cert_base.specs.declared.fact.Fact.TheVariants.{Ge, Eq}
 use Rattle.cert_base.specs.Rows.{terms_from, zeros, input_row, single_row, move_variable}
-use Rattle.cert_base.specs.ClosingTests.{linear_closes, may_add}
-use Rattle.cert_base.specs.FactsAndCases.{indicator, states_of, is_in, takes_from, puts_into, places_from, some_taken, none_taken, count_in}
+use Rattle.cert_base.specs.ClosingTests.{closes_by_sum, may_add}
+use Rattle.cert_base.specs.FactsAndCases.{indicator, states_of, is_in, takes_from, puts_into, places_from, some_taken, no_moves, count_row}
 use Rattle.cert_base.specs.WeightedSums.{weighted_sum, coefficient, constant_of, may_weigh}
 use Rattle.cert_base.proofs.WeightedSums.{weighted_sum-append, weighted_sum-zeros, may_weigh-append, may_weigh-zeros}
 use Rattle.cert_base.proofs.FlowSums.{coefficient-dense, times-one, mul-neg}
 use Rattle.comp_trees.proofs.LeaderEnds.{is_wrong}
 use Rattle.comp_trees.proofs.TrapNodes.{range-constant, states-state, states-input, states-past}
-use Rattle.comp_flock_leaf.specs.FlockLeaf.{is_coefficient, bound_of, size_of, start_of, doubling, conversion, moves_of, flock_leaf}
+use Rattle.comp_flock_leaf.specs.FlockLeaf.{is_flock_coefficient, bound_of, size_in, start_of, doubling, conversion, moves_of, flock_leaf_of}
 use Rattle.comp_flock.specs.FlockProof.{mix, size_below, first_by, start_by, never_by, flock_pred}
 use Rattle.comp_flock_leaf.proofs.Powers.{power-double, size-power, size-at, zero_le}
 use Rattle.comp_flock_leaf.proofs.MoveLists.{all_moves, all_doublings, all_conversions}
@@ -62,22 +62,22 @@ joins k t = puts_into (full k) t && not (takes_from (full k) t)
 size-full : (k : ℕ) → size_below k (k + 1) ≡ pos 0
 size-full k = rw (eq-eqb (k + 1) (k + 1) refl) refl
 
-size-other : (k q : ℕ) → q ≢ k + 1 → size_below k q ≡ pos (size_of q)
+size-other : (k q : ℕ) → q ≢ k + 1 → size_below k q ≡ pos (size_in q)
 size-other k q ne = rw (ne_eqb q (k + 1) ne) refl
 
 size-positive : (k q : ℕ) → pos 0 ≤ℤ size_below k q
 size-positive k q = go (q == k + 1)
   where
-    go : (b : Bool) → pos 0 ≤ℤ (if b then pos 0 else pos (size_of q))
+    go : (b : Bool) → pos 0 ≤ℤ (if b then pos 0 else pos (size_in q))
     go true = omega (arith, ints)
     go false = omega (arith, ints)
 
 times-yes : (a : ℤ) → (a *ℤ indicator true) ≡ a
 times-yes a = times-one a
 
-module _ (coefs : List ℤ) (k : ℕ) (some : 1 ≤ k) (are : list_all is_coefficient coefs ≡ true) (formed : IsLeaf (flock_leaf coefs k)) where
+module _ (coefs : List ℤ) (k : ℕ) (some : 1 ≤ k) (are : list_all is_flock_coefficient coefs ≡ true) (formed : IsLeaf (flock_leaf_of coefs k)) where
   abbrev leaf : LeafModel
-  leaf = flock_leaf coefs k
+  leaf = flock_leaf_of coefs k
 
   abbrev pred : PredModel
   pred = flock_pred coefs k
@@ -190,9 +190,9 @@ module _ (coefs : List ℤ) (k : ℕ) (some : 1 ≤ k) (are : list_all is_coeffi
       or_yes true = refl
       or_yes false = refl
 
-  pub first_closes : linear_closes (all_facts leaf pred false coefs (neg_ℤ (bound_of k)) first_facts) (terms_from 0 (first_by k)) ≡ true
+  pub first_closes : closes_by_sum (all_facts leaf pred false coefs (neg_ℤ (bound_of k)) first_facts) (terms_from 0 (first_by k)) ≡ true
   first_closes =
-      subst (λ m. linear_closes (all_facts leaf pred false coefs (neg_ℤ (bound_of k)) first_facts) (terms_from 0 (mix (map below (range_with_len 0 m)) (pos 0) (pos 1) (full_size ∷ []))) ≡ true) long
+      subst (λ m. closes_by_sum (all_facts leaf pred false coefs (neg_ℤ (bound_of k)) first_facts) (terms_from 0 (mix (map below (range_with_len 0 m)) (pos 0) (pos 1) (full_size ∷ []))) ≡ true) long
       (mix_closes leaf pred false coefs (neg_ℤ (bound_of k)) first_facts below (pos 0) (pos 1) (full_size ∷ []) plain refl refl first_may first_low)
 
   -- ---- no agent starts as 2^k
@@ -229,18 +229,18 @@ module _ (coefs : List ℤ) (k : ℕ) (some : 1 ≤ k) (are : list_all is_coeffi
       ap (λ m. mix (map (λ (q : ℕ). pos 0) (range_with_len 0 m)) wrong (pos 0) own) long
       ∙ ap (λ zs. mix zs wrong (pos 0) own) (range-constant (pos 0) 0 (k + 2))
 
-  pub start_closes : linear_closes (all_facts leaf pred false coefs (neg_ℤ (bound_of k)) start_facts) (terms_from 0 (start_by k)) ≡ true
+  pub start_closes : closes_by_sum (all_facts leaf pred false coefs (neg_ℤ (bound_of k)) start_facts) (terms_from 0 (start_by k)) ≡ true
   start_closes =
-      subst (λ ms. linear_closes (all_facts leaf pred false coefs (neg_ℤ (bound_of k)) start_facts) (terms_from 0 ms) ≡ true) (no_flows (pos 0) (pos 1 ∷ []))
+      subst (λ ms. closes_by_sum (all_facts leaf pred false coefs (neg_ℤ (bound_of k)) start_facts) (terms_from 0 ms) ≡ true) (no_flows (pos 0) (pos 1 ∷ []))
       (mix_closes leaf pred false coefs (neg_ℤ (bound_of k)) start_facts (λ q. pos 0) (pos 0) (pos 0) (pos 1 ∷ []) plain refl refl refl start_low)
 
   -- ---- 2^k never came
 
   abbrev not_taken : List Fact
-  not_taken = none_taken leaf (takes_from (full k))
+  not_taken = no_moves leaf (takes_from (full k))
 
   abbrev no_count : Fact
-  no_count = Eq (count_in leaf (full k) (pos 0))
+  no_count = Eq (count_row leaf (full k) (pos 0))
 
   abbrev pub never_facts : List Fact
   never_facts = not_taken ++ no_count ∷ []
@@ -298,7 +298,7 @@ module _ (coefs : List ℤ) (k : ℕ) (some : 1 ≤ k) (are : list_all is_coeffi
     at_end = (let sum = never_sum constant_of in let row = zero-*ℤ (neg_ℤ (bound_of k)) in omega (arith, ints, sum, row));
   }
 
-  pub never_closes : linear_closes (all_facts leaf pred false coefs (neg_ℤ (bound_of k)) never_facts) (terms_from 0 (never_by k)) ≡ true
+  pub never_closes : closes_by_sum (all_facts leaf pred false coefs (neg_ℤ (bound_of k)) never_facts) (terms_from 0 (never_by k)) ≡ true
   never_closes =
-      subst (λ ms. linear_closes (all_facts leaf pred false coefs (neg_ℤ (bound_of k)) never_facts) (terms_from 0 ms) ≡ true) (no_flows (pos 1) never_own)
+      subst (λ ms. closes_by_sum (all_facts leaf pred false coefs (neg_ℤ (bound_of k)) never_facts) (terms_from 0 ms) ≡ true) (no_flows (pos 1) never_own)
       (mix_closes leaf pred false coefs (neg_ℤ (bound_of k)) never_facts (λ q. pos 0) (pos 1) (pos 0) never_own plain refl refl never_may never_low)

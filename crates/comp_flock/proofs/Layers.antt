@@ -11,7 +11,7 @@ use Rattle.pop_net.specs.declared.leaf.Move.{Move}
 use Rattle.pop_net.specs.LeafModel.{LeafModel}
 use Rattle.cert_base.specs.ValidLayers.{weight_at, IsLower, ValidLayers}
 use Rattle.comp_layers.proofs.SortedLayers.{AreKinds, sorted_layers-valid}
-use Rattle.comp_flock_leaf.specs.FlockLeaf.{doubling, conversion, moves_of, flock_leaf}
+use Rattle.comp_flock_leaf.specs.FlockLeaf.{doubling, conversion, moves_of, flock_leaf_of}
 use Rattle.comp_flock.specs.FlockProof.{weight_of, flock_layers}
 use Rattle.comp_flock_leaf.proofs.MoveLists.{all_moves, moves-long}
 use Rattle.comp_flock_leaf.proofs.Formed.{states-long}
@@ -56,7 +56,7 @@ lower-conversion k (suc i) l =
 
 module _ (coefs : List ℤ) (k : ℕ) where
   abbrev leaf : LeafModel
-  leaf = flock_leaf coefs k
+  leaf = flock_leaf_of coefs k
 
   are_kinds : AreKinds leaf (λ t. 0) (weights k ∷ [])
   are_kinds = record {

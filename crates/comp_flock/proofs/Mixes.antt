@@ -12,8 +12,8 @@ use Rattle.pres_ast.specs.PredModel.{PredModel}
 use Rattle.cert_base.specs.declared.fact.Fact.{Fact}
 use Rattle.cert_base.specs.declared.fact.Fact.TheVariants.{Ge, Holds}
 use Rattle.cert_base.specs.Rows.{terms_from, input_row}
-use Rattle.cert_base.specs.ClosingTests.{row_of, linear_closes, may_add}
-use Rattle.cert_base.specs.FactsAndCases.{indicator, states_of, flow, base_facts, two_agents, wrong_output}
+use Rattle.cert_base.specs.ClosingTests.{row_of, closes_by_sum, may_add}
+use Rattle.cert_base.specs.FactsAndCases.{indicator, states_of, flow, base_list, two_agents, wrong_output}
 use Rattle.cert_base.specs.WeightedSums.{weighted_sum, coefficient, constant_of, may_weigh}
 use Rattle.cert_base.proofs.WeightedSums.{weighted_sum-append, may_weigh-append, linear_closes-weighted}
 use Rattle.cert_base.proofs.FlowSums.{coefficient-dense, weighted_sum-map, total-none, law-input, law-state, law-move, law-past, each_variable, times-one, mul-neg}
@@ -36,7 +36,7 @@ module _ (leaf : LeafModel) (pred : PredModel) (b : Bool) (coefs : List ℤ) (co
   opened = Ge (input_row coefs constant)
 
   abbrev pub all_facts : List Fact
-  all_facts = (base_facts leaf pred b ++ opened ∷ []) ++ own
+  all_facts = (base_list leaf pred b ++ opened ∷ []) ++ own
 
   abbrev pub mixed : (ℕ → ℤ) → ℤ → ℤ → List ℤ → List ℤ
   mixed w wrong add ms = mix (map w (states_of leaf)) wrong add ms
@@ -50,19 +50,19 @@ module _ (leaf : LeafModel) (pred : PredModel) (b : Bool) (coefs : List ℤ) (co
   len_flows : (w : ℕ → ℤ) → length flows ≡ length (map w (states_of leaf))
   len_flows w = length-map (states_of leaf) (flow leaf) ∙ sym (length-map (states_of leaf) w)
 
-  len_base : (w : ℕ → ℤ) (wrong : ℤ) → length (base_facts leaf pred b) ≡ length (map w (states_of leaf) ++ pos 0 ∷ pos 0 ∷ wrong ∷ [])
+  len_base : (w : ℕ → ℤ) (wrong : ℤ) → length (base_list leaf pred b) ≡ length (map w (states_of leaf) ++ pos 0 ∷ pos 0 ∷ wrong ∷ [])
   len_base w wrong = omega (arith, length-append flows last_three, length-append (map w (states_of leaf)) (pos 0 ∷ pos 0 ∷ wrong ∷ []), len_flows w)
 
-  len_open : (w : ℕ → ℤ) (wrong add : ℤ) → length (base_facts leaf pred b ++ opened ∷ []) ≡ length ((map w (states_of leaf) ++ pos 0 ∷ pos 0 ∷ wrong ∷ []) ++ add ∷ [])
-  len_open w wrong add = omega (arith, length-append (base_facts leaf pred b) (opened ∷ []), length-append (map w (states_of leaf) ++ pos 0 ∷ pos 0 ∷ wrong ∷ []) (add ∷ []), len_base w wrong)
+  len_open : (w : ℕ → ℤ) (wrong add : ℤ) → length (base_list leaf pred b ++ opened ∷ []) ≡ length ((map w (states_of leaf) ++ pos 0 ∷ pos 0 ∷ wrong ∷ []) ++ add ∷ [])
+  len_open w wrong add = omega (arith, length-append (base_list leaf pred b) (opened ∷ []), length-append (map w (states_of leaf) ++ pos 0 ∷ pos 0 ∷ wrong ∷ []) (add ∷ []), len_base w wrong)
 
   -- what the facts add up to, by what each fact has
   mix_sum : (value : Fact → ℤ) (w : ℕ → ℤ) (wrong add : ℤ) (ms : List ℤ) → weighted_sum value all_facts (mixed w wrong add ms) ≡ (((weighted_sum value flows (map w (states_of leaf)) +ℤ (wrong *ℤ value (wrong_output leaf b))) +ℤ (add *ℤ value opened)) +ℤ weighted_sum value own ms)
   mix_sum value w wrong add ms =
       let mb = map w (states_of leaf) ++ pos 0 ∷ pos 0 ∷ wrong ∷ [] in
       let e1 = weighted_sum-append value flows last_three (map w (states_of leaf)) (pos 0 ∷ pos 0 ∷ wrong ∷ []) (len_flows w) in
-      let e2 = weighted_sum-append value (base_facts leaf pred b) (opened ∷ []) mb (add ∷ []) (len_base w wrong) in
-      let e3 = weighted_sum-append value (base_facts leaf pred b ++ opened ∷ []) own (mb ++ add ∷ []) ms (len_open w wrong add) in
+      let e2 = weighted_sum-append value (base_list leaf pred b) (opened ∷ []) mb (add ∷ []) (len_base w wrong) in
+      let e3 = weighted_sum-append value (base_list leaf pred b ++ opened ∷ []) own (mb ++ add ∷ []) ms (len_open w wrong add) in
       let z1 = zero-*ℤ (value (two_agents leaf)) in
       let z2 = zero-*ℤ (value (Holds pred b)) in
       omega (arith, ints, e1, e2, e3, z1, z2)
@@ -74,8 +74,8 @@ module _ (leaf : LeafModel) (pred : PredModel) (b : Bool) (coefs : List ℤ) (co
       let w2 : may_weigh may_add last_three (pos 0 ∷ pos 0 ∷ wrong ∷ []) ≡ true = rw wrong_may refl in
       let m2 = may_weigh-append may_add flows last_three (map w (states_of leaf)) (pos 0 ∷ pos 0 ∷ wrong ∷ []) (len_flows w) m1 w2 in
       let w3 : may_weigh may_add (opened ∷ []) (add ∷ []) ≡ true = rw add_may refl in
-      let m3 = may_weigh-append may_add (base_facts leaf pred b) (opened ∷ []) mb (add ∷ []) (len_base w wrong) m2 w3 in
-      may_weigh-append may_add (base_facts leaf pred b ++ opened ∷ []) own (mb ++ add ∷ []) ms (len_open w wrong add) m3 own_may
+      let m3 = may_weigh-append may_add (base_list leaf pred b) (opened ∷ []) mb (add ∷ []) (len_base w wrong) m2 w3 in
+      may_weigh-append may_add (base_list leaf pred b ++ opened ∷ []) own (mb ++ add ∷ []) ms (len_open w wrong add) m3 own_may
 
   -- the coefficients of each kind of variable are at most 0, and the constant is below 0
   pub record IsLow (w : ℕ → ℤ) (wrong add : ℤ) (ms : List ℤ) : Type 0 where
@@ -94,7 +94,7 @@ module _ (leaf : LeafModel) (pred : PredModel) (b : Bool) (coefs : List ℤ) (co
   flow-constant : (q : ℕ) → IsPlain leaf coefs → constant_of (flow leaf q) ≡ pos 0
   flow-constant q is = ap (λ (hs : List ℕ). pos (count_by (λ z. z == q) hs)) is.helpers
 
-  pub mix_closes : (w : ℕ → ℤ) (wrong add : ℤ) (ms : List ℤ) → IsPlain leaf coefs → (int_eq wrong (pos 0) || int_le (pos 0) wrong) ≡ true → (int_eq add (pos 0) || int_le (pos 0) add) ≡ true → may_weigh may_add own ms ≡ true → IsLow w wrong add ms → linear_closes all_facts (terms_from 0 (mixed w wrong add ms)) ≡ true
+  pub mix_closes : (w : ℕ → ℤ) (wrong add : ℤ) (ms : List ℤ) → IsPlain leaf coefs → (int_eq wrong (pos 0) || int_le (pos 0) wrong) ≡ true → (int_eq add (pos 0) || int_le (pos 0) add) ≡ true → may_weigh may_add own ms ≡ true → IsLow w wrong add ms → closes_by_sum all_facts (terms_from 0 (mixed w wrong add ms)) ≡ true
   mix_closes w wrong add ms is wrong_may add_may own_may low =
       linear_closes-weighted all_facts (mixed w wrong add ms) (mix_may w wrong add ms wrong_may add_may own_may)
       (each_variable leaf (λ x. weighted_sum (coefficient x) all_facts (mixed w wrong add ms) ≤ℤ pos 0) inputs states moves past) last

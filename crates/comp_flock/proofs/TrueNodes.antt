@@ -15,7 +15,7 @@ use Rattle.pop_net.specs.LeafModel.{LeafModel, IsLeaf}
 use Rattle.pres_ast.specs.PredModel.{PredModel}
 use Rattle.cert_base.specs.declared.fact.Fact.{Fact}
 use Rattle.cert_base.specs.Rows.{terms_from, zeros}
-use Rattle.cert_base.specs.ClosingTests.{linear_closes, may_add}
+use Rattle.cert_base.specs.ClosingTests.{closes_by_sum, may_add}
 use Rattle.cert_base.specs.FactsAndCases.{indicator, states_of, absent, occurs, not_twice}
 use Rattle.cert_base.specs.WeightedSums.{weighted_sum, coefficient, constant_of, may_weigh, total}
 use Rattle.cert_base.proofs.WeightedSums.{weighted_sum-append, may_weigh-append, none_weighted}
@@ -23,7 +23,7 @@ use Rattle.cert_base.proofs.FlowSums.{weighted_sum-map, total-same, total-none, 
 use Rattle.comp_trees.proofs.LeaderEnds.{absent-at, is_wrong, may_weigh-eqs}
 use Rattle.comp_trees.proofs.TrapNodes.{range-constant}
 use Rattle.comp_layers.proofs.Members.{range_one_more}
-use Rattle.comp_flock_leaf.specs.FlockLeaf.{is_coefficient, bound_of, size_of, start_of, moves_of, flock_leaf}
+use Rattle.comp_flock_leaf.specs.FlockLeaf.{is_flock_coefficient, bound_of, size_in, start_of, moves_of, flock_leaf_of}
 use Rattle.comp_flock.specs.FlockProof.{mix, few_by, converted_by, flock_pred}
 use Rattle.comp_flock_leaf.proofs.Powers.{power-double, size-power, size-at, size-le, sizes-total, zero_le}
 use Rattle.comp_flock_leaf.proofs.MoveLists.{all_moves}
@@ -33,7 +33,7 @@ use Rattle.comp_flock.proofs.OwnFacts.{not_twice-at, total-append, total-counts,
 
 -- ---- coefficients are 0 or -1
 
-pub coefficient-cases : (a : ℤ) → is_coefficient a ≡ true → (a ≡ pos 0) ⊎ (a ≡ negsuc 0)
+pub coefficient-cases : (a : ℤ) → is_flock_coefficient a ≡ true → (a ≡ pos 0) ⊎ (a ≡ negsuc 0)
 coefficient-cases a e = go (int_eq a (pos 0)) (int_eq a (negsuc 0)) refl refl e
   where
     go : (c d : Bool) → int_eq a (pos 0) ≡ c → int_eq a (negsuc 0) ≡ d → (c || d) ≡ true → (a ≡ pos 0) ⊎ (a ≡ negsuc 0)
@@ -41,13 +41,13 @@ coefficient-cases a e = go (int_eq a (pos 0)) (int_eq a (negsuc 0)) refl refl e
     go false true f g h = inr ((Decides-int_eq a (negsuc 0)).0 g)
     go false false f g h = absurd (let n : false ≡ true = h in cc)
 
-pub start-size : (a : ℤ) → is_coefficient a ≡ true → pos (size_of (start_of a)) ≡ neg_ℤ a
+pub start-size : (a : ℤ) → is_flock_coefficient a ≡ true → pos (size_in (start_of a)) ≡ neg_ℤ a
 start-size a e = elim (coefficient-cases a e) [ inl h ↦ rw h refl | inr h ↦ rw h refl ]
 
-pub coefficient-at : (coefs : List ℤ) (i : ℕ) → list_all is_coefficient coefs ≡ true → i < length coefs → is_coefficient (get_or coefs i (pos 0)) ≡ true
-coefficient-at coefs i all l = AllPass-from_list_all is_coefficient coefs all i (pos 0) l
+pub coefficient-at : (coefs : List ℤ) (i : ℕ) → list_all is_flock_coefficient coefs ≡ true → i < length coefs → is_flock_coefficient (get_or coefs i (pos 0)) ≡ true
+coefficient-at coefs i all l = AllPass-from_list_all is_flock_coefficient coefs all i (pos 0) l
 
-pub is_plain : (coefs others : List ℤ) (k : ℕ) → IsLeaf (flock_leaf coefs k) → length others ≡ length coefs → IsPlain (flock_leaf coefs k) others
+pub is_plain : (coefs others : List ℤ) (k : ℕ) → IsLeaf (flock_leaf_of coefs k) → length others ≡ length coefs → IsPlain (flock_leaf_of coefs k) others
 is_plain coefs others k formed e = record {
   helpers = refl;
   inputs = formed.inputs;
@@ -56,12 +56,12 @@ is_plain coefs others k formed e = record {
 }
 
 -- the output of a state
-pub output-at : (coefs : List ℤ) (k z : ℕ) → z < k + 2 → get_or (flock_leaf coefs k).outputs z false ≡ (z == k + 1)
+pub output-at : (coefs : List ℤ) (k z : ℕ) → z < k + 2 → get_or (flock_leaf_of coefs k).outputs z false ≡ (z == k + 1)
 output-at coefs k z l = get_or-map-range_with_len (λ q. q == k + 1) 0 (k + 2) z z false l (zero-add z)
 
-module _ (coefs : List ℤ) (k : ℕ) (are : list_all is_coefficient coefs ≡ true) (formed : IsLeaf (flock_leaf coefs k)) where
+module _ (coefs : List ℤ) (k : ℕ) (are : list_all is_flock_coefficient coefs ≡ true) (formed : IsLeaf (flock_leaf_of coefs k)) where
   abbrev leaf : LeafModel
-  leaf = flock_leaf coefs k
+  leaf = flock_leaf_of coefs k
 
   abbrev pred : PredModel
   pred = flock_pred coefs k
@@ -84,10 +84,10 @@ module _ (coefs : List ℤ) (k : ℕ) (are : list_all is_coefficient coefs ≡ t
   few_facts j = absent leaf (k + 1) ∷ map (not_twice leaf) (range_with_len 1 j)
 
   abbrev size : ℕ → ℤ
-  size q = pos (size_of q)
+  size q = pos (size_in q)
 
   abbrev few_own : List ℤ
-  few_own = neg_ℤ (pos (2 ^ k)) ∷ map (λ q. pos (size_of q)) (range_with_len 1 k)
+  few_own = neg_ℤ (pos (2 ^ k)) ∷ map (λ q. pos (size_in q)) (range_with_len 1 k)
 
   abbrev counted : ℕ → ℤ
   counted x = total (λ q. size q *ℤ indicator ((n + q) == x)) (range_with_len 0 (k + 2))
@@ -99,7 +99,7 @@ module _ (coefs : List ℤ) (k : ℕ) (are : list_all is_coefficient coefs ≡ t
   few_sum x =
       let f : ℕ → ℤ = λ q. size q *ℤ indicator ((n + q) == x) in
       let first = ap (λ c. neg_ℤ (pos (2 ^ k)) *ℤ c) (absent-at leaf (k + 1) x) ∙ neg_times (pos (2 ^ k)) (indicator ((n + (k + 1)) == x)) in
-      let second = weighted_sum-map (coefficient x) (not_twice leaf) (λ q. pos (size_of q)) (range_with_len 1 k)
+      let second = weighted_sum-map (coefficient x) (not_twice leaf) (λ q. pos (size_in q)) (range_with_len 1 k)
       ∙ total-same (λ q. size q *ℤ coefficient x (not_twice leaf q)) (λ q. neg_ℤ (f q)) (range_with_len 1 k) (λ q. ap (λ c. size q *ℤ c) (not_twice-at leaf q x) ∙ mul-neg (size q) (indicator ((n + q) == x)))
       ∙ total-neg f (range_with_len 1 k) in
       let whole = ap (λ m. total f (range_with_len 0 m)) (let e : k + 2 ≡ k + 1 + 1 = omega arith in e) ∙ ap (total f) (range_one_more (k + 1)) ∙ total-append f (range_with_len 0 (k + 1)) ((k + 1) ∷ []) in
@@ -111,7 +111,7 @@ module _ (coefs : List ℤ) (k : ℕ) (are : list_all is_coefficient coefs ≡ t
   few_constant : weighted_sum constant_of (few_facts k) few_own ≡ (pos (2 ^ k) -ℤ pos 1)
   few_constant =
       let first = *ℤ-zero (neg_ℤ (pos (2 ^ k))) in
-      let second = weighted_sum-map constant_of (not_twice leaf) (λ q. pos (size_of q)) (range_with_len 1 k) in
+      let second = weighted_sum-map constant_of (not_twice leaf) (λ q. pos (size_in q)) (range_with_len 1 k) in
       let third = sizes-total 0 k in
       let same = ap (λ m. 2 ^ m) (zero-add k) in
       omega (arith, ints, first, second, third, same)
@@ -119,7 +119,7 @@ module _ (coefs : List ℤ) (k : ℕ) (are : list_all is_coefficient coefs ≡ t
   few_may : may_weigh may_add (few_facts k) few_own ≡ true
   few_may = or_first (int_eq (neg_ℤ (pos (2 ^ k))) (pos 0)) (twins_may 1 k)
     where
-      or_first : (c : Bool) → may_weigh may_add (map (not_twice leaf) (range_with_len 1 k)) (map (λ q. pos (size_of q)) (range_with_len 1 k)) ≡ true → ((c || true) && may_weigh may_add (map (not_twice leaf) (range_with_len 1 k)) (map (λ q. pos (size_of q)) (range_with_len 1 k))) ≡ true
+      or_first : (c : Bool) → may_weigh may_add (map (not_twice leaf) (range_with_len 1 k)) (map (λ q. pos (size_in q)) (range_with_len 1 k)) ≡ true → ((c || true) && may_weigh may_add (map (not_twice leaf) (range_with_len 1 k)) (map (λ q. pos (size_in q)) (range_with_len 1 k))) ≡ true
       or_first true h = h
       or_first false h = h
 
@@ -127,11 +127,11 @@ module _ (coefs : List ℤ) (k : ℕ) (are : list_all is_coefficient coefs ≡ t
       or_yes true = refl
       or_yes false = refl
 
-      twins_may : (a m : ℕ) → may_weigh may_add (map (not_twice leaf) (range_with_len a m)) (map (λ q. pos (size_of q)) (range_with_len a m)) ≡ true
+      twins_may : (a m : ℕ) → may_weigh may_add (map (not_twice leaf) (range_with_len a m)) (map (λ q. pos (size_in q)) (range_with_len a m)) ≡ true
       twins_may a zero = refl
       twins_may a (suc m) =
           let rest = twins_may (a + 1) m in
-          let here : (int_eq (pos (size_of a)) (pos 0) || int_le (pos 0) (pos (size_of a))) ≡ true = ap (λ (c : Bool). int_eq (pos (size_of a)) (pos 0) || c) (zero_le (size_of a)) ∙ or_yes (int_eq (pos (size_of a)) (pos 0)) in
+          let here : (int_eq (pos (size_in a)) (pos 0) || int_le (pos 0) (pos (size_in a))) ≡ true = ap (λ (c : Bool). int_eq (pos (size_in a)) (pos 0) || c) (zero_le (size_in a)) ∙ or_yes (int_eq (pos (size_in a)) (pos 0)) in
           rw (here, rest) refl
 
   -- no move loses agents
@@ -173,9 +173,9 @@ module _ (coefs : List ℤ) (k : ℕ) (are : list_all is_coefficient coefs ≡ t
       one_times : (a : ℤ) → (pos 1 *ℤ a) ≡ a
       one_times a = omega (arith, ints)
 
-  pub few_closes : linear_closes (all_facts leaf pred true true_row (bound_of k -ℤ pos 1) (few_facts k)) (terms_from 0 (few_by k)) ≡ true
+  pub few_closes : closes_by_sum (all_facts leaf pred true true_row (bound_of k -ℤ pos 1) (few_facts k)) (terms_from 0 (few_by k)) ≡ true
   few_closes =
-      subst (λ m. linear_closes (all_facts leaf pred true true_row (bound_of k -ℤ pos 1) (few_facts k)) (terms_from 0 (mix (map (λ q. neg_ℤ (size q)) (range_with_len 0 m)) (pos 0) (pos 1) few_own)) ≡ true) long
+      subst (λ m. closes_by_sum (all_facts leaf pred true true_row (bound_of k -ℤ pos 1) (few_facts k)) (terms_from 0 (mix (map (λ q. neg_ℤ (size q)) (range_with_len 0 m)) (pos 0) (pos 1) few_own)) ≡ true) long
       (mix_closes leaf pred true true_row (bound_of k -ℤ pos 1) (few_facts k) (λ q. neg_ℤ (size q)) (pos 0) (pos 1) few_own plain refl refl few_may few_low)
 
   -- ---- all are converted
@@ -253,9 +253,9 @@ module _ (coefs : List ℤ) (k : ℕ) (are : list_all is_coefficient coefs ≡ t
           let right = ap indicator (wrong-at z l ∙ ap (λ (c : Bool). not c) (eq-eqb z (k + 1) (omega arith))) in
           omega (arith, ints, sum, none, right)
 
-  pub converted_closes : (extra : List Fact) → linear_closes (all_facts leaf pred true true_row (bound_of k -ℤ pos 1) (converted_facts extra)) (terms_from 0 (converted_by k)) ≡ true
+  pub converted_closes : (extra : List Fact) → closes_by_sum (all_facts leaf pred true true_row (bound_of k -ℤ pos 1) (converted_facts extra)) (terms_from 0 (converted_by k)) ≡ true
   converted_closes extra =
-      subst (λ ms. linear_closes (all_facts leaf pred true true_row (bound_of k -ℤ pos 1) (converted_facts extra)) (terms_from 0 ms) ≡ true) same
+      subst (λ ms. closes_by_sum (all_facts leaf pred true true_row (bound_of k -ℤ pos 1) (converted_facts extra)) (terms_from 0 ms) ≡ true) same
       (mix_closes leaf pred true true_row (bound_of k -ℤ pos 1) (converted_facts extra) (λ q. pos 0) (pos 1) (pos 0) converted_own plain refl refl (converted_may extra) (converted_low extra))
     where
       same : mix (map (λ (q : ℕ). pos 0) (states_of leaf)) (pos 1) (pos 0) converted_own ≡ converted_by k

@@ -9,7 +9,7 @@ use Rattle.cert_base.specs.declared.node.Node.{Node}
 use Rattle.cert_base.specs.declared.proof.LeafProof.{LeafProof}
 use Rattle.cert_base.specs.ValidProof.{ValidLeafProof}
 use Rattle.cert_base.specs.ProofLimits.{IsLeafProofWithin}
-use Rattle.comp_flock_leaf.specs.FlockLeaf.{is_coefficient, flock_leaf}
+use Rattle.comp_flock_leaf.specs.FlockLeaf.{is_flock_coefficient, flock_leaf_of}
 use Rattle.comp_flock.specs.FlockProof.{flock_layers, true_tree, false_tree, flock_pred, flock_part}
 use Rattle.comp_flock_leaf.proofs.Formed.{flock-formed}
 use Rattle.comp_flock.proofs.Layers.{layers-valid}
@@ -20,11 +20,11 @@ use Rattle.comp_flock.proofs.Within.{layers-within, true-within, false-within}
 pub record IsFlock (coefs : List ℤ) (k : ℕ) : Type 0 where
   pub some : 1 ≤ length coefs
   pub few : length coefs ≤ 16
-  pub are : list_all is_coefficient coefs ≡ true
+  pub are : list_all is_flock_coefficient coefs ≡ true
   pub low : 1 ≤ k
   pub high : k ≤ 39
 
-pub flock-valid : (coefs : List ℤ) (k : ℕ) → IsFlock coefs k → ValidLeafProof (flock_leaf coefs k) (flock_part coefs k)
+pub flock-valid : (coefs : List ℤ) (k : ℕ) → IsFlock coefs k → ValidLeafProof (flock_leaf_of coefs k) (flock_part coefs k)
 flock-valid coefs k is =
     let formed = flock-formed coefs k is.some is.few is.low is.high in
     record {
@@ -51,6 +51,6 @@ part-as coefs k pred layers on_true on_false ep ey ea eb =
     ∙ ap (λ a. part (flock_pred coefs k) (flock_layers k) a on_false) ea
     ∙ ap (λ b. part (flock_pred coefs k) (flock_layers k) (true_tree k) b) eb
 
-pub whole-valid : (coefs : List ℤ) (k : ℕ) (leaf : LeafModel) (part : LeafProof) → leaf ≡ flock_leaf coefs k → part ≡ flock_part coefs k → IsFlock coefs k → ValidLeafProof leaf part
+pub whole-valid : (coefs : List ℤ) (k : ℕ) (leaf : LeafModel) (part : LeafProof) → leaf ≡ flock_leaf_of coefs k → part ≡ flock_part coefs k → IsFlock coefs k → ValidLeafProof leaf part
 whole-valid coefs k leaf part el ep is =
-    subst (λ l. ValidLeafProof l part) (sym el) (subst (ValidLeafProof (flock_leaf coefs k)) (sym ep) (flock-valid coefs k is))
+    subst (λ l. ValidLeafProof l part) (sym el) (subst (ValidLeafProof (flock_leaf_of coefs k)) (sym ep) (flock-valid coefs k is))

@@ -12,7 +12,7 @@ use Rattle.cert_base.specs.ProofLimits.{IsSmall, IsSetWithin, IsNodeWithin, AreN
 use Rattle.comp_trees.specs.LeaderTree.{weighed}
 use Rattle.comp_trees.proofs.Limits.{weighed-within, all-zeros}
 use Rattle.comp_layers.proofs.Members.{all_range}
-use Rattle.comp_flock_leaf.specs.FlockLeaf.{size_of}
+use Rattle.comp_flock_leaf.specs.FlockLeaf.{size_in}
 use Rattle.comp_flock.specs.FlockProof.{weight_of, flock_layers, mix, size_below, few_by, converted_by, first_by, start_by, never_by, true_tree, false_tree}
 use Rattle.comp_flock_leaf.proofs.Powers.{size-le, power_small}
 use Rattle.comp_flock.proofs.Small.{abs-neg}
@@ -42,8 +42,8 @@ mix-long flows wrong opened own =
 
 pub few-short : (k : ℕ) → k ≤ 39 → length (few_by k) ≤ 200
 few-short k l =
-    let minus : ℕ → ℤ = λ q. neg_ℤ (pos (size_of q)) in
-    let size : ℕ → ℤ = λ q. pos (size_of q) in
+    let minus : ℕ → ℤ = λ q. neg_ℤ (pos (size_in q)) in
+    let size : ℕ → ℤ = λ q. pos (size_in q) in
     omega (arith, mix-long (map minus (range_with_len 0 (k + 2))) (pos 0) (pos 1) (neg_ℤ (pos (2 ^ k)) ∷ map size (range_with_len 1 k)), length-map-range_with_len minus 0 (k + 2), length-map-range_with_len size 1 k)
 
 pub first-short : (k : ℕ) → k ≤ 39 → length (first_by k) ≤ 200
@@ -62,7 +62,7 @@ module _ (k : ℕ) (high : k ≤ 39) where
   top-small : 2 ^ k ≤ 549755813888
   top-small = power_small k high
 
-  size-small : (q : ℕ) → q < k + 2 → size_of q ≤ 549755813888
+  size-small : (q : ℕ) → q < k + 2 → size_in q ≤ 549755813888
   size-small q l = let a = size-le k q (omega arith) in let b = top-small in omega (arith, a, b)
 
   pub layers-within : All IsLayerWithin (flock_layers k)
@@ -83,11 +83,11 @@ module _ (k : ℕ) (high : k ≤ 39) where
 
   few-within : IsNodeWithin (weighed (few_by k))
   few-within =
-      let size : ℕ → ℤ = λ q. pos (size_of q) in
-      let minus : ℕ → ℤ = λ q. neg_ℤ (pos (size_of q)) in
+      let size : ℕ → ℤ = λ q. pos (size_in q) in
+      let minus : ℕ → ℤ = λ q. neg_ℤ (pos (size_in q)) in
       mix-within (map minus (range_with_len 0 (k + 2))) (pos 0) (pos 1) (neg_ℤ (pos (2 ^ k)) ∷ map size (range_with_len 1 k)) (k + 2) (k + 2)
       (omega (arith, length-map-range_with_len minus 0 (k + 2))) (omega (arith, length-map-range_with_len size 1 k)) (omega arith)
-      (All-map IsSmall minus (range_with_len 0 (k + 2)) (all_range (λ q. IsSmall (minus q)) 0 (k + 2) (λ q l m. let a = size-small q (omega arith) in let b = abs-neg (size_of q) in omega (arith, a, b))))
+      (All-map IsSmall minus (range_with_len 0 (k + 2)) (all_range (λ q. IsSmall (minus q)) 0 (k + 2) (λ q l m. let a = size-small q (omega arith) in let b = abs-neg (size_in q) in omega (arith, a, b))))
       (omega arith) (omega arith)
       (All-cons IsSmall (neg_ℤ (pos (2 ^ k))) (map size (range_with_len 1 k)) (let a = top-small in let b = abs-neg (2 ^ k) in omega (arith, a, b))
       (All-map IsSmall size (range_with_len 1 k) (all_range (λ q. IsSmall (size q)) 1 k (λ q l m. let a = size-small q (omega arith) in omega (arith, a)))))
@@ -96,7 +96,7 @@ module _ (k : ℕ) (high : k ≤ 39) where
   first-within =
       mix-within (map (size_below k) (range_with_len 0 (k + 2))) (pos 0) (pos 1) (pos (2 ^ k) ∷ []) (k + 2) (k + 2)
       (omega (arith, length-map-range_with_len (size_below k) 0 (k + 2))) (omega arith) (omega arith)
-      (All-map IsSmall (size_below k) (range_with_len 0 (k + 2)) (all_range (λ q. IsSmall (size_below k q)) 0 (k + 2) (λ q l m. below-small k q (size_of q) (size-small q (omega arith)))))
+      (All-map IsSmall (size_below k) (range_with_len 0 (k + 2)) (all_range (λ q. IsSmall (size_below k q)) 0 (k + 2) (λ q l m. below-small k q (size_in q) (size-small q (omega arith)))))
       (omega arith) (omega arith) (one (pos (2 ^ k)) (let a = top-small in omega (arith, a)))
 
   converted-within : IsNodeWithin (weighed (converted_by k))

@@ -9,7 +9,7 @@ use Rattle.cert_base.specs.declared.node.Node.TheVariants.{Present, Twin, Siphon
 use Rattle.cert_base.specs.declared.proof.LeafProof.{LeafProof}
 use Rattle.cert_base.specs.Rows.{zeros}
 use Rattle.comp_trees.specs.LeaderTree.{weighed}
-use Rattle.comp_flock_leaf.specs.FlockLeaf.{bound_of, size_of, state_count}
+use Rattle.comp_flock_leaf.specs.FlockLeaf.{bound_of, size_in, state_count}
 
 -- ---- the layer
 
@@ -34,13 +34,13 @@ abbrev pub for_states : ℕ → (ℕ → ℤ) → List ℤ
 for_states k value = map value (range_with_len 0 (state_count k))
 
 abbrev pub size_below : ℕ → ℕ → ℤ
-size_below k q = if q == k + 1 then pos 0 else pos (size_of q)
+size_below k q = if q == k + 1 then pos 0 else pos (size_in q)
 
 -- without 2^k, and with each smaller power once at most, the sizes add up to 2^k - 1 at most
 abbrev pub few_by : ℕ → List ℤ
 few_by k =
-    mix (for_states k (λ q. neg_ℤ (pos (size_of q)))) (pos 0) (pos 1)
-    (neg_ℤ (pos (2 ^ k)) ∷ map (λ q. pos (size_of q)) (range_with_len 1 k))
+    mix (for_states k (λ q. neg_ℤ (pos (size_in q)))) (pos 0) (pos 1)
+    (neg_ℤ (pos (2 ^ k)) ∷ map (λ q. pos (size_in q)) (range_with_len 1 k))
 
 -- beside 2^k there is no other state at the end
 abbrev pub converted_by : ℕ → List ℤ

@@ -2,8 +2,8 @@
 
 ghost use Rattle.std.specs.Prelude.{◌≡◌, ◌<◌, ◌≤◌, ◌+◌, ◌^◌, map, pos, neg_ℤ, length, IfOk};
 ghost use Rattle.std.specs.List.{range_with_len};
-ghost use Rattle.comp_flock_leaf.specs.declared.limits.TheConstants.{POWER_LIMIT as GREATEST_POWER};
-ghost use Rattle.comp_flock_leaf.specs.FlockLeaf.{size_of as size_in, state_count};
+ghost use Rattle.comp_flock_leaf.specs.declared.limits.TheConstants.{POWER_LIMIT};
+ghost use Rattle.comp_flock_leaf.specs.FlockLeaf.{size_in, state_count};
 ghost use Rattle.comp_flock.specs.FlockProof.{mix as mix_list, size_below as below_in, few_by as few_list};
 ghost use Rattle.comp_flock.specs.FlockProof.{converted_by as converted_list, first_by as first_list};
 ghost use Rattle.comp_flock.specs.FlockProof.{start_by as start_list};
@@ -31,14 +31,14 @@ fn mix(
 }
 
 fn size(q: u16) -> i64
-    requires { q ≤ GREATEST_POWER + 1 }
+    requires { q ≤ POWER_LIMIT + 1 }
     ensures { result ≡ pos (size_in q) }
 {
     size_of(q) as i64
 }
 
 fn lost(q: u16) -> i64
-    requires { q ≤ GREATEST_POWER + 1 }
+    requires { q ≤ POWER_LIMIT + 1 }
     ensures { result ≡ neg_ℤ (pos (size_in q)) }
 {
     -size(q)
@@ -46,15 +46,15 @@ fn lost(q: u16) -> i64
 
 /// A state that is 2^k itself has none.
 fn size_below(power: u16, q: u16) -> i64
-    requires power { power ≤ GREATEST_POWER }
-    requires state { q ≤ GREATEST_POWER + 1 }
+    requires power { power ≤ POWER_LIMIT }
+    requires state { q ≤ POWER_LIMIT + 1 }
     ensures { result ≡ below_in power q }
 {
     if q == power + 1 { 0 } else { size(q) }
 }
 
 fn all_lost(alloc: Global, power: u16) -> Result<Vec<i64>, NoMemory>
-    requires { power ≤ GREATEST_POWER }
+    requires { power ≤ POWER_LIMIT }
     ensures { IfOk result (λ all.
         all.items ≡ map (λ q. neg_ℤ (pos (size_in q))) (range_with_len 0 (state_count power))) }
 {
@@ -63,7 +63,7 @@ fn all_lost(alloc: Global, power: u16) -> Result<Vec<i64>, NoMemory>
 }
 
 fn all_below(alloc: Global, power: u16) -> Result<Vec<i64>, NoMemory>
-    requires { power ≤ GREATEST_POWER }
+    requires { power ≤ POWER_LIMIT }
     ensures { IfOk result (λ all. all.items ≡ map (below_in power) (range_with_len 0 (state_count power))) }
 {
     let all = (0..power + 2).map(|q| size_below(power, q)).collect(alloc)?;
@@ -72,7 +72,7 @@ fn all_below(alloc: Global, power: u16) -> Result<Vec<i64>, NoMemory>
 
 /// The sizes of the powers below 2^k.
 fn sizes(alloc: Global, power: u16) -> Result<Vec<i64>, NoMemory>
-    requires { power ≤ GREATEST_POWER }
+    requires { power ≤ POWER_LIMIT }
     ensures { IfOk result (λ all. all.items ≡ map (λ q. pos (size_in q)) (range_with_len 1 power)) }
 {
     let all = (1..power + 1).map(|q| size(q)).collect(alloc)?;
@@ -81,7 +81,7 @@ fn sizes(alloc: Global, power: u16) -> Result<Vec<i64>, NoMemory>
 
 /// 2^k is absent, and each smaller power is there once at most.
 pub(crate) fn few(alloc: Global, power: u16) -> Result<Vec<i64>, NoMemory>
-    requires { power ≤ GREATEST_POWER }
+    requires { power ≤ POWER_LIMIT }
     ensures { IfOk result (λ multipliers. multipliers.items ≡ few_list power) }
 {
     let mut own = Vec::from_slice(alloc, &[lost(power + 1)])?;
@@ -93,7 +93,7 @@ pub(crate) fn few(alloc: Global, power: u16) -> Result<Vec<i64>, NoMemory>
 
 /// 2^k is there, and nothing else.
 pub(crate) fn converted(alloc: Global, power: u16) -> Result<Vec<i64>, NoMemory>
-    requires { power ≤ GREATEST_POWER }
+    requires { power ≤ POWER_LIMIT }
     ensures { IfOk result (λ multipliers. multipliers.items ≡ converted_list power) }
 {
     let mut own = Vec::from_slice(alloc, &[0i64])?;
@@ -105,7 +105,7 @@ pub(crate) fn converted(alloc: Global, power: u16) -> Result<Vec<i64>, NoMemory>
 
 /// The first 2^k was put together.
 pub(crate) fn first(alloc: Global, power: u16) -> Result<Vec<i64>, NoMemory>
-    requires { power ≤ GREATEST_POWER }
+    requires { power ≤ POWER_LIMIT }
     ensures { IfOk result (λ multipliers. multipliers.items ≡ first_list power) }
 {
     let flows = all_below(alloc, power)?;
@@ -114,7 +114,7 @@ pub(crate) fn first(alloc: Global, power: u16) -> Result<Vec<i64>, NoMemory>
 
 /// An agent started as 2^k.
 pub(crate) fn start(alloc: Global, power: u16) -> Result<Vec<i64>, NoMemory>
-    requires { power ≤ GREATEST_POWER }
+    requires { power ≤ POWER_LIMIT }
     ensures { IfOk result (λ multipliers. multipliers.items ≡ start_list power) }
 {
     let flows = vec![in alloc; 0i64; usize::from(power + 2)]?;
@@ -123,7 +123,7 @@ pub(crate) fn start(alloc: Global, power: u16) -> Result<Vec<i64>, NoMemory>
 
 /// 2^k never came.
 pub(crate) fn never(alloc: Global, power: u16) -> Result<Vec<i64>, NoMemory>
-    requires { power ≤ GREATEST_POWER }
+    requires { power ≤ POWER_LIMIT }
     ensures { IfOk result (λ multipliers. multipliers.items ≡ never_list power) }
 {
     let mut own = vec![in alloc; 0i64; usize::from(power + 1)]?;

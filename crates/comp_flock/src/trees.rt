@@ -3,7 +3,7 @@
 ghost use Rattle.std.specs.Prelude.{◌≡◌, ◌≤◌, ◌+◌, ◌++◌, map, IfOk, OnOk};
 ghost use Rattle.std.specs.List.{range_with_len};
 ghost use Rattle.cert_base.specs.declared.node.Node.TheVariants.{Twin as twin_node};
-ghost use Rattle.comp_flock_leaf.specs.declared.limits.TheConstants.{POWER_LIMIT as GREATEST_POWER};
+ghost use Rattle.comp_flock_leaf.specs.declared.limits.TheConstants.{POWER_LIMIT};
 ghost use Rattle.comp_flock.specs.FlockProof.{true_tree as true_list, false_tree as false_list};
 
 use crate::multipliers::{converted, few, first, never, start};
@@ -14,7 +14,7 @@ use std::alloc::Global;
 
 /// The number of the fact that is opened: that the predicate has its value.
 fn opened(power: u16) -> u32
-    requires { power ≤ GREATEST_POWER }
+    requires { power ≤ POWER_LIMIT }
     ensures { result ≡ power + 2 + 1 }
 {
     u32::from(power) + 2 + 1
@@ -22,7 +22,7 @@ fn opened(power: u16) -> u32
 
 /// A twin for each power below 2^k.
 fn push_twins(nodes: &mut Vec<Node>, power: u16) -> Result<(), NoMemory>
-    requires { power ≤ GREATEST_POWER }
+    requires { power ≤ POWER_LIMIT }
     ensures { OnOk result (nodes.new.items ≡ nodes.old.items ++ map twin_node (range_with_len 1 power)) }
 {
     for q in 1..power + 1 {
@@ -33,7 +33,7 @@ fn push_twins(nodes: &mut Vec<Node>, power: u16) -> Result<(), NoMemory>
 
 /// Where the predicate holds: 2^k is absent at the end, or it is present.
 pub(crate) fn true_tree(alloc: Global, power: u16) -> Result<List<Node>, NoMemory>
-    requires { power ≤ GREATEST_POWER }
+    requires { power ≤ POWER_LIMIT }
     ensures { IfOk result (λ nodes. nodes ≡ true_list power) }
 {
     let few = few(alloc, power)?;
@@ -49,7 +49,7 @@ pub(crate) fn true_tree(alloc: Global, power: u16) -> Result<List<Node>, NoMemor
 
 /// Where it doesn't: 2^k was put together, or was there at the start, or never came.
 pub(crate) fn false_tree(alloc: Global, power: u16) -> Result<List<Node>, NoMemory>
-    requires { power ≤ GREATEST_POWER }
+    requires { power ≤ POWER_LIMIT }
     ensures { IfOk result (λ nodes. nodes ≡ false_list power) }
 {
     let first = first(alloc, power)?;

@@ -2,7 +2,7 @@
 
 ghost use Rattle.std.specs.Prelude.{◌≡◌, ◌≤◌, ◌+◌, map, IfOk};
 ghost use Rattle.std.specs.List.{range_with_len};
-ghost use Rattle.comp_flock_leaf.specs.declared.limits.TheConstants.{POWER_LIMIT as GREATEST_POWER};
+ghost use Rattle.comp_flock_leaf.specs.declared.limits.TheConstants.{POWER_LIMIT};
 ghost use Rattle.comp_flock_leaf.specs.FlockLeaf.{state_count};
 ghost use Rattle.comp_flock.specs.FlockProof.{weight_of as weight_in, flock_layers as layer_list};
 
@@ -11,7 +11,7 @@ use pop_io::{List, NoMemory};
 use std::alloc::Global;
 
 fn weight_of(power: u16, q: u16) -> i64
-    requires { power ≤ GREATEST_POWER }
+    requires { power ≤ POWER_LIMIT }
     ensures { result ≡ weight_in power q }
 {
     if q == 0 {
@@ -24,7 +24,7 @@ fn weight_of(power: u16, q: u16) -> i64
 }
 
 fn weights(alloc: Global, power: u16) -> Result<Vec<i64>, NoMemory>
-    requires { power ≤ GREATEST_POWER }
+    requires { power ≤ POWER_LIMIT }
     ensures { IfOk result (λ weights. weights.items ≡ map (weight_in power) (range_with_len 0 (state_count power))) }
 {
     let weights = (0..power + 2).map(|q| weight_of(power, q)).collect(alloc)?;
@@ -43,7 +43,7 @@ fn numbers(alloc: Global, count: u32) -> Result<Vec<u32>, NoMemory>
 
 /// All moves in one layer.
 pub(crate) fn flock_layers(alloc: Global, power: u16) -> Result<List<Layer>, NoMemory>
-    requires { power ≤ GREATEST_POWER }
+    requires { power ≤ POWER_LIMIT }
     ensures { IfOk result (λ layers. layers ≡ layer_list power) }
 {
     let doublings = u32::from(power);

@@ -6,8 +6,8 @@ ghost use Rattle.pop_io.specs.declared.names.TheConstants.{VARIABLE_LIMIT};
 ghost use Rattle.pop_net.specs.Reaction.{Differ};
 ghost use Rattle.cert_base.specs.ValidProof.{ValidLeafProof};
 ghost use Rattle.cert_base.specs.ProofLimits.{IsLeafProofWithin};
-ghost use Rattle.comp_flock_leaf.specs.declared.limits.TheConstants.{POWER_LIMIT as GREATEST_POWER};
-ghost use Rattle.comp_flock_leaf.specs.FlockLeaf.{is_coefficient as is_coefficient_in, flock_leaf as built_leaf};
+ghost use Rattle.comp_flock_leaf.specs.declared.limits.TheConstants.{POWER_LIMIT};
+ghost use Rattle.comp_flock_leaf.specs.FlockLeaf.{is_flock_coefficient, flock_leaf_of};
 ghost use Rattle.comp_flock.specs.FlockProof.{flock_pred as built_pred};
 
 use crate::trees::{false_tree, true_tree};
@@ -22,8 +22,8 @@ use std::alloc::Global;
 fn flock_pred(alloc: Global, coefs: &[i64], power: u32) -> Result<Pred, NoMemory>
     requires some { 1 ≤ length coefs.now }
     requires few { length coefs.now ≤ VARIABLE_LIMIT }
-    requires coefs { list_all is_coefficient_in coefs.now ≡ true }
-    requires high { power ≤ GREATEST_POWER }
+    requires coefs { list_all is_flock_coefficient coefs.now ≡ true }
+    requires high { power ≤ POWER_LIMIT }
     ensures { IfOk result (λ pred. pred ≡ built_pred coefs.now power) }
 {
     let tree = Tree::Less {
@@ -37,10 +37,10 @@ fn flock_pred(alloc: Global, coefs: &[i64], power: u32) -> Result<Pred, NoMemory
 pub fn flock(alloc: Global, coefs: &[i64], power: u32) -> Result<(Leaf, LeafProof), NoMemory>
     requires some { 1 ≤ length coefs.now }
     requires few { length coefs.now ≤ VARIABLE_LIMIT }
-    requires coefs { list_all is_coefficient_in coefs.now ≡ true }
+    requires coefs { list_all is_flock_coefficient coefs.now ≡ true }
     requires low { 1 ≤ power }
-    requires high { power ≤ GREATEST_POWER }
-    ensures leaf { IfOk result (λ both. both.0 ≡ built_leaf coefs.now power) }
+    requires high { power ≤ POWER_LIMIT }
+    ensures leaf { IfOk result (λ both. both.0 ≡ flock_leaf_of coefs.now power) }
     ensures pred { IfOk result (λ both. both.1.pred ≡ built_pred coefs.now power) }
     ensures valid { IfOk result (λ both. ValidLeafProof both.0 both.1) }
     ensures within { IfOk result (λ both. IsLeafProofWithin (length coefs.now) both.1) }

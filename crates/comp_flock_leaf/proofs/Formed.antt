@@ -8,7 +8,7 @@ use Rattle.std.proofs.lemmas.List.Elements.{All-nil, All-map, All-from_get_or}
 use Rattle.std.proofs.lemmas.List.FromFn.{length-map-range_with_len}
 use Rattle.pop_net.specs.declared.leaf.Move.{Move}
 use Rattle.pop_net.specs.LeafModel.{LeafModel, IsLeaf, IsMoveBelow}
-use Rattle.comp_flock_leaf.specs.FlockLeaf.{start_of, name_of, moves_of, flock_leaf}
+use Rattle.comp_flock_leaf.specs.FlockLeaf.{start_of, name_of, moves_of, flock_leaf_of}
 use Rattle.comp_flock_leaf.proofs.MoveLists.{all_moves, moves-long}
 use Rattle.comp_flock_leaf.proofs.StateNames.{names-formed}
 
@@ -26,7 +26,7 @@ starts-low n coefs l =
 pub states-long : (k : ℕ) → length (map name_of (range_with_len 0 (k + 2))) ≡ k + 2
 states-long k = length-map-range_with_len name_of 0 (k + 2)
 
-pub flock-formed : (coefs : List ℤ) (k : ℕ) → 1 ≤ length coefs → length coefs ≤ 16 → 1 ≤ k → k ≤ 39 → IsLeaf (flock_leaf coefs k)
+pub flock-formed : (coefs : List ℤ) (k : ℕ) → 1 ≤ length coefs → length coefs ≤ 16 → 1 ≤ k → k ≤ 39 → IsLeaf (flock_leaf_of coefs k)
 flock-formed coefs k some few low high =
     let long = states-long k in
     let inputs_long = length-map coefs start_of in

@@ -7,7 +7,7 @@ use Rattle.std.proofs.lemmas.List.{length-append}
 use Rattle.std.proofs.lemmas.List.FromFn.{length-map-range_with_len}
 use Rattle.std.proofs.lemmas.List.Elements.{All-append, All-map, Contains-append_left, Contains-append_right}
 use Rattle.pop_net.specs.declared.leaf.Move.{Move}
-use Rattle.pop_net.specs.LeafModel.{is_silent, same_pair}
+use Rattle.pop_net.specs.LeafModel.{silent_move, same_pair}
 use Rattle.pop_net.specs.Reaction.{takes}
 use Rattle.cert_base.proofs.WeightedSums.{list_any-from}
 use Rattle.comp_layers.proofs.Members.{all_range, range_has, has_map}
@@ -47,15 +47,15 @@ moves-long k =
 pub differ_pair : (p q u v : ℕ) → q ≢ v → p ≢ v → same_pair p q u v ≡ false
 differ_pair p q u v e f = differ-by p q u v (inr e) (inl f)
 
-pub doubling-loud : (i : ℕ) → is_silent (doubling i) ≡ false
+pub doubling-loud : (i : ℕ) → silent_move (doubling i) ≡ false
 doubling-loud i = differ_pair (i + 1) (i + 1) (i + 2) 0 (λ e. omega arith) (λ e. omega arith)
 
-pub conversion-loud : (k q : ℕ) → q ≤ k → is_silent (conversion k q) ≡ false
+pub conversion-loud : (k q : ℕ) → q ≤ k → silent_move (conversion k q) ≡ false
 conversion-loud k q l = let first = ne_eqb q (k + 1) (λ e. omega arith) in let none = and_no ((k + 1) == (k + 1)) in rw (first, none) refl
 
 -- ---- which states can meet
 
-takes-own : (t : Move) → is_silent t ≡ false → takes t.p t.q t ≡ true
+takes-own : (t : Move) → silent_move t ≡ false → takes t.p t.q t ≡ true
 takes-own t loud = let a = eq-eqb t.p t.p refl in let b = eq-eqb t.q t.q refl in rw (loud, a, b) refl
 
 pub doubles : (k i : ℕ) → i < k → list_any (takes (i + 1) (i + 1)) (moves_of k) ≡ true

@@ -10,7 +10,7 @@ use Rattle.std.proofs.lemmas.Bool.{cases_lt, ne_eqb}
 use Rattle.cert_base.specs.WeightedSums.{total}
 use Rattle.cert_base.proofs.FlowSums.{times-one}
 use Rattle.comp_flock_leaf.specs.declared.limits.TheConstants.{POWER_LIMIT}
-use Rattle.comp_flock_leaf.specs.FlockLeaf.{size_of}
+use Rattle.comp_flock_leaf.specs.FlockLeaf.{size_in}
 
 pub power-double : (i : ℕ) → 2 ^ (i + 1) ≡ 2 ^ i + 2 ^ i
 power-double i = ap (λ m. 2 ^ m) (let e : i + 1 ≡ suc i = omega arith in e) ∙ two-pow-succ i
@@ -25,30 +25,30 @@ pub power_small : (k : ℕ) → k ≤ POWER_LIMIT → 2 ^ k ≤ 549755813888
 power_small k l = power-le k 39 l
 
 -- the size of state i + 1
-pub size-power : (i : ℕ) → size_of (i + 1) ≡ 2 ^ i
+pub size-power : (i : ℕ) → size_in (i + 1) ≡ 2 ^ i
 size-power i =
     let some = ne_eqb (i + 1) 0 (λ e. omega arith) in
     let less : i + 1 - 1 ≡ i = omega arith in
     rw (some, less) refl
 
-size-suc : (i : ℕ) → size_of (suc i) ≡ 2 ^ i
-size-suc i = ap size_of (let e : suc i ≡ i + 1 = omega arith in e) ∙ size-power i
+size-suc : (i : ℕ) → size_in (suc i) ≡ 2 ^ i
+size-suc i = ap size_in (let e : suc i ≡ i + 1 = omega arith in e) ∙ size-power i
 
 -- the size of a later state
-pub size-at : (q i : ℕ) → q ≡ i + 1 → size_of q ≡ 2 ^ i
-size-at q i e = ap size_of e ∙ size-power i
+pub size-at : (q i : ℕ) → q ≡ i + 1 → size_in q ≡ 2 ^ i
+size-at q i e = ap size_in e ∙ size-power i
 
-pub size-le : (k q : ℕ) → q ≤ k + 1 → size_of q ≤ 2 ^ k
+pub size-le : (k q : ℕ) → q ≤ k + 1 → size_in q ≤ 2 ^ k
 size-le k zero l = omega (arith, power-some k)
 size-le k (suc i) l = let e = size-suc i in let m = power-le i k (omega arith) in omega (arith, e, m)
 
-pub size-apart : (p q : ℕ) → p < q → size_of p < size_of q
+pub size-apart : (p q : ℕ) → p < q → size_in p < size_in q
 size-apart p zero l = absurd (omega arith)
 size-apart zero (suc j) l = let e = size-suc j in let m = power-some j in omega (arith, e, m)
 size-apart (suc i) (suc j) l =
     let e = size-suc i in let f = size-suc j in let m = pow-lt (let k : i < j = omega arith in k) in omega (arith, e, f, m)
 
-pub size-injective : (p q : ℕ) → size_of p ≡ size_of q → p ≡ q
+pub size-injective : (p q : ℕ) → size_in p ≡ size_in q → p ≡ q
 size-injective p q e = go (cases_lt p q) (cases_lt q p)
   where
     go : (p < q) ⊎ (q ≤ p) → (q < p) ⊎ (p ≤ q) → p ≡ q
@@ -57,12 +57,12 @@ size-injective p q e = go (cases_lt p q) (cases_lt q p)
     go (inr l) (inr m) = omega arith
 
 -- the sizes of n states from state a + 1 on
-pub sizes-total : (a n : ℕ) → total (λ q. pos (size_of q) *ℤ pos 1) (range_with_len (a + 1) n) ≡ (pos (2 ^ (a + n)) -ℤ pos (2 ^ a))
+pub sizes-total : (a n : ℕ) → total (λ q. pos (size_in q) *ℤ pos 1) (range_with_len (a + 1) n) ≡ (pos (2 ^ (a + n)) -ℤ pos (2 ^ a))
 sizes-total a zero =
     let same : 2 ^ (a + 0) ≡ 2 ^ a = ap (λ m. 2 ^ m) (let e : a + 0 ≡ a = omega arith in e) in omega (arith, ints, same)
 sizes-total a (suc n) =
     let rest = sizes-total (a + 1) n in
-    let here = times-one (pos (size_of (a + 1))) in
+    let here = times-one (pos (size_in (a + 1))) in
     let size = size-power a in
     let double = power-double a in
     let same : 2 ^ (a + suc n) ≡ 2 ^ (a + 1 + n) = ap (λ m. 2 ^ m) (let e : a + suc n ≡ a + 1 + n = omega arith in e) in

@@ -4,8 +4,8 @@ ghost use Rattle.std.specs.Prelude.{◌≡◌, ◌≤◌, ◌==◌, ◌+◌, All
 ghost use Rattle.std.specs.List.{range_with_len};
 ghost use Rattle.pop_io.specs.declared.names.TheConstants.{VARIABLE_LIMIT};
 ghost use Rattle.pop_net.specs.Reaction.{Differ};
-ghost use Rattle.comp_flock_leaf.specs.declared.limits.TheConstants.{POWER_LIMIT as GREATEST_POWER};
-ghost use Rattle.comp_flock_leaf.specs.FlockLeaf.{start_of as start_in, state_count, flock_leaf as built_leaf};
+ghost use Rattle.comp_flock_leaf.specs.declared.limits.TheConstants.{POWER_LIMIT};
+ghost use Rattle.comp_flock_leaf.specs.FlockLeaf.{start_of as start_in, state_count, flock_leaf_of};
 
 use crate::listing::moves;
 use crate::naming::names;
@@ -14,7 +14,7 @@ use pop_net::Leaf;
 use std::alloc::Global;
 
 fn outputs(alloc: Global, power: u16) -> Result<Vec<bool>, NoMemory>
-    requires { power ≤ GREATEST_POWER }
+    requires { power ≤ POWER_LIMIT }
     ensures { IfOk result (λ outputs.
         outputs.items ≡ map (λ q. q == power + 1) (range_with_len 0 (state_count power))) }
 {
@@ -44,8 +44,8 @@ pub fn flock_leaf(alloc: Global, coefs: &[i64], power: u16) -> Result<Leaf, NoMe
     requires some { 1 ≤ length coefs.now }
     requires few { length coefs.now ≤ VARIABLE_LIMIT }
     requires low { 1 ≤ power }
-    requires high { power ≤ GREATEST_POWER }
-    ensures built { IfOk result (λ leaf. leaf ≡ built_leaf coefs.now power) }
+    requires high { power ≤ POWER_LIMIT }
+    ensures built { IfOk result (λ leaf. leaf ≡ flock_leaf_of coefs.now power) }
     // No two of its moves take the same states.
     ensures single { IfOk result (λ leaf. AllPairs Differ leaf.moves) }
 {

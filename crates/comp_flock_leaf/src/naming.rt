@@ -2,8 +2,8 @@
 
 ghost use Rattle.std.specs.Prelude.{◌≡◌, ◌≤◌, ◌+◌, ◌^◌, map, IfOk};
 ghost use Rattle.std.specs.List.{range_with_len};
-ghost use Rattle.comp_flock_leaf.specs.declared.limits.TheConstants.{POWER_LIMIT as GREATEST_POWER};
-ghost use Rattle.comp_flock_leaf.specs.FlockLeaf.{state_count, size_of as size_in, name_of as name_bytes};
+ghost use Rattle.comp_flock_leaf.specs.declared.limits.TheConstants.{POWER_LIMIT};
+ghost use Rattle.comp_flock_leaf.specs.FlockLeaf.{state_count, size_in, name_of as name_bytes};
 
 use crate::power::two_to;
 use pop_io::{List, NoMemory, Text};
@@ -11,15 +11,15 @@ use std::alloc::Global;
 
 /// How many agents a state stands for.
 pub fn size_of(q: u16) -> u64
-    requires { q ≤ GREATEST_POWER + 1 }
+    requires { q ≤ POWER_LIMIT + 1 }
     ensures value { result ≡ size_in q }
-    ensures small { result ≤ 2 ^ GREATEST_POWER }
+    ensures small { result ≤ 2 ^ POWER_LIMIT }
 {
     if q == 0 { 0 } else { two_to(u32::from(q - 1)) }
 }
 
 fn name_of(alloc: Global, q: u16) -> Result<Text, NoMemory>
-    requires { q ≤ GREATEST_POWER + 1 }
+    requires { q ≤ POWER_LIMIT + 1 }
     ensures { IfOk result (λ name. name ≡ name_bytes q) }
 {
     let size = size_of(q);
@@ -28,7 +28,7 @@ fn name_of(alloc: Global, q: u16) -> Result<Text, NoMemory>
 
 /// The names of all states, which are plain decimals.
 pub(crate) fn names(alloc: Global, power: u16) -> Result<List<Text>, NoMemory>
-    requires { power ≤ GREATEST_POWER }
+    requires { power ≤ POWER_LIMIT }
     ensures { IfOk result (λ names. names ≡ map name_bytes (range_with_len 0 (state_count power))) }
 {
     let mut names = Vec::new(alloc);

@@ -4,7 +4,7 @@ ghost use Rattle.std.specs.Prelude.{◌≡◌, ◌≤◌, ◌^◌, find};
 ghost use Rattle.std.specs.List.{range_with_len, list_all};
 ghost use Rattle.std.specs.Ordering.{int_eq};
 ghost use Rattle.comp_flock_leaf.specs.declared.limits.TheConstants.{POWER_LIMIT as GREATEST_POWER};
-ghost use Rattle.comp_flock_leaf.specs.FlockLeaf.{is_coefficient as is_coefficient_in, bound_of as bound_in, power_of};
+ghost use Rattle.comp_flock_leaf.specs.FlockLeaf.{is_flock_coefficient, bound_of as bound_in, power_of};
 
 use crate::limits::POWER_LIMIT;
 
@@ -27,13 +27,13 @@ pub fn bound_of(k: u32) -> i64
 }
 
 fn is_coefficient(coef: i64) -> bool
-    ensures { result ≡ is_coefficient_in coef }
+    ensures { result ≡ is_flock_coefficient coef }
 {
     coef == 0 || coef == -1
 }
 
 fn are_coefficients(coefs: &[i64]) -> bool
-    ensures { result ≡ list_all is_coefficient_in coefs.now }
+    ensures { result ≡ list_all is_flock_coefficient coefs.now }
 {
     coefs.iter().all(|coef| is_coefficient(*coef))
 }

@@ -5,7 +5,7 @@ use Rattle.std.proofs.lemmas.Bool.{eq-eqb, ne_eqb, eqb-true, lt-ltb, le-ltb, ltb
 use Rattle.std.proofs.lemmas.Bool.Decides.{eqb_tells}
 use Rattle.std.proofs.lemmas.List.Elements.{All-contains}
 use Rattle.pop_net.specs.declared.leaf.Move.{Move}
-use Rattle.pop_net.specs.LeafModel.{LeafModel, is_silent, one_at}
+use Rattle.pop_net.specs.LeafModel.{LeafModel, silent_move, one_at}
 use Rattle.cert_base.specs.ValidLayers.{IsEnabledBefore}
 use Rattle.comp_layers.specs.SortedLayers.{leader_kind, IsLeaderProtocol}
 
@@ -82,7 +82,7 @@ leaders_before t u v e f ne pair z =
     ]
 
 -- no kind wakes an earlier one
-pub leader_wakes : (leaf : LeafModel) (n : ℕ) → IsLeaderProtocol leaf n → (t u : Move) → Contains leaf.moves t → Contains leaf.moves u → is_silent t ≡ false → is_silent u ≡ false → leader_kind n u < leader_kind n t → (u' : Move) × Contains leaf.moves u' × (is_silent u' ≡ false) × (leader_kind n u' < leader_kind n t) × IsEnabledBefore u' t u
+pub leader_wakes : (leaf : LeafModel) (n : ℕ) → IsLeaderProtocol leaf n → (t u : Move) → Contains leaf.moves t → Contains leaf.moves u → silent_move t ≡ false → silent_move u ≡ false → leader_kind n u < leader_kind n t → (u' : Move) × Contains leaf.moves u' × (silent_move u' ≡ false) × (leader_kind n u' < leader_kind n t) × IsEnabledBefore u' t u
 leader_wakes leaf n is t u ct cu lt lu l = go (cases_eq u.q t.s)
   where
     turn : (n ≤ t.q) × (t.r ≡ t.p)
@@ -100,10 +100,10 @@ leader_wakes leaf n is t u ct cu lt lu l = go (cases_eq u.q t.s)
     apart : (a b : ℕ) → a < n → n ≤ b → b ≢ a
     apart a b k m e = omega arith
 
-    go : (u.q ≡ t.s) ⊎ (u.q ≡ t.s → ⊥) → (u' : Move) × Contains leaf.moves u' × (is_silent u' ≡ false) × (leader_kind n u' < leader_kind n t) × IsEnabledBefore u' t u
+    go : (u.q ≡ t.s) ⊎ (u.q ≡ t.s → ⊥) → (u' : Move) × Contains leaf.moves u' × (silent_move u' ≡ false) × (leader_kind n u' < leader_kind n t) × IsEnabledBefore u' t u
     go (inl e) =
         let other = is.settled t u ct cu turn.0 turn.1 e in
         let v = is.meet t.p u.p first lead (λ f. other (sym f)) in
         let zero_kind = kind-pair n v.0 v.2 in
-        (v.0, v.1, All-contains (λ t. is_silent t ≡ false) leaf.moves v.0 is.loud v.1, (let m : leader_kind n v.0 < leader_kind n t = omega (arith, zero_kind) in m), leaders_before t u v.0 turn.1 e other v.3)
+        (v.0, v.1, All-contains (λ t. silent_move t ≡ false) leaf.moves v.0 is.loud v.1, (let m : leader_kind n v.0 < leader_kind n t = omega (arith, zero_kind) in m), leaders_before t u v.0 turn.1 e other v.3)
     go (inr ne) = (u, cu, lu, l, same_before t u turn.1 (apart u.p t.s lead follower) (λ e. ne (sym e)))

@@ -6,7 +6,7 @@ use Rattle.std.proofs.lemmas.Option.{slice_get_within, get_or_from_slice_get, sl
 use Rattle.std.proofs.lemmas.List.Elements.{All-nil, All-cons, All-append, All-contains, Contains-append_left, Contains-append_right}
 use Rattle.std.proofs.lemmas.List.Kept.{AllPairs-cons}
 use Rattle.pop_net.specs.declared.leaf.Move.{Move}
-use Rattle.pop_net.specs.LeafModel.{LeafModel, is_silent}
+use Rattle.pop_net.specs.LeafModel.{LeafModel, silent_move}
 use Rattle.cert_base.specs.declared.layer.Layer.{Layer}
 use Rattle.cert_base.specs.FactsAndCases.{places_from}
 use Rattle.cert_base.specs.ValidLayers.{listed, IsLower, IsInLayer, IsEnabledBefore, ValidLayers}
@@ -118,7 +118,7 @@ pub record AreKinds (leaf : LeafModel) (kind : Move → ℕ) (ws : List (List �
   pub long : All (λ w. length w ≡ length leaf.states) ws
   pub kinds : All (λ t. kind t < length ws) leaf.moves
   pub lower : All (λ t. IsLower (get_or ws (kind t) []) t) leaf.moves
-  pub wakes : (t u : Move) → Contains leaf.moves t → Contains leaf.moves u → is_silent t ≡ false → is_silent u ≡ false → kind u < kind t → (u' : Move) × Contains leaf.moves u' × (is_silent u' ≡ false) × (kind u' < kind t) × IsEnabledBefore u' t u
+  pub wakes : (t u : Move) → Contains leaf.moves t → Contains leaf.moves u → silent_move t ≡ false → silent_move u ≡ false → kind u < kind t → (u' : Move) × Contains leaf.moves u' × (silent_move u' ≡ false) × (kind u' < kind t) × IsEnabledBefore u' t u
 
 module _ (leaf : LeafModel) (kind : Move → ℕ) (ws : List (List ℤ)) (are : AreKinds leaf kind ws) where
   abbrev layers : List Layer
@@ -143,7 +143,7 @@ module _ (leaf : LeafModel) (kind : Move → ℕ) (ws : List (List ℤ)) (are : 
       move_same : {A : Type 0} {x y : A} → Some x ≡ Some y → x ≡ y
       move_same e = cc
 
-  has_layer : (u : Move) → Contains leaf.moves u → is_silent u ≡ false → IsInLayer leaf layers (kind u) u
+  has_layer : (u : Move) → Contains leaf.moves u → silent_move u ≡ false → IsInLayer leaf layers (kind u) u
   has_layer u c loud =
       let within = All-contains (λ t. kind t < length ws) leaf.moves u are.kinds c in
       let got : slice_get leaf.moves c.0 ≡ Some u = slice_get-get_or leaf.moves c.0 u c.1 ∙ ap Some c.2 in

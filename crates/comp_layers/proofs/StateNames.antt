@@ -6,7 +6,7 @@ use Rattle.std.specs.Fmt.{decimal}
 use Rattle.std.proofs.lemmas.Fmt.{decimal_by_steps}
 use Rattle.std.proofs.lemmas.Bool.{le-leb, ne_eqb, and_parts}
 use Rattle.std.proofs.lemmas.List.FromFn.{length-map-range_with_len, get_or-map-range_with_len}
-use Rattle.pop_io.specs.Names.{is_printed, is_state_name, AreNames}
+use Rattle.pop_io.specs.Names.{is_printed, state_name, AreNames}
 
 printed : (c : ℕ) → 48 ≤ c → c ≤ 126 → is_printed c ≡ true
 printed c l m =
@@ -38,17 +38,17 @@ decimal-printed n l =
 
 -- the names of so many states, each by its number
 pub named-apart : (name : ℕ → List ℕ) (count : ℕ)
-    → ((i : ℕ) → i < count → IsTrue (is_state_name (name i))) → ((i j : ℕ) → i < count → j < count → name i ≡ name j → i ≡ j)
-    → AreNames is_state_name (map name (range_with_len 0 count))
+    → ((i : ℕ) → i < count → IsTrue (state_name (name i))) → ((i j : ℕ) → i < count → j < count → name i ≡ name j → i ≡ j)
+    → AreNames state_name (map name (range_with_len 0 count))
 named-apart name count formed injective = (forms, apart)
   where
     at : (i : ℕ) (d : List ℕ) → i < count → get_or (map name (range_with_len 0 count)) i d ≡ name i
     at i d l = get_or-map-range_with_len name 0 count i i d l (zero-add i)
 
-    forms : All (λ name. IsTrue (is_state_name name)) (map name (range_with_len 0 count))
+    forms : All (λ name. IsTrue (state_name name)) (map name (range_with_len 0 count))
     forms i d l =
         let n : i < count = omega (arith, length-map-range_with_len name 0 count) in
-        subst (λ name. IsTrue (is_state_name name)) (sym (at i d n)) (formed i n)
+        subst (λ name. IsTrue (state_name name)) (sym (at i d n)) (formed i n)
 
     apart : AllPairs ◌≢◌ (map name (range_with_len 0 count))
     apart i j d l m e =

@@ -3,7 +3,7 @@
 use Rattle.std.specs.Prelude.{◌≡◌, ◌≢◌, ◌<◌, ◌≤◌, ℕ, ◌+◌, false, ◌==◌, nat_lt, if◌then◌else◌, List, [], ◌∷◌, ℤ, All, Contains}
 use mathlib.Core.Logic.{◌⊎◌}
 use Rattle.pop_net.specs.declared.leaf.Move.{Move}
-use Rattle.pop_net.specs.LeafModel.{LeafModel, is_silent}
+use Rattle.pop_net.specs.LeafModel.{LeafModel, silent_move}
 use Rattle.cert_base.specs.declared.layer.Layer.{Layer}
 use Rattle.cert_base.specs.FactsAndCases.{places_from}
 
@@ -23,7 +23,7 @@ leader_kind n t = if nat_lt t.q n then 0 else (if t.r == t.p then (if nat_lt t.q
 -- what the layers of a leaf with n leaders rest on
 pub record IsLeaderProtocol (leaf : LeafModel) (n : ℕ) : Type 0 where
   -- no move is silent; each takes a leader first and makes a follower second
-  pub loud : All (λ t. is_silent t ≡ false) leaf.moves
+  pub loud : All (λ t. silent_move t ≡ false) leaf.moves
   pub leads : All (λ t. t.p < n) leaf.moves
   pub follows : All (λ t. n ≤ t.s) leaf.moves
   -- two leaders meet

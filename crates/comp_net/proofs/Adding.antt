@@ -10,46 +10,46 @@ use Rattle.pres_ast.specs.PredModel.{PredModel}
 use Rattle.cert_base.specs.declared.proof.LeafProof.{LeafProof}
 use Rattle.cert_base.specs.ValidProof.{ValidLeafProof}
 use Rattle.cert_base.specs.ProofLimits.{IsLeafProofWithin}
-use Rattle.comp_threshold_leaf.specs.ThresholdLeaf.{width, place, threshold_leaf}
+use Rattle.comp_threshold_leaf.specs.ThresholdLeaf.{threshold_width, place_of_value, threshold_leaf}
 use Rattle.comp_threshold.specs.Built.{IsThreshold}
-use Rattle.comp_remainder_leaf.specs.RemainderLeaf.{residue, remainder_leaf}
+use Rattle.comp_remainder_leaf.specs.RemainderLeaf.{residue, remainder_leaf_of}
 use Rattle.comp_remainder.specs.RemainderProof.{remainder_part}
-use Rattle.comp_flock_leaf.specs.FlockLeaf.{start_of, flock_leaf, bound_of}
+use Rattle.comp_flock_leaf.specs.FlockLeaf.{start_of, flock_leaf_of, bound_of}
 use Rattle.comp_flock.specs.FlockProof.{flock_pred}
 use Rattle.comp_net.specs.declared.choice.LeafChoice.{LeafChoice}
-use Rattle.comp_net.specs.Atoms.{atoms, postfix, flock_in}
+use Rattle.comp_net.specs.Atoms.{atoms, postfix, flock_of_atom}
 use Rattle.comp_net.specs.declared.building.Built.{Built}
 use Rattle.comp_net.specs.BuiltNet.{less_leaf, leaf_of}
 use Rattle.comp_net.specs.Building.{IsAtomProof, AreAtomProofs, AddProofs, AddsLeaf, AddsTree}
 
 -- the leaf of a threshold, or of a flock, is that of the atom
-pub threshold_is : (choice : LeafChoice) (coefs : List ℤ) (bound : ℤ) (leaf : LeafModel) → flock_in choice coefs bound ≡ None → leaf ≡ threshold_leaf coefs bound
+pub threshold_is : (choice : LeafChoice) (coefs : List ℤ) (bound : ℤ) (leaf : LeafModel) → flock_of_atom choice coefs bound ≡ None → leaf ≡ threshold_leaf coefs bound
     → leaf ≡ leaf_of choice (LessThan coefs bound)
 threshold_is choice coefs bound leaf none is = is ∙ ap (less_leaf coefs bound) (sym none)
 
-pub flock_is : (choice : LeafChoice) (coefs : List ℤ) (bound : ℤ) (k : ℕ) (leaf : LeafModel) → flock_in choice coefs bound ≡ Some k → leaf ≡ flock_leaf coefs k
+pub flock_is : (choice : LeafChoice) (coefs : List ℤ) (bound : ℤ) (k : ℕ) (leaf : LeafModel) → flock_of_atom choice coefs bound ≡ Some k → leaf ≡ flock_leaf_of coefs k
     → leaf ≡ leaf_of choice (LessThan coefs bound)
 flock_is choice coefs bound k leaf some is = is ∙ ap (less_leaf coefs bound) (sym some)
 
-pub less_proof : (choice : LeafChoice) (coefs : List ℤ) (bound : ℤ) (leaf : LeafModel) (part : LeafProof) → flock_in choice coefs bound ≡ None → IsThreshold coefs bound leaf part → IsAtomProof choice (LessThan coefs bound) part
+pub less_proof : (choice : LeafChoice) (coefs : List ℤ) (bound : ℤ) (leaf : LeafModel) (part : LeafProof) → flock_of_atom choice coefs bound ≡ None → IsThreshold coefs bound leaf part → IsAtomProof choice (LessThan coefs bound) part
 less_proof choice coefs bound leaf part none is =
-    let long : length coefs ≡ length (less_leaf coefs bound (flock_in choice coefs bound)).inputs = sym (length-map coefs (place (width coefs bound))) ∙ ap (λ o. length (less_leaf coefs bound o).inputs) (sym none) in
+    let long : length coefs ≡ length (less_leaf coefs bound (flock_of_atom choice coefs bound)).inputs = sym (length-map coefs (place_of_value (threshold_width coefs bound))) ∙ ap (λ o. length (less_leaf coefs bound o).inputs) (sym none) in
     record {
       tree_is = ap (λ (p : PredModel). p.tree) is.pred_is;
       valid = subst (λ l. ValidLeafProof l part) (threshold_is choice coefs bound leaf none is.leaf_is) is.valid;
       within = subst (λ n. IsLeafProofWithin n part) long is.within;
     }
 
-pub flock_proof : (choice : LeafChoice) (coefs : List ℤ) (bound : ℤ) (k : ℕ) (leaf : LeafModel) (part : LeafProof) → flock_in choice coefs bound ≡ Some k → bound ≡ bound_of k → leaf ≡ flock_leaf coefs k → part.pred ≡ flock_pred coefs k → ValidLeafProof leaf part → IsLeafProofWithin (length coefs) part → IsAtomProof choice (LessThan coefs bound) part
+pub flock_proof : (choice : LeafChoice) (coefs : List ℤ) (bound : ℤ) (k : ℕ) (leaf : LeafModel) (part : LeafProof) → flock_of_atom choice coefs bound ≡ Some k → bound ≡ bound_of k → leaf ≡ flock_leaf_of coefs k → part.pred ≡ flock_pred coefs k → ValidLeafProof leaf part → IsLeafProofWithin (length coefs) part → IsAtomProof choice (LessThan coefs bound) part
 flock_proof choice coefs bound k leaf part some same el ep valid within =
-    let long : length coefs ≡ length (less_leaf coefs bound (flock_in choice coefs bound)).inputs = sym (length-map coefs start_of) ∙ ap (λ o. length (less_leaf coefs bound o).inputs) (sym some) in
+    let long : length coefs ≡ length (less_leaf coefs bound (flock_of_atom choice coefs bound)).inputs = sym (length-map coefs start_of) ∙ ap (λ o. length (less_leaf coefs bound o).inputs) (sym some) in
     record {
       tree_is = ap (λ (p : PredModel). p.tree) ep ∙ ap (LessThan coefs) (sym same);
       valid = subst (λ l. ValidLeafProof l part) (flock_is choice coefs bound k leaf some el) valid;
       within = subst (λ n. IsLeafProofWithin n part) long within;
     }
 
-pub rest_proof : (choice : LeafChoice) (coefs : List ℤ) (m rest : ℕ) (leaf : LeafModel) (part : LeafProof) → leaf ≡ remainder_leaf coefs m rest → part ≡ remainder_part coefs m rest → ValidLeafProof leaf part → IsLeafProofWithin (length coefs) part → IsAtomProof choice (Congruent coefs m rest) part
+pub rest_proof : (choice : LeafChoice) (coefs : List ℤ) (m rest : ℕ) (leaf : LeafModel) (part : LeafProof) → leaf ≡ remainder_leaf_of coefs m rest → part ≡ remainder_part coefs m rest → ValidLeafProof leaf part → IsLeafProofWithin (length coefs) part → IsAtomProof choice (Congruent coefs m rest) part
 rest_proof choice coefs m rest leaf part el ep valid within = record {
   tree_is = ap (λ (p : LeafProof). p.pred.tree) ep;
   valid = subst (λ l. ValidLeafProof l part) el valid;

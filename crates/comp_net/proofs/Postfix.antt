@@ -6,7 +6,7 @@ use Rattle.std.proofs.Math.ListN.{get_or-append}
 use Rattle.std.proofs.lemmas.List.Elements.{All-nil, All-cons, All-append}
 use Rattle.pop_net.specs.declared.net.Item.{Item}
 use Rattle.pop_net.specs.declared.net.Item.TheVariants.{Leaf, Not, And, Or}
-use Rattle.pop_net.specs.NetModel.{Operators, after_item, after_items, only_one, combined, depths, NamesBelow}
+use Rattle.pop_net.specs.NetModel.{Operators, after_item, after_items, only_one, combined, depth_operators, NamesBelow}
 use Rattle.pres_ast.specs.PredTree.{PredTree, LessThan, Congruent, Negation, Conjunction, Disjunction}
 use Rattle.pres_ast.specs.PredModel.{weight_of}
 use Rattle.cert_base.specs.ValidProof.{trees}
@@ -70,7 +70,7 @@ tree-again parts n (Disjunction p q) are =
     ∙ ap (Disjunction p) (tree-again parts (n + length (atoms p)) q (at_right parts (atoms p) (atoms q) n are))
 
 -- the depth and the length of the combination
-pub depth-most : (n : ℕ) (tree : PredTree) → value_at depths n tree ≤ weight_of tree + 1
+pub depth-most : (n : ℕ) (tree : PredTree) → value_at depth_operators n tree ≤ weight_of tree + 1
 depth-most n (LessThan coefs bound) = omega arith
 depth-most n (Congruent coefs m rest) = omega arith
 depth-most n (Negation p) = let e = depth-most n p in omega arith

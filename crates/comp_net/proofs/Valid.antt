@@ -6,11 +6,11 @@ use Rattle.std.proofs.lemmas.List.{length-map}
 use Rattle.std.proofs.lemmas.List.Folds.{list_any_none}
 use Rattle.std.proofs.lemmas.List.FromFn.{length-map-range_with_len}
 use Rattle.std.proofs.lemmas.List.Elements.{All-nil, All-cons, All-tail, All-append, All-map, All-weaker}
-use Rattle.pop_io.specs.Names.{AreNames, is_variable_name}
+use Rattle.pop_io.specs.Names.{AreNames, variable_name}
 use Rattle.pop_net.specs.declared.limits.TheConstants.{NARROW_STATE_LIMIT, WIDE_LEAF_LIMIT, DEPTH_LIMIT}
 use Rattle.pop_net.specs.declared.net.Item.{Item}
 use Rattle.pop_net.specs.LeafModel.{LeafModel, IsLeaf}
-use Rattle.pop_net.specs.NetModel.{NetModel, IsNet, depths, helper_count, helpers_of, is_wide_leaf, is_wide}
+use Rattle.pop_net.specs.NetModel.{NetModel, IsNet, depth_operators, helper_count, helpers_of, is_wide_leaf, is_wide}
 use Rattle.pop_net.specs.Reaction.{Differ, IsSingle}
 use Rattle.pres_ast.specs.PredTree.{PredTree, LessThan, Congruent, Negation, Conjunction, Disjunction}
 use Rattle.pres_ast.specs.PredModel.{HasAtoms, IsPred}
@@ -18,7 +18,7 @@ use Rattle.cert_base.specs.FactsAndCases.{over}
 use Rattle.cert_base.specs.declared.proof.LeafProof.{LeafProof}
 use Rattle.cert_base.specs.ValidProof.{trees, ValidLeafProof, ValidProof}
 use Rattle.cert_base.specs.ProofLimits.{IsLeafProofWithin, IsProofWithin}
-use Rattle.comp_threshold_leaf.specs.ThresholdLeaf.{width, place, state_count, name_of}
+use Rattle.comp_threshold_leaf.specs.ThresholdLeaf.{threshold_width, place_of_value, state_count, name_of}
 use Rattle.comp_threshold_leaf.proofs.Formed.{threshold-formed}
 use Rattle.comp_threshold_leaf.proofs.Single.{moves-single as threshold_single}
 use Rattle.comp_remainder_leaf.specs.RemainderLeaf.{name_of as remainder_name}
@@ -32,7 +32,7 @@ use Rattle.comp_flock_leaf.proofs.PowerFound.{IsPower, power_is}
 use Rattle.comp_net.specs.declared.choice.LeafChoice.{LeafChoice}
 use Rattle.comp_net.specs.declared.choice.LeafChoice.TheVariants.{Plain, Flocks}
 use Rattle.comp_net.specs.declared.limits.TheConstants.{NARROW_WIDTH_LIMIT}
-use Rattle.comp_net.specs.Atoms.{atoms, postfix, flock_in, less_width, width_of, IsSum, AreBuildable}
+use Rattle.comp_net.specs.Atoms.{atoms, postfix, flock_of_atom, less_width, width_of, IsSum, AreBuildable}
 use Rattle.comp_net.specs.BuiltNet.{less_leaf, leaf_of, net_with}
 use Rattle.comp_net.specs.Building.{AreAtomProofs}
 use Rattle.comp_net.specs.CompileFaults.{fault_with}
@@ -53,17 +53,17 @@ abbrev IsBuilt : LeafChoice → ℕ → PredTree → Type 0
 IsBuilt choice n atom = IsBuiltLeaf n (width_of choice atom) (leaf_of choice atom)
 
 -- a flock atom that has the leaf of a flock
-pub flock_found : (choice : LeafChoice) (coefs : List ℤ) (bound : ℤ) (k : ℕ) → flock_in choice coefs bound ≡ Some k → IsPower coefs bound k
+pub flock_found : (choice : LeafChoice) (coefs : List ℤ) (bound : ℤ) (k : ℕ) → flock_of_atom choice coefs bound ≡ Some k → IsPower coefs bound k
 flock_found Plain coefs bound k e = cc
 flock_found Flocks coefs bound k e = power_is coefs bound k e
 
-less_built : (choice : LeafChoice) (coefs : List ℤ) (bound : ℤ) (o : Option ℕ) → flock_in choice coefs bound ≡ o → IsSum coefs → less_width coefs bound o ≤ WIDTH_LIMIT → IsBuiltLeaf (length coefs) (less_width coefs bound o) (less_leaf coefs bound o)
+less_built : (choice : LeafChoice) (coefs : List ℤ) (bound : ℤ) (o : Option ℕ) → flock_of_atom choice coefs bound ≡ o → IsSum coefs → less_width coefs bound o ≤ WIDTH_LIMIT → IsBuiltLeaf (length coefs) (less_width coefs bound o) (less_leaf coefs bound o)
 less_built choice coefs bound None e sum few = record {
   formed = threshold-formed coefs bound sum.0 sum.1 few;
-  inputs = length-map coefs (place (width coefs bound));
+  inputs = length-map coefs (place_of_value (threshold_width coefs bound));
   helpers = refl;
-  narrow = λ l. le-ltb NARROW_STATE_LIMIT _ (omega (arith, length-map-range_with_len (name_of (width coefs bound)) 0 (state_count (width coefs bound)), l));
-  single = threshold_single (width coefs bound) (place (width coefs bound) bound);
+  narrow = λ l. le-ltb NARROW_STATE_LIMIT _ (omega (arith, length-map-range_with_len (name_of (threshold_width coefs bound)) 0 (state_count (threshold_width coefs bound)), l));
+  single = threshold_single (threshold_width coefs bound) (place_of_value (threshold_width coefs bound) bound);
 }
 less_built choice coefs bound (Some k) e sum few =
     let is = flock_found choice coefs bound k e in
@@ -79,7 +79,7 @@ pub all_built : (choice : LeafChoice) (n : ℕ) (tree : PredTree) → HasAtoms n
 all_built choice n (LessThan coefs bound) has can =
     let long = has.0.0 in
     All-cons (IsBuilt choice n) (LessThan coefs bound) []
-    (subst (λ m. IsBuilt choice m (LessThan coefs bound)) long (less_built choice coefs bound (flock_in choice coefs bound) refl can.0 can.2))
+    (subst (λ m. IsBuilt choice m (LessThan coefs bound)) long (less_built choice coefs bound (flock_of_atom choice coefs bound) refl can.0 can.2))
     (All-nil (IsBuilt choice n))
 all_built choice n (Congruent coefs m rest) has can =
     let long = has.0.0 in
@@ -169,7 +169,7 @@ not-wide choice tree n built keeps wide = elim (cases_lt WIDE_LEAF_LIMIT (length
   | inr few ↦ few
 ]
 
-pub net-formed : (choice : LeafChoice) (names : List (List ℕ)) (tree : PredTree) → AreNames is_variable_name names → IsPred (length names) tree → fault_with choice tree ≡ None → IsNet (net_with choice names tree)
+pub net-formed : (choice : LeafChoice) (names : List (List ℕ)) (tree : PredTree) → AreNames variable_name names → IsPred (length names) tree → fault_with choice tree ≡ None → IsNet (net_with choice names tree)
 net-formed choice names tree formed is none =
     let n = length names in
     let built = pred_built choice n tree is none in
@@ -185,7 +185,7 @@ net-formed choice names tree formed is none =
       inputs = All-map (λ leaf. length leaf.inputs ≡ n) (leaf_of choice) (atoms tree) (All-weaker (IsBuilt choice n) (λ a. length (leaf_of choice a).inputs ≡ n) (λ a b. b.inputs) (atoms tree) built);
       items = (let e = items-most 0 tree in let w = is.weight in let few = keeps.few in omega (arith, e, w, few));
       leaf_numbers = names-below 0 (length (map (leaf_of choice) (atoms tree))) tree (omega (arith, long));
-      depth = subst (λ o. IsSomeAnd o (λ d. d ≤ DEPTH_LIMIT)) (sym (combined-postfix depths tree)) (let e = depth-most 0 tree in let w = is.weight in omega (arith, e, w));
+      depth = subst (λ o. IsSomeAnd o (λ d. d ≤ DEPTH_LIMIT)) (sym (combined-postfix depth_operators tree)) (let e = depth-most 0 tree in let w = is.weight in omega (arith, e, w));
       helpers = All-map (λ leaf. length leaf.helpers ≡ helper_count (net_with choice names tree)) (leaf_of choice) (atoms tree) (All-weaker (IsBuilt choice n) (λ a. length (leaf_of choice a).helpers ≡ helper_count (net_with choice names tree)) (λ a b. ap length b.helpers ∙ sym (no_helpers choice n (atoms tree) built)) (atoms tree) built);
       wide = λ w. (let few = not-wide choice tree n built keeps w in omega (arith, long, few));
     }

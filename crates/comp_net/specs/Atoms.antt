@@ -6,7 +6,7 @@ use Rattle.pop_net.specs.declared.net.Item.TheVariants.{Leaf, Not, And, Or}
 use Rattle.pres_ast.specs.declared.limits.TheConstants.{COEFFICIENT_LIMIT, BOUND_LIMIT, MODULUS_LIMIT}
 use Rattle.pres_ast.specs.PredTree.{PredTree, LessThan, Congruent, Negation, Conjunction, Disjunction}
 use Rattle.comp_threshold_leaf.specs.declared.limits.TheConstants.{WIDTH_LIMIT}
-use Rattle.comp_threshold_leaf.specs.ThresholdLeaf.{width}
+use Rattle.comp_threshold_leaf.specs.ThresholdLeaf.{threshold_width}
 use Rattle.comp_flock_leaf.specs.FlockLeaf.{power_of}
 use Rattle.comp_net.specs.declared.choice.LeafChoice.{LeafChoice}
 use Rattle.comp_net.specs.declared.choice.LeafChoice.TheVariants.{Plain, Flocks}
@@ -28,17 +28,17 @@ postfix n (Conjunction p q) = (postfix n p ++ postfix (n + length (atoms p)) q) 
 postfix n (Disjunction p q) = (postfix n p ++ postfix (n + length (atoms p)) q) ++ Or ∷ []
 
 -- the power of an atom `LessThan` that gets the leaf of a flock
-abbrev pub flock_in : LeafChoice → List ℤ → ℤ → Option ℕ
-flock_in Plain coefs bound = None
-flock_in Flocks coefs bound = power_of coefs bound
+abbrev pub flock_of_atom : LeafChoice → List ℤ → ℤ → Option ℕ
+flock_of_atom Plain coefs bound = None
+flock_of_atom Flocks coefs bound = power_of coefs bound
 
 -- the width of the leaf of an atom; that of a flock or of a remainder has none
 abbrev pub less_width : List ℤ → ℤ → Option ℕ → ℕ
-less_width coefs bound None = width coefs bound
+less_width coefs bound None = threshold_width coefs bound
 less_width coefs bound (Some k) = 0
 
 abbrev pub width_of : LeafChoice → PredTree → ℕ
-width_of choice (LessThan coefs bound) = less_width coefs bound (flock_in choice coefs bound)
+width_of choice (LessThan coefs bound) = less_width coefs bound (flock_of_atom choice coefs bound)
 width_of choice (Congruent coefs m rest) = 0
 width_of choice (Negation p) = 0
 width_of choice (Conjunction p q) = 0

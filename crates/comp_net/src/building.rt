@@ -1,14 +1,14 @@
 //! The net and its proof, put together.
 
 ghost use Rattle.std.specs.Prelude.{◌≡◌, ◌≤◌, ◌<◌, ◌+◌, Some, None, length, OnOk, IfOk};
-ghost use Rattle.pop_io.specs.Names.{AreNames, is_variable_name};
+ghost use Rattle.pop_io.specs.Names.{AreNames, variable_name};
 ghost use Rattle.pres_ast.specs.TreeOf.{tree_of};
 ghost use Rattle.pres_ast.specs.PredTree.{LessThan, Congruent};
 ghost use Rattle.pop_net.specs.declared.limits.TheConstants.{LEAF_LIMIT};
 ghost use Rattle.pop_net.specs.Reaction.{IsSingle};
 ghost use Rattle.cert_base.specs.ProofLimits.{IsProofWithin};
 ghost use Rattle.cert_base.specs.ValidProof.{ValidProof};
-ghost use Rattle.comp_net.specs.Atoms.{atoms, flock_in as flock_of_atom, AreBuildable};
+ghost use Rattle.comp_net.specs.Atoms.{atoms, flock_of_atom, AreBuildable};
 ghost use Rattle.comp_net.specs.BuiltNet.{net_with};
 ghost use Rattle.comp_net.specs.Building.{AddsLeaf, AddsTree};
 ghost use Rattle.comp_net.specs.CompileFaults.{fault_with};
@@ -162,7 +162,7 @@ pub(crate) fn build(
     pred: &Pred,
     names: &List<Text>,
 ) -> Result<(Net, Proof), NoMemory>
-    requires formed { AreNames is_variable_name names.now }
+    requires formed { AreNames variable_name names.now }
     requires count { length names.now ≡ pred.now.variables }
     requires none { fault_with choice pred.now.tree ≡ None }
     ensures net { IfOk result (λ both. both.0 ≡ net_with choice names.now pred.now.tree) }

@@ -1,7 +1,7 @@
 //! Which atoms have a leaf of their own.
 
 ghost use Rattle.std.specs.Prelude.{◌≡◌};
-ghost use Rattle.comp_net.specs.Atoms.{flock_in as flock_of_atom};
+ghost use Rattle.comp_net.specs.Atoms.{flock_of_atom};
 
 use comp_flock::flock_power;
 

@@ -1,7 +1,7 @@
 //! A predicate in, a certified net out.
 
 ghost use Rattle.std.specs.Prelude.{◌≡◌, length};
-ghost use Rattle.pop_io.specs.Names.{AreNames, is_variable_name};
+ghost use Rattle.pop_io.specs.Names.{AreNames, variable_name};
 ghost use Rattle.comp_net.specs.Compiles.{Compiles};
 
 use crate::building::build;
@@ -21,7 +21,7 @@ fn compile_with(
     pred: &Pred,
     names: &List<Text>,
 ) -> Result<(Net, Proof), CompileFault>
-    requires formed { AreNames is_variable_name names.now }
+    requires formed { AreNames variable_name names.now }
     requires count { length names.now ≡ pred.now.variables }
     ensures { Compiles choice names.now pred.now result }
 {
@@ -34,7 +34,7 @@ fn compile_with(
 /// The built net over these names, and a valid proof that it computes the predicate. Whether there is one is known
 /// before anything is built.
 pub fn compile(alloc: Global, pred: &Pred, names: &List<Text>) -> Result<(Net, Proof), CompileFault>
-    requires formed { AreNames is_variable_name names.now }
+    requires formed { AreNames variable_name names.now }
     requires count { length names.now ≡ pred.now.variables }
     ensures { Compiles LeafChoice.Plain names.now pred.now result }
 {
@@ -48,7 +48,7 @@ pub fn compile_flocks(
     pred: &Pred,
     names: &List<Text>,
 ) -> Result<(Net, Proof), CompileFault>
-    requires formed { AreNames is_variable_name names.now }
+    requires formed { AreNames variable_name names.now }
     requires count { length names.now ≡ pred.now.variables }
     ensures { Compiles LeafChoice.Flocks names.now pred.now result }
 {

@@ -7,13 +7,13 @@ use Rattle.std.proofs.lemmas.Bool.{lt-ltb, le-ltb, cases_lt, eq-eqb, ne_eqb}
 use Rattle.std.proofs.lemmas.List.Elements.{All-nil, All-cons, All-contains}
 use Rattle.std.proofs.lemmas.List.FromFn.{length-map-range_with_len, get_or-map-range_with_len}
 use Rattle.pop_net.specs.declared.leaf.Move.{Move}
-use Rattle.pop_net.specs.LeafModel.{LeafModel, is_silent}
+use Rattle.pop_net.specs.LeafModel.{LeafModel, silent_move}
 use Rattle.cert_base.specs.FactsAndCases.{indicator}
 use Rattle.cert_base.specs.ValidLayers.{weight_at, IsLower, ValidLayers}
 use Rattle.comp_layers.specs.SortedLayers.{leader_kind, IsLeaderProtocol}
 use Rattle.comp_layers.proofs.SortedLayers.{AreKinds, sorted_layers-valid}
 use Rattle.comp_layers.proofs.LeaderLayers.{kind-pair, kind-below, kind-up, kind-down, leader_wakes}
-use Rattle.comp_remainder_leaf.specs.RemainderLeaf.{follower, meeting, turn, moves_of, name_of, remainder_leaf}
+use Rattle.comp_remainder_leaf.specs.RemainderLeaf.{follower, meeting, turn, moves_of, name_of, remainder_leaf_of}
 use Rattle.comp_remainder.specs.RemainderLayers.{weights_by, all_weights, remainder_layers}
 use Rattle.comp_remainder_leaf.proofs.MoveLists.{all_moves, has_pair, follower-above, follower-below, followers-apart, pair-loud, turn-loud}
 
@@ -63,7 +63,7 @@ all_settled m rest =
 
 module _ (coefs : List ℤ) (m rest : ℕ) where
   abbrev leaf : LeafModel
-  leaf = remainder_leaf coefs m rest
+  leaf = remainder_leaf_of coefs m rest
 
   settled : (t u : Move) → Contains leaf.moves t → Contains leaf.moves u → m ≤ t.q → t.r ≡ t.p → u.q ≡ t.s → u.p ≢ t.p
   settled t u ct cu above e f g =
@@ -74,7 +74,7 @@ module _ (coefs : List ℤ) (m rest : ℕ) where
 
   is_protocol : IsLeaderProtocol leaf m
   is_protocol = record {
-    loud = all_moves m rest (λ t. is_silent t ≡ false) (λ p q l k. pair-loud m rest p q l k) (λ p l. turn-loud m rest p l);
+    loud = all_moves m rest (λ t. silent_move t ≡ false) (λ p q l k. pair-loud m rest p q l k) (λ p l. turn-loud m rest p l);
     leads = all_moves m rest (λ t. t.p < m) (λ p q l k. l) (λ p l. l);
     follows = all_moves m rest (λ t. m ≤ t.s) (λ p q l k. follower-above m (((p + q) % m) == rest)) (λ p l. follower-above m (p == rest));
     meet = λ p q l k ne. elim (cases_lt p q) [

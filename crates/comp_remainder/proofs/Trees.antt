@@ -15,14 +15,14 @@ use Rattle.pres_ast.specs.PredicateValue.{divides}
 use Rattle.cert_base.specs.declared.fact.Fact.{Fact}
 use Rattle.cert_base.specs.declared.fact.Fact.TheVariants.{Cong, NotCong}
 use Rattle.cert_base.specs.Rows.{input_row, terms_from}
-use Rattle.cert_base.specs.ClosingTests.{linear_closes, residue_closes}
+use Rattle.cert_base.specs.ClosingTests.{closes_by_sum, closes_by_residue}
 use Rattle.cert_base.specs.Closes.{refutes, Closes}
-use Rattle.cert_base.specs.FactsAndCases.{base_facts, differs, can_meet}
-use Rattle.comp_trees.specs.LeaderTree.{IsLed, facts_of_trap, facts_of_leader, company, mix_of_leader, value_mix, wrong_mix}
+use Rattle.cert_base.specs.FactsAndCases.{base_list, differs, can_meet}
+use Rattle.comp_trees.specs.LeaderTree.{IsLed, facts_of_trap, facts_of_leader, company_of, mix_of_leader, value_mix, wrong_mix}
 use Rattle.comp_trees.proofs.LeaderEnds.{is_wrong, rules_out, wrong_closes, IsOpened}
 use Rattle.comp_trees.proofs.ValueNodes.{AreEven, residue_closes-true, residue_closes-false}
 use Rattle.comp_trees.proofs.LeaderClosing.{leader_tree-closes}
-use Rattle.comp_remainder_leaf.specs.RemainderLeaf.{residue, follower, meeting, turn, name_of, output_of, remainder_leaf}
+use Rattle.comp_remainder_leaf.specs.RemainderLeaf.{residue, follower, meeting, turn, name_of, output_of, remainder_leaf_of}
 use Rattle.comp_remainder.specs.RemainderProof.{value_of, leader_node, remainder_tree}
 use Rattle.comp_remainder_leaf.proofs.MoveLists.{all_moves, follower-above}
 use Rattle.comp_remainder_leaf.proofs.Formed.{moves-few}
@@ -44,9 +44,9 @@ output-follower : (m rest : ℕ) (bit : Bool) → output_of m rest (follower m b
 output-follower m rest true = rw (le-ltb (m + 1) m (omega arith), eq-eqb (m + 1) (m + 1) refl) refl
 output-follower m rest false = rw (le-ltb m m (omega arith), ne_eqb m (m + 1) (λ e. omega arith)) refl
 
-module _ (coefs : List ℤ) (m rest : ℕ) (two : 2 ≤ m) (high : m ≤ 200) (rest_below : rest < m) (formed : IsLeaf (remainder_leaf coefs m rest)) where
+module _ (coefs : List ℤ) (m rest : ℕ) (two : 2 ≤ m) (high : m ≤ 200) (rest_below : rest < m) (formed : IsLeaf (remainder_leaf_of coefs m rest)) where
   abbrev leaf : LeafModel
-  leaf = remainder_leaf coefs m rest
+  leaf = remainder_leaf_of coefs m rest
 
   abbrev pred : PredModel
   pred = record { variables = length coefs; tree = Congruent coefs m rest }
@@ -80,7 +80,7 @@ module _ (coefs : List ℤ) (m rest : ℕ) (two : 2 ≤ m) (high : m ≤ 200) (r
       go false true h = absurd (h refl)
       go false false h = refl
 
-  wrong-node : (b : Bool) (opened : Fact) (p : ℕ) → p < m → differs b (output_of m rest p) ≡ false → linear_closes (facts_of_leader leaf (facts_of_trap leaf (base_facts leaf pred b) opened m) p) (terms_from 0 (mix_of_leader leaf (company leaf p) (wrong_mix leaf b) p)) ≡ true
+  wrong-node : (b : Bool) (opened : Fact) (p : ℕ) → p < m → differs b (output_of m rest p) ≡ false → closes_by_sum (facts_of_leader leaf (facts_of_trap leaf (base_list leaf pred b) opened m) p) (terms_from 0 (mix_of_leader leaf (company_of leaf p) (wrong_mix leaf b) p)) ≡ true
   wrong-node b opened p l right = wrong_closes leaf pred b opened m p (leaders-meet coefs m rest p p l l) all
     where
       out : (z : ℕ) → Kind m z → differs b (output_of m rest z) ≡ true → can_meet leaf p z ≡ true
@@ -148,7 +148,7 @@ module _ (coefs : List ℤ) (m rest : ℕ) (two : 2 ≤ m) (high : m ≤ 200) (r
     of_states = λ z k ne e. states-even p z l k e;
   }
 
-  value-true : (p : ℕ) → p < m → (p == rest) ≡ false → residue_closes (facts_of_leader leaf (facts_of_trap leaf (base_facts leaf pred true) (Cong (input_row coefs (neg_ℤ (pos rest))) m) m) p) m (terms_from 0 (mix_of_leader leaf (company leaf p) (value_mix (value_of m) (negsuc 0) p) p)) ≡ true
+  value-true : (p : ℕ) → p < m → (p == rest) ≡ false → closes_by_residue (facts_of_leader leaf (facts_of_trap leaf (base_list leaf pred true) (Cong (input_row coefs (neg_ℤ (pos rest))) m) m) p) m (terms_from 0 (mix_of_leader leaf (company_of leaf p) (value_mix (value_of m) (negsuc 0) p) p)) ≡ true
   value-true p l other =
       let ne : rest ≢ p = λ e. eqb-false p rest other (sym e) in
       let v = value-leader m p l in
@@ -156,7 +156,7 @@ module _ (coefs : List ℤ) (m rest : ℕ) (two : 2 ≤ m) (high : m ≤ 200) (r
       residue_closes-true leaf pred true (Cong (input_row coefs (neg_ℤ (pos rest))) m) m p (leaders-meet coefs m rest p p l l) (omega (arith, states_long)) formed.inputs formed.moves refl coefs (neg_ℤ (pos rest)) (is_opened true p l) m (value_of m)
       (divides-zero m) (eq-eqb m m refl) (even true p l) (ap (divides m) same ∙ differ-odd m rest p rest_below l ne)
 
-  value-false : (p : ℕ) → p < m → (p == rest) ≡ true → residue_closes (facts_of_leader leaf (facts_of_trap leaf (base_facts leaf pred false) (NotCong (input_row coefs (neg_ℤ (pos rest))) m) m) p) m (terms_from 0 (mix_of_leader leaf (company leaf p) (value_mix (value_of m) (pos 0) p) p)) ≡ true
+  value-false : (p : ℕ) → p < m → (p == rest) ≡ true → closes_by_residue (facts_of_leader leaf (facts_of_trap leaf (base_list leaf pred false) (NotCong (input_row coefs (neg_ℤ (pos rest))) m) m) p) m (terms_from 0 (mix_of_leader leaf (company_of leaf p) (value_mix (value_of m) (pos 0) p) p)) ≡ true
   value-false p l same =
       let e = eqb-true p rest same in
       let v = value-leader m p l in
@@ -164,22 +164,22 @@ module _ (coefs : List ℤ) (m rest : ℕ) (two : 2 ≤ m) (high : m ≤ 200) (r
       residue_closes-false leaf pred false (NotCong (input_row coefs (neg_ℤ (pos rest))) m) m p (leaders-meet coefs m rest p p l l) (omega (arith, states_long)) formed.inputs formed.moves refl coefs (neg_ℤ (pos rest)) (is_opened false p l) m (value_of m)
       (divides-zero m) refl (even false p l) (ap (divides m) none ∙ divides-zero m)
 
-  on_true : (p : ℕ) → p < m → refutes (facts_of_leader leaf (facts_of_trap leaf (base_facts leaf pred true) (Cong (input_row coefs (neg_ℤ (pos rest))) m) m) p) (leader_node leaf m rest true p) ≡ true
+  on_true : (p : ℕ) → p < m → refutes (facts_of_leader leaf (facts_of_trap leaf (base_list leaf pred true) (Cong (input_row coefs (neg_ℤ (pos rest))) m) m) p) (leader_node leaf m rest true p) ≡ true
   on_true p l = go (output_of m rest p) refl
     where
-      go : (c : Bool) → output_of m rest p ≡ c → refutes (facts_of_leader leaf (facts_of_trap leaf (base_facts leaf pred true) (Cong (input_row coefs (neg_ℤ (pos rest))) m) m) p) (leader_node leaf m rest true p) ≡ true
+      go : (c : Bool) → output_of m rest p ≡ c → refutes (facts_of_leader leaf (facts_of_trap leaf (base_list leaf pred true) (Cong (input_row coefs (neg_ℤ (pos rest))) m) m) p) (leader_node leaf m rest true p) ≡ true
       go true e = rw e (wrong-node true (Cong (input_row coefs (neg_ℤ (pos rest))) m) p l (ap (differs true) e))
       go false e = rw e (value-true p l (sym (output-leader m rest p l) ∙ e))
 
-  on_false : (p : ℕ) → p < m → refutes (facts_of_leader leaf (facts_of_trap leaf (base_facts leaf pred false) (NotCong (input_row coefs (neg_ℤ (pos rest))) m) m) p) (leader_node leaf m rest false p) ≡ true
+  on_false : (p : ℕ) → p < m → refutes (facts_of_leader leaf (facts_of_trap leaf (base_list leaf pred false) (NotCong (input_row coefs (neg_ℤ (pos rest))) m) m) p) (leader_node leaf m rest false p) ≡ true
   on_false p l = go (output_of m rest p) refl
     where
-      go : (c : Bool) → output_of m rest p ≡ c → refutes (facts_of_leader leaf (facts_of_trap leaf (base_facts leaf pred false) (NotCong (input_row coefs (neg_ℤ (pos rest))) m) m) p) (leader_node leaf m rest false p) ≡ true
+      go : (c : Bool) → output_of m rest p ≡ c → refutes (facts_of_leader leaf (facts_of_trap leaf (base_list leaf pred false) (NotCong (input_row coefs (neg_ℤ (pos rest))) m) m) p) (leader_node leaf m rest false p) ≡ true
       go true e = rw e (value-false p l (sym (output-leader m rest p l) ∙ e))
       go false e = rw e (wrong-node false (NotCong (input_row coefs (neg_ℤ (pos rest))) m) p l (ap (differs false) e))
 
-  pub tree-true : Closes leaf (base_facts leaf pred true) (remainder_tree leaf m rest true) []
+  pub tree-true : Closes leaf (base_list leaf pred true) (remainder_tree leaf m rest true) []
   tree-true = leader_tree-closes leaf pred true (Cong (input_row coefs (neg_ℤ (pos rest))) m) m is_led formed refl (leader_node leaf m rest true) on_true
 
-  pub tree-false : Closes leaf (base_facts leaf pred false) (remainder_tree leaf m rest false) []
+  pub tree-false : Closes leaf (base_list leaf pred false) (remainder_tree leaf m rest false) []
   tree-false = leader_tree-closes leaf pred false (NotCong (input_row coefs (neg_ℤ (pos rest))) m) m is_led formed refl (leader_node leaf m rest false) on_false

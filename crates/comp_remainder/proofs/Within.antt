@@ -11,12 +11,12 @@ use Rattle.cert_base.specs.declared.node.Node.TheVariants.{Residue}
 use Rattle.cert_base.specs.Rows.{terms_from}
 use Rattle.cert_base.specs.FactsAndCases.{differs, indicator}
 use Rattle.cert_base.specs.ProofLimits.{IsSmall, IsNodeWithin, IsLayerWithin, AreNodesWithin}
-use Rattle.comp_trees.specs.LeaderTree.{company, mix_of_leader, value_mix, wrong_mix, weighed}
+use Rattle.comp_trees.specs.LeaderTree.{company_of, mix_of_leader, value_mix, wrong_mix, weighed}
 use Rattle.comp_layers.specs.SortedLayers.{leader_kind, layer_of}
 use Rattle.comp_layers.proofs.Members.{all_range}
 use Rattle.comp_trees.proofs.Limits.{mix-small, leader-within, leader-within_terms, tree-within}
 use Rattle.comp_layers.proofs.LayerLimits.{layer-within}
-use Rattle.comp_remainder_leaf.specs.RemainderLeaf.{output_of, name_of, remainder_leaf}
+use Rattle.comp_remainder_leaf.specs.RemainderLeaf.{output_of, name_of, remainder_leaf_of}
 use Rattle.comp_remainder.proofs.Trees.{is_led}
 use Rattle.comp_remainder.specs.RemainderProof.{value_of, opened_by, leader_node, remainder_tree}
 use Rattle.comp_remainder.specs.RemainderLayers.{weights_by, remainder_layers}
@@ -40,9 +40,9 @@ bit-small : (b : Bool) → IsSmall (indicator b)
 bit-small true = omega arith
 bit-small false = omega arith
 
-module _ (coefs : List ℤ) (m rest : ℕ) (low : 2 ≤ m) (high : m ≤ 200) (below : rest < m) (formed : IsLeaf (remainder_leaf coefs m rest)) where
+module _ (coefs : List ℤ) (m rest : ℕ) (low : 2 ≤ m) (high : m ≤ 200) (below : rest < m) (formed : IsLeaf (remainder_leaf_of coefs m rest)) where
   abbrev leaf : LeafModel
-  leaf = remainder_leaf coefs m rest
+  leaf = remainder_leaf_of coefs m rest
 
   states_long : length leaf.states ≡ m + 2
   states_long = length-map-range_with_len (name_of m) 0 (m + 2)
@@ -55,12 +55,12 @@ module _ (coefs : List ℤ) (m rest : ℕ) (low : 2 ≤ m) (high : m ≤ 200) (b
       layer-within leaf.moves (leader_kind m) i (weights_by m test) formed.move_count (omega (arith, length-map-range_with_len (λ q. indicator (test q)) 0 (m + 2)))
       (All-map IsSmall (λ q. indicator (test q)) (range_with_len 0 (m + 2)) (all_range (λ q. IsSmall (indicator (test q))) 0 (m + 2) (λ q l k. bit-small (test q))))
 
-  value-node : (b : Bool) (p : ℕ) → p < m → IsNodeWithin (Residue m (terms_from 0 (mix_of_leader leaf (company leaf p) (value_mix (value_of m) (opened_by b) p) p)))
+  value-node : (b : Bool) (p : ℕ) → p < m → IsNodeWithin (Residue m (terms_from 0 (mix_of_leader leaf (company_of leaf p) (value_mix (value_of m) (opened_by b) p) p)))
   value-node b p l =
       let mix = value_mix (value_of m) (opened_by b) p in
       (low, high, leader-within_terms leaf p mix formed (omega (arith, states_long)) (mix-small leaf p mix (λ q k. value-small m q high) (omega arith) (opened-small b) (λ q k. value-small m q high) (value-small m p high)))
 
-  wrong-node : (b : Bool) (p : ℕ) → p < m → IsNodeWithin (weighed (mix_of_leader leaf (company leaf p) (wrong_mix leaf b) p))
+  wrong-node : (b : Bool) (p : ℕ) → p < m → IsNodeWithin (weighed (mix_of_leader leaf (company_of leaf p) (wrong_mix leaf b) p))
   wrong-node b p l =
       let mix = wrong_mix leaf b in
       leader-within leaf p mix formed (omega (arith, states_long)) (mix-small leaf p mix (λ q k. omega arith) (omega arith) (omega arith) (λ q k. sign-small (differs b (slice_index_or leaf.outputs q false))) (omega arith))
@@ -68,7 +68,7 @@ module _ (coefs : List ℤ) (m rest : ℕ) (low : 2 ≤ m) (high : m ≤ 200) (b
   node : (b : Bool) (p : ℕ) → p < m → IsNodeWithin (leader_node leaf m rest b p)
   node b p l = go (differs b (output_of m rest p)) (value-node b p l) (wrong-node b p l)
     where
-      go : (c : Bool) → IsNodeWithin (Residue m (terms_from 0 (mix_of_leader leaf (company leaf p) (value_mix (value_of m) (opened_by b) p) p))) → IsNodeWithin (weighed (mix_of_leader leaf (company leaf p) (wrong_mix leaf b) p)) → IsNodeWithin (if c then Residue m (terms_from 0 (mix_of_leader leaf (company leaf p) (value_mix (value_of m) (opened_by b) p) p)) else weighed (mix_of_leader leaf (company leaf p) (wrong_mix leaf b) p))
+      go : (c : Bool) → IsNodeWithin (Residue m (terms_from 0 (mix_of_leader leaf (company_of leaf p) (value_mix (value_of m) (opened_by b) p) p))) → IsNodeWithin (weighed (mix_of_leader leaf (company_of leaf p) (wrong_mix leaf b) p)) → IsNodeWithin (if c then Residue m (terms_from 0 (mix_of_leader leaf (company_of leaf p) (value_mix (value_of m) (opened_by b) p) p)) else weighed (mix_of_leader leaf (company_of leaf p) (wrong_mix leaf b) p))
       go true v w = v
       go false v w = w
 

@@ -8,8 +8,8 @@ use Rattle.cert_base.specs.declared.node.Node.TheVariants.{Residue}
 use Rattle.cert_base.specs.declared.proof.LeafProof.{LeafProof}
 use Rattle.cert_base.specs.Rows.{terms_from}
 use Rattle.cert_base.specs.FactsAndCases.{differs}
-use Rattle.comp_trees.specs.LeaderTree.{company, mix_of_leader, wrong_mix, value_mix, weighed, leader_tree}
-use Rattle.comp_remainder_leaf.specs.RemainderLeaf.{output_of, remainder_leaf}
+use Rattle.comp_trees.specs.LeaderTree.{company_of, mix_of_leader, wrong_mix, value_mix, weighed, leader_tree}
+use Rattle.comp_remainder_leaf.specs.RemainderLeaf.{output_of, remainder_leaf_of}
 use Rattle.comp_remainder.specs.RemainderLayers.{remainder_layers}
 
 -- a leader's remainder, and 0 for a follower
@@ -23,10 +23,10 @@ opened_by b = if b then negsuc 0 else pos 0
 -- the node of the leader p in the tree for b: its remainder doesn't agree with the opened predicate, or no state with another output is left
 abbrev pub value_node : LeafModel → ℕ → Bool → ℕ → Node
 value_node leaf m b p =
-    Residue m (terms_from 0 (mix_of_leader leaf (company leaf p) (value_mix (value_of m) (opened_by b) p) p))
+    Residue m (terms_from 0 (mix_of_leader leaf (company_of leaf p) (value_mix (value_of m) (opened_by b) p) p))
 
 abbrev pub wrong_node : LeafModel → Bool → ℕ → Node
-wrong_node leaf b p = weighed (mix_of_leader leaf (company leaf p) (wrong_mix leaf b) p)
+wrong_node leaf b p = weighed (mix_of_leader leaf (company_of leaf p) (wrong_mix leaf b) p)
 
 abbrev pub leader_node : LeafModel → (m rest : ℕ) → Bool → ℕ → Node
 leader_node leaf m rest b p = if differs b (output_of m rest p) then value_node leaf m b p else wrong_node leaf b p
@@ -41,7 +41,7 @@ congruence coefs m rest = record { variables = length coefs; tree = Congruent co
 
 abbrev pub remainder_part : List ℤ → (m rest : ℕ) → LeafProof
 remainder_part coefs m rest =
-    let leaf = remainder_leaf coefs m rest in
+    let leaf = remainder_leaf_of coefs m rest in
     record {
       pred = congruence coefs m rest;
       layers = remainder_layers leaf m;

@@ -6,7 +6,7 @@ ghost use Rattle.pres_ast.specs.declared.limits.TheConstants.{COEFFICIENT_LIMIT,
 ghost use Rattle.pop_net.specs.Reaction.{Differ};
 ghost use Rattle.cert_base.specs.ValidProof.{ValidLeafProof};
 ghost use Rattle.cert_base.specs.ProofLimits.{IsLeafProofWithin};
-ghost use Rattle.comp_remainder_leaf.specs.RemainderLeaf.{remainder_leaf as built_leaf};
+ghost use Rattle.comp_remainder_leaf.specs.RemainderLeaf.{remainder_leaf_of};
 ghost use Rattle.comp_remainder.specs.RemainderProof.{congruence, remainder_part};
 
 use crate::node::leaf_tree;
@@ -48,7 +48,7 @@ pub fn remainder(
     requires low { 2 ≤ modulus }
     requires high { modulus ≤ MODULUS_LIMIT }
     requires rest { rest < modulus }
-    ensures leaf { IfOk result (λ both. both.0 ≡ built_leaf coefs.now modulus rest) }
+    ensures leaf { IfOk result (λ both. both.0 ≡ remainder_leaf_of coefs.now modulus rest) }
     ensures part { IfOk result (λ both. both.1 ≡ remainder_part coefs.now modulus rest) }
     ensures valid { IfOk result (λ both. ValidLeafProof both.0 both.1) }
     ensures within { IfOk result (λ both. IsLeafProofWithin (length coefs.now) both.1) }

@@ -8,7 +8,7 @@ use Rattle.std.proofs.lemmas.List.Elements.{All-nil, All-map, All-from_get_or}
 use Rattle.std.proofs.lemmas.List.FromFn.{length-range_with_len, length-map-range_with_len}
 use Rattle.pop_net.specs.declared.leaf.Move.{Move}
 use Rattle.pop_net.specs.LeafModel.{LeafModel, IsLeaf, IsMoveBelow}
-use Rattle.comp_remainder_leaf.specs.RemainderLeaf.{residue, meeting, turn, pairs_of, moves_of, name_of, output_of, remainder_leaf}
+use Rattle.comp_remainder_leaf.specs.RemainderLeaf.{residue, meeting, turn, pairs_of, moves_of, name_of, output_of, remainder_leaf_of}
 use Rattle.comp_remainder_leaf.proofs.MoveLists.{all_moves, follower-below}
 use Rattle.comp_remainder_leaf.proofs.Remainders.{residue-below}
 use Rattle.comp_remainder_leaf.proofs.StateNames.{names-formed}
@@ -38,7 +38,7 @@ moves-few m rest l =
     let second = triangle-le m 200 l in
     omega (arith, length-append (flat_map (pairs_of m rest) (range_with_len 0 m)) (map (turn m rest) (range_with_len 0 m)), length-map (range_with_len 0 m) (turn m rest), length-range_with_len 0 m, first, second, triangle-most)
 
-pub remainder-formed : (coefs : List ℤ) (m rest : ℕ) → 1 ≤ length coefs → length coefs ≤ 16 → 1 ≤ m → m ≤ 200 → IsLeaf (remainder_leaf coefs m rest)
+pub remainder-formed : (coefs : List ℤ) (m rest : ℕ) → 1 ≤ length coefs → length coefs ≤ 16 → 1 ≤ m → m ≤ 200 → IsLeaf (remainder_leaf_of coefs m rest)
 remainder-formed coefs m rest some few low high =
     let states_long = length-map-range_with_len (name_of m) 0 (m + 2) in
     let inputs_long = length-map coefs (residue m) in

@@ -5,7 +5,7 @@ use Rattle.std.specs.List.{range_with_len}
 use Rattle.std.proofs.lemmas.Bool.{ne_eqb}
 use Rattle.std.proofs.lemmas.List.Elements.{All-append, All-map, Contains-append_left, Contains-append_right}
 use Rattle.pop_net.specs.declared.leaf.Move.{Move}
-use Rattle.pop_net.specs.LeafModel.{is_silent, same_pair}
+use Rattle.pop_net.specs.LeafModel.{silent_move, same_pair}
 use Rattle.comp_layers.proofs.Members.{all_range, all_flat, range_has, has_map, has_flat}
 use Rattle.comp_remainder_leaf.specs.RemainderLeaf.{follower, meeting, turn, pairs_of, moves_of}
 
@@ -49,10 +49,10 @@ and_no false = refl
 loud-by : (p q r s : ℕ) → (q == s) ≡ false → (p == s) ≡ false → same_pair p q r s ≡ false
 loud-by p q r s e f = let g = and_no (p == r) in rw (e, f, g) refl
 
-pub pair-loud : (m rest p q : ℕ) → p < m → q < m → is_silent (meeting m rest p q) ≡ false
+pub pair-loud : (m rest p q : ℕ) → p < m → q < m → silent_move (meeting m rest p q) ≡ false
 pair-loud m rest p q l k =
     loud-by p q ((p + q) % m) (follower m (((p + q) % m) == rest)) (not-leader m q (((p + q) % m) == rest) k) (not-leader m p (((p + q) % m) == rest) l)
 
-pub turn-loud : (m rest p : ℕ) → p < m → is_silent (turn m rest p) ≡ false
+pub turn-loud : (m rest p : ℕ) → p < m → silent_move (turn m rest p) ≡ false
 turn-loud m rest p l =
     loud-by p (follower m (not (p == rest))) p (follower m (p == rest)) (ne_eqb _ _ (followers-apart m (p == rest))) (not-leader m p (p == rest) l)

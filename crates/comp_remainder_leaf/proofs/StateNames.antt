@@ -5,19 +5,19 @@ use Rattle.std.specs.List.{range_with_len}
 use Rattle.std.specs.Fmt.{decimal}
 use Rattle.std.proofs.lemmas.Fmt.{decimal_injective, length-decimal-le}
 use Rattle.std.proofs.lemmas.Bool.{lt-ltb, le-ltb, le-leb, ne_eqb, eq-eqb}
-use Rattle.pop_io.specs.Names.{is_state_name, AreNames}
+use Rattle.pop_io.specs.Names.{state_name, AreNames}
 use Rattle.comp_layers.proofs.StateNames.{decimal-printed, named-apart}
 use Rattle.comp_remainder_leaf.specs.RemainderLeaf.{follower, name_of}
 use Rattle.comp_remainder_leaf.proofs.StateKinds.{Kind, a_leader, a_follower, kind_of}
 
 -- the name of a leader
-number-name : (q : ℕ) → q < 1000 → IsTrue (is_state_name (78 ∷ decimal q))
+number-name : (q : ℕ) → q < 1000 → IsTrue (state_name (78 ∷ decimal q))
 number-name q l =
     let long = length-decimal-le 3 q (omega arith) (omega arith) (omega arith) in
     let a : nat_le 1 (length (78 ∷ decimal q)) ≡ true = le-leb 1 (length (78 ∷ decimal q)) (omega arith) in
     let b = (decimal-printed q (omega arith)).all in
     let c : nat_le (length (78 ∷ decimal q)) 32 ≡ true = le-leb (length (78 ∷ decimal q)) 32 (omega arith) in
-    from_true (is_state_name (78 ∷ decimal q)) (and_all a b c)
+    from_true (state_name (78 ∷ decimal q)) (and_all a b c)
   where
     from_true : (b : Bool) → b ≡ true → IsTrue b
     from_true b e = e
@@ -33,10 +33,10 @@ name-follower : (m : ℕ) (bit : Bool) → name_of m (follower m bit) ≡ (if bi
 name-follower m true = rw (le-ltb (m + 1) m (omega arith), ne_eqb (m + 1) m (λ e. omega arith)) refl
 name-follower m false = rw (le-ltb m m (omega arith), eq-eqb m m refl) refl
 
-name-form : (m q : ℕ) → m ≤ 200 → Kind m q → IsTrue (is_state_name (name_of m q))
-name-form m _ few (a_leader q l) = subst (λ name. IsTrue (is_state_name name)) (sym (name-leader m q l)) (number-name q (omega arith))
-name-form m _ few (a_follower true) = subst (λ name. IsTrue (is_state_name name)) (sym (name-follower m true)) refl
-name-form m _ few (a_follower false) = subst (λ name. IsTrue (is_state_name name)) (sym (name-follower m false)) refl
+name-form : (m q : ℕ) → m ≤ 200 → Kind m q → IsTrue (state_name (name_of m q))
+name-form m _ few (a_leader q l) = subst (λ name. IsTrue (state_name name)) (sym (name-leader m q l)) (number-name q (omega arith))
+name-form m _ few (a_follower true) = subst (λ name. IsTrue (state_name name)) (sym (name-follower m true)) refl
+name-form m _ few (a_follower false) = subst (λ name. IsTrue (state_name name)) (sym (name-follower m false)) refl
 
 heads : (x y : ℕ) (xs ys : List ℕ) → x ∷ xs ≡ y ∷ ys → x ≡ y
 heads x y xs ys e = cc
@@ -55,6 +55,6 @@ name-injective m _ _ few (a_follower false) (a_follower false) e = refl
 name-injective m _ _ few (a_follower true) (a_follower false) e = let f : 116 ∷ [] ≡ 102 ∷ [] = sym (name-follower m true) ∙ e ∙ name-follower m false in absurd (omega (arith, heads 116 102 _ _ f))
 name-injective m _ _ few (a_follower false) (a_follower true) e = let f : 102 ∷ [] ≡ 116 ∷ [] = sym (name-follower m false) ∙ e ∙ name-follower m true in absurd (omega (arith, heads 102 116 _ _ f))
 
-pub names-formed : (m : ℕ) → m ≤ 200 → AreNames is_state_name (map (name_of m) (range_with_len 0 (m + 2)))
+pub names-formed : (m : ℕ) → m ≤ 200 → AreNames state_name (map (name_of m) (range_with_len 0 (m + 2)))
 names-formed m few =
     named-apart (name_of m) (m + 2) (λ i l. name-form m i few (kind_of m i l)) (λ i j l k e. name-injective m i j few (kind_of m i l) (kind_of m j k) e)

@@ -40,8 +40,8 @@ name_of m q = if nat_lt q m then (78 ∷ decimal q) else (if q == m then (102 �
 abbrev pub output_of : (m rest q : ℕ) → Bool
 output_of m rest q = if nat_lt q m then q == rest else q == m + 1
 
-abbrev pub remainder_leaf : List ℤ → (m rest : ℕ) → LeafModel
-remainder_leaf coefs m rest =
+abbrev pub remainder_leaf_of : List ℤ → (m rest : ℕ) → LeafModel
+remainder_leaf_of coefs m rest =
     record {
       states = map (name_of m) (range_with_len 0 (state_count m));
       moves = moves_of m rest;

@@ -6,7 +6,7 @@ ghost use Rattle.pop_io.specs.declared.names.TheConstants.{VARIABLE_LIMIT};
 ghost use Rattle.pres_ast.specs.declared.limits.TheConstants.{MODULUS_LIMIT};
 ghost use Rattle.pop_net.specs.Reaction.{Differ};
 ghost use Rattle.comp_remainder_leaf.specs.RemainderLeaf.{residue as residue_of, state_count, output_of as output_in};
-ghost use Rattle.comp_remainder_leaf.specs.RemainderLeaf.{remainder_leaf as built_leaf};
+ghost use Rattle.comp_remainder_leaf.specs.RemainderLeaf.{remainder_leaf_of};
 
 use crate::listing::moves;
 use crate::naming::names;
@@ -67,7 +67,7 @@ pub fn remainder_leaf(
     requires few { length coefs.now ≤ VARIABLE_LIMIT }
     requires low { 1 ≤ modulus }
     requires high { modulus ≤ MODULUS_LIMIT }
-    ensures built { IfOk result (λ leaf. leaf ≡ built_leaf coefs.now modulus rest) }
+    ensures built { IfOk result (λ leaf. leaf ≡ remainder_leaf_of coefs.now modulus rest) }
     // No two of its moves take the same states.
     ensures single { IfOk result (λ leaf. AllPairs Differ leaf.moves) }
 {

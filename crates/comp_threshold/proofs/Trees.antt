@@ -13,28 +13,28 @@ use Rattle.cert_base.specs.declared.limits.TheConstants.{FACT_LIMIT}
 use Rattle.cert_base.specs.declared.fact.Fact.{Fact}
 use Rattle.cert_base.specs.declared.fact.Fact.TheVariants.{Ge}
 use Rattle.cert_base.specs.Rows.{input_row, terms_from}
-use Rattle.cert_base.specs.ClosingTests.{linear_closes}
+use Rattle.cert_base.specs.ClosingTests.{closes_by_sum}
 use Rattle.cert_base.specs.Closes.{refutes, Closes}
-use Rattle.cert_base.specs.FactsAndCases.{base_facts, differs, can_meet}
-use Rattle.comp_trees.specs.LeaderTree.{IsLed, facts_of_trap, facts_of_leader, company, mix_of_leader, value_mix, wrong_mix}
+use Rattle.cert_base.specs.FactsAndCases.{base_list, differs, can_meet}
+use Rattle.comp_trees.specs.LeaderTree.{IsLed, facts_of_trap, facts_of_leader, company_of, mix_of_leader, value_mix, wrong_mix}
 use Rattle.comp_trees.proofs.LeaderEnds.{is_wrong, rules_out, wrong_closes}
 use Rattle.comp_trees.proofs.ValueNodes.{value_closes}
 use Rattle.comp_trees.proofs.LeaderClosing.{leader_tree-closes}
-use Rattle.comp_threshold_leaf.specs.ThresholdLeaf.{width, span, place, place_in, follower, joined, leftover, output_of, leader_move, alters, state_count, name_of, threshold_leaf, value_of}
+use Rattle.comp_threshold_leaf.specs.ThresholdLeaf.{threshold_width, span_of, place_of_value, place_in, follower, joined, leftover, output_of, leader_move, alters, state_count, name_of, threshold_leaf, value_of}
 use Rattle.comp_threshold.specs.ThresholdProof.{signed_value, leader_node, threshold_tree}
 use Rattle.comp_threshold_leaf.proofs.Places.{cut, Kind, a_leader, a_follower, kind_of, place-leader, place-follower, follower-above, output-leader, output-follower, place-within, place-most, value-place, width-bound, width-coef}
 use Rattle.comp_threshold_leaf.proofs.MoveLists.{all_moves, leader_move-cut, leaders-meet, turned-meet}
 
 -- ---- the values of a move
 
-value-leader : (s p : ℕ) → p < span s → value_of s p ≡ (pos p -ℤ pos s)
+value-leader : (s p : ℕ) → p < span_of s → value_of s p ≡ (pos p -ℤ pos s)
 value-leader s p l = let e = ap pos (place-leader s p l) in rw e refl
 
-value-follower : (s v : ℕ) (bit : Bool) → v < span s → value_of s (follower s bit v) ≡ (pos v -ℤ pos s)
+value-follower : (s v : ℕ) (bit : Bool) → v < span_of s → value_of s (follower s bit v) ≡ (pos v -ℤ pos s)
 value-follower s v bit l = let e = ap pos (place-follower s v bit l) in rw e refl
 
 -- no move changes the sum of values
-leader_move-value : (s t p q : ℕ) → p < span s → q < state_count s → (value_of s (leader_move s t p q).r +ℤ value_of s (leader_move s t p q).s) ≡ (value_of s p +ℤ value_of s q)
+leader_move-value : (s t p q : ℕ) → p < span_of s → q < state_count s → (value_of s (leader_move s t p q).r +ℤ value_of s (leader_move s t p q).s) ≡ (value_of s p +ℤ value_of s q)
 leader_move-value s t p q l m =
     let is = leader_move-cut s t p q l (kind_of s q m) in
     let j = is.joined in
@@ -50,23 +50,23 @@ pub record IsKept (s t p v : ℕ) (bit : Bool) : Type 0 where
   pub same : joined s p v ≡ p
   pub turned : nat_lt p t ≡ bit
 
-pub kept : (s t p v : ℕ) (bit : Bool) → p < span s → v < span s → alters (leader_move s t p (follower s bit v)) ≡ false → IsKept s t p v bit
+pub kept : (s t p v : ℕ) (bit : Bool) → p < span_of s → v < span_of s → alters (leader_move s t p (follower s bit v)) ≡ false → IsKept s t p v bit
 kept s t p v bit l m e =
     let place = place-follower s v bit m in
     let both = and_parts _ _ (not-false _ e) in
     let r_is : joined s p (place_in s (follower s bit v)) ≡ p = eqb-true _ _ both.0 in
     let s_is : (leader_move s t p (follower s bit v)).s ≡ follower s bit v = eqb-true _ _ both.1 in
-    let same : joined s p v ≡ p = ap (joined s p) (sym place) ∙ r_is in
+    let same : joined s p v ≡ p = ap (joined s p) (sym place_of_value) ∙ r_is in
     let is = cut s p v (omega arith) (omega arith) in
     let few = is.leftover in
-    let first : output_of s t (leader_move s t p (follower s bit v)).s ≡ nat_lt (joined s p (place_in s (follower s bit v))) t = output-follower s t (leftover s p (place_in s (follower s bit v))) (nat_lt (joined s p (place_in s (follower s bit v))) t) (let n : leftover s p v < span s = omega arith in subst (λ k. leftover s p k < span s) (sym place) n) in
+    let first : output_of s t (leader_move s t p (follower s bit v)).s ≡ nat_lt (joined s p (place_in s (follower s bit v))) t = output-follower s t (leftover s p (place_in s (follower s bit v))) (nat_lt (joined s p (place_in s (follower s bit v))) t) (let n : leftover s p v < span_of s = omega arith in subst (λ k. leftover s p k < span_of s) (sym place_of_value) n) in
     record {
       same = same;
       turned = ap (λ k. nat_lt k t) (sym r_is) ∙ sym first ∙ ap (output_of s t) s_is ∙ output-follower s t v bit m;
     }
 
 -- the value of such a follower
-kept-value : (s p v : ℕ) → p < span s → v < span s → joined s p v ≡ p → ((p ≡ 0) × (v ≤ s)) ⊎ ((p ≡ s + s) × (s ≤ v)) ⊎ (v ≡ s)
+kept-value : (s p v : ℕ) → p < span_of s → v < span_of s → joined s p v ≡ p → ((p ≡ 0) × (v ≤ s)) ⊎ ((p ≡ s + s) × (s ≤ v)) ⊎ (v ≡ s)
 kept-value s p v l m e =
     elim (cut s p v (omega arith) (omega arith)).low [
       | inl h ↦ inl (omega (arith, h.0), omega (arith, h.1))
@@ -78,10 +78,10 @@ kept-value s p v l m e =
 
 module _ (coefs : List ℤ) (bound : ℤ) (formed : IsLeaf (threshold_leaf coefs bound)) (few : length (threshold_leaf coefs bound).states + length (threshold_leaf coefs bound).moves + length (threshold_leaf coefs bound).inputs + 5 ≤ FACT_LIMIT) where
   abbrev s : ℕ
-  s = width coefs bound
+  s = threshold_width coefs bound
 
   abbrev t : ℕ
-  t = place s bound
+  t = place_of_value s bound
 
   abbrev leaf : LeafModel
   leaf = threshold_leaf coefs bound
@@ -110,29 +110,29 @@ module _ (coefs : List ℤ) (bound : ℤ) (formed : IsLeaf (threshold_leaf coefs
   states_long = length-map-range_with_len (name_of s) 0 (state_count s)
 
   inputs_long : length leaf.inputs ≡ length coefs
-  inputs_long = length-map coefs (place s)
+  inputs_long = length-map coefs (place_of_value s)
 
-  pub is_led : IsLed leaf (span s)
+  pub is_led : IsLed leaf (span_of s)
   is_led = record {
     helpers = refl;
     few = few;
     leaders = omega (arith, states_long);
-    inputs = All-map (λ q. q < span s) (place s) coefs (All-from_get_or (λ a. place s a < span s) coefs (pos 0) (λ i l. place-most s (get_or coefs i (pos 0)) (width-coef coefs bound i (pos 0) l)));
-    moves = all_moves s t (λ m. m.r < span s) (λ p q l m. let is = leader_move-cut s t p q l (kind_of s q m) in let j = is.joined in omega arith);
+    inputs = All-map (λ q. q < span_of s) (place_of_value s) coefs (All-from_get_or (λ a. place_of_value s a < span_of s) coefs (pos 0) (λ i l. place-most s (get_or coefs i (pos 0)) (width-coef coefs bound i (pos 0) l)));
+    moves = all_moves s t (λ m. m.r < span_of s) (λ p q l m. let is = leader_move-cut s t p q l (kind_of s q m) in let j = is.joined in omega arith);
     twins = λ p l. leaders-meet s t p p leaf.inputs l l;
   }
 
   input-value : (i : ℕ) → i < length leaf.inputs → value_of s (get_or leaf.inputs i 0) ≡ get_or coefs i (pos 0)
   input-value i l =
       let m : i < length coefs = omega (arith, inputs_long) in
-      ap (value_of s) (get_or-map (place s) coefs i (pos 0) 0 m) ∙ value-place s (get_or coefs i (pos 0)) (width-coef coefs bound i (pos 0) m)
+      ap (value_of s) (get_or-map (place_of_value s) coefs i (pos 0) 0 m) ∙ value-place s (get_or coefs i (pos 0)) (width-coef coefs bound i (pos 0) m)
 
   output-at : (z : ℕ) → z < length leaf.states → slice_index_or leaf.outputs z false ≡ output_of s t z
   output-at z l = get_or-map-range_with_len (output_of s t) 0 (state_count s) z z false (omega (arith, states_long)) (zero-add z)
 
   -- ---- what a leader leaves
 
-  left_over : (P : ℤ → Type 0) (p z : ℕ) → p < span s → z < length leaf.states → can_meet leaf p z ≡ false → ((v : ℕ) → ((p ≡ 0) × (v ≤ s)) ⊎ ((p ≡ s + s) × (s ≤ v)) ⊎ (v ≡ s) → P (pos v -ℤ pos s)) → P (value_of s z)
+  left_over : (P : ℤ → Type 0) (p z : ℕ) → p < span_of s → z < length leaf.states → can_meet leaf p z ≡ false → ((v : ℕ) → ((p ≡ 0) × (v ≤ s)) ⊎ ((p ≡ s + s) × (s ≤ v)) ⊎ (v ≡ s) → P (pos v -ℤ pos s)) → P (value_of s z)
   left_over P p z l m e f = go z (kind_of s z (omega (arith, states_long))) m e
     where
       go : (z : ℕ) → Kind s z → z < length leaf.states → can_meet leaf p z ≡ false → P (value_of s z)
@@ -148,8 +148,8 @@ module _ (coefs : List ℤ) (bound : ℤ) (formed : IsLeaf (threshold_leaf coefs
 
   -- ---- the nodes by a wrong output
 
-  wrong-node : (b : Bool) (opened : Fact) (p : ℕ) → p < span s → differs b (output_of s t p) ≡ false → linear_closes (facts_of_leader leaf (facts_of_trap leaf (base_facts leaf pred b) opened (span s)) p) (terms_from 0 (mix_of_leader leaf (company leaf p) (wrong_mix leaf b) p)) ≡ true
-  wrong-node b opened p l right = wrong_closes leaf pred b opened (span s) p (leaders-meet s t p p leaf.inputs l l) all
+  wrong-node : (b : Bool) (opened : Fact) (p : ℕ) → p < span_of s → differs b (output_of s t p) ≡ false → closes_by_sum (facts_of_leader leaf (facts_of_trap leaf (base_list leaf pred b) opened (span_of s)) p) (terms_from 0 (mix_of_leader leaf (company_of leaf p) (wrong_mix leaf b) p)) ≡ true
+  wrong-node b opened p l right = wrong_closes leaf pred b opened (span_of s) p (leaders-meet s t p p leaf.inputs l l) all
     where
       out : (z : ℕ) → Kind s z → z < length leaf.states → differs b (output_of s t z) ≡ true → can_meet leaf p z ≡ true
       out _ (a_leader q k) m wrong = leaders-meet s t p q leaf.inputs l k
@@ -181,17 +181,17 @@ module _ (coefs : List ℤ) (bound : ℤ) (formed : IsLeaf (threshold_leaf coefs
   all_values = all_moves s t (λ m. (value_of s m.r +ℤ value_of s m.s) ≡ (value_of s m.p +ℤ value_of s m.q)) (λ p q l m. leader_move-value s t p q l m)
 
   abbrev value_terms : Bool → ℕ → List ℤ
-  value_terms b p = mix_of_leader leaf (company leaf p) (value_mix (signed_value b s) (pos 1) p) p
+  value_terms b p = mix_of_leader leaf (company_of leaf p) (value_mix (signed_value b s) (pos 1) p) p
 
   low_inputs : All (λ q. q < length leaf.states) leaf.inputs
   low_inputs = formed.inputs
 
-  value-true : (p : ℕ) → p < span s → nat_lt p t ≡ false → linear_closes (facts_of_leader leaf (facts_of_trap leaf (base_facts leaf pred true) (Ge (input_row (map neg_ℤ coefs) (bound -ℤ pos 1))) (span s)) p) (terms_from 0 (value_terms true p)) ≡ true
+  value-true : (p : ℕ) → p < span_of s → nat_lt p t ≡ false → closes_by_sum (facts_of_leader leaf (facts_of_trap leaf (base_list leaf pred true) (Ge (input_row (map neg_ℤ coefs) (bound -ℤ pos 1))) (span_of s)) p) (terms_from 0 (value_terms true p)) ≡ true
   value-true p l above =
       let twin = leaders-meet s t p p leaf.inputs l l in
       let at_least = ltb-false p t above in
       let low = bound_low in
-      value_closes leaf pred true (Ge (input_row (map neg_ℤ coefs) (bound -ℤ pos 1))) (span s) p twin (omega (arith, states_long)) formed.inputs formed.moves refl (map neg_ℤ coefs) (bound -ℤ pos 1)
+      value_closes leaf pred true (Ge (input_row (map neg_ℤ coefs) (bound -ℤ pos 1))) (span_of s) p twin (omega (arith, states_long)) formed.inputs formed.moves refl (map neg_ℤ coefs) (bound -ℤ pos 1)
       (record { long = length-map coefs neg_ℤ ∙ sym inputs_long; row = refl })
       (value_of s) refl
       (λ i k. let e = input-value i k in let f = get_or-map neg_ℤ coefs i (pos 0) (pos 0) (omega (arith, inputs_long)) in omega (arith, ints, e, f))
@@ -199,12 +199,12 @@ module _ (coefs : List ℤ) (bound : ℤ) (formed : IsLeaf (threshold_leaf coefs
       (λ z k ne e. left_over (λ c. pos 0 ≤ℤ c) p z l k e (λ v h. elim h [ inl a ↦ absurd (omega (arith, a.0)) | inr a ↦ elim a [ inl c ↦ omega (arith, ints, c.1) | inr c ↦ omega (arith, ints) ] ]))
       (let e = value-leader s p l in let f = bound_is in omega (arith, ints, e, f))
 
-  value-false : (p : ℕ) → p < span s → nat_lt p t ≡ true → linear_closes (facts_of_leader leaf (facts_of_trap leaf (base_facts leaf pred false) (Ge (input_row coefs (neg_ℤ bound))) (span s)) p) (terms_from 0 (value_terms false p)) ≡ true
+  value-false : (p : ℕ) → p < span_of s → nat_lt p t ≡ true → closes_by_sum (facts_of_leader leaf (facts_of_trap leaf (base_list leaf pred false) (Ge (input_row coefs (neg_ℤ bound))) (span_of s)) p) (terms_from 0 (value_terms false p)) ≡ true
   value-false p l below =
       let twin = leaders-meet s t p p leaf.inputs l l in
       let less = ltb-true p t below in
       let high = bound_high in
-      value_closes leaf pred false (Ge (input_row coefs (neg_ℤ bound))) (span s) p twin (omega (arith, states_long)) formed.inputs formed.moves refl coefs (neg_ℤ bound)
+      value_closes leaf pred false (Ge (input_row coefs (neg_ℤ bound))) (span_of s) p twin (omega (arith, states_long)) formed.inputs formed.moves refl coefs (neg_ℤ bound)
       (record { long = sym inputs_long; row = refl })
       (λ q. neg_ℤ (value_of s q)) refl
       (λ i k. let e = input-value i k in omega (arith, ints, e))
@@ -214,22 +214,22 @@ module _ (coefs : List ℤ) (bound : ℤ) (formed : IsLeaf (threshold_leaf coefs
 
   -- ---- both trees
 
-  on_true : (p : ℕ) → p < span s → refutes (facts_of_leader leaf (facts_of_trap leaf (base_facts leaf pred true) (Ge (input_row (map neg_ℤ coefs) (bound -ℤ pos 1))) (span s)) p) (leader_node leaf s t true p) ≡ true
+  on_true : (p : ℕ) → p < span_of s → refutes (facts_of_leader leaf (facts_of_trap leaf (base_list leaf pred true) (Ge (input_row (map neg_ℤ coefs) (bound -ℤ pos 1))) (span_of s)) p) (leader_node leaf s t true p) ≡ true
   on_true p l = go (output_of s t p) refl
     where
-      go : (c : Bool) → output_of s t p ≡ c → refutes (facts_of_leader leaf (facts_of_trap leaf (base_facts leaf pred true) (Ge (input_row (map neg_ℤ coefs) (bound -ℤ pos 1))) (span s)) p) (leader_node leaf s t true p) ≡ true
+      go : (c : Bool) → output_of s t p ≡ c → refutes (facts_of_leader leaf (facts_of_trap leaf (base_list leaf pred true) (Ge (input_row (map neg_ℤ coefs) (bound -ℤ pos 1))) (span_of s)) p) (leader_node leaf s t true p) ≡ true
       go true e = rw e (wrong-node true (Ge (input_row (map neg_ℤ coefs) (bound -ℤ pos 1))) p l (ap (differs true) e))
       go false e = rw e (value-true p l (sym (output-leader s t p l) ∙ e))
 
-  on_false : (p : ℕ) → p < span s → refutes (facts_of_leader leaf (facts_of_trap leaf (base_facts leaf pred false) (Ge (input_row coefs (neg_ℤ bound))) (span s)) p) (leader_node leaf s t false p) ≡ true
+  on_false : (p : ℕ) → p < span_of s → refutes (facts_of_leader leaf (facts_of_trap leaf (base_list leaf pred false) (Ge (input_row coefs (neg_ℤ bound))) (span_of s)) p) (leader_node leaf s t false p) ≡ true
   on_false p l = go (output_of s t p) refl
     where
-      go : (c : Bool) → output_of s t p ≡ c → refutes (facts_of_leader leaf (facts_of_trap leaf (base_facts leaf pred false) (Ge (input_row coefs (neg_ℤ bound))) (span s)) p) (leader_node leaf s t false p) ≡ true
+      go : (c : Bool) → output_of s t p ≡ c → refutes (facts_of_leader leaf (facts_of_trap leaf (base_list leaf pred false) (Ge (input_row coefs (neg_ℤ bound))) (span_of s)) p) (leader_node leaf s t false p) ≡ true
       go true e = rw e (value-false p l (sym (output-leader s t p l) ∙ e))
       go false e = rw e (wrong-node false (Ge (input_row coefs (neg_ℤ bound))) p l (ap (differs false) e))
 
-  pub tree-true : Closes leaf (base_facts leaf pred true) (threshold_tree leaf s t true) []
-  tree-true = leader_tree-closes leaf pred true (Ge (input_row (map neg_ℤ coefs) (bound -ℤ pos 1))) (span s) is_led formed refl (leader_node leaf s t true) on_true
+  pub tree-true : Closes leaf (base_list leaf pred true) (threshold_tree leaf s t true) []
+  tree-true = leader_tree-closes leaf pred true (Ge (input_row (map neg_ℤ coefs) (bound -ℤ pos 1))) (span_of s) is_led formed refl (leader_node leaf s t true) on_true
 
-  pub tree-false : Closes leaf (base_facts leaf pred false) (threshold_tree leaf s t false) []
-  tree-false = leader_tree-closes leaf pred false (Ge (input_row coefs (neg_ℤ bound))) (span s) is_led formed refl (leader_node leaf s t false) on_false
+  pub tree-false : Closes leaf (base_list leaf pred false) (threshold_tree leaf s t false) []
+  tree-false = leader_tree-closes leaf pred false (Ge (input_row coefs (neg_ℤ bound))) (span_of s) is_led formed refl (leader_node leaf s t false) on_false

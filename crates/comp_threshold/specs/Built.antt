@@ -6,7 +6,7 @@ use Rattle.pres_ast.specs.PredTree.{LessThan}
 use Rattle.cert_base.specs.declared.proof.LeafProof.{LeafProof}
 use Rattle.cert_base.specs.ValidProof.{ValidLeafProof}
 use Rattle.cert_base.specs.ProofLimits.{IsLeafProofWithin}
-use Rattle.comp_threshold_leaf.specs.ThresholdLeaf.{width, threshold_leaf}
+use Rattle.comp_threshold_leaf.specs.ThresholdLeaf.{threshold_width, threshold_leaf}
 use Rattle.comp_threshold_leaf.specs.declared.limits.TheConstants.{WIDTH_LIMIT}
 use Rattle.comp_threshold.specs.declared.fault.ThresholdFault.{ThresholdFault}
 use Rattle.comp_threshold.specs.declared.fault.ThresholdFault.TheVariants.{TooWide, NoMemory}
@@ -22,5 +22,5 @@ pub record IsThreshold (coefs : List ℤ) (bound : ℤ) (leaf : LeafModel) (part
 
 -- the width is named, and it is over the limit; or memory ran out
 abbrev pub IsWidthFault : List ℤ → ℤ → ThresholdFault → Type 0
-IsWidthFault coefs bound (TooWide s) = (s ≡ width coefs bound) × (WIDTH_LIMIT < s)
+IsWidthFault coefs bound (TooWide s) = (s ≡ threshold_width coefs bound) × (WIDTH_LIMIT < s)
 IsWidthFault coefs bound NoMemory = Unit {0}

@@ -6,8 +6,8 @@ use Rattle.comp_layers.specs.SortedLayers.{sorted_layers, leader_kind}
 use Rattle.pop_net.specs.LeafModel.{LeafModel}
 use Rattle.cert_base.specs.declared.node.Node.{Node}
 use Rattle.cert_base.specs.FactsAndCases.{differs, indicator}
-use Rattle.comp_trees.specs.LeaderTree.{company, mix_of_leader, wrong_mix, value_mix, weighed, leader_tree}
-use Rattle.comp_threshold_leaf.specs.ThresholdLeaf.{span, place, place_in, output_of, state_count, width, value_of, threshold_leaf}
+use Rattle.comp_trees.specs.LeaderTree.{company_of, mix_of_leader, wrong_mix, value_mix, weighed, leader_tree}
+use Rattle.comp_threshold_leaf.specs.ThresholdLeaf.{span_of, place_of_value, place_in, output_of, state_count, threshold_width, value_of, threshold_leaf}
 use Rattle.pres_ast.specs.PredTree.{LessThan}
 use Rattle.cert_base.specs.declared.proof.LeafProof.{LeafProof}
 
@@ -17,10 +17,10 @@ signed_value b s q = if b then value_of s q else neg_ℤ (value_of s q)
 
 -- the node of the leader p in the tree for b, by values and by a wrong output
 abbrev pub value_node : LeafModel → ℕ → Bool → ℕ → Node
-value_node leaf s b p = weighed (mix_of_leader leaf (company leaf p) (value_mix (signed_value b s) (pos 1) p) p)
+value_node leaf s b p = weighed (mix_of_leader leaf (company_of leaf p) (value_mix (signed_value b s) (pos 1) p) p)
 
 abbrev pub wrong_node : LeafModel → Bool → ℕ → Node
-wrong_node leaf b p = weighed (mix_of_leader leaf (company leaf p) (wrong_mix leaf b) p)
+wrong_node leaf b p = weighed (mix_of_leader leaf (company_of leaf p) (wrong_mix leaf b) p)
 
 abbrev pub leader_node : LeafModel → (s t : ℕ) → Bool → ℕ → Node
 leader_node leaf s t b p =
@@ -29,7 +29,7 @@ leader_node leaf s t b p =
     else wrong_node leaf b p
 
 abbrev pub threshold_tree : LeafModel → (s t : ℕ) → Bool → List Node
-threshold_tree leaf s t b = leader_tree leaf (span s) (leader_node leaf s t b)
+threshold_tree leaf s t b = leader_tree leaf (span_of s) (leader_node leaf s t b)
 
 -- ---- the layers' weights
 
@@ -38,21 +38,21 @@ distance a b = (a - b) + (b - a)
 
 -- s + 1 for a leader, and the size of a follower's value
 abbrev pub first_weight : ℕ → ℕ → ℤ
-first_weight s q = if nat_lt q (span s) then pos (s + 1) else pos (distance s (place_in s q))
+first_weight s q = if nat_lt q (span_of s) then pos (s + 1) else pos (distance s (place_in s q))
 
 -- 1 for each follower with the bit false, and for each with the bit true
 abbrev pub false_weight : ℕ → ℕ → ℤ
-false_weight s q = if nat_lt q (span s) then pos 0 else (if nat_lt q (span s + span s) then pos 1 else pos 0)
+false_weight s q = if nat_lt q (span_of s) then pos 0 else (if nat_lt q (span_of s + span_of s) then pos 1 else pos 0)
 
 abbrev pub true_weight : ℕ → ℕ → ℤ
-true_weight s q = if nat_lt q (span s + span s) then pos 0 else pos 1
+true_weight s q = if nat_lt q (span_of s + span_of s) then pos 0 else pos 1
 
 abbrev pub weights_by : ℕ → (ℕ → ℤ) → List ℤ
 weights_by s weight = map weight (range_with_len 0 (state_count s))
 
 abbrev pub threshold_layers : LeafModel → ℕ → List Layer
 threshold_layers leaf s =
-    sorted_layers leaf.moves (leader_kind (span s)) 0 (weights_by s (first_weight s) ∷ weights_by s (false_weight s) ∷ weights_by s (true_weight s) ∷ [])
+    sorted_layers leaf.moves (leader_kind (span_of s)) 0 (weights_by s (first_weight s) ∷ weights_by s (false_weight s) ∷ weights_by s (true_weight s) ∷ [])
 
 -- -1 for a state with another output than b, and 0 for the others
 abbrev pub wrong_sign : (s t : ℕ) → Bool → ℕ → ℤ
@@ -62,10 +62,10 @@ wrong_sign s t b q = neg_ℤ (indicator (differs b (output_of s t q)))
 abbrev pub threshold_part : List ℤ → ℤ → LeafProof
 threshold_part coefs bound =
     let leaf = threshold_leaf coefs bound in
-    let s = width coefs bound in
+    let s = threshold_width coefs bound in
     record {
       pred = record { variables = length coefs; tree = LessThan coefs bound };
       layers = threshold_layers leaf s;
-      on_true = threshold_tree leaf s (place s bound) true;
-      on_false = threshold_tree leaf s (place s bound) false;
+      on_true = threshold_tree leaf s (place_of_value s bound) true;
+      on_false = threshold_tree leaf s (place_of_value s bound) false;
     }

@@ -3,7 +3,7 @@
 ghost use Rattle.std.specs.Prelude.{◌≡◌, ◌<◌, ◌≤◌, ℕ, List, map, neg_ℤ, pos, length, IfOk};
 ghost use Rattle.std.specs.List.{range_with_len};
 ghost use Rattle.cert_base.specs.FactsAndCases.{states_of, indicator, differs};
-ghost use Rattle.comp_threshold_leaf.specs.ThresholdLeaf.{span as span_of, state_count, output_of, built};
+ghost use Rattle.comp_threshold_leaf.specs.ThresholdLeaf.{span_of, state_count, output_of, built};
 ghost use Rattle.comp_threshold_leaf.specs.declared.limits.TheConstants.{WIDTH_LIMIT};
 ghost use Rattle.comp_threshold.specs.ThresholdProof.{signed_value, leader_node as node_of, wrong_sign};
 ghost use Rattle.comp_threshold.specs.ThresholdProof.{value_node as value_node_of, wrong_node as wrong_node_of};

@@ -4,7 +4,7 @@ ghost use Rattle.std.specs.Prelude.{◌≡◌, ◌≤◌, nat_abs, All, length, 
 ghost use Rattle.pop_io.specs.declared.names.TheConstants.{VARIABLE_LIMIT};
 ghost use Rattle.pres_ast.specs.PredTree.{LessThan};
 ghost use Rattle.pres_ast.specs.declared.limits.TheConstants.{COEFFICIENT_LIMIT, BOUND_LIMIT};
-ghost use Rattle.comp_threshold_leaf.specs.ThresholdLeaf.{width as width_of};
+ghost use Rattle.comp_threshold_leaf.specs.ThresholdLeaf.{threshold_width};
 ghost use Rattle.comp_threshold.specs.Built.{IsThreshold, IsWidthFault};
 
 use crate::fault::ThresholdFault;
@@ -33,7 +33,7 @@ fn less(alloc: Global, coefs: &[i64], bound: i64) -> Result<Pred, NoMemory>
 
 /// A leaf of this width.
 fn narrow(alloc: Global, coefs: &[i64], bound: i64, s: u16) -> Result<(Leaf, LeafProof), NoMemory>
-    requires width { s ≡ width_of coefs.now bound }
+    requires width { s ≡ threshold_width coefs.now bound }
     requires narrow { s ≤ WIDTH_LIMIT }
     requires some { 1 ≤ length coefs.now }
     requires few { length coefs.now ≤ VARIABLE_LIMIT }
@@ -67,7 +67,7 @@ pub fn threshold(
     requires coefs { All (λ a. nat_abs a ≤ COEFFICIENT_LIMIT) coefs.now }
     requires bound { nat_abs bound ≤ BOUND_LIMIT }
     ensures built { IfOk result (λ both. IsThreshold coefs.now bound both.0 both.1) }
-    ensures narrow { IfOk result (λ both. width_of coefs.now bound ≤ WIDTH_LIMIT) }
+    ensures narrow { IfOk result (λ both. threshold_width coefs.now bound ≤ WIDTH_LIMIT) }
     ensures wide { IfErr result (IsWidthFault coefs.now bound) }
 {
     let s = width(coefs, bound);

@@ -3,7 +3,7 @@ use Rattle.std.proofs.Common.{◌≡◌, ◌⊎◌, inl, inr, subst, ℕ, zero, 
 use Rattle.std.specs.Prelude.{ℤ, pos, negsuc, ◌+ℤ◌, ◌≤ℤ◌, nat_lt, nat_abs, fold}
 use Rattle.std.proofs.lemmas.Int.{ints}
 use Rattle.std.proofs.lemmas.Bool.{lt-ltb, le-ltb, cases_lt}
-use Rattle.comp_threshold_leaf.specs.ThresholdLeaf.{greater, smaller, width, span, place, place_in, follower, joined, leftover, output_of, value_of}
+use Rattle.comp_threshold_leaf.specs.ThresholdLeaf.{greater, smaller, threshold_width, span_of, place_of_value, place_in, follower, joined, leftover, output_of, value_of}
 
 -- ---- the smaller one
 
@@ -40,69 +40,69 @@ cut s u v l m = go (joined s u v) (smaller_is (s + s) (u + v - s))
 
 -- ---- states and places
 
-pub place-leader : (s q : ℕ) → q < span s → place_in s q ≡ q
-place-leader s q l = rw (lt-ltb q (span s) l) refl
+pub place-leader : (s q : ℕ) → q < span_of s → place_in s q ≡ q
+place-leader s q l = rw (lt-ltb q (span_of s) l) refl
 
-pub place-false : (s v : ℕ) → v < span s → place_in s (span s + v) ≡ v
+pub place-false : (s v : ℕ) → v < span_of s → place_in s (span_of s + v) ≡ v
 place-false s v l =
-    let first = le-ltb (span s + v) (span s) (omega arith) in
-    let second = lt-ltb (span s + v) (span s + span s) (omega arith) in
+    let first = le-ltb (span_of s + v) (span_of s) (omega arith) in
+    let second = lt-ltb (span_of s + v) (span_of s + span_of s) (omega arith) in
     rw (first, second) (omega arith)
 
-pub place-true : (s v : ℕ) → place_in s (span s + span s + v) ≡ v
+pub place-true : (s v : ℕ) → place_in s (span_of s + span_of s + v) ≡ v
 place-true s v =
-    let first = le-ltb (span s + span s + v) (span s) (omega arith) in
-    let second = le-ltb (span s + span s + v) (span s + span s) (omega arith) in
+    let first = le-ltb (span_of s + span_of s + v) (span_of s) (omega arith) in
+    let second = le-ltb (span_of s + span_of s + v) (span_of s + span_of s) (omega arith) in
     rw (first, second) (omega arith)
 
-pub place-follower : (s v : ℕ) (bit : Bool) → v < span s → place_in s (follower s bit v) ≡ v
+pub place-follower : (s v : ℕ) (bit : Bool) → v < span_of s → place_in s (follower s bit v) ≡ v
 place-follower s v true l = place-true s v
 place-follower s v false l = place-false s v l
 
-pub follower-above : (s v : ℕ) (bit : Bool) → span s ≤ follower s bit v
+pub follower-above : (s v : ℕ) (bit : Bool) → span_of s ≤ follower s bit v
 follower-above s v true = omega arith
 follower-above s v false = omega arith
 
-pub follower-below : (s v : ℕ) (bit : Bool) → v < span s → follower s bit v < span s + span s + span s
+pub follower-below : (s v : ℕ) (bit : Bool) → v < span_of s → follower s bit v < span_of s + span_of s + span_of s
 follower-below s v true l = omega arith
 follower-below s v false l = omega arith
 
 -- a state is a leader or a follower
 pub data Kind (s : ℕ) : ℕ → Type 0 where
-  a_leader : (q : ℕ) → q < span s → Kind s q
-  a_follower : (bit : Bool) (v : ℕ) → v < span s → Kind s (follower s bit v)
+  a_leader : (q : ℕ) → q < span_of s → Kind s q
+  a_follower : (bit : Bool) (v : ℕ) → v < span_of s → Kind s (follower s bit v)
 
-pub kind_of : (s q : ℕ) → q < span s + span s + span s → Kind s q
-kind_of s q l = first (cases_lt q (span s))
+pub kind_of : (s q : ℕ) → q < span_of s + span_of s + span_of s → Kind s q
+kind_of s q l = first (cases_lt q (span_of s))
   where
-    second : (q < span s + span s) ⊎ (span s + span s ≤ q) → span s ≤ q → Kind s q
-    second (inl m) k = subst (Kind s) (let e : span s + (q - span s) ≡ q = omega arith in e) (a_follower false (q - span s) (omega arith))
-    second (inr m) k = subst (Kind s) (let e : span s + span s + (q - (span s + span s)) ≡ q = omega arith in e) (a_follower true (q - (span s + span s)) (omega arith))
+    second : (q < span_of s + span_of s) ⊎ (span_of s + span_of s ≤ q) → span_of s ≤ q → Kind s q
+    second (inl m) k = subst (Kind s) (let e : span_of s + (q - span_of s) ≡ q = omega arith in e) (a_follower false (q - span_of s) (omega arith))
+    second (inr m) k = subst (Kind s) (let e : span_of s + span_of s + (q - (span_of s + span_of s)) ≡ q = omega arith in e) (a_follower true (q - (span_of s + span_of s)) (omega arith))
 
-    first : (q < span s) ⊎ (span s ≤ q) → Kind s q
+    first : (q < span_of s) ⊎ (span_of s ≤ q) → Kind s q
     first (inl m) = a_leader q m
-    first (inr m) = second (cases_lt q (span s + span s)) m
+    first (inr m) = second (cases_lt q (span_of s + span_of s)) m
 
-pub place-below : (s q : ℕ) → Kind s q → place_in s q < span s
+pub place-below : (s q : ℕ) → Kind s q → place_in s q < span_of s
 place-below s _ (a_leader q l) = rw (place-leader s q l) l
 place-below s _ (a_follower bit v l) = rw (place-follower s v bit l) l
 
-pub output-leader : (s t p : ℕ) → p < span s → output_of s t p ≡ nat_lt p t
-output-leader s t p l = rw (lt-ltb p (span s) l) refl
+pub output-leader : (s t p : ℕ) → p < span_of s → output_of s t p ≡ nat_lt p t
+output-leader s t p l = rw (lt-ltb p (span_of s) l) refl
 
-pub output-follower : (s t v : ℕ) (bit : Bool) → v < span s → output_of s t (follower s bit v) ≡ bit
+pub output-follower : (s t v : ℕ) (bit : Bool) → v < span_of s → output_of s t (follower s bit v) ≡ bit
 output-follower s t v true l =
-    let first = le-ltb (span s + span s + v) (span s) (omega arith) in
-    let second = le-ltb (span s + span s + v) (span s + span s) (omega arith) in
+    let first = le-ltb (span_of s + span_of s + v) (span_of s) (omega arith) in
+    let second = le-ltb (span_of s + span_of s + v) (span_of s + span_of s) (omega arith) in
     rw (first, second) refl
 output-follower s t v false l =
-    let first = le-ltb (span s + v) (span s) (omega arith) in
-    let second = lt-ltb (span s + v) (span s + span s) (omega arith) in
+    let first = le-ltb (span_of s + v) (span_of s) (omega arith) in
+    let second = lt-ltb (span_of s + v) (span_of s + span_of s) (omega arith) in
     rw (first, second) refl
 
 -- ---- signed values and places
 
-pub place-within : (s : ℕ) (u : ℤ) → nat_abs u ≤ s → pos (place s u) ≡ (u +ℤ pos s)
+pub place-within : (s : ℕ) (u : ℤ) → nat_abs u ≤ s → pos (place_of_value s u) ≡ (u +ℤ pos s)
 place-within s (pos u) l = omega (arith, ints)
 place-within s (negsuc u) l = above (negsuc u +ℤ pos s) (omega (arith, ints))
   where
@@ -110,14 +110,14 @@ place-within s (negsuc u) l = above (negsuc u +ℤ pos s) (omega (arith, ints))
     above (pos k) m = refl
     above (negsuc k) m = absurd (omega (arith, ints))
 
-pub place-most : (s : ℕ) (u : ℤ) → nat_abs u ≤ s → place s u < span s
+pub place-most : (s : ℕ) (u : ℤ) → nat_abs u ≤ s → place_of_value s u < span_of s
 place-most s (pos u) l = let e = place-within s (pos u) l in omega (arith, ints, e)
 place-most s (negsuc u) l = let e = place-within s (negsuc u) l in omega (arith, ints, e)
 
-pub value-place : (s : ℕ) (u : ℤ) → nat_abs u ≤ s → value_of s (place s u) ≡ u
+pub value-place : (s : ℕ) (u : ℤ) → nat_abs u ≤ s → value_of s (place_of_value s u) ≡ u
 value-place s u l =
     let e = place-within s u l in
-    let f = place-leader s (place s u) (place-most s u l) in
+    let f = place-leader s (place_of_value s u) (place-most s u l) in
     let g = ap pos f in
     omega (arith, ints, e, g)
 
@@ -144,8 +144,8 @@ fold-coef s (a ∷ coefs) zero d l =
     let rest = fold-grows (wider s a) coefs in let is = greater_is s (nat_abs a) in omega (arith, is.1, rest)
 fold-coef s (a ∷ coefs) (suc i) d l = fold-coef (wider s a) coefs i d (omega arith)
 
-pub width-bound : (coefs : List ℤ) (bound : ℤ) → nat_abs bound + 1 ≤ width coefs bound
+pub width-bound : (coefs : List ℤ) (bound : ℤ) → nat_abs bound + 1 ≤ threshold_width coefs bound
 width-bound coefs bound = fold-grows (nat_abs bound + 1) coefs
 
-pub width-coef : (coefs : List ℤ) (bound : ℤ) (i : ℕ) (d : ℤ) → i < length coefs → nat_abs (get_or coefs i d) ≤ width coefs bound
+pub width-coef : (coefs : List ℤ) (bound : ℤ) (i : ℕ) (d : ℤ) → i < length coefs → nat_abs (get_or coefs i d) ≤ threshold_width coefs bound
 width-coef coefs bound i d l = fold-coef (nat_abs bound + 1) coefs i d l

@@ -7,9 +7,9 @@ use Rattle.std.proofs.lemmas.Int.{ints}
 use lib.Signed.{mag}
 use Rattle.std.proofs.lemmas.Fmt.{signed_decimal_injective, length_signed_le}
 use Rattle.std.proofs.lemmas.Bool.{lt-ltb, le-ltb, le-leb, cases_lt}
-use Rattle.pop_io.specs.Names.{is_printed, is_state_name, AreNames}
+use Rattle.pop_io.specs.Names.{is_printed, state_name, AreNames}
 use Rattle.comp_layers.proofs.StateNames.{decimal-printed, named-apart}
-use Rattle.comp_threshold_leaf.specs.ThresholdLeaf.{span, place_in, letter, name_of, state_count}
+use Rattle.comp_threshold_leaf.specs.ThresholdLeaf.{span_of, place_in, letter, name_of, state_count}
 use Rattle.comp_threshold_leaf.proofs.Places.{Kind, kind_of, place-below}
 
 -- ---- the bytes of a name
@@ -25,17 +25,17 @@ small p s l m = go (pos p -ℤ pos s) (omega (arith, ints)) (omega (arith, ints)
     go (pos n) a b = omega (arith, ints)
     go (negsuc n) a b = omega (arith, ints)
 
-name-form : (s q : ℕ) → s < 400 → Kind s q → IsTrue (is_state_name (name_of s q))
+name-form : (s q : ℕ) → s < 400 → Kind s q → IsTrue (state_name (name_of s q))
 name-form s q few kind =
     let below = place-below s q kind in
     let z = pos (place_in s q) -ℤ pos s in
     let size = small (place_in s q) s (omega arith) (omega arith) in
     let long = length_signed_le 4 z (omega arith) (omega arith) in
     let a : nat_le 1 (length (name_of s q)) ≡ true = le-leb 1 (length (name_of s q)) (omega arith) in
-    let b : is_printed (letter s q) ≡ true = letter-printed (nat_lt q (span s)) (nat_lt q (span s + span s)) in
+    let b : is_printed (letter s q) ≡ true = letter-printed (nat_lt q (span_of s)) (nat_lt q (span_of s + span_of s)) in
     let c : list_all is_printed (signed_decimal z) ≡ true = signed-printed z size in
     let d : nat_le (length (name_of s q)) 32 ≡ true = le-leb (length (name_of s q)) 32 (omega arith) in
-    from_true (is_state_name (name_of s q)) (and_all a b c d)
+    from_true (state_name (name_of s q)) (and_all a b c d)
   where
     letter-printed : (x y : Bool) → is_printed (if x then 76 else (if y then 102 else 116)) ≡ true
     letter-printed true y = refl
@@ -52,18 +52,18 @@ name-form s q few kind =
 
 -- the state with this letter and this place
 abbrev back : ℕ → ℕ → ℕ → ℕ
-back s l v = if l == 76 then v else (if l == 102 then span s + v else span s + span s + v)
+back s l v = if l == 76 then v else (if l == 102 then span_of s + v else span_of s + span_of s + v)
 
 state-back : (s q : ℕ) → back s (letter s q) (place_in s q) ≡ q
-state-back s q = first (cases_lt q (span s))
+state-back s q = first (cases_lt q (span_of s))
   where
-    second : (q < span s + span s) ⊎ (span s + span s ≤ q) → span s ≤ q → back s (letter s q) (place_in s q) ≡ q
-    second (inl l) k = let a = le-ltb q (span s) k in let b = lt-ltb q (span s + span s) l in rw (a, b) (omega arith)
-    second (inr l) k = let a = le-ltb q (span s) k in let b = le-ltb q (span s + span s) l in rw (a, b) (omega arith)
+    second : (q < span_of s + span_of s) ⊎ (span_of s + span_of s ≤ q) → span_of s ≤ q → back s (letter s q) (place_in s q) ≡ q
+    second (inl l) k = let a = le-ltb q (span_of s) k in let b = lt-ltb q (span_of s + span_of s) l in rw (a, b) (omega arith)
+    second (inr l) k = let a = le-ltb q (span_of s) k in let b = le-ltb q (span_of s + span_of s) l in rw (a, b) (omega arith)
 
-    first : (q < span s) ⊎ (span s ≤ q) → back s (letter s q) (place_in s q) ≡ q
-    first (inl l) = let a = lt-ltb q (span s) l in rw a refl
-    first (inr l) = second (cases_lt q (span s + span s)) l
+    first : (q < span_of s) ⊎ (span_of s ≤ q) → back s (letter s q) (place_in s q) ≡ q
+    first (inl l) = let a = lt-ltb q (span_of s) l in rw a refl
+    first (inr l) = second (cases_lt q (span_of s + span_of s)) l
 
 name-injective : (s p q : ℕ) → s < 400 → Kind s p → Kind s q → name_of s p ≡ name_of s q → p ≡ q
 name-injective s p q few kp kq e =
@@ -77,6 +77,6 @@ name-injective s p q few kp kq e =
     let places : place_in s p ≡ place_in s q = omega (arith, ints, values) in
     sym (state-back s p) ∙ ap (λ l. back s l (place_in s p)) letters ∙ ap (back s (letter s q)) places ∙ state-back s q
 
-pub names-formed : (s : ℕ) → s < 400 → AreNames is_state_name (map (name_of s) (range_with_len 0 (state_count s)))
+pub names-formed : (s : ℕ) → s < 400 → AreNames state_name (map (name_of s) (range_with_len 0 (state_count s)))
 names-formed s few =
     named-apart (name_of s) (state_count s) (λ i l. name-form s i few (kind_of s i l)) (λ i j l m e. name-injective s i j few (kind_of s i l) (kind_of s j m) e)

@@ -16,19 +16,19 @@ abbrev pub smaller : ℕ → ℕ → ℕ
 smaller a b = if nat_lt a b then a else b
 
 -- the greatest size of a coefficient, or the bound's and 1
-abbrev pub width : List ℤ → ℤ → ℕ
-width coefs bound = fold (λ s a. greater s (nat_abs a)) (nat_abs bound + 1) coefs
+abbrev pub threshold_width : List ℤ → ℤ → ℕ
+threshold_width coefs bound = fold (λ s a. greater s (nat_abs a)) (nat_abs bound + 1) coefs
 
 -- the number of values from -s to s
-abbrev pub span : ℕ → ℕ
-span s = s + s + 1
+abbrev pub span_of : ℕ → ℕ
+span_of s = s + s + 1
 
-abbrev pub place : ℕ → ℤ → ℕ
-place s u = nat_abs (u +ℤ pos s)
+abbrev pub place_of_value : ℕ → ℤ → ℕ
+place_of_value s u = nat_abs (u +ℤ pos s)
 
 -- the place of a state's value
 abbrev pub place_in : ℕ → ℕ → ℕ
-place_in s q = if nat_lt q (span s) then q else (if nat_lt q (span s + span s) then q - span s else q - (span s + span s))
+place_in s q = if nat_lt q (span_of s) then q else (if nat_lt q (span_of s + span_of s) then q - span_of s else q - (span_of s + span_of s))
 
 -- the value of a state
 abbrev pub value_of : ℕ → ℕ → ℤ
@@ -36,7 +36,7 @@ value_of s q = pos (place_in s q) -ℤ pos s
 
 -- the state F(bit,v), for the place of v
 abbrev pub follower : ℕ → Bool → ℕ → ℕ
-follower s bit v = if bit then span s + span s + v else span s + v
+follower s bit v = if bit then span_of s + span_of s + v else span_of s + v
 
 -- the sum of two values, cut to the range, and what is left of it, as places
 abbrev pub joined : ℕ → ℕ → ℕ → ℕ
@@ -60,27 +60,27 @@ abbrev pub alters : Move → Bool
 alters m = not ((m.r == m.p) && (m.s == m.q))
 
 abbrev pub pairs_of : (s t p : ℕ) → List Move
-pairs_of s t p = map (leader_move s t p) (range_with_len p (span s - p))
+pairs_of s t p = map (leader_move s t p) (range_with_len p (span_of s - p))
 
 abbrev pub turns_of : (s t p : ℕ) → List Move
-turns_of s t p = filter alters (map (leader_move s t p) (range_with_len (span s) (span s + span s)))
+turns_of s t p = filter alters (map (leader_move s t p) (range_with_len (span_of s) (span_of s + span_of s)))
 
 abbrev pub moves_of : (s t : ℕ) → List Move
 moves_of s t =
-    flat_map (pairs_of s t) (range_with_len 0 (span s)) ++ flat_map (turns_of s t) (range_with_len 0 (span s))
+    flat_map (pairs_of s t) (range_with_len 0 (span_of s)) ++ flat_map (turns_of s t) (range_with_len 0 (span_of s))
 
 abbrev pub state_count : ℕ → ℕ
-state_count s = span s + span s + span s
+state_count s = span_of s + span_of s + span_of s
 
 -- `L`, `f` or `t`, and the value
 abbrev pub letter : ℕ → ℕ → ℕ
-letter s q = if nat_lt q (span s) then 76 else (if nat_lt q (span s + span s) then 102 else 116)
+letter s q = if nat_lt q (span_of s) then 76 else (if nat_lt q (span_of s + span_of s) then 102 else 116)
 
 abbrev pub name_of : ℕ → ℕ → List ℕ
 name_of s q = letter s q ∷ signed_decimal (value_of s q)
 
 abbrev pub output_of : (s t q : ℕ) → Bool
-output_of s t q = if nat_lt q (span s) then nat_lt q t else not (nat_lt q (span s + span s))
+output_of s t q = if nat_lt q (span_of s) then nat_lt q t else not (nat_lt q (span_of s + span_of s))
 
 abbrev pub built : (s t : ℕ) → List ℕ → LeafModel
 built s t inputs =
@@ -94,4 +94,4 @@ built s t inputs =
 
 abbrev pub threshold_leaf : List ℤ → ℤ → LeafModel
 threshold_leaf coefs bound =
-    built (width coefs bound) (place (width coefs bound) bound) (map (place (width coefs bound)) coefs)
+    built (threshold_width coefs bound) (place_of_value (threshold_width coefs bound) bound) (map (place_of_value (threshold_width coefs bound)) coefs)

@@ -5,7 +5,7 @@ ghost use Rattle.std.specs.List.{range_with_len};
 ghost use Rattle.pop_io.specs.declared.names.TheConstants.{VARIABLE_LIMIT};
 ghost use Rattle.pop_net.specs.LeafModel.{IsLeaf};
 ghost use Rattle.pop_net.specs.Reaction.{Differ};
-ghost use Rattle.comp_threshold_leaf.specs.ThresholdLeaf.{width as width_of, place as place_of_value, output_of};
+ghost use Rattle.comp_threshold_leaf.specs.ThresholdLeaf.{threshold_width, place_of_value, output_of};
 ghost use Rattle.comp_threshold_leaf.specs.ThresholdLeaf.{state_count, built, threshold_leaf as leaf_of};
 ghost use Rattle.comp_threshold_leaf.specs.declared.limits.TheConstants.{WIDTH_LIMIT};
 
@@ -62,7 +62,7 @@ fn built_leaf(alloc: Global, s: u16, t: u16, coefs: &[i64]) -> Result<Leaf, NoMe
 
 /// The built leaf of these coefficients and this bound, which are of this width.
 pub fn threshold_leaf(alloc: Global, coefs: &[i64], bound: i64, s: u16) -> Result<Leaf, NoMemory>
-    requires width { s ≡ width_of coefs.now bound }
+    requires width { s ≡ threshold_width coefs.now bound }
     requires narrow { s ≤ WIDTH_LIMIT }
     requires some { 1 ≤ length coefs.now }
     requires few { length coefs.now ≤ VARIABLE_LIMIT }

@@ -2,7 +2,7 @@
 
 ghost use Rattle.std.specs.Prelude.{◌≡◌, ◌<◌, ◌≤◌, IfOk, flat_map};
 ghost use Rattle.std.specs.List.{range_with_len};
-ghost use Rattle.comp_threshold_leaf.specs.ThresholdLeaf.{span as span_of, state_count, leader_move as move_in_leaf};
+ghost use Rattle.comp_threshold_leaf.specs.ThresholdLeaf.{span_of, state_count, leader_move as move_in_leaf};
 ghost use Rattle.comp_threshold_leaf.specs.ThresholdLeaf.{alters as alters_state, pairs_of as pair_list};
 ghost use Rattle.comp_threshold_leaf.specs.ThresholdLeaf.{turns_of as turn_list};
 ghost use Rattle.comp_threshold_leaf.specs.ThresholdLeaf.{moves_of};

@@ -1,7 +1,7 @@
 //! States, values and their places.
 
 ghost use Rattle.std.specs.Prelude.{◌≡◌, ◌<◌, ◌≤◌, nat_abs};
-ghost use Rattle.comp_threshold_leaf.specs.ThresholdLeaf.{span as span_of, place as place_of_value};
+ghost use Rattle.comp_threshold_leaf.specs.ThresholdLeaf.{span_of, place_of_value};
 ghost use Rattle.comp_threshold_leaf.specs.ThresholdLeaf.{place_in as place_in_leaf, follower as follower_in_leaf};
 ghost use Rattle.comp_threshold_leaf.specs.declared.limits.TheConstants.{WIDTH_LIMIT};
 

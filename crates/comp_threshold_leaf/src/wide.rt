@@ -1,11 +1,11 @@
 //! How wide a leaf is.
 
 ghost use Rattle.std.specs.Prelude.{◌≡◌};
-ghost use Rattle.comp_threshold_leaf.specs.ThresholdLeaf.{width as width_of};
+ghost use Rattle.comp_threshold_leaf.specs.ThresholdLeaf.{threshold_width};
 
 /// The greatest size of a coefficient, or that of the bound and 1. Allocates nothing.
 pub fn width(coefs: &[i64], bound: i64) -> u64
-    ensures { result ≡ width_of coefs.now bound }
+    ensures { result ≡ threshold_width coefs.now bound }
 {
     let mut s = bound.unsigned_abs() + 1;
     for a in coefs {

@@ -12,15 +12,15 @@ use Rattle.cert_base.specs.declared.fact.Fact.{Fact}
 use Rattle.cert_base.specs.declared.fact.Fact.TheVariants.{Ge, Eq, Holds}
 use Rattle.cert_base.specs.declared.node.Node.{Node}
 use Rattle.cert_base.specs.declared.node.Node.TheVariants.{Present, Trap, Open}
-use Rattle.cert_base.specs.FactsAndCases.{states_of, flow, base_facts, two_agents, wrong_output, absent, occurs, alone, can_meet, present_cases, trap_cases, open_cases, some_taken, none_taken, none_started, count_in, takes_from, puts_into, is_in, none_helps}
+use Rattle.cert_base.specs.FactsAndCases.{states_of, flow, base_list, two_agents, wrong_output, absent, occurs, alone, can_meet, present_cases, trap_cases, open_cases, some_taken, no_moves, none_started, count_row, takes_from, puts_into, is_in, none_helps}
 use Rattle.cert_base.specs.Rows.{constant_row}
 use Rattle.cert_base.specs.Closes.{refutes, cases_of, ClosesUnder, refuted, by_cases, no_case, next_case, Closes}
-use Rattle.comp_trees.specs.LeaderTree.{leaders, company, facts_of_trap, facts_without, facts_of_leader, leader_nodes, leader_tree, weighed, no_leader_by, no_leak_by, no_start_by, IsLed}
+use Rattle.comp_trees.specs.LeaderTree.{leaders, company_of, facts_of_trap, facts_without, facts_of_leader, leader_nodes, leader_tree, weighed, no_leader_by, no_leak_by, no_start_by, IsLed}
 use Rattle.comp_trees.proofs.TrapNodes.{no_leak_closes, no_start_closes, no_leader_closes, length_opened, length_taken, length_started}
 
 -- the second case of a leader
 abbrev present_case : LeafModel → ℕ → List Fact
-present_case leaf p = (occurs leaf p ∷ map (absent leaf) (company leaf p)) ++ (if can_meet leaf p p then (alone leaf p ∷ []) else [])
+present_case leaf p = (occurs leaf p ∷ map (absent leaf) (company_of leaf p)) ++ (if can_meet leaf p p then (alone leaf p ∷ []) else [])
 
 all_below : (a n m : ℕ) → a + n ≤ m → list_all (λ q. nat_lt q m) (range_with_len a n) ≡ true
 all_below a zero m l = refl
@@ -41,7 +41,7 @@ no_helps leaf set e =
 
 module _ (leaf : LeafModel) (pred : PredModel) (b : Bool) (opened : Fact) (n : ℕ) (is : IsLed leaf n) (formed : IsLeaf leaf) (opens : open_cases pred b ≡ (opened ∷ []) ∷ []) (ends : ℕ → Node) where
   abbrev base : List Fact
-  base = base_facts leaf pred b
+  base = base_list leaf pred b
 
   abbrev trap_facts : List Fact
   trap_facts = facts_of_trap leaf base opened n
@@ -50,7 +50,7 @@ module _ (leaf : LeafModel) (pred : PredModel) (b : Bool) (opened : Fact) (n : �
   last = weighed (no_leader_by leaf n)
 
   length_trap : length trap_facts ≡ length leaf.states + 5
-  length_trap = omega (arith, length-append (base ++ opened ∷ []) (Ge (count_in leaf (leaders n) (negsuc 0)) ∷ []), length_opened leaf pred b opened n is)
+  length_trap = omega (arith, length-append (base ++ opened ∷ []) (Ge (count_row leaf (leaders n) (negsuc 0)) ∷ []), length_opened leaf pred b opened n is)
 
   length_without : (p : ℕ) → length (facts_without leaf trap_facts p) ≡ length leaf.states + 5 + p
   length_without p = omega (arith, length-append trap_facts (map (absent leaf) (range_with_len 0 p)), length_trap, length-map-range_with_len (absent leaf) 0 p)
@@ -60,17 +60,17 @@ module _ (leaf : LeafModel) (pred : PredModel) (b : Bool) (opened : Fact) (n : �
       append_assoc trap_facts (map (absent leaf) (range_with_len 0 p)) (absent leaf p ∷ [])
       ∙ ap (λ fs. trap_facts ++ fs) (sym (map-range_with_len_more (absent leaf) 0 p p (zero-add p)))
 
-  length_partners : (p : ℕ) → length (company leaf p) ≤ length leaf.states
+  length_partners : (p : ℕ) → length (company_of leaf p) ≤ length leaf.states
   length_partners p =
       let few = count_by-le-length (λ q. not (q == p) && can_meet leaf p q) (states_of leaf) in
       omega (arith, length-filter (λ q. not (q == p) && can_meet leaf p q) (states_of leaf), few, length-range_with_len 0 (length leaf.states))
 
   length_leader : (p : ℕ) → length (facts_of_leader leaf trap_facts p) ≤ length leaf.states + 5 + p + length leaf.states + 2
   length_leader p =
-      let own = (occurs leaf p ∷ map (absent leaf) (company leaf p)) in
+      let own = (occurs leaf p ∷ map (absent leaf) (company_of leaf p)) in
       let few = length_partners p in
       let tail = short (can_meet leaf p p) in
-      omega (arith, length-append (facts_without leaf trap_facts p) (own ++ (if can_meet leaf p p then (alone leaf p ∷ []) else [])), length-append own (if can_meet leaf p p then (alone leaf p ∷ []) else []), length_without p, length-map (company leaf p) (absent leaf), few, tail)
+      omega (arith, length-append (facts_without leaf trap_facts p) (own ++ (if can_meet leaf p p then (alone leaf p ∷ []) else [])), length-append own (if can_meet leaf p p then (alone leaf p ∷ []) else []), length_without p, length-map (company_of leaf p) (absent leaf), few, tail)
     where
       short : (c : Bool) → length (if c then (alone leaf p ∷ []) else []) ≤ 1
       short true = omega arith
@@ -118,12 +118,12 @@ module _ (leaf : LeafModel) (pred : PredModel) (b : Bool) (opened : Fact) (n : �
       let facts = base ++ opened ∷ [] in
       let own = leader_nodes ends last 0 n in
       let leak = some_taken leaf (λ t. takes_from (leaders n) t && not (puts_into (leaders n) t)) in
-      let start = (none_taken leaf (puts_into (leaders n)) ++ none_started leaf (leaders n)) ++ Eq (count_in leaf (leaders n) (pos 0)) ∷ [] in
-      let trap = Ge (count_in leaf (leaders n) (negsuc 0)) in
+      let start = (no_moves leaf (puts_into (leaders n)) ++ none_started leaf (leaders n)) ++ Eq (count_row leaf (leaders n) (pos 0)) ∷ [] in
+      let trap = Ge (count_row leaf (leaders n) (negsuc 0)) in
       let length_facts = length_opened leaf pred b opened n is in
       let length_base : length base ≡ length leaf.states + 3 = omega (arith, length-append base (opened ∷ []), length_facts) in
       let length_start : length (facts ++ start) ≡ length leaf.states + length leaf.moves + length leaf.inputs + 5 =
-      omega (arith, length-append facts start, length_facts, length-append (none_taken leaf (puts_into (leaders n)) ++ none_started leaf (leaders n)) (Eq (count_in leaf (leaders n) (pos 0)) ∷ []), length-append (none_taken leaf (puts_into (leaders n))) (none_started leaf (leaders n)), length_taken leaf pred b opened n is, length_started leaf pred b opened n is) in
+      omega (arith, length-append facts start, length_facts, length-append (no_moves leaf (puts_into (leaders n)) ++ none_started leaf (leaders n)) (Eq (count_row leaf (leaders n) (pos 0)) ∷ []), length-append (no_moves leaf (puts_into (leaders n))) (none_started leaf (leaders n)), length_taken leaf pred b opened n is, length_started leaf pred b opened n is) in
       let length_leak : length (facts ++ leak ∷ []) ≡ length leaf.states + 5 = omega (arith, length-append facts (leak ∷ []), length_facts) in
       let first : ClosesUnder leaf 2 (facts ++ leak ∷ []) (weighed (no_leak_by leaf) ∷ weighed (no_start_by leaf) ∷ own) (weighed (no_start_by leaf) ∷ own) =
       refuted 2 (facts ++ leak ∷ []) (weighed (no_leak_by leaf)) (weighed (no_start_by leaf) ∷ own) (record { depth = omega arith; fact_count = omega arith }) (no_leak_closes leaf pred b opened n is) in
@@ -149,6 +149,6 @@ module _ (leaf : LeafModel) (pred : PredModel) (b : Bool) (opened : Fact) (n : �
           let at = at_end (map (flow leaf) (states_of leaf)) (two_agents leaf ∷ Holds pred b ∷ wrong_output leaf b ∷ []) (length leaf.states) 1 (length-map-range_with_len (flow leaf) 0 (length leaf.states)) in
           rw at refl
 
-      trap_is : trap_cases leaf (leaders n) ≡ (some_taken leaf (λ t. takes_from (leaders n) t && not (puts_into (leaders n) t)) ∷ []) ∷ ((none_taken leaf (puts_into (leaders n)) ++ none_started leaf (leaders n)) ++ Eq (count_in leaf (leaders n) (pos 0)) ∷ []) ∷ (Ge (count_in leaf (leaders n) (negsuc 0)) ∷ []) ∷ []
+      trap_is : trap_cases leaf (leaders n) ≡ (some_taken leaf (λ t. takes_from (leaders n) t && not (puts_into (leaders n) t)) ∷ []) ∷ ((no_moves leaf (puts_into (leaders n)) ++ none_started leaf (leaders n)) ++ Eq (count_row leaf (leaders n) (pos 0)) ∷ []) ∷ (Ge (count_row leaf (leaders n) (negsuc 0)) ∷ []) ∷ []
       trap_is =
-          ap (λ fs. (some_taken leaf (λ t. takes_from (leaders n) t && not (puts_into (leaders n) t)) ∷ []) ∷ ((none_taken leaf (puts_into (leaders n)) ++ none_started leaf (leaders n)) ++ Eq (count_in leaf (leaders n) (pos 0)) ∷ fs) ∷ (Ge (count_in leaf (leaders n) (negsuc 0)) ∷ []) ∷ []) (no_helps leaf (leaders n) is.helpers)
+          ap (λ fs. (some_taken leaf (λ t. takes_from (leaders n) t && not (puts_into (leaders n) t)) ∷ []) ∷ ((no_moves leaf (puts_into (leaders n)) ++ none_started leaf (leaders n)) ++ Eq (count_row leaf (leaders n) (pos 0)) ∷ fs) ∷ (Ge (count_row leaf (leaders n) (negsuc 0)) ∷ []) ∷ []) (no_helps leaf (leaders n) is.helpers)

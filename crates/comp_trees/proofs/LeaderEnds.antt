@@ -16,11 +16,11 @@ use Rattle.cert_base.specs.declared.fact.Row.{Row}
 use Rattle.cert_base.specs.declared.fact.Fact.{Fact}
 use Rattle.cert_base.specs.declared.fact.Fact.TheVariants.{Ge, Eq, Holds}
 use Rattle.cert_base.specs.Rows.{terms_from, zeros, input_row}
-use Rattle.cert_base.specs.ClosingTests.{coefficient_in, row_of, linear_closes, may_add}
-use Rattle.cert_base.specs.FactsAndCases.{indicator, states_of, flow, base_facts, two_agents, wrong_output, differs, absent, occurs, alone, can_meet, count_in}
+use Rattle.cert_base.specs.ClosingTests.{coefficient_in, row_of, closes_by_sum, may_add}
+use Rattle.cert_base.specs.FactsAndCases.{indicator, states_of, flow, base_list, two_agents, wrong_output, differs, absent, occurs, alone, can_meet, count_row}
 use Rattle.cert_base.specs.WeightedSums.{weighted_sum, coefficient, constant_of, may_weigh}
 use Rattle.cert_base.specs.WeightedSums.{total}
-use Rattle.comp_trees.specs.LeaderTree.{leaders, company, facts_of_trap, facts_without, facts_of_leader, LeaderMix, mix_of_trap, mix_of_leader, wrong_mix, value_mix}
+use Rattle.comp_trees.specs.LeaderTree.{leaders, company_of, facts_of_trap, facts_without, facts_of_leader, LeaderMix, mix_of_trap, mix_of_leader, wrong_mix, value_mix}
 use Rattle.cert_base.proofs.WeightedSums.{may_weigh-append, may_weigh-zeros, linear_closes-weighted}
 use Rattle.cert_base.proofs.FlowSums.{coefficient-dense, total-same, total-none, total-none_range, total-one, weighted_sum-map, valued, law-input, law-state, law-move, law-past, each_variable, unlike, like, times-one, mul-neg}
 use Rattle.comp_trees.proofs.LeaderSums.{leader_sum}
@@ -87,7 +87,7 @@ abbrev pub rules_out : LeafModel → ℕ → ℕ → Bool
 rules_out leaf p q = not (q == p) && can_meet leaf p q
 
 abbrev out_total : LeafModel → ℕ → (ℕ → ℤ) → ℕ → ℤ
-out_total leaf p f x = total (λ q. f q *ℤ coefficient x (absent leaf q)) (company leaf p)
+out_total leaf p f x = total (λ q. f q *ℤ coefficient x (absent leaf q)) (company_of leaf p)
 
 none_out : (leaf : LeafModel) (p : ℕ) (f : ℕ → ℤ) (x : ℕ) → ((q : ℕ) → q < length leaf.states → (length leaf.inputs + q) ≢ x) → out_total leaf p f x ≡ pos 0
 none_out leaf p f x ne =
@@ -122,22 +122,22 @@ may_weigh-eqs may eqs row by (x ∷ xs) =
     or_yes true h = refl
     or_yes false h = h
 
-pub may_leader : (may : ℤ → Fact → Bool) → ((a : ℤ) (row : Row) → may a (Eq row) ≡ true) → (leaf : LeafModel) (pred : PredModel) (b : Bool) (opened : Fact) (n p : ℕ) (mix : LeaderMix) → can_meet leaf p p ≡ true → (int_eq mix.wrong (pos 0) || may mix.wrong (wrong_output leaf b)) ≡ true → (int_eq mix.opened (pos 0) || may mix.opened opened) ≡ true → may_weigh may (facts_of_leader leaf (facts_of_trap leaf (base_facts leaf pred b) opened n) p) (mix_of_leader leaf (company leaf p) mix p) ≡ true
+pub may_leader : (may : ℤ → Fact → Bool) → ((a : ℤ) (row : Row) → may a (Eq row) ≡ true) → (leaf : LeafModel) (pred : PredModel) (b : Bool) (opened : Fact) (n p : ℕ) (mix : LeaderMix) → can_meet leaf p p ≡ true → (int_eq mix.wrong (pos 0) || may mix.wrong (wrong_output leaf b)) ≡ true → (int_eq mix.opened (pos 0) || may mix.opened opened) ≡ true → may_weigh may (facts_of_leader leaf (facts_of_trap leaf (base_list leaf pred b) opened n) p) (mix_of_leader leaf (company_of leaf p) mix p) ≡ true
 may_leader may eqs leaf pred b opened n p mix twin wrong_may opened_may =
     let flows = map (flow leaf) (states_of leaf) in
-    let base = base_facts leaf pred b in
-    let trap = Ge (count_in leaf (leaders n) (negsuc 0)) in
+    let base = base_list leaf pred b in
+    let trap = Ge (count_row leaf (leaders n) (negsuc 0)) in
     let mf = map mix.flows (states_of leaf) in
     let mb = mf ++ pos 0 ∷ pos 0 ∷ mix.wrong ∷ [] in
     let absents = map (absent leaf) (range_with_len 0 p) in
-    let out = map (absent leaf) (company leaf p) in
+    let out = map (absent leaf) (company_of leaf p) in
     let facts = facts_of_trap leaf base opened n in
     let len_flows : length flows ≡ length mf = length-map (states_of leaf) (flow leaf) ∙ sym (length-map (states_of leaf) mix.flows) in
     let len_base : length base ≡ length mb = omega (arith, length-append flows (two_agents leaf ∷ Holds pred b ∷ wrong_output leaf b ∷ []), length-append mf (pos 0 ∷ pos 0 ∷ mix.wrong ∷ []), len_flows) in
     let len_open : length (base ++ opened ∷ []) ≡ length (mb ++ mix.opened ∷ []) = omega (arith, length-append base (opened ∷ []), length-append mb (mix.opened ∷ []), len_base) in
     let len_trap : length facts ≡ length (mix_of_trap leaf mix) = omega (arith, length-append (base ++ opened ∷ []) (trap ∷ []), length-append (mb ++ mix.opened ∷ []) (pos 0 ∷ []), len_open) in
     let len_without : length (facts_without leaf facts p) ≡ length (mix_of_trap leaf mix ++ zeros p) = omega (arith, length-append facts absents, length-append (mix_of_trap leaf mix) (zeros p), len_trap, length-map-range_with_len (absent leaf) 0 p, length-replicate p (pos 0)) in
-    let len_out : length (occurs leaf p ∷ out) ≡ length (pos 0 ∷ map mix.ruled_out (company leaf p)) = omega (arith, length-map (company leaf p) (absent leaf), length-map (company leaf p) mix.ruled_out) in
+    let len_out : length (occurs leaf p ∷ out) ≡ length (pos 0 ∷ map mix.ruled_out (company_of leaf p)) = omega (arith, length-map (company_of leaf p) (absent leaf), length-map (company_of leaf p) mix.ruled_out) in
     let m1 = may_weigh-eqs may eqs (λ q. row_of (flow leaf q)) mix.flows (states_of leaf) in
     let w2 : may_weigh may (two_agents leaf ∷ Holds pred b ∷ wrong_output leaf b ∷ []) (pos 0 ∷ pos 0 ∷ mix.wrong ∷ []) ≡ true = rw wrong_may refl in
     let m2 = may_weigh-append may flows (two_agents leaf ∷ Holds pred b ∷ wrong_output leaf b ∷ []) mf (pos 0 ∷ pos 0 ∷ mix.wrong ∷ []) len_flows m1 w2 in
@@ -145,10 +145,10 @@ may_leader may eqs leaf pred b opened n p mix twin wrong_may opened_may =
     let m3 = may_weigh-append may base (opened ∷ []) mb (mix.opened ∷ []) len_base m2 w3 in
     let m4 = may_weigh-append may (base ++ opened ∷ []) (trap ∷ []) (mb ++ mix.opened ∷ []) (pos 0 ∷ []) len_open m3 refl in
     let m5 = may_weigh-append may facts absents (mix_of_trap leaf mix) (zeros p) len_trap m4 (may_weigh-zeros may absents p (omega (arith, length-map-range_with_len (absent leaf) 0 p))) in
-    let m6 = may_weigh-eqs may eqs (λ q. row_of (absent leaf q)) mix.ruled_out (company leaf p) in
+    let m6 = may_weigh-eqs may eqs (λ q. row_of (absent leaf q)) mix.ruled_out (company_of leaf p) in
     let m7 = may_weigh-eqs may eqs (λ q. row_of (alone leaf q)) (λ q. mix.alone) (p ∷ []) in
-    let m8 = may_weigh-append may (occurs leaf p ∷ out) (alone leaf p ∷ []) (pos 0 ∷ map mix.ruled_out (company leaf p)) (mix.alone ∷ []) len_out m6 m7 in
-    rw twin (may_weigh-append may (facts_without leaf facts p) ((occurs leaf p ∷ out) ++ alone leaf p ∷ []) (mix_of_trap leaf mix ++ zeros p) ((pos 0 ∷ map mix.ruled_out (company leaf p)) ++ mix.alone ∷ []) len_without m5 m8)
+    let m8 = may_weigh-append may (occurs leaf p ∷ out) (alone leaf p ∷ []) (pos 0 ∷ map mix.ruled_out (company_of leaf p)) (mix.alone ∷ []) len_out m6 m7 in
+    rw twin (may_weigh-append may (facts_without leaf facts p) ((occurs leaf p ∷ out) ++ alone leaf p ∷ []) (mix_of_trap leaf mix ++ zeros p) ((pos 0 ∷ map mix.ruled_out (company_of leaf p)) ++ mix.alone ∷ []) len_without m5 m8)
 
 -- ---- the node by a wrong output
 
@@ -175,10 +175,10 @@ apart_past n m q j l e = omega arith
 
 module _ (leaf : LeafModel) (pred : PredModel) (b : Bool) (opened : Fact) (n p : ℕ) (twin : can_meet leaf p p ≡ true) where
   abbrev pub all_facts : List Fact
-  all_facts = facts_of_leader leaf (facts_of_trap leaf (base_facts leaf pred b) opened n) p
+  all_facts = facts_of_leader leaf (facts_of_trap leaf (base_list leaf pred b) opened n) p
 
   abbrev wrong_terms : List ℤ
-  wrong_terms = mix_of_leader leaf (company leaf p) (wrong_mix leaf b) p
+  wrong_terms = mix_of_leader leaf (company_of leaf p) (wrong_mix leaf b) p
 
   abbrev minus_wrong : ℕ → ℤ
   minus_wrong q = neg_ℤ (indicator (is_wrong leaf b q))
@@ -193,7 +193,7 @@ module _ (leaf : LeafModel) (pred : PredModel) (b : Bool) (opened : Fact) (n p :
       omega (arith, ints, sum, first, second, third, f, fifth)
 
   -- the node closes where all wrong states are ruled out
-  pub wrong_closes : ((z : ℕ) → z < length leaf.states → is_wrong leaf b z ≡ true → rules_out leaf p z ≡ true) → linear_closes all_facts (terms_from 0 wrong_terms) ≡ true
+  pub wrong_closes : ((z : ℕ) → z < length leaf.states → is_wrong leaf b z ≡ true → rules_out leaf p z ≡ true) → closes_by_sum all_facts (terms_from 0 wrong_terms) ≡ true
   wrong_closes all =
       linear_closes-weighted all_facts wrong_terms
       (may_leader may_add (λ a row. refl) leaf pred b opened n p (wrong_mix leaf b) twin refl refl)
@@ -232,13 +232,13 @@ module _ (leaf : LeafModel) (pred : PredModel) (b : Bool) (opened : Fact) (n p :
           let sum = leader_sum constant_of leaf pred b opened n p (wrong_mix leaf b) twin in
           let first = valued-none constant_of leaf in
           let third = zero-*ℤ (constant_of opened) in
-          let fourth = total-none (λ q. minus_wrong q *ℤ pos 0) (company leaf p) (λ q. *ℤ-zero (minus_wrong q)) in
+          let fourth = total-none (λ q. minus_wrong q *ℤ pos 0) (company_of leaf p) (λ q. *ℤ-zero (minus_wrong q)) in
           omega (arith, ints, sum, first, third, fourth)
 
   -- ---- the node by values
 
   abbrev pub value_terms : (ℕ → ℤ) → ℤ → List ℤ
-  value_terms w m = mix_of_leader leaf (company leaf p) (value_mix w m p) p
+  value_terms w m = mix_of_leader leaf (company_of leaf p) (value_mix w m p) p
 
   value_sum : (w : ℕ → ℤ) (m : ℤ) (x : ℕ) (a c d e : ℤ) → valued leaf w x ≡ a → (m *ℤ coefficient x opened) ≡ c → out_total leaf p w x ≡ d → (w p *ℤ coefficient x (alone leaf p)) ≡ e → weighted_sum (coefficient x) all_facts (value_terms w m) ≡ (a +ℤ c +ℤ d +ℤ e)
   value_sum w m x a c d e ha hc hd he =
@@ -314,6 +314,6 @@ module _ (leaf : LeafModel) (pred : PredModel) (b : Bool) (opened : Fact) (n p :
       let sum = leader_sum constant_of leaf pred b opened n p (value_mix w m p) twin in
       let first = weighted_sum-map constant_of (flow leaf) w (states_of leaf) ∙ total-none (λ q. w q *ℤ constant_of (flow leaf q)) (states_of leaf) (λ q. ap (λ c. w q *ℤ c) (flow-constant leaf q no_helpers) ∙ *ℤ-zero (w q)) in
       let third = ap (λ (row : Row). m *ℤ row.constant) is.row in
-      let fourth = total-none (λ q. w q *ℤ pos 0) (company leaf p) (λ q. *ℤ-zero (w q)) in
+      let fourth = total-none (λ q. w q *ℤ pos 0) (company_of leaf p) (λ q. *ℤ-zero (w q)) in
       let fifth : (w p *ℤ negsuc 0) ≡ neg_ℤ (w p) = mul-neg (w p) (pos 1) ∙ ap neg_ℤ (times-one (w p)) in
       omega (arith, ints, sum, first, third, fourth, fifth)

@@ -13,7 +13,7 @@ use Rattle.cert_base.specs.declared.limits.TheConstants.{TERM_LIMIT}
 use Rattle.cert_base.specs.Rows.{terms_from, zeros}
 use Rattle.cert_base.specs.ProofLimits.{IsSmall, IsAscending, IsTermWithin, AreTermsWithin, IsSetWithin, IsNodeWithin, AreNodesWithin}
 use Rattle.cert_base.specs.FactsAndCases.{states_of, can_meet}
-use Rattle.comp_trees.specs.LeaderTree.{leaders, company, LeaderMix, mix_of_trap, mix_of_leader, leader_nodes, leader_tree, weighed, no_leader_by, no_leak_by, no_start_by, IsLed}
+use Rattle.comp_trees.specs.LeaderTree.{leaders, company_of, LeaderMix, mix_of_trap, mix_of_leader, leader_nodes, leader_tree, weighed, no_leader_by, no_leak_by, no_start_by, IsLed}
 use Rattle.comp_trees.proofs.SameMix.{mix_short}
 use Rattle.comp_layers.proofs.Members.{all_range}
 
@@ -43,16 +43,16 @@ one : (a : ℤ) → IsSmall a → All IsSmall (a ∷ [])
 one a h = All-cons IsSmall a [] h (All-nil IsSmall)
 
 -- a leader's multipliers
-pub mix-small : (leaf : LeafModel) (p : ℕ) (mix : LeaderMix) → ((q : ℕ) → q < length leaf.states → IsSmall (mix.flows q)) → IsSmall mix.wrong → IsSmall mix.opened → ((q : ℕ) → q < length leaf.states → IsSmall (mix.ruled_out q)) → IsSmall mix.alone → All IsSmall (mix_of_leader leaf (company leaf p) mix p)
+pub mix-small : (leaf : LeafModel) (p : ℕ) (mix : LeaderMix) → ((q : ℕ) → q < length leaf.states → IsSmall (mix.flows q)) → IsSmall mix.wrong → IsSmall mix.opened → ((q : ℕ) → q < length leaf.states → IsSmall (mix.ruled_out q)) → IsSmall mix.alone → All IsSmall (mix_of_leader leaf (company_of leaf p) mix p)
 mix-small leaf p mix flows wrong opened out alone =
     let states = All-map IsSmall mix.flows (states_of leaf) (all_range (λ q. IsSmall (mix.flows q)) 0 (length leaf.states) (λ q l m. flows q (omega arith))) in
-    let kept = All-map IsSmall mix.ruled_out (company leaf p) (All-filter (λ q. not (q == p) && can_meet leaf p q) (λ q. IsSmall (mix.ruled_out q)) (states_of leaf) (all_range (λ q. IsSmall (mix.ruled_out q)) 0 (length leaf.states) (λ q l m. out q (omega arith)))) in
+    let kept = All-map IsSmall mix.ruled_out (company_of leaf p) (All-filter (λ q. not (q == p) && can_meet leaf p q) (λ q. IsSmall (mix.ruled_out q)) (states_of leaf) (all_range (λ q. IsSmall (mix.ruled_out q)) 0 (length leaf.states) (λ q l m. out q (omega arith)))) in
     let base = All-append IsSmall (map mix.flows (states_of leaf)) (pos 0 ∷ pos 0 ∷ mix.wrong ∷ []) states (All-cons IsSmall (pos 0) (pos 0 ∷ mix.wrong ∷ []) (omega arith) (All-cons IsSmall (pos 0) (mix.wrong ∷ []) (omega arith) (one mix.wrong wrong))) in
     let opens = All-append IsSmall (map mix.flows (states_of leaf) ++ pos 0 ∷ pos 0 ∷ mix.wrong ∷ []) (mix.opened ∷ []) base (one mix.opened opened) in
     let trap = All-append IsSmall ((map mix.flows (states_of leaf) ++ pos 0 ∷ pos 0 ∷ mix.wrong ∷ []) ++ mix.opened ∷ []) (pos 0 ∷ []) opens (one (pos 0) (omega arith)) in
     let above = All-append IsSmall (mix_of_trap leaf mix) (zeros p) trap (all-zeros p) in
-    All-append IsSmall (mix_of_trap leaf mix ++ zeros p) ((pos 0 ∷ map mix.ruled_out (company leaf p)) ++ mix.alone ∷ []) above
-    (All-append IsSmall (pos 0 ∷ map mix.ruled_out (company leaf p)) (mix.alone ∷ []) (All-cons IsSmall (pos 0) (map mix.ruled_out (company leaf p)) (omega arith) kept) (one mix.alone alone))
+    All-append IsSmall (mix_of_trap leaf mix ++ zeros p) ((pos 0 ∷ map mix.ruled_out (company_of leaf p)) ++ mix.alone ∷ []) above
+    (All-append IsSmall (pos 0 ∷ map mix.ruled_out (company_of leaf p)) (mix.alone ∷ []) (All-cons IsSmall (pos 0) (map mix.ruled_out (company_of leaf p)) (omega arith) kept) (one mix.alone alone))
 
 ascending : (a n : ℕ) → IsAscending (range_with_len a n)
 ascending a zero = tt
@@ -95,9 +95,9 @@ tree-within leaf n ends formed is each =
     )
 
 -- a leader's node
-pub leader-within : (leaf : LeafModel) (p : ℕ) (mix : LeaderMix) → IsLeaf leaf → p < length leaf.states → All IsSmall (mix_of_leader leaf (company leaf p) mix p) → IsNodeWithin (weighed (mix_of_leader leaf (company leaf p) mix p))
+pub leader-within : (leaf : LeafModel) (p : ℕ) (mix : LeaderMix) → IsLeaf leaf → p < length leaf.states → All IsSmall (mix_of_leader leaf (company_of leaf p) mix p) → IsNodeWithin (weighed (mix_of_leader leaf (company_of leaf p) mix p))
 leader-within leaf p mix formed l all =
-    weighed-within (mix_of_leader leaf (company leaf p) mix p) (mix_short leaf p mix l (let few = formed.states in omega arith)) all
+    weighed-within (mix_of_leader leaf (company_of leaf p) mix p) (mix_short leaf p mix l (let few = formed.states in omega arith)) all
 
-pub leader-within_terms : (leaf : LeafModel) (p : ℕ) (mix : LeaderMix) → IsLeaf leaf → p < length leaf.states → All IsSmall (mix_of_leader leaf (company leaf p) mix p) → AreTermsWithin (terms_from 0 (mix_of_leader leaf (company leaf p) mix p))
+pub leader-within_terms : (leaf : LeafModel) (p : ℕ) (mix : LeaderMix) → IsLeaf leaf → p < length leaf.states → All IsSmall (mix_of_leader leaf (company_of leaf p) mix p) → AreTermsWithin (terms_from 0 (mix_of_leader leaf (company_of leaf p) mix p))
 leader-within_terms leaf p mix formed l all = leader-within leaf p mix formed l all

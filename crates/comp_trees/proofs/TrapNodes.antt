@@ -16,8 +16,8 @@ use Rattle.pres_ast.specs.PredModel.{PredModel}
 use Rattle.cert_base.specs.declared.fact.Fact.{Fact}
 use Rattle.cert_base.specs.declared.fact.Fact.TheVariants.{Ge, Eq, Holds}
 use Rattle.cert_base.specs.Rows.{terms_from, zeros, single_row, input_variable}
-use Rattle.cert_base.specs.ClosingTests.{coefficient_in, row_of, linear_closes, may_add}
-use Rattle.cert_base.specs.FactsAndCases.{indicator, states_of, flow, base_facts, two_agents, wrong_output, absent, count_in, is_in, takes_from, puts_into, places_from, some_taken, none_taken, none_started}
+use Rattle.cert_base.specs.ClosingTests.{coefficient_in, row_of, closes_by_sum, may_add}
+use Rattle.cert_base.specs.FactsAndCases.{indicator, states_of, flow, base_list, two_agents, wrong_output, absent, count_row, is_in, takes_from, puts_into, places_from, some_taken, no_moves, none_started}
 use Rattle.cert_base.proofs.TermLists.{terms_from-zeros}
 use Rattle.cert_base.specs.WeightedSums.{weighted_sum, coefficient, constant_of, may_weigh}
 use Rattle.cert_base.specs.WeightedSums.{total}
@@ -109,7 +109,7 @@ all_of P Q f xs all = λ k d l. f (get_or xs k d) (all k d l)
 
 module _ (leaf : LeafModel) (pred : PredModel) (b : Bool) (opened : Fact) (n : ℕ) (is : IsLed leaf n) where
   abbrev base : List Fact
-  base = base_facts leaf pred b
+  base = base_list leaf pred b
 
   length_base : length base ≡ length leaf.states + 3
   length_base = omega (arith, length-append (map (flow leaf) (states_of leaf)) (two_agents leaf ∷ Holds pred b ∷ wrong_output leaf b ∷ []), length-map-range_with_len (flow leaf) 0 (length leaf.states))
@@ -139,7 +139,7 @@ module _ (leaf : LeafModel) (pred : PredModel) (b : Bool) (opened : Fact) (n : �
   leak_row x =
       ap (λ ts. coefficient_in ts x) (ap (λ cs. terms_from 0 (zeros (length leaf.inputs + length leaf.states) ++ cs)) (map-constant (λ t. indicator (leaks t)) (pos 0) leaf.moves none_leaks) ∙ ap (terms_from 0) (zeros-append (length leaf.inputs + length leaf.states) (length leaf.moves)) ∙ no_terms (length leaf.inputs + length leaf.states + length leaf.moves))
 
-  pub no_leak_closes : linear_closes ((base ++ opened ∷ []) ++ some_taken leaf leaks ∷ []) (terms_from 0 (no_leak_by leaf)) ≡ true
+  pub no_leak_closes : closes_by_sum ((base ++ opened ∷ []) ++ some_taken leaf leaks ∷ []) (terms_from 0 (no_leak_by leaf)) ≡ true
   no_leak_closes =
       linear_closes-weighted facts (no_leak_by leaf)
       (may_weigh-append may_add (base ++ opened ∷ []) (leak ∷ []) (zeros (length leaf.states + 4)) (pos 1 ∷ []) len (may_weigh-zeros may_add (base ++ opened ∷ []) (length leaf.states + 4) (omega (arith, length_opened))) refl)
@@ -165,13 +165,13 @@ module _ (leaf : LeafModel) (pred : PredModel) (b : Bool) (opened : Fact) (n : �
   -- ---- some input starts there
 
   abbrev not_taken : List Fact
-  not_taken = none_taken leaf (puts_into (leaders n))
+  not_taken = no_moves leaf (puts_into (leaders n))
 
   abbrev not_started : List Fact
   not_started = none_started leaf (leaders n)
 
   abbrev no_count : Fact
-  no_count = Eq (count_in leaf (leaders n) (pos 0))
+  no_count = Eq (count_row leaf (leaders n) (pos 0))
 
   taken_places : places_from 0 (puts_into (leaders n)) leaf.moves ≡ range_with_len 0 (length leaf.moves)
   taken_places = places-all 0 (puts_into (leaders n)) leaf.moves all_put
@@ -286,7 +286,7 @@ module _ (leaf : LeafModel) (pred : PredModel) (b : Bool) (opened : Fact) (n : �
       let g = started_out x l in
       omega (arith, ints, e, f, g)
 
-  pub no_start_closes : linear_closes start_facts (terms_from 0 (no_start_by leaf)) ≡ true
+  pub no_start_closes : closes_by_sum start_facts (terms_from 0 (no_start_by leaf)) ≡ true
   no_start_closes =
       linear_closes-weighted start_facts (no_start_by leaf) start_may
       (λ x. start_low x (cases_lt x (length leaf.inputs)))
@@ -295,7 +295,7 @@ module _ (leaf : LeafModel) (pred : PredModel) (b : Bool) (opened : Fact) (n : �
   -- ---- not all leaders are absent
 
   abbrev trap : Fact
-  trap = Ge (count_in leaf (leaders n) (negsuc 0))
+  trap = Ge (count_row leaf (leaders n) (negsuc 0))
 
   abbrev trap_facts : List Fact
   trap_facts = facts_of_trap leaf base opened n
@@ -372,7 +372,7 @@ module _ (leaf : LeafModel) (pred : PredModel) (b : Bool) (opened : Fact) (n : �
       at_state : (z : ℕ) → z < length leaf.states → weighted_sum (coefficient (length leaf.inputs + z)) (facts_without leaf trap_facts n) (no_leader_by leaf n) ≤ℤ pos 0
       at_state z l = leader_or_not z l (cases_lt z n)
 
-  pub no_leader_closes : linear_closes (facts_without leaf trap_facts n) (terms_from 0 (no_leader_by leaf n)) ≡ true
+  pub no_leader_closes : closes_by_sum (facts_without leaf trap_facts n) (terms_from 0 (no_leader_by leaf n)) ≡ true
   no_leader_closes =
       linear_closes-weighted (facts_without leaf trap_facts n) (no_leader_by leaf n) leader_may leader_low
       (let e = leader_total constant_of in let f = total-none (λ (q : ℕ). negsuc 0 *ℤ pos 0) (leaders n) (λ q. refl) in omega (arith, ints, e, f))

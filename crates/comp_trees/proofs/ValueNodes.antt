@@ -13,8 +13,8 @@ use Rattle.pres_ast.specs.PredicateValue.{divides}
 use Rattle.cert_base.specs.declared.fact.Fact.{Fact}
 use Rattle.cert_base.specs.declared.fact.Fact.TheVariants.{NotCong}
 use Rattle.cert_base.specs.Rows.{terms_from, input_row}
-use Rattle.cert_base.specs.ClosingTests.{linear_closes, residue_closes, may_add, may_add_modulo, coefficient_in}
-use Rattle.cert_base.specs.FactsAndCases.{base_facts, can_meet}
+use Rattle.cert_base.specs.ClosingTests.{closes_by_sum, closes_by_residue, may_add, may_add_modulo, coefficient_in}
+use Rattle.cert_base.specs.FactsAndCases.{base_list, can_meet}
 use Rattle.cert_base.specs.WeightedSums.{weighted_sum, coefficient, constant_of}
 use Rattle.comp_trees.specs.LeaderTree.{facts_of_trap, facts_without, value_mix}
 use Rattle.cert_base.proofs.WeightedSums.{linear_closes-weighted, residue_closes-constant, residue_closes-denied}
@@ -50,7 +50,7 @@ module _ (leaf : LeafModel) (pred : PredModel) (b : Bool) (opened : Fact) (n p :
   a_move : Move
   a_move = record { p = 0; q = 0; r = 0; s = 0 }
 
-  pub value_closes : (w : ℕ → ℤ) → may_add (pos 1) opened ≡ true → ((i : ℕ) → i < length leaf.inputs → (w (get_or leaf.inputs i 0) +ℤ get_or coefs i (pos 0)) ≤ℤ pos 0) → All (λ m. (w m.r +ℤ w m.s) ≤ℤ (w m.p +ℤ w m.q)) leaf.moves → ((z : ℕ) → z < length leaf.states → z ≢ p → can_meet leaf p z ≡ false → pos 0 ≤ℤ w z) → (constant -ℤ w p) ≤ℤ negsuc 0 → linear_closes facts (terms_from 0 (by_values w (pos 1))) ≡ true
+  pub value_closes : (w : ℕ → ℤ) → may_add (pos 1) opened ≡ true → ((i : ℕ) → i < length leaf.inputs → (w (get_or leaf.inputs i 0) +ℤ get_or coefs i (pos 0)) ≤ℤ pos 0) → All (λ m. (w m.r +ℤ w m.s) ≤ℤ (w m.p +ℤ w m.q)) leaf.moves → ((z : ℕ) → z < length leaf.states → z ≢ p → can_meet leaf p z ≡ false → pos 0 ≤ℤ w z) → (constant -ℤ w p) ≤ℤ negsuc 0 → closes_by_sum facts (terms_from 0 (by_values w (pos 1))) ≡ true
   value_closes w may at_inputs at_moves at_states last =
       linear_closes-weighted facts (by_values w (pos 1))
       (may_leader may_add (λ a row. refl) leaf pred b opened n p (value_mix w (pos 1) p) twin refl may)
@@ -71,7 +71,7 @@ module _ (leaf : LeafModel) (pred : PredModel) (b : Bool) (opened : Fact) (n p :
   minus_one a = *ℤ_comm (negsuc 0) a ∙ mul-neg a (pos 1) ∙ ap neg_ℤ (times-one a)
 
   -- the opened fact is a congruence
-  pub residue_closes-true : (m : ℕ) (w : ℕ → ℤ) → divides m (pos 0) ≡ true → may_add_modulo m (negsuc 0) opened ≡ true → AreEven m w → divides m (neg_ℤ constant -ℤ w p) ≡ false → residue_closes facts m (terms_from 0 (by_values w (negsuc 0))) ≡ true
+  pub residue_closes-true : (m : ℕ) (w : ℕ → ℤ) → divides m (pos 0) ≡ true → may_add_modulo m (negsuc 0) opened ≡ true → AreEven m w → divides m (neg_ℤ constant -ℤ w p) ≡ false → closes_by_residue facts m (terms_from 0 (by_values w (negsuc 0))) ≡ true
   residue_closes-true m w none may even odd =
       residue_closes-constant facts m (by_values w (negsuc 0))
       (may_leader (may_add_modulo m) (λ a row. refl) leaf pred b opened n p (value_mix w (negsuc 0) p) twin refl may)
@@ -84,13 +84,13 @@ module _ (leaf : LeafModel) (pred : PredModel) (b : Bool) (opened : Fact) (n p :
 
   opened_there : Contains facts opened
   opened_there =
-      Contains-append_left (facts_without leaf (facts_of_trap leaf (base_facts leaf pred b) opened n) p) _ opened
-      (Contains-append_left (facts_of_trap leaf (base_facts leaf pred b) opened n) _ opened
-      (Contains-append_left (base_facts leaf pred b ++ opened ∷ []) _ opened
-      (Contains-append_right (base_facts leaf pred b) (opened ∷ []) opened (0, (let e : 0 < length (opened ∷ []) = omega arith in e), refl))))
+      Contains-append_left (facts_without leaf (facts_of_trap leaf (base_list leaf pred b) opened n) p) _ opened
+      (Contains-append_left (facts_of_trap leaf (base_list leaf pred b) opened n) _ opened
+      (Contains-append_left (base_list leaf pred b ++ opened ∷ []) _ opened
+      (Contains-append_right (base_list leaf pred b) (opened ∷ []) opened (0, (let e : 0 < length (opened ∷ []) = omega arith in e), refl))))
 
   -- the opened fact says that there is no congruence
-  pub residue_closes-false : (m : ℕ) (w : ℕ → ℤ) → divides m (pos 0) ≡ true → opened ≡ NotCong (input_row coefs constant) m → AreEven m w → divides m (neg_ℤ (w p) -ℤ constant) ≡ true → residue_closes facts m (terms_from 0 (by_values w (pos 0))) ≡ true
+  pub residue_closes-false : (m : ℕ) (w : ℕ → ℤ) → divides m (pos 0) ≡ true → opened ≡ NotCong (input_row coefs constant) m → AreEven m w → divides m (neg_ℤ (w p) -ℤ constant) ≡ true → closes_by_residue facts m (terms_from 0 (by_values w (pos 0))) ≡ true
   residue_closes-false m w none opened_is even same =
       residue_closes-denied facts m (by_values w (pos 0)) (input_row coefs constant) (subst (Contains facts) opened_is opened_there)
       (may_leader (may_add_modulo m) (λ a row. refl) leaf pred b opened n p (value_mix w (pos 0) p) twin refl refl)

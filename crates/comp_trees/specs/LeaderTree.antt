@@ -10,19 +10,19 @@ use Rattle.cert_base.specs.declared.fact.Fact.TheVariants.{Ge}
 use Rattle.cert_base.specs.declared.node.Node.{Node}
 use Rattle.cert_base.specs.declared.node.Node.TheVariants.{Linear, Present, Trap, Open}
 use Rattle.cert_base.specs.Rows.{terms_from, zeros}
-use Rattle.cert_base.specs.FactsAndCases.{indicator, differs, states_of, can_meet, absent, occurs, alone, count_in}
+use Rattle.cert_base.specs.FactsAndCases.{indicator, differs, states_of, can_meet, absent, occurs, alone, count_row}
 
 -- the leaders
 abbrev pub leaders : ℕ → List ℕ
 leaders n = range_with_len 0 n
 
 -- the states that a leader's presence rules out
-abbrev pub company : LeafModel → ℕ → List ℕ
-company leaf p = filter (λ q. not (q == p) && can_meet leaf p q) (states_of leaf)
+abbrev pub company_of : LeafModel → ℕ → List ℕ
+company_of leaf p = filter (λ q. not (q == p) && can_meet leaf p q) (states_of leaf)
 
 -- the facts above the leaders' nodes, and those above the node of a leader that is present
 abbrev pub facts_of_trap : LeafModel → List Fact → Fact → ℕ → List Fact
-facts_of_trap leaf base opened n = (base ++ opened ∷ []) ++ Ge (count_in leaf (leaders n) (negsuc 0)) ∷ []
+facts_of_trap leaf base opened n = (base ++ opened ∷ []) ++ Ge (count_row leaf (leaders n) (negsuc 0)) ∷ []
 
 abbrev pub facts_without : LeafModel → List Fact → ℕ → List Fact
 facts_without leaf facts p = facts ++ map (absent leaf) (range_with_len 0 p)
@@ -30,7 +30,7 @@ facts_without leaf facts p = facts ++ map (absent leaf) (range_with_len 0 p)
 abbrev pub facts_of_leader : LeafModel → List Fact → ℕ → List Fact
 facts_of_leader leaf facts p =
     facts_without leaf facts p
-    ++ ((occurs leaf p ∷ map (absent leaf) (company leaf p)) ++ (if can_meet leaf p p then (alone leaf p ∷ []) else []))
+    ++ ((occurs leaf p ∷ map (absent leaf) (company_of leaf p)) ++ (if can_meet leaf p p then (alone leaf p ∷ []) else []))
 
 -- the multipliers of a leader's node
 pub record LeaderMix : Type 0 where

@@ -2,7 +2,7 @@
 
 ghost use Rattle.std.specs.Prelude.{◌≡◌, ◌∷◌, ◌++◌, [], pos, map, All, slice_index_or, ◌<◌, ◌≤◌, ◌^◌, length, IfOk};
 ghost use Rattle.cert_base.specs.Rows.{terms_from};
-ghost use Rattle.comp_trees.specs.LeaderTree.{weighed as weighed_by, mix_by, mix_of_leader, company as company_of};
+ghost use Rattle.comp_trees.specs.LeaderTree.{weighed as weighed_by, mix_by, mix_of_leader, company_of};
 ghost use Rattle.comp_trees.specs.LeaderTree.{above as above_list};
 
 use crate::others::company;

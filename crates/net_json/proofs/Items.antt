@@ -11,7 +11,7 @@ use Rattle.json_shape.specs.Paths.{item_path}
 use Rattle.json_shape.proofs.FaultLemmas.{Fails-said}
 use Rattle.pop_net.specs.declared.net.Item.{Item}
 use Rattle.pop_net.specs.declared.net.Item.TheVariants.{Leaf, Not, And, Or}
-use Rattle.pop_net.specs.NetModel.{after_item, after_items, depths}
+use Rattle.pop_net.specs.NetModel.{after_item, after_items, depth_operators}
 use Rattle.pop_net.specs.NetFaults.{are_low}
 use Rattle.net_json.specs.Examined.{operand_at, open_depths, item_at, combine_item}
 use Rattle.net_json.proofs.Postfix.{after_items-append}
@@ -27,15 +27,15 @@ then_some_same None = refl
 then_some_same (Some x) = refl
 
 -- the trees after one more item
-pub open_next : (items : List Item) (trees : List ℕ) (item : Item) → open_depths items ≡ Some trees → open_depths (items ++ item ∷ []) ≡ after_item depths item trees
+pub open_next : (items : List Item) (trees : List ℕ) (item : Item) → open_depths items ≡ Some trees → open_depths (items ++ item ∷ []) ≡ after_item depth_operators item trees
 open_next items trees item is =
-    after_items-append depths items (item ∷ []) [] ∙ ap (option_and_then (after_items depths (item ∷ []))) is ∙ then_some_same (after_item depths item trees)
+    after_items-append depth_operators items (item ∷ []) [] ∙ ap (option_and_then (after_items depth_operators (item ∷ []))) is ∙ then_some_same (after_item depth_operators item trees)
 
 abbrev length_of : Option (List ℕ) → ℕ
 length_of None = 0
 length_of (Some ds) = length ds
 
-pub after_item-length : (item : Item) (trees after : List ℕ) → after_item depths item trees ≡ Some after → length after ≤ length trees + 1
+pub after_item-length : (item : Item) (trees after : List ℕ) → after_item depth_operators item trees ≡ Some after → length after ≤ length trees + 1
 after_item-length (Leaf i) trees after e = let is : 1 ∷ trees ≡ after = cc in subst (λ (ds : List ℕ). length ds ≤ length trees + 1) is (omega arith)
 after_item-length Not [] after e = absurd cc
 after_item-length Not (d ∷ ds) after e = let is : (d + 1) ∷ ds ≡ after = cc in subst (λ (xs : List ℕ). length xs ≤ length (d ∷ ds) + 1) is (omega arith)
@@ -55,12 +55,12 @@ module _ (path : List ℕ) (leaves : ℕ) (found : List Item) (i : ℕ) (d : Dat
   unfolding item_at
   operand-fails e failed = fails_on e (operand_at (item_path path i) leaves d (as_str d)) _ failed
 
-  pub shape-fails : (e : FormatFault) (item : Item) (trees : List ℕ) → operand_at (item_path path i) leaves d (as_str d) ≡ Ok item → open_depths found ≡ Some trees → are_low (after_item depths item trees) ≡ false → Says e (item_path path i) Shape → Fails e (combine_item path leaves found i d)
+  pub shape-fails : (e : FormatFault) (item : Item) (trees : List ℕ) → operand_at (item_path path i) leaves d (as_str d) ≡ Ok item → open_depths found ≡ Some trees → are_low (after_item depth_operators item trees) ≡ false → Says e (item_path path i) Shape → Fails e (combine_item path leaves found i d)
   unfolding item_at
   shape-fails e item trees read is high said =
       Fails-said e (item_path path i) Shape (combine_item path leaves found i d) said (rw (read, open_next found trees item is, high) refl)
 
-  pub item-goes : (item : Item) (trees : List ℕ) → operand_at (item_path path i) leaves d (as_str d) ≡ Ok item → open_depths found ≡ Some trees → are_low (after_item depths item trees) ≡ true → combine_item path leaves found i d ≡ Ok item
+  pub item-goes : (item : Item) (trees : List ℕ) → operand_at (item_path path i) leaves d (as_str d) ≡ Ok item → open_depths found ≡ Some trees → are_low (after_item depth_operators item trees) ≡ true → combine_item path leaves found i d ≡ Ok item
   unfolding item_at
   item-goes item trees read is low = rw (read, open_next found trees item is, low) refl
 

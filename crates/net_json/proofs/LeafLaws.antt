@@ -6,7 +6,7 @@ use Rattle.std.specs.List.{list_any}
 use Rattle.std.specs.Str.{bytes_eq}
 use Rattle.serde_json.specs.Data.{Data}
 use Rattle.serde_json.specs.Find.{as_array}
-use Rattle.pop_io.specs.Names.{is_state_name, AreNames}
+use Rattle.pop_io.specs.Names.{state_name, AreNames}
 use Rattle.json_shape.specs.declared.fault.Why.TheVariants.{Name}
 use Rattle.json_shape.specs.Faults.{Fault, ◌>>=◌, broken}
 use Rattle.json_shape.specs.Paths.{member_path, item_path}
@@ -197,18 +197,18 @@ module _ (format variables : ℕ) (known : (format ≡ PLAIN_FORMAT) ⊎ (format
 
   -- the leaf of the lists that were read
   leaf_of : (range : Option (ℕ × ℕ)) (path : List ℕ) (d : Data) (ss : List (List ℕ)) (ts : List Move) (qs : List ℕ) (bs : List Bool) (hs : List ℕ)
-      → member_by path (codes "states") (names_at is_state_name STATE_LIMIT) d ≡ Ok ss
+      → member_by path (codes "states") (names_at state_name STATE_LIMIT) d ≡ Ok ss
       → member_by path (codes "moves") (moves_at (length ss)) d ≡ Ok ts
       → member_by path (codes "input") (inputs_at variables (length ss)) d ≡ Ok qs
       → member_by path (codes "output") (outputs_at (length ss)) d ≡ Ok bs
       → helpers_at range (length ss) path d ≡ Ok hs
       → (let leaf : LeafModel = record { states = ss; moves = ts; inputs = qs; outputs = bs; helpers = hs } in ((TellsHelpers range hs d → AreHelpers format hs d) → IsLeafFile format leaf d) × (IfSome range (λ r. r.1 ≤ HELPER_LIMIT) → IsLeaf leaf) × (length leaf.inputs ≡ variables) × TellsHelpers range hs d × Allows range hs)
   leaf_of range path d ss ts qs bs hs s m q o h =
-      let s' = bind_ok (member_at path (codes "states") d) (λ e. names_at is_state_name STATE_LIMIT (member_path path (codes "states")) e) ss s in
+      let s' = bind_ok (member_at path (codes "states") d) (λ e. names_at state_name STATE_LIMIT (member_path path (codes "states")) e) ss s in
       let m' = bind_ok (member_at path (codes "moves") d) (λ e. moves_at (length ss) (member_path path (codes "moves")) e) ts m in
       let q' = bind_ok (member_at path (codes "input") d) (λ e. inputs_at variables (length ss) (member_path path (codes "input")) e) qs q in
       let o' = bind_ok (member_at path (codes "output") d) (λ e. outputs_at (length ss) (member_path path (codes "output")) e) bs o in
-      let st = names_at-takes is_state_name STATE_LIMIT (member_path path (codes "states")) s'.0 ss s'.2 in
+      let st = names_at-takes state_name STATE_LIMIT (member_path path (codes "states")) s'.0 ss s'.2 in
       let mt = moves_at-takes (length ss) st.2 (member_path path (codes "moves")) m'.0 ts m'.2 in
       let qt = states_at-takes (length ss) st.2 variables variables (member_path path (codes "input")) q'.0 qs q'.2 in
       let ot = outputs_at-takes (length ss) st.2 (member_path path (codes "output")) o'.0 bs o'.2 in
@@ -246,7 +246,7 @@ module _ (format variables : ℕ) (known : (format ≡ PLAIN_FORMAT) ⊎ (format
   -- the lists that were read make a leaf
   pub leaf_read : (range : Option (ℕ × ℕ)) (path : List ℕ) (d e f g h : Data) (n : ℕ) (ss : List (List ℕ)) (ts : List Move) (qs : List ℕ) (bs : List Bool) (hs : List ℕ) → n ≡ length ss
       → IfSome range (λ r. r.1 ≤ HELPER_LIMIT)
-      → member_at path (codes "states") d ≡ Ok e → names_at is_state_name STATE_LIMIT (member_path path (codes "states")) e ≡ Ok ss
+      → member_at path (codes "states") d ≡ Ok e → names_at state_name STATE_LIMIT (member_path path (codes "states")) e ≡ Ok ss
       → member_at path (codes "moves") d ≡ Ok f → moves_at n (member_path path (codes "moves")) f ≡ Ok ts
       → member_at path (codes "input") d ≡ Ok g → inputs_at variables n (member_path path (codes "input")) g ≡ Ok qs
       → member_at path (codes "output") d ≡ Ok h → outputs_at n (member_path path (codes "output")) h ≡ Ok bs
@@ -270,7 +270,7 @@ module _ (format variables : ℕ) (known : (format ≡ PLAIN_FORMAT) ⊎ (format
   leaf_at-takes found path d leaf e =
       let range = helper_range format found in
       let made = λ (ss : List (List ℕ)) (ts : List Move) (qs : List ℕ) (bs : List Bool) (hs : List ℕ). (let o : Result LeafModel Fault = Ok (record { states = ss; moves = ts; inputs = qs; outputs = bs; helpers = hs }) in o) in
-      let names = member_by path (codes "states") (names_at is_state_name STATE_LIMIT) d in
+      let names = member_by path (codes "states") (names_at state_name STATE_LIMIT) d in
       let moves = λ (ss : List (List ℕ)). member_by path (codes "moves") (moves_at (length ss)) d in
       let input = λ (ss : List (List ℕ)). member_by path (codes "input") (inputs_at variables (length ss)) d in
       let output = λ (ss : List (List ℕ)). member_by path (codes "output") (outputs_at (length ss)) d in
@@ -292,7 +292,7 @@ leaf_at-again range format variables path d leaf file told fits is long =
     rw (
       Readers.object_at-again path (codes "states") d file.states.0 file.states.1,
       file.states.1,
-      names_at-again is_state_name STATE_LIMIT (member_path path (codes "states")) file.states.0 leaf.states file.states.2 is.names is.some_state is.states,
+      names_at-again state_name STATE_LIMIT (member_path path (codes "states")) file.states.0 leaf.states file.states.2 is.names is.some_state is.states,
       file.moves.1,
       moves_at-again n is.some_state (member_path path (codes "moves")) file.moves.0 leaf.moves file.moves.2 is.moves is.move_count,
       file.input.1,

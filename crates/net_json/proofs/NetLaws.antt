@@ -7,7 +7,7 @@ use Rattle.std.specs.Str.{bytes_eq}
 use Rattle.std.proofs.lemmas.Slice.Eq.{bytes_eq-Decides}
 use Rattle.serde_json.specs.Data.{Data, null, boolean, number, string, array, object}
 use Rattle.serde_json.specs.Find.{as_str}
-use Rattle.pop_io.specs.Names.{is_variable_name}
+use Rattle.pop_io.specs.Names.{variable_name}
 use Rattle.json_shape.specs.declared.fault.Why.TheVariants.{Name, Shape}
 use Rattle.json_shape.specs.declared.fault.FormatFault.{FormatFault}
 use Rattle.json_shape.specs.declared.fault.FormatFault.TheVariants.{Broken, NoMemory}
@@ -21,7 +21,7 @@ use Rattle.json_shape.proofs.Fresh
 use Rattle.pop_net.specs.declared.net.Item.{Item}
 use Rattle.pop_net.specs.declared.net.Item.TheVariants.{Leaf, Not, And, Or}
 use Rattle.pop_net.specs.LeafModel.{LeafModel, IsLeaf}
-use Rattle.pop_net.specs.NetModel.{NetModel, IsNet, NamesBelow, combined, depths, helpers_of}
+use Rattle.pop_net.specs.NetModel.{NetModel, IsNet, NamesBelow, combined, depth_operators, helpers_of}
 use Rattle.pop_net.specs.NetFaults.{are_low, wide_leaf}
 use Rattle.pop_io.specs.declared.names.TheConstants.{VARIABLE_LIMIT}
 use Rattle.pop_net.specs.declared.limits.TheConstants.{HELPER_LIMIT, LEAF_LIMIT, ITEM_LIMIT, DEPTH_LIMIT}
@@ -93,18 +93,18 @@ module _ (leaves : ℕ) (some_leaf : 1 ≤ leaves) where
   fit_both found [] below placed = tt
   fit_both found (x ∷ xs) below placed = ((below.0, placed.0), fit_both (found ++ x ∷ []) xs below.1 placed.1)
 
-  pub combine_at-takes : (path : List ℕ) (d : Data) (items : List Item) → combine_at leaves path d ≡ Ok items → IsList IsItem items d × All (NamesBelow leaves) items × (length items ≤ ITEM_LIMIT) × IsSomeAnd (combined depths items) (λ n. n ≤ DEPTH_LIMIT)
+  pub combine_at-takes : (path : List ℕ) (d : Data) (items : List Item) → combine_at leaves path d ≡ Ok items → IsList IsItem items d × All (NamesBelow leaves) items × (length items ≤ ITEM_LIMIT) × IsSomeAnd (combined depth_operators items) (λ n. n ≤ DEPTH_LIMIT)
   unfolding combine_at items_at
   combine_at-takes path d items e =
-      let a = bind_ok (items_at leaves path d) (λ xs. cond (is_some (combined depths xs)) (Ok xs) (broken path Shape)) items e in
-      let g = guard_ok (is_some (combined depths a.0)) path Shape a.0 items a.2 in
+      let a = bind_ok (items_at leaves path d) (λ xs. cond (is_some (combined depth_operators xs)) (Ok xs) (broken path Shape)) items e in
+      let g = guard_ok (is_some (combined depth_operators a.0)) path Shape a.0 items a.2 in
       let r = Readers.list-takes (combine_item path leaves) IsItem Fits (item_takes path) path 1 ITEM_LIMIT d a.0 a.1 in
       let below = Fresh.EachFrom-weaker Fits (λ _ x. NamesBelow leaves x) (λ found x fits. fits.0) [] a.0 r.1 in
       let placed = Fresh.EachFrom-weaker Fits IsPlaced (λ found x fits. fits.1) [] a.0 r.1 in
-      subst (λ (xs : List Item). IsList IsItem xs d × All (NamesBelow leaves) xs × (length xs ≤ ITEM_LIMIT) × IsSomeAnd (combined depths xs) (λ n. n ≤ DEPTH_LIMIT)) g.1
+      subst (λ (xs : List Item). IsList IsItem xs d × All (NamesBelow leaves) xs × (length xs ≤ ITEM_LIMIT) × IsSomeAnd (combined depth_operators xs) (λ n. n ≤ DEPTH_LIMIT)) g.1
       (r.0, Fresh.EachFrom-All (NamesBelow leaves) [] a.0 below, r.3, placed-takes a.0 r.2 placed g.0)
 
-  pub combine_at-again : (path : List ℕ) (d : Data) (items : List Item) → IsList IsItem items d → All (NamesBelow leaves) items → length items ≤ ITEM_LIMIT → IsSomeAnd (combined depths items) (λ n. n ≤ DEPTH_LIMIT) → combine_at leaves path d ≡ Ok items
+  pub combine_at-again : (path : List ℕ) (d : Data) (items : List Item) → IsList IsItem items d → All (NamesBelow leaves) items → length items ≤ ITEM_LIMIT → IsSomeAnd (combined depth_operators items) (λ n. n ≤ DEPTH_LIMIT) → combine_at leaves path d ≡ Ok items
   unfolding combine_at items_at
   combine_at-again path d items is below hi one =
       let fits = fit_both [] items (Fresh.All-EachFrom (NamesBelow leaves) [] items below) (placed-again items one) in
@@ -223,18 +223,18 @@ known_format n lo hi = go (eqb_tells n PLAIN_FORMAT)
 -- the net of the lists that were read
 net_of : (path : List ℕ) (d : Data) (format : ℕ) (vars : List (List ℕ)) (leaves : List LeafModel) (items : List Item)
     → member_by path (codes "format") (λ p. number_at p PLAIN_FORMAT HELPER_FORMAT) d ≡ Ok format
-    → member_by path (codes "vars") (names_at is_variable_name VARIABLE_LIMIT) d ≡ Ok vars
+    → member_by path (codes "vars") (names_at variable_name VARIABLE_LIMIT) d ≡ Ok vars
     → member_by path (codes "leaves") (leaves_at format (length vars)) d ≡ Ok leaves
     → member_by path (codes "combine") (combine_at (length leaves)) d ≡ Ok items
     → wide_leaf leaves ≡ None
     → IsNetFile (record { variables = vars; leaves = leaves; combine = items }) d
 net_of path d format vars leaves items f v l c narrow =
     let f' = bind_ok (member_at path (codes "format") d) (λ e. number_at (member_path path (codes "format")) PLAIN_FORMAT HELPER_FORMAT e) format f in
-    let v' = bind_ok (member_at path (codes "vars") d) (λ e. names_at is_variable_name VARIABLE_LIMIT (member_path path (codes "vars")) e) vars v in
+    let v' = bind_ok (member_at path (codes "vars") d) (λ e. names_at variable_name VARIABLE_LIMIT (member_path path (codes "vars")) e) vars v in
     let l' = bind_ok (member_at path (codes "leaves") d) (λ e. leaves_at format (length vars) (member_path path (codes "leaves")) e) leaves l in
     let c' = bind_ok (member_at path (codes "combine") d) (λ e. combine_at (length leaves) (member_path path (codes "combine")) e) items c in
     let ft = Readers.number_at-takes (member_path path (codes "format")) PLAIN_FORMAT HELPER_FORMAT f'.0 format f'.2 in
-    let vt = names_at-takes is_variable_name VARIABLE_LIMIT (member_path path (codes "vars")) v'.0 vars v'.2 in
+    let vt = names_at-takes variable_name VARIABLE_LIMIT (member_path path (codes "vars")) v'.0 vars v'.2 in
     let lt = leaves_at-takes format (length vars) (known_format format ft.1 ft.2) vt.2 vt.3 (member_path path (codes "leaves")) l'.0 leaves l'.2 in
     let ct = combine_at-takes (length leaves) lt.2 (member_path path (codes "combine")) c'.0 items c'.2 in
     record {
@@ -262,7 +262,7 @@ net_of path d format vars leaves items f v l c narrow =
 -- the lists that were read make a net
 pub net_read : (path : List ℕ) (d e f g h : Data) (format m n : ℕ) (vars : List (List ℕ)) (leaves : List LeafModel) (items : List Item) → m ≡ length vars → n ≡ length leaves
     → member_at path (codes "format") d ≡ Ok e → number_at (member_path path (codes "format")) PLAIN_FORMAT HELPER_FORMAT e ≡ Ok format
-    → member_at path (codes "vars") d ≡ Ok f → names_at is_variable_name VARIABLE_LIMIT (member_path path (codes "vars")) f ≡ Ok vars
+    → member_at path (codes "vars") d ≡ Ok f → names_at variable_name VARIABLE_LIMIT (member_path path (codes "vars")) f ≡ Ok vars
     → member_at path (codes "leaves") d ≡ Ok g → leaves_at format m (member_path path (codes "leaves")) g ≡ Ok leaves
     → member_at path (codes "combine") d ≡ Ok h → combine_at n (member_path path (codes "combine")) h ≡ Ok items
     → wide_leaf leaves ≡ None
@@ -280,7 +280,7 @@ unfolding net_at
 net_at-takes path d net e =
     let made = λ (vars : List (List ℕ)) (leaves : List LeafModel) (items : List Item). fitting path (wide_leaf leaves) (record { variables = vars; leaves = leaves; combine = items }) in
     let format = member_by path (codes "format") (λ p. number_at p PLAIN_FORMAT HELPER_FORMAT) d in
-    let names = member_by path (codes "vars") (names_at is_variable_name VARIABLE_LIMIT) d in
+    let names = member_by path (codes "vars") (names_at variable_name VARIABLE_LIMIT) d in
     let leaves = λ (format : ℕ) (vars : List (List ℕ)). member_by path (codes "leaves") (leaves_at format (length vars)) d in
     let combine = λ (ls : List LeafModel). member_by path (codes "combine") (combine_at (length ls)) d in
     let a = bind_ok (object_at path d) (λ o. format >>= λ n. names >>= λ vs. leaves n vs >>= λ ls. combine ls >>= λ cs. made vs ls cs) net e in
@@ -319,7 +319,7 @@ net_at-again path d net file =
       file.format.1,
       Readers.number_at-again (member_path path (codes "format")) PLAIN_FORMAT HELPER_FORMAT file.format.0 file.number file.format.2 known.0 known.1,
       file.vars.1,
-      names_at-again is_variable_name VARIABLE_LIMIT (member_path path (codes "vars")) file.vars.0 net.variables file.vars.2 is.variable_names is.some_variable is.variables,
+      names_at-again variable_name VARIABLE_LIMIT (member_path path (codes "vars")) file.vars.0 net.variables file.vars.2 is.variable_names is.some_variable is.variables,
       file.leaves.1,
       leaves_at-again file.number (length net.variables) (member_path path (codes "leaves")) file.leaves.0 net.leaves file.leaves.2 all is.some_leaf is.leaf_count,
       file.combine.1,

@@ -5,7 +5,7 @@ use Rattle.std.specs.List.{list_any}
 use Rattle.std.specs.Str.{bytes_eq}
 use Rattle.serde_json.specs.Data.{Data}
 use Rattle.serde_json.specs.Find.{as_array, as_str}
-use Rattle.pop_io.specs.Names.{is_variable_name, is_state_name}
+use Rattle.pop_io.specs.Names.{variable_name, state_name}
 use Rattle.json_shape.specs.declared.fault.Why.TheVariants.{Kind, Name, Shape}
 use Rattle.json_shape.specs.Faults.{Fault, ◌>>=◌, broken}
 use Rattle.json_shape.specs.Paths.{member_path, item_path}
@@ -14,7 +14,7 @@ use Rattle.pop_net.specs.declared.leaf.Move.{Move}
 use Rattle.pop_net.specs.declared.net.Item.{Item}
 use Rattle.pop_net.specs.declared.net.Item.TheVariants.{Leaf, Not, And, Or}
 use Rattle.pop_net.specs.LeafModel.{LeafModel}
-use Rattle.pop_net.specs.NetModel.{NetModel, after_items, combined, depths}
+use Rattle.pop_net.specs.NetModel.{NetModel, after_items, combined, depth_operators}
 use Rattle.pop_net.specs.NetFaults.{are_low, wide_leaf}
 use Rattle.pop_io.specs.declared.names.TheConstants.{VARIABLE_LIMIT}
 use Rattle.pop_net.specs.declared.limits.TheConstants.{STATE_LIMIT, MOVE_LIMIT, HELPER_LIMIT, LEAF_LIMIT, ITEM_LIMIT}
@@ -84,7 +84,7 @@ outputs_at states path d = each_at truth_item path states states d
 unfoldable pub leaf_at : Option (ℕ × ℕ) → ℕ → List ℕ → Data → Result LeafModel Fault
 leaf_at range variables path d = do
   o ← object_at path d
-  ss ← member_by path (codes "states") (names_at is_state_name STATE_LIMIT) d
+  ss ← member_by path (codes "states") (names_at state_name STATE_LIMIT) d
   ts ← member_by path (codes "moves") (moves_at (length ss)) d
   qs ← member_by path (codes "input") (inputs_at variables (length ss)) d
   bs ← member_by path (codes "output") (outputs_at (length ss)) d
@@ -109,7 +109,7 @@ operand_at path leaves d None = number_at path 0 (leaves - 1) d >>= λ i. Ok (Le
 
 -- the depths of the trees that stand open after these items, the newest first
 abbrev pub open_depths : List Item → Option (List ℕ)
-open_depths items = after_items depths items []
+open_depths items = after_items depth_operators items []
 
 -- an item finds its operands, and makes no tree of too great a depth
 unfoldable pub item_at : List ℕ → ℕ → List Item → Data → Result Item Fault
@@ -129,7 +129,7 @@ items_at leaves path d = do
 unfoldable pub combine_at : ℕ → List ℕ → Data → Result (List Item) Fault
 combine_at leaves path d = do
   items ← items_at leaves path d
-  if is_some (combined depths items) then Ok items else broken path Shape
+  if is_some (combined depth_operators items) then Ok items else broken path Shape
 
 -- the net, unless this one of its leaves is wide and too many stand beside it
 abbrev pub fitting : List ℕ → Option ℕ → NetModel → Result NetModel Fault
@@ -140,7 +140,7 @@ unfoldable pub net_at : List ℕ → Data → Result NetModel Fault
 net_at path d = do
   o ← object_at path d
   format ← member_by path (codes "format") (λ p. number_at p PLAIN_FORMAT HELPER_FORMAT) d
-  vars ← member_by path (codes "vars") (names_at is_variable_name VARIABLE_LIMIT) d
+  vars ← member_by path (codes "vars") (names_at variable_name VARIABLE_LIMIT) d
   leaves ← member_by path (codes "leaves") (leaves_at format (length vars)) d
   items ← member_by path (codes "combine") (combine_at (length leaves)) d
   fitting path (wide_leaf leaves) (record { variables = vars; leaves = leaves; combine = items })

@@ -6,7 +6,7 @@ use Rattle.std.proofs.lemmas.List.{set_comm, length-map}
 use Rattle.std.proofs.lemmas.List.Elements.{All-nil, All-cons, All-get_or}
 use Rattle.std.proofs.lemmas.Option.{slice_get_within, slice_get-get_or, get_or_from_slice_get}
 use Rattle.pop_net.specs.declared.leaf.Move.{Move}
-use Rattle.pop_net.specs.LeafModel.{LeafModel, is_silent, same_pair}
+use Rattle.pop_net.specs.LeafModel.{LeafModel, silent_move, same_pair}
 use Rattle.pop_net.specs.NetModel.{NetModel, CrowdModel, IsTuple, state_of}
 use Rattle.pop_net.specs.Step.{Follows, LeafChange, LeafStep}
 use Rattle.pop_net.specs.Reachable.{Leads}
@@ -38,7 +38,7 @@ turned x y u v e = go (same_pair_cases x y u v e)
     go (inl h) = rw (← h.0, ← h.1) (pair_itself x y)
     go (inr h) = rw (eq-eqb u y (sym h.1), eq-eqb v x (sym h.0)) (or_true _)
 
-takes_own : (t : Move) → is_silent t ≡ false → takes t.p t.q t ≡ true
+takes_own : (t : Move) → silent_move t ≡ false → takes t.p t.q t ≡ true
 takes_own t e = rw (e, pair_itself t.p t.q) refl
 
 finds_none : (p : Move → Bool) (moves : List Move) (n : ℕ) (t : Move) → slice_get moves n ≡ Some t → p t ≡ true → find p moves ≡ None → ⊥
@@ -59,27 +59,27 @@ module _ (moves : List Move) (single : AllPairs Differ moves) where
       rw (← get_or_from_slice_get moves i t t ht, ← get_or_from_slice_get moves j u t hu) (single i j t l (slice_get_within moves j u hu))
 
   -- a non-silent move is the only one that takes its own states
-  the_only : (n k : ℕ) (t u : Move) → slice_get moves n ≡ Some t → slice_get moves k ≡ Some u → is_silent t ≡ false → takes t.p t.q u ≡ true → u ≡ t
+  the_only : (n k : ℕ) (t u : Move) → slice_get moves n ≡ Some t → slice_get moves k ≡ Some u → silent_move t ≡ false → takes t.p t.q u ≡ true → u ≡ t
   the_only n k t u ht hu e f = go (cases_lt k n) (cases_lt n k)
     where
-      loud : is_silent u ≡ false
-      loud = not_true (is_silent u) (and_left (not (is_silent u)) (same_pair t.p t.q u.p u.q) f)
+      loud : silent_move u ≡ false
+      loud = not_true (silent_move u) (and_left (not (silent_move u)) (same_pair t.p t.q u.p u.q) f)
 
       same : same_pair t.p t.q u.p u.q ≡ true
-      same = and_right (not (is_silent u)) (same_pair t.p t.q u.p u.q) f
+      same = and_right (not (silent_move u)) (same_pair t.p t.q u.p u.q) f
 
       go : (k < n) ⊎ (n ≤ k) → (n < k) ⊎ (k ≤ n) → u ≡ t
       go (inl l) m = let d = apart k n u t l hu ht loud e in let s = turned t.p t.q u.p u.q same in absurd (let f : true ≡ false = sym s ∙ d in cc)
       go (inr l) (inl m) = let d = apart n k t u m ht hu e loud in absurd (let f : true ≡ false = sym same ∙ d in cc)
       go (inr l) (inr m) = let at : k ≡ n = omega arith in let hu' : slice_get moves n ≡ Some u = rw at at hu in cc
 
-  found_by : (n : ℕ) (t : Move) → slice_get moves n ≡ Some t → is_silent t ≡ false → (found : Option Move) → find (takes t.p t.q) moves ≡ found → found ≡ Some t
+  found_by : (n : ℕ) (t : Move) → slice_get moves n ≡ Some t → silent_move t ≡ false → (found : Option Move) → find (takes t.p t.q) moves ≡ found → found ≡ Some t
   found_by n t h e None f = absurd (finds_none (takes t.p t.q) moves n t h (takes_own t e) f)
   found_by n t h e (Some u) f =
       let s = find_some (takes t.p t.q) moves u f in ap Some (the_only n s.0 t u h s.1 e s.2)
 
 -- so the reaction of its states is the move
-single_reaction : (leaf : LeafModel) → IsSingleLeaf leaf → (n : ℕ) (t : Move) → slice_get leaf.moves n ≡ Some t → is_silent t ≡ false → leaf_reaction leaf t.p t.q ≡ (t.r, t.s)
+single_reaction : (leaf : LeafModel) → IsSingleLeaf leaf → (n : ℕ) (t : Move) → slice_get leaf.moves n ≡ Some t → silent_move t ≡ false → leaf_reaction leaf t.p t.q ≡ (t.r, t.s)
 single_reaction leaf single n t h e =
     ap (by_move t.p t.q) (found_by leaf.moves single n t h e (find (takes t.p t.q) leaf.moves) refl)
     ∙ (let first : by_move t.p t.q (Some t) ≡ (t.r, t.s) = rw (eq-eqb t.p t.p refl, eq-eqb t.q t.q refl) refl in first)
@@ -92,7 +92,7 @@ record Taken (leaf : LeafModel) (before after : List ℕ) : Type 0 where
   number : ℕ
   taken : Move
   listed : slice_get leaf.moves number ≡ Some taken
-  non_silent : is_silent taken ≡ false
+  non_silent : silent_move taken ≡ false
   a_had : slice_get before a ≡ Some taken.p
   b_had : slice_get before b ≡ Some taken.q
   others_stay : after ≡ slice_set (slice_set before a taken.r) b taken.s

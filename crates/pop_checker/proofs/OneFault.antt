@@ -11,7 +11,7 @@ use Rattle.cert_base.specs.declared.node.Node.{Node}
 use Rattle.cert_base.specs.declared.proof.LeafProof.{LeafProof}
 use Rattle.cert_base.specs.declared.proof.Proof.{Proof}
 use Rattle.cert_base.specs.Closes.{Closes}
-use Rattle.cert_base.specs.FactsAndCases.{base_facts}
+use Rattle.cert_base.specs.FactsAndCases.{base_list}
 use Rattle.cert_base.specs.ValidLayers.{ValidLayers}
 use Rattle.cert_base.specs.ValidProof.{ValidLeafProof, ValidProof}
 use Rattle.cert_layers.specs.declared.fault.LayerFault.{LayerFault}
@@ -83,7 +83,7 @@ one_tree_fault leaf p value nodes (Broken n why) TreeMemory f g some more = absu
 one_tree_fault leaf p value nodes (Broken n why) (Broken m reason) f g some more =
     same_fault (n, why) (m, reason) (sym f ∙ g)
 
-not_closed : (leaf : LeafModel) (p : PredModel) (value : Bool) (nodes : List Node) (fault : TreeFault) → Closes leaf (base_facts leaf p value) nodes [] → IsTreeFault leaf p value nodes fault → fault ≢ TreeMemory → ⊥
+not_closed : (leaf : LeafModel) (p : PredModel) (value : Bool) (nodes : List Node) (fault : TreeFault) → Closes leaf (base_list leaf p value) nodes [] → IsTreeFault leaf p value nodes fault → fault ≢ TreeMemory → ⊥
 not_closed leaf p value nodes fault closes is some = some (only_memory leaf p value nodes fault is closes)
 
 -- ---- a leaf's proof
@@ -201,8 +201,3 @@ one_check_fault net p proof (Rejects r) (Rejects s) f g some more =
     ap (λ (x : Rejected). Rejects x) (one_rejected net p proof r s f g)
 one_check_fault net p proof (Rejects r) NoMemory f g some more = absurd (more refl)
 one_check_fault net p proof NoMemory other f g some more = absurd (some refl)
-
--- a valid proof is refused for out of memory alone
-pub valid_fault : (net : NetModel) (p : PredModel) (proof : Proof) (fault : CheckFault) → ValidProof net p proof → IsCheckFault net p proof fault → fault ≡ NoMemory
-valid_fault net p proof (Rejects r) valid f = absurd (none_rejected net p proof r valid f)
-valid_fault net p proof NoMemory valid f = refl

@@ -17,7 +17,7 @@ use Rattle.cert_base.specs.declared.node.Node.TheVariants.{Linear, Residue, Spli
 use Rattle.cert_base.specs.declared.proof.Proof.{Proof}
 use Rattle.cert_base.specs.Rows.{single_row, input_variable, move_variable, variable_count, constant_row}
 use Rattle.cert_base.specs.Valuation.{Valuation, MeetsFact}
-use Rattle.cert_base.specs.FactsAndCases.{states_of, flow, two_agents, wrong_output, base_facts, can_meet, absent, alone, not_twice, present_cases, is_in, takes_from, puts_into, places_from, none_taken, none_started, count_in, trap_cases, siphon_cases, split_cases, open_tree, open_cases, helpers_among, none_helps}
+use Rattle.cert_base.specs.FactsAndCases.{states_of, flow, two_agents, wrong_output, base_list, can_meet, absent, alone, not_twice, present_cases, is_in, takes_from, puts_into, places_from, no_moves, none_started, count_row, trap_cases, siphon_cases, split_cases, open_tree, open_cases, helpers_among, none_helps}
 use Rattle.cert_base.specs.Closes.{name_below, refutes, where_in_range, opened, only_case, cases_of, ClosesUnder, refuted, by_cases, ClosesEach, no_case, next_case, Closes}
 use Rattle.cert_base.specs.Ends.{IsEnd, MeetsAll, MeetsOne, EndsRight}
 use Rattle.cert_base.specs.ValidProof.{ValidProof}
@@ -65,7 +65,7 @@ formed_at [] i f h e = cc
 formed_at (first ∷ facts) zero f h e = let same : first ≡ f = cc in subst (λ (g : Fact). IsFormed g) same h.0
 formed_at (first ∷ facts) (suc i) f h e = formed_at facts i f h.1 e
 
-base_formed : (leaf : LeafModel) (p : PredModel) (value : Bool) → HasAtoms p.variables p.tree → AreFormed (base_facts leaf p value)
+base_formed : (leaf : LeafModel) (p : PredModel) (value : Bool) → HasAtoms p.variables p.tree → AreFormed (base_list leaf p value)
 base_formed leaf p value has =
     append_formed (map (flow leaf) (states_of leaf)) (two_agents leaf ∷ Holds p value ∷ wrong_output leaf value ∷ []) (map_formed (flow leaf) (states_of leaf) (λ q. tt)) (tt, (has, (tt, tt)))
 
@@ -80,7 +80,7 @@ present_formed leaf p =
     let later : AreFormed (map (absent leaf) others ++ twice) = append_formed (map (absent leaf) others) twice (map_formed (absent leaf) others (λ q. tt)) (alone_formed leaf p (can_meet leaf p p)) in
     ((tt, tt), ((tt, later), tt))
 
-taken_formed : (leaf : LeafModel) (test : Move → Bool) → AreFormed (none_taken leaf test)
+taken_formed : (leaf : LeafModel) (test : Move → Bool) → AreFormed (no_moves leaf test)
 taken_formed leaf test = map_formed (λ t. Eq (single_row (move_variable leaf t) (pos 1) (pos 0))) (places_from 0 test leaf.moves) (λ t. tt)
 
 started_formed : (leaf : LeafModel) (set : List ℕ) → AreFormed (none_started leaf set)
@@ -92,12 +92,12 @@ none_helps_formed leaf set false = (tt, tt)
 
 trap_formed : (leaf : LeafModel) (set : List ℕ) → AreCasesFormed (trap_cases leaf set)
 trap_formed leaf set =
-    let unmarked = append_formed (none_taken leaf (puts_into set)) (none_started leaf set) (taken_formed leaf (puts_into set)) (started_formed leaf set) in
-    ((tt, tt), (append_formed (none_taken leaf (puts_into set) ++ none_started leaf set) (Eq (count_in leaf set (pos 0)) ∷ none_helps leaf set) unmarked (tt, none_helps_formed leaf set (helpers_among leaf set == 0)), ((tt, tt), tt)))
+    let unmarked = append_formed (no_moves leaf (puts_into set)) (none_started leaf set) (taken_formed leaf (puts_into set)) (started_formed leaf set) in
+    ((tt, tt), (append_formed (no_moves leaf (puts_into set) ++ none_started leaf set) (Eq (count_row leaf set (pos 0)) ∷ none_helps leaf set) unmarked (tt, none_helps_formed leaf set (helpers_among leaf set == 0)), ((tt, tt), tt)))
 
 siphon_formed : (leaf : LeafModel) (set : List ℕ) → AreCasesFormed (siphon_cases leaf set)
 siphon_formed leaf set =
-    ((tt, tt), ((tt, tt), (append_formed (none_taken leaf (takes_from set)) (Eq (count_in leaf set (pos 0)) ∷ []) (taken_formed leaf (takes_from set)) (tt, tt), tt)))
+    ((tt, tt), ((tt, tt), (append_formed (no_moves leaf (takes_from set)) (Eq (count_row leaf set (pos 0)) ∷ []) (taken_formed leaf (takes_from set)) (tt, tt), tt)))
 
 open_formed : (n : ℕ) (tree : PredTree) (value : Bool) → HasAtoms n tree → AreCasesFormed (open_tree n tree value)
 open_formed n (LessThan coefs bound) true has = ((tt, tt), tt)
@@ -201,7 +201,7 @@ mutual
 -- ---- a leaf, and a net
 
 -- where the nodes close the base facts, every terminal end outputs the value
-pub closes_right : (leaf : LeafModel) (p : PredModel) (value : Bool) (nodes : List Node) → IsLeaf leaf → p.variables ≡ length leaf.inputs → HasAtoms p.variables p.tree → Closes leaf (base_facts leaf p value) nodes [] → EndsRight leaf p.tree value
+pub closes_right : (leaf : LeafModel) (p : PredModel) (value : Bool) (nodes : List Node) → IsLeaf leaf → p.variables ≡ length leaf.inputs → HasAtoms p.variables p.tree → Closes leaf (base_list leaf p value) nodes [] → EndsRight leaf p.tree value
 closes_right leaf p value nodes is over has closes =
     ends_right leaf p.tree value
     (λ count wrong. closes_none closes is (base_formed leaf p value has) count wrong.reached (wrong_ends-met leaf p value is over count wrong))

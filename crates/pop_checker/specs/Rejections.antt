@@ -5,7 +5,7 @@ use Rattle.pop_net.specs.LeafModel.{LeafModel}
 use Rattle.pop_net.specs.NetModel.{NetModel}
 use Rattle.cert_base.specs.declared.proof.Proof.{Proof}
 use Rattle.cert_base.specs.declared.proof.LeafProof.{LeafProof}
-use Rattle.cert_base.specs.FactsAndCases.{base_facts}
+use Rattle.cert_base.specs.FactsAndCases.{base_list}
 use Rattle.cert_base.specs.ValidLayers.{ValidLayers}
 use Rattle.cert_base.specs.Closes.{Closes}
 use Rattle.cert_base.specs.ValidProof.{ValidLeafProof, CombinesTo}
@@ -33,7 +33,7 @@ abbrev pub RejectsTree : LeafModel → LeafProof → Bool → TreeFault → Type
 RejectsTree leaf part true fault =
     ValidLayers leaf part.layers × IsTreeFault leaf part.pred true part.on_true fault × (fault ≢ TreeMemory)
 RejectsTree leaf part false fault =
-    ValidLayers leaf part.layers × Closes leaf (base_facts leaf part.pred true) part.on_true [] × IsTreeFault leaf part.pred false part.on_false fault
+    ValidLayers leaf part.layers × Closes leaf (base_list leaf part.pred true) part.on_true [] × IsTreeFault leaf part.pred false part.on_false fault
     × (fault ≢ TreeMemory)
 
 -- leaf i and its proof are the first that are rejected

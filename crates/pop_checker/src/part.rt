@@ -1,7 +1,7 @@
 //! The check of one leaf's part of a proof.
 
 ghost use Rattle.std.specs.Prelude.{◌≡◌, ◌≤◌, ◌*◌, [], length, All, IfOk, IfErr, OnOk};
-ghost use Rattle.cert_base.specs.FactsAndCases.{base_facts as base_list};
+ghost use Rattle.cert_base.specs.FactsAndCases.{base_list};
 ghost use Rattle.cert_base.specs.Closes.{Closes};
 ghost use Rattle.cert_base.specs.Ends.{EndsRight};
 ghost use Rattle.cert_base.specs.ProofBound.{layers_bound};

@@ -17,16 +17,16 @@ starts_name [] = false
 starts_name (b ∷ bytes) = is_name_start b
 
 -- a variable's name: 1 to NAME_LIMIT letters, digits and `_`, no digit first, and not `mod`
-abbrev pub is_variable_name : List ℕ → Bool
-is_variable_name name = starts_name name && list_all is_name_byte name && nat_le (length name) NAME_LIMIT && not (bytes_eq name (codes "mod"))
+abbrev pub variable_name : List ℕ → Bool
+variable_name name = starts_name name && list_all is_name_byte name && nat_le (length name) NAME_LIMIT && not (bytes_eq name (codes "mod"))
 
 -- a printed character that is no blank and no `/`
 abbrev pub is_printed : ℕ → Bool
 is_printed b = nat_le 33 b && nat_le b 126 && not (b == 47)
 
 -- a state's name: 1 to NAME_LIMIT printed bytes, no blank and no `/` among them
-abbrev pub is_state_name : List ℕ → Bool
-is_state_name name = nat_le 1 (length name) && list_all is_printed name && nat_le (length name) NAME_LIMIT
+abbrev pub state_name : List ℕ → Bool
+state_name name = nat_le 1 (length name) && list_all is_printed name && nat_le (length name) NAME_LIMIT
 
 -- names of one form, of which no two are equal
 abbrev pub AreNames : (List ℕ → Bool) → List (List ℕ) → Type 0

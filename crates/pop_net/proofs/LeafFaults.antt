@@ -3,7 +3,7 @@ use Rattle.std.proofs.Common.{◌≡◌, inl, inr, ℕ, ◌<◌, ◌≤◌, ◌&
 use Rattle.std.specs.Prelude.{None, Decides, All}
 use Rattle.std.proofs.lemmas.Bool.Decides.{Decides-eqb, Decides-ltb, Decides-and, Decides-like}
 use Rattle.std.proofs.lemmas.Bool.{leb-true, le-leb}
-use Rattle.pop_io.specs.Names.{AreNames, is_state_name}
+use Rattle.pop_io.specs.Names.{AreNames, state_name}
 use Rattle.pop_io.specs.declared.names.TheConstants.{VARIABLE_LIMIT}
 use Rattle.pop_net.specs.declared.limits.TheConstants.{STATE_LIMIT, MOVE_LIMIT, HELPER_LIMIT}
 use Rattle.pop_net.specs.declared.leaf.Move.{Move}
@@ -27,13 +27,13 @@ move_below n t =
 -- the rules, one after the other
 abbrev KeepsRules : LeafModel → Type 0
 KeepsRules leaf =
-    ((1 ≤ length leaf.states) × (length leaf.states ≤ STATE_LIMIT)) × (AreNames is_state_name leaf.states × ((length leaf.moves ≤ MOVE_LIMIT) × (All (IsMoveBelow (length leaf.states)) leaf.moves
+    ((1 ≤ length leaf.states) × (length leaf.states ≤ STATE_LIMIT)) × (AreNames state_name leaf.states × ((length leaf.moves ≤ MOVE_LIMIT) × (All (IsMoveBelow (length leaf.states)) leaf.moves
     × (((1 ≤ length leaf.inputs) × (length leaf.inputs ≤ VARIABLE_LIMIT)) × (All (λ q. q < length leaf.states) leaf.inputs × ((length leaf.outputs ≡ length leaf.states) × ((length leaf.helpers ≤ HELPER_LIMIT) × (All (λ q. q < length leaf.states) leaf.helpers × Unit {0}))))))))
 
 rules_of : (leaf : LeafModel) → NoneIff (fault_of_leaf leaf) (KeepsRules leaf)
 rules_of leaf =
     first_of-cons _ _ (none_unless _ _ (within 1 STATE_LIMIT (length leaf.states)))
-    (first_of-cons _ _ (none_map fault.Name _ (none_bad is_state_name leaf.states))
+    (first_of-cons _ _ (none_map fault.Name _ (none_bad state_name leaf.states))
     (first_of-cons _ _ (none_unless _ _ (Decides-le (length leaf.moves) MOVE_LIMIT))
     (first_of-cons _ _ (none_map fault.Move _ (none_position (is_move_below (length leaf.states)) (IsMoveBelow (length leaf.states)) (move_below (length leaf.states)) leaf.moves))
     (first_of-cons _ _ (none_unless _ _ (within 1 VARIABLE_LIMIT (length leaf.inputs)))

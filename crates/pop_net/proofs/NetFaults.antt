@@ -4,14 +4,14 @@ use Rattle.std.specs.Prelude.{None, All, IsSomeAnd, ◌==◌, position, if◌the
 use Rattle.std.proofs.lemmas.List.Folds.{list_any_none, list_any_at}
 use Rattle.std.proofs.lemmas.Bool.{not-true, false≢true, false_from_ne_true, ltb-true, ltb-false}
 use Rattle.std.proofs.lemmas.Bool.Decides.{Decides-eqb}
-use Rattle.pop_io.specs.Names.{AreNames, is_variable_name}
+use Rattle.pop_io.specs.Names.{AreNames, variable_name}
 use Rattle.pop_net.specs.declared.net.Item.{Item}
 use Rattle.pop_net.specs.declared.fault.NetFault.{NetFault}
 use Rattle.pop_net.specs.declared.fault.NetFault.TheVariants as fault
 use Rattle.pop_net.specs.LeafModel.{LeafModel, IsLeaf}
 use Rattle.pop_io.specs.declared.names.TheConstants.{VARIABLE_LIMIT}
 use Rattle.pop_net.specs.declared.limits.TheConstants.{LEAF_LIMIT, ITEM_LIMIT, WIDE_LEAF_LIMIT, DEPTH_LIMIT}
-use Rattle.pop_net.specs.NetModel.{NetModel, IsNet, combined, depths, helper_count, is_wide_leaf, is_wide}
+use Rattle.pop_net.specs.NetModel.{NetModel, IsNet, combined, depth_operators, helper_count, is_wide_leaf, is_wide}
 use Rattle.pop_net.specs.NetFaults.{fault_of_net, net_fault, wide_leaf, IsTree, RefusesNet}
 use Rattle.pop_net.proofs.FirstFault.{NoneIff, first_of-nil, first_of-cons, none_unless, none_map, none_position, none_bad}
 use Rattle.pop_net.proofs.LeafFaults.{within}
@@ -49,14 +49,14 @@ none_wide leaves = go (nat_lt WIDE_LEAF_LIMIT (length leaves)) refl
 
 abbrev KeepsRules : NetModel → Type 0
 KeepsRules net =
-    ((1 ≤ length net.variables) × (length net.variables ≤ VARIABLE_LIMIT)) × (AreNames is_variable_name net.variables × (((1 ≤ length net.leaves) × (length net.leaves ≤ LEAF_LIMIT))
+    ((1 ≤ length net.variables) × (length net.variables ≤ VARIABLE_LIMIT)) × (AreNames variable_name net.variables × (((1 ≤ length net.leaves) × (length net.leaves ≤ LEAF_LIMIT))
     × (All (λ (leaf : LeafModel). length leaf.inputs ≡ length net.variables) net.leaves × (((1 ≤ length net.combine) × (length net.combine ≤ ITEM_LIMIT)) × (IsTree (length net.leaves) net.combine
     × (All (λ (leaf : LeafModel). length leaf.helpers ≡ helper_count net) net.leaves × ((is_wide net.leaves ≡ true → length net.leaves ≤ WIDE_LEAF_LIMIT) × Unit {0})))))))
 
 rules_of : (net : NetModel) → NoneIff (fault_of_net net) (KeepsRules net)
 rules_of net =
     first_of-cons _ _ (none_unless _ _ (within 1 VARIABLE_LIMIT (length net.variables)))
-    (first_of-cons _ _ (none_map fault.VarName _ (none_bad is_variable_name net.variables))
+    (first_of-cons _ _ (none_map fault.VarName _ (none_bad variable_name net.variables))
     (first_of-cons _ _ (none_unless _ _ (within 1 LEAF_LIMIT (length net.leaves)))
     (first_of-cons _ _ (none_map fault.LeafInputs _ (none_position (λ (leaf : LeafModel). length leaf.inputs == length net.variables) (λ (leaf : LeafModel). length leaf.inputs ≡ length net.variables) (λ leaf. Decides-eqb (length leaf.inputs) (length net.variables)) net.leaves))
     (first_of-cons _ _ (none_unless _ _ (within 1 ITEM_LIMIT (length net.combine)))
@@ -83,7 +83,7 @@ unbroken_net net leaves e =
       wide = k.1.1.1.1.1.1.1.0;
     }
 
-some_item : (items : List Item) → IsSomeAnd (combined depths items) (λ d. d ≤ DEPTH_LIMIT) → 1 ≤ length items
+some_item : (items : List Item) → IsSomeAnd (combined depth_operators items) (λ d. d ≤ DEPTH_LIMIT) → 1 ≤ length items
 some_item [] h = absurd h
 some_item (item ∷ items) h = omega arith
 

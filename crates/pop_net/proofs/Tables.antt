@@ -8,7 +8,7 @@ use Rattle.std.proofs.lemmas.List.{length-append, length-set, get_or-set_same, g
 use Rattle.std.proofs.Math.Seq.{get_or-append_seam, take-append_seam}
 use Rattle.std.proofs.lemmas.Option.{slice_get-get_or, same_Some}
 use Rattle.pop_net.specs.declared.leaf.Move.{Move}
-use Rattle.pop_net.specs.LeafModel.{is_silent, same_pair, IsMoveBelow}
+use Rattle.pop_net.specs.LeafModel.{silent_move, same_pair, IsMoveBelow}
 use Rattle.pop_net.specs.Reaction.{takes, after_move, by_move}
 use Rattle.pop_net.proofs.Quiet.{All-slice_get}
 use Rattle.pop_net.specs.ReactionTable.{IsTable, entered}
@@ -93,7 +93,7 @@ module _ (n : ℕ) (t : Move) (rest : List Move) (table : List (ℕ × ℕ)) (be
     chosen true = refl
     chosen false = refl
 
-    pub after : (s a b c d : Bool) → is_silent t ≡ s → (x == t.p) ≡ a → (y == t.q) ≡ b → (x == t.q) ≡ c → (y == t.p) ≡ d → by_move x y (find (takes x y) (t ∷ rest)) ≡ by_choice (not s && (a && b || c && d)) (a && b)
+    pub after : (s a b c d : Bool) → silent_move t ≡ s → (x == t.p) ≡ a → (y == t.q) ≡ b → (x == t.q) ≡ c → (y == t.p) ≡ d → by_move x y (find (takes x y) (t ∷ rest)) ≡ by_choice (not s && (a && b || c && d)) (a && b)
     after s a b c d es ea eb ec ed =
         chosen (takes x y t)
         ∙ ap (λ s. by_choice (not s && same_pair x y t.p t.q) ((x == t.p) && (y == t.q))) es
@@ -102,7 +102,7 @@ module _ (n : ℕ) (t : Move) (rest : List Move) (table : List (ℕ × ℕ)) (be
         ∙ ap (λ c. by_choice (not s && (a && b || c && (y == t.p))) (a && b)) ec
         ∙ ap (λ d. by_choice (not s && (a && b || c && d)) (a && b)) ed
 
-  still : is_silent t ≡ true → IsTable n (t ∷ rest) table
+  still : silent_move t ≡ true → IsTable n (t ∷ rest) table
   still e = record { size = h.size; entry = λ x y lx ly. h.entry x y lx ly ∙ sym (ap Some (after x y true (x == t.p) (y == t.q) (x == t.q) (y == t.p) e refl refl refl refl)) }
 
   abbrev half : List (ℕ × ℕ)
@@ -114,7 +114,7 @@ module _ (n : ℕ) (t : Move) (rest : List Move) (table : List (ℕ × ℕ)) (be
   half_size : length half ≡ n * n
   half_size = length-set table (t.q * n + t.p) (t.s, t.r) ∙ h.size
 
-  module _ (e : is_silent t ≡ false) (x y : ℕ) (lx : x < n) (ly : y < n) where
+  module _ (e : silent_move t ≡ false) (x y : ℕ) (lx : x < n) (ly : y < n) where
     abbrev Entry : Type 0
     Entry = slice_get whole (x * n + y) ≡ Some (by_move x y (find (takes x y) (t ∷ rest)))
 
@@ -162,18 +162,18 @@ module _ (n : ℕ) (t : Move) (rest : List Move) (table : List (ℕ × ℕ)) (be
     entry_at (inr a) (inl b) = beyond false true a.0 b.0 refl (λ w. a.1 w.0) (eqb_tells x t.q) (eqb_tells y t.p)
     entry_at (inr a) (inr b) = beyond false false a.0 b.0 refl (λ w. a.1 w.0) (eqb_tells x t.q) (eqb_tells y t.p)
 
-  loud : is_silent t ≡ false → IsTable n (t ∷ rest) whole
+  loud : silent_move t ≡ false → IsTable n (t ∷ rest) whole
   loud e = record {
     size = length-set half (t.p * n + t.q) (t.r, t.s) ∙ half_size;
     entry = λ x y lx ly. entry_at e x y lx ly (eqb_tells x t.p) (eqb_tells y t.q);
   }
 
-  by_test : (s : Bool) → is_silent t ≡ s → IsTable n (t ∷ rest) (if s then table else whole)
+  by_test : (s : Bool) → silent_move t ≡ s → IsTable n (t ∷ rest) (if s then table else whole)
   by_test true e = still e
   by_test false e = loud e
 
   pub entered-table : IsTable n (t ∷ rest) (entered n t table)
-  entered-table = by_test (is_silent t) refl
+  entered-table = by_test (silent_move t) refl
 
 drop-slice_get : {A : Type 0} (xs : List A) (k : ℕ) (x : A) → slice_get xs k ≡ Some x → drop k xs ≡ x ∷ drop (suc k) xs
 drop-slice_get [] k x e = cc

@@ -14,7 +14,7 @@ use Rattle.pop_net.proofs.FirstFault.{none_below, found_below}
 use Rattle.std.proofs.lemmas.List.Elements.{All-head, All-tail, All-nil, All-drop}
 use Rattle.pop_net.specs.declared.net.Item.{Item}
 use Rattle.pop_net.specs.declared.net.Item.TheVariants.{Leaf, Not, And, Or}
-use Rattle.pop_net.specs.NetModel.{Operators, after_item, after_items, depths}
+use Rattle.pop_net.specs.NetModel.{Operators, after_item, after_items, depth_operators}
 use Rattle.pop_net.specs.NetFaults.{names_below, are_low, stands, operands_left, fault_of_combination}
 
 abbrev pub is_low : ℕ → Bool
@@ -63,7 +63,7 @@ module _ {A : Type 0} (ops : Operators A) where
 
 -- the first k items were put, and left these operands
 pub record Walked (leaves : ℕ) (items : List Item) (k : ℕ) (operands : List ℕ) : Type 0 where
-  pub found : after_items depths (take k items) [] ≡ Some operands
+  pub found : after_items depth_operators (take k items) [] ≡ Some operands
   pub named : list_all (names_below leaves) (take k items) ≡ true
   pub low : All (λ d. d ≤ 65) operands
   pub few : length operands ≤ k
@@ -77,11 +77,11 @@ module _ (leaves : ℕ) (items : List Item) (k : ℕ) (d : Item) (l : k < length
   one_more : take (k + 1) items ≡ take k items ++ get_or items k d ∷ []
   one_more = take_more items k d l
 
-  found_next : after_items depths (take (k + 1) items) [] ≡ after_item depths (get_or items k d) old
+  found_next : after_items depth_operators (take (k + 1) items) [] ≡ after_item depth_operators (get_or items k d) old
   found_next =
-      ap (λ xs. after_items depths xs []) one_more ∙ after_items-append depths (take k items) (get_or items k d ∷ []) [] ∙ ap (option_and_then (after_items depths (get_or items k d ∷ []))) w.found ∙ alone (after_item depths (get_or items k d) old)
+      ap (λ xs. after_items depth_operators xs []) one_more ∙ after_items-append depth_operators (take k items) (get_or items k d ∷ []) [] ∙ ap (option_and_then (after_items depth_operators (get_or items k d ∷ []))) w.found ∙ alone (after_item depth_operators (get_or items k d) old)
     where
-      alone : (o : Option (List ℕ)) → option_and_then (after_items depths []) o ≡ o
+      alone : (o : Option (List ℕ)) → option_and_then (after_items depth_operators []) o ≡ o
       alone None = refl
       alone (Some next) = refl
 
@@ -92,18 +92,18 @@ module _ (leaves : ℕ) (items : List Item) (k : ℕ) (d : Item) (l : k < length
       and_true true = refl
       and_true false = refl
 
-  pub stands_next : stands leaves (take (k + 1) items) ≡ (names_below leaves (get_or items k d) && are_low (after_item depths (get_or items k d) old))
+  pub stands_next : stands leaves (take (k + 1) items) ≡ (names_below leaves (get_or items k d) && are_low (after_item depth_operators (get_or items k d) old))
   stands_next = rw (named_next, found_next) refl
 
-  pub walked_next : (new : List ℕ) → (names_below leaves (get_or items k d) && are_low (after_item depths (get_or items k d) old)) ≡ true → after_item depths (get_or items k d) old ≡ Some new → Walked leaves items (k + 1) new
+  pub walked_next : (new : List ℕ) → (names_below leaves (get_or items k d) && are_low (after_item depth_operators (get_or items k d) old)) ≡ true → after_item depth_operators (get_or items k d) old ≡ Some new → Walked leaves items (k + 1) new
   walked_next new good put =
-      let parts = and_parts (names_below leaves (get_or items k d)) (are_low (after_item depths (get_or items k d) old)) good in
+      let parts = and_parts (names_below leaves (get_or items k d)) (are_low (after_item depth_operators (get_or items k d) old)) good in
       let low : list_all is_low new ≡ true = rw put at parts.1 in
       record {
         found = found_next ∙ put;
         named = named_next ∙ parts.0;
         low = (low_decides new).0 low;
-        few = omega (arith, after_item_few depths (get_or items k d) old new put, w.few);
+        few = omega (arith, after_item_few depth_operators (get_or items k d) old new put, w.few);
         fine = λ j m. at j m (cases_eq j k);
       }
     where
@@ -111,7 +111,7 @@ module _ (leaves : ℕ) (items : List Item) (k : ℕ) (d : Item) (l : k < length
       at j m (inl e) = subst (λ (n : ℕ). not (stands leaves (take (n + 1) items)) ≡ false) (sym e) (ap not (stands_next ∙ good))
       at j m (inr ne) = w.fine j (omega arith)
 
-  pub fault_here : (names_below leaves (get_or items k d) && are_low (after_item depths (get_or items k d) old)) ≡ false → fault_of_combination leaves items ≡ Some (combination.Item k)
+  pub fault_here : (names_below leaves (get_or items k d) && are_low (after_item depth_operators (get_or items k d) old)) ≡ false → fault_of_combination leaves items ≡ Some (combination.Item k)
   fault_here bad =
       ap (λ o. first_of (option_map combination.Item o ∷ unless (operands_left items == 1) (combination.Open (operands_left items)) ∷ []))
       (found_below (length items) (λ k. not (stands leaves (take (k + 1) items))) k l w.fine (ap not (stands_next ∙ bad)))
@@ -120,7 +120,7 @@ module _ (leaves : ℕ) (items : List Item) (k : ℕ) (d : Item) (l : k < length
 pub fault_at_end : (leaves : ℕ) (items : List Item) (k : ℕ) (operands : List ℕ) → length items ≤ k → Walked leaves items k operands → fault_of_combination leaves items ≡ unless (length operands == 1) (combination.Open (length operands))
 fault_at_end leaves items k operands l w =
     let all : take k items ≡ items = take_all k items l in
-    let left : operands_left items ≡ length operands = ap (λ xs. option_map_or length (after_items depths xs []) 0) (sym all) ∙ ap (λ o. option_map_or length o 0) w.found in
+    let left : operands_left items ≡ length operands = ap (λ xs. option_map_or length (after_items depth_operators xs []) 0) (sym all) ∙ ap (λ o. option_map_or length o 0) w.found in
     ap (λ o. first_of (option_map combination.Item o ∷ unless (operands_left items == 1) (combination.Open (operands_left items)) ∷ [])) ((none_below (length items) (λ k. not (stands leaves (take (k + 1) items)))).1 (λ j m. w.fine j (omega arith)))
     ∙ ap (λ n. first_of (unless (n == 1) (combination.Open n) ∷ [])) left
     ∙ alone (unless (length operands == 1) (combination.Open (length operands)))

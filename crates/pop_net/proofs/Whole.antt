@@ -12,7 +12,7 @@ use Rattle.pop_net.specs.declared.net.Item.{Item}
 use Rattle.pop_net.specs.declared.net.Item.TheVariants.{Leaf, Not, And, Or}
 use Rattle.pop_net.specs.declared.fault.CombinationFault.{CombinationFault}
 use Rattle.pop_net.specs.declared.fault.CombinationFault.TheVariants as combination
-use Rattle.pop_net.specs.NetModel.{after_item, after_items, depths, only_one, combined, NamesBelow}
+use Rattle.pop_net.specs.NetModel.{after_item, after_items, depth_operators, only_one, combined, NamesBelow}
 use Rattle.pop_net.specs.NetFaults.{names_below, are_low, stands, operands_left, IsTree, fault_of_combination}
 use Rattle.pop_net.proofs.FirstFault.{NoneIff, first_of-nil, first_of-cons, none_unless, none_map, none_below}
 use Rattle.pop_net.proofs.Trees.{low_decides, after_items-append}
@@ -30,7 +30,7 @@ abbrev AllLow : List ℕ → Type 0
 AllLow xs = All (λ d. d ≤ 65) xs
 
 -- operands of a tree that is low are low
-low_before : (item : Item) (old new : List ℕ) → after_item depths item old ≡ Some new → AllLow new → AllLow old
+low_before : (item : Item) (old new : List ℕ) → after_item depth_operators item old ≡ Some new → AllLow new → AllLow old
 low_before (Leaf i) old new e h =
     let same : 1 ∷ old ≡ new = same_Some _ _ e in All-tail (λ d. d ≤ 65) 1 old (All-same (λ d. d ≤ 65) (1 ∷ old) new same h)
 low_before Not [] new e h = cc
@@ -63,10 +63,10 @@ some_before : {A B : Type 0} (f : A → Option B) (o : Option A) (b : B) → opt
 some_before f None b e = cc
 some_before f (Some a) b e = (a, refl, e)
 
-all_low_before : (items : List Item) (old new : List ℕ) → after_items depths items old ≡ Some new → AllLow new → AllLow old
+all_low_before : (items : List Item) (old new : List ℕ) → after_items depth_operators items old ≡ Some new → AllLow new → AllLow old
 all_low_before [] old new e h = All-same (λ d. d ≤ 65) old new (same_Some _ _ e) h
 all_low_before (item ∷ items) old new e h =
-    let s = some_before (after_items depths items) (after_item depths item old) new e in
+    let s = some_before (after_items depth_operators items) (after_item depth_operators item old) new e in
     low_before item old s.0 s.1 (all_low_before items s.0 new s.2 h)
 
 one_left : (operands : List ℕ) (d : ℕ) → only_one operands ≡ Some d → operands ≡ d ∷ []
@@ -87,19 +87,19 @@ one_tree (Some (d ∷ e ∷ operands)) low one = absurd (omega (arith, one))
 -- all prefixes stand where the whole is a tree
 front_stands : (leaves : ℕ) (items : List Item) (n : ℕ) → IsTree leaves items → stands leaves (take n items) ≡ true
 front_stands leaves items n t =
-    let d = the_depth (combined depths items) t.depth in
-    let s = some_before only_one (after_items depths items []) d.0 d.1 in
+    let d = the_depth (combined depth_operators items) t.depth in
+    let s = some_before only_one (after_items depth_operators items []) d.0 d.1 in
     let one = one_left s.0 d.0 s.2 in
-    let cut : option_and_then (after_items depths (drop n items)) (after_items depths (take n items) []) ≡ Some (d.0 ∷ []) =
-    sym (after_items-append depths (take n items) (drop n items) []) ∙ ap (λ xs. after_items depths xs []) (take-append-drop n items) ∙ s.1 ∙ ap Some one in
-    let f = some_before (after_items depths (drop n items)) (after_items depths (take n items) []) (d.0 ∷ []) cut in
+    let cut : option_and_then (after_items depth_operators (drop n items)) (after_items depth_operators (take n items) []) ≡ Some (d.0 ∷ []) =
+    sym (after_items-append depth_operators (take n items) (drop n items) []) ∙ ap (λ xs. after_items depth_operators xs []) (take-append-drop n items) ∙ s.1 ∙ ap Some one in
+    let f = some_before (after_items depth_operators (drop n items)) (after_items depth_operators (take n items) []) (d.0 ∷ []) cut in
     let low = all_low_before (drop n items) f.0 (d.0 ∷ []) f.2 (All-cons (λ d. d ≤ 65) d.0 [] d.2 (All-nil (λ d. d ≤ 65))) in
     and_from _ _ ((all_named leaves (take n items)).1 (All-take (NamesBelow leaves) n items t.named)) (ap are_low f.1 ∙ (low_decides f.0).1 low)
 
 one_operand : (leaves : ℕ) (items : List Item) → IsTree leaves items → operands_left items ≡ 1
 one_operand leaves items t =
-    let d = the_depth (combined depths items) t.depth in
-    let s = some_before only_one (after_items depths items []) d.0 d.1 in
+    let d = the_depth (combined depth_operators items) t.depth in
+    let s = some_before only_one (after_items depth_operators items []) d.0 d.1 in
     ap (λ o. option_map_or length o 0) (s.1 ∙ ap Some (one_left s.0 d.0 s.2))
 
 pub none_broken : (leaves : ℕ) (items : List Item) → NoneIff (fault_of_combination leaves items) (IsTree leaves items)
@@ -116,10 +116,10 @@ none_broken leaves items = (there items, back)
         let b = (both (item ∷ rest)).0 e in
         let whole : stands leaves (item ∷ rest) ≡ true =
         ap (stands leaves) (sym (take_all (length rest + 1) (item ∷ rest) (omega arith))) ∙ not-false _ (b.0 (length rest) (omega arith)) in
-        let parts = and_parts (list_all (names_below leaves) (item ∷ rest)) (are_low (after_items depths (item ∷ rest) [])) whole in
+        let parts = and_parts (list_all (names_below leaves) (item ∷ rest)) (are_low (after_items depth_operators (item ∷ rest) [])) whole in
         record {
           named = (all_named leaves (item ∷ rest)).0 parts.0;
-          depth = one_tree (after_items depths (item ∷ rest) []) parts.1 b.1.0;
+          depth = one_tree (after_items depth_operators (item ∷ rest) []) parts.1 b.1.0;
         }
 
     back : IsTree leaves items → fault_of_combination leaves items ≡ None

@@ -1,7 +1,7 @@
 -- The first rule that a leaf breaks.
 use Rattle.std.specs.Prelude.{◌≡◌, ◌⊎◌, ℕ, Bool, not, ◌&&◌, ◌==◌, nat_lt, nat_le, [], ◌∷◌, length, Option, Some, position}
 use Rattle.std.specs.Option.{option_map}
-use Rattle.pop_io.specs.Names.{is_state_name}
+use Rattle.pop_io.specs.Names.{state_name}
 use Rattle.pop_io.specs.declared.names.TheConstants.{VARIABLE_LIMIT}
 use Rattle.pop_net.specs.declared.limits.TheConstants.{STATE_LIMIT, MOVE_LIMIT, HELPER_LIMIT}
 use Rattle.pop_net.specs.declared.leaf.Move.{Move}
@@ -20,7 +20,7 @@ fault_of_leaf leaf =
     let inputs = length leaf.inputs in
     first_of
     (unless (nat_le 1 states && nat_le states STATE_LIMIT) (fault.States states)
-    ∷ option_map fault.Name (first_bad_name is_state_name leaf.states)
+    ∷ option_map fault.Name (first_bad_name state_name leaf.states)
     ∷ unless (nat_le (length leaf.moves) MOVE_LIMIT) (fault.Moves (length leaf.moves))
     ∷ option_map fault.Move (position (λ t. not (is_move_below states t)) leaf.moves)
     ∷ unless (nat_le 1 inputs && nat_le inputs VARIABLE_LIMIT) (fault.Inputs inputs)

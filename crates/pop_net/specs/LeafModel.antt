@@ -1,6 +1,6 @@
 -- LeafModel: one population protocol, with its states numbered from 0.
 use Rattle.std.specs.Prelude.{◌≡◌, ℕ, ◌+◌, ◌<◌, ◌≤◌, Bool, ◌&&◌, ◌||◌, ◌==◌, if◌then◌else◌, List, length, All}
-use Rattle.pop_io.specs.Names.{AreNames, is_state_name}
+use Rattle.pop_io.specs.Names.{AreNames, state_name}
 use Rattle.pop_net.specs.declared.leaf.Move.{Move}
 use Rattle.pop_io.specs.declared.names.TheConstants.{VARIABLE_LIMIT}
 use Rattle.pop_net.specs.declared.limits.TheConstants.{STATE_LIMIT, MOVE_LIMIT, HELPER_LIMIT}
@@ -37,8 +37,8 @@ abbrev pub same_pair : ℕ → ℕ → ℕ → ℕ → Bool
 same_pair x y u v = (x == u) && (y == v) || (x == v) && (y == u)
 
 -- whether a move leaves the multiset of its states as it is
-abbrev pub is_silent : Move → Bool
-is_silent t = same_pair t.p t.q t.r t.s
+abbrev pub silent_move : Move → Bool
+silent_move t = same_pair t.p t.q t.r t.s
 
 -- each state of a move is below n
 abbrev pub IsMoveBelow : ℕ → Move → Type 0
@@ -46,7 +46,7 @@ IsMoveBelow n t = (t.p < n) × (t.q < n) × (t.r < n) × (t.s < n)
 
 -- the names of a leaf are in form, and its numbers in range
 pub record IsLeaf (leaf : LeafModel) : Type 0 where
-  pub names : AreNames is_state_name leaf.states
+  pub names : AreNames state_name leaf.states
   pub some_state : 1 ≤ length leaf.states
   pub states : length leaf.states ≤ STATE_LIMIT
   pub move_count : length leaf.moves ≤ MOVE_LIMIT

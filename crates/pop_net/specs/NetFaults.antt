@@ -3,7 +3,7 @@ use Rattle.std.specs.Prelude.{◌≡◌, ◌⊎◌, ℕ, ◌+◌, Bool, true, no
 use Rattle.std.specs.Prelude.{take, Option, Some, None, if◌then◌else◌, position, false, ◌≤◌, All, IsSomeAnd}
 use Rattle.std.specs.List.{list_all}
 use Rattle.std.specs.Option.{option_map, option_map_or}
-use Rattle.pop_io.specs.Names.{is_variable_name}
+use Rattle.pop_io.specs.Names.{variable_name}
 use Rattle.pop_net.specs.declared.net.Item.{Item}
 use Rattle.pop_net.specs.declared.net.Item.TheVariants as item
 use Rattle.pop_net.specs.declared.fault.CombinationFault.{CombinationFault}
@@ -13,7 +13,7 @@ use Rattle.pop_net.specs.declared.fault.NetFault.TheVariants as fault
 use Rattle.pop_io.specs.declared.names.TheConstants.{VARIABLE_LIMIT}
 use Rattle.pop_net.specs.declared.limits.TheConstants.{LEAF_LIMIT, ITEM_LIMIT, WIDE_LEAF_LIMIT, DEPTH_LIMIT}
 use Rattle.pop_net.specs.LeafModel.{LeafModel}
-use Rattle.pop_net.specs.NetModel.{NetModel, NamesBelow, helper_count, is_wide_leaf, after_items, combined, depths}
+use Rattle.pop_net.specs.NetModel.{NetModel, NamesBelow, helper_count, is_wide_leaf, after_items, combined, depth_operators}
 use Rattle.pop_net.specs.FirstFault.{unless, first_of, first_below, first_bad_name}
 
 -- whether an item names one of n leaves, where it names one
@@ -29,7 +29,7 @@ are_low operands = option_map_or (list_all (λ d. nat_le d DEPTH_LIMIT)) operand
 
 -- whether items name leaves alone, find their operands, and make no tree of too great a depth
 abbrev pub stands : ℕ → List Item → Bool
-stands leaves items = list_all (names_below leaves) items && are_low (after_items depths items [])
+stands leaves items = list_all (names_below leaves) items && are_low (after_items depth_operators items [])
 
 -- the first item with which the items no longer stand
 abbrev pub first_bad_item : ℕ → List Item → Option ℕ
@@ -37,7 +37,7 @@ first_bad_item leaves items = first_below (length items) (λ k. not (stands leav
 
 -- how many operands the items leave
 abbrev pub operands_left : List Item → ℕ
-operands_left items = option_map_or length (after_items depths items []) 0
+operands_left items = option_map_or length (after_items depth_operators items []) 0
 
 abbrev pub fault_of_combination : ℕ → List Item → Option CombinationFault
 fault_of_combination leaves items =
@@ -49,7 +49,7 @@ fault_of_combination leaves items =
 -- a combination of n leaves that is one tree whose depth is within the limit
 pub record IsTree (leaves : ℕ) (items : List Item) : Type 0 where
   pub named : All (NamesBelow leaves) items
-  pub depth : IsSomeAnd (combined depths items) (λ d. d ≤ DEPTH_LIMIT)
+  pub depth : IsSomeAnd (combined depth_operators items) (λ d. d ≤ DEPTH_LIMIT)
 
 abbrev pub net_fault : CombinationFault → NetFault
 net_fault (combination.Item k) = fault.Item k
@@ -66,7 +66,7 @@ fault_of_net net =
     let items = length net.combine in
     first_of
     (unless (nat_le 1 variables && nat_le variables VARIABLE_LIMIT) (fault.Vars variables)
-    ∷ option_map fault.VarName (first_bad_name is_variable_name net.variables)
+    ∷ option_map fault.VarName (first_bad_name variable_name net.variables)
     ∷ unless (nat_le 1 leaves && nat_le leaves LEAF_LIMIT) (fault.Leaves leaves)
     ∷ option_map fault.LeafInputs (position (λ leaf. not (length leaf.inputs == variables)) net.leaves)
     ∷ unless (nat_le 1 items && nat_le items ITEM_LIMIT) (fault.Items items)

@@ -1,7 +1,7 @@
 -- NetModel: protocols that run side by side on the same agents, and a combination of their outputs in postfix.
 use Rattle.std.specs.Prelude.{◌≡◌, ℕ, ◌+◌, max, ◌<◌, ◌≤◌, Bool, true, false, not, nat_lt, ◌&&◌, ◌||◌, List, [], ◌∷◌, length, All}
 use Rattle.std.specs.Prelude.{Option, Some, None, IsSomeAnd, option_and_then, unwrap_or, slice_get, slice_index, slice_index_or}
-use Rattle.pop_io.specs.Names.{AreNames, is_variable_name}
+use Rattle.pop_io.specs.Names.{AreNames, variable_name}
 use Rattle.pop_net.specs.declared.net.Item.{Item}
 use Rattle.pop_net.specs.declared.net.Item.TheVariants.{Leaf, Not, And, Or}
 use Rattle.std.specs.List.{list_any}
@@ -102,8 +102,8 @@ abbrev pub output_of : NetModel → Tuple → Bool
 output_of net tuple = unwrap_or (combined (truth (leaf_outputs net.leaves tuple)) net.combine) false
 
 -- the depth of the tree that a combination in postfix stands for
-abbrev pub depths : Operators ℕ
-depths =
+abbrev pub depth_operators : Operators ℕ
+depth_operators =
     record { leaf = λ i. 1; negation = λ d. d + 1; conjunction = λ d e. max d e + 1; disjunction = λ d e. max d e + 1 }
 
 -- the leaf numbers that a combination names are below n
@@ -115,7 +115,7 @@ NamesBelow n Or = Unit {0}
 
 -- the names of a net are in form, its numbers in range, and its combination is one tree
 pub record IsNet (net : NetModel) : Type 0 where
-  pub variable_names : AreNames is_variable_name net.variables
+  pub variable_names : AreNames variable_name net.variables
   pub some_variable : 1 ≤ length net.variables
   pub variables : length net.variables ≤ VARIABLE_LIMIT
   pub some_leaf : 1 ≤ length net.leaves
@@ -124,6 +124,6 @@ pub record IsNet (net : NetModel) : Type 0 where
   pub inputs : All (λ leaf. length leaf.inputs ≡ length net.variables) net.leaves
   pub items : length net.combine ≤ ITEM_LIMIT
   pub leaf_numbers : All (NamesBelow (length net.leaves)) net.combine
-  pub depth : IsSomeAnd (combined depths net.combine) (λ d. d ≤ DEPTH_LIMIT)
+  pub depth : IsSomeAnd (combined depth_operators net.combine) (λ d. d ≤ DEPTH_LIMIT)
   pub helpers : All (λ leaf. length leaf.helpers ≡ helper_count net) net.leaves
   pub wide : is_wide net.leaves ≡ true → length net.leaves ≤ WIDE_LEAF_LIMIT

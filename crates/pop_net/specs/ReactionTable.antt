@@ -1,7 +1,7 @@
 -- ReactionTable: the reactions of a leaf, one for each ordered pair of its states, row by row.
 use Rattle.std.specs.Prelude.{◌≡◌, ℕ, ◌+◌, ◌*◌, ◌<◌, if◌then◌else◌, List, length, Some, find, slice_get, slice_set}
 use Rattle.pop_net.specs.declared.leaf.Move.{Move}
-use Rattle.pop_net.specs.LeafModel.{is_silent}
+use Rattle.pop_net.specs.LeafModel.{silent_move}
 use Rattle.pop_net.specs.Reaction.{takes, by_move}
 
 -- the entry for x and y is what the first of the moves that takes them makes of them
@@ -12,6 +12,6 @@ pub record IsTable (states : ℕ) (moves : List Move) (table : List (ℕ × ℕ)
 -- the table with a move entered for its two pairs, over what stood there
 abbrev pub entered : ℕ → Move → List (ℕ × ℕ) → List (ℕ × ℕ)
 entered states t table =
-    if is_silent t
+    if silent_move t
     then table
     else slice_set (slice_set table (t.q * states + t.p) (t.s, t.r)) (t.p * states + t.q) (t.r, t.s)

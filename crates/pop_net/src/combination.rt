@@ -3,7 +3,7 @@
 ghost use Rattle.std.specs.Prelude.{◌≡◌, ◌↔◌, ℕ, ◌≤◌, ◌<◌, ◌&&◌, ◌∷◌, length, drop, All, Some, None, MatchOption};
 ghost use Rattle.std.specs.Prelude.{unwrap_or, false};
 ghost use Rattle.std.specs.Bool.{OnTrue};
-ghost use Rattle.pop_net.specs.NetModel.{after_item, depths as depth_operators, truth, combined};
+ghost use Rattle.pop_net.specs.NetModel.{after_item, depth_operators, truth, combined};
 ghost use Rattle.pop_net.specs.NetFaults.{names_below, are_low, IsTree, fault_of_combination};
 
 use crate::fault::CombinationFault;

@@ -22,7 +22,7 @@ pub struct Move {
 }
 
 impl Move {
-    ghost use Rattle.pop_net.specs.LeafModel.{is_silent as silent_move};
+    ghost use Rattle.pop_net.specs.LeafModel.{silent_move};
     ghost use Rattle.pop_net.specs.Reaction.{takes as takes_states};
 
     /// Whether it leaves the pair of its states as it is.
@@ -78,7 +78,7 @@ impl Model for Leaf {
 }
 
 impl Leaf {
-    ghost use Rattle.pop_net.specs.LeafModel.{IsLeaf, is_silent as silent_move};
+    ghost use Rattle.pop_net.specs.LeafModel.{IsLeaf, silent_move};
     ghost use Rattle.pop_net.specs.Reaction.{leaf_reaction};
     ghost use Rattle.pop_net.specs.NetModel.{is_wide_leaf};
     ghost use Rattle.pop_net.specs.Step.{LeafChange};

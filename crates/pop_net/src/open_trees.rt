@@ -2,7 +2,7 @@
 
 ghost use Rattle.std.specs.Prelude.{◌≡◌, ◌<◌, ◌&&◌, [], length, Some};
 ghost use Rattle.std.specs.Bool.{OnTrue};
-ghost use Rattle.pop_net.specs.NetModel.{after_item, depths as depth_operators};
+ghost use Rattle.pop_net.specs.NetModel.{after_item, depth_operators};
 ghost use Rattle.pop_net.specs.NetFaults.{names_below, are_low};
 
 use crate::combination::put_depth;

@@ -9,7 +9,7 @@ use Rattle.std.proofs.lemmas.Bool.Decides.{eqb_tells}
 use Rattle.std.proofs.lemmas.List.{get_or-set_same, get_or-set_other, set-set, set_comm}
 use Rattle.std.proofs.lemmas.Option.{slice_get_within, same_Some}
 use Rattle.pop_net.specs.declared.leaf.Move.{Move}
-use Rattle.pop_net.specs.LeafModel.{is_silent}
+use Rattle.pop_net.specs.LeafModel.{silent_move}
 use Rattle.pop_settle.specs.Settlement.{CanMake, Then}
 use Rattle.pop_settle.specs.Groups.{group_at, holds, AreAlike, AreGroups, IsEmptyGroup, IsLeastOf, Changes, Puts, Takes, IsLeastPair, after_move}
 
@@ -222,7 +222,7 @@ module _ (states : List ℕ) (g : List (BTreeSet ℕ)) (t : Move) (a : ℕ) (wit
     b_holds = (are t.q b q_in).0 (sym (off_change false g t.p a without t.q b takes (λ _ f. b_apart f)) ∙ second.0)
 
     -- the two are the least that can make the move
-    pub least_pair : is_silent t ≡ false → IsLeastPair states t a b
+    pub least_pair : silent_move t ≡ false → IsLeastPair states t a b
     least_pair loud = (record { non_silent = loud; different = (λ e. b_apart (sym e)); first = a_holds; second = b_holds }, none)
       where
         none : (c d : ℕ) → CanMake states t c d → Then c a (d < b) → ⊥

@@ -1,7 +1,7 @@
 -- Settlement: the takes that lead by a proof's layers to a crowd in which none can be made.
 use Rattle.std.specs.Prelude.{◌≡◌, ◌≢◌, ◌⊎◌, ℕ, ◌<◌, false, List, [], ◌∷◌, map, Some, slice_get, slice_set, slice_index_or}
 use Rattle.pop_net.specs.declared.leaf.Move.{Move}
-use Rattle.pop_net.specs.LeafModel.{LeafModel, is_silent}
+use Rattle.pop_net.specs.LeafModel.{LeafModel, silent_move}
 use Rattle.pop_net.specs.NetModel.{NetModel, Tuple, CrowdModel, state_of}
 use Rattle.cert_base.specs.declared.layer.Layer.{Layer}
 use Rattle.cert_base.specs.declared.proof.Proof.{Proof}
@@ -14,7 +14,7 @@ states_in i crowd = map (λ tuple. state_of tuple i) crowd
 
 -- of two different agents, a and b, the one holds p and the other q of a non-silent move
 pub record CanMake (states : List ℕ) (t : Move) (a b : ℕ) : Type 0 where
-  pub non_silent : is_silent t ≡ false
+  pub non_silent : silent_move t ≡ false
   pub different : a ≢ b
   pub first : slice_get states a ≡ Some t.p
   pub second : slice_get states b ≡ Some t.q

@@ -9,7 +9,7 @@ use Rattle.std.proofs.lemmas.List.Elements.{All-cons, All-nil}
 use Rattle.std.proofs.lemmas.List.Folds.{list_all-append}
 use Rattle.std.proofs.lemmas.List.Kept.{AllPairs-cons}
 use Rattle.std.proofs.lemmas.Slice.Eq.{bytes_eq-Decides}
-use Rattle.pop_io.specs.Names.{is_variable_name, is_name_byte, starts_name}
+use Rattle.pop_io.specs.Names.{variable_name, is_name_byte, starts_name}
 use Rattle.pop_io.specs.declared.names.TheConstants.{NAME_LIMIT, VARIABLE_LIMIT}
 use Rattle.pop_words.specs.Vars.{are_distinct, are_variables, AreVariables}
 use Rattle.pop_words.specs.Walk.{can_join}
@@ -54,18 +54,18 @@ are_distinct-push (x ∷ xs) w distinct fresh =
 -- names so far: of the form, distinct, and no more than VARIABLE_LIMIT
 pub record SoFar (words names left : List (List ℕ)) : Type 0 where
   pub joined : words ≡ names ++ left
-  pub formed : list_all is_variable_name names ≡ true
+  pub formed : list_all variable_name names ≡ true
   pub distinct : are_distinct names ≡ true
   pub few : length names ≤ VARIABLE_LIMIT
 
 -- a further name that can join
 pub joins : (words names : List (List ℕ)) (w : List ℕ) (left : List (List ℕ)) → SoFar words names (w ∷ left) → can_join names w ≡ true → SoFar words (names ++ w ∷ []) left
 joins words names w left so_far can =
-    let parts = and_parts (is_variable_name w) (nat_lt (length names) VARIABLE_LIMIT && not (list_any (bytes_eq w) names)) can in
+    let parts = and_parts (variable_name w) (nat_lt (length names) VARIABLE_LIMIT && not (list_any (bytes_eq w) names)) can in
     let more = and_parts (nat_lt (length names) VARIABLE_LIMIT) (not (list_any (bytes_eq w) names)) parts.1 in
     record {
       joined = so_far.joined ∙ sym (append_assoc names (w ∷ []) left);
-      formed = list_all-append is_variable_name names (w ∷ []) ∙ and_from (list_all is_variable_name names) (list_all is_variable_name (w ∷ [])) so_far.formed (and_from (is_variable_name w) true parts.0 refl);
+      formed = list_all-append variable_name names (w ∷ []) ∙ and_from (list_all variable_name names) (list_all variable_name (w ∷ [])) so_far.formed (and_from (variable_name w) true parts.0 refl);
       distinct = are_distinct-push names w so_far.distinct (not-true (list_any (bytes_eq w) names) more.1);
       few = omega (arith, length-append names (w ∷ []), ltb-true (length names) VARIABLE_LIMIT more.0);
     }
@@ -77,20 +77,20 @@ fails a b c d one = elim one [
   | inr others ↦ and_right (a && b) (c && d) (elim others as (λ _. (c && d) ≡ false) [ inl third ↦ and_left c d third | inr fourth ↦ and_right c d fourth ])
 ]
 
-broken_by : (names : List (List ℕ)) (w : List ℕ) (left : List (List ℕ)) → (is_variable_name w ≡ false) ⊎ ((VARIABLE_LIMIT ≤ length names) ⊎ (list_any (bytes_eq w) names ≡ true)) → are_variables (names ++ w ∷ left) ≡ false
+broken_by : (names : List (List ℕ)) (w : List ℕ) (left : List (List ℕ)) → (variable_name w ≡ false) ⊎ ((VARIABLE_LIMIT ≤ length names) ⊎ (list_any (bytes_eq w) names ≡ true)) → are_variables (names ++ w ∷ left) ≡ false
 broken_by names w left (inl form) =
-    let second : list_all is_variable_name (w ∷ left) ≡ false = and_left (is_variable_name w) (list_all is_variable_name left) form in
-    fails (nat_le 1 (length (names ++ w ∷ left))) (nat_le (length (names ++ w ∷ left)) VARIABLE_LIMIT) (list_all is_variable_name (names ++ w ∷ left)) (are_distinct (names ++ w ∷ left))
-    (inr (inl (list_all-append is_variable_name names (w ∷ left) ∙ and_right (list_all is_variable_name names) (list_all is_variable_name (w ∷ left)) second)))
+    let second : list_all variable_name (w ∷ left) ≡ false = and_left (variable_name w) (list_all variable_name left) form in
+    fails (nat_le 1 (length (names ++ w ∷ left))) (nat_le (length (names ++ w ∷ left)) VARIABLE_LIMIT) (list_all variable_name (names ++ w ∷ left)) (are_distinct (names ++ w ∷ left))
+    (inr (inl (list_all-append variable_name names (w ∷ left) ∙ and_right (list_all variable_name names) (list_all variable_name (w ∷ left)) second)))
 broken_by names w left (inr (inl many)) =
-    fails (nat_le 1 (length (names ++ w ∷ left))) (nat_le (length (names ++ w ∷ left)) VARIABLE_LIMIT) (list_all is_variable_name (names ++ w ∷ left)) (are_distinct (names ++ w ∷ left))
+    fails (nat_le 1 (length (names ++ w ∷ left))) (nat_le (length (names ++ w ∷ left)) VARIABLE_LIMIT) (list_all variable_name (names ++ w ∷ left)) (are_distinct (names ++ w ∷ left))
     (inl (lt-leb (length (names ++ w ∷ left)) VARIABLE_LIMIT (omega (arith, length-append names (w ∷ left)))))
 broken_by names w left (inr (inr twice)) =
-    fails (nat_le 1 (length (names ++ w ∷ left))) (nat_le (length (names ++ w ∷ left)) VARIABLE_LIMIT) (list_all is_variable_name (names ++ w ∷ left)) (are_distinct (names ++ w ∷ left))
+    fails (nat_le 1 (length (names ++ w ∷ left))) (nat_le (length (names ++ w ∷ left)) VARIABLE_LIMIT) (list_all variable_name (names ++ w ∷ left)) (are_distinct (names ++ w ∷ left))
     (inr (inr (are_distinct-twice names w left twice)))
 
-reasons : (names : List (List ℕ)) (w : List ℕ) → can_join names w ≡ false → (is_variable_name w ≡ false) ⊎ ((VARIABLE_LIMIT ≤ length names) ⊎ (list_any (bytes_eq w) names ≡ true))
-reasons names w can = elim (and_cases (is_variable_name w) (nat_lt (length names) VARIABLE_LIMIT && not (list_any (bytes_eq w) names)) can) [
+reasons : (names : List (List ℕ)) (w : List ℕ) → can_join names w ≡ false → (variable_name w ≡ false) ⊎ ((VARIABLE_LIMIT ≤ length names) ⊎ (list_any (bytes_eq w) names ≡ true))
+reasons names w can = elim (and_cases (variable_name w) (nat_lt (length names) VARIABLE_LIMIT && not (list_any (bytes_eq w) names)) can) [
   | inl form ↦ inl form
   | inr more ↦ inr (elim (and_cases (nat_lt (length names) VARIABLE_LIMIT) (not (list_any (bytes_eq w) names)) more) as (λ _. (VARIABLE_LIMIT ≤ length names) ⊎ (list_any (bytes_eq w) names ≡ true)) [
     | inl many ↦ inl (ltb-false (length names) VARIABLE_LIMIT many)
@@ -107,20 +107,20 @@ pub whole : (words names : List (List ℕ)) → SoFar words names [] → 0 < len
 whole words names so_far some =
     let same : words ≡ names = so_far.joined ∙ append-nil names in (
       sym same,
-      rw same (and_from (nat_le 1 (length names) && nat_le (length names) VARIABLE_LIMIT) (list_all is_variable_name names && are_distinct names)
+      rw same (and_from (nat_le 1 (length names) && nat_le (length names) VARIABLE_LIMIT) (list_all variable_name names && are_distinct names)
           (and_from (nat_le 1 (length names)) (nat_le (length names) VARIABLE_LIMIT) (le-leb 1 (length names) some) (le-leb (length names) VARIABLE_LIMIT so_far.few))
-          (and_from (list_all is_variable_name names) (are_distinct names) so_far.formed so_far.distinct)),
+          (and_from (list_all variable_name names) (are_distinct names) so_far.formed so_far.distinct)),
     )
 
 -- no name at all
 pub none : (words : List (List ℕ)) → words ≡ [] → are_variables words ≡ false
 none words is = rw is refl
 
-All-formed : (names : List (List ℕ)) → list_all is_variable_name names ≡ true → All (λ name. is_variable_name name ≡ true) names
-All-formed [] all = All-nil (λ name. is_variable_name name ≡ true)
+All-formed : (names : List (List ℕ)) → list_all variable_name names ≡ true → All (λ name. variable_name name ≡ true) names
+All-formed [] all = All-nil (λ name. variable_name name ≡ true)
 All-formed (name ∷ names) all =
-    let parts = and_parts (is_variable_name name) (list_all is_variable_name names) all in
-    All-cons (λ name. is_variable_name name ≡ true) name names parts.0 (All-formed names parts.1)
+    let parts = and_parts (variable_name name) (list_all variable_name names) all in
+    All-cons (λ name. variable_name name ≡ true) name names parts.0 (All-formed names parts.1)
 
 All-other : (name : List ℕ) (names : List (List ℕ)) → list_any (bytes_eq name) names ≡ false → All (λ other. name ≢ other) names
 All-other name [] none = All-nil (λ other. name ≢ other)
@@ -137,9 +137,9 @@ AllPairs-other (name ∷ names) distinct =
 -- lists of names pass the test
 pub variables : (names : List (List ℕ)) → are_variables names ≡ true → AreVariables names
 variables names test =
-    let parts = and_parts (nat_le 1 (length names) && nat_le (length names) VARIABLE_LIMIT) (list_all is_variable_name names && are_distinct names) test in
+    let parts = and_parts (nat_le 1 (length names) && nat_le (length names) VARIABLE_LIMIT) (list_all variable_name names && are_distinct names) test in
     let sizes = and_parts (nat_le 1 (length names)) (nat_le (length names) VARIABLE_LIMIT) parts.0 in
-    let forms = and_parts (list_all is_variable_name names) (are_distinct names) parts.1 in
+    let forms = and_parts (list_all variable_name names) (are_distinct names) parts.1 in
     record {
       some = leb-true 1 (length names) sizes.0;
       few = leb-true (length names) VARIABLE_LIMIT sizes.1;
@@ -156,7 +156,7 @@ ascii (b ∷ bytes) form zero = name_byte-ascii b (and_parts (is_name_byte b) (l
 ascii (b ∷ bytes) form (suc i) = ascii bytes (and_parts (is_name_byte b) (list_all is_name_byte bytes) form).1 i
 
 -- a name is ASCII
-pub name-IsUtf8 : (name : List ℕ) → is_variable_name name ≡ true → IsUtf8 name
+pub name-IsUtf8 : (name : List ℕ) → variable_name name ≡ true → IsUtf8 name
 name-IsUtf8 name form =
     let short = and_parts ((starts_name name && list_all is_name_byte name) && nat_le (length name) NAME_LIMIT) (not (bytes_eq name (codes "mod"))) form in
     let bytes = and_parts (starts_name name && list_all is_name_byte name) (nat_le (length name) NAME_LIMIT) short.0 in

@@ -3,7 +3,7 @@ use Rattle.std.specs.Prelude.{◌≡◌, ◌≤◌, ℕ, Bool, true, ◌&&◌, n
 use Rattle.std.specs.Prelude.{if◌then◌else◌}
 use Rattle.std.specs.List.{list_all, list_any}
 use Rattle.std.specs.Str.{bytes_eq}
-use Rattle.pop_io.specs.Names.{is_variable_name, AreNames}
+use Rattle.pop_io.specs.Names.{variable_name, AreNames}
 use Rattle.pop_io.specs.declared.names.TheConstants.{VARIABLE_LIMIT}
 use Rattle.pop_lines.specs.Lines.{pieces}
 use Rattle.pop_words.specs.declared.vars.VarsFault.{VarsFault}
@@ -16,7 +16,7 @@ are_distinct (name ∷ names) = not (list_any (bytes_eq name) names) && are_dist
 
 -- 1 to VARIABLE_LIMIT distinct names of variables
 abbrev pub are_variables : List (List ℕ) → Bool
-are_variables names = (nat_le 1 (length names) && nat_le (length names) VARIABLE_LIMIT) && (list_all is_variable_name names && are_distinct names)
+are_variables names = (nat_le 1 (length names) && nat_le (length names) VARIABLE_LIMIT) && (list_all variable_name names && are_distinct names)
 
 -- the words behind the first, which is `vars`
 abbrev pub behind_vars : List (List ℕ) → Option (List (List ℕ))
@@ -37,4 +37,4 @@ Named (Err NoMemory) read = Unit {0}
 pub record AreVariables (names : List (List ℕ)) : Type 0 where
   pub some : 1 ≤ length names
   pub few : length names ≤ VARIABLE_LIMIT
-  pub formed : AreNames is_variable_name names
+  pub formed : AreNames variable_name names

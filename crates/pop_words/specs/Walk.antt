@@ -3,7 +3,7 @@ use Rattle.std.specs.Prelude.{◌≡◌, ℕ, ◌+◌, ◌&&◌, not, Bool, nat_
 use Rattle.std.specs.Prelude.{Err, true, false}
 use Rattle.std.specs.List.{list_any}
 use Rattle.std.specs.Str.{bytes_eq}
-use Rattle.pop_io.specs.Names.{is_variable_name}
+use Rattle.pop_io.specs.Names.{variable_name}
 use Rattle.pop_io.specs.declared.names.TheConstants.{VARIABLE_LIMIT}
 use Rattle.pop_lines.specs.Lines.{pieces}
 use Rattle.pop_words.specs.Vars.{are_variables}
@@ -26,7 +26,7 @@ without_count found = count_by is_none found
 
 -- a further name
 abbrev pub can_join : List (List ℕ) → List ℕ → Bool
-can_join names word = is_variable_name word && (nat_lt (length names) VARIABLE_LIMIT && not (list_any (bytes_eq word) names))
+can_join names word = variable_name word && (nat_lt (length names) VARIABLE_LIMIT && not (list_any (bytes_eq word) names))
 
 -- the words, where they are names of variables
 abbrev pub NamedBehind : Result (List (List ℕ)) VarsFault → List (List ℕ) → Type 0

@@ -3,7 +3,7 @@
 ghost use Rattle.std.specs.Prelude.{◌≡◌, ◌∷◌, ◌++◌, [], Bool, true, false, nat_le, nat_lt, not, ◌&&◌, length, IfOk};
 ghost use Rattle.std.specs.Prelude.{OnOk, Ok, Err, Option, MatchOption};
 ghost use Rattle.std.specs.Option.{option_copied};
-ghost use Rattle.pop_io.specs.Names.{is_variable_name as variable_name};
+ghost use Rattle.pop_io.specs.Names.{variable_name};
 ghost use Rattle.pop_words.specs.Vars.{vars_of, Named, AreVariables};
 ghost use Rattle.pop_words.specs.Walk.{words_after, can_join, NamedBehind};
 

@@ -9,7 +9,7 @@ use Rattle.std.proofs.Math.Seq.{get_or-append_seam}
 use Rattle.pres_ast.specs.declared.limits.TheConstants.{COEFFICIENT_LIMIT, WEIGHT_LIMIT}
 use Rattle.pres_read.specs.declared.read.TheConstants.{TEXT_LIMIT}
 use Rattle.pres_read.specs.declared.depth.TheConstants.{PARENTHESIS_LIMIT}
-use Rattle.pop_io.specs.Names.{is_variable_name, AreNames}
+use Rattle.pop_io.specs.Names.{variable_name, AreNames}
 use Rattle.pres_ast.specs.PredTree.{PredTree, LessThan, Congruent, Negation, Conjunction, Disjunction}
 use Rattle.pres_ast.specs.PredModel.{AreCoefs, HasAtoms, weight_of, IsPred}
 use Rattle.pres_tokens.specs.declared.token.Relation.TheVariants.{Less, Equal}
@@ -209,7 +209,7 @@ tree_shallow names (Disjunction p q) rest c n h g d =
     (λ us e k i j l. tree_shallow names p us e k i j l) (λ us e k i j l. tree_shallow names q us e k i j l))
 
 -- the canonical text is read again
-pub printed_read : (names : List (List ℕ)) (t : PredTree) → AreNames is_variable_name names → IsPred (length names) t → length (tree_text names t) ≤ TEXT_LIMIT
+pub printed_read : (names : List (List ℕ)) (t : PredTree) → AreNames variable_name names → IsPred (length names) t → length (tree_text names t) ≤ TEXT_LIMIT
     → pred_read names (tree_text names t) ≡ Ok (record { variables = length names; tree = t })
 printed_read names t are pred short =
     let some = pred.some_variable in

@@ -12,10 +12,10 @@ use Rattle.pres_tokens.specs.Symbols.{Placed}
 use Rattle.pres_read.specs.Outcome.{Gives}
 use Rattle.pres_read.specs.declared.fault.ReadPred.{ReadPred}
 use Rattle.pres_read.specs.TextFault.{TextFault, TooDeep}
-use Rattle.pres_read.specs.Atoms.{negated_if, equality}
+use Rattle.pres_read.specs.Atoms.{negation_if, equality_tree}
 use Rattle.pres_read.specs.Progress.{Span, Around, Next, AUnit, ATerm, AStar, AName, ARelation, AConstant, ANumber, AModulo, AModulus, ASign, Progress}
 use Rattle.pres_read.specs.Depth.{Depth, charge_of, deeper, sunk}
-use Rattle.pres_read.specs.Reading.{up_to_unit, ended, finish_by, finish, step}
+use Rattle.pres_read.specs.Reading.{tree_up_to_unit, ended, finish_by, finish, step}
 use Rattle.pres_read.specs.Sound.{option_weight, span_weight, spans_weight, next_weight, HasOption, HasSpan, HasSpans, HasNext, IsSettled, IsSoundProgress}
 use Rattle.pres_read.proofs.Limits.{weight-disjoined, HasAtoms-disjoined, HasAtoms-negated_if, HasAtoms-equality}
 use Rattle.pres_read.proofs.Steps.{weight-up_to_unit, HasAtoms-up_to_unit, weight-unequal, step_goes}
@@ -56,9 +56,9 @@ finish_by_fits n charge end a (ARelation coefs) one most small above span h sett
 finish_by_fits n charge end a (AConstant coefs r) one most small above span h settled w = tt
 finish_by_fits n charge end a (ANumber coefs r) one most small above span h settled w = tt
 finish_by_fits n charge end a (AModulo coefs unequal c) one most small above span h settled w =
-    ended_fits n charge end a.above a.span.ors (up_to_unit a.span (negated_if unequal (equality coefs c))) one most small span.0
-    (HasAtoms-up_to_unit n a.span (negated_if unequal (equality coefs c)) span (HasAtoms-negated_if n unequal (equality coefs c) (HasAtoms-equality n coefs c h.0 h.1)))
-    (let whole = weight-up_to_unit a.span (negated_if unequal (equality coefs c)) in let own = weight-unequal unequal coefs c in omega (arith, whole, own, w))
+    ended_fits n charge end a.above a.span.ors (tree_up_to_unit a.span (negation_if unequal (equality_tree coefs c))) one most small span.0
+    (HasAtoms-up_to_unit n a.span (negation_if unequal (equality_tree coefs c)) span (HasAtoms-negated_if n unequal (equality_tree coefs c) (HasAtoms-equality n coefs c h.0 h.1)))
+    (let whole = weight-up_to_unit a.span (negation_if unequal (equality_tree coefs c)) in let own = weight-unequal unequal coefs c in omega (arith, whole, own, w))
 finish_by_fits n charge end a (AModulus coefs unequal c) one most small above span h settled w = tt
 finish_by_fits n charge end a (ASign p) one most small above span h settled w =
     ended_fits n charge end a.above a.span.ors p one most small span.0 h

@@ -6,7 +6,7 @@ use Rattle.pres_tokens.specs.declared.token.Relation.{Relation}
 use Rattle.pres_tokens.specs.declared.token.Relation.TheVariants.{Less, AtMost, Greater, AtLeast, Equal, Unequal}
 use Rattle.pres_tokens.specs.Symbols.{Symbol, Name, Number, Plus, Minus, Star, Compare, And, Or, Not, Open, Close, Mod, Stray}
 use Rattle.pres_read.specs.Numbers.{value_of}
-use Rattle.pres_read.specs.Atoms.{constant_limit}
+use Rattle.pres_read.specs.Atoms.{limit_of}
 use Rattle.pres_read.specs.Grammar.{Term, bare, times, Sum, first, further, Atom, plain, modular, Part, APred, AConj, AUnit, Phrase, conj, either, unit, both, negate, group, atom, term_symbols, minus_if, plus_or_minus, sum_symbols, equal_or_not, constant_symbols, atom_symbols, symbols, coefs_of}
 use Rattle.pres_read.specs.Rules.{TermFits, SumFits, AtomFits, Fits}
 use Rattle.pres_read.proofs.Traces.{Lead, begin, after, sum_with, Inner, IUnit, ITerm, IStar, IName, IRelation, IConstant, INumber, IModulo, IModulus, Side, bare_side, Trace, Inside, Done, begun, with_ands, unit_done, trace_step, trace_compared}
@@ -23,7 +23,7 @@ RuleName names lead digits (Name word) = TermFits names (lead_coefs names lead) 
 RuleName names lead digits s = Unit {0}
 
 abbrev pub RuleConstant : Relation → Symbol → Type 0
-RuleConstant r (Number digits) = value_of digits ≤ constant_limit r
+RuleConstant r (Number digits) = value_of digits ≤ limit_of r
 RuleConstant r s = Unit {0}
 
 abbrev pub RuleModulus : Symbol → Type 0
@@ -84,7 +84,7 @@ sum_kept names above side (further sum negative term) rest f k =
     (sum_kept names above side sum (plus_or_minus negative ∷ (term_symbols term ++ rest)) f.0 (further_kept names above side sum negative term rest f.1 k))
 
 constant_kept : (names : List (List ℕ)) (above : List Side) (side : Side) (sum : Sum) (r : Relation) (negative : Bool) (digits : List ℕ) (rest : List Symbol)
-    → value_of digits ≤ constant_limit r → Kept names (trace_compared above side sum r negative digits) rest
+    → value_of digits ≤ limit_of r → Kept names (trace_compared above side sum r negative digits) rest
     → Kept names (Inside above side (IRelation sum)) (Compare r ∷ (constant_symbols negative digits ++ rest))
 constant_kept names above side sum r false digits rest f k = (tt, (f, k))
 constant_kept names above side sum r true digits rest f k = (tt, (tt, (f, k)))

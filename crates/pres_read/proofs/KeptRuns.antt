@@ -16,10 +16,10 @@ use Rattle.pres_read.specs.declared.fault.ReadPred.TheVariants as reading
 use Rattle.pres_read.specs.TextFault.{TextFault, Syntax, UnknownName, TooLarge, TooDeep, LongText}
 use Rattle.pres_read.specs.Outcome.{◌>>=◌, Gives}
 use Rattle.pres_read.specs.Numbers.{value_of, value_within}
-use Rattle.pres_read.specs.Atoms.{signed, negated_if, equality, constant_limit, Factor, lone, with_coef, with_number, with_term, added}
+use Rattle.pres_read.specs.Atoms.{signed, negation_if, equality_tree, limit_of, Factor, lone, with_coef, with_number, with_term, added}
 use Rattle.pres_read.specs.Progress.{Span, Around, Next, AUnit, ATerm, AStar, AName, ARelation, AConstant, ANumber, AModulo, AModulus, ASign, Progress, start}
 use Rattle.pres_read.specs.Depth.{Depth, surface, deeper, within_depth, sunk}
-use Rattle.pres_read.specs.Reading.{after_sum, at_term, at_unit, at_star, at_name, at_relation, with_constant, at_number, at_constant, with_modulus, at_modulus, closed, at_sign, up_to_unit, at_modulo, by_next, step, ended, finish_by, finish, with_progress, run, over, pred_read}
+use Rattle.pres_read.specs.Reading.{after_sum, at_term, at_unit, at_star, at_name, at_relation, with_constant, at_number, at_constant, with_modulus, at_modulus, closed, at_sign, tree_up_to_unit, at_modulo, by_next, step, ended, finish_by, finish, with_progress, run, over, pred_read}
 use Rattle.pres_read.specs.Grammar.{APred, Phrase, symbols, coefs_of, meaning}
 use Rattle.pres_read.specs.Texts.{symbols_of, text_symbols, IsReadTo}
 use Rattle.pres_read.specs.Rules.{CoefFits, Fits, IsShallow}
@@ -95,10 +95,10 @@ relation_fine a coefs place (Compare r) = tt
 relation_fine a coefs place s = tt
 
 number_fine : (a : Around) (coefs : List ℤ) (r : Relation) (negative : Bool) (place : ℕ) (s : Symbol) → RuleConstant r s → Fine (at_number a coefs r negative place s)
-number_fine a coefs r negative place (Number digits) h = by_test (ltb (constant_limit r) (value_of digits)) refl
+number_fine a coefs r negative place (Number digits) h = by_test (ltb (limit_of r) (value_of digits)) refl
   where
-    by_test : (b : Bool) → ltb (constant_limit r) (value_of digits) ≡ b → Fine (with_constant a coefs r negative place (if b then None else Some (value_of digits)))
-    by_test true e = let past = ltb-true (constant_limit r) (value_of digits) e in absurd (omega (arith, past, h))
+    by_test : (b : Bool) → ltb (limit_of r) (value_of digits) ≡ b → Fine (with_constant a coefs r negative place (if b then None else Some (value_of digits)))
+    by_test true e = let past = ltb-true (limit_of r) (value_of digits) e in absurd (omega (arith, past, h))
     by_test false e = tt
 number_fine a coefs r negative place s h = tt
 
@@ -118,7 +118,7 @@ sign_fine above ors p place s = tt
 
 modulo_fine : (a : Around) (coefs : List ℤ) (unequal : Bool) (c : ℤ) (place : ℕ) (s : Symbol) → Fine (at_modulo a coefs unequal c place s)
 modulo_fine a coefs unequal c place Mod = tt
-modulo_fine a coefs unequal c place s = sign_fine a.above a.span.ors (up_to_unit a.span (negated_if unequal (equality coefs c))) place s
+modulo_fine a coefs unequal c place s = sign_fine a.above a.span.ors (tree_up_to_unit a.span (negation_if unequal (equality_tree coefs c))) place s
 
 modulus_fine : (a : Around) (coefs : List ℤ) (unequal : Bool) (c : ℤ) (place : ℕ) (s : Symbol) → RuleModulus s → Fine (at_modulus a coefs unequal c place s)
 modulus_fine a coefs unequal c place (Number digits) h = by_test (ltb MODULUS_LIMIT (value_of digits)) refl (ltb (value_of digits) 2) refl
@@ -161,7 +161,7 @@ finish_by_fine a (AName coefs factor) end = tt
 finish_by_fine a (ARelation coefs) end = tt
 finish_by_fine a (AConstant coefs r) end = tt
 finish_by_fine a (ANumber coefs r) end = tt
-finish_by_fine a (AModulo coefs unequal c) end = ended_fine a.above a.span.ors (up_to_unit a.span (negated_if unequal (equality coefs c))) end
+finish_by_fine a (AModulo coefs unequal c) end = ended_fine a.above a.span.ors (tree_up_to_unit a.span (negation_if unequal (equality_tree coefs c))) end
 finish_by_fine a (AModulus coefs unequal c) end = tt
 finish_by_fine a (ASign p) end = ended_fine a.above a.span.ors p end
 

@@ -5,7 +5,7 @@ use Rattle.std.specs.List.{list_all, prefix_len, take_while}
 use Rattle.std.specs.Str.{bytes_eq}
 use Rattle.std.proofs.Math.Seq.{take-append_seam, drop-append_seam}
 use Rattle.std.proofs.lemmas.Bool.Decides.{nat_tests}
-use Rattle.pop_io.specs.Names.{is_name_start, is_name_byte, is_variable_name}
+use Rattle.pop_io.specs.Names.{is_name_start, is_name_byte, variable_name}
 use Rattle.pres_tokens.specs.Symbols.{Symbol, Name, Number, Minus, Star, Compare, Not, Open, Close, Mod, Placed}
 use Rattle.pres_tokens.specs.Tokens.{blank, digit, first_sign, first_symbol, tokens_from, word_symbol, sign_or}
 use Rattle.pres_tokens.specs.declared.token.Relation.TheVariants.{Unequal}
@@ -114,7 +114,7 @@ lex_word b bs rest start all stops =
     ∙ ap (λ bytes. word_symbol (b ∷ bs) ∷ lex 0 bytes) (drop-append_seam bs rest)
 
 -- a name
-pub lex-name : (name rest : List ℕ) → is_variable_name name ≡ true → Stops rest → lex 0 (name ++ rest) ≡ Name name ∷ lex 0 rest
+pub lex-name : (name rest : List ℕ) → variable_name name ≡ true → Stops rest → lex 0 (name ++ rest) ≡ Name name ∷ lex 0 rest
 lex-name [] rest h stops = cc
 lex-name (b ∷ bs) rest h stops =
     let outer = both_true ((is_name_start b && list_all is_name_byte (b ∷ bs)) && nat_le (length (b ∷ bs)) 32) (not (bytes_eq (b ∷ bs) (codes "mod"))) h in

@@ -13,7 +13,7 @@ use Rattle.pres_tokens.specs.declared.token.Relation.{Relation}
 use Rattle.pres_tokens.specs.declared.token.Relation.TheVariants.{Less, AtMost, Greater, AtLeast, Equal, Unequal}
 use Rattle.pres_read.specs.TextFault.{TextFault, TooLarge}
 use Rattle.pres_read.specs.Numbers.{value_within, value_of}
-use Rattle.pres_read.specs.Atoms.{signed, turned, negated_if, equality, compared, remainder, congruent, constant_limit, Factor, with_coef, with_number, with_term, added}
+use Rattle.pres_read.specs.Atoms.{signed, turned, negation_if, equality_tree, compared, remainder, congruent, limit_of, Factor, with_coef, with_number, with_term, added}
 use Rattle.pres_read.specs.Reading.{negated, conjoined, disjoined, zeros}
 use Rattle.pres_read.specs.Sound.{option_weight, HasOption, IsConstant}
 
@@ -70,10 +70,10 @@ pub AreCoefs-zeros : (names : List (List ℕ)) → AreCoefs (length names) (zero
 AreCoefs-zeros names =
     (length-replicate (length names) (pos 0), All-replicate IsCoef (length names) (pos 0) (omega arith))
 
-pub HasAtoms-equality : (n : ℕ) (coefs : List ℤ) (c : ℤ) → AreCoefs n coefs → IsConstant c → HasAtoms n (equality coefs c)
+pub HasAtoms-equality : (n : ℕ) (coefs : List ℤ) (c : ℤ) → AreCoefs n coefs → IsConstant c → HasAtoms n (equality_tree coefs c)
 HasAtoms-equality n coefs c h g = ((h, abs_up c g), (AreCoefs-turned n coefs h, abs_down c g))
 
-pub HasAtoms-negated_if : (n : ℕ) (b : Bool) (p : PredTree) → HasAtoms n p → HasAtoms n (negated_if b p)
+pub HasAtoms-negated_if : (n : ℕ) (b : Bool) (p : PredTree) → HasAtoms n p → HasAtoms n (negation_if b p)
 HasAtoms-negated_if n false p h = h
 HasAtoms-negated_if n true p h = h
 
@@ -113,7 +113,7 @@ pub HasAtoms-congruent : (n : ℕ) (coefs : List ℤ) (b : Bool) (c : ℤ) (m : 
 HasAtoms-congruent n coefs b c m h least most =
     HasAtoms-negated_if n b (Congruent coefs m (remainder c m)) (h, least, most, remainder_below c m (omega arith))
 
-pub HasAtoms-compared : (n : ℕ) (coefs : List ℤ) (r : Relation) (c : ℤ) → AreCoefs n coefs → nat_abs c ≤ constant_limit r → HasAtoms n (compared coefs r c)
+pub HasAtoms-compared : (n : ℕ) (coefs : List ℤ) (r : Relation) (c : ℤ) → AreCoefs n coefs → nat_abs c ≤ limit_of r → HasAtoms n (compared coefs r c)
 HasAtoms-compared n coefs Less c h g = (h, g)
 HasAtoms-compared n coefs AtMost c h g = (h, abs_up c g)
 HasAtoms-compared n coefs Greater c h g = (AreCoefs-turned n coefs h, (let same = abs-neg c in omega (arith, same, g)))

@@ -7,7 +7,7 @@ use Rattle.std.proofs.lemmas.List.Elements.{All-head, All-tail}
 use Rattle.std.specs.Str.{bytes_eq}
 use Rattle.std.proofs.lemmas.Bool.Decides.{nat_tests}
 use Rattle.pres_ast.specs.declared.limits.TheConstants.{COEFFICIENT_LIMIT}
-use Rattle.pop_io.specs.Names.{is_name_start, is_name_byte, is_variable_name}
+use Rattle.pop_io.specs.Names.{is_name_start, is_name_byte, variable_name}
 use Rattle.pres_ast.specs.PredTree.{PredTree, LessThan, Congruent, Negation, Conjunction, Disjunction}
 use Rattle.pres_ast.specs.PredModel.{HasAtoms}
 use Rattle.pres_tokens.specs.declared.token.Relation.TheVariants.{Less}
@@ -59,13 +59,13 @@ canonical names (Disjunction p q) = group (either (conj (unit (canonical names p
 
 abbrev pub Named : List (List ℕ) → Type 0
 Named [] = Unit {0}
-Named (name ∷ names) = (is_variable_name name ≡ true) × Named names
+Named (name ∷ names) = (variable_name name ≡ true) × Named names
 
 abbrev pub Small : List ℤ → Type 0
 Small [] = Unit {0}
 Small (a ∷ coefs) = (nat_abs a < 2 ^ 64) × Small coefs
 
-lex-term : (k : ℕ) (name rest : List ℕ) → is_variable_name name ≡ true → k < 2 ^ 64 → Stops rest
+lex-term : (k : ℕ) (name rest : List ℕ) → variable_name name ≡ true → k < 2 ^ 64 → Stops rest
     → lex 0 (term_text k name ++ rest) ≡ term_symbols (canonical_term k name) ++ lex 0 rest
 lex-term k name rest h small stops = by_one (k == 1)
   where
@@ -120,7 +120,7 @@ stops_terms (name ∷ names) (a ∷ coefs) rest h =
     stops_if (is_zero a) (is_negative a) name rest (terms_text false names coefs) (nat_abs a) (stops_terms names coefs rest h)
 
 lex-terms_if : (c : Bool) (o : Option Sum) (negative : Bool) (k : ℕ) (name rest zero_case others : List ℕ) (zero_sum later_sum : Option Sum)
-    → is_variable_name name ≡ true → k < 2 ^ 64 → Stops (others ++ rest)
+    → variable_name name ≡ true → k < 2 ^ 64 → Stops (others ++ rest)
     → prefix_symbols o ++ lex 0 (zero_case ++ rest) ≡ prefix_symbols zero_sum ++ lex 0 rest
     → sum_symbols (extended o negative (canonical_term k name)) ++ lex 0 (others ++ rest) ≡ prefix_symbols later_sum ++ lex 0 rest
     → prefix_symbols o ++ lex 0 ((if c then zero_case else (sign_text (is_first o) negative ++ term_text k name ++ others)) ++ rest) ≡ prefix_symbols (if c then zero_sum else later_sum) ++ lex 0 rest
@@ -207,7 +207,7 @@ start_no_equal b h = grind (arith, nat_tests)
 digit_no_equal : (b : ℕ) → digit b ≡ true → (b == 61) ≡ false
 digit_no_equal b h = grind (arith, nat_tests)
 
-name_no_equal : (name rest : List ℕ) → is_variable_name name ≡ true → NoEqual (name ++ rest)
+name_no_equal : (name rest : List ℕ) → variable_name name ≡ true → NoEqual (name ++ rest)
 name_no_equal [] rest h = cc
 name_no_equal (b ∷ bs) rest h =
     let outer = both_true ((is_name_start b && list_all is_name_byte (b ∷ bs)) && nat_le (length (b ∷ bs)) 32) (not (bytes_eq (b ∷ bs) (codes "mod"))) h in
@@ -218,7 +218,7 @@ number_no_equal : (digits rest : List ℕ) → list_all digit digits ≡ true �
 number_no_equal [] rest h some = absurd (omega arith)
 number_no_equal (b ∷ bs) rest h some = digit_no_equal b (both_true (digit b) (list_all digit bs) h).0
 
-term_no_equal : (k : ℕ) (name rest : List ℕ) → is_variable_name name ≡ true → k < 2 ^ 64 → NoEqual (term_text k name ++ rest)
+term_no_equal : (k : ℕ) (name rest : List ℕ) → variable_name name ≡ true → k < 2 ^ 64 → NoEqual (term_text k name ++ rest)
 term_no_equal k name rest h small = by_one (k == 1)
   where
     by_one : (b : Bool) → NoEqual ((if b then name else (decimal k ++ codes "*" ++ name)) ++ rest)
@@ -228,7 +228,7 @@ term_no_equal k name rest h small = by_one (k == 1)
         let flat : decimal k ++ (42 ∷ (name ++ rest)) ≡ ((decimal k ++ codes "*") ++ name) ++ rest = simp append_assoc in
         subst NoEqual flat (number_no_equal (decimal k) (42 ∷ (name ++ rest)) w.digits w.some)
 
-terms_no_equal_if : (c negative : Bool) (k : ℕ) (name rest zero_case others : List ℕ) → is_variable_name name ≡ true → k < 2 ^ 64
+terms_no_equal_if : (c negative : Bool) (k : ℕ) (name rest zero_case others : List ℕ) → variable_name name ≡ true → k < 2 ^ 64
     → NoEqual (zero_case ++ rest) → NoEqual ((if c then zero_case else (sign_text true negative ++ term_text k name ++ others)) ++ rest)
 terms_no_equal_if true negative k name rest zero_case others h small e = e
 terms_no_equal_if false true k name rest zero_case others h small e = refl

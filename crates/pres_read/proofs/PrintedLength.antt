@@ -7,7 +7,7 @@ use Rattle.std.specs.Fmt.{signed_decimal}
 use Rattle.std.proofs.lemmas.Bool.{and_parts, leb-true}
 use Rattle.std.proofs.lemmas.Fmt.{length-decimal-le}
 use Rattle.pop_io.specs.declared.names.TheConstants.{NAME_LIMIT, VARIABLE_LIMIT}
-use Rattle.pop_io.specs.Names.{is_variable_name, is_name_byte, starts_name, AreNames}
+use Rattle.pop_io.specs.Names.{variable_name, is_name_byte, starts_name, AreNames}
 use Rattle.pres_ast.specs.declared.limits.TheConstants.{COEFFICIENT_LIMIT, BOUND_LIMIT}
 use Rattle.pres_ast.specs.PredTree.{PredTree, LessThan, Congruent, Negation, Conjunction, Disjunction}
 use Rattle.pres_ast.specs.PredModel.{HasAtoms, weight_of, IsPred}
@@ -17,7 +17,7 @@ use Rattle.pres_read.proofs.Printed.{Named}
 use Rattle.pres_read.proofs.PrintedTrees.{Named-All}
 use Rattle.pres_read.proofs.Again.{Limited, Limited-All}
 
-name_short : (name : List ℕ) → is_variable_name name ≡ true → length name ≤ NAME_LIMIT
+name_short : (name : List ℕ) → variable_name name ≡ true → length name ≤ NAME_LIMIT
 name_short name form =
     let outer = and_parts ((starts_name name && list_all is_name_byte name) && nat_le (length name) NAME_LIMIT) (not (bytes_eq name (codes "mod"))) form in
     leb-true (length name) NAME_LIMIT (and_parts (starts_name name && list_all is_name_byte name) (nat_le (length name) NAME_LIMIT) outer.0).1
@@ -89,7 +89,7 @@ tree_short names (Disjunction p q) named few h =
     simp length-append (omega (arith, left, right))
 
 -- so each canonical text can be read
-pub printed_short : (names : List (List ℕ)) (t : PredTree) → AreNames is_variable_name names → IsPred (length names) t → length (tree_text names t) ≤ TEXT_LIMIT
+pub printed_short : (names : List (List ℕ)) (t : PredTree) → AreNames variable_name names → IsPred (length names) t → length (tree_text names t) ≤ TEXT_LIMIT
 printed_short names t are pred =
     let whole = tree_short names t (Named-All names are.0) pred.variables pred.atoms in
     let weight = pred.weight in

@@ -12,7 +12,7 @@ use Rattle.std.proofs.lemmas.Slice.Eq.{bytes_eq-Decides}
 use Rattle.std.proofs.lemmas.Int.{ints}
 use Rattle.std.proofs.Math.Nat.{mod-eq_of_lt}
 use Rattle.std.proofs.Math.Seq.{set-append_seam, get_or-append_seam}
-use Rattle.pop_io.specs.Names.{is_variable_name, AreNames}
+use Rattle.pop_io.specs.Names.{variable_name, AreNames}
 use Rattle.pres_ast.specs.PredTree.{PredTree, LessThan, Congruent, Negation, Conjunction, Disjunction}
 use Rattle.pres_ast.specs.PredModel.{HasAtoms}
 use Rattle.pres_tokens.specs.declared.token.Relation.TheVariants.{Less, Equal}
@@ -249,13 +249,13 @@ meaning-canonical names (Conjunction p q) apart h =
 meaning-canonical names (Disjunction p q) apart h =
     ap (λ t. Disjunction t (meaning names (canonical names q))) (meaning-canonical names p apart h.0) ∙ ap (Disjunction p) (meaning-canonical names q apart h.1)
 
-pub Named-All : (names : List (List ℕ)) → All (λ name. IsTrue (is_variable_name name)) names → Named names
+pub Named-All : (names : List (List ℕ)) → All (λ name. IsTrue (variable_name name)) names → Named names
 Named-All [] h = tt
 Named-All (name ∷ names) h =
-    (All-head (λ word. IsTrue (is_variable_name word)) name names h, Named-All names (All-tail (λ word. IsTrue (is_variable_name word)) name names h))
+    (All-head (λ word. IsTrue (variable_name word)) name names h, Named-All names (All-tail (λ word. IsTrue (variable_name word)) name names h))
 
 -- the grammar relates the canonical text to the predicate
-pub printed_derives : (names : List (List ℕ)) (t : PredTree) → AreNames is_variable_name names → 0 < length names → HasAtoms (length names) t
+pub printed_derives : (names : List (List ℕ)) (t : PredTree) → AreNames variable_name names → 0 < length names → HasAtoms (length names) t
     → Derives names (text_symbols (tree_text names t)) t
 printed_derives names t are some h = record {
   phrase = conj (unit (canonical names t));

@@ -10,9 +10,9 @@ use Rattle.pres_tokens.specs.declared.token.Relation.TheVariants.{Less, AtMost, 
 use Rattle.pres_tokens.specs.Symbols.{Symbol, Name, Number, Plus, Minus, Star, Compare, And, Or, Not, Open, Close, Mod, Placed}
 use Rattle.pres_read.specs.TextFault.{TextFault, Syntax, UnknownName, TooLarge, TooDeep, LongText}
 use Rattle.pres_read.specs.Numbers.{value_of, value_within}
-use Rattle.pres_read.specs.Atoms.{signed, negated_if, equality, congruent, constant_limit, Factor, lone, with_coef, with_number, with_term, added}
+use Rattle.pres_read.specs.Atoms.{signed, negation_if, equality_tree, congruent, limit_of, Factor, lone, with_coef, with_number, with_term, added}
 use Rattle.pres_read.specs.Progress.{Span, Around, Next, AUnit, ATerm, AStar, AName, ARelation, AConstant, ANumber, AModulo, AModulus, ASign, Progress}
-use Rattle.pres_read.specs.Reading.{after_unit, after_sum, at_term, at_unit, at_star, at_name, at_relation, after_constant, with_constant, at_number, at_constant, with_modulus, at_modulus, closed, at_sign, up_to_unit, disjoined, at_modulo, by_next, step, zeros}
+use Rattle.pres_read.specs.Reading.{after_unit, after_sum, at_term, at_unit, at_star, at_name, at_relation, after_constant, with_constant, at_number, at_constant, with_modulus, at_modulus, closed, at_sign, tree_up_to_unit, disjoined, at_modulo, by_next, step, zeros}
 use Rattle.pres_read.specs.Grammar.{coefs_of, meaning}
 use Rattle.pres_read.specs.Rules.{CoefFits, IsKnown}
 use Rattle.pres_read.proofs.Traces.{Lead, begin, IUnit, ITerm, IStar, IName, IRelation, IConstant, INumber, IModulo, IModulus, Trace, Inside, Done}
@@ -103,12 +103,12 @@ relation_plain a coefs place s = tt
 
 number_says : (names : List (List ℕ)) (a : Around) (coefs : List ℤ) (r : Relation) (negative : Bool) (place : ℕ) (s : Symbol)
     → Says (RuleConstant r s) (IsKnown names s) place place (at_number a coefs r negative place s)
-number_says names a coefs r negative place (Number digits) = by_test (ltb (constant_limit r) (value_of digits)) refl
+number_says names a coefs r negative place (Number digits) = by_test (ltb (limit_of r) (value_of digits)) refl
   where
-    by_test : (b : Bool) → ltb (constant_limit r) (value_of digits) ≡ b
+    by_test : (b : Bool) → ltb (limit_of r) (value_of digits) ≡ b
         → Says (RuleConstant r (Number digits)) (IsKnown names (Number digits)) place place (with_constant a coefs r negative place (if b then None else Some (value_of digits)))
-    by_test true e = let past = ltb-true (constant_limit r) (value_of digits) e in (tt, (λ most. absurd (omega (arith, past, most))), refl)
-    by_test false e = ltb-false (constant_limit r) (value_of digits) e
+    by_test true e = let past = ltb-true (limit_of r) (value_of digits) e in (tt, (λ most. absurd (omega (arith, past, most))), refl)
+    by_test false e = ltb-false (limit_of r) (value_of digits) e
 number_says names a coefs r negative place s = tt
 
 constant_says : (names : List (List ℕ)) (a : Around) (coefs : List ℤ) (r : Relation) (place : ℕ) (s : Symbol) → Says (RuleConstant r s) (IsKnown names s) place place (at_constant a coefs r place s)
@@ -127,7 +127,7 @@ sign_plain above ors p place s = tt
 
 modulo_plain : (a : Around) (coefs : List ℤ) (unequal : Bool) (c : ℤ) (place : ℕ) (s : Symbol) → Plain (at_modulo a coefs unequal c place s)
 modulo_plain a coefs unequal c place Mod = tt
-modulo_plain a coefs unequal c place s = sign_plain a.above a.span.ors (up_to_unit a.span (negated_if unequal (equality coefs c))) place s
+modulo_plain a coefs unequal c place s = sign_plain a.above a.span.ors (tree_up_to_unit a.span (negation_if unequal (equality_tree coefs c))) place s
 
 modulus_says : (names : List (List ℕ)) (a : Around) (coefs : List ℤ) (unequal : Bool) (c : ℤ) (place : ℕ) (s : Symbol) → Says (RuleModulus s) (IsKnown names s) place place (at_modulus a coefs unequal c place s)
 modulus_says names a coefs unequal c place (Number digits) = by_test (ltb MODULUS_LIMIT (value_of digits)) refl (ltb (value_of digits) 2) refl
@@ -226,7 +226,7 @@ constant_given a coefs r negative place None before = tt
 constant_given a coefs r negative place (Some n) before = compared_begun a coefs r (signed negative n) before
 
 number_begun : (a : Around) (coefs : List ℤ) (r : Relation) (negative : Bool) (place : ℕ) (s : Symbol) (before : List Placed) → BegunAfter (at_number a coefs r negative place s) before
-number_begun a coefs r negative place (Number digits) before = constant_given a coefs r negative place (value_within (constant_limit r) (value_of digits)) before
+number_begun a coefs r negative place (Number digits) before = constant_given a coefs r negative place (value_within (limit_of r) (value_of digits)) before
 number_begun a coefs r negative place s before = tt
 
 constant_begun : (a : Around) (coefs : List ℤ) (r : Relation) (place : ℕ) (s : Symbol) (before : List Placed) → BegunAfter (at_constant a coefs r place s) before
@@ -245,7 +245,7 @@ sign_begun above ors p place s before = tt
 
 modulo_begun : (a : Around) (coefs : List ℤ) (unequal : Bool) (c : ℤ) (place : ℕ) (s : Symbol) (before : List Placed) → BegunAfter (at_modulo a coefs unequal c place s) before
 modulo_begun a coefs unequal c place Mod before = tt
-modulo_begun a coefs unequal c place s before = sign_begun a.above a.span.ors (up_to_unit a.span (negated_if unequal (equality coefs c))) place s before
+modulo_begun a coefs unequal c place s before = sign_begun a.above a.span.ors (tree_up_to_unit a.span (negation_if unequal (equality_tree coefs c))) place s before
 
 modulus_given : (a : Around) (coefs : List ℤ) (unequal : Bool) (c : ℤ) (place : ℕ) (o : Option ℕ) (before : List Placed) → BegunAfter (with_modulus a coefs unequal c place o) before
 modulus_given a coefs unequal c place None before = tt

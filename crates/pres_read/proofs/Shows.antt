@@ -9,9 +9,9 @@ use Rattle.pres_tokens.specs.declared.token.Relation.TheVariants.{Less, AtMost, 
 use Rattle.pres_tokens.specs.Symbols.{Symbol, Name, Number, Plus, Minus, Star, Compare, And, Or, Not, Open, Close, Mod, Placed}
 use Rattle.pres_read.specs.TextFault.{TextFault, Syntax, UnknownName, TooLarge, TooDeep, LongText}
 use Rattle.pres_read.specs.Numbers.{value_of, value_within}
-use Rattle.pres_read.specs.Atoms.{signed, negated_if, equality, compared, congruent, constant_limit, Factor, with_coef, with_number, with_term, added}
+use Rattle.pres_read.specs.Atoms.{signed, negation_if, equality_tree, compared, congruent, limit_of, Factor, with_coef, with_number, with_term, added}
 use Rattle.pres_read.specs.Progress.{Span, Around, Next, AUnit, ATerm, AStar, AName, ARelation, AConstant, ANumber, AModulo, AModulus, ASign, Progress, start}
-use Rattle.pres_read.specs.Reading.{negated, conjoined, disjoined, zeros, after_unit, going_on, after_sum, at_term, at_unit, at_star, at_name, at_relation, after_constant, with_constant, at_number, at_constant, with_modulus, at_modulus, closed, at_sign, up_to_unit, after_equality, at_modulo, by_next, step, ended, finish_by, finish}
+use Rattle.pres_read.specs.Reading.{negated, conjoined, disjoined, zeros, after_unit, going_on, after_sum, at_term, at_unit, at_star, at_name, at_relation, after_constant, with_constant, at_number, at_constant, with_modulus, at_modulus, closed, at_sign, tree_up_to_unit, after_equality, at_modulo, by_next, step, ended, finish_by, finish}
 use Rattle.pres_read.specs.Grammar.{Term, bare, times, Sum, plain, modular, APred, AConj, AUnit, Phrase, group, atom, equal_or_not, raised, coefs_of, meaning}
 use Rattle.pres_read.proofs.Traces.{Lead, begin, after, sum_with, Inner, IUnit, ITerm, IStar, IName, IRelation, IConstant, INumber, IModulo, IModulus, Side, Trace, Inside, Done, begun, negates, with_ands, with_ors, conj_of, unit_done, trace_closed, trace_sign, trace_term, trace_unit, trace_star, trace_name, trace_relation, trace_compared, trace_number, trace_constant, equality_conj, trace_modulo, trace_modulus, trace_inner, trace_step, trace_ended, trace_inner_end, trace_end}
 
@@ -85,7 +85,7 @@ meaning-with_ors : (names : List (List ℕ)) (o : Option (Phrase APred)) (c : Ph
 meaning-with_ors names None c = refl
 meaning-with_ors names (Some p) c = refl
 
-meaning-conj_of : (names : List (List ℕ)) (side : Side) (u : Phrase AUnit) → meaning names (conj_of side u) ≡ up_to_unit (side_span names side) (meaning names u)
+meaning-conj_of : (names : List (List ℕ)) (side : Side) (u : Phrase AUnit) → meaning names (conj_of side u) ≡ tree_up_to_unit (side_span names side) (meaning names u)
 meaning-conj_of names side u =
     meaning-with_ands names side.ands (negates side.nots u) ∙ ap (conjoined (option_map (meaning names) side.ands)) (meaning-negates names side.nots u)
 
@@ -94,7 +94,7 @@ unit_shown : (names : List (List ℕ)) (above : List Side) (side : Side) (u : Ph
 unit_shown names above side u p e = (
   0,
   ap (λ c. record { around = record { above = side_spans names above; span = record { ors = option_map (meaning names) side.ors; ands = None; nots = 0 } }; next = ASign c })
-      (ap (up_to_unit (side_span names side)) (sym e) ∙ sym (meaning-conj_of names side u)),
+      (ap (tree_up_to_unit (side_span names side)) (sym e) ∙ sym (meaning-conj_of names side u)),
 )
 
 -- ---- the coefficients of a sum
@@ -201,7 +201,7 @@ constant_within names above side sum r negative digits place limit = by_test (lt
 
 number_agrees : (names : List (List ℕ)) (above : List Side) (side : Side) (sum : Sum) (r : Relation) (negative : Bool) (place : ℕ) (s : Symbol)
     → Agrees names (at_number (around_side names above side) (coefs_of names sum) r negative place s) (trace_number above side sum r negative s) place
-number_agrees names above side sum r negative place (Number digits) = constant_within names above side sum r negative digits place (constant_limit r)
+number_agrees names above side sum r negative place (Number digits) = constant_within names above side sum r negative digits place (limit_of r)
 number_agrees names above side sum r negative place s = (refl, refl)
 
 constant_agrees : (names : List (List ℕ)) (above : List Side) (side : Side) (sum : Sum) (r : Relation) (place : ℕ) (s : Symbol)
@@ -224,14 +224,14 @@ sign_agrees names above ors c place Close =
 sign_agrees names above ors c place s = (refl, refl)
 
 meaning-equality : (names : List (List ℕ)) (sum : Sum) (unequal negative : Bool) (digits : List ℕ)
-    → meaning names (atom (plain sum (equal_or_not unequal) negative digits)) ≡ negated_if unequal (equality (coefs_of names sum) (signed negative (value_of digits)))
+    → meaning names (atom (plain sum (equal_or_not unequal) negative digits)) ≡ negation_if unequal (equality_tree (coefs_of names sum) (signed negative (value_of digits)))
 meaning-equality names sum false negative digits = refl
 meaning-equality names sum true negative digits = refl
 
 meaning-equality_conj : (names : List (List ℕ)) (side : Side) (sum : Sum) (unequal negative : Bool) (digits : List ℕ)
-    → meaning names (equality_conj side sum unequal negative digits) ≡ up_to_unit (side_span names side) (negated_if unequal (equality (coefs_of names sum) (signed negative (value_of digits))))
+    → meaning names (equality_conj side sum unequal negative digits) ≡ tree_up_to_unit (side_span names side) (negation_if unequal (equality_tree (coefs_of names sum) (signed negative (value_of digits))))
 meaning-equality_conj names side sum unequal negative digits =
-    meaning-conj_of names side (atom (plain sum (equal_or_not unequal) negative digits)) ∙ ap (up_to_unit (side_span names side)) (meaning-equality names sum unequal negative digits)
+    meaning-conj_of names side (atom (plain sum (equal_or_not unequal) negative digits)) ∙ ap (tree_up_to_unit (side_span names side)) (meaning-equality names sum unequal negative digits)
 
 equality_agrees : (names : List (List ℕ)) (above : List Side) (side : Side) (sum : Sum) (unequal negative : Bool) (digits : List ℕ) (place : ℕ) (s : Symbol)
     → Agrees names (after_equality (around_side names above side) (coefs_of names sum) unequal (signed negative (value_of digits)) place s) (trace_sign above side.ors (equality_conj side sum unequal negative digits) s) place

@@ -10,10 +10,10 @@ use Rattle.pres_tokens.specs.declared.token.Relation.TheVariants.{Less, AtMost, 
 use Rattle.pres_tokens.specs.Symbols.{Symbol, Name, Number, Plus, Minus, Star, Compare, And, Or, Not, Open, Close, Mod, Placed}
 use Rattle.pres_read.specs.TextFault.{TextFault, TooLarge}
 use Rattle.pres_read.specs.Numbers.{value_within, value_of}
-use Rattle.pres_read.specs.Atoms.{signed, negated_if, equality, compared, congruent, constant_limit, Factor, lone, added}
+use Rattle.pres_read.specs.Atoms.{signed, negation_if, equality_tree, compared, congruent, limit_of, Factor, lone, added}
 use Rattle.pres_read.specs.Progress.{Span, Around, Next, AUnit, ATerm, AStar, AName, ARelation, AConstant, ANumber, AModulo, AModulus, ASign, Progress}
 use Rattle.pres_read.specs.Depth.{charge_of, relation_charge}
-use Rattle.pres_read.specs.Reading.{negated, disjoined, zeros, after_unit, going_on, after_sum, at_term, at_unit, at_star, at_name, at_relation, after_constant, with_constant, at_number, at_constant, with_modulus, at_modulus, closed, at_sign, up_to_unit, after_equality, at_modulo, by_next, step}
+use Rattle.pres_read.specs.Reading.{negated, disjoined, zeros, after_unit, going_on, after_sum, at_term, at_unit, at_star, at_name, at_relation, after_constant, with_constant, at_number, at_constant, with_modulus, at_modulus, closed, at_sign, tree_up_to_unit, after_equality, at_modulo, by_next, step}
 use Rattle.pres_read.specs.Sound.{option_weight, span_weight, spans_weight, equality_weight, next_weight, HasOption, HasSpan, HasSpans, IsConstant, HasNext, IsSettled, IsSoundProgress}
 use Rattle.pres_read.proofs.Limits.{weight-negated, weight-conjoined, weight-disjoined, HasAtoms-negated, HasAtoms-conjoined, HasAtoms-disjoined, HasAtoms-negated_if, HasAtoms-equality, HasAtoms-compared, HasAtoms-congruent, AreCoefs-zeros, abs-signed, within_limit, added_fits}
 
@@ -26,10 +26,10 @@ pub record Rests (n : ℕ) (a : Around) (charge : ℕ) : Type 0 where
 abbrev pub Goes : ℕ → ℕ → Result Progress TextFault → Type 0
 Goes n charge r = IfOk r (λ q. IsSoundProgress n q charge)
 
-pub weight-up_to_unit : (span : Span) (p : PredTree) → weight_of (up_to_unit span p) ≡ option_weight span.ands + (weight_of p + span.nots)
+pub weight-up_to_unit : (span : Span) (p : PredTree) → weight_of (tree_up_to_unit span p) ≡ option_weight span.ands + (weight_of p + span.nots)
 weight-up_to_unit span p = weight-conjoined span.ands (negated span.nots p) ∙ ap (λ w. option_weight span.ands + w) (weight-negated span.nots p)
 
-pub HasAtoms-up_to_unit : (n : ℕ) (span : Span) (p : PredTree) → HasSpan n span → HasAtoms n p → HasAtoms n (up_to_unit span p)
+pub HasAtoms-up_to_unit : (n : ℕ) (span : Span) (p : PredTree) → HasSpan n span → HasAtoms n p → HasAtoms n (tree_up_to_unit span p)
 HasAtoms-up_to_unit n span p h g = HasAtoms-conjoined n span.ands (negated span.nots p) h.1 (HasAtoms-negated n span.nots p g)
 
 sound-after_unit : (n charge more : ℕ) (a : Around) (p : PredTree) → Rests n a charge → HasAtoms n p → weight_of p ≡ more
@@ -100,7 +100,7 @@ relation_goes n charge a coefs place (Compare r) rests h = sound-going_on n char
 relation_goes n charge a coefs place s rests h = tt
 
 after_constant_sound : (n charge : ℕ) (a : Around) (coefs : List ℤ) (r : Relation) (c : ℤ)
-    → Rests n a charge → AreCoefs n coefs → nat_abs c ≤ constant_limit r → IsSoundProgress n (after_constant a coefs r c) (charge + relation_charge r)
+    → Rests n a charge → AreCoefs n coefs → nat_abs c ≤ limit_of r → IsSoundProgress n (after_constant a coefs r c) (charge + relation_charge r)
 after_constant_sound n charge a coefs Less c rests h g = sound-after_unit n charge 0 a (compared coefs Less c) rests (HasAtoms-compared n coefs Less c h g) refl
 after_constant_sound n charge a coefs AtMost c rests h g = sound-after_unit n charge 0 a (compared coefs AtMost c) rests (HasAtoms-compared n coefs AtMost c h g) refl
 after_constant_sound n charge a coefs Greater c rests h g = sound-after_unit n charge 0 a (compared coefs Greater c) rests (HasAtoms-compared n coefs Greater c h g) refl
@@ -109,12 +109,12 @@ after_constant_sound n charge a coefs Equal c rests h g = sound-going_on n charg
 after_constant_sound n charge a coefs Unequal c rests h g = sound-going_on n charge 2 a (AModulo coefs true c) rests (h, g) tt refl
 
 with_constant_goes : (n charge : ℕ) (a : Around) (coefs : List ℤ) (r : Relation) (negative : Bool) (place : ℕ) (o : Option ℕ)
-    → Rests n a charge → AreCoefs n coefs → IfSome o (λ v. v ≤ constant_limit r) → Goes n (charge + relation_charge r) (with_constant a coefs r negative place o)
+    → Rests n a charge → AreCoefs n coefs → IfSome o (λ v. v ≤ limit_of r) → Goes n (charge + relation_charge r) (with_constant a coefs r negative place o)
 with_constant_goes n charge a coefs r negative place None rests h g = tt
 with_constant_goes n charge a coefs r negative place (Some v) rests h g =
     after_constant_sound n charge a coefs r (signed negative v) rests h (let same = abs-signed negative v in omega (arith, same, g))
 
-pub weight-unequal : (b : Bool) (coefs : List ℤ) (c : ℤ) → weight_of (negated_if b (equality coefs c)) ≡ equality_weight b
+pub weight-unequal : (b : Bool) (coefs : List ℤ) (c : ℤ) → weight_of (negation_if b (equality_tree coefs c)) ≡ equality_weight b
 weight-unequal false coefs c = refl
 weight-unequal true coefs c = refl
 
@@ -129,8 +129,8 @@ number_goes : (n charge : ℕ) (a : Around) (coefs : List ℤ) (r : Relation) (n
     → Rests n a charge → AreCoefs n coefs → Goes n (charge + relation_charge r + charge_of s) (at_number a coefs r negative place s)
 number_goes n charge a coefs r negative place (Number digits) rests h =
     weighs n (charge + relation_charge r) (charge + relation_charge r + 0)
-    (with_constant a coefs r negative place (value_within (constant_limit r) (value_of digits))) (omega arith)
-    (with_constant_goes n charge a coefs r negative place (value_within (constant_limit r) (value_of digits)) rests h (within_limit (constant_limit r) (value_of digits)))
+    (with_constant a coefs r negative place (value_within (limit_of r) (value_of digits))) (omega arith)
+    (with_constant_goes n charge a coefs r negative place (value_within (limit_of r) (value_of digits)) rests h (within_limit (limit_of r) (value_of digits)))
 number_goes n charge a coefs r negative place s rests h = tt
 
 constant_goes : (n charge : ℕ) (a : Around) (coefs : List ℤ) (r : Relation) (place : ℕ) (s : Symbol)
@@ -164,10 +164,10 @@ equality_goes : (n charge : ℕ) (a : Around) (coefs : List ℤ) (unequal : Bool
     → Rests n a charge → AreCoefs n coefs → IsConstant c
     → Goes n (charge + equality_weight unequal + charge_of s) (after_equality a coefs unequal c place s)
 equality_goes n charge a coefs unequal c place s rests h g =
-    let atoms = HasAtoms-negated_if n unequal (equality coefs c) (HasAtoms-equality n coefs c h g) in
-    sign_goes n (charge + equality_weight unequal) a.above a.span.ors (up_to_unit a.span (negated_if unequal (equality coefs c))) place s
-    rests.above rests.span.0 (HasAtoms-up_to_unit n a.span (negated_if unequal (equality coefs c)) rests.span atoms)
-    (let whole = weight-up_to_unit a.span (negated_if unequal (equality coefs c)) in
+    let atoms = HasAtoms-negated_if n unequal (equality_tree coefs c) (HasAtoms-equality n coefs c h g) in
+    sign_goes n (charge + equality_weight unequal) a.above a.span.ors (tree_up_to_unit a.span (negation_if unequal (equality_tree coefs c))) place s
+    rests.above rests.span.0 (HasAtoms-up_to_unit n a.span (negation_if unequal (equality_tree coefs c)) rests.span atoms)
+    (let whole = weight-up_to_unit a.span (negation_if unequal (equality_tree coefs c)) in
     let w = rests.weight in let own = weight-unequal unequal coefs c in omega (arith, whole, w, own))
 
 modulo_goes : (n charge : ℕ) (a : Around) (coefs : List ℤ) (unequal : Bool) (c : ℤ) (place : ℕ) (s : Symbol)

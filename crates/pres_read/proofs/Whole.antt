@@ -4,7 +4,7 @@ use Rattle.pres_ast.specs.declared.limits.TheConstants.{MODULUS_LIMIT}
 use Rattle.pres_tokens.specs.declared.token.Relation.{Relation}
 use Rattle.pres_tokens.specs.Symbols.{Symbol, Name, Number, Plus, Minus, Star, Compare, Close, Mod}
 use Rattle.pres_read.specs.Numbers.{value_of}
-use Rattle.pres_read.specs.Atoms.{constant_limit}
+use Rattle.pres_read.specs.Atoms.{limit_of}
 use Rattle.pres_read.specs.Reading.{zeros}
 use Rattle.pres_read.specs.Grammar.{Term, bare, times, Sum, first, further, APred, AConj, Phrase, term_symbols, minus_if, plus_or_minus, sum_symbols, constant_symbols, coefs_of}
 use Rattle.pres_read.specs.Rules.{TermFits, SumFits, NumbersFit, last_is, opens}
@@ -184,7 +184,7 @@ sum_at names m sum rest u k = absurd u
 -- ---- constants and moduli
 
 constant_at : (names : List (List ℕ)) (m last : Trace) (r : Relation) (negative : Bool) (digits : List ℕ) (rest : List Symbol) → trace_run m (Compare r ∷ (constant_symbols negative digits ++ rest)) ≡ Some last
-    → Kept names m (Compare r ∷ (constant_symbols negative digits ++ rest)) → value_of digits ≤ constant_limit r
+    → Kept names m (Compare r ∷ (constant_symbols negative digits ++ rest)) → value_of digits ≤ limit_of r
 constant_at names (Inside above side (IRelation sum)) last r false digits rest e k = k.1.0
 constant_at names (Inside above side (IRelation sum)) last r true digits rest e k = k.1.1.0
 constant_at names (Inside above side IUnit) last r negative digits rest e k = absurd cc

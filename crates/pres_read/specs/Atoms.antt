@@ -17,12 +17,12 @@ signed true n = neg_ℤ (pos n)
 abbrev pub turned : List ℤ → List ℤ
 turned coefs = map neg_ℤ coefs
 
-abbrev pub negated_if : Bool → PredTree → PredTree
-negated_if false p = p
-negated_if true p = Negation p
+abbrev pub negation_if : Bool → PredTree → PredTree
+negation_if false p = p
+negation_if true p = Negation p
 
-abbrev pub equality : List ℤ → ℤ → PredTree
-equality coefs c = Conjunction (LessThan coefs (c +ℤ pos 1)) (LessThan (turned coefs) (pos 1 -ℤ c))
+abbrev pub equality_tree : List ℤ → ℤ → PredTree
+equality_tree coefs c = Conjunction (LessThan coefs (c +ℤ pos 1)) (LessThan (turned coefs) (pos 1 -ℤ c))
 
 -- the tree of a sum compared with a constant
 abbrev pub compared : List ℤ → Relation → ℤ → PredTree
@@ -30,8 +30,8 @@ compared coefs Less c = LessThan coefs c
 compared coefs AtMost c = LessThan coefs (c +ℤ pos 1)
 compared coefs Greater c = LessThan (turned coefs) (neg_ℤ c)
 compared coefs AtLeast c = LessThan (turned coefs) (pos 1 -ℤ c)
-compared coefs Equal c = equality coefs c
-compared coefs Unequal c = Negation (equality coefs c)
+compared coefs Equal c = equality_tree coefs c
+compared coefs Unequal c = Negation (equality_tree coefs c)
 
 -- the constant's remainder in 0..m
 abbrev pub remainder : ℤ → ℕ → ℕ
@@ -39,16 +39,16 @@ remainder c m = nat_abs (int_rem_euclid c (pos m))
 
 -- the tree of a sum compared with a constant modulo m
 abbrev pub congruent : List ℤ → Bool → ℤ → ℕ → PredTree
-congruent coefs unequal c m = negated_if unequal (Congruent coefs m (remainder c m))
+congruent coefs unequal c m = negation_if unequal (Congruent coefs m (remainder c m))
 
 -- the greatest constant after a relation
-abbrev pub constant_limit : Relation → ℕ
-constant_limit Less = BOUND_LIMIT
-constant_limit AtMost = BOUND_LIMIT - 1
-constant_limit Greater = BOUND_LIMIT - 1
-constant_limit AtLeast = BOUND_LIMIT - 1
-constant_limit Equal = BOUND_LIMIT - 1
-constant_limit Unequal = BOUND_LIMIT - 1
+abbrev pub limit_of : Relation → ℕ
+limit_of Less = BOUND_LIMIT
+limit_of AtMost = BOUND_LIMIT - 1
+limit_of Greater = BOUND_LIMIT - 1
+limit_of AtLeast = BOUND_LIMIT - 1
+limit_of Equal = BOUND_LIMIT - 1
+limit_of Unequal = BOUND_LIMIT - 1
 
 -- a term's sign and number, and where the term begins
 pub record Factor : Type 0 where

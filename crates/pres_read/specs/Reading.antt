@@ -12,7 +12,7 @@ use Rattle.pres_tokens.specs.Symbols.{Symbol, Name, Number, Plus, Minus, Star, C
 use Rattle.pres_tokens.specs.Tokens.{tokens_of}
 use Rattle.pres_read.specs.TextFault.{TextFault, Syntax, TooLarge, LongText}
 use Rattle.pres_read.specs.Outcome.{◌>>=◌}
-use Rattle.pres_read.specs.Atoms.{signed, equality, negated_if, compared, congruent, constant_limit, Factor, lone, added}
+use Rattle.pres_read.specs.Atoms.{signed, equality_tree, negation_if, compared, congruent, limit_of, Factor, lone, added}
 use Rattle.pres_read.specs.Numbers.{value_of, value_within}
 use Rattle.pres_read.specs.Progress.{Span, clear, Around, Next, AUnit, ATerm, AStar, AName, ARelation, AConstant, ANumber, AModulo}
 use Rattle.pres_read.specs.Progress.{AModulus, ASign, Progress, start}
@@ -90,7 +90,7 @@ with_constant a coefs r negative place (Some n) = Ok (after_constant a coefs r (
 
 abbrev pub at_number : Around → List ℤ → Relation → Bool → ℕ → Symbol → Result Progress TextFault
 at_number a coefs r negative place (Number digits) =
-    with_constant a coefs r negative place (value_within (constant_limit r) (value_of digits))
+    with_constant a coefs r negative place (value_within (limit_of r) (value_of digits))
 at_number a coefs r negative place s = Err (Syntax place)
 
 abbrev pub at_constant : Around → List ℤ → Relation → ℕ → Symbol → Result Progress TextFault
@@ -121,13 +121,13 @@ at_sign above ors p place Close = closed above (disjoined ors p) place
 at_sign above ors p place s = Err (Syntax place)
 
 -- the conjunction up to a unit
-abbrev pub up_to_unit : Span → PredTree → PredTree
-up_to_unit span p = conjoined span.ands (negated span.nots p)
+abbrev pub tree_up_to_unit : Span → PredTree → PredTree
+tree_up_to_unit span p = conjoined span.ands (negated span.nots p)
 
 -- without a modulus the atom is done, and the symbol follows a unit
 abbrev pub after_equality : Around → List ℤ → Bool → ℤ → ℕ → Symbol → Result Progress TextFault
 after_equality a coefs unequal c place s =
-    at_sign a.above a.span.ors (up_to_unit a.span (negated_if unequal (equality coefs c))) place s
+    at_sign a.above a.span.ors (tree_up_to_unit a.span (negation_if unequal (equality_tree coefs c))) place s
 
 abbrev pub at_modulo : Around → List ℤ → Bool → ℤ → ℕ → Symbol → Result Progress TextFault
 at_modulo a coefs unequal c place Mod = Ok (going_on a (AModulus coefs unequal c))
@@ -162,7 +162,7 @@ finish_by a (ARelation coefs) end = Err (Syntax end)
 finish_by a (AConstant coefs r) end = Err (Syntax end)
 finish_by a (ANumber coefs r) end = Err (Syntax end)
 finish_by a (AModulo coefs unequal c) end =
-    ended a.above a.span.ors (up_to_unit a.span (negated_if unequal (equality coefs c))) end
+    ended a.above a.span.ors (tree_up_to_unit a.span (negation_if unequal (equality_tree coefs c))) end
 finish_by a (AModulus coefs unequal c) end = Err (Syntax end)
 finish_by a (ASign p) end = ended a.above a.span.ors p end
 

@@ -7,7 +7,7 @@ use Rattle.pres_read.specs.declared.depth.TheConstants.{PARENTHESIS_LIMIT}
 use Rattle.pres_tokens.specs.declared.token.Relation.{Relation}
 use Rattle.pres_tokens.specs.Symbols.{Symbol, Name, Number, Plus, Minus, Star, Compare, And, Or, Not, Open, Close, Mod, Stray}
 use Rattle.pres_read.specs.Numbers.{value_of}
-use Rattle.pres_read.specs.Atoms.{signed, constant_limit}
+use Rattle.pres_read.specs.Atoms.{signed, limit_of}
 use Rattle.pres_read.specs.Depth.{Depth, surface, deeper}
 use Rattle.pres_read.specs.Reading.{zeros}
 use Rattle.pres_read.specs.Grammar.{Term, Sum, first, further, Atom, plain, modular, Part, Phrase, conj, either, unit, both, negate, group}
@@ -27,9 +27,9 @@ SumFits names (first negative term) = TermFits names (zeros names) negative term
 SumFits names (further sum negative term) = SumFits names sum × TermFits names (coefs_of names sum) negative term
 
 abbrev pub AtomFits : List (List ℕ) → Atom → Type 0
-AtomFits names (plain sum relation negative digits) = SumFits names sum × (value_of digits ≤ constant_limit relation)
+AtomFits names (plain sum relation negative digits) = SumFits names sum × (value_of digits ≤ limit_of relation)
 AtomFits names (modular sum unequal negative digits modulus) =
-    SumFits names sum × (value_of digits ≤ constant_limit (equal_or_not unequal)) × (2 ≤ value_of modulus) × (value_of modulus ≤ MODULUS_LIMIT)
+    SumFits names sum × (value_of digits ≤ limit_of (equal_or_not unequal)) × (2 ≤ value_of modulus) × (value_of modulus ≤ MODULUS_LIMIT)
 
 -- names are known, and numbers within their limits
 abbrev pub Fits : {part : Part} → List (List ℕ) → Phrase part → Type 0
@@ -89,7 +89,7 @@ pub record NumbersFit (names : List (List ℕ)) (ss : List Symbol) : Type 0 wher
   pub sums : (before later : List Symbol) (sum : Sum) → ss ≡ before ++ (sum_symbols sum ++ later) → last_is opens true before ≡ true → SumFits names sum
   pub constants : (before later : List Symbol) (relation : Relation) (negative : Bool) (digits : List ℕ)
       → ss ≡ before ++ Compare relation ∷ (constant_symbols negative digits ++ later)
-      → value_of digits ≤ constant_limit relation
+      → value_of digits ≤ limit_of relation
   pub moduli : (before later : List Symbol) (digits : List ℕ) → ss ≡ before ++ Mod ∷ Number digits ∷ later
       → (2 ≤ value_of digits) × (value_of digits ≤ MODULUS_LIMIT)
 

@@ -12,10 +12,10 @@ ghost use Rattle.pres_read.specs.Reading.{at_name as name_step, at_relation as r
 ghost use Rattle.pres_read.specs.Reading.{at_constant as constant_step};
 ghost use Rattle.pres_read.specs.Reading.{at_number as number_step, with_constant as constant_given};
 ghost use Rattle.pres_read.specs.Reading.{at_modulo as modulo_step};
-ghost use Rattle.pres_read.specs.Reading.{after_equality as equality_step, at_modulus as modulus_step};
+ghost use Rattle.pres_read.specs.Reading.{after_equality as equality_tree, at_modulus as modulus_step};
 ghost use Rattle.pres_read.specs.Reading.{with_modulus as modulus_given, step, finish, going_on};
-ghost use Rattle.pres_read.specs.Reading.{after_constant as progress_after_constant, up_to_unit as tree_up_to_unit};
-ghost use Rattle.pres_read.specs.Atoms.{constant_limit as limit_of, negated_if as negation_if};
+ghost use Rattle.pres_read.specs.Reading.{after_constant as progress_after_constant, tree_up_to_unit};
+ghost use Rattle.pres_read.specs.Atoms.{limit_of, negation_if};
 ghost use Rattle.pres_read.specs.Atoms.{equality as equality_tree};
 ghost use Rattle.pres_read.specs.Sound.{HasNext};
 ghost use Rattle.pres_read.specs.Views.{span_of, factor_of, around_of, progress_of, next_of};
@@ -303,7 +303,7 @@ fn after_equality<'a>(
     requires coefs { All (λ a. nat_abs a ≤ COEFFICIENT_LIMIT) coefs.items }
     requires constant { nat_abs constant ≤ BOUND_LIMIT - 1 }
     ensures { Gives progress_of result
-        (equality_step (around_of around) coefs.items unequal constant token.entry.place (symbol_of token.entry.kind)) }
+        (equality_tree (around_of around) coefs.items unequal constant token.entry.place (symbol_of token.entry.kind)) }
 {
     let Around { above, level } = around;
     let (ors, tree) = compared_up_to(alloc, level, coefs, unequal, constant)?;

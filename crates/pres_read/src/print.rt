@@ -4,7 +4,7 @@ ghost use Rattle.std.specs.Prelude.{◌≡◌, ◌≤◌, ◌<◌, ◌^◌, ◌+
 ghost use Rattle.std.specs.Prelude.{codes, true};
 ghost use Rattle.std.specs.List.{list_all};
 ghost use Rattle.std.specs.Fmt.{signed_decimal};
-ghost use Rattle.pop_io.specs.Names.{is_variable_name, AreNames};
+ghost use Rattle.pop_io.specs.Names.{variable_name, AreNames};
 ghost use Rattle.pres_ast.specs.PredModel.{HasAtoms, IsPred};
 ghost use Rattle.pres_ast.specs.TreeOf.{tree_of};
 ghost use Rattle.pres_read.specs.Grammar.{Derives};
@@ -20,7 +20,7 @@ use std::alloc::{AllocError, Global};
 /// The canonical text of a predicate over the variables with these names, at most some 50,000 bytes.
 pub fn print_pred(alloc: Global, pred: &Pred, names: &List<Text>) -> Result<Text, NoMemory>
     requires count { length names.now ≡ pred.now.variables }
-    requires names { AreNames is_variable_name names.now }
+    requires names { AreNames variable_name names.now }
     ensures canonical { IfOk result (λ text. text ≡ tree_text names.now pred.now.tree) }
     // The grammar relates the text to the predicate's tree.
     ensures derived { IfOk result (λ text. Derives names.now (text_symbols text) pred.now.tree) }
@@ -32,7 +32,7 @@ pub fn print_pred(alloc: Global, pred: &Pred, names: &List<Text>) -> Result<Text
 
 fn canonical_text(alloc: Global, tree: &Tree, names: &List<Text>) -> Result<Text, NoMemory>
     requires limits { IsPred (length names.now) (tree_of tree.now) }
-    requires names { AreNames is_variable_name names.now }
+    requires names { AreNames variable_name names.now }
     ensures canonical { IfOk result (λ text. text ≡ tree_text names.now (tree_of tree.now)) }
     ensures derived { IfOk result (λ text. Derives names.now (text_symbols text) (tree_of tree.now)) }
     ensures again { IfOk result

@@ -1,7 +1,7 @@
 //! Reading a predicate.
 
 ghost use Rattle.std.specs.Prelude.{◌≡◌, ◌≤◌, IfOk, IfErr, IfSome, length};
-ghost use Rattle.pop_io.specs.Names.{is_variable_name, AreNames};
+ghost use Rattle.pop_io.specs.Names.{variable_name, AreNames};
 ghost use Rattle.pres_ast.specs.PredTree.{PredTree};
 ghost use Rattle.pres_ast.specs.PredModel.{IsPred};
 ghost use Rattle.pres_ast.specs.TreeOf.{tree_of};
@@ -33,7 +33,7 @@ pub const TEXT_LIMIT: usize = 1_048_576;
 pub fn read_pred(alloc: Global, text: &[u8], names: &List<Text>) -> Result<Pred, ReadPred>
     requires some { 1 ≤ length names.now }
     requires few { length names.now ≤ VARIABLE_LIMIT }
-    requires names { AreNames is_variable_name names.now }
+    requires names { AreNames variable_name names.now }
     // Token by token, each fault and its place.
     ensures exact { Gives (λ pred. pred) result (pred_read names.now text.now) }
     // The grammar relates the text to the tree that is read.

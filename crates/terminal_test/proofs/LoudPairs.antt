@@ -5,12 +5,12 @@ use Rattle.std.proofs.lemmas.List.{take_more}
 use Rattle.std.proofs.lemmas.List.Elements.{All-nil, All-cons, All-head, All-tail}
 use Rattle.std.proofs.lemmas.Option.{get_or_from_slice_get}
 use Rattle.pop_net.specs.declared.leaf.Move.{Move}
-use Rattle.pop_net.specs.LeafModel.{is_silent, IsMoveBelow}
+use Rattle.pop_net.specs.LeafModel.{silent_move, IsMoveBelow}
 use Rattle.terminal_test.specs.Loud.{pairs_of, ArePairsBelow}
 
 pub pairs_of-append : (xs ys : List Move) → pairs_of (xs ++ ys) ≡ pairs_of xs ++ pairs_of ys
 pairs_of-append [] ys = refl
-pairs_of-append (t ∷ xs) ys = go (is_silent t) (pairs_of-append xs ys)
+pairs_of-append (t ∷ xs) ys = go (silent_move t) (pairs_of-append xs ys)
   where
     go : (b : Bool) → pairs_of (xs ++ ys) ≡ pairs_of xs ++ pairs_of ys → (if b then pairs_of (xs ++ ys) else (t.p, t.q) ∷ pairs_of (xs ++ ys)) ≡ (if b then pairs_of xs else (t.p, t.q) ∷ pairs_of xs) ++ pairs_of ys
     go true rest = rest
@@ -26,7 +26,7 @@ loud_more moves t k old new l is before e =
 
 pub pairs_below : (n : ℕ) (moves : List Move) → All (IsMoveBelow n) moves → ArePairsBelow n (pairs_of moves)
 pairs_below n [] h = All-nil (λ (z : ℕ × ℕ). (z.0 < n) × (z.1 < n))
-pairs_below n (t ∷ moves) h = go (is_silent t) (pairs_below n moves (All-tail (IsMoveBelow n) t moves h))
+pairs_below n (t ∷ moves) h = go (silent_move t) (pairs_below n moves (All-tail (IsMoveBelow n) t moves h))
   where
     here : IsMoveBelow n t
     here = All-head (IsMoveBelow n) t moves h
@@ -36,12 +36,12 @@ pairs_below n (t ∷ moves) h = go (is_silent t) (pairs_below n moves (All-tail 
     go false rest = All-cons (λ (z : ℕ × ℕ). (z.0 < n) × (z.1 < n)) (t.p, t.q) (pairs_of moves) (here.0, here.1) rest
 
 -- the pair of a move that is not silent is there
-pub in_pairs : (moves : List Move) (i : ℕ) (t : Move) → slice_get moves i ≡ Some t → is_silent t ≡ false → (j : ℕ) × (slice_get (pairs_of moves) j ≡ Some (t.p, t.q))
+pub in_pairs : (moves : List Move) (i : ℕ) (t : Move) → slice_get moves i ≡ Some t → silent_move t ≡ false → (j : ℕ) × (slice_get (pairs_of moves) j ≡ Some (t.p, t.q))
 in_pairs [] i t h e = cc
 in_pairs (u ∷ moves) zero t h e =
     let same : u ≡ t = cc in
-    (0, ap (λ b. slice_get (if b then pairs_of moves else (u.p, u.q) ∷ pairs_of moves) 0) (ap is_silent same ∙ e) ∙ ap (λ (m : Move). Some (m.p, m.q)) same)
-in_pairs (u ∷ moves) (suc i) t h e = go (is_silent u) (in_pairs moves i t h e)
+    (0, ap (λ b. slice_get (if b then pairs_of moves else (u.p, u.q) ∷ pairs_of moves) 0) (ap silent_move same ∙ e) ∙ ap (λ (m : Move). Some (m.p, m.q)) same)
+in_pairs (u ∷ moves) (suc i) t h e = go (silent_move u) (in_pairs moves i t h e)
   where
     go : (b : Bool) → (j : ℕ) × (slice_get (pairs_of moves) j ≡ Some (t.p, t.q)) → (j : ℕ) × (slice_get (if b then pairs_of moves else (u.p, u.q) ∷ pairs_of moves) j ≡ Some (t.p, t.q))
     go true later = later

@@ -6,7 +6,7 @@ use Rattle.std.proofs.lemmas.Bool.{and_parts, and_from, not-true, not-false, not
 use Rattle.std.proofs.lemmas.Bool.Decides.{Decides-eqb}
 use Rattle.std.proofs.lemmas.Slice.Eq.{slice_eq-Decides}
 use Rattle.pop_net.specs.declared.leaf.Move.{Move}
-use Rattle.pop_net.specs.LeafModel.{LeafModel, is_silent, same_pair}
+use Rattle.pop_net.specs.LeafModel.{LeafModel, silent_move, same_pair}
 use Rattle.pop_net.specs.NetModel.{NetModel, Tuple}
 use Rattle.pop_net.specs.Reaction.{takes, after_move, by_move, leaf_reaction, reactions, reaction}
 use Rattle.pop_net.proofs.Found.{find_some}
@@ -24,7 +24,7 @@ moved net x y e f =
     not_from_true _ (and_from _ _ ((slice_eq-Decides Decides-eqb (reaction net x y).0 x _ refl).1 e) ((slice_eq-Decides Decides-eqb (reaction net x y).1 y _ refl).1 f))
 
 -- a non-silent move changes the states that take it
-after_itself : (t : Move) (x y : ℕ) (b : Bool) → (x == t.p) && (y == t.q) ≡ b → same_pair x y t.p t.q ≡ true → (after_move b t).0 ≡ x → (after_move b t).1 ≡ y → is_silent t ≡ true
+after_itself : (t : Move) (x y : ℕ) (b : Bool) → (x == t.p) && (y == t.q) ≡ b → same_pair x y t.p t.q ≡ true → (after_move b t).0 ≡ x → (after_move b t).1 ≡ y → silent_move t ≡ true
 after_itself t x y true e s h k =
     let parts = and_parts (x == t.p) (y == t.q) e in
     let first : t.p ≡ t.r = sym (eqb-true x t.p parts.0) ∙ sym h in
@@ -41,7 +41,7 @@ quiet_leaf : (leaf : LeafModel) (x y : ℕ) (found : Option Move) → find (take
 quiet_leaf leaf x y None e h k = refl
 quiet_leaf leaf x y (Some t) e h k =
     let s = find_some (takes x y) leaf.moves t e in
-    let parts = and_parts (not (is_silent t)) (same_pair x y t.p t.q) s.2 in
+    let parts = and_parts (not (silent_move t)) (same_pair x y t.p t.q) s.2 in
     let silent = after_itself t x y ((x == t.p) && (y == t.q)) refl parts.1 h k in
     absurd (false≢true (sym (not-true _ parts.0) ∙ silent))
 
@@ -75,7 +75,7 @@ and_turned false false = refl
 
 takes_turned : (x y : ℕ) (t : Move) → takes x y t ≡ takes y x t
 takes_turned x y t =
-    ap (λ b. not (is_silent t) && b)
+    ap (λ b. not (silent_move t) && b)
     (or_turned ((x == t.p) && (y == t.q)) ((x == t.q) && (y == t.p)) ∙ ap (λ b. b || (x == t.p) && (y == t.q)) (and_turned (x == t.q) (y == t.p)) ∙ ap (λ b. (y == t.p) && (x == t.q) || b) (and_turned (x == t.p) (y == t.q)))
 
 leaf_turned : (leaf : LeafModel) (x y : ℕ) → leaf_quiet leaf x y ≡ leaf_quiet leaf y x

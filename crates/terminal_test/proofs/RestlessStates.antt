@@ -8,7 +8,7 @@ use Rattle.std.proofs.Math.Seq.{get_or-append_seam}
 use Rattle.std.specs.Option.{option_map}
 use Rattle.std.proofs.lemmas.Option.{slice_get-get_or, slice_get_within, slice_get-map, get_or_from_slice_get, same_Some}
 use Rattle.pop_net.specs.declared.leaf.Move.{Move}
-use Rattle.pop_net.specs.LeafModel.{LeafModel, IsLeaf, is_silent, same_pair}
+use Rattle.pop_net.specs.LeafModel.{LeafModel, IsLeaf, silent_move, same_pair}
 use Rattle.pop_net.specs.NetModel.{NetModel, Tuple, CrowdModel, IsTuple, state_of}
 use Rattle.pop_net.specs.Reaction.{takes, by_move, leaf_reaction, reactions}
 use Rattle.pop_net.proofs.Found.{find_some}
@@ -141,14 +141,14 @@ are_held seen p q one other two = go (eqb_tells p q)
         ∙ and_from _ _ (le-leb 1 (get_or seen p 0) one) (le-leb 1 (get_or seen q 0) other)
 
 -- what moves two states of a leaf
-mover : (leaf : LeafModel) (x y : ℕ) → leaf_quiet leaf x y ≡ false → (i : ℕ) × (t : Move) × (slice_get leaf.moves i ≡ Some t) × (is_silent t ≡ false) × (same_pair x y t.p t.q ≡ true)
+mover : (leaf : LeafModel) (x y : ℕ) → leaf_quiet leaf x y ≡ false → (i : ℕ) × (t : Move) × (slice_get leaf.moves i ≡ Some t) × (silent_move t ≡ false) × (same_pair x y t.p t.q ≡ true)
 mover leaf x y loud = go (find (takes x y) leaf.moves) refl
   where
-    go : (found : Option Move) → find (takes x y) leaf.moves ≡ found → (i : ℕ) × (t : Move) × (slice_get leaf.moves i ≡ Some t) × (is_silent t ≡ false) × (same_pair x y t.p t.q ≡ true)
+    go : (found : Option Move) → find (takes x y) leaf.moves ≡ found → (i : ℕ) × (t : Move) × (slice_get leaf.moves i ≡ Some t) × (silent_move t ≡ false) × (same_pair x y t.p t.q ≡ true)
     go None e = absurd (false≢true (sym loud ∙ ap is_none e))
     go (Some t) e =
         let s = find_some (takes x y) leaf.moves t e in
-        let parts = and_parts (not (is_silent t)) (same_pair x y t.p t.q) s.2 in
+        let parts = and_parts (not (silent_move t)) (same_pair x y t.p t.q) s.2 in
         (s.0, t, s.1, not-true _ parts.0, parts.1)
 
 module _ (leaf : LeafModel) (states seen : List ℕ) (marks : List Bool) (n : ℕ) (agents : length states ≡ n) (counted : CountsTo states seen n) (marked : AreMarked (pairs_of leaf.moves) seen marks) where

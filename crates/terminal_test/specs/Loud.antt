@@ -1,12 +1,12 @@
 -- Loud: the pairs of states that react.
 use Rattle.std.specs.Prelude.{ℕ, ◌<◌, if◌then◌else◌, List, [], ◌∷◌, All}
 use Rattle.pop_net.specs.declared.leaf.Move.{Move}
-use Rattle.pop_net.specs.LeafModel.{is_silent}
+use Rattle.pop_net.specs.LeafModel.{silent_move}
 
 -- the two states of each move that is not silent
 abbrev pub pairs_of : List Move → List (ℕ × ℕ)
 pairs_of [] = []
-pairs_of (t ∷ moves) = if is_silent t then pairs_of moves else (t.p, t.q) ∷ pairs_of moves
+pairs_of (t ∷ moves) = if silent_move t then pairs_of moves else (t.p, t.q) ∷ pairs_of moves
 
 -- states with numbers below n
 abbrev pub ArePairsBelow : ℕ → List (ℕ × ℕ) → Type 0

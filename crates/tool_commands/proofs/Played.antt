@@ -14,9 +14,7 @@ use Rattle.pop_crowd.specs.Replay.{replay}
 use Rattle.pop_words.specs.Counts.{counts_of}
 use Rattle.pop_words.specs.Meetings.{meeting_of}
 use Rattle.tool_texts.specs.declared.refusal.Refusal.{Refusal}
-use Rattle.tool_texts.specs.declared.stop.Stop.{Stop}
-use Rattle.tool_texts.specs.declared.stop.Stop.TheVariants.{Refused, NoMemory}
-use Rattle.tool_texts.specs.Steps.{◌>>=◌, Stops}
+use Rattle.tool_texts.specs.Steps.{◌>>=◌}
 use Rattle.tool_commands.specs.Eval.{counted}
 use Rattle.tool_commands.specs.Start.{fitting_in}
 use Rattle.tool_commands.proofs.InputSize.{length-input_crowd}
@@ -49,7 +47,3 @@ nested net crowd pair (Err r) = refl
 module _ (net : NetModel) (agents number : ℕ) (crowd : CrowdModel) (line : List ℕ) (lines : List (List ℕ)) where
   pub goes_on : (pair : ℕ × ℕ) → paired number (meeting_of agents line) ≡ Ok pair → on_from net agents number crowd (line ∷ lines) ≡ on_from net agents (number + 1) (after_meeting net pair.0 pair.1 crowd) lines
   goes_on pair is = rw is (nested net crowd pair (meetings_in agents (number + 1) lines))
-
-  pub stops_at : (e : Stop) → Stops e (paired number (meeting_of agents line)) → Stops e (on_from net agents number crowd (line ∷ lines))
-  stops_at NoMemory stopped = tt
-  stops_at (Refused r) stopped = rw stopped refl

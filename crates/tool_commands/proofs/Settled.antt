@@ -1,7 +1,6 @@
 -- What a valid proof lets be settled.
-use Rattle.std.proofs.Common.{◌≡◌, ℕ, ◌<◌, ◌≤◌, List, length, None, Result, Err}
+use Rattle.std.proofs.Common.{ℕ, ◌≤◌, length}
 use Rattle.std.specs.Prelude.{All}
-use Rattle.std.proofs.lemmas.Bool.{le-ltb, lt-ltb}
 use Rattle.std.proofs.lemmas.List.Elements.{All-weaker}
 use Rattle.pres_ast.specs.PredModel.{PredModel}
 use Rattle.pop_net.specs.NetModel.{NetModel}
@@ -11,14 +10,8 @@ use Rattle.cert_base.specs.declared.proof.LeafProof.{LeafProof}
 use Rattle.cert_base.specs.declared.limits.TheConstants.{LAYER_LIMIT}
 use Rattle.cert_base.specs.ProofLimits.{IsLayerWithin, IsLeafProofWithin, IsProofWithin}
 use Rattle.cert_base.specs.ValidProof.{ValidProof}
-use Rattle.cert_json.specs.declared.bundle.Bundle.{Bundle}
 use Rattle.cert_layers.specs.LayerFaults.{IsWeight}
-use Rattle.pop_settle.specs.declared.limits.TheConstants.{TAKE_LIMIT}
 use Rattle.pop_settle.specs.Settling.{HasLayers}
-use Rattle.tool_texts.specs.declared.refusal.Refusal.{Refusal}
-use Rattle.tool_texts.specs.declared.refusal.Refusal.TheVariants.{Settle}
-use Rattle.tool_texts.specs.declared.output.Output.{Output}
-use Rattle.tool_commands.specs.Settle.{takes_allowed, IsSettled, OfJudged}
 
 pub has_layers : (net : NetModel) (p : PredModel) (proof : Proof) (variables leaves : ℕ) → ValidProof net p proof → IsProofWithin variables leaves proof → HasLayers net proof
 has_layers net p proof variables leaves v within =
@@ -27,10 +20,3 @@ has_layers net p proof variables leaves v within =
       few = All-weaker (IsLeafProofWithin variables) (λ (part : LeafProof). (length part.layers ≤ LAYER_LIMIT) × All (λ layer. All IsWeight layer.weights) part.layers)
           (λ part is. (is.layer_count, All-weaker IsLayerWithin (λ (layer : Layer). All IsWeight layer.weights) (λ layer l. l.weights) part.layers is.layers)) proof.leaves within.parts;
     }
-
-pub settled_judged : (bundle : Bundle) (counts : List ℕ) (given : Result Output Refusal) → takes_allowed bundle counts ≤ TAKE_LIMIT → IsSettled bundle counts given → OfJudged bundle counts None given
-settled_judged bundle counts given few is = rw (le-ltb TAKE_LIMIT (takes_allowed bundle counts) few) is
-
-pub long_judged : (bundle : Bundle) (counts : List ℕ) (takes : ℕ) → takes ≡ takes_allowed bundle counts → TAKE_LIMIT < takes → OfJudged bundle counts None (Err (Settle takes))
-long_judged bundle counts takes same long =
-    rw (← same, lt-ltb TAKE_LIMIT takes long) (λ i. Err (Settle takes))

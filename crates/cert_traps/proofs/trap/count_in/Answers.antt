@@ -2,7 +2,7 @@ use Rattle.std.proofs.Common.{◌≡◌, ◌∙◌, length, ap, rules, w64, to_z
 use Rattle.std.proofs.lemmas.Int.{to_z-of_z}
 use Rattle.std.proofs.lemmas.Result.{IfOk-weaker}
 use Rattle.std.proofs.lemmas.List.FromFn.{length-range_with_len}
-use Rattle.cert_base.specs.FactsAndCases.{is_in, states_of, count_in}
+use Rattle.cert_base.specs.FactsAndCases.{is_in, states_of, count_row}
 use Rattle.cert_base.specs.Rows.{state_row}
 use Rattle.cert_traps.proofs.Lists.{flags_coefs, length-coefs}
 use Rattle.cert_traps.proofs.trap.count_in.Goals as goal
@@ -17,7 +17,7 @@ returns-clause-row c =
     let fits : SFits w64 c.args.constant = search rules in
     IfOk-weaker c.over_states.result
     (λ row. row ≡ state_row c.args.leaf.now c.as_slice-2.result.now (to_z w64 (of_z w64 c.args.constant)))
-    (λ row. row ≡ count_in c.args.leaf.now c.args.set.now c.args.constant)
+    (λ row. row ≡ count_row c.args.leaf.now c.args.set.now c.args.constant)
     (λ row e.
     e
     ∙ ap (state_row c.args.leaf.now c.as_slice-2.result.now) (to_z-of_z w64 c.args.constant fits)

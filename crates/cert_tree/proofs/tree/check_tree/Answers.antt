@@ -1,6 +1,6 @@
 use Rattle.std.proofs.Common.{◌≡◌, ◌≤◌, ◌+◌, ◌∙◌, List, ◌∷◌, [], ap, sym, subst, drop, length, arith}
 use Rattle.std.specs.Prelude.{Some}
-use Rattle.cert_base.specs.FactsAndCases.{base_facts}
+use Rattle.cert_base.specs.FactsAndCases.{base_list}
 use Rattle.cert_tree.specs.declared.fault.TreeWhy.TheVariants.{Missing}
 use Rattle.cert_tree.specs.declared.fault.TreeFault.TheVariants.{Broken}
 use Rattle.cert_tree.specs.Refusals.{Waiting, first_from}
@@ -37,7 +37,7 @@ loop-number-preserved c =
       nested = c.in_default.ensures.nested;
       fit = c.in_default.ensures.fit;
       same = c.loop-number.invariant.same ∙ ap (first_from c.args.leaf.now (waiting c.loop-number.walk) c.loop-number.number) d ∙ c.in_default.ensures.goes_on c.loop-number.number (drop (c.loop-number.number + 1) c.args.nodes.now);
-      cover = cover_on c.args.leaf.now ((0, base_facts c.args.leaf.now c.args.pred.now c.args.value) ∷ []) (waiting c.loop-number.walk) (waiting c.visit.new.self) c.loop-number.invariant.cover c.in_default.ensures.cover;
+      cover = cover_on c.args.leaf.now ((0, base_list c.args.leaf.now c.args.pred.now c.args.value) ∷ []) (waiting c.loop-number.walk) (waiting c.visit.new.self) c.loop-number.invariant.cover c.in_default.ensures.cover;
     }
 
 pub returns-then-branch-clause-accepts : goal.returns-then-branch-clause-accepts

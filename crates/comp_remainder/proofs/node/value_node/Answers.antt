@@ -5,7 +5,7 @@ use Rattle.std.proofs.lemmas.Int.{to_z-of_z}
 use Rattle.std.proofs.lemmas.List.FromFn.{length-map-range_with_len}
 use Rattle.cert_base.specs.declared.node.Node.TheVariants.{Residue}
 use Rattle.cert_base.specs.Rows.{terms_from}
-use Rattle.comp_trees.specs.LeaderTree.{company, mix_by, mix_of_leader}
+use Rattle.comp_trees.specs.LeaderTree.{company_of, mix_by, mix_of_leader}
 use Rattle.comp_trees.proofs.SameMix.{listed_mix}
 use Rattle.comp_remainder_leaf.specs.RemainderLeaf.{state_count}
 use Rattle.comp_remainder.specs.RemainderProof.{value_of, opened_by}
@@ -30,7 +30,7 @@ returns c =
     let mix = listed_mix leaf p value value (pos 0) (opened_by c.args.answer) (value p) c.as_slice.result.now c.as_slice-2.result.now first second in
     let fits : SFits w64 c.value-alone.result = search rules in
     let fits2 : SFits w64 c.opened-added.result = search rules in
-    let added = ap (λ o. mix_of_leader leaf (company leaf p) (mix_by c.as_slice.result.now (pos 0) o c.as_slice-2.result.now (to_z w64 (of_z w64 c.value-alone.result))) p) (to_z-of_z w64 c.opened-added.result fits2 ∙ c.opened-added.ensures) in
-    let alone = ap (λ a. mix_of_leader leaf (company leaf p) (mix_by c.as_slice.result.now (pos 0) (opened_by c.args.answer) c.as_slice-2.result.now a) p) (to_z-of_z w64 c.value-alone.result fits ∙ c.value-alone.ensures) in
+    let added = ap (λ o. mix_of_leader leaf (company_of leaf p) (mix_by c.as_slice.result.now (pos 0) o c.as_slice-2.result.now (to_z w64 (of_z w64 c.value-alone.result))) p) (to_z-of_z w64 c.opened-added.result fits2 ∙ c.opened-added.ensures) in
+    let alone = ap (λ a. mix_of_leader leaf (company_of leaf p) (mix_by c.as_slice.result.now (pos 0) (opened_by c.args.answer) c.as_slice-2.result.now a) p) (to_z-of_z w64 c.value-alone.result fits ∙ c.value-alone.ensures) in
     ap (λ m. Residue m c.in_ok-terms.field-0) c.from.ensures
     ∙ ap (Residue c.args.modulus) (c.in_ok-terms.ensures ∙ ap (terms_from 0) (c.as_slice-3.ensures.value ∙ c.in_ok-mixed.ensures.mix ∙ added ∙ alone ∙ mix))

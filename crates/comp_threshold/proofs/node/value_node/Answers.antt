@@ -4,7 +4,7 @@ use Rattle.std.specs.Prelude.{pos}
 use Rattle.std.specs.List.{range_with_len}
 use Rattle.std.proofs.lemmas.Result.{IfOk-weaker}
 use Rattle.std.proofs.lemmas.List.FromFn.{length-map-range_with_len}
-use Rattle.comp_trees.specs.LeaderTree.{company, mix_by, mix_of_leader, weighed}
+use Rattle.comp_trees.specs.LeaderTree.{company_of, mix_by, mix_of_leader, weighed}
 use Rattle.comp_trees.proofs.SameMix.{listed_mix}
 use Rattle.comp_threshold_leaf.specs.ThresholdLeaf.{state_count}
 use Rattle.comp_threshold.specs.ThresholdProof.{signed_value}
@@ -28,5 +28,5 @@ returns c =
     let second = c.as_slice-2.ensures.value ∙ c.in_ok-values.ensures ∙ range in
     let mix = listed_mix leaf p value value (pos 0) (pos 1) (value p) c.as_slice.result.now c.as_slice-2.result.now first second in
     let fits : SFits w64 c.signed-alone.result = search rules in
-    let alone = ap (λ a. mix_of_leader leaf (company leaf p) (mix_by c.as_slice.result.now (pos 0) (pos 1) c.as_slice-2.result.now a) p) (to_z-of_z w64 c.signed-alone.result fits ∙ c.signed-alone.ensures) in
+    let alone = ap (λ a. mix_of_leader leaf (company_of leaf p) (mix_by c.as_slice.result.now (pos 0) (pos 1) c.as_slice-2.result.now a) p) (to_z-of_z w64 c.signed-alone.result fits ∙ c.signed-alone.ensures) in
     IfOk-weaker c.weighed.result _ _ (λ node h. h ∙ ap weighed (c.as_slice-3.ensures.value ∙ c.in_ok-multipliers.ensures.mix ∙ alone ∙ mix)) c.weighed.ensures

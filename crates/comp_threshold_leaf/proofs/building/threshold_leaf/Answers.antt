@@ -2,7 +2,7 @@ use Rattle.std.proofs.Common.{◌∙◌, ap, sym, subst, arith, rules, w64, SFit
 use Rattle.std.specs.Prelude.{nat_abs, AllPairs}
 use Rattle.std.proofs.lemmas.Int.{to_z-of_z}
 use Rattle.std.proofs.lemmas.Result.{IfOk-weaker}
-use Rattle.comp_threshold_leaf.specs.ThresholdLeaf.{place}
+use Rattle.comp_threshold_leaf.specs.ThresholdLeaf.{place_of_value}
 use Rattle.comp_threshold_leaf.proofs.Places.{width-bound, width-coef}
 use Rattle.pop_net.specs.LeafModel.{LeafModel}
 use Rattle.pop_net.specs.Reaction.{Differ}
@@ -25,7 +25,7 @@ built_leaf-requires-clause-within c =
 pub built_leaf-requires-clause-formed : goal.built_leaf-requires-clause-formed
 built_leaf-requires-clause-formed c =
     let fits : SFits w64 c.args.bound = search rules in
-    built-formed c.args.coefs.now c.args.bound c.args.s c.place-t.result c.requires.width (c.place-t.ensures ∙ ap (place c.args.s) (to_z-of_z w64 c.args.bound fits)) c.requires.some c.requires.few c.requires.narrow
+    built-formed c.args.coefs.now c.args.bound c.args.s c.place-t.result c.requires.width (c.place-t.ensures ∙ ap (place_of_value c.args.s) (to_z-of_z w64 c.args.bound fits)) c.requires.some c.requires.few c.requires.narrow
 
 pub returns-clause-single : goal.returns-clause-single
 returns-clause-single c =

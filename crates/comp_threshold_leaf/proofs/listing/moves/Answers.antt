@@ -2,7 +2,7 @@ use Rattle.std.proofs.Common.{◌∙◌, []}
 use Rattle.std.specs.Prelude.{flat_map}
 use Rattle.std.specs.List.{range_with_len}
 use Rattle.comp_layers.proofs.Members.{flat_range_more}
-use Rattle.comp_threshold_leaf.specs.ThresholdLeaf.{span, pairs_of, turns_of}
+use Rattle.comp_threshold_leaf.specs.ThresholdLeaf.{span_of, pairs_of, turns_of}
 use Rattle.comp_threshold_leaf.proofs.listing.moves.Goals as goal
 
 pub loop-p-preserved : goal.loop-p-preserved
@@ -11,4 +11,4 @@ loop-p-preserved c =
 
 pub loop-p-2-preserved : goal.loop-p-2-preserved
 loop-p-2-preserved c =
-    flat_range_more (turns_of c.args.s c.args.t) c.loop-p-2.p (flat_map (pairs_of c.args.s c.args.t) (range_with_len 0 (span c.args.s))) c.loop-p-2.moves.items c.as_slice-in-loop-p-2.result.now c.extend_from_slice-in-loop-p-2.new.self.items c.loop-p-2.invariant (c.as_slice-in-loop-p-2.ensures.value ∙ c.in_ok-turns.ensures) c.in_ok-extend_from_slice-2.ensures.items
+    flat_range_more (turns_of c.args.s c.args.t) c.loop-p-2.p (flat_map (pairs_of c.args.s c.args.t) (range_with_len 0 (span_of c.args.s))) c.loop-p-2.moves.items c.as_slice-in-loop-p-2.result.now c.extend_from_slice-in-loop-p-2.new.self.items c.loop-p-2.invariant (c.as_slice-in-loop-p-2.ensures.value ∙ c.in_ok-turns.ensures) c.in_ok-extend_from_slice-2.ensures.items

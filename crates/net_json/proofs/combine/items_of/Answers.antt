@@ -2,7 +2,7 @@ use Rattle.std.proofs.Common.{◌≡◌, true, false, arith, ◌∙◌}
 use Rattle.std.proofs.lemmas.Result.{err_from_is_err_and}
 use Rattle.serde_json.specs.View.{view}
 use Rattle.json_shape.specs.Paths.{path_text}
-use Rattle.pop_net.specs.NetModel.{after_item, depths}
+use Rattle.pop_net.specs.NetModel.{after_item, depth_operators}
 use Rattle.pop_net.specs.NetFaults.{names_below, are_low}
 use Rattle.net_json.specs.Examined.{combine_item, items_at}
 use Rattle.json_shape.proofs.Each.{each-fails, each-goes}
@@ -23,7 +23,7 @@ unfolding items_at
 returns-then-not-put-clause-items c =
     let path = path_text c.args.path.now in
     let no : c.put.result ≡ false = cc in
-    let high : are_low (after_item depths c.in_ok-operand.operand c.loop-i.trees) ≡ false = and_second c.put.result (names_below c.args.leaves c.in_ok-operand.operand) _ c.put.ensures.good c.in_ok-operand.ensures.below ∙ no in
+    let high : are_low (after_item depth_operators c.in_ok-operand.operand c.loop-i.trees) ≡ false = and_second c.put.result (names_below c.args.leaves c.in_ok-operand.operand) _ c.put.ensures.good c.in_ok-operand.ensures.below ∙ no in
     let failed = shape-fails path c.args.leaves c.loop-i.items.items c.loop-i.i (view c.item-item.result) c.broken.result c.in_ok-operand.operand c.loop-i.trees c.in_ok-operand.ensures.operand c.loop-i.invariant.trees_open high c.broken.ensures in
     rw (c.in_ok-list.ensures.list, ← c.deref-item-items.ensures.value)
     (each-fails (combine_item path c.args.leaves) c.loop-i.items.items c.deref-item-items.result.now c.loop-i.i c.broken.result c.item-item.result _ c.loop-i-test.true c.item-item.is failed c.loop-i.invariant.read)
@@ -33,7 +33,7 @@ loop-i-preserved c =
     let path = path_text c.args.path.now in
     let item = c.in_ok-operand.operand in
     let yes : c.put.result ≡ true = cc in
-    let low : are_low (after_item depths item c.loop-i.trees) ≡ true = and_second c.put.result (names_below c.args.leaves item) _ c.put.ensures.good c.in_ok-operand.ensures.below ∙ yes in
+    let low : are_low (after_item depth_operators item c.loop-i.trees) ≡ true = and_second c.put.result (names_below c.args.leaves item) _ c.put.ensures.good c.in_ok-operand.ensures.below ∙ yes in
     let after = put_some c.put.result yes c.put.ensures.put in
     let goes = item-goes path c.args.leaves c.loop-i.items.items c.loop-i.i (view c.item-item.result) item c.loop-i.trees c.in_ok-operand.ensures.operand c.loop-i.invariant.trees_open low in
     record {

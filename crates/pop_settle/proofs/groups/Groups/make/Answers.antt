@@ -1,6 +1,6 @@
 use Rattle.std.proofs.Common.{◌≡◌, length, sym, ◌∙◌}
 use Rattle.std.proofs.lemmas.Bool.{both_ways}
-use Rattle.pop_net.specs.LeafModel.{is_silent}
+use Rattle.pop_net.specs.LeafModel.{silent_move}
 use Rattle.pop_settle.proofs.Grouping.{alike_groups, puts_alike, no_first, no_second, no_other, put_back, least_pair, made_groups}
 use Rattle.pop_settle.proofs.groups.Groups.make.Goals.{then-is_silent-via-then-is_silent, then-is_silent-via-else-is_silent+then-is_empty}
 use Rattle.pop_settle.proofs.groups.Groups.make.Goals as goal
@@ -9,7 +9,7 @@ pub returns-then-is_silent-clause-made : goal.returns-then-is_silent-clause-made
 returns-then-is_silent-clause-made c =
     elim c.then-is_silent.branch [
       | then-is_silent-via-then-is_silent w ↦
-          (λ states are. (are, (λ a b can. both_ways (is_silent c.args.t) can.non_silent (sym c.is_silent.ensures ∙ w.if-is_silent.true))))
+          (λ states are. (are, (λ a b can. both_ways (silent_move c.args.t) can.non_silent (sym c.is_silent.ensures ∙ w.if-is_silent.true))))
       | then-is_silent-via-else-is_silent+then-is_empty w ↦
           (λ states are. (are, no_second states c.args.self.now.groups.items c.args.t are c.requires.1 (w.is_empty.ensures w.if-is_empty.true)))
     ]
