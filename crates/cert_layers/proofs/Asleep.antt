@@ -11,7 +11,7 @@ use Rattle.pop_net.specs.FirstFault.{first_below}
 use Rattle.pop_net.proofs.FirstFault.{none_below}
 use Rattle.cert_layers.specs.MoveLayers.{layer_of}
 use Rattle.cert_layers.specs.Search.{some_move, some_layer}
-use Rattle.cert_layers.specs.Waking.{first_at, is_early, IsEarly, IsTable, brings, wakes_with, wakes, wakes_early, wakes_beside, may_wake, wakes_move, wakes_at, FindsFirst}
+use Rattle.cert_layers.specs.Waking.{first_at, is_early, IsEarly, IsWakingTable, brings, wakes_with, wakes, wakes_early, wakes_beside, may_wake, wakes_move, wakes_at, FindsFirst}
 use Rattle.cert_layers.proofs.Firsts.{first_below-Some, list_any-none}
 use Rattle.cert_layers.proofs.NotLower.{move_small}
 
@@ -59,7 +59,7 @@ module _ (early : ℕ → ℕ → Bool) (t : Move) where
       by_reason (inr none_beside) = by_brought (list_any-none states (wakes_beside early t) none_beside) (cases_Bool (brings t x)) (cases_Bool (brings t y))
 
 -- the states of an early move
-early_both : (leaf : LeafModel) (layer_of_move : List (Option ℕ)) (table : List ℕ) (i m j : ℕ) (u : Move) → IsLeaf leaf → IsTable leaf layer_of_move (length leaf.moves) table → i < 2 ^ 16 → slice_get leaf.moves m ≡ Some u → silent_move u ≡ false → layer_of layer_of_move m ≡ Some j → j < i → (is_early table i u.p u.q ≡ true) × (is_early table i u.q u.p ≡ true)
+early_both : (leaf : LeafModel) (layer_of_move : List (Option ℕ)) (table : List ℕ) (i m j : ℕ) (u : Move) → IsLeaf leaf → IsWakingTable leaf layer_of_move (length leaf.moves) table → i < 2 ^ 16 → slice_get leaf.moves m ≡ Some u → silent_move u ≡ false → layer_of layer_of_move m ≡ Some j → j < i → (is_early table i u.p u.q ≡ true) × (is_early table i u.q u.p ≡ true)
 early_both leaf layer_of_move table i m j u formed h few move loud place before =
     let small = move_small leaf m u formed move in
     let within = slice_get_within leaf.moves m u move in
@@ -68,7 +68,7 @@ early_both leaf layer_of_move table i m j u formed h few move loud place before 
     (lt-ltb (first_at table u.p u.q) i (h.complete i u.p u.q few small.0 small.1 there), lt-ltb (first_at table u.q u.p) i (h.complete i u.q u.p few small.1 small.0 back))
 
 -- a move that wakes nothing by the table of pairs wakes no move
-pub asleep_move : (leaf : LeafModel) (layer_of_move : List (Option ℕ)) (table : List ℕ) (i : ℕ) (t : Move) → IsLeaf leaf → IsTable leaf layer_of_move (length leaf.moves) table → i < 2 ^ 16 → may_wake (is_early table i) t (length leaf.states) ≡ false → (m : ℕ) → wakes_move leaf layer_of_move table i t m ≡ false
+pub asleep_move : (leaf : LeafModel) (layer_of_move : List (Option ℕ)) (table : List ℕ) (i : ℕ) (t : Move) → IsLeaf leaf → IsWakingTable leaf layer_of_move (length leaf.moves) table → i < 2 ^ 16 → may_wake (is_early table i) t (length leaf.states) ≡ false → (m : ℕ) → wakes_move leaf layer_of_move table i t m ≡ false
 asleep_move leaf layer_of_move table i t formed h few none m = by_move (slice_get leaf.moves m) refl
   where
     by_before : (u : Move) (j : ℕ) → slice_get leaf.moves m ≡ Some u → silent_move u ≡ false → layer_of layer_of_move m ≡ Some j → (b : Bool) → nat_lt j i ≡ b → (b && wakes (is_early table i) t u.p u.q) ≡ false

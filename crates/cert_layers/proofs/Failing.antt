@@ -11,7 +11,7 @@ use Rattle.cert_base.specs.declared.layer.Layer.{Layer}
 use Rattle.cert_layers.specs.LayerFaults.{ListedAt, LowerAt, SleepsAt, Each, IsFirstFailing, IsLayerFault}
 use Rattle.cert_layers.specs.MoveLayers.{AreMoveLayers, FindsMoveLayers}
 use Rattle.cert_layers.specs.Search.{is_unlisted, not_lower}
-use Rattle.cert_layers.specs.Waking.{IsTable, FindsWaking}
+use Rattle.cert_layers.specs.Waking.{IsWakingTable, FindsWaking}
 use Rattle.cert_layers.specs.declared.fault.LayerFault.{LayerFault}
 use Rattle.cert_layers.specs.declared.fault.LayerFault.TheVariants.{Shape, NoLayer, NotLower, Wakes, NoMemory}
 use Rattle.cert_layers.proofs.Firsts.{first_below-Some}
@@ -50,7 +50,7 @@ module _ (leaf : LeafModel) (layers : List Layer) (layer_of_move : List (Option 
       let f = first_below-Some (length leaf.moves) (not_lower leaf layers layer_of_move) n e in
       (not_lower-yes leaf layers layer_of_move n p f.1, λ k l. not_lower-no leaf layers layer_of_move k p (f.2 k l))
 
-  module _ (table : List ℕ) (formed : IsLeaf leaf) (h : IsTable leaf layer_of_move (length leaf.moves) table) (small : length layers ≤ LAYER_LIMIT) where
+  module _ (table : List ℕ) (formed : IsLeaf leaf) (h : IsWakingTable leaf layer_of_move (length leaf.moves) table) (small : length layers ≤ LAYER_LIMIT) where
     pub all_asleep : FindsWaking leaf layer_of_move table None → Each (λ n. Each (SleepsAt leaf layers n))
     all_asleep none n m = sleeps-no leaf layers layer_of_move table formed p h small n m (none n m)
 

@@ -10,7 +10,7 @@ use Rattle.cert_layers.specs.declared.pairs.TheConstants.{PAIR_COUNT, NO_LAYER}
 use Rattle.pop_net.specs.declared.leaf.Move.{Move}
 use Rattle.pop_net.specs.LeafModel.{LeafModel, silent_move}
 use Rattle.cert_layers.specs.MoveLayers.{layer_of}
-use Rattle.cert_layers.specs.Waking.{first_at, empty_table, IsPair, IsEarly, IsTable}
+use Rattle.cert_layers.specs.Waking.{first_at, empty_table, IsPair, IsEarly, IsWakingTable}
 
 length-empty : length empty_table ≡ PAIR_COUNT
 unfolding empty_table
@@ -21,7 +21,7 @@ unfolding empty_table
 at-empty n l = get_or-replicate {A = ℕ} PAIR_COUNT n NO_LAYER 0 l
 
 -- no move yet
-pub table-empty : (leaf : LeafModel) (layer_of_move : List (Option ℕ)) → IsTable leaf layer_of_move 0 empty_table
+pub table-empty : (leaf : LeafModel) (layer_of_move : List (Option ℕ)) → IsWakingTable leaf layer_of_move 0 empty_table
 table-empty leaf layer_of_move = record {
   long = length-empty;
   sound = λ i x y few xs ys e. let none = at-empty (x * STATE_LIMIT + y) (omega arith) in absurd (omega (arith, none, e));
@@ -85,7 +85,7 @@ later leaf layer_of_move n i x y e = record {
   takes = e.takes;
 }
 
-module _ (leaf : LeafModel) (layer_of_move : List (Option ℕ)) (n : ℕ) (table : List ℕ) (h : IsTable leaf layer_of_move n table) (t : Move) (move : slice_get leaf.moves n ≡ Some t) where
+module _ (leaf : LeafModel) (layer_of_move : List (Option ℕ)) (n : ℕ) (table : List ℕ) (h : IsWakingTable leaf layer_of_move n table) (t : Move) (move : slice_get leaf.moves n ≡ Some t) where
   -- an early move is one of those before, or this one
   before_or_now : (i x y : ℕ) → IsEarly leaf layer_of_move (n + 1) i x y → IsEarly leaf layer_of_move n i x y ⊎ ((silent_move t ≡ false) × (k : ℕ) × (layer_of layer_of_move n ≡ Some k) × (k < i) × IsPair x y t)
   before_or_now i x y e = by_case (cases_lt e.number n)
@@ -111,7 +111,7 @@ module _ (leaf : LeafModel) (layer_of_move : List (Option ℕ)) (n : ℕ) (table
       by_case (inr past) = inr (now (let same : e.number ≡ n = omega (arith, e.below) in same))
 
   -- a move that is silent, or in no layer, changes nothing
-  pub table-skip : (silent_move t ≡ true) ⊎ (layer_of layer_of_move n ≡ None) → IsTable leaf layer_of_move (n + 1) table
+  pub table-skip : (silent_move t ≡ true) ⊎ (layer_of layer_of_move n ≡ None) → IsWakingTable leaf layer_of_move (n + 1) table
   table-skip why = record {
     long = h.long;
     sound = λ i x y few xs ys e. later leaf layer_of_move n i x y (h.sound i x y few xs ys e);
@@ -126,7 +126,7 @@ module _ (leaf : LeafModel) (layer_of_move : List (Option ℕ)) (n : ℕ) (table
       ])
 
   -- a move of a layer is entered both ways
-  pub table-enter : (k : ℕ) → silent_move t ≡ false → layer_of layer_of_move n ≡ Some k → t.p < STATE_LIMIT → t.q < STATE_LIMIT → IsTable leaf layer_of_move (n + 1) (with_pair (with_pair table t.p t.q k) t.q t.p k)
+  pub table-enter : (k : ℕ) → silent_move t ≡ false → layer_of layer_of_move n ≡ Some k → t.p < STATE_LIMIT → t.q < STATE_LIMIT → IsWakingTable leaf layer_of_move (n + 1) (with_pair (with_pair table t.p t.q k) t.q t.p k)
   table-enter k loud place ps qs = record {
     long = length-with_pair first t.q t.p k first_long qs ps;
     sound = λ i x y few xs ys e. new i x y few xs ys (with_pair-sound first t.q t.p k first_long qs ps i x y xs ys e);

@@ -12,7 +12,7 @@ use Rattle.cert_base.specs.ValidLayers.{IsInLayer}
 use Rattle.cert_layers.specs.LayerFaults.{WakesNone, SleepsAt}
 use Rattle.cert_layers.specs.MoveLayers.{layer_of, AreMoveLayers}
 use Rattle.cert_layers.specs.Search.{some_layer}
-use Rattle.cert_layers.specs.Waking.{first_at, is_early, IsPair, IsTable, brings, brings_both, wakes_with, wakes, wakes_move, wakes_at}
+use Rattle.cert_layers.specs.Waking.{first_at, is_early, IsPair, IsWakingTable, brings, brings_both, wakes_with, wakes, wakes_move, wakes_at}
 use Rattle.cert_layers.proofs.Asleep.{wakes_at-placed, wakes-brought, wakes-other, right_false}
 use Rattle.cert_layers.proofs.Covers.{Like, times-like, within_two, within_three, left_none, left_one, left_both}
 use Rattle.cert_layers.proofs.NotLower.{in_layer, in_place, move_small, some_move-true}
@@ -21,7 +21,7 @@ use Rattle.cert_layers.proofs.NotLower.{in_layer, in_place, move_small, some_mov
 abbrev EarlyMove : LeafModel → List Layer → ℕ → ℕ → ℕ → Type 0
 EarlyMove leaf layers i x y = (k : ℕ) × (u : Move) × (k < i) × IsInLayer leaf layers k u × IsPair x y u
 
-module _ (leaf : LeafModel) (layers : List Layer) (layer_of_move : List (Option ℕ)) (table : List ℕ) (formed : IsLeaf leaf) (p : AreMoveLayers leaf layers layer_of_move) (h : IsTable leaf layer_of_move (length leaf.moves) table) (i : ℕ) (few : i < 2 ^ 16) where
+module _ (leaf : LeafModel) (layers : List Layer) (layer_of_move : List (Option ℕ)) (table : List ℕ) (formed : IsLeaf leaf) (p : AreMoveLayers leaf layers layer_of_move) (h : IsWakingTable leaf layer_of_move (length leaf.moves) table) (i : ℕ) (few : i < 2 ^ 16) where
   early_move : (x y : ℕ) → x < STATE_LIMIT → y < STATE_LIMIT → is_early table i x y ≡ true → EarlyMove leaf layers i x y
   early_move x y xs ys e =
       let f = h.sound i x y few xs ys (ltb-true (first_at table x y) i e) in
@@ -108,7 +108,7 @@ module _ (leaf : LeafModel) (layers : List Layer) (layer_of_move : List (Option 
             let parts = and_parts (brings t u.q) (wakes_with (is_early table i) t u.q u.p) (sym (wakes-other (is_early table i) t u.p u.q b) ∙ e) in
             awake_with u.q u.p us.0 parts.0 parts.1 none.0 none.1 none.2 none.3 (λ z. (let l : pre none.1 z ≤ pre t z + (times_in u.q u.p z - post t z) = omega (arith, none.4 z) in l))
 
-module _ (leaf : LeafModel) (layers : List Layer) (layer_of_move : List (Option ℕ)) (table : List ℕ) (formed : IsLeaf leaf) (p : AreMoveLayers leaf layers layer_of_move) (h : IsTable leaf layer_of_move (length leaf.moves) table) (small : length layers ≤ LAYER_LIMIT) (n m : ℕ) where
+module _ (leaf : LeafModel) (layers : List Layer) (layer_of_move : List (Option ℕ)) (table : List ℕ) (formed : IsLeaf leaf) (p : AreMoveLayers leaf layers layer_of_move) (h : IsWakingTable leaf layer_of_move (length leaf.moves) table) (small : length layers ≤ LAYER_LIMIT) (n m : ℕ) where
   -- what the test says of two moves of layers
   tested : (i j : ℕ) (t u : Move) → j < i → IsInLayer leaf layers i t → slice_get leaf.moves n ≡ Some t → silent_move t ≡ false → layer_of layer_of_move n ≡ Some i → slice_get leaf.moves m ≡ Some u → silent_move u ≡ false → layer_of layer_of_move m ≡ Some j → wakes_at leaf layer_of_move table n m ≡ wakes (is_early table i) t u.p u.q
   tested i j t u before at move loud place move' loud' place' =

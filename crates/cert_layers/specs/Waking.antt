@@ -34,7 +34,7 @@ pub record IsEarly (leaf : LeafModel) (layer_of_move : List (Option ℕ)) (n i x
   pub takes : IsPair x y taken
 
 -- the table has, for each two states, the least layer with a non-silent move below number n that takes them
-pub record IsTable (leaf : LeafModel) (layer_of_move : List (Option ℕ)) (n : ℕ) (table : List ℕ) : Type 0 where
+pub record IsWakingTable (leaf : LeafModel) (layer_of_move : List (Option ℕ)) (n : ℕ) (table : List ℕ) : Type 0 where
   pub long : length table ≡ PAIR_COUNT
   pub sound : (i x y : ℕ) → i < 2 ^ 16 → x < STATE_LIMIT → y < STATE_LIMIT → first_at table x y < i → IsEarly leaf layer_of_move n i x y
   pub complete : (i x y : ℕ) → i < 2 ^ 16 → x < STATE_LIMIT → y < STATE_LIMIT → IsEarly leaf layer_of_move n i x y → first_at table x y < i

@@ -3,7 +3,7 @@
 ghost use Rattle.std.specs.Prelude.{◌≡◌, ◌+◌, ◌*◌, ◌<◌, min, length, IfOk, IfErr};
 ghost use Rattle.std.specs.List.{slice_set};
 ghost use Rattle.pop_net.specs.LeafModel.{IsLeaf};
-ghost use Rattle.cert_layers.specs.Waking.{first_at, is_early, empty_table, IsTable};
+ghost use Rattle.cert_layers.specs.Waking.{first_at, is_early, empty_table, IsWakingTable};
 
 use crate::fault::LayerFault;
 use pop_io::List;
@@ -53,7 +53,7 @@ pub(crate) fn pair_table(
 ) -> Result<PairTable, LayerFault>
     requires formed { IsLeaf leaf.now }
     requires long { length layer_of_move.now ≡ length leaf.now.moves }
-    ensures ok { IfOk result (IsTable leaf.now layer_of_move.now (length leaf.now.moves)) }
+    ensures ok { IfOk result (IsWakingTable leaf.now layer_of_move.now (length leaf.now.moves)) }
     ensures memory { IfErr result (λ e. e ≡ LayerFault.NoMemory) }
 {
     let mut layers = no_layers(alloc)?;
@@ -80,8 +80,8 @@ fn enter_move(layers: &mut Vec<u16>, leaf: &Leaf, layer_of_move: &[Option<u16>],
     requires formed { IsLeaf leaf.now }
     requires long { length layer_of_move.now ≡ length leaf.now.moves }
     requires in_range { t < length leaf.now.moves }
-    requires table { IsTable leaf.now layer_of_move.now t layers.old.items }
-    ensures { IsTable leaf.now layer_of_move.now (t + 1) layers.new.items }
+    requires table { IsWakingTable leaf.now layer_of_move.now t layers.old.items }
+    ensures { IsWakingTable leaf.now layer_of_move.now (t + 1) layers.new.items }
 {
     let taken = leaf.move_at(t);
     let Some(layer) = layer_of_move[t as usize] else {

@@ -12,7 +12,8 @@ ghost use Rattle.cert_layers.specs.Waking.{is_early, brings as brings_state, bri
 ghost use Rattle.cert_layers.specs.Waking.{wakes_with as wakes_pair};
 ghost use Rattle.cert_layers.specs.Waking.{wakes as wakes_states, wakes_beside as wakes_beside_state};
 ghost use Rattle.cert_layers.specs.Waking.{may_wake as may_wake_any};
-ghost use Rattle.cert_layers.specs.Waking.{wakes_move as wakes_numbered, wakes_at, IsTable, FindsFirst, FindsWaking};
+ghost use Rattle.cert_layers.specs.Waking.{wakes_move as wakes_numbered, wakes_at, IsWakingTable};
+ghost use Rattle.cert_layers.specs.Waking.{FindsFirst, FindsWaking};
 
 use crate::pairs::PairTable;
 use pop_net::{Leaf, Move, STATE_LIMIT};
@@ -25,7 +26,7 @@ pub(crate) fn first_waking(
 ) -> Option<(u32, u32)>
     requires formed { IsLeaf leaf.now }
     requires long { length layer_of_move.now ≡ length leaf.now.moves }
-    requires table { IsTable leaf.now layer_of_move.now (length leaf.now.moves) table.now }
+    requires table { IsWakingTable leaf.now layer_of_move.now (length leaf.now.moves) table.now }
     ensures { FindsWaking leaf.now layer_of_move.now table.now result }
 {
     for t in 0..leaf.move_count() {
@@ -40,7 +41,7 @@ pub(crate) fn first_waking(
 fn first_woken(leaf: &Leaf, layer_of_move: &[Option<u16>], table: &PairTable, t: u32) -> Option<u32>
     requires formed { IsLeaf leaf.now }
     requires long { length layer_of_move.now ≡ length leaf.now.moves }
-    requires table { IsTable leaf.now layer_of_move.now (length leaf.now.moves) table.now }
+    requires table { IsWakingTable leaf.now layer_of_move.now (length leaf.now.moves) table.now }
     requires in_range { t < length leaf.now.moves }
     ensures { FindsFirst (wakes_at leaf.now layer_of_move.now table.now t) result }
 {
@@ -62,7 +63,7 @@ fn woken_in_layer(
 ) -> Option<u32>
     requires formed { IsLeaf leaf.now }
     requires long { length layer_of_move.now ≡ length leaf.now.moves }
-    requires table { IsTable leaf.now layer_of_move.now (length leaf.now.moves) table.now }
+    requires table { IsWakingTable leaf.now layer_of_move.now (length leaf.now.moves) table.now }
     requires below { IsMoveBelow STATE_LIMIT taken }
     ensures { FindsFirst (wakes_numbered leaf.now layer_of_move.now table.now layer taken) result }
 {

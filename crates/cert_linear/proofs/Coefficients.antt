@@ -14,7 +14,7 @@ use Rattle.cert_base.specs.declared.fact.Fact.{Fact}
 use Rattle.cert_base.specs.ClosingTests.{times, add_rows, coefficient_in, scaled, sum_of}
 use Rattle.cert_linear.specs.declared.sum.Sum.{Sum}
 use Rattle.cert_linear.specs.Conditions.{AreAscending}
-use Rattle.cert_linear.specs.Sums.{coefficient_of, IsSum, IsPlus, IsSame, IsWithin}
+use Rattle.cert_linear.specs.Sums.{coefficient_of, IsSum, IsPlus, IsSame, IsSumWithin}
 
 -- the terms, each times a number
 abbrev pub multiplied : ℤ → List Term → List Term
@@ -102,7 +102,7 @@ sum_step facts ts k d sum more l is plus =
 pub record IsEntered (a : ℤ) (entered : List Term) (sum more : Sum) : Type 0 where
   pub terms : (q : ℕ) → coefficient_of more q ≡ (coefficient_of sum q +ℤ coefficient_in (multiplied a entered) q)
   pub constant : more.constant ≡ sum.constant
-  pub size : (size : ℕ) → IsWithin size sum → (q : ℕ) → nat_abs (coefficient_of more q) ≤ size + 2 ^ 103
+  pub size : (size : ℕ) → IsSumWithin size sum → (q : ℕ) → nat_abs (coefficient_of more q) ≤ size + 2 ^ 103
 
 pub size-add : (a b : ℤ) → nat_abs (a +ℤ b) ≤ nat_abs a + nat_abs b
 size-add (pos a) (pos b) = omega arith
@@ -125,7 +125,7 @@ entered_more a ts k d sum mid more up l small is step same = record {
   size = λ size within q. size_at q size within (eqb_tells (get_or ts k d).at q);
 }
   where
-    size_at : (q size : ℕ) → IsWithin size sum → (((get_or ts k d).at == q) ≡ true) × ((get_or ts k d).at ≡ q) ⊎ (((get_or ts k d).at == q) ≡ false) × ((get_or ts k d).at ≢ q) → nat_abs (coefficient_of more q) ≤ size + 2 ^ 103
+    size_at : (q size : ℕ) → IsSumWithin size sum → (((get_or ts k d).at == q) ≡ true) × ((get_or ts k d).at ≡ q) ⊎ (((get_or ts k d).at == q) ≡ false) × ((get_or ts k d).at ≢ q) → nat_abs (coefficient_of more q) ≤ size + 2 ^ 103
     size_at q size within (inl h) =
         let before = coefficient-before a ts k d up l in
         let there : coefficient_in (multiplied a (take k ts)) q ≡ pos 0 = rw (← h.1) before in
@@ -169,7 +169,7 @@ entered_all a row sum mid more k l is same constant = record {
   constant = constant ∙ ap (λ z. z +ℤ (a *ℤ row.constant)) is.constant;
 }
 
-pub entered_size : (a : ℤ) (entered : List Term) (sum mid more : Sum) (by : ℤ) → IsEntered a entered sum mid → ((q : ℕ) → coefficient_of more q ≡ coefficient_of mid q) → more.constant ≡ (mid.constant +ℤ by) → nat_abs by ≤ 2 ^ 103 → (size : ℕ) → IsWithin size sum → IsWithin (size + 2 ^ 103) more
+pub entered_size : (a : ℤ) (entered : List Term) (sum mid more : Sum) (by : ℤ) → IsEntered a entered sum mid → ((q : ℕ) → coefficient_of more q ≡ coefficient_of mid q) → more.constant ≡ (mid.constant +ℤ by) → nat_abs by ≤ 2 ^ 103 → (size : ℕ) → IsSumWithin size sum → IsSumWithin (size + 2 ^ 103) more
 entered_size a entered sum mid more by is same constant small size within = record {
   terms = λ q. rw (same q) (is.size size within q);
   constant = let bound = size-add mid.constant by in let e = is.constant in let f = within.constant in rw constant (omega (arith, bound, small, ap nat_abs e, f));
@@ -188,7 +188,7 @@ same_sum row sum other same is = record {
   constant = same.constant ∙ is.constant;
 }
 
-pub same_size : (size : ℕ) (sum other : Sum) → IsSame sum other → IsWithin size sum → IsWithin size other
+pub same_size : (size : ℕ) (sum other : Sum) → IsSame sum other → IsSumWithin size sum → IsSumWithin size other
 same_size size sum other same is = record {
   terms = λ q. rw (same.terms q) (is.terms q);
   constant = rw same.constant is.constant;
@@ -200,7 +200,7 @@ same_same sum other third e f = record {
   constant = f.constant ∙ e.constant;
 }
 
-pub wider : (size more : ℕ) (sum : Sum) → size ≤ more → IsWithin size sum → IsWithin more sum
+pub wider : (size more : ℕ) (sum : Sum) → size ≤ more → IsSumWithin size sum → IsSumWithin more sum
 wider size more sum l is = record {
   terms = λ q. let h = is.terms q in omega arith;
   constant = let h = is.constant in omega arith;

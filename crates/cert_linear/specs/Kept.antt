@@ -4,14 +4,14 @@ use Rattle.cert_base.specs.declared.fact.Term.{Term}
 use Rattle.cert_base.specs.declared.fact.Fact.{Fact}
 use Rattle.cert_base.specs.ClosingTests.{all_named, may_add, sum_of}
 use Rattle.cert_linear.specs.declared.tally.Tally.{Tally}
-use Rattle.cert_linear.specs.Sums.{IsTidy, IsSum, IsWithin}
+use Rattle.cert_linear.specs.Sums.{IsTidy, IsSum, IsSumWithin}
 
 -- the lead is the sum of the kept terms, which name facts below a number and may have their multipliers
 pub record IsKept (stable : ℕ) (facts : List Fact) (tally : Tally) : Type 0 where
   pub named : All (λ t. t.at < stable) tally.kept.items
   pub may : all_named may_add facts tally.kept.items ≡ true
   pub sum : IsSum (sum_of facts tally.kept.items) tally.lead
-  pub size : IsWithin (2 ^ 119) tally.lead
+  pub size : IsSumWithin (2 ^ 119) tally.lead
   pub lead : IsTidy tally.lead
   pub rest : IsTidy tally.rest
 
@@ -24,4 +24,4 @@ Keeps facts terms tally true = tally.kept.items ≡ terms
 abbrev pub Makes : List Fact → List Term → Tally → Bool → Type 0
 Makes facts terms tally false = all_named may_add facts terms ≡ false
 Makes facts terms tally true =
-    (tally.kept.items ≡ terms) × (all_named may_add facts terms ≡ true) × IsSum (sum_of facts terms) tally.lead × IsWithin (2 ^ 119) tally.lead
+    (tally.kept.items ≡ terms) × (all_named may_add facts terms ≡ true) × IsSum (sum_of facts terms) tally.lead × IsSumWithin (2 ^ 119) tally.lead

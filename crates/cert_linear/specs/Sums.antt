@@ -57,7 +57,7 @@ pub record IsSame (sum other : Sum) : Type 0 where
   pub constant : other.constant ≡ sum.constant
 
 -- no coefficient is above this number in size, nor is the constant
-pub record IsWithin (size : ℕ) (sum : Sum) : Type 0 where
+pub record IsSumWithin (size : ℕ) (sum : Sum) : Type 0 where
   pub terms : (variable : ℕ) → nat_abs (coefficient_of sum variable) ≤ size
   pub constant : nat_abs sum.constant ≤ size
 
@@ -70,4 +70,4 @@ may_by (Some m) = may_add_modulo m
 abbrev pub SumsUp : Option ℕ → List Fact → List Term → Sum → Bool → Type 0
 SumsUp modulus facts terms sum false = all_named (may_by modulus) facts terms ≡ false
 SumsUp modulus facts terms sum true =
-    (all_named (may_by modulus) facts terms ≡ true) × IsSum (sum_of facts terms) sum × IsWithin (2 ^ 119) sum
+    (all_named (may_by modulus) facts terms ≡ true) × IsSum (sum_of facts terms) sum × IsSumWithin (2 ^ 119) sum

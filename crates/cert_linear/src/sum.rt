@@ -8,7 +8,7 @@ ghost use Rattle.pres_ast.specs.PredicateValue.{divides as is_multiple};
 ghost use Rattle.cert_base.specs.declared.fact.Row.{Row};
 ghost use Rattle.cert_base.specs.ClosingTests.{times, no_row, each_coefficient, vanishes as is_zero};
 ghost use Rattle.cert_linear.specs.Conditions.{AreAscending};
-ghost use Rattle.cert_linear.specs.Sums.{coefficient_of, entry_at, rest_at, IsTidy, IsSum, AreSum, IsPlus, IsWithin};
+ghost use Rattle.cert_linear.specs.Sums.{coefficient_of, entry_at, rest_at, IsTidy, IsSum, AreSum, IsPlus, IsSumWithin};
 
 use cert_base::{Row, SIZE_LIMIT};
 use pop_io::NoMemory;
@@ -41,7 +41,7 @@ pub(crate) struct Sum {
 impl Sum {
     pub(crate) fn new(alloc: Global) -> Sum
         ensures sum { IsSum no_row result }
-        ensures size { IsWithin 0 result }
+        ensures size { IsSumWithin 0 result }
         ensures tidy { IsTidy result }
     {
         Sum {
@@ -56,7 +56,7 @@ impl Sum {
     pub(crate) fn clear(&mut self)
         requires { IsTidy self.old }
         ensures sum { IsSum no_row self.new }
-        ensures size { IsWithin 0 self.new }
+        ensures size { IsSumWithin 0 self.new }
         ensures tidy { IsTidy self.new }
     {
         while let Some(variable) = self.touched.pop() {
@@ -83,9 +83,9 @@ impl Sum {
         requires tidy { IsTidy self.old }
         requires ascending { AreAscending row.now.terms }
         requires small { nat_abs by ≤ SIZE_LIMIT }
-        requires room { IsWithin (2 ^ 120) self.old }
+        requires room { IsSumWithin (2 ^ 120) self.old }
         ensures plus { OnOk result (IsPlus (times by row.now) self.old self.new) }
-        ensures size { (size : ℕ) → IsWithin size self.old → OnOk result (IsWithin (size + 2 ^ 103) self.new) }
+        ensures size { (size : ℕ) → IsSumWithin size self.old → OnOk result (IsSumWithin (size + 2 ^ 103) self.new) }
         ensures tidy { IsTidy self.new }
     {
         for term in row.terms.as_slice() {
@@ -227,8 +227,8 @@ impl Sum {
 
     /// The coefficient of a variable in both sums together.
     fn coefficient_with(&self, other: &Sum, variable: u32) -> i128
-        requires own { IsTidy self.now × IsWithin (2 ^ 119) self.now }
-        requires other { IsTidy other.now × IsWithin (2 ^ 119) other.now }
+        requires own { IsTidy self.now × IsSumWithin (2 ^ 119) self.now }
+        requires other { IsTidy other.now × IsSumWithin (2 ^ 119) other.now }
         ensures { result ≡ (coefficient_of self.now variable +ℤ coefficient_of other.now variable) }
     {
         self.coefficient(variable) + other.coefficient(variable)
@@ -236,8 +236,8 @@ impl Sum {
 
     /// Whether both sums together are below 0 at all counts: no coefficient is above 0, and the constant is below 0.
     pub(crate) fn is_negative_with(&self, other: &Sum) -> bool
-        requires own { IsTidy self.now × IsWithin (2 ^ 119) self.now }
-        requires other { IsTidy other.now × IsWithin (2 ^ 119) other.now }
+        requires own { IsTidy self.now × IsSumWithin (2 ^ 119) self.now }
+        requires other { IsTidy other.now × IsSumWithin (2 ^ 119) other.now }
         ensures { (row : Row) → AreSum row self.now other.now
             → result ≡ (each_coefficient (λ a. int_le a (pos 0)) row && int_le row.constant (negsuc 0)) }
     {
@@ -245,8 +245,8 @@ impl Sum {
     }
 
     fn have_no_positive(&self, other: &Sum) -> bool
-        requires own { IsTidy self.now × IsWithin (2 ^ 119) self.now }
-        requires other { IsTidy other.now × IsWithin (2 ^ 119) other.now }
+        requires own { IsTidy self.now × IsSumWithin (2 ^ 119) self.now }
+        requires other { IsTidy other.now × IsSumWithin (2 ^ 119) other.now }
         ensures { result
             ≡ (list_all
             (λ q. int_le (coefficient_of self.now q +ℤ coefficient_of other.now q) (pos 0)) self.now.touched.items
@@ -256,8 +256,8 @@ impl Sum {
     }
 
     fn has_negative_constant_with(&self, other: &Sum) -> bool
-        requires own { IsWithin (2 ^ 119) self.now }
-        requires other { IsWithin (2 ^ 119) other.now }
+        requires own { IsSumWithin (2 ^ 119) self.now }
+        requires other { IsSumWithin (2 ^ 119) other.now }
         ensures { result ≡ int_le (self.now.constant +ℤ other.now.constant) (negsuc 0) }
     {
         self.constant + other.constant < 0
@@ -265,8 +265,8 @@ impl Sum {
 
     /// Whether no variable that is touched here has a coefficient above 0 in both sums together.
     fn has_no_positive_with(&self, other: &Sum) -> bool
-        requires own { IsTidy self.now × IsWithin (2 ^ 119) self.now }
-        requires other { IsTidy other.now × IsWithin (2 ^ 119) other.now }
+        requires own { IsTidy self.now × IsSumWithin (2 ^ 119) self.now }
+        requires other { IsTidy other.now × IsSumWithin (2 ^ 119) other.now }
         ensures { result
             ≡ list_all
             (λ q. int_le (coefficient_of self.now q +ℤ coefficient_of other.now q) (pos 0)) self.now.touched.items }

@@ -11,7 +11,7 @@ use Rattle.cert_base.specs.declared.fact.Fact.TheVariants.{Holds}
 use Rattle.cert_base.specs.FactsAndCases.{states_of, flow, two_agents, wrong_output, base_list}
 use Rattle.cert_base.specs.Ends.{HoldAtWrongEnds}
 use Rattle.cert_tree.specs.declared.walk.Walk.{Walk}
-use Rattle.cert_tree.specs.Frames.{waiting, IsNested, IsFit, IsStart}
+use Rattle.cert_tree.specs.Frames.{waiting, IsNested, IsFit, IsWalkStart}
 use Rattle.cert_tree.proofs.Ordered.{base_ordered, all_of}
 
 pub base_few : (leaf : LeafModel) (p : PredModel) (value : Bool) → IsLeaf leaf → length (base_list leaf p value) ≤ 65536
@@ -21,7 +21,7 @@ base_few leaf p value is =
     let few = is.states in
     omega (arith, long, flows, few)
 
-pub starts_at : (leaf : LeafModel) (p : PredModel) (value : Bool) (r : Result Walk NoMemory) (facts : List Fact) → facts ≡ base_list leaf p value → IsLeaf leaf → HoldAtWrongEnds leaf p.tree value facts → IfOk r (λ walk. waiting walk ≡ (0, facts) ∷ []) → IfOk r IsNested → IfOk r (IsStart leaf p value)
+pub starts_at : (leaf : LeafModel) (p : PredModel) (value : Bool) (r : Result Walk NoMemory) (facts : List Fact) → facts ≡ base_list leaf p value → IsLeaf leaf → HoldAtWrongEnds leaf p.tree value facts → IfOk r (λ walk. waiting walk ≡ (0, facts) ∷ []) → IfOk r IsNested → IfOk r (IsWalkStart leaf p value)
 starts_at leaf p value (Err e) facts same is met waits nested = tt
 starts_at leaf p value (Ok walk) facts same is met waits nested =
     let waits' : waiting walk ≡ (0, base_list leaf p value) ∷ [] = waits ∙ ap (λ fs. (0, fs) ∷ []) same in

@@ -104,7 +104,7 @@ fault_at node (Refused why) = Broken node why
 fault_at node NoMemory = OutOfMemory
 
 -- the walk stands at the beginning of a tree: the base facts wait alone, and every wrong end meets them
-pub record IsStart (leaf : LeafModel) (p : PredModel) (value : Bool) (walk : Walk) : Type 0 where
+pub record IsWalkStart (leaf : LeafModel) (p : PredModel) (value : Bool) (walk : Walk) : Type 0 where
   pub waits : waiting walk ≡ (0, base_list leaf p value) ∷ []
   pub nested : IsNested walk
   pub fit : All IsFit (waiting walk)

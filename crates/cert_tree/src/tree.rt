@@ -6,7 +6,7 @@ ghost use Rattle.cert_base.specs.Closes.{Closes};
 ghost use Rattle.cert_base.specs.Ends.{EndsRight};
 ghost use Rattle.cert_tree.specs.Format.{IsWithinFormat};
 ghost use Rattle.cert_tree.specs.Refusals.{IsTreeFault};
-ghost use Rattle.cert_tree.specs.Frames.{IsStart};
+ghost use Rattle.cert_tree.specs.Frames.{IsWalkStart};
 
 use crate::fault::{TreeFault, TreeWhy};
 use crate::walk::Walk;
@@ -55,7 +55,7 @@ pub fn check_tree(
 /// The walk at the base facts.
 fn start(alloc: Global, leaf: &Leaf, pred: &Pred, value: bool) -> Result<Walk, NoMemory>
     requires { pred.now.variables ≡ length leaf.now.inputs }
-    ensures start { IfOk result (IsStart leaf.now pred.now value) }
+    ensures start { IfOk result (IsWalkStart leaf.now pred.now value) }
 {
     let _formed = leaf.state_count();
     Walk::new(alloc, base_facts(alloc, leaf, pred, value)?)

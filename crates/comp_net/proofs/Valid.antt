@@ -32,7 +32,7 @@ use Rattle.comp_flock_leaf.proofs.PowerFound.{IsPower, power_is}
 use Rattle.comp_net.specs.declared.choice.LeafChoice.{LeafChoice}
 use Rattle.comp_net.specs.declared.choice.LeafChoice.TheVariants.{Plain, Flocks}
 use Rattle.comp_net.specs.declared.limits.TheConstants.{NARROW_WIDTH_LIMIT}
-use Rattle.comp_net.specs.Atoms.{atoms, postfix, flock_of_atom, less_width, width_of, IsSum, AreBuildable}
+use Rattle.comp_net.specs.Atoms.{atoms, postfix, flock_of_atom, less_width, width_of, IsAtomSum, AreBuildable}
 use Rattle.comp_net.specs.BuiltNet.{less_leaf, leaf_of, net_with}
 use Rattle.comp_net.specs.Building.{AreAtomProofs}
 use Rattle.comp_net.specs.CompileFaults.{fault_with}
@@ -57,7 +57,7 @@ pub flock_found : (choice : LeafChoice) (coefs : List ℤ) (bound : ℤ) (k : �
 flock_found Plain coefs bound k e = cc
 flock_found Flocks coefs bound k e = power_is coefs bound k e
 
-less_built : (choice : LeafChoice) (coefs : List ℤ) (bound : ℤ) (o : Option ℕ) → flock_of_atom choice coefs bound ≡ o → IsSum coefs → less_width coefs bound o ≤ WIDTH_LIMIT → IsBuiltLeaf (length coefs) (less_width coefs bound o) (less_leaf coefs bound o)
+less_built : (choice : LeafChoice) (coefs : List ℤ) (bound : ℤ) (o : Option ℕ) → flock_of_atom choice coefs bound ≡ o → IsAtomSum coefs → less_width coefs bound o ≤ WIDTH_LIMIT → IsBuiltLeaf (length coefs) (less_width coefs bound o) (less_leaf coefs bound o)
 less_built choice coefs bound None e sum few = record {
   formed = threshold-formed coefs bound sum.0 sum.1 few;
   inputs = length-map coefs (place_of_value (threshold_width coefs bound));

@@ -45,14 +45,14 @@ width_of choice (Conjunction p q) = 0
 width_of choice (Disjunction p q) = 0
 
 -- a sum over one variable at least, within the limits of a predicate
-abbrev pub IsSum : List ℤ → Type 0
-IsSum coefs = (1 ≤ length coefs) × (length coefs ≤ VARIABLE_LIMIT) × All (λ a. nat_abs a ≤ COEFFICIENT_LIMIT) coefs
+abbrev pub IsAtomSum : List ℤ → Type 0
+IsAtomSum coefs = (1 ≤ length coefs) × (length coefs ≤ VARIABLE_LIMIT) × All (λ a. nat_abs a ≤ COEFFICIENT_LIMIT) coefs
 
 -- each atom is within the limits of its built leaf
 abbrev pub AreBuildable : LeafChoice → PredTree → Type 0
 AreBuildable choice (LessThan coefs bound) =
-    IsSum coefs × (nat_abs bound ≤ BOUND_LIMIT) × (width_of choice (LessThan coefs bound) ≤ WIDTH_LIMIT)
-AreBuildable choice (Congruent coefs m rest) = IsSum coefs × (2 ≤ m) × (m ≤ MODULUS_LIMIT) × (rest < m)
+    IsAtomSum coefs × (nat_abs bound ≤ BOUND_LIMIT) × (width_of choice (LessThan coefs bound) ≤ WIDTH_LIMIT)
+AreBuildable choice (Congruent coefs m rest) = IsAtomSum coefs × (2 ≤ m) × (m ≤ MODULUS_LIMIT) × (rest < m)
 AreBuildable choice (Negation p) = AreBuildable choice p
 AreBuildable choice (Conjunction p q) = AreBuildable choice p × AreBuildable choice q
 AreBuildable choice (Disjunction p q) = AreBuildable choice p × AreBuildable choice q

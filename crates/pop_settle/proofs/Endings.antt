@@ -15,7 +15,7 @@ use Rattle.cert_base.specs.declared.proof.LeafProof.{LeafProof}
 use Rattle.cert_base.specs.ValidLayers.{ValidLayers}
 use Rattle.cert_layers.proofs.Termination.{listed_at}
 use Rattle.pop_settle.specs.declared.take.Take.{Take}
-use Rattle.pop_settle.specs.Settlement.{states_in, CanMake, CanTake, after_take, LeadsBy}
+use Rattle.pop_settle.specs.Settlement.{states_in, CanMake, CanTake, crowd_after_take, LeadsBy}
 use Rattle.pop_settle.specs.Settling.{AreLayersValid}
 use Rattle.pop_settle.specs.Laws.{AreSteps, AreTerminal}
 use Rattle.pop_settle.proofs.Taking.{net_step, taken_tuples}
@@ -80,7 +80,7 @@ none_terminal net proof crowd v tuples none =
 pub leads_tuples : (net : NetModel) (proof : Proof) (crowd end : CrowdModel) (takes : List Take) → All (IsTuple net) crowd → LeadsBy net proof crowd takes end → All (IsTuple net) end
 leads_tuples net proof crowd end [] tuples l = subst (λ (c : CrowdModel). All (IsTuple net) c) (sym l) tuples
 leads_tuples net proof crowd end (t ∷ takes) tuples l =
-    leads_tuples net proof (after_take t.leaf l.0.can.move t.a t.b crowd) end takes (taken_tuples net proof crowd l.0.layer l.0.place t l.0.can tuples) l.1
+    leads_tuples net proof (crowd_after_take t.leaf l.0.can.move t.a t.b crowd) end takes (taken_tuples net proof crowd l.0.layer l.0.place t l.0.can tuples) l.1
 
 pub are_terminal : AreTerminal
 are_terminal net proof crowd end takes v tuples s =
@@ -93,7 +93,7 @@ are_steps net proof crowd layer place take tuples can = net_step net proof crowd
 pub leads_reached : (net : NetModel) (proof : Proof) (crowd end : CrowdModel) (takes : List Take) → All (IsTuple net) crowd → LeadsBy net proof crowd takes end → (path : List CrowdModel) × (length path ≡ length takes) × Leads (Step net) crowd path end
 leads_reached net proof crowd end [] tuples l = ([], refl, l)
 leads_reached net proof crowd end (t ∷ takes) tuples l =
-    let next = after_take t.leaf l.0.can.move t.a t.b crowd in
+    let next = crowd_after_take t.leaf l.0.can.move t.a t.b crowd in
     let more = leads_reached net proof next end takes (taken_tuples net proof crowd l.0.layer l.0.place t l.0.can tuples) l.1 in
     (next ∷ more.0, ap suc more.1, (net_step net proof crowd l.0.layer l.0.place t l.0.can tuples, more.2))
 
@@ -101,4 +101,4 @@ leads_reached net proof crowd end (t ∷ takes) tuples l =
 pub leads_more : (net : NetModel) (proof : Proof) (crowd next end : CrowdModel) (takes more : List Take) → LeadsBy net proof crowd takes next → LeadsBy net proof next more end → LeadsBy net proof crowd (takes ++ more) end
 leads_more net proof crowd next end [] more l m = subst (λ (c : CrowdModel). LeadsBy net proof c more end) l m
 leads_more net proof crowd next end (t ∷ takes) more l m =
-    (l.0, leads_more net proof (after_take t.leaf l.0.can.move t.a t.b crowd) next end takes more l.1 m)
+    (l.0, leads_more net proof (crowd_after_take t.leaf l.0.can.move t.a t.b crowd) next end takes more l.1 m)

@@ -11,7 +11,7 @@ use Rattle.std.proofs.lemmas.Option.{slice_get_within, same_Some}
 use Rattle.pop_net.specs.declared.leaf.Move.{Move}
 use Rattle.pop_net.specs.LeafModel.{silent_move}
 use Rattle.pop_settle.specs.Settlement.{CanMake, Then}
-use Rattle.pop_settle.specs.Groups.{group_at, holds, AreAlike, AreGroups, IsEmptyGroup, IsLeastOf, Changes, Puts, Takes, IsLeastPair, after_move}
+use Rattle.pop_settle.specs.Groups.{group_at, holds, AreAlike, AreGroups, IsEmptyGroup, IsLeastOf, Changes, Puts, Takes, IsLeastPairFor, states_after_move}
 
 -- a write is found again
 pub slice_get-set_same : {A : Type 0} (xs : List A) (i : ℕ) (x y : A) → slice_get xs i ≡ Some x → slice_get (slice_set xs i y) i ≡ Some y
@@ -222,7 +222,7 @@ module _ (states : List ℕ) (g : List (BTreeSet ℕ)) (t : Move) (a : ℕ) (wit
     b_holds = (are t.q b q_in).0 (sym (off_change false g t.p a without t.q b takes (λ _ f. b_apart f)) ∙ second.0)
 
     -- the two are the least that can make the move
-    pub least_pair : silent_move t ≡ false → IsLeastPair states t a b
+    pub least_pair : silent_move t ≡ false → IsLeastPairFor states t a b
     least_pair loud = (record { non_silent = loud; different = (λ e. b_apart (sym e)); first = a_holds; second = b_holds }, none)
       where
         none : (c d : ℕ) → CanMake states t c d → Then c a (d < b) → ⊥
@@ -231,7 +231,7 @@ module _ (states : List ℕ) (g : List (BTreeSet ℕ)) (t : Move) (a : ℕ) (wit
             let k = second.1 d (still d (λ e. can.different (m.0 ∙ sym e)) ((are t.q d q_in).1 can.second)) in omega (arith, m.1, k)
 
     -- the groups after both changed their states
-    pub made_groups : (both first after : List (BTreeSet ℕ)) → length without ≡ length g → length both ≡ length g → length first ≡ length g → length after ≡ length g → Takes without t.q b both → Puts both t.r a first → Puts first t.s b after → AreGroups (after_move states t a b) after
+    pub made_groups : (both first after : List (BTreeSet ℕ)) → length without ≡ length g → length both ≡ length g → length first ≡ length g → length after ≡ length g → Takes without t.q b both → Puts both t.r a first → Puts first t.s b after → AreGroups (states_after_move states t a b) after
     made_groups both first after s1 s2 s3 s4 takes' puts puts' =
         let n = length g in
         let x1 = slice_set states a n in

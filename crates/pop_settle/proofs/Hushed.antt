@@ -13,7 +13,7 @@ use Rattle.cert_base.specs.ValidLayers.{IsInLayer, ValidLayers}
 use Rattle.cert_base.proofs.Agents.{agents_of, enabled_test-true, move_change}
 use Rattle.cert_base.proofs.Dead.{AreDead, IsEnabledIn, stay_dead, two_there}
 use Rattle.pop_settle.specs.declared.take.Take.{Take}
-use Rattle.pop_settle.specs.Settlement.{states_in, CanMake, CanTake, IsNext, after_take}
+use Rattle.pop_settle.specs.Settlement.{states_in, CanMake, CanTake, IsNext, crowd_after_take}
 use Rattle.pop_settle.specs.Search.{IsIdle}
 use Rattle.pop_settle.specs.Walks.{IsQuietBefore}
 use Rattle.pop_settle.proofs.Taking.{same_value, leaf_step, elsewhere, here}
@@ -74,13 +74,13 @@ not_dead net proof crowd j layer place take c l dead =
 
 module _ (net : NetModel) (proof : Proof) (crowd : CrowdModel) (tuples : All (IsTuple net) crowd) where
   -- what is quiet stays quiet while moves of the next layer are taken
-  pub stays_quiet : (layer place : ℕ) (take : Take) (c : CanTake net proof crowd layer place take) → ValidLayers c.leaf c.part.layers → IsQuietBefore net proof crowd take.leaf layer → IsQuietBefore net proof (after_take take.leaf c.move take.a take.b crowd) take.leaf layer
+  pub stays_quiet : (layer place : ℕ) (take : Take) (c : CanTake net proof crowd layer place take) → ValidLayers c.leaf c.part.layers → IsQuietBefore net proof crowd take.leaf layer → IsQuietBefore net proof (crowd_after_take take.leaf c.move take.a take.b crowd) take.leaf layer
   stays_quiet layer place take c v quiet layer' place' other c' (inl l) =
       quiet layer' place' other
-      (moved net proof crowd (after_take take.leaf c.move take.a take.b crowd) layer' place' other (elsewhere net proof crowd layer place take c other.leaf (λ e. omega (arith, l, e))) c')
+      (moved net proof crowd (crowd_after_take take.leaf c.move take.a take.b crowd) layer' place' other (elsewhere net proof crowd layer place take c other.leaf (λ e. omega (arith, l, e))) c')
       (inl l)
   stays_quiet layer place take c v quiet layer' place' other c' (inr m) =
-      let after = after_take take.leaf c.move take.a take.b crowd in
+      let after = crowd_after_take take.leaf c.move take.a take.b crowd in
       let states = states_in take.leaf crowd in
       let same : c.leaf ≡ c'.leaf = same_value (slice_get net.leaves take.leaf) c.leaf c'.leaf c.leaf_is (subst (λ (n : ℕ). slice_get net.leaves n ≡ Some c'.leaf) m.0 c'.leaf_is) in
       let same_part : c.part ≡ c'.part = same_value (slice_get proof.leaves take.leaf) c.part c'.part c.part_is (subst (λ (n : ℕ). slice_get proof.leaves n ≡ Some c'.part) m.0 c'.part_is) in

@@ -21,7 +21,7 @@ use Rattle.cert_base.specs.ValidLayers.{IsLower, ValidLayers}
 use Rattle.cert_base.proofs.Agents.{InRange, move_change, move_in_range}
 use Rattle.cert_base.proofs.Weights.{total_falls}
 use Rattle.pop_settle.specs.declared.take.Take.{Take}
-use Rattle.pop_settle.specs.Settlement.{states_in, CanTake, IsNext, after_take, LeadsBy}
+use Rattle.pop_settle.specs.Settlement.{states_in, CanTake, IsNext, crowd_after_take, LeadsBy}
 use Rattle.pop_settle.specs.Settling.{AreLayersValid}
 use Rattle.pop_settle.specs.Laws.{IsCrowd, AreShort}
 use Rattle.pop_settle.specs.Walks.{IsQuietBefore}
@@ -46,7 +46,7 @@ length-states i crowd = length-map crowd (λ tuple. state_of tuple i)
 
 module _ (net : NetModel) (proof : Proof) (are : All IsLeaf net.leaves) (crowd : CrowdModel) (layer place : ℕ) (take : Take) (c : CanTake net proof crowd layer place take) (in_ranges : InRanges net crowd) (v : ValidLayers c.leaf c.part.layers) where
   abbrev next : CrowdModel
-  next = after_take take.leaf c.move take.a take.b crowd
+  next = crowd_after_take take.leaf c.move take.a take.b crowd
 
   moved_states : List ℕ
   moved_states = slice_set (slice_set (states_in take.leaf crowd) take.a c.move.r) take.b c.move.s
@@ -146,7 +146,7 @@ left_most net proof crowd take n most in_ranges v l =
 
 module _ (net : NetModel) (proof : Proof) (are : All IsLeaf net.leaves) (valid : (i : ℕ) (leaf : LeafModel) (part : LeafProof) → slice_get net.leaves i ≡ Some leaf → slice_get proof.leaves i ≡ Some part → ValidLayers leaf part.layers) where
   -- there are fewer left after a take
-  fewer_left : (crowd : CrowdModel) (t u : Take) (n : IsNext net proof crowd t) → InRanges net crowd → (m : IsNext net proof (after_take t.leaf n.can.move t.a t.b crowd) u) → left net proof (after_take t.leaf n.can.move t.a t.b crowd) u m < left net proof crowd t n
+  fewer_left : (crowd : CrowdModel) (t u : Take) (n : IsNext net proof crowd t) → InRanges net crowd → (m : IsNext net proof (crowd_after_take t.leaf n.can.move t.a t.b crowd) u) → left net proof (crowd_after_take t.leaf n.can.move t.a t.b crowd) u m < left net proof crowd t n
   fewer_left crowd t u n in_ranges m = by_leaf (cases_lt u.leaf t.leaf) (cases_lt t.leaf u.leaf)
     where
       v : ValidLayers n.can.leaf n.can.part.layers
@@ -156,24 +156,24 @@ module _ (net : NetModel) (proof : Proof) (are : All IsLeaf net.leaves) (valid :
       v' = valid u.leaf m.can.leaf m.can.part m.can.leaf_is m.can.part_is
 
       after : CrowdModel
-      after = after_take t.leaf n.can.move t.a t.b crowd
+      after = crowd_after_take t.leaf n.can.move t.a t.b crowd
 
-      ranges' : InRanges net (after_take t.leaf n.can.move t.a t.b crowd)
+      ranges' : InRanges net (crowd_after_take t.leaf n.can.move t.a t.b crowd)
       ranges' = next_ranges net proof are crowd n.layer n.place t n.can in_ranges v
 
-      size : length (after_take t.leaf n.can.move t.a t.b crowd) ≡ length crowd
+      size : length (crowd_after_take t.leaf n.can.move t.a t.b crowd) ≡ length crowd
       size = next_size net proof are crowd n.layer n.place t n.can in_ranges v
 
-      used : fuel n.can.list.weights (states_in t.leaf (after_take t.leaf n.can.move t.a t.b crowd)) < fuel n.can.list.weights (states_in t.leaf crowd)
+      used : fuel n.can.list.weights (states_in t.leaf (crowd_after_take t.leaf n.can.move t.a t.b crowd)) < fuel n.can.list.weights (states_in t.leaf crowd)
       used = uses_fuel net proof are crowd n.layer n.place t n.can in_ranges v
 
-      quiet : IsQuietBefore net proof (after_take t.leaf n.can.move t.a t.b crowd) t.leaf n.layer
+      quiet : IsQuietBefore net proof (crowd_after_take t.leaf n.can.move t.a t.b crowd) t.leaf n.layer
       quiet = stays_quiet net proof crowd in_ranges.tuples n.layer n.place t n.can v (least_quiet net proof crowd t n)
 
-      later : (most : ℕ) → spread m.can.list.weights + behind net proof (after_take t.leaf n.can.move t.a t.b crowd) u m ≤ most → most ≤ behind net proof crowd t n → left net proof (after_take t.leaf n.can.move t.a t.b crowd) u m < left net proof crowd t n
+      later : (most : ℕ) → spread m.can.list.weights + behind net proof (crowd_after_take t.leaf n.can.move t.a t.b crowd) u m ≤ most → most ≤ behind net proof crowd t n → left net proof (crowd_after_take t.leaf n.can.move t.a t.b crowd) u m < left net proof crowd t n
       later most l k =
-          let few = left_most net proof (after_take t.leaf n.can.move t.a t.b crowd) u m most ranges' v' l in
-          let same : most * length (after_take t.leaf n.can.move t.a t.b crowd) ≡ most * length crowd = ap (λ j. most * j) size in
+          let few = left_most net proof (crowd_after_take t.leaf n.can.move t.a t.b crowd) u m most ranges' v' l in
+          let same : most * length (crowd_after_take t.leaf n.can.move t.a t.b crowd) ≡ most * length crowd = ap (λ j. most * j) size in
           let product = mul-le-mul_right (length crowd) k in
           let some = used in
           omega (arith, few, same, product, some)
@@ -186,42 +186,42 @@ module _ (net : NetModel) (proof : Proof) (are : All IsLeaf net.leaves) (valid :
           ap (λ (p : LeafProof). layers_bound (drop j p.layers) + parts_bound (drop (u.leaf + 1) proof.leaves)) (sym (same_part e))
           ∙ ap (λ k. layers_bound (drop j n.can.part.layers) + parts_bound (drop (k + 1) proof.leaves)) e
 
-      same_layer : u.leaf ≡ t.leaf → m.layer ≡ n.layer → left net proof (after_take t.leaf n.can.move t.a t.b crowd) u m < left net proof crowd t n
+      same_layer : u.leaf ≡ t.leaf → m.layer ≡ n.layer → left net proof (crowd_after_take t.leaf n.can.move t.a t.b crowd) u m < left net proof crowd t n
       same_layer e f =
           let list : n.can.list ≡ m.can.list =
           same_value (slice_get m.can.part.layers m.layer) n.can.list m.can.list
           (subst (λ (k : ℕ). slice_get m.can.part.layers k ≡ Some n.can.list) (sym f) (subst (λ (p : LeafProof). slice_get p.layers n.layer ≡ Some n.can.list) (same_part e) n.can.layer_is)) m.can.layer_is in
-          let fuels : fuel m.can.list.weights (states_in u.leaf (after_take t.leaf n.can.move t.a t.b crowd)) ≡ fuel n.can.list.weights (states_in t.leaf (after_take t.leaf n.can.move t.a t.b crowd)) =
-          ap (λ (y : Layer). fuel y.weights (states_in u.leaf (after_take t.leaf n.can.move t.a t.b crowd))) (sym list)
-          ∙ ap (λ k. fuel n.can.list.weights (states_in k (after_take t.leaf n.can.move t.a t.b crowd))) e in
-          let behinds : behind net proof (after_take t.leaf n.can.move t.a t.b crowd) u m ≡ behind net proof crowd t n =
+          let fuels : fuel m.can.list.weights (states_in u.leaf (crowd_after_take t.leaf n.can.move t.a t.b crowd)) ≡ fuel n.can.list.weights (states_in t.leaf (crowd_after_take t.leaf n.can.move t.a t.b crowd)) =
+          ap (λ (y : Layer). fuel y.weights (states_in u.leaf (crowd_after_take t.leaf n.can.move t.a t.b crowd))) (sym list)
+          ∙ ap (λ k. fuel n.can.list.weights (states_in k (crowd_after_take t.leaf n.can.move t.a t.b crowd))) e in
+          let behinds : behind net proof (crowd_after_take t.leaf n.can.move t.a t.b crowd) u m ≡ behind net proof crowd t n =
           behind_same e (m.layer + 1) ∙ ap (λ k. layers_bound (drop (k + 1) n.can.part.layers) + parts_bound (drop (t.leaf + 1) proof.leaves)) f in
-          let products : behind net proof (after_take t.leaf n.can.move t.a t.b crowd) u m * length (after_take t.leaf n.can.move t.a t.b crowd) ≡ behind net proof crowd t n * length crowd = λ i. behinds i * size i in
+          let products : behind net proof (crowd_after_take t.leaf n.can.move t.a t.b crowd) u m * length (crowd_after_take t.leaf n.can.move t.a t.b crowd) ≡ behind net proof crowd t n * length crowd = λ i. behinds i * size i in
           let some = used in
           omega (arith, fuels, products, some)
 
-      by_layer : u.leaf ≡ t.leaf → (m.layer < n.layer) ⊎ (n.layer ≤ m.layer) → (n.layer < m.layer) ⊎ (m.layer ≤ n.layer) → left net proof (after_take t.leaf n.can.move t.a t.b crowd) u m < left net proof crowd t n
+      by_layer : u.leaf ≡ t.leaf → (m.layer < n.layer) ⊎ (n.layer ≤ m.layer) → (n.layer < m.layer) ⊎ (m.layer ≤ n.layer) → left net proof (crowd_after_take t.leaf n.can.move t.a t.b crowd) u m < left net proof crowd t n
       by_layer e (inl l) k = absurd (quiet m.layer m.place u m.can (inr (e, l)))
       by_layer e (inr l) (inl k) =
-          let most = behind_layer net proof (after_take t.leaf n.can.move t.a t.b crowd) u m (n.layer + 1) (omega arith) in
+          let most = behind_layer net proof (crowd_after_take t.leaf n.can.move t.a t.b crowd) u m (n.layer + 1) (omega arith) in
           let same = behind_same e (n.layer + 1) in
           later (behind net proof crowd t n) (omega (arith, most, same)) (omega arith)
       by_layer e (inr l) (inr k) = same_layer e (omega arith)
 
-      by_leaf : (u.leaf < t.leaf) ⊎ (t.leaf ≤ u.leaf) → (t.leaf < u.leaf) ⊎ (u.leaf ≤ t.leaf) → left net proof (after_take t.leaf n.can.move t.a t.b crowd) u m < left net proof crowd t n
+      by_leaf : (u.leaf < t.leaf) ⊎ (t.leaf ≤ u.leaf) → (t.leaf < u.leaf) ⊎ (u.leaf ≤ t.leaf) → left net proof (crowd_after_take t.leaf n.can.move t.a t.b crowd) u m < left net proof crowd t n
       by_leaf (inl l) k = absurd (quiet m.layer m.place u m.can (inl l))
       by_leaf (inr l) (inl k) =
-          let most = behind_leaf net proof (after_take t.leaf n.can.move t.a t.b crowd) u m (t.leaf + 1) (omega arith) in
+          let most = behind_leaf net proof (crowd_after_take t.leaf n.can.move t.a t.b crowd) u m (t.leaf + 1) (omega arith) in
           later (parts_bound (drop (t.leaf + 1) proof.leaves)) most (omega arith)
       by_leaf (inr l) (inr k) = by_layer (omega arith) (cases_lt m.layer n.layer) (cases_lt n.layer m.layer)
 
-  lasts : (crowd end : CrowdModel) (t : Take) (n : IsNext net proof crowd t) (takes : List Take) → InRanges net crowd → LeadsBy net proof (after_take t.leaf n.can.move t.a t.b crowd) takes end → length (t ∷ takes) ≤ left net proof crowd t n
+  lasts : (crowd end : CrowdModel) (t : Take) (n : IsNext net proof crowd t) (takes : List Take) → InRanges net crowd → LeadsBy net proof (crowd_after_take t.leaf n.can.move t.a t.b crowd) takes end → length (t ∷ takes) ≤ left net proof crowd t n
   lasts crowd end t n [] in_ranges l =
       let some = uses_fuel net proof are crowd n.layer n.place t n.can in_ranges (valid t.leaf n.can.leaf n.can.part n.can.leaf_is n.can.part_is) in
       omega (arith, some)
   lasts crowd end t n (u ∷ takes) in_ranges l =
       let v = valid t.leaf n.can.leaf n.can.part n.can.leaf_is n.can.part_is in
-      let more = lasts (after_take t.leaf n.can.move t.a t.b crowd) end u l.0 takes (next_ranges net proof are crowd n.layer n.place t n.can in_ranges v) l.1 in
+      let more = lasts (crowd_after_take t.leaf n.can.move t.a t.b crowd) end u l.0 takes (next_ranges net proof are crowd n.layer n.place t n.can in_ranges v) l.1 in
       let fewer = fewer_left crowd t u n in_ranges l.0 in
       omega (arith, more, fewer)
 

@@ -11,9 +11,9 @@ use Rattle.cert_base.specs.declared.proof.Proof.{Proof}
 use Rattle.cert_base.specs.declared.proof.LeafProof.{LeafProof}
 use Rattle.cert_base.specs.ValidLayers.{ValidLayers, listed}
 use Rattle.pop_settle.specs.declared.take.Take.{Take}
-use Rattle.pop_settle.specs.Settlement.{states_in, CanTake, IsNext, after_take}
+use Rattle.pop_settle.specs.Settlement.{states_in, CanTake, IsNext, crowd_after_take}
 use Rattle.pop_settle.specs.Settling.{AreLayersValid}
-use Rattle.pop_settle.specs.Groups.{AreGroups, after_move}
+use Rattle.pop_settle.specs.Groups.{AreGroups, states_after_move}
 use Rattle.pop_settle.specs.Search.{IsFirstTake, FindsTake}
 use Rattle.pop_settle.specs.Walks.{TakesTo, IsQuietBefore}
 use Rattle.pop_settle.proofs.Taking.{here}
@@ -74,7 +74,7 @@ module _ (net : NetModel) (proof : Proof) (j : ℕ) (layer : Layer) (leaf : Leaf
   record Found (i : ℕ) : Type 0 where
     at : AtLayer net proof j layer leaf i
     first : IsFirstTake leaf layer.moves (states_in i crowd) take
-    grouped : AreGroups (after_move (states_in i crowd) first.move take.a take.b) groups
+    grouped : AreGroups (states_after_move (states_in i crowd) first.move take.a take.b) groups
     quiet : IsQuietBefore net proof crowd i j
 
   -- it was made
@@ -89,7 +89,7 @@ module _ (net : NetModel) (proof : Proof) (j : ℕ) (layer : Layer) (leaf : Leaf
       let at = f.at in
       let first = f.first in
       let can : CanTake net proof crowd j first.place take = can_first net proof crowd take j leaf at.part layer at.leaf_is at.part_is at.layer_is first in
-      let is : after ≡ after_take take.leaf first.move take.a take.b crowd = to leaf first.move at.leaf_is first.move_is in
+      let is : after ≡ crowd_after_take take.leaf first.move take.a take.b crowd = to leaf first.move at.leaf_is first.move_is in
       let states = here net proof crowd j first.place take can in_ranges.tuples in
       record {
         next = next_first net proof crowd take j leaf at.part layer at.leaf_is at.part_is at.layer_is first f.quiet;

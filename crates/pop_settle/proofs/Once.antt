@@ -8,7 +8,7 @@ use Rattle.cert_base.specs.declared.layer.Layer.{Layer}
 use Rattle.cert_base.specs.declared.proof.Proof.{Proof}
 use Rattle.cert_base.specs.declared.proof.LeafProof.{LeafProof}
 use Rattle.pop_settle.specs.declared.take.Take.{Take}
-use Rattle.pop_settle.specs.Settlement.{CanTake, Then, IsNext, after_take, LeadsBy}
+use Rattle.pop_settle.specs.Settlement.{CanTake, Then, IsNext, crowd_after_take, LeadsBy}
 use Rattle.pop_settle.specs.Laws.{AreOne}
 use Rattle.pop_settle.proofs.Taking.{same_value}
 
@@ -59,8 +59,8 @@ module _ (net : NetModel) (proof : Proof) (crowd : CrowdModel) (t u : Take) (m :
   pub next_take : t ≡ u
   next_take = same_next.0
 
-  pub next_crowd : after_take t.leaf m.can.move t.a t.b crowd ≡ after_take u.leaf n.can.move u.a u.b crowd
-  next_crowd = λ i. after_take (same_next.0 i).leaf (same_next.1 i) (same_next.0 i).a (same_next.0 i).b crowd
+  pub next_crowd : crowd_after_take t.leaf m.can.move t.a t.b crowd ≡ crowd_after_take u.leaf n.can.move u.a u.b crowd
+  next_crowd = λ i. crowd_after_take (same_next.0 i).leaf (same_next.1 i) (same_next.0 i).a (same_next.0 i).b crowd
 
 abbrev Ends : NetModel → Proof → CrowdModel → Type 0
 Ends net proof end = (layer place : ℕ) (take : Take) → CanTake net proof end layer place take → ⊥
@@ -74,7 +74,7 @@ only_way net proof crowd end last (t ∷ takes) [] l none l' none' =
 only_way net proof crowd end last (t ∷ takes) (u ∷ others) l none l' none' =
     let e = next_take net proof crowd t u l.0 l'.0 in
     let c = next_crowd net proof crowd t u l.0 l'.0 in
-    let rest = only_way net proof (after_take t.leaf l.0.can.move t.a t.b crowd) end last takes others l.1 none (subst (λ (d : CrowdModel). LeadsBy net proof d others last) (sym c) l'.1) none' in
+    let rest = only_way net proof (crowd_after_take t.leaf l.0.can.move t.a t.b crowd) end last takes others l.1 none (subst (λ (d : CrowdModel). LeadsBy net proof d others last) (sym c) l'.1) none' in
     (λ i. sym e i ∷ rest.0 i, rest.1)
 
 pub are_one : AreOne

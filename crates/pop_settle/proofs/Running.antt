@@ -7,7 +7,7 @@ use Rattle.std.proofs.lemmas.Option.{same_Some, slice_get-get_or}
 use Rattle.pop_net.specs.declared.leaf.Move.{Move}
 use Rattle.pop_net.specs.LeafModel.{LeafModel}
 use Rattle.pop_settle.specs.Groups.{holds, AreGroups, IsEmptyGroup}
-use Rattle.pop_settle.specs.Search.{IsIdle, BeginAlike, IsRun}
+use Rattle.pop_settle.specs.Search.{IsIdle, BeginAlike, IsStretch}
 use Rattle.pop_settle.proofs.Taking.{same_value}
 use Rattle.pop_settle.proofs.Endings.{element}
 use Rattle.pop_settle.proofs.Grouping.{slice_get-set_apart, slice_get-set_same}
@@ -19,7 +19,7 @@ alike_itself leaf moves k j e step step' t t' h m h' m' =
     ap (λ (u : Move). u.p) one
 
 -- one move alone
-pub run_of_one : (leaf : LeafModel) (moves : List ℕ) (k : ℕ) → k < length moves → IsRun leaf moves k (k + 1)
+pub run_of_one : (leaf : LeafModel) (moves : List ℕ) (k : ℕ) → k < length moves → IsStretch leaf moves k (k + 1)
 run_of_one leaf moves k l =
     record { behind = (let m : k < k + 1 = omega arith in m); within = (let m : k + 1 ≤ length moves = omega arith in m); alike = λ j m n. alike_itself leaf moves k j (omega arith) }
 
@@ -32,7 +32,7 @@ alike_next leaf moves k j one other h h' alike step step' t t' a m a' m' =
     alike t t' (subst (λ (n : ℕ). slice_get leaf.moves n ≡ Some t) first m) (subst (λ (n : ℕ). slice_get leaf.moves n ≡ Some t') second m')
 
 -- one move more before a run
-pub longer_run : (leaf : LeafModel) (moves : List ℕ) (k end : ℕ) → k + 1 < length moves → get_or moves (k + 1) 0 < length leaf.moves → BeginAlike leaf moves k (k + 1) → IsRun leaf moves (k + 1) end → IsRun leaf moves k end
+pub longer_run : (leaf : LeafModel) (moves : List ℕ) (k end : ℕ) → k + 1 < length moves → get_or moves (k + 1) 0 < length leaf.moves → BeginAlike leaf moves k (k + 1) → IsStretch leaf moves (k + 1) end → IsStretch leaf moves k end
 longer_run leaf moves k end l m alike run =
     record { behind = (let l = run.behind in let n : k < end = omega arith in n); within = run.within; alike = λ j l n. by_place j l n (cases_lt k j) }
   where
@@ -44,26 +44,26 @@ longer_run leaf moves k end l m alike run =
         run.alike j (omega arith) n (get_or moves (k + 1) 0) s' t.0 u' next t.1 a' b' ∙ alike s (get_or moves (k + 1) 0) u t.0 a b next t.1
 
 -- one more end is entered, before those that are right
-pub run_entered : (leaf : LeafModel) (moves ends : List ℕ) (place end : ℕ) → length ends ≡ length moves → place < length moves → IsRun leaf moves place end
-    → ((k e : ℕ) → place + 1 ≤ k → slice_get ends k ≡ Some e → IsRun leaf moves k e) → (k e : ℕ) → place ≤ k → slice_get (slice_set ends place end) k ≡ Some e → IsRun leaf moves k e
+pub run_entered : (leaf : LeafModel) (moves ends : List ℕ) (place end : ℕ) → length ends ≡ length moves → place < length moves → IsStretch leaf moves place end
+    → ((k e : ℕ) → place + 1 ≤ k → slice_get ends k ≡ Some e → IsStretch leaf moves k e) → (k e : ℕ) → place ≤ k → slice_get (slice_set ends place end) k ≡ Some e → IsStretch leaf moves k e
 run_entered leaf moves ends place end long l run after k e m h = by_place (cases_eq k place)
   where
     later : (place < k) ⊎ (k ≤ place) → (k ≡ place → ⊥) → place + 1 ≤ k
     later (inl n) ne = omega arith
     later (inr n) ne = absurd (ne (omega arith))
 
-    by_place : (k ≡ place) ⊎ (k ≡ place → ⊥) → IsRun leaf moves k e
+    by_place : (k ≡ place) ⊎ (k ≡ place → ⊥) → IsStretch leaf moves k e
     by_place (inr ne) = after k e (later (cases_lt place k) ne) (sym (slice_get-set_apart ends place k end (λ f. ne (sym f))) ∙ h)
     by_place (inl f) =
         let here : slice_get (slice_set ends place end) place ≡ Some e = subst (λ (n : ℕ). slice_get (slice_set ends place end) n ≡ Some e) f h in
         let same : end ≡ e = same_Some end e (sym (set_there ends place end (omega (arith, l, long))) ∙ here) in
-        subst (λ (n : ℕ). IsRun leaf moves n e) (sym f) (subst (λ (n : ℕ). IsRun leaf moves place n) same run)
+        subst (λ (n : ℕ). IsStretch leaf moves n e) (sym f) (subst (λ (n : ℕ). IsStretch leaf moves place n) same run)
       where
         set_there : (xs : List ℕ) (i y : ℕ) → i < length xs → slice_get (slice_set xs i y) i ≡ Some y
         set_there xs i y n = slice_get-set_same xs i _ y (slice_get-get_or xs i 0 n)
 
 -- where nobody holds the first state of a run, all its moves are idle
-pub run_idle : (leaf : LeafModel) (moves states : List ℕ) (groups : List (BTreeSet ℕ)) (k end step : ℕ) (t : Move) → slice_get moves k ≡ Some step → slice_get leaf.moves step ≡ Some t → t.p < length groups → AreGroups states groups → IsEmptyGroup groups t.p → IsRun leaf moves k end
+pub run_idle : (leaf : LeafModel) (moves states : List ℕ) (groups : List (BTreeSet ℕ)) (k end step : ℕ) (t : Move) → slice_get moves k ≡ Some step → slice_get leaf.moves step ≡ Some t → t.p < length groups → AreGroups states groups → IsEmptyGroup groups t.p → IsStretch leaf moves k end
     → ((i : ℕ) → i < k → IsIdle leaf moves states i) → (i : ℕ) → i < end → IsIdle leaf moves states i
 run_idle leaf moves states groups k end step t h m p_in are empty run before i l = by_place (cases_lt i k)
   where

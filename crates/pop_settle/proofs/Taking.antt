@@ -12,7 +12,7 @@ use Rattle.pop_net.proofs.Tuples.{step_tuples}
 use Rattle.cert_base.specs.declared.proof.Proof.{Proof}
 use Rattle.cert_base.proofs.Agents.{move_change, move_step}
 use Rattle.pop_settle.specs.declared.take.Take.{Take}
-use Rattle.pop_settle.specs.Settlement.{states_in, CanTake, with_state, after_take}
+use Rattle.pop_settle.specs.Settlement.{states_in, CanTake, with_state, crowd_after_take}
 
 -- an option has one value
 pub same_value : {A : Type 0} (o : Option A) (x y : A) → o ≡ Some x → o ≡ Some y → x ≡ y
@@ -35,7 +35,7 @@ state_is i crowd a q h =
 
 module _ (net : NetModel) (proof : Proof) (crowd : CrowdModel) (layer place : ℕ) (take : Take) (c : CanTake net proof crowd layer place take) where
   abbrev taken : CrowdModel
-  taken = after_take take.leaf c.move take.a take.b crowd
+  taken = crowd_after_take take.leaf c.move take.a take.b crowd
 
   -- it is a step of the leaf
   abbrev pub leaf_step : LeafStep c.leaf (states_in take.leaf crowd) (slice_set (slice_set (states_in take.leaf crowd) take.a c.move.r) take.b c.move.s)

@@ -38,14 +38,14 @@ abbrev pub Takes : List (BTreeSet ℕ) → ℕ → ℕ → List (BTreeSet ℕ) �
 Takes groups q a after = Changes false groups q a after
 
 -- a and b are the least agents that can make the move, compared by a and then by b
-abbrev pub IsLeastPair : List ℕ → Move → ℕ → ℕ → Type 0
-IsLeastPair states t a b = CanMake states t a b × ((c d : ℕ) → CanMake states t c d → Then c a (d < b) → ⊥)
+abbrev pub IsLeastPairFor : List ℕ → Move → ℕ → ℕ → Type 0
+IsLeastPairFor states t a b = CanMake states t a b × ((c d : ℕ) → CanMake states t c d → Then c a (d < b) → ⊥)
 
 -- the states after a and b made the move
-abbrev pub after_move : List ℕ → Move → ℕ → ℕ → List ℕ
-after_move states t a b = slice_set (slice_set states a t.r) b t.s
+abbrev pub states_after_move : List ℕ → Move → ℕ → ℕ → List ℕ
+states_after_move states t a b = slice_set (slice_set states a t.r) b t.s
 
 -- the least pair has made the move, or there is none that can
 abbrev pub IsMade : List ℕ → Move → Option (ℕ × ℕ) → List (BTreeSet ℕ) → Type 0
 IsMade states t None groups = AreGroups states groups × ((a b : ℕ) → CanMake states t a b → ⊥)
-IsMade states t (Some pair) groups = IsLeastPair states t pair.0 pair.1 × AreGroups (after_move states t pair.0 pair.1) groups
+IsMade states t (Some pair) groups = IsLeastPairFor states t pair.0 pair.1 × AreGroups (states_after_move states t pair.0 pair.1) groups

@@ -6,7 +6,7 @@ use Rattle.pop_net.specs.Terminal.{IsTerminal}
 use Rattle.cert_base.specs.declared.proof.Proof.{Proof}
 use Rattle.cert_base.specs.ProofBound.{proof_bound}
 use Rattle.pop_settle.specs.declared.take.Take.{Take}
-use Rattle.pop_settle.specs.Settlement.{CanTake, after_take, LeadsBy, IsSettlement}
+use Rattle.pop_settle.specs.Settlement.{CanTake, crowd_after_take, LeadsBy, IsSettlement}
 use Rattle.pop_settle.specs.Settling.{AreLayersValid}
 
 -- each agent has one state of each leaf
@@ -17,7 +17,7 @@ IsCrowd net crowd = All (IsTuple net) crowd × All (HasStates net) crowd
 abbrev pub AreSteps : Type 0
 AreSteps =
     (net : NetModel) (proof : Proof) (crowd : CrowdModel) (layer place : ℕ) (take : Take) → All (IsTuple net) crowd
-    → (can : CanTake net proof crowd layer place take) → Step net crowd (after_take take.leaf can.move take.a take.b crowd)
+    → (can : CanTake net proof crowd layer place take) → Step net crowd (crowd_after_take take.leaf can.move take.a take.b crowd)
 
 -- each settlement of the crowd has these takes and this end
 abbrev pub IsOnlySettlement : NetModel → Proof → CrowdModel → List Take → CrowdModel → Type 0

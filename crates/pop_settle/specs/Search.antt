@@ -5,7 +5,7 @@ use Rattle.pop_net.specs.declared.leaf.Move.{Move}
 use Rattle.pop_net.specs.LeafModel.{LeafModel}
 use Rattle.pop_settle.specs.declared.take.Take.{Take}
 use Rattle.pop_settle.specs.Settlement.{CanMake}
-use Rattle.pop_settle.specs.Groups.{AreGroups, IsLeastPair, after_move}
+use Rattle.pop_settle.specs.Groups.{AreGroups, IsLeastPairFor, states_after_move}
 
 -- no agents can make the move at place k of a list
 abbrev pub IsIdle : LeafModel → List ℕ → List ℕ → ℕ → Type 0
@@ -19,7 +19,7 @@ BeginAlike leaf moves k j =
     → slice_get leaf.moves step' ≡ Some t' → t'.p ≡ t.p
 
 -- from place k up to place end, which is behind it, all moves have the same first state
-pub record IsRun (leaf : LeafModel) (moves : List ℕ) (k end : ℕ) : Type 0 where
+pub record IsStretch (leaf : LeafModel) (moves : List ℕ) (k end : ℕ) : Type 0 where
   pub behind : k < end
   pub within : end ≤ length moves
   pub alike : (j : ℕ) → k ≤ j → j < end → BeginAlike leaf moves k j
@@ -27,7 +27,7 @@ pub record IsRun (leaf : LeafModel) (moves : List ℕ) (k end : ℕ) : Type 0 wh
 -- such an end for each place
 pub record AreRunEnds (leaf : LeafModel) (moves ends : List ℕ) : Type 0 where
   pub long : length ends ≡ length moves
-  pub runs : (k end : ℕ) → slice_get ends k ≡ Some end → IsRun leaf moves k end
+  pub runs : (k end : ℕ) → slice_get ends k ≡ Some end → IsStretch leaf moves k end
 
 -- the take is the first of the list, by the least agents
 pub record IsFirstTake (leaf : LeafModel) (moves states : List ℕ) (take : Take) : Type 0 where
@@ -35,11 +35,11 @@ pub record IsFirstTake (leaf : LeafModel) (moves states : List ℕ) (take : Take
   pub move : Move
   pub step_is : slice_get moves place ≡ Some take.step
   pub move_is : slice_get leaf.moves take.step ≡ Some move
-  pub least : IsLeastPair states move take.a take.b
+  pub least : IsLeastPairFor states move take.a take.b
   pub idle : (k : ℕ) → k < place → IsIdle leaf moves states k
 
 -- the first take of the list was made, or there is none
 abbrev pub FindsTake : LeafModel → ℕ → List ℕ → List ℕ → Option Take → List (BTreeSet ℕ) → Type 0
 FindsTake leaf number moves states None groups = AreGroups states groups × ((k : ℕ) → IsIdle leaf moves states k)
 FindsTake leaf number moves states (Some take) groups =
-    (take.leaf ≡ number) × (first : IsFirstTake leaf moves states take) × AreGroups (after_move states first.move take.a take.b) groups
+    (take.leaf ≡ number) × (first : IsFirstTake leaf moves states take) × AreGroups (states_after_move states first.move take.a take.b) groups

@@ -37,8 +37,8 @@ abbrev pub with_state : ℕ → ℕ → ℕ → CrowdModel → Tuple
 with_state i agent state crowd = slice_set (slice_index_or crowd agent []) i state
 
 -- a gets the state r and b the state s in leaf i, and nothing else changes
-abbrev pub after_take : ℕ → Move → ℕ → ℕ → CrowdModel → CrowdModel
-after_take i t a b crowd = slice_set (slice_set crowd a (with_state i a t.r crowd)) b (with_state i b t.s crowd)
+abbrev pub crowd_after_take : ℕ → Move → ℕ → ℕ → CrowdModel → CrowdModel
+crowd_after_take i t a b crowd = slice_set (slice_set crowd a (with_state i a t.r crowd)) b (with_state i b t.s crowd)
 
 -- m comes before n; where they are the same, what is compared next decides
 abbrev pub Then : ℕ → ℕ → Type 0 → Type 0
@@ -60,7 +60,7 @@ pub record IsNext (net : NetModel) (proof : Proof) (crowd : CrowdModel) (take : 
 abbrev pub LeadsBy : NetModel → Proof → CrowdModel → List Take → CrowdModel → Type 0
 LeadsBy net proof crowd [] end = end ≡ crowd
 LeadsBy net proof crowd (take ∷ takes) end =
-    (next : IsNext net proof crowd take) × LeadsBy net proof (after_take take.leaf next.can.move take.a take.b crowd) takes end
+    (next : IsNext net proof crowd take) × LeadsBy net proof (crowd_after_take take.leaf next.can.move take.a take.b crowd) takes end
 
 -- no take can be made after the last one
 pub record IsSettlement (net : NetModel) (proof : Proof) (crowd : CrowdModel) (takes : List Take) (end : CrowdModel) : Type 0 where

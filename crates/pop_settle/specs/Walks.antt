@@ -7,13 +7,13 @@ use Rattle.pop_net.specs.Lanes.{crowd_of, AreValid}
 use Rattle.cert_base.specs.declared.proof.Proof.{Proof}
 use Rattle.pop_settle.specs.declared.take.Take.{Take}
 use Rattle.pop_settle.specs.declared.walk.Walk.{Walk}
-use Rattle.pop_settle.specs.Settlement.{CanTake, Then, after_take, LeadsBy}
+use Rattle.pop_settle.specs.Settlement.{CanTake, Then, crowd_after_take, LeadsBy}
 
 -- the crowd after a take, whose move is found by its number
 abbrev pub TakesTo : NetModel → Take → CrowdModel → CrowdModel → Type 0
 TakesTo net take before after =
     (leaf : LeafModel) (move : Move) → slice_get net.leaves take.leaf ≡ Some leaf → slice_get leaf.moves take.step ≡ Some move
-    → after ≡ after_take take.leaf move take.a take.b before
+    → after ≡ crowd_after_take take.leaf move take.a take.b before
 
 -- no take can be made of a leaf before leaf i, and in leaf i none of a layer before layer j
 abbrev pub IsQuietBefore : NetModel → Proof → CrowdModel → ℕ → ℕ → Type 0

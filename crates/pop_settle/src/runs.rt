@@ -2,7 +2,7 @@
 
 ghost use Rattle.std.specs.Prelude.{◌≡◌, ℕ, ◌+◌, ◌<◌, length, All, Some, IfOk, IsTrue, slice_get};
 ghost use Rattle.pop_net.specs.declared.leaf.Move.{Move};
-ghost use Rattle.pop_settle.specs.Search.{AreRunEnds, IsRun};
+ghost use Rattle.pop_settle.specs.Search.{AreRunEnds, IsStretch};
 
 use pop_io::NoMemory;
 use pop_net::Leaf;
@@ -27,8 +27,9 @@ fn run_end(leaf: &Leaf, moves: &[u32], ends: &[usize], place: usize) -> usize
     requires in_range { All (λ step. step < length leaf.now.moves) moves.now }
     requires place_in { place < length moves.now }
     requires long { length ends.now ≡ length moves.now }
-    requires behind { (end : ℕ) → slice_get ends.now (place + 1) ≡ Some end → IsRun leaf.now moves.now (place + 1) end }
-    ensures { IsRun leaf.now moves.now place result }
+    requires behind { (end : ℕ) → slice_get ends.now (place + 1) ≡ Some end
+        → IsStretch leaf.now moves.now (place + 1) end }
+    ensures { IsStretch leaf.now moves.now place result }
 {
     let next = place + 1;
     if next < moves.len() && begin_alike(leaf, moves[place], moves[next]) {

@@ -13,7 +13,7 @@ use Rattle.tool_texts.proofs.Goes.{bind_ok, same_ok}
 use Rattle.tool_commands.specs.Start.{fitting_in}
 use Rattle.tool_commands.specs.Bundles.{bundle_in, begun, IsBegunBy}
 use Rattle.tool_commands.proofs.Certified.{some_value}
-use Rattle.pop_tool.specs.Headline.{IsBundleInput, IsValid}
+use Rattle.pop_tool.specs.Headline.{IsBundleInput, HasValidProof}
 
 pub begins_input : (first second : List ℕ) (bundle : Bundle) (counts : List ℕ) → IsBegunBy first second (Ok (bundle, counts)) → IsBundleInput first second bundle counts
 unfolding begun
@@ -36,6 +36,6 @@ input_begins first second bundle counts input =
     (Some input.value, input.reads, rw (bundle_again input.value bundle input.file, input.fits) refl)
 
 -- the net of a file whose proof is valid computes the predicate
-pub file_computes : (bundle : Bundle) (d : Data) → IsBundleFile bundle d → IsValid bundle → Computes bundle.net bundle.pred.tree (proof_bound bundle.proof)
+pub file_computes : (bundle : Bundle) (d : Data) → IsBundleFile bundle d → HasValidProof bundle → Computes bundle.net bundle.pred.tree (proof_bound bundle.proof)
 file_computes bundle d file valid =
     (sound bundle.net bundle.pred bundle.proof (file_net bundle d file) (file_preds bundle d file) valid).computes

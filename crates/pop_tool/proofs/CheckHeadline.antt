@@ -26,7 +26,7 @@ use Rattle.tool_commands.specs.Bundles.{bundle_in, IsBundleOf, IsJudged}
 use Rattle.tool_commands.specs.Check.{certified_text, judgement, OfBundle, OfLine, CheckGives}
 use Rattle.tool_commands.proofs.Certified.{some_value}
 use Rattle.pop_tool.specs.Answer.{InputGives}
-use Rattle.pop_tool.specs.Headline.{IsBundleLine, IsValid, CheckSays, IsValidLine}
+use Rattle.pop_tool.specs.Headline.{IsBundleLine, HasValidProof, CheckSays, IsValidLine}
 use Rattle.pop_tool.proofs.BundleInput.{file_computes}
 use Rattle.pop_tool.proofs.FirstBytes.{first_byte, refusal_begins, rejection_begins}
 
@@ -48,10 +48,10 @@ module _ (text : List ℕ) (bundle : Bundle) where
   judged_says value file None is printed =
       record { certified = ((λ p. is), (λ valid. (printed, refl))); computes = file_computes bundle value file }
   judged_says value file (Some rejected) is printed =
-      let never : IsValid bundle → ⊥ = λ valid. none_rejected bundle.net bundle.pred bundle.proof rejected valid is in
+      let never : HasValidProof bundle → ⊥ = λ valid. none_rejected bundle.net bundle.pred bundle.proof rejected valid is in
       record { certified = ((λ p. absurd (cc (p.1))), (λ valid. absurd (never valid))); computes = file_computes bundle value file }
 
-  judged_valid : (judged : Option Rejected) → IsJudged bundle judged → (k : ℕ) → (judgement bundle judged).text ≡ ended (certified_text k) → IsValid bundle
+  judged_valid : (judged : Option Rejected) → IsJudged bundle judged → (k : ℕ) → (judgement bundle judged).text ≡ ended (certified_text k) → HasValidProof bundle
   judged_valid None is k e = is
   judged_valid (Some rejected) is k e = absurd (not_rejection rejected k e)
 
@@ -75,7 +75,7 @@ module _ (k : ℕ) where
   refused : (refusal : Refusal) (given : Result Output Refusal) → given ≡ Err refusal → Printed given k → ⊥
   refused refusal given is printed = not_refusal refusal k (subst (λ (g : Result Output Refusal). Printed g k) is printed)
 
-  bundle_only : (line : List ℕ) (r : Result Bundle Refusal) (given : Result Output Refusal) → IsBundleOf line r → After r OfBundle given → Printed given k → (bundle : Bundle) × IsBundleOf line (Ok bundle) × IsValid bundle
+  bundle_only : (line : List ℕ) (r : Result Bundle Refusal) (given : Result Output Refusal) → IsBundleOf line r → After r OfBundle given → Printed given k → (bundle : Bundle) × IsBundleOf line (Ok bundle) × HasValidProof bundle
   bundle_only line (Err refusal) given of is printed = absurd (refused refusal given is printed)
   bundle_only line (Ok bundle) given of is printed =
       (bundle, of, judged_valid (judgement bundle is.0).text bundle is.0 is.1 k (subst (λ (g : Result Output Refusal). Printed g k) is.2 printed))

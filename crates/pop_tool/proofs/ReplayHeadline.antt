@@ -40,7 +40,7 @@ use Rattle.tool_commands.proofs.OneCheck.{one_begin}
 use Rattle.tool_commands.proofs.InputSize.{length-input_crowd}
 use Rattle.tool_commands.proofs.Begun.{begun_two, begun_few}
 use Rattle.pop_tool.specs.Answer.{InputGives}
-use Rattle.pop_tool.specs.Headline.{IsValid, IsHeldInput}
+use Rattle.pop_tool.specs.Headline.{HasValidProof, IsHeldInput}
 use Rattle.pop_tool.proofs.BundleInput.{begins_input, input_begins}
 use Rattle.pop_tool.proofs.FirstBytes.{first_byte, refusal_begins, rejection_begins, difference_begins}
 
@@ -136,7 +136,7 @@ some_more : (kind : RunKind) (agents : ℕ) (first second : List ℕ) (more : Li
 some_more kind agents first second [] journal given read of = absurd cc
 some_more kind agents first second (third ∷ more) journal given read of = of
 
-judged_given : (kind : RunKind) (bundle : Bundle) (counts : List ℕ) (lines : List (List ℕ)) (judged : Option Rejected) → IsJudged bundle judged → IsValid bundle → judged_output kind bundle counts lines judged ≡ replay_output kind bundle.net (input_crowd bundle.net counts) lines
+judged_given : (kind : RunKind) (bundle : Bundle) (counts : List ℕ) (lines : List (List ℕ)) (judged : Option Rejected) → IsJudged bundle judged → HasValidProof bundle → judged_output kind bundle counts lines judged ≡ replay_output kind bundle.net (input_crowd bundle.net counts) lines
 judged_given kind bundle counts lines None is valid = refl
 judged_given kind bundle counts lines (Some rejected) is valid = absurd (none_rejected bundle.net bundle.pred bundle.proof rejected valid is)
 
@@ -158,7 +158,7 @@ module _ (k : ℕ) (small : k < 2 ^ 64) where
   refused refusal given is printed = not_refusal refusal k (subst (λ (g : Result Output Refusal). Printed g k) is printed)
 
   module _ (kind : RunKind) (input first second : List ℕ) (more : List (List ℕ)) (short : length input ≤ INPUT_LIMIT) (lines : lines_of input ≡ first ∷ second ∷ more) where
-    read_only : (bundle : Bundle) (counts : List ℕ) → IsBegunBy first second (Ok (bundle, counts)) → IsValid bundle → (r : Result Journal Refusal) → journal_read kind (journal_in kind (length (input_crowd bundle.net counts)) JOURNAL_LINE more) ≡ r
+    read_only : (bundle : Bundle) (counts : List ℕ) → IsBegunBy first second (Ok (bundle, counts)) → HasValidProof bundle → (r : Result Journal Refusal) → journal_read kind (journal_in kind (length (input_crowd bundle.net counts)) JOURNAL_LINE more) ≡ r
         → Printed (r >>= λ journal. Ok (journal_output bundle.net (input_crowd bundle.net counts) journal)) k → IsHeldInput kind input k
     read_only bundle counts begins valid (Err refusal) read printed = absurd (not_refusal refusal k printed)
     read_only bundle counts begins valid (Ok journal) read printed =

@@ -30,7 +30,7 @@ use Rattle.tool_commands.specs.Run.{journal_end, IsRunOutput, OfJudged, OfBegun,
 use Rattle.tool_commands.proofs.Begun.{begun_two}
 use Rattle.tool_commands.proofs.Ran.{run_tuples}
 use Rattle.pop_tool.specs.Answer.{InputGives}
-use Rattle.pop_tool.specs.Headline.{IsValid, RunSays, WasRun}
+use Rattle.pop_tool.specs.Headline.{HasValidProof, RunSays, WasRun}
 use Rattle.pop_tool.proofs.BundleInput.{begins_input, file_computes}
 
 pub two_lines : (lines : List (List ℕ)) (found : List ℕ × List ℕ) → just_two lines ≡ Ok found → lines ≡ found.0 ∷ found.1 ∷ []
@@ -77,7 +77,7 @@ pub record IsMade (kind : RunKind) (spec : RunSpec) (input : List ℕ) (output :
   pub bundle : Bundle
   pub counts : List ℕ
   pub begins : IsBegunBy first second (Ok (bundle, counts))
-  pub valid : IsValid bundle
+  pub valid : HasValidProof bundle
   pub is : IsRunOutput kind spec (ended first ++ ended second) bundle.net bundle.pred counts output
 
 module _ (kind : RunKind) (spec : RunSpec) (input : List ℕ) where

@@ -60,19 +60,19 @@ pub record IsBundleInput (first second : List ℕ) (bundle : Bundle) (counts : L
   pub file : IsBundleFile bundle value
   pub fits : fitting_in bundle.net second ≡ Ok counts
 
-abbrev pub IsValid : Bundle → Type 0
-IsValid bundle = ValidProof bundle.net bundle.pred bundle.proof
+abbrev pub HasValidProof : Bundle → Type 0
+HasValidProof bundle = ValidProof bundle.net bundle.pred bundle.proof
 
 -- `certified` is printed, with the bound, exactly when the proof is valid; and then the net computes the predicate within it
 pub record CheckSays (bundle : Bundle) (text : List ℕ) (status : Status) : Type 0 where
-  pub certified : ((text ≡ ended (certified_text (proof_bound bundle.proof))) × (status ≡ Done)) ↔ IsValid bundle
-  pub computes : IsValid bundle → Computes bundle.net bundle.pred.tree (proof_bound bundle.proof)
+  pub certified : ((text ≡ ended (certified_text (proof_bound bundle.proof))) × (status ≡ Done)) ↔ HasValidProof bundle
+  pub computes : HasValidProof bundle → Computes bundle.net bundle.pred.tree (proof_bound bundle.proof)
 
 -- the input is the line of some bundle whose proof is valid
 pub record IsValidLine (input : List ℕ) : Type 0 where
   pub bundle : Bundle
   pub line : IsBundleLine input bundle
-  pub valid : IsValid bundle
+  pub valid : HasValidProof bundle
 
 -- The printed journal is a run of this kind of the bundle's net from the input crowd. A verdict stands there exactly when the last crowd is
 -- terminal, and is the predicate's value.
@@ -121,7 +121,7 @@ pub record IsHeldInput (kind : RunKind) (input : List ℕ) (meetings : ℕ) : Ty
   pub bundle : Bundle
   pub counts : List ℕ
   pub begins : IsBundleInput first second bundle counts
-  pub valid : IsValid bundle
+  pub valid : HasValidProof bundle
   pub journal : Journal
   pub read : journal_read kind (journal_in kind (length (input_crowd bundle.net counts)) JOURNAL_LINE more) ≡ Ok journal
   pub holds : Holds bundle.net (input_crowd bundle.net counts) journal

@@ -17,7 +17,7 @@ use Rattle.pres_tokens.specs.Symbols.{Symbol, Number, Compare, And, Or, Open, Cl
 use Rattle.pres_read.specs.Numbers.{value_of}
 use Rattle.pres_read.specs.Atoms.{signed}
 use Rattle.pres_read.specs.Depth.{Depth, surface, charge_of, parentheses_after, deeper}
-use Rattle.pres_read.specs.Reading.{zeros, pred_read}
+use Rattle.pres_read.specs.Reading.{zero_coefs, pred_read}
 use Rattle.pres_read.specs.Grammar.{Term, bare, times, Sum, first, further, conj, unit, term_symbols, minus_if, plus_or_minus, sum_symbols, constant_symbols, symbols, term_name, term_number}
 use Rattle.pres_read.specs.Rules.{CoefFits, TermFits, SumFits, Fits, IsShallow}
 use Rattle.pres_read.specs.Canonical.{is_negative, is_zero, tree_text}
@@ -84,11 +84,11 @@ terms_fit all before (name ∷ names) o prefix (a ∷ coefs) apart e same len sm
     (step_filled all before names name o prefix a apart e same (omega (arith, here)) h ∙ sym (append_assoc prefix (a ∷ []) (replicate (length names) (pos 0))))
     (fits-extended all o (is_negative a) (canonical_term (nat_abs a) name) f (term_fits all before names name o prefix a apart e same here h)))
 
-zero_fits : (names : List (List ℕ)) → AllPairs ◌≢◌ names → 0 < length names → TermFits names (zeros names) false (times (codes "0") (head_name names))
+zero_fits : (names : List (List ℕ)) → AllPairs ◌≢◌ names → 0 < length names → TermFits names (zero_coefs names) false (times (codes "0") (head_name names))
 zero_fits [] apart some = absurd (omega arith)
 zero_fits (name ∷ names) apart some = (
   omega arith,
-  subst (λ (i : Option ℕ). CoefFits (zeros (name ∷ names)) i (pos 0)) (sym (place_found (name ∷ names) [] names name apart refl))
+  subst (λ (i : Option ℕ). CoefFits (zero_coefs (name ∷ names)) i (pos 0)) (sym (place_found (name ∷ names) [] names name apart refl))
       (coef_fits [] (replicate (length names) (pos 0)) 0 (pos 0) refl (omega arith)),
 )
 

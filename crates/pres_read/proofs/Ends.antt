@@ -15,8 +15,8 @@ use Rattle.pres_read.specs.TextFault.{TextFault, TooDeep}
 use Rattle.pres_read.specs.Atoms.{negation_if, equality_tree}
 use Rattle.pres_read.specs.Progress.{Span, Around, Next, AUnit, ATerm, AStar, AName, ARelation, AConstant, ANumber, AModulo, AModulus, ASign, Progress}
 use Rattle.pres_read.specs.Depth.{Depth, charge_of, deeper, sunk}
-use Rattle.pres_read.specs.Reading.{tree_up_to_unit, ended, finish_by, finish, step}
-use Rattle.pres_read.specs.Sound.{option_weight, span_weight, spans_weight, next_weight, HasOption, HasSpan, HasSpans, HasNext, IsSettled, IsSoundProgress}
+use Rattle.pres_read.specs.Reading.{tree_up_to_unit, end_step, finish_by, finish, step}
+use Rattle.pres_read.specs.Sound.{option_weight, span_weight, spans_weight, next_weight, HasOption, HasSpan, HasSpans, HasNext, LeavesNoOperator, IsSoundProgress}
 use Rattle.pres_read.proofs.Limits.{weight-disjoined, HasAtoms-disjoined, HasAtoms-negated_if, HasAtoms-equality}
 use Rattle.pres_read.proofs.Steps.{weight-up_to_unit, HasAtoms-up_to_unit, weight-unequal, step_goes}
 
@@ -36,7 +36,7 @@ sound_further names p q d e t sound stepped deep =
 
 ended_fits : (n charge end : ℕ) (above : List Span) (ors : Option PredTree) (p : PredTree)
     → 1 ≤ n → n ≤ VARIABLE_LIMIT → charge ≤ WEIGHT_LIMIT → HasOption n ors → HasAtoms n p → spans_weight above + option_weight ors + weight_of p ≡ charge
-    → IfOk (ended above ors p end) (IsPred n)
+    → IfOk (end_step above ors p end) (IsPred n)
 ended_fits n charge end [] ors p one most small o g w = record {
   some_variable = one;
   variables = most;
@@ -46,7 +46,7 @@ ended_fits n charge end [] ors p one most small o g w = record {
 ended_fits n charge end (span ∷ above) ors p one most small o g w = tt
 
 finish_by_fits : (n charge end : ℕ) (a : Around) (next : Next) → 1 ≤ n → n ≤ VARIABLE_LIMIT → charge ≤ WEIGHT_LIMIT
-    → HasSpans n a.above → HasSpan n a.span → HasNext n next → IsSettled a.span next → spans_weight a.above + span_weight a.span + next_weight next ≡ charge
+    → HasSpans n a.above → HasSpan n a.span → HasNext n next → LeavesNoOperator a.span next → spans_weight a.above + span_weight a.span + next_weight next ≡ charge
     → IfOk (finish_by a next end) (IsPred n)
 finish_by_fits n charge end a AUnit one most small above span h settled w = tt
 finish_by_fits n charge end a (ATerm coefs negative) one most small above span h settled w = tt

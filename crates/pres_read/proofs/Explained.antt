@@ -19,7 +19,7 @@ use Rattle.pres_read.specs.Reading.{step, finish, with_progress, run, over, pred
 use Rattle.pres_read.specs.Grammar.{bare, times}
 use Rattle.pres_read.specs.Texts.{symbols_of, text_symbols, Begins, IsStuck, place_of}
 use Rattle.pres_read.specs.Rules.{IsKnown, AreKnown, IsShallow, NumbersFit, KeepsRules, last_is, is_star}
-use Rattle.pres_read.specs.Faults.{IsNumber, IsSyntaxFault, IsUnknownName, IsTooLarge, IsTooDeep, IsReadFault}
+use Rattle.pres_read.specs.Faults.{IsNumeral, IsSyntaxFault, IsUnknownName, IsTooLarge, IsTooDeep, IsReadFault}
 use Rattle.pres_read.proofs.Traces.{Lead, begin, IUnit, ITerm, IStar, IName, IRelation, IConstant, INumber, IModulo, IModulus, Side, Trace, Inside, Done, begun, trace_step, trace_goes_by, trace_run, trace_end}
 use Rattle.pres_read.proofs.Prefixes.{above_prefix, side_prefix, lead_prefix, prefix, prefix-run}
 use Rattle.pres_read.proofs.Goes.{goes_on}
@@ -128,7 +128,7 @@ module _ (names : List (List ℕ)) (text : List ℕ) where
 
   -- a constant, a modulus or a name alone
   large_alone : (before ts : List Placed) (p : Progress) (a b : Trace) (d : Depth) (t : Placed) → tokens_of text ≡ before ++ t ∷ ts → Stands names before p a d → trace_step a t.symbol ≡ Some b → IsKnown names t.symbol
-      → (RuleAt names a t.symbol → ⊥) → IsNumber (symbols_of before) (t.symbol ∷ []) → IsTooLarge names text t.place
+      → (RuleAt names a t.symbol → ⊥) → IsNumeral (symbols_of before) (t.symbol ∷ []) → IsTooLarge names text t.place
   large_alone before ts p a b d t tokens at e known broken number = record {
     before = before;
     own = t ∷ [];
@@ -184,7 +184,7 @@ module _ (names : List (List ℕ)) (text : List ℕ) where
 
   -- a term that is a name alone
   lone_number : (before : List Placed) (p : Progress) (a : Trace) (d : Depth) (above : List Side) (side : Side) (lead : Lead) (word : List ℕ) (s : Symbol) → Stands names before p a d
-      → prefix a ≡ above_prefix above ++ (side_prefix side ++ lead_prefix lead) → s ≡ Name word → IsNumber (symbols_of before) (s ∷ [])
+      → prefix a ≡ above_prefix above ++ (side_prefix side ++ lead_prefix lead) → s ≡ Name word → IsNumeral (symbols_of before) (s ∷ [])
   lone_number before p a d above side lead word s at e is =
       inl (bare word, ap (λ x. x ∷ []) is, subst (λ (ss : List Symbol). last_is is_star false ss ≡ false) (sym e ∙ is_prefix before p a d at) (term_free above side lead))
 

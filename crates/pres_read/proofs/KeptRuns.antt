@@ -19,7 +19,7 @@ use Rattle.pres_read.specs.Numbers.{value_of, value_within}
 use Rattle.pres_read.specs.Atoms.{signed, negation_if, equality_tree, limit_of, Factor, lone, with_coef, with_number, with_term, added}
 use Rattle.pres_read.specs.Progress.{Span, Around, Next, AUnit, ATerm, AStar, AName, ARelation, AConstant, ANumber, AModulo, AModulus, ASign, Progress, start}
 use Rattle.pres_read.specs.Depth.{Depth, surface, deeper, within_depth, sunk}
-use Rattle.pres_read.specs.Reading.{after_sum, at_term, at_unit, at_star, at_name, at_relation, with_constant, at_number, at_constant, with_modulus, at_modulus, closed, at_sign, tree_up_to_unit, at_modulo, by_next, step, ended, finish_by, finish, with_progress, run, over, pred_read}
+use Rattle.pres_read.specs.Reading.{after_sum, term_step, unit_step, star_step, name_step, relation_step, given_constant, number_step, constant_step, given_modulus, modulus_step, close_step, sign_step, tree_up_to_unit, modulo_step, by_next, step, end_step, finish_by, finish, with_progress, run, over, pred_read}
 use Rattle.pres_read.specs.Grammar.{APred, Phrase, symbols, coefs_of, meaning}
 use Rattle.pres_read.specs.Texts.{symbols_of, text_symbols, IsReadTo}
 use Rattle.pres_read.specs.Rules.{CoefFits, Fits, IsShallow}
@@ -65,65 +65,65 @@ sum_fine a (Ok coefs) h = tt
 sum_fine a (Err e) h = absurd h
 
 unit_term_fine : (names : List (List ℕ)) (a : Around) (lead : Lead) (place : ℕ) (s : Symbol) → RuleUnit names lead s
-    → Fine (at_term names a (lead_coefs names lead) (lead_negative lead) place s)
+    → Fine (term_step names a (lead_coefs names lead) (lead_negative lead) place s)
 unit_term_fine names a lead place (Name word) h =
     sum_fine a (added names (lead_coefs names lead) (lone (lead_negative lead) place) place word)
     (term_went (lead_coefs names lead) (position (bytes_eq word) names) (lone (lead_negative lead) place) place h.0 h.1)
 unit_term_fine names a lead place s h = tt
 
-unit_fine : (names : List (List ℕ)) (a : Around) (place : ℕ) (s : Symbol) → RuleUnit names (begin false) s → Fine (at_unit names a place s)
+unit_fine : (names : List (List ℕ)) (a : Around) (place : ℕ) (s : Symbol) → RuleUnit names (begin false) s → Fine (unit_step names a place s)
 unit_fine names a place Not h = tt
 unit_fine names a place Open h = tt
 unit_fine names a place Minus h = tt
 unit_fine names a place s h = unit_term_fine names a (begin false) place s h
 
-star_fine : (a : Around) (coefs : List ℤ) (factor : Factor) (place : ℕ) (s : Symbol) → Fine (at_star a coefs factor place s)
+star_fine : (a : Around) (coefs : List ℤ) (factor : Factor) (place : ℕ) (s : Symbol) → Fine (star_step a coefs factor place s)
 star_fine a coefs factor place Star = tt
 star_fine a coefs factor place s = tt
 
 name_fine : (names : List (List ℕ)) (a : Around) (lead : Lead) (digits : List ℕ) (at place : ℕ) (s : Symbol) → RuleName names lead digits s
-    → Fine (at_name names a (lead_coefs names lead) (lead_factor lead digits at) place s)
+    → Fine (name_step names a (lead_coefs names lead) (lead_factor lead digits at) place s)
 name_fine names a lead digits at place (Name word) h =
     sum_fine a (added names (lead_coefs names lead) (lead_factor lead digits at) place word)
     (term_went (lead_coefs names lead) (position (bytes_eq word) names) (lead_factor lead digits at) place h.0 h.1)
 name_fine names a lead digits at place s h = tt
 
-relation_fine : (a : Around) (coefs : List ℤ) (place : ℕ) (s : Symbol) → Fine (at_relation a coefs place s)
+relation_fine : (a : Around) (coefs : List ℤ) (place : ℕ) (s : Symbol) → Fine (relation_step a coefs place s)
 relation_fine a coefs place Plus = tt
 relation_fine a coefs place Minus = tt
 relation_fine a coefs place (Compare r) = tt
 relation_fine a coefs place s = tt
 
-number_fine : (a : Around) (coefs : List ℤ) (r : Relation) (negative : Bool) (place : ℕ) (s : Symbol) → RuleConstant r s → Fine (at_number a coefs r negative place s)
+number_fine : (a : Around) (coefs : List ℤ) (r : Relation) (negative : Bool) (place : ℕ) (s : Symbol) → RuleConstant r s → Fine (number_step a coefs r negative place s)
 number_fine a coefs r negative place (Number digits) h = by_test (ltb (limit_of r) (value_of digits)) refl
   where
-    by_test : (b : Bool) → ltb (limit_of r) (value_of digits) ≡ b → Fine (with_constant a coefs r negative place (if b then None else Some (value_of digits)))
+    by_test : (b : Bool) → ltb (limit_of r) (value_of digits) ≡ b → Fine (given_constant a coefs r negative place (if b then None else Some (value_of digits)))
     by_test true e = let past = ltb-true (limit_of r) (value_of digits) e in absurd (omega (arith, past, h))
     by_test false e = tt
 number_fine a coefs r negative place s h = tt
 
-constant_fine : (a : Around) (coefs : List ℤ) (r : Relation) (place : ℕ) (s : Symbol) → RuleConstant r s → Fine (at_constant a coefs r place s)
+constant_fine : (a : Around) (coefs : List ℤ) (r : Relation) (place : ℕ) (s : Symbol) → RuleConstant r s → Fine (constant_step a coefs r place s)
 constant_fine a coefs r place Minus h = tt
 constant_fine a coefs r place s h = number_fine a coefs r false place s h
 
-closed_fine : (above : List Span) (p : PredTree) (place : ℕ) → Fine (closed above p place)
+closed_fine : (above : List Span) (p : PredTree) (place : ℕ) → Fine (close_step above p place)
 closed_fine [] p place = tt
 closed_fine (span ∷ above) p place = tt
 
-sign_fine : (above : List Span) (ors : Option PredTree) (p : PredTree) (place : ℕ) (s : Symbol) → Fine (at_sign above ors p place s)
+sign_fine : (above : List Span) (ors : Option PredTree) (p : PredTree) (place : ℕ) (s : Symbol) → Fine (sign_step above ors p place s)
 sign_fine above ors p place And = tt
 sign_fine above ors p place Or = tt
 sign_fine above ors p place Close = closed_fine above _ place
 sign_fine above ors p place s = tt
 
-modulo_fine : (a : Around) (coefs : List ℤ) (unequal : Bool) (c : ℤ) (place : ℕ) (s : Symbol) → Fine (at_modulo a coefs unequal c place s)
+modulo_fine : (a : Around) (coefs : List ℤ) (unequal : Bool) (c : ℤ) (place : ℕ) (s : Symbol) → Fine (modulo_step a coefs unequal c place s)
 modulo_fine a coefs unequal c place Mod = tt
 modulo_fine a coefs unequal c place s = sign_fine a.above a.span.ors (tree_up_to_unit a.span (negation_if unequal (equality_tree coefs c))) place s
 
-modulus_fine : (a : Around) (coefs : List ℤ) (unequal : Bool) (c : ℤ) (place : ℕ) (s : Symbol) → RuleModulus s → Fine (at_modulus a coefs unequal c place s)
+modulus_fine : (a : Around) (coefs : List ℤ) (unequal : Bool) (c : ℤ) (place : ℕ) (s : Symbol) → RuleModulus s → Fine (modulus_step a coefs unequal c place s)
 modulus_fine a coefs unequal c place (Number digits) h = by_test (ltb MODULUS_LIMIT (value_of digits)) refl (ltb (value_of digits) 2) refl
   where
-    by_test : (b : Bool) → ltb MODULUS_LIMIT (value_of digits) ≡ b → (small : Bool) → ltb (value_of digits) 2 ≡ small → Fine (with_modulus a coefs unequal c place (if b then None else Some (value_of digits)))
+    by_test : (b : Bool) → ltb MODULUS_LIMIT (value_of digits) ≡ b → (small : Bool) → ltb (value_of digits) 2 ≡ small → Fine (given_modulus a coefs unequal c place (if b then None else Some (value_of digits)))
     by_test true e small f = let past = ltb-true MODULUS_LIMIT (value_of digits) e in let most = h.1 in absurd (omega (arith, past, most))
     by_test false e true f = let past = ltb-true (value_of digits) 2 f in let least = h.0 in absurd (omega (arith, past, least))
     by_test false e false f = rw f tt
@@ -149,7 +149,7 @@ shown_fine names (Done above ors c) at t h = sign_fine (side_spans names above) 
 step_fine : (names : List (List ℕ)) (p : Progress) (a : Trace) (t : Placed) → IsShown names p a → RuleAt names a t.symbol → Fine (step names p t)
 step_fine names p a t h k = subst (λ (q : Progress). Fine (step names q t)) (sym h.1) (shown_fine names a h.0 t k)
 
-ended_fine : (above : List Span) (ors : Option PredTree) (p : PredTree) (end : ℕ) → Fine (ended above ors p end)
+ended_fine : (above : List Span) (ors : Option PredTree) (p : PredTree) (end : ℕ) → Fine (end_step above ors p end)
 ended_fine [] ors p end = tt
 ended_fine (span ∷ above) ors p end = tt
 

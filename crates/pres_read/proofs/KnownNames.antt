@@ -7,7 +7,7 @@ use Rattle.pres_tokens.specs.Symbols.{Symbol, Name, Minus, Not, Open, Placed}
 use Rattle.pres_read.specs.TextFault.{TextFault}
 use Rattle.pres_read.specs.Atoms.{Factor, lone, with_term}
 use Rattle.pres_read.specs.Progress.{Span, Around, Next, AUnit, ATerm, AStar, AName, ARelation, AConstant, ANumber, AModulo, AModulus, ASign, Progress}
-use Rattle.pres_read.specs.Reading.{zeros, after_sum, at_term, at_unit, at_star, at_name, at_relation, at_number, at_constant, at_modulus, at_sign, at_modulo, by_next, step}
+use Rattle.pres_read.specs.Reading.{zero_coefs, after_sum, term_step, unit_step, star_step, name_step, relation_step, number_step, constant_step, modulus_step, sign_step, modulo_step, by_next, step}
 use Rattle.pres_read.specs.Rules.{IsKnown}
 
 abbrev pub Known : List (List ℕ) → Symbol → Result Progress TextFault → Type 0
@@ -22,17 +22,17 @@ sum_known names a coefs (Some i) factor place word e = by_sum (with_term coefs (
     by_sum (Ok sum) = rw (← e) refl
     by_sum (Err f) = tt
 
-term_known : (names : List (List ℕ)) (a : Around) (coefs : List ℤ) (negative : Bool) (place : ℕ) (s : Symbol) → Known names s (at_term names a coefs negative place s)
+term_known : (names : List (List ℕ)) (a : Around) (coefs : List ℤ) (negative : Bool) (place : ℕ) (s : Symbol) → Known names s (term_step names a coefs negative place s)
 term_known names a coefs negative place (Name word) = sum_known names a coefs (position (bytes_eq word) names) (lone negative place) place word refl
 term_known names a coefs negative place s = tt
 
-unit_known : (names : List (List ℕ)) (a : Around) (place : ℕ) (s : Symbol) → Known names s (at_unit names a place s)
+unit_known : (names : List (List ℕ)) (a : Around) (place : ℕ) (s : Symbol) → Known names s (unit_step names a place s)
 unit_known names a place Not = tt
 unit_known names a place Open = tt
 unit_known names a place Minus = tt
-unit_known names a place s = term_known names a (zeros names) false place s
+unit_known names a place s = term_known names a (zero_coefs names) false place s
 
-name_known : (names : List (List ℕ)) (a : Around) (coefs : List ℤ) (factor : Factor) (place : ℕ) (s : Symbol) → Known names s (at_name names a coefs factor place s)
+name_known : (names : List (List ℕ)) (a : Around) (coefs : List ℤ) (factor : Factor) (place : ℕ) (s : Symbol) → Known names s (name_step names a coefs factor place s)
 name_known names a coefs factor place (Name word) = sum_known names a coefs (position (bytes_eq word) names) factor place word refl
 name_known names a coefs factor place s = tt
 
@@ -41,33 +41,33 @@ any_known : (names : List (List ℕ)) (s : Symbol) (r : Result Progress TextFaul
 any_known names s (Ok q) h = h
 any_known names s (Err e) h = tt
 
-star_known : (names : List (List ℕ)) (a : Around) (coefs : List ℤ) (factor : Factor) (place : ℕ) (s : Symbol) → Known names s (at_star a coefs factor place s)
+star_known : (names : List (List ℕ)) (a : Around) (coefs : List ℤ) (factor : Factor) (place : ℕ) (s : Symbol) → Known names s (star_step a coefs factor place s)
 star_known names a coefs factor place (Name word) = tt
-star_known names a coefs factor place s = any_known names s (at_star a coefs factor place s) tt
+star_known names a coefs factor place s = any_known names s (star_step a coefs factor place s) tt
 
-relation_known : (names : List (List ℕ)) (a : Around) (coefs : List ℤ) (place : ℕ) (s : Symbol) → Known names s (at_relation a coefs place s)
+relation_known : (names : List (List ℕ)) (a : Around) (coefs : List ℤ) (place : ℕ) (s : Symbol) → Known names s (relation_step a coefs place s)
 relation_known names a coefs place (Name word) = tt
-relation_known names a coefs place s = any_known names s (at_relation a coefs place s) tt
+relation_known names a coefs place s = any_known names s (relation_step a coefs place s) tt
 
-constant_known : (names : List (List ℕ)) (a : Around) (coefs : List ℤ) (r : Relation) (place : ℕ) (s : Symbol) → Known names s (at_constant a coefs r place s)
+constant_known : (names : List (List ℕ)) (a : Around) (coefs : List ℤ) (r : Relation) (place : ℕ) (s : Symbol) → Known names s (constant_step a coefs r place s)
 constant_known names a coefs r place (Name word) = tt
-constant_known names a coefs r place s = any_known names s (at_constant a coefs r place s) tt
+constant_known names a coefs r place s = any_known names s (constant_step a coefs r place s) tt
 
-number_known : (names : List (List ℕ)) (a : Around) (coefs : List ℤ) (r : Relation) (negative : Bool) (place : ℕ) (s : Symbol) → Known names s (at_number a coefs r negative place s)
+number_known : (names : List (List ℕ)) (a : Around) (coefs : List ℤ) (r : Relation) (negative : Bool) (place : ℕ) (s : Symbol) → Known names s (number_step a coefs r negative place s)
 number_known names a coefs r negative place (Name word) = tt
-number_known names a coefs r negative place s = any_known names s (at_number a coefs r negative place s) tt
+number_known names a coefs r negative place s = any_known names s (number_step a coefs r negative place s) tt
 
-modulo_known : (names : List (List ℕ)) (a : Around) (coefs : List ℤ) (unequal : Bool) (c : ℤ) (place : ℕ) (s : Symbol) → Known names s (at_modulo a coefs unequal c place s)
+modulo_known : (names : List (List ℕ)) (a : Around) (coefs : List ℤ) (unequal : Bool) (c : ℤ) (place : ℕ) (s : Symbol) → Known names s (modulo_step a coefs unequal c place s)
 modulo_known names a coefs unequal c place (Name word) = tt
-modulo_known names a coefs unequal c place s = any_known names s (at_modulo a coefs unequal c place s) tt
+modulo_known names a coefs unequal c place s = any_known names s (modulo_step a coefs unequal c place s) tt
 
-modulus_known : (names : List (List ℕ)) (a : Around) (coefs : List ℤ) (unequal : Bool) (c : ℤ) (place : ℕ) (s : Symbol) → Known names s (at_modulus a coefs unequal c place s)
+modulus_known : (names : List (List ℕ)) (a : Around) (coefs : List ℤ) (unequal : Bool) (c : ℤ) (place : ℕ) (s : Symbol) → Known names s (modulus_step a coefs unequal c place s)
 modulus_known names a coefs unequal c place (Name word) = tt
-modulus_known names a coefs unequal c place s = any_known names s (at_modulus a coefs unequal c place s) tt
+modulus_known names a coefs unequal c place s = any_known names s (modulus_step a coefs unequal c place s) tt
 
-sign_known : (names : List (List ℕ)) (above : List Span) (ors : Option PredTree) (p : PredTree) (place : ℕ) (s : Symbol) → Known names s (at_sign above ors p place s)
+sign_known : (names : List (List ℕ)) (above : List Span) (ors : Option PredTree) (p : PredTree) (place : ℕ) (s : Symbol) → Known names s (sign_step above ors p place s)
 sign_known names above ors p place (Name word) = tt
-sign_known names above ors p place s = any_known names s (at_sign above ors p place s) tt
+sign_known names above ors p place s = any_known names s (sign_step above ors p place s) tt
 
 next_known : (names : List (List ℕ)) (a : Around) (next : Next) (place : ℕ) (s : Symbol) → Known names s (by_next names a next place s)
 next_known names a AUnit place s = unit_known names a place s

@@ -14,30 +14,30 @@ use Rattle.pres_tokens.specs.declared.token.Relation.TheVariants.{Less, AtMost, 
 use Rattle.pres_read.specs.TextFault.{TextFault, TooLarge}
 use Rattle.pres_read.specs.Numbers.{value_within, value_of}
 use Rattle.pres_read.specs.Atoms.{signed, turned, negation_if, equality_tree, compared, remainder, congruent, limit_of, Factor, with_coef, with_number, with_term, added}
-use Rattle.pres_read.specs.Reading.{negated, conjoined, disjoined, zeros}
+use Rattle.pres_read.specs.Reading.{negation, conjunction, disjunction, zero_coefs}
 use Rattle.pres_read.specs.Sound.{option_weight, HasOption, IsConstant}
 
-pub weight-negated : (k : ℕ) (p : PredTree) → weight_of (negated k p) ≡ weight_of p + k
+pub weight-negated : (k : ℕ) (p : PredTree) → weight_of (negation k p) ≡ weight_of p + k
 weight-negated zero p = omega arith
 weight-negated (suc k) p = omega (arith, weight-negated k p)
 
-pub weight-conjoined : (o : Option PredTree) (p : PredTree) → weight_of (conjoined o p) ≡ option_weight o + weight_of p
+pub weight-conjoined : (o : Option PredTree) (p : PredTree) → weight_of (conjunction o p) ≡ option_weight o + weight_of p
 weight-conjoined None p = omega arith
 weight-conjoined (Some q) p = omega arith
 
-pub weight-disjoined : (o : Option PredTree) (p : PredTree) → weight_of (disjoined o p) ≡ option_weight o + weight_of p
+pub weight-disjoined : (o : Option PredTree) (p : PredTree) → weight_of (disjunction o p) ≡ option_weight o + weight_of p
 weight-disjoined None p = omega arith
 weight-disjoined (Some q) p = omega arith
 
-pub HasAtoms-negated : (n k : ℕ) (p : PredTree) → HasAtoms n p → HasAtoms n (negated k p)
+pub HasAtoms-negated : (n k : ℕ) (p : PredTree) → HasAtoms n p → HasAtoms n (negation k p)
 HasAtoms-negated n zero p h = h
 HasAtoms-negated n (suc k) p h = HasAtoms-negated n k p h
 
-pub HasAtoms-conjoined : (n : ℕ) (o : Option PredTree) (p : PredTree) → HasOption n o → HasAtoms n p → HasAtoms n (conjoined o p)
+pub HasAtoms-conjoined : (n : ℕ) (o : Option PredTree) (p : PredTree) → HasOption n o → HasAtoms n p → HasAtoms n (conjunction o p)
 HasAtoms-conjoined n None p g h = h
 HasAtoms-conjoined n (Some q) p g h = (g, h)
 
-pub HasAtoms-disjoined : (n : ℕ) (o : Option PredTree) (p : PredTree) → HasOption n o → HasAtoms n p → HasAtoms n (disjoined o p)
+pub HasAtoms-disjoined : (n : ℕ) (o : Option PredTree) (p : PredTree) → HasOption n o → HasAtoms n p → HasAtoms n (disjunction o p)
 HasAtoms-disjoined n None p g h = h
 HasAtoms-disjoined n (Some q) p g h = (g, h)
 
@@ -66,7 +66,7 @@ AreCoefs-turned n coefs h = (
   All-map IsCoef neg_ℤ coefs (λ k d l. let same = abs-neg (get_or coefs k d) in let fits = h.1 k d l in omega (arith, same, fits)),
 )
 
-pub AreCoefs-zeros : (names : List (List ℕ)) → AreCoefs (length names) (zeros names)
+pub AreCoefs-zeros : (names : List (List ℕ)) → AreCoefs (length names) (zero_coefs names)
 AreCoefs-zeros names =
     (length-replicate (length names) (pos 0), All-replicate IsCoef (length names) (pos 0) (omega arith))
 

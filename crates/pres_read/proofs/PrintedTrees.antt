@@ -19,7 +19,7 @@ use Rattle.pres_tokens.specs.declared.token.Relation.TheVariants.{Less, Equal}
 use Rattle.pres_tokens.specs.Symbols.{Number, Minus, Compare, And, Or, Not, Open, Close, Mod}
 use Rattle.pres_read.specs.Numbers.{value_of}
 use Rattle.pres_read.specs.Atoms.{signed}
-use Rattle.pres_read.specs.Reading.{zeros}
+use Rattle.pres_read.specs.Reading.{zero_coefs}
 use Rattle.pres_read.specs.Grammar.{Term, Sum, conj, unit, sum_symbols, constant_symbols, symbols, term_name, term_number, raised, with_a_term, coefs_of, meaning, Derives}
 use Rattle.pres_read.specs.Texts.{text_symbols}
 use Rattle.pres_read.specs.Canonical.{is_negative, is_zero, sum_text, tree_text}
@@ -123,7 +123,7 @@ signed-abs (pos n) = refl
 signed-abs (negsuc n) = refl
 
 abbrev pub coefs_so_far : List (List ℕ) → Option Sum → List ℤ
-coefs_so_far names None = zeros names
+coefs_so_far names None = zero_coefs names
 coefs_so_far names (Some sum) = coefs_of names sum
 
 coefs-extended : (names : List (List ℕ)) (o : Option Sum) (negative : Bool) (term : Term) → coefs_of names (extended o negative term) ≡ with_a_term names (coefs_so_far names o) negative term
@@ -218,7 +218,7 @@ raised-zero coefs None = refl
 raised-zero coefs (Some i) = set-back coefs i
 
 coefs-sum_or_zero : (names : List (List ℕ)) (o : Option Sum) → coefs_of names (sum_or_zero names o) ≡ coefs_so_far names o
-coefs-sum_or_zero names None = raised-zero (zeros names) (position (bytes_eq (head_name names)) names)
+coefs-sum_or_zero names None = raised-zero (zero_coefs names) (position (bytes_eq (head_name names)) names)
 coefs-sum_or_zero names (Some sum) = refl
 
 coefs-canonical : (names : List (List ℕ)) (coefs : List ℤ) → AllPairs ◌≢◌ names → length names ≡ length coefs → Small coefs → coefs_of names (canonical_sum names coefs) ≡ coefs

@@ -12,7 +12,7 @@ use Rattle.pres_read.specs.TextFault.{TextFault, Syntax, UnknownName, TooLarge, 
 use Rattle.pres_read.specs.Numbers.{value_of, value_within}
 use Rattle.pres_read.specs.Atoms.{signed, negation_if, equality_tree, congruent, limit_of, Factor, lone, with_coef, with_number, with_term, added}
 use Rattle.pres_read.specs.Progress.{Span, Around, Next, AUnit, ATerm, AStar, AName, ARelation, AConstant, ANumber, AModulo, AModulus, ASign, Progress}
-use Rattle.pres_read.specs.Reading.{after_unit, after_sum, at_term, at_unit, at_star, at_name, at_relation, after_constant, with_constant, at_number, at_constant, with_modulus, at_modulus, closed, at_sign, tree_up_to_unit, disjoined, at_modulo, by_next, step, zeros}
+use Rattle.pres_read.specs.Reading.{progress_after_unit, after_sum, term_step, unit_step, star_step, name_step, relation_step, progress_after_constant, given_constant, number_step, constant_step, given_modulus, modulus_step, close_step, sign_step, tree_up_to_unit, disjunction, modulo_step, by_next, step, zero_coefs}
 use Rattle.pres_read.specs.Grammar.{coefs_of, meaning}
 use Rattle.pres_read.specs.Rules.{CoefFits, IsKnown}
 use Rattle.pres_read.proofs.Traces.{Lead, begin, IUnit, ITerm, IStar, IName, IRelation, IConstant, INumber, IModulo, IModulus, Trace, Inside, Done}
@@ -72,68 +72,68 @@ plain_says known place first (Err (TooLarge at)) h = absurd h
 plain_says known place first (Err (TooDeep at)) h = h
 plain_says known place first (Err (LongText n)) h = tt
 
-lead_says : (names : List (List ℕ)) (a : Around) (lead : Lead) (place : ℕ) (s : Symbol) → Says (RuleUnit names lead s) (IsKnown names s) place place (at_term names a (lead_coefs names lead) (lead_negative lead) place s)
+lead_says : (names : List (List ℕ)) (a : Around) (lead : Lead) (place : ℕ) (s : Symbol) → Says (RuleUnit names lead s) (IsKnown names s) place place (term_step names a (lead_coefs names lead) (lead_negative lead) place s)
 lead_says names a lead place (Name word) =
     sum_says a (RuleUnit names lead (Name word)) (IsKnown names (Name word)) place place (added names (lead_coefs names lead) (lone (lead_negative lead) place) place word)
     (term_says (lead_coefs names lead) (position (bytes_eq word) names) (lone (lead_negative lead) place) place)
 lead_says names a lead place s = tt
 
-unit_says : (names : List (List ℕ)) (a : Around) (place : ℕ) (s : Symbol) → Says (RuleUnit names (begin false) s) (IsKnown names s) place place (at_unit names a place s)
+unit_says : (names : List (List ℕ)) (a : Around) (place : ℕ) (s : Symbol) → Says (RuleUnit names (begin false) s) (IsKnown names s) place place (unit_step names a place s)
 unit_says names a place Not = tt
 unit_says names a place Open = tt
 unit_says names a place Minus = tt
 unit_says names a place s = lead_says names a (begin false) place s
 
-star_plain : (a : Around) (coefs : List ℤ) (factor : Factor) (place : ℕ) (s : Symbol) → Plain (at_star a coefs factor place s)
+star_plain : (a : Around) (coefs : List ℤ) (factor : Factor) (place : ℕ) (s : Symbol) → Plain (star_step a coefs factor place s)
 star_plain a coefs factor place Star = tt
 star_plain a coefs factor place s = tt
 
 name_says : (names : List (List ℕ)) (a : Around) (lead : Lead) (digits : List ℕ) (first place : ℕ) (s : Symbol)
-    → Says (RuleInner names (IName lead digits) s) (IsKnown names s) place first (at_name names a (lead_coefs names lead) (lead_factor lead digits first) place s)
+    → Says (RuleInner names (IName lead digits) s) (IsKnown names s) place first (name_step names a (lead_coefs names lead) (lead_factor lead digits first) place s)
 name_says names a lead digits first place (Name word) =
     sum_says a (RuleInner names (IName lead digits) (Name word)) (IsKnown names (Name word)) place first (added names (lead_coefs names lead) (lead_factor lead digits first) place word)
     (term_says (lead_coefs names lead) (position (bytes_eq word) names) (lead_factor lead digits first) place)
 name_says names a lead digits first place s = tt
 
-relation_plain : (a : Around) (coefs : List ℤ) (place : ℕ) (s : Symbol) → Plain (at_relation a coefs place s)
+relation_plain : (a : Around) (coefs : List ℤ) (place : ℕ) (s : Symbol) → Plain (relation_step a coefs place s)
 relation_plain a coefs place Plus = tt
 relation_plain a coefs place Minus = tt
 relation_plain a coefs place (Compare r) = tt
 relation_plain a coefs place s = tt
 
 number_says : (names : List (List ℕ)) (a : Around) (coefs : List ℤ) (r : Relation) (negative : Bool) (place : ℕ) (s : Symbol)
-    → Says (RuleConstant r s) (IsKnown names s) place place (at_number a coefs r negative place s)
+    → Says (RuleConstant r s) (IsKnown names s) place place (number_step a coefs r negative place s)
 number_says names a coefs r negative place (Number digits) = by_test (ltb (limit_of r) (value_of digits)) refl
   where
     by_test : (b : Bool) → ltb (limit_of r) (value_of digits) ≡ b
-        → Says (RuleConstant r (Number digits)) (IsKnown names (Number digits)) place place (with_constant a coefs r negative place (if b then None else Some (value_of digits)))
+        → Says (RuleConstant r (Number digits)) (IsKnown names (Number digits)) place place (given_constant a coefs r negative place (if b then None else Some (value_of digits)))
     by_test true e = let past = ltb-true (limit_of r) (value_of digits) e in (tt, (λ most. absurd (omega (arith, past, most))), refl)
     by_test false e = ltb-false (limit_of r) (value_of digits) e
 number_says names a coefs r negative place s = tt
 
-constant_says : (names : List (List ℕ)) (a : Around) (coefs : List ℤ) (r : Relation) (place : ℕ) (s : Symbol) → Says (RuleConstant r s) (IsKnown names s) place place (at_constant a coefs r place s)
+constant_says : (names : List (List ℕ)) (a : Around) (coefs : List ℤ) (r : Relation) (place : ℕ) (s : Symbol) → Says (RuleConstant r s) (IsKnown names s) place place (constant_step a coefs r place s)
 constant_says names a coefs r place Minus = tt
 constant_says names a coefs r place s = number_says names a coefs r false place s
 
-closed_plain : (above : List Span) (p : PredTree) (place : ℕ) → Plain (closed above p place)
+closed_plain : (above : List Span) (p : PredTree) (place : ℕ) → Plain (close_step above p place)
 closed_plain [] p place = tt
 closed_plain (span ∷ above) p place = tt
 
-sign_plain : (above : List Span) (ors : Option PredTree) (p : PredTree) (place : ℕ) (s : Symbol) → Plain (at_sign above ors p place s)
+sign_plain : (above : List Span) (ors : Option PredTree) (p : PredTree) (place : ℕ) (s : Symbol) → Plain (sign_step above ors p place s)
 sign_plain above ors p place And = tt
 sign_plain above ors p place Or = tt
-sign_plain above ors p place Close = closed_plain above (disjoined ors p) place
+sign_plain above ors p place Close = closed_plain above (disjunction ors p) place
 sign_plain above ors p place s = tt
 
-modulo_plain : (a : Around) (coefs : List ℤ) (unequal : Bool) (c : ℤ) (place : ℕ) (s : Symbol) → Plain (at_modulo a coefs unequal c place s)
+modulo_plain : (a : Around) (coefs : List ℤ) (unequal : Bool) (c : ℤ) (place : ℕ) (s : Symbol) → Plain (modulo_step a coefs unequal c place s)
 modulo_plain a coefs unequal c place Mod = tt
 modulo_plain a coefs unequal c place s = sign_plain a.above a.span.ors (tree_up_to_unit a.span (negation_if unequal (equality_tree coefs c))) place s
 
-modulus_says : (names : List (List ℕ)) (a : Around) (coefs : List ℤ) (unequal : Bool) (c : ℤ) (place : ℕ) (s : Symbol) → Says (RuleModulus s) (IsKnown names s) place place (at_modulus a coefs unequal c place s)
+modulus_says : (names : List (List ℕ)) (a : Around) (coefs : List ℤ) (unequal : Bool) (c : ℤ) (place : ℕ) (s : Symbol) → Says (RuleModulus s) (IsKnown names s) place place (modulus_step a coefs unequal c place s)
 modulus_says names a coefs unequal c place (Number digits) = by_test (ltb MODULUS_LIMIT (value_of digits)) refl (ltb (value_of digits) 2) refl
   where
     by_test : (b : Bool) → ltb MODULUS_LIMIT (value_of digits) ≡ b → (small : Bool) → ltb (value_of digits) 2 ≡ small
-        → Says (RuleModulus (Number digits)) (IsKnown names (Number digits)) place place (with_modulus a coefs unequal c place (if b then None else Some (value_of digits)))
+        → Says (RuleModulus (Number digits)) (IsKnown names (Number digits)) place place (given_modulus a coefs unequal c place (if b then None else Some (value_of digits)))
     by_test true e small f = let past = ltb-true MODULUS_LIMIT (value_of digits) e in (tt, (λ h. let most = h.1 in absurd (omega (arith, past, most))), refl)
     by_test false e true f = let less = ltb-true (value_of digits) 2 f in rw f (tt, (λ h. let least = h.0 in absurd (omega (arith, less, least))), refl)
     by_test false e false f = rw f (ltb-false (value_of digits) 2 f, ltb-false MODULUS_LIMIT (value_of digits) e)
@@ -152,18 +152,18 @@ unfolding step
 shown_says names (Inside above side IUnit) first t = unit_says names (around_side names above side) t.place t.symbol
 shown_says names (Inside above side (ITerm lead)) first t = lead_says names (around_side names above side) lead t.place t.symbol
 shown_says names (Inside above side (IStar lead digits)) first t =
-    plain_says (IsKnown names t.symbol) t.place t.place (at_star (around_side names above side) (lead_coefs names lead) (lead_factor lead digits first) t.place t.symbol) (star_plain (around_side names above side) (lead_coefs names lead) (lead_factor lead digits first) t.place t.symbol)
+    plain_says (IsKnown names t.symbol) t.place t.place (star_step (around_side names above side) (lead_coefs names lead) (lead_factor lead digits first) t.place t.symbol) (star_plain (around_side names above side) (lead_coefs names lead) (lead_factor lead digits first) t.place t.symbol)
 shown_says names (Inside above side (IName lead digits)) first t = name_says names (around_side names above side) lead digits first t.place t.symbol
 shown_says names (Inside above side (IRelation sum)) first t =
-    plain_says (IsKnown names t.symbol) t.place t.place (at_relation (around_side names above side) (coefs_of names sum) t.place t.symbol) (relation_plain (around_side names above side) (coefs_of names sum) t.place t.symbol)
+    plain_says (IsKnown names t.symbol) t.place t.place (relation_step (around_side names above side) (coefs_of names sum) t.place t.symbol) (relation_plain (around_side names above side) (coefs_of names sum) t.place t.symbol)
 shown_says names (Inside above side (IConstant sum r)) first t = constant_says names (around_side names above side) (coefs_of names sum) r t.place t.symbol
 shown_says names (Inside above side (INumber sum r)) first t = number_says names (around_side names above side) (coefs_of names sum) r true t.place t.symbol
 shown_says names (Inside above side (IModulo sum unequal negative digits)) first t =
-    plain_says (IsKnown names t.symbol) t.place t.place (at_modulo (around_side names above side) (coefs_of names sum) unequal (signed negative (value_of digits)) t.place t.symbol)
+    plain_says (IsKnown names t.symbol) t.place t.place (modulo_step (around_side names above side) (coefs_of names sum) unequal (signed negative (value_of digits)) t.place t.symbol)
     (modulo_plain (around_side names above side) (coefs_of names sum) unequal (signed negative (value_of digits)) t.place t.symbol)
 shown_says names (Inside above side (IModulus sum unequal negative digits)) first t = modulus_says names (around_side names above side) (coefs_of names sum) unequal (signed negative (value_of digits)) t.place t.symbol
 shown_says names (Done above ors c) first t =
-    plain_says (IsKnown names t.symbol) t.place t.place (at_sign (side_spans names above) (option_map (meaning names) ors) (meaning names c) t.place t.symbol)
+    plain_says (IsKnown names t.symbol) t.place t.place (sign_step (side_spans names above) (option_map (meaning names) ors) (meaning names c) t.place t.symbol)
     (sign_plain (side_spans names above) (option_map (meaning names) ors) (meaning names c) t.place t.symbol)
 
 pub step_says : (names : List (List ℕ)) (p : Progress) (a : Trace) (first : ℕ) (t : Placed) → p ≡ shown names first a → SaysAt names a first t.place t.symbol (step names p t)
@@ -186,34 +186,34 @@ sum_begun a (Ok coefs) before = tt
 sum_begun a (Err e) before = tt
 
 term_begun : (names : List (List ℕ)) (a : Around) (coefs : List ℤ) (negative : Bool) (place : ℕ) (s : Symbol) (before : List Placed) → (t : Placed) → t.symbol ≡ s → t.place ≡ place
-    → BegunAfter (at_term names a coefs negative place s) (before ++ t ∷ [])
+    → BegunAfter (term_step names a coefs negative place s) (before ++ t ∷ [])
 term_begun names a coefs negative place (Name word) before t e f = sum_begun a (added names coefs (lone negative place) place word) (before ++ t ∷ [])
 term_begun names a coefs negative place (Number digits) before t e f = (before, t, refl, e, f)
 term_begun names a coefs negative place s before t e f = tt
 
-unit_begun : (names : List (List ℕ)) (a : Around) (place : ℕ) (s : Symbol) (before : List Placed) (t : Placed) → t.symbol ≡ s → t.place ≡ place → BegunAfter (at_unit names a place s) (before ++ t ∷ [])
+unit_begun : (names : List (List ℕ)) (a : Around) (place : ℕ) (s : Symbol) (before : List Placed) (t : Placed) → t.symbol ≡ s → t.place ≡ place → BegunAfter (unit_step names a place s) (before ++ t ∷ [])
 unit_begun names a place Not before t e f = tt
 unit_begun names a place Open before t e f = tt
 unit_begun names a place Minus before t e f = tt
-unit_begun names a place s before t e f = term_begun names a (zeros names) false place s before t e f
+unit_begun names a place s before t e f = term_begun names a (zero_coefs names) false place s before t e f
 
 star_begun : (a : Around) (coefs : List ℤ) (factor : Factor) (place : ℕ) (s : Symbol) (before : List Placed) (t : Placed) → t.symbol ≡ s → TermBegun (AStar coefs factor) before
-    → BegunAfter (at_star a coefs factor place s) (before ++ t ∷ [])
+    → BegunAfter (star_step a coefs factor place s) (before ++ t ∷ [])
 star_begun a coefs factor place Star before t e h =
     (h.0, h.1, t, ap (λ ts. ts ++ t ∷ []) h.2 ∙ append_assoc h.0 (h.1 ∷ []) (t ∷ []), h.3, e, h.4)
 star_begun a coefs factor place s before t e h = tt
 
-name_begun : (names : List (List ℕ)) (a : Around) (coefs : List ℤ) (factor : Factor) (place : ℕ) (s : Symbol) (before : List Placed) → BegunAfter (at_name names a coefs factor place s) before
+name_begun : (names : List (List ℕ)) (a : Around) (coefs : List ℤ) (factor : Factor) (place : ℕ) (s : Symbol) (before : List Placed) → BegunAfter (name_step names a coefs factor place s) before
 name_begun names a coefs factor place (Name word) before = sum_begun a (added names coefs factor place word) before
 name_begun names a coefs factor place s before = tt
 
-relation_begun : (a : Around) (coefs : List ℤ) (place : ℕ) (s : Symbol) (before : List Placed) → BegunAfter (at_relation a coefs place s) before
+relation_begun : (a : Around) (coefs : List ℤ) (place : ℕ) (s : Symbol) (before : List Placed) → BegunAfter (relation_step a coefs place s) before
 relation_begun a coefs place Plus before = tt
 relation_begun a coefs place Minus before = tt
 relation_begun a coefs place (Compare r) before = tt
 relation_begun a coefs place s before = tt
 
-compared_begun : (a : Around) (coefs : List ℤ) (r : Relation) (c : ℤ) (before : List Placed) → TermBegun (after_constant a coefs r c).next before
+compared_begun : (a : Around) (coefs : List ℤ) (r : Relation) (c : ℤ) (before : List Placed) → TermBegun (progress_after_constant a coefs r c).next before
 compared_begun a coefs Less c before = tt
 compared_begun a coefs AtMost c before = tt
 compared_begun a coefs Greater c before = tt
@@ -221,41 +221,41 @@ compared_begun a coefs AtLeast c before = tt
 compared_begun a coefs Equal c before = tt
 compared_begun a coefs Unequal c before = tt
 
-constant_given : (a : Around) (coefs : List ℤ) (r : Relation) (negative : Bool) (place : ℕ) (o : Option ℕ) (before : List Placed) → BegunAfter (with_constant a coefs r negative place o) before
+constant_given : (a : Around) (coefs : List ℤ) (r : Relation) (negative : Bool) (place : ℕ) (o : Option ℕ) (before : List Placed) → BegunAfter (given_constant a coefs r negative place o) before
 constant_given a coefs r negative place None before = tt
 constant_given a coefs r negative place (Some n) before = compared_begun a coefs r (signed negative n) before
 
-number_begun : (a : Around) (coefs : List ℤ) (r : Relation) (negative : Bool) (place : ℕ) (s : Symbol) (before : List Placed) → BegunAfter (at_number a coefs r negative place s) before
+number_begun : (a : Around) (coefs : List ℤ) (r : Relation) (negative : Bool) (place : ℕ) (s : Symbol) (before : List Placed) → BegunAfter (number_step a coefs r negative place s) before
 number_begun a coefs r negative place (Number digits) before = constant_given a coefs r negative place (value_within (limit_of r) (value_of digits)) before
 number_begun a coefs r negative place s before = tt
 
-constant_begun : (a : Around) (coefs : List ℤ) (r : Relation) (place : ℕ) (s : Symbol) (before : List Placed) → BegunAfter (at_constant a coefs r place s) before
+constant_begun : (a : Around) (coefs : List ℤ) (r : Relation) (place : ℕ) (s : Symbol) (before : List Placed) → BegunAfter (constant_step a coefs r place s) before
 constant_begun a coefs r place Minus before = tt
 constant_begun a coefs r place s before = number_begun a coefs r false place s before
 
-closed_begun : (above : List Span) (p : PredTree) (place : ℕ) (before : List Placed) → BegunAfter (closed above p place) before
+closed_begun : (above : List Span) (p : PredTree) (place : ℕ) (before : List Placed) → BegunAfter (close_step above p place) before
 closed_begun [] p place before = tt
 closed_begun (span ∷ above) p place before = tt
 
-sign_begun : (above : List Span) (ors : Option PredTree) (p : PredTree) (place : ℕ) (s : Symbol) (before : List Placed) → BegunAfter (at_sign above ors p place s) before
+sign_begun : (above : List Span) (ors : Option PredTree) (p : PredTree) (place : ℕ) (s : Symbol) (before : List Placed) → BegunAfter (sign_step above ors p place s) before
 sign_begun above ors p place And before = tt
 sign_begun above ors p place Or before = tt
-sign_begun above ors p place Close before = closed_begun above (disjoined ors p) place before
+sign_begun above ors p place Close before = closed_begun above (disjunction ors p) place before
 sign_begun above ors p place s before = tt
 
-modulo_begun : (a : Around) (coefs : List ℤ) (unequal : Bool) (c : ℤ) (place : ℕ) (s : Symbol) (before : List Placed) → BegunAfter (at_modulo a coefs unequal c place s) before
+modulo_begun : (a : Around) (coefs : List ℤ) (unequal : Bool) (c : ℤ) (place : ℕ) (s : Symbol) (before : List Placed) → BegunAfter (modulo_step a coefs unequal c place s) before
 modulo_begun a coefs unequal c place Mod before = tt
 modulo_begun a coefs unequal c place s before = sign_begun a.above a.span.ors (tree_up_to_unit a.span (negation_if unequal (equality_tree coefs c))) place s before
 
-modulus_given : (a : Around) (coefs : List ℤ) (unequal : Bool) (c : ℤ) (place : ℕ) (o : Option ℕ) (before : List Placed) → BegunAfter (with_modulus a coefs unequal c place o) before
+modulus_given : (a : Around) (coefs : List ℤ) (unequal : Bool) (c : ℤ) (place : ℕ) (o : Option ℕ) (before : List Placed) → BegunAfter (given_modulus a coefs unequal c place o) before
 modulus_given a coefs unequal c place None before = tt
 modulus_given a coefs unequal c place (Some m) before = by_test (ltb m 2)
   where
-    by_test : (b : Bool) → BegunAfter (if b then Err (TooLarge place) else Ok (after_unit a (congruent coefs unequal c m))) before
+    by_test : (b : Bool) → BegunAfter (if b then Err (TooLarge place) else Ok (progress_after_unit a (congruent coefs unequal c m))) before
     by_test true = tt
     by_test false = tt
 
-modulus_begun : (a : Around) (coefs : List ℤ) (unequal : Bool) (c : ℤ) (place : ℕ) (s : Symbol) (before : List Placed) → BegunAfter (at_modulus a coefs unequal c place s) before
+modulus_begun : (a : Around) (coefs : List ℤ) (unequal : Bool) (c : ℤ) (place : ℕ) (s : Symbol) (before : List Placed) → BegunAfter (modulus_step a coefs unequal c place s) before
 modulus_begun a coefs unequal c place (Number digits) before = modulus_given a coefs unequal c place (value_within MODULUS_LIMIT (value_of digits)) before
 modulus_begun a coefs unequal c place s before = tt
 

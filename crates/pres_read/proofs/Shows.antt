@@ -11,7 +11,7 @@ use Rattle.pres_read.specs.TextFault.{TextFault, Syntax, UnknownName, TooLarge, 
 use Rattle.pres_read.specs.Numbers.{value_of, value_within}
 use Rattle.pres_read.specs.Atoms.{signed, negation_if, equality_tree, compared, congruent, limit_of, Factor, with_coef, with_number, with_term, added}
 use Rattle.pres_read.specs.Progress.{Span, Around, Next, AUnit, ATerm, AStar, AName, ARelation, AConstant, ANumber, AModulo, AModulus, ASign, Progress, start}
-use Rattle.pres_read.specs.Reading.{negated, conjoined, disjoined, zeros, after_unit, going_on, after_sum, at_term, at_unit, at_star, at_name, at_relation, after_constant, with_constant, at_number, at_constant, with_modulus, at_modulus, closed, at_sign, tree_up_to_unit, after_equality, at_modulo, by_next, step, ended, finish_by, finish}
+use Rattle.pres_read.specs.Reading.{negation, conjunction, disjunction, zero_coefs, progress_after_unit, going_on, after_sum, term_step, unit_step, star_step, name_step, relation_step, progress_after_constant, given_constant, number_step, constant_step, given_modulus, modulus_step, close_step, sign_step, tree_up_to_unit, equality_step, modulo_step, by_next, step, end_step, finish_by, finish}
 use Rattle.pres_read.specs.Grammar.{Term, bare, times, Sum, plain, modular, APred, AConj, AUnit, Phrase, group, atom, equal_or_not, raised, coefs_of, meaning}
 use Rattle.pres_read.proofs.Traces.{Lead, begin, after, sum_with, Inner, IUnit, ITerm, IStar, IName, IRelation, IConstant, INumber, IModulo, IModulus, Side, Trace, Inside, Done, begun, negates, with_ands, with_ors, conj_of, unit_done, trace_closed, trace_sign, trace_term, trace_unit, trace_star, trace_name, trace_relation, trace_compared, trace_number, trace_constant, equality_conj, trace_modulo, trace_modulus, trace_inner, trace_step, trace_ended, trace_inner_end, trace_end}
 
@@ -26,7 +26,7 @@ abbrev pub around_side : List (List ℕ) → List Side → Side → Around
 around_side names above side = record { above = side_spans names above; span = side_span names side }
 
 abbrev pub lead_coefs : List (List ℕ) → Lead → List ℤ
-lead_coefs names (begin negative) = zeros names
+lead_coefs names (begin negative) = zero_coefs names
 lead_coefs names (after sum negative) = coefs_of names sum
 
 abbrev pub lead_negative : Lead → Bool
@@ -73,24 +73,24 @@ Agrees names (Err e) o place = FaultAt e o place
 
 -- ---- meanings of what is put together
 
-meaning-negates : (names : List (List ℕ)) (k : ℕ) (u : Phrase AUnit) → meaning names (negates k u) ≡ negated k (meaning names u)
+meaning-negates : (names : List (List ℕ)) (k : ℕ) (u : Phrase AUnit) → meaning names (negates k u) ≡ negation k (meaning names u)
 meaning-negates names zero u = refl
 meaning-negates names (suc k) u = ap Negation (meaning-negates names k u)
 
-meaning-with_ands : (names : List (List ℕ)) (o : Option (Phrase AConj)) (u : Phrase AUnit) → meaning names (with_ands o u) ≡ conjoined (option_map (meaning names) o) (meaning names u)
+meaning-with_ands : (names : List (List ℕ)) (o : Option (Phrase AConj)) (u : Phrase AUnit) → meaning names (with_ands o u) ≡ conjunction (option_map (meaning names) o) (meaning names u)
 meaning-with_ands names None u = refl
 meaning-with_ands names (Some c) u = refl
 
-meaning-with_ors : (names : List (List ℕ)) (o : Option (Phrase APred)) (c : Phrase AConj) → meaning names (with_ors o c) ≡ disjoined (option_map (meaning names) o) (meaning names c)
+meaning-with_ors : (names : List (List ℕ)) (o : Option (Phrase APred)) (c : Phrase AConj) → meaning names (with_ors o c) ≡ disjunction (option_map (meaning names) o) (meaning names c)
 meaning-with_ors names None c = refl
 meaning-with_ors names (Some p) c = refl
 
 meaning-conj_of : (names : List (List ℕ)) (side : Side) (u : Phrase AUnit) → meaning names (conj_of side u) ≡ tree_up_to_unit (side_span names side) (meaning names u)
 meaning-conj_of names side u =
-    meaning-with_ands names side.ands (negates side.nots u) ∙ ap (conjoined (option_map (meaning names) side.ands)) (meaning-negates names side.nots u)
+    meaning-with_ands names side.ands (negates side.nots u) ∙ ap (conjunction (option_map (meaning names) side.ands)) (meaning-negates names side.nots u)
 
 unit_shown : (names : List (List ℕ)) (above : List Side) (side : Side) (u : Phrase AUnit) (p : PredTree) → meaning names u ≡ p
-    → IsShown names (after_unit (around_side names above side) p) (unit_done above side u)
+    → IsShown names (progress_after_unit (around_side names above side) p) (unit_done above side u)
 unit_shown names above side u p e = (
   0,
   ap (λ c. record { around = record { above = side_spans names above; span = record { ors = option_map (meaning names) side.ors; ands = None; nots = 0 } }; next = ASign c })
@@ -153,37 +153,37 @@ coefs-times names (after sum negative) digits word = refl
 -- ---- one symbol further
 
 term_agrees : (names : List (List ℕ)) (above : List Side) (side : Side) (lead : Lead) (place : ℕ) (s : Symbol)
-    → Agrees names (at_term names (around_side names above side) (lead_coefs names lead) (lead_negative lead) place s) (trace_term above side lead s) place
+    → Agrees names (term_step names (around_side names above side) (lead_coefs names lead) (lead_negative lead) place s) (trace_term above side lead s) place
 term_agrees names above side lead place (Name word) = added_agrees names above side place place lead (codes "1") word (bare word) (coefs-bare names lead word)
 term_agrees names above side lead place (Number digits) = (place, refl)
 term_agrees names above side lead place s = (refl, refl)
 
 unit_agrees : (names : List (List ℕ)) (above : List Side) (side : Side) (place : ℕ) (s : Symbol)
-    → Agrees names (at_unit names (around_side names above side) place s) (trace_unit above side s) place
+    → Agrees names (unit_step names (around_side names above side) place s) (trace_unit above side s) place
 unit_agrees names above side place Not = (place, refl)
 unit_agrees names above side place Open = (place, refl)
 unit_agrees names above side place Minus = (place, refl)
 unit_agrees names above side place s = term_agrees names above side (begin false) place s
 
 star_agrees : (names : List (List ℕ)) (above : List Side) (side : Side) (lead : Lead) (digits : List ℕ) (at place : ℕ) (s : Symbol)
-    → Agrees names (at_star (around_side names above side) (lead_coefs names lead) (lead_factor lead digits at) place s) (trace_star above side lead digits s) place
+    → Agrees names (star_step (around_side names above side) (lead_coefs names lead) (lead_factor lead digits at) place s) (trace_star above side lead digits s) place
 star_agrees names above side lead digits at place Star = (at, refl)
 star_agrees names above side lead digits at place s = (refl, refl)
 
 name_agrees : (names : List (List ℕ)) (above : List Side) (side : Side) (lead : Lead) (digits : List ℕ) (at place : ℕ) (s : Symbol)
-    → Agrees names (at_name names (around_side names above side) (lead_coefs names lead) (lead_factor lead digits at) place s) (trace_name above side lead digits s) place
+    → Agrees names (name_step names (around_side names above side) (lead_coefs names lead) (lead_factor lead digits at) place s) (trace_name above side lead digits s) place
 name_agrees names above side lead digits at place (Name word) = added_agrees names above side place at lead digits word (times digits word) (coefs-times names lead digits word)
 name_agrees names above side lead digits at place s = (refl, refl)
 
 relation_agrees : (names : List (List ℕ)) (above : List Side) (side : Side) (sum : Sum) (place : ℕ) (s : Symbol)
-    → Agrees names (at_relation (around_side names above side) (coefs_of names sum) place s) (trace_relation above side sum s) place
+    → Agrees names (relation_step (around_side names above side) (coefs_of names sum) place s) (trace_relation above side sum s) place
 relation_agrees names above side sum place Plus = (place, refl)
 relation_agrees names above side sum place Minus = (place, refl)
 relation_agrees names above side sum place (Compare r) = (place, refl)
 relation_agrees names above side sum place s = (refl, refl)
 
 compared_shown : (names : List (List ℕ)) (above : List Side) (side : Side) (sum : Sum) (r : Relation) (negative : Bool) (digits : List ℕ)
-    → IsShown names (after_constant (around_side names above side) (coefs_of names sum) r (signed negative (value_of digits))) (trace_compared above side sum r negative digits)
+    → IsShown names (progress_after_constant (around_side names above side) (coefs_of names sum) r (signed negative (value_of digits))) (trace_compared above side sum r negative digits)
 compared_shown names above side sum Less negative digits = unit_shown names above side (atom (plain sum Less negative digits)) (compared (coefs_of names sum) Less (signed negative (value_of digits))) refl
 compared_shown names above side sum AtMost negative digits = unit_shown names above side (atom (plain sum AtMost negative digits)) (compared (coefs_of names sum) AtMost (signed negative (value_of digits))) refl
 compared_shown names above side sum Greater negative digits = unit_shown names above side (atom (plain sum Greater negative digits)) (compared (coefs_of names sum) Greater (signed negative (value_of digits))) refl
@@ -192,35 +192,35 @@ compared_shown names above side sum Equal negative digits = (0, refl)
 compared_shown names above side sum Unequal negative digits = (0, refl)
 
 constant_within : (names : List (List ℕ)) (above : List Side) (side : Side) (sum : Sum) (r : Relation) (negative : Bool) (digits : List ℕ) (place limit : ℕ)
-    → Agrees names (with_constant (around_side names above side) (coefs_of names sum) r negative place (value_within limit (value_of digits))) (Some (trace_compared above side sum r negative digits)) place
+    → Agrees names (given_constant (around_side names above side) (coefs_of names sum) r negative place (value_within limit (value_of digits))) (Some (trace_compared above side sum r negative digits)) place
 constant_within names above side sum r negative digits place limit = by_test (ltb limit (value_of digits))
   where
-    by_test : (b : Bool) → Agrees names (with_constant (around_side names above side) (coefs_of names sum) r negative place (if b then None else Some (value_of digits))) (Some (trace_compared above side sum r negative digits)) place
+    by_test : (b : Bool) → Agrees names (given_constant (around_side names above side) (coefs_of names sum) r negative place (if b then None else Some (value_of digits))) (Some (trace_compared above side sum r negative digits)) place
     by_test true = refl
     by_test false = compared_shown names above side sum r negative digits
 
 number_agrees : (names : List (List ℕ)) (above : List Side) (side : Side) (sum : Sum) (r : Relation) (negative : Bool) (place : ℕ) (s : Symbol)
-    → Agrees names (at_number (around_side names above side) (coefs_of names sum) r negative place s) (trace_number above side sum r negative s) place
+    → Agrees names (number_step (around_side names above side) (coefs_of names sum) r negative place s) (trace_number above side sum r negative s) place
 number_agrees names above side sum r negative place (Number digits) = constant_within names above side sum r negative digits place (limit_of r)
 number_agrees names above side sum r negative place s = (refl, refl)
 
 constant_agrees : (names : List (List ℕ)) (above : List Side) (side : Side) (sum : Sum) (r : Relation) (place : ℕ) (s : Symbol)
-    → Agrees names (at_constant (around_side names above side) (coefs_of names sum) r place s) (trace_constant above side sum r s) place
+    → Agrees names (constant_step (around_side names above side) (coefs_of names sum) r place s) (trace_constant above side sum r s) place
 constant_agrees names above side sum r place Minus = (place, refl)
 constant_agrees names above side sum r place s = number_agrees names above side sum r false place s
 
 closed_agrees : (names : List (List ℕ)) (above : List Side) (p : Phrase APred) (q : PredTree) (place : ℕ) → meaning names p ≡ q
-    → Agrees names (closed (side_spans names above) q place) (trace_closed above p) place
+    → Agrees names (close_step (side_spans names above) q place) (trace_closed above p) place
 closed_agrees names [] p q place e = (refl, refl)
 closed_agrees names (side ∷ above) p q place e = unit_shown names above side (group p) q e
 
 sign_agrees : (names : List (List ℕ)) (above : List Side) (ors : Option (Phrase APred)) (c : Phrase AConj) (place : ℕ) (s : Symbol)
-    → Agrees names (at_sign (side_spans names above) (option_map (meaning names) ors) (meaning names c) place s) (trace_sign above ors c s) place
+    → Agrees names (sign_step (side_spans names above) (option_map (meaning names) ors) (meaning names c) place s) (trace_sign above ors c s) place
 sign_agrees names above ors c place And = (place, refl)
 sign_agrees names above ors c place Or =
     (place, ap (λ p. going_on (record { above = side_spans names above; span = record { ors = Some p; ands = None; nots = 0 } }) AUnit) (sym (meaning-with_ors names ors c)))
 sign_agrees names above ors c place Close =
-    closed_agrees names above (with_ors ors c) (disjoined (option_map (meaning names) ors) (meaning names c)) place (meaning-with_ors names ors c)
+    closed_agrees names above (with_ors ors c) (disjunction (option_map (meaning names) ors) (meaning names c)) place (meaning-with_ors names ors c)
 sign_agrees names above ors c place s = (refl, refl)
 
 meaning-equality : (names : List (List ℕ)) (sum : Sum) (unequal negative : Bool) (digits : List ℕ)
@@ -234,31 +234,31 @@ meaning-equality_conj names side sum unequal negative digits =
     meaning-conj_of names side (atom (plain sum (equal_or_not unequal) negative digits)) ∙ ap (tree_up_to_unit (side_span names side)) (meaning-equality names sum unequal negative digits)
 
 equality_agrees : (names : List (List ℕ)) (above : List Side) (side : Side) (sum : Sum) (unequal negative : Bool) (digits : List ℕ) (place : ℕ) (s : Symbol)
-    → Agrees names (after_equality (around_side names above side) (coefs_of names sum) unequal (signed negative (value_of digits)) place s) (trace_sign above side.ors (equality_conj side sum unequal negative digits) s) place
+    → Agrees names (equality_step (around_side names above side) (coefs_of names sum) unequal (signed negative (value_of digits)) place s) (trace_sign above side.ors (equality_conj side sum unequal negative digits) s) place
 equality_agrees names above side sum unequal negative digits place s =
-    subst (λ (p : PredTree). Agrees names (at_sign (side_spans names above) (option_map (meaning names) side.ors) p place s) (trace_sign above side.ors (equality_conj side sum unequal negative digits) s) place)
+    subst (λ (p : PredTree). Agrees names (sign_step (side_spans names above) (option_map (meaning names) side.ors) p place s) (trace_sign above side.ors (equality_conj side sum unequal negative digits) s) place)
     (meaning-equality_conj names side sum unequal negative digits) (sign_agrees names above side.ors (equality_conj side sum unequal negative digits) place s)
 
 modulo_agrees : (names : List (List ℕ)) (above : List Side) (side : Side) (sum : Sum) (unequal negative : Bool) (digits : List ℕ) (place : ℕ) (s : Symbol)
-    → Agrees names (at_modulo (around_side names above side) (coefs_of names sum) unequal (signed negative (value_of digits)) place s) (trace_modulo above side sum unequal negative digits s) place
+    → Agrees names (modulo_step (around_side names above side) (coefs_of names sum) unequal (signed negative (value_of digits)) place s) (trace_modulo above side sum unequal negative digits s) place
 modulo_agrees names above side sum unequal negative digits place Mod = (place, refl)
 modulo_agrees names above side sum unequal negative digits place s = equality_agrees names above side sum unequal negative digits place s
 
 modulus_within : (names : List (List ℕ)) (above : List Side) (side : Side) (sum : Sum) (unequal negative : Bool) (digits modulus : List ℕ) (place : ℕ)
-    → Agrees names (with_modulus (around_side names above side) (coefs_of names sum) unequal (signed negative (value_of digits)) place (value_within MODULUS_LIMIT (value_of modulus)))
+    → Agrees names (given_modulus (around_side names above side) (coefs_of names sum) unequal (signed negative (value_of digits)) place (value_within MODULUS_LIMIT (value_of modulus)))
     (Some (unit_done above side (atom (modular sum unequal negative digits modulus)))) place
 modulus_within names above side sum unequal negative digits modulus place = by_test (ltb MODULUS_LIMIT (value_of modulus))
   where
-    least : (b : Bool) → Agrees names (if b then Err (TooLarge place) else Ok (after_unit (around_side names above side) (congruent (coefs_of names sum) unequal (signed negative (value_of digits)) (value_of modulus)))) (Some (unit_done above side (atom (modular sum unequal negative digits modulus)))) place
+    least : (b : Bool) → Agrees names (if b then Err (TooLarge place) else Ok (progress_after_unit (around_side names above side) (congruent (coefs_of names sum) unequal (signed negative (value_of digits)) (value_of modulus)))) (Some (unit_done above side (atom (modular sum unequal negative digits modulus)))) place
     least true = refl
     least false = unit_shown names above side (atom (modular sum unequal negative digits modulus)) (congruent (coefs_of names sum) unequal (signed negative (value_of digits)) (value_of modulus)) refl
 
-    by_test : (b : Bool) → Agrees names (with_modulus (around_side names above side) (coefs_of names sum) unequal (signed negative (value_of digits)) place (if b then None else Some (value_of modulus))) (Some (unit_done above side (atom (modular sum unequal negative digits modulus)))) place
+    by_test : (b : Bool) → Agrees names (given_modulus (around_side names above side) (coefs_of names sum) unequal (signed negative (value_of digits)) place (if b then None else Some (value_of modulus))) (Some (unit_done above side (atom (modular sum unequal negative digits modulus)))) place
     by_test true = refl
     by_test false = least (ltb (value_of modulus) 2)
 
 modulus_agrees : (names : List (List ℕ)) (above : List Side) (side : Side) (sum : Sum) (unequal negative : Bool) (digits : List ℕ) (place : ℕ) (s : Symbol)
-    → Agrees names (at_modulus (around_side names above side) (coefs_of names sum) unequal (signed negative (value_of digits)) place s) (trace_modulus above side sum unequal negative digits s) place
+    → Agrees names (modulus_step (around_side names above side) (coefs_of names sum) unequal (signed negative (value_of digits)) place s) (trace_modulus above side sum unequal negative digits s) place
 modulus_agrees names above side sum unequal negative digits place (Number modulus) = modulus_within names above side sum unequal negative digits modulus place
 modulus_agrees names above side sum unequal negative digits place s = (refl, refl)
 
@@ -291,7 +291,7 @@ EndAgrees names (Ok q) (Some p) place = meaning names p ≡ q
 EndAgrees names (Err e) o place = FaultAt e o place
 
 ended_agrees : (names : List (List ℕ)) (above : List Side) (ors : Option (Phrase APred)) (c : Phrase AConj) (end : ℕ)
-    → EndAgrees names (ended (side_spans names above) (option_map (meaning names) ors) (meaning names c) end) (trace_ended above ors c) end
+    → EndAgrees names (end_step (side_spans names above) (option_map (meaning names) ors) (meaning names c) end) (trace_ended above ors c) end
 ended_agrees names [] ors c end = meaning-with_ors names ors c
 ended_agrees names (side ∷ above) ors c end = (refl, refl)
 
@@ -305,7 +305,7 @@ inner_end_agrees names above side (IRelation sum) at end = (refl, refl)
 inner_end_agrees names above side (IConstant sum r) at end = (refl, refl)
 inner_end_agrees names above side (INumber sum r) at end = (refl, refl)
 inner_end_agrees names above side (IModulo sum unequal negative digits) at end =
-    subst (λ (p : PredTree). EndAgrees names (ended (side_spans names above) (option_map (meaning names) side.ors) p end) (trace_ended above side.ors (equality_conj side sum unequal negative digits)) end)
+    subst (λ (p : PredTree). EndAgrees names (end_step (side_spans names above) (option_map (meaning names) side.ors) p end) (trace_ended above side.ors (equality_conj side sum unequal negative digits)) end)
     (meaning-equality_conj names side sum unequal negative digits) (ended_agrees names above side.ors (equality_conj side sum unequal negative digits) end)
 inner_end_agrees names above side (IModulus sum unequal negative digits) at end = (refl, refl)
 

@@ -32,8 +32,8 @@ pub record IsUnknownName (names : List (List ℕ)) (text : List ℕ) (at : ℕ) 
   pub place : name.place ≡ at
 
 -- the symbols of a term, which has no `*` before it, or of a constant or a modulus
-abbrev pub IsNumber : List Symbol → List Symbol → Type 0
-IsNumber before own = ((term : Term) × (own ≡ term_symbols term) × (last_is is_star false before ≡ false)) ⊎ ((digits : List ℕ) × (own ≡ Number digits ∷ []))
+abbrev pub IsNumeral : List Symbol → List Symbol → Type 0
+IsNumeral before own = ((term : Term) × (own ≡ term_symbols term) × (last_is is_star false before ≡ false)) ⊎ ((digits : List ℕ) × (own ≡ Number digits ∷ []))
 
 -- a term, a constant or a modulus that is beyond its limit, by its first token
 pub record IsTooLarge (names : List (List ℕ)) (text : List ℕ) (at : ℕ) : Type 0 where
@@ -41,7 +41,7 @@ pub record IsTooLarge (names : List (List ℕ)) (text : List ℕ) (at : ℕ) : T
   pub own : List Placed
   pub rest : List Placed
   pub tokens : tokens_of text ≡ before ++ (own ++ rest)
-  pub number : IsNumber (symbols_of before) (symbols_of own)
+  pub number : IsNumeral (symbols_of before) (symbols_of own)
   pub begins : Begins (symbols_of before ++ symbols_of own)
   pub kept : KeepsRules names (symbols_of before)
   pub known : AreKnown names (symbols_of own)

@@ -14,7 +14,7 @@ use Rattle.pres_tokens.specs.declared.token.Relation.TheVariants.{Equal, Unequal
 use Rattle.pres_tokens.specs.Symbols.{Symbol, Name, Number, Plus, Minus, Star, Compare, And, Or, Not, Open, Close, Mod}
 use Rattle.pres_read.specs.Numbers.{value_of}
 use Rattle.pres_read.specs.Atoms.{signed, compared, congruent}
-use Rattle.pres_read.specs.Reading.{zeros}
+use Rattle.pres_read.specs.Reading.{zero_coefs}
 
 pub data Term : Type 0 where
   bare : (name : List ℕ) → Term
@@ -103,7 +103,7 @@ with_a_term names coefs negative term =
     raised coefs (position (bytes_eq (term_name term)) names) (signed negative (term_number term))
 
 abbrev pub coefs_of : List (List ℕ) → Sum → List ℤ
-coefs_of names (first negative term) = with_a_term names (zeros names) negative term
+coefs_of names (first negative term) = with_a_term names (zero_coefs names) negative term
 coefs_of names (further sum negative term) = with_a_term names (coefs_of names sum) negative term
 
 abbrev pub atom_meaning : List (List ℕ) → Atom → PredTree

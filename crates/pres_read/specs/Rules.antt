@@ -9,7 +9,7 @@ use Rattle.pres_tokens.specs.Symbols.{Symbol, Name, Number, Plus, Minus, Star, C
 use Rattle.pres_read.specs.Numbers.{value_of}
 use Rattle.pres_read.specs.Atoms.{signed, limit_of}
 use Rattle.pres_read.specs.Depth.{Depth, surface, deeper}
-use Rattle.pres_read.specs.Reading.{zeros}
+use Rattle.pres_read.specs.Reading.{zero_coefs}
 use Rattle.pres_read.specs.Grammar.{Term, Sum, first, further, Atom, plain, modular, Part, Phrase, conj, either, unit, both, negate, group}
 use Rattle.pres_read.specs.Grammar.{atom, sum_symbols, equal_or_not, constant_symbols, term_name, term_number, coefs_of}
 
@@ -23,7 +23,7 @@ TermFits names coefs negative term =
     (term_number term ≤ COEFFICIENT_LIMIT) × CoefFits coefs (position (bytes_eq (term_name term)) names) (signed negative (term_number term))
 
 abbrev pub SumFits : List (List ℕ) → Sum → Type 0
-SumFits names (first negative term) = TermFits names (zeros names) negative term
+SumFits names (first negative term) = TermFits names (zero_coefs names) negative term
 SumFits names (further sum negative term) = SumFits names sum × TermFits names (coefs_of names sum) negative term
 
 abbrev pub AtomFits : List (List ℕ) → Atom → Type 0

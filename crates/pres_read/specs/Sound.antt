@@ -61,21 +61,21 @@ HasNext n (AModulus coefs unequal c) = AreCoefs n coefs × IsConstant c
 HasNext n (ASign p) = HasAtoms n p
 
 -- after a unit no `!` and no `&&` is left over
-abbrev pub IsSettled : Span → Next → Type 0
-IsSettled span AUnit = Unit {0}
-IsSettled span (ATerm coefs negative) = Unit {0}
-IsSettled span (AStar coefs factor) = Unit {0}
-IsSettled span (AName coefs factor) = Unit {0}
-IsSettled span (ARelation coefs) = Unit {0}
-IsSettled span (AConstant coefs r) = Unit {0}
-IsSettled span (ANumber coefs r) = Unit {0}
-IsSettled span (AModulo coefs unequal c) = Unit {0}
-IsSettled span (AModulus coefs unequal c) = Unit {0}
-IsSettled span (ASign p) = (span.ands ≡ None) × (span.nots ≡ 0)
+abbrev pub LeavesNoOperator : Span → Next → Type 0
+LeavesNoOperator span AUnit = Unit {0}
+LeavesNoOperator span (ATerm coefs negative) = Unit {0}
+LeavesNoOperator span (AStar coefs factor) = Unit {0}
+LeavesNoOperator span (AName coefs factor) = Unit {0}
+LeavesNoOperator span (ARelation coefs) = Unit {0}
+LeavesNoOperator span (AConstant coefs r) = Unit {0}
+LeavesNoOperator span (ANumber coefs r) = Unit {0}
+LeavesNoOperator span (AModulo coefs unequal c) = Unit {0}
+LeavesNoOperator span (AModulus coefs unequal c) = Unit {0}
+LeavesNoOperator span (ASign p) = (span.ands ≡ None) × (span.nots ≡ 0)
 
 pub record IsSoundProgress (n : ℕ) (p : Progress) (charge : ℕ) : Type 0 where
   pub above : HasSpans n p.around.above
   pub span : HasSpan n p.around.span
   pub next : HasNext n p.next
-  pub settled : IsSettled p.around.span p.next
+  pub settled : LeavesNoOperator p.around.span p.next
   pub weight : spans_weight p.around.above + span_weight p.around.span + next_weight p.next ≡ charge

@@ -6,15 +6,15 @@ ghost use Rattle.pres_ast.specs.TreeOf.{tree_of};
 ghost use Rattle.pres_tokens.specs.Symbols.{symbol_of, token_of};
 ghost use Rattle.pres_read.specs.Outcome.{Gives};
 ghost use Rattle.pres_read.specs.Progress.{start, clear, AUnit};
-ghost use Rattle.pres_read.specs.Reading.{zeros as zero_coefs, at_unit as unit_step, at_term as term_step};
-ghost use Rattle.pres_read.specs.Reading.{at_star as star_step};
-ghost use Rattle.pres_read.specs.Reading.{at_name as name_step, at_relation as relation_step};
-ghost use Rattle.pres_read.specs.Reading.{at_constant as constant_step};
-ghost use Rattle.pres_read.specs.Reading.{at_number as number_step, with_constant as constant_given};
-ghost use Rattle.pres_read.specs.Reading.{at_modulo as modulo_step};
-ghost use Rattle.pres_read.specs.Reading.{after_equality as equality_tree, at_modulus as modulus_step};
-ghost use Rattle.pres_read.specs.Reading.{with_modulus as modulus_given, step, finish, going_on};
-ghost use Rattle.pres_read.specs.Reading.{after_constant as progress_after_constant, tree_up_to_unit};
+ghost use Rattle.pres_read.specs.Reading.{zero_coefs, unit_step, term_step};
+ghost use Rattle.pres_read.specs.Reading.{star_step};
+ghost use Rattle.pres_read.specs.Reading.{name_step, relation_step};
+ghost use Rattle.pres_read.specs.Reading.{constant_step};
+ghost use Rattle.pres_read.specs.Reading.{number_step, given_constant};
+ghost use Rattle.pres_read.specs.Reading.{modulo_step};
+ghost use Rattle.pres_read.specs.Reading.{equality_step, modulus_step};
+ghost use Rattle.pres_read.specs.Reading.{given_modulus, step, finish, going_on};
+ghost use Rattle.pres_read.specs.Reading.{progress_after_constant, tree_up_to_unit};
 ghost use Rattle.pres_read.specs.Atoms.{limit_of, negation_if};
 ghost use Rattle.pres_read.specs.Atoms.{equality as equality_tree};
 ghost use Rattle.pres_read.specs.Sound.{HasNext};
@@ -303,7 +303,7 @@ fn after_equality<'a>(
     requires coefs { All (λ a. nat_abs a ≤ COEFFICIENT_LIMIT) coefs.items }
     requires constant { nat_abs constant ≤ BOUND_LIMIT - 1 }
     ensures { Gives progress_of result
-        (equality_tree (around_of around) coefs.items unequal constant token.entry.place (symbol_of token.entry.kind)) }
+        (equality_step (around_of around) coefs.items unequal constant token.entry.place (symbol_of token.entry.kind)) }
 {
     let Around { above, level } = around;
     let (ors, tree) = compared_up_to(alloc, level, coefs, unequal, constant)?;

@@ -5,10 +5,10 @@ ghost use Rattle.pres_ast.specs.TreeOf.{tree_of};
 ghost use Rattle.pres_tokens.specs.Symbols.{symbol_of};
 ghost use Rattle.pres_read.specs.Progress.{AUnit};
 ghost use Rattle.pres_read.specs.Outcome.{Gives};
-ghost use Rattle.pres_read.specs.Reading.{negated as negation, conjoined as conjunction, disjoined as disjunction};
-ghost use Rattle.pres_read.specs.Reading.{tree_up_to_unit, after_unit as progress_after_unit};
-ghost use Rattle.pres_read.specs.Reading.{at_sign as sign_step};
-ghost use Rattle.pres_read.specs.Reading.{ended as end_step, closed as close_step, going_on};
+ghost use Rattle.pres_read.specs.Reading.{negation, conjunction, disjunction};
+ghost use Rattle.pres_read.specs.Reading.{tree_up_to_unit, progress_after_unit};
+ghost use Rattle.pres_read.specs.Reading.{sign_step};
+ghost use Rattle.pres_read.specs.Reading.{end_step, close_step, going_on};
 ghost use Rattle.pres_read.specs.Views.{span_of, spans_of, around_of, progress_of};
 
 use crate::fault::ReadPred;

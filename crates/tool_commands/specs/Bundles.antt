@@ -34,7 +34,7 @@ abbrev pub IsBegunBy : List ℕ → List ℕ → Result (Bundle × List ℕ) Ref
 IsBegunBy first second begin = (value : Option Data) × HasValue first value × (begin ≡ begun value second)
 
 -- the limits that the check needs
-pub record HasLimits (bundle : Bundle) : Type 0 where
+pub record IsBundleWithin (bundle : Bundle) : Type 0 where
   pub variables : bundle.pred.variables ≡ length bundle.net.variables
   pub within : IsProofWithin (length bundle.net.variables) (length bundle.net.leaves) bundle.proof
 

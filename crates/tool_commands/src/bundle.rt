@@ -4,7 +4,7 @@ ghost use Rattle.std.specs.Prelude.{◌≡◌, option_map, IfOk};
 ghost use Rattle.serde_json.specs.View.{view};
 ghost use Rattle.tool_texts.specs.Steps.{Gives, Obeys};
 ghost use Rattle.tool_commands.specs.Start.{IsStart};
-ghost use Rattle.tool_commands.specs.Bundles.{bundle_in, begun, HasLimits, IsBundleOf, IsBegunBy};
+ghost use Rattle.tool_commands.specs.Bundles.{bundle_in, begun, IsBundleWithin, IsBundleOf, IsBegunBy};
 
 use crate::start::{Start, start_of};
 use cert_json::{Bundle, FormatFault, read_bundle};
@@ -15,7 +15,7 @@ use tool_texts::{Refusal, Stop, value_of};
 /// The bundle of a line that has this value.
 fn bundle_of(alloc: Global, value: &Option<Value>) -> Result<Bundle, Stop>
     ensures bundle { Gives (λ bundle. bundle) result (bundle_in (option_map view value.now)) }
-    ensures limits { IfOk result HasLimits }
+    ensures limits { IfOk result IsBundleWithin }
 {
     let Some(value) = value else {
         return Err(Stop::Refused(Refusal::NotJson));
@@ -30,7 +30,7 @@ fn bundle_of(alloc: Global, value: &Option<Value>) -> Result<Bundle, Stop>
 /// The bundle of a line. The line's value is dropped.
 pub(crate) fn bundle_of_line(alloc: Global, line: &[u8]) -> Result<Bundle, Stop>
     ensures bundle { Obeys (IsBundleOf line.now) (λ bundle. bundle) result }
-    ensures limits { IfOk result HasLimits }
+    ensures limits { IfOk result IsBundleWithin }
 {
     let value = value_of(alloc, line)?;
     bundle_of(alloc, &value)
@@ -44,7 +44,7 @@ fn bundle_and_start(
     crowd: &[u8],
 ) -> Result<(Bundle, Start), Stop>
     ensures begun { Gives (λ begin. (begin.0, begin.1.counts)) result (begun (option_map view value.now) crowd.now) }
-    ensures limits { IfOk result (λ begin. HasLimits begin.0) }
+    ensures limits { IfOk result (λ begin. IsBundleWithin begin.0) }
     ensures start { IfOk result (λ begin. IsStart begin.0.net begin.1) }
 {
     let bundle = bundle_of(alloc, value)?;
@@ -55,7 +55,7 @@ fn bundle_and_start(
 /// The bundle of the first line, and how its net starts at the second. The first line's value is dropped.
 pub(crate) fn begin(alloc: Global, lines: (&[u8], &[u8])) -> Result<(Bundle, Start), Stop>
     ensures begun { Obeys (IsBegunBy lines.entry.0.now lines.entry.1.now) (λ begin. (begin.0, begin.1.counts)) result }
-    ensures limits { IfOk result (λ begin. HasLimits begin.0) }
+    ensures limits { IfOk result (λ begin. IsBundleWithin begin.0) }
     ensures start { IfOk result (λ begin. IsStart begin.0.net begin.1) }
 {
     let value = value_of(alloc, lines.0)?;

@@ -3,7 +3,7 @@
 ghost use Rattle.std.specs.Prelude.{◌≡◌, IfOk};
 ghost use Rattle.pop_lines.specs.Lines.{lines_of, ended};
 ghost use Rattle.tool_texts.specs.Steps.{Obeys};
-ghost use Rattle.tool_commands.specs.Bundles.{HasLimits};
+ghost use Rattle.tool_commands.specs.Bundles.{IsBundleWithin};
 ghost use Rattle.tool_commands.specs.Check.{certified_text, OfBundle, CheckGives};
 
 use crate::bundle::bundle_of_line;
@@ -21,7 +21,7 @@ fn certified_line(alloc: Global, bound: u64) -> Result<Vec<u8>, AllocError>
 
 /// What is said of a bundle.
 fn judge(alloc: Global, bundle: Bundle) -> Result<Output, Stop>
-    requires { HasLimits bundle }
+    requires { IsBundleWithin bundle }
     ensures { Obeys (OfBundle bundle) (λ output. output) result }
 {
     let Bundle { net, pred, proof } = bundle;

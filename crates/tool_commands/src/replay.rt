@@ -8,7 +8,7 @@ ghost use Rattle.pop_journal.specs.Rounds.{AreRoundsOf};
 ghost use Rattle.pop_journal.specs.Form.{journal_in};
 ghost use Rattle.tool_texts.specs.Steps.{Gives, Obeys};
 ghost use Rattle.tool_commands.specs.Start.{IsStart};
-ghost use Rattle.tool_commands.specs.Bundles.{HasLimits};
+ghost use Rattle.tool_commands.specs.Bundles.{IsBundleWithin};
 ghost use Rattle.tool_commands.specs.Replay.{holds_text, journal_read, journal_output, replay_output};
 ghost use Rattle.tool_commands.specs.Replay.{OfBegun, ReplayGives};
 
@@ -92,7 +92,7 @@ fn replay_begun(
     start: Start,
     text: &[u8],
 ) -> Result<Output, Stop>
-    requires limits { HasLimits bundle }
+    requires limits { IsBundleWithin bundle }
     requires start { IsStart bundle.net start }
     ensures { Obeys (OfBegun kind (lines_of text.now) (bundle, start.counts)) (λ output. output) result }
 {

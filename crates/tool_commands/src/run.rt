@@ -14,7 +14,7 @@ ghost use Rattle.pop_words.specs.Options.{IsWithinLimits};
 ghost use Rattle.pair_workers.specs.WatchedRun.{IsRunOf};
 ghost use Rattle.tool_commands.specs.Play.{IsLast};
 ghost use Rattle.tool_commands.specs.Start.{IsStart};
-ghost use Rattle.tool_commands.specs.Bundles.{HasLimits};
+ghost use Rattle.tool_commands.specs.Bundles.{IsBundleWithin};
 ghost use Rattle.tool_commands.specs.Run.{journal_end, run_ending, open_pair, IsRunOutput, OfBegun, RunGives};
 ghost use Rattle.tool_commands.specs.Prepared.{CanRun, IsOutputOfRun, NeedsNoThreads, Prepares, IsPending};
 
@@ -181,7 +181,7 @@ fn prepare_begun(
 ) -> Result<Prepared, Stop>
     requires spec { IsWithinLimits spec }
     requires workers { spec.workers ≤ most_workers kind }
-    requires limits { HasLimits bundle }
+    requires limits { IsBundleWithin bundle }
     requires start { IsStart bundle.net start }
     ensures leads { Prepares
         (OfBegun kind spec (ended lines.entry.0.now ++ ended lines.entry.1.now) (bundle, start.counts)) result }

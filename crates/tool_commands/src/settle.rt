@@ -7,7 +7,7 @@ ghost use Rattle.pop_journal.specs.Journal.{text_of};
 ghost use Rattle.pop_settle.specs.Settling.{HasLayers};
 ghost use Rattle.tool_texts.specs.Steps.{Obeys};
 ghost use Rattle.tool_commands.specs.Start.{IsStart};
-ghost use Rattle.tool_commands.specs.Bundles.{HasLimits};
+ghost use Rattle.tool_commands.specs.Bundles.{IsBundleWithin};
 ghost use Rattle.tool_commands.specs.Settle.{take_line, settle_text, OfJudged, OfBegun, SettleGives};
 
 use crate::bundle::begin;
@@ -97,7 +97,7 @@ fn settle_start(
 
 /// What is said of a bundle's crowd, if the proof is valid.
 fn settle_begun(alloc: Global, bundle: Bundle, start: Start) -> Result<Output, Stop>
-    requires limits { HasLimits bundle }
+    requires limits { IsBundleWithin bundle }
     requires start { IsStart bundle.net start }
     ensures { Obeys (OfBegun (bundle, start.counts)) (λ output. output) result }
 {
