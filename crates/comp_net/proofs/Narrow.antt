@@ -13,7 +13,7 @@ use Rattle.comp_threshold_leaf.specs.declared.limits.TheConstants.{WIDTH_LIMIT}
 use Rattle.comp_net.specs.declared.limits.TheConstants.{NARROW_WIDTH_LIMIT}
 use Rattle.comp_net.specs.declared.fault.CompileFault.TheVariants as fault
 use Rattle.comp_net.specs.declared.choice.LeafChoice.{LeafChoice}
-use Rattle.comp_net.specs.Atoms.{atoms, width_of, AreBuildable}
+use Rattle.comp_net.specs.Atoms.{atoms, atom_width, AreBuildable}
 use Rattle.comp_net.specs.CompileFaults.{widths, first_over, first_wide, fault_by, fault_with}
 
 twice : (b : Bool) → not (not b) ≡ b
@@ -47,20 +47,20 @@ limits_of ws =
     (first_of-cons _ _ (none_map _ _ (none_over WIDTH_LIMIT ws))
     (first_of-cons _ _ (none_map fault.WideNet _ (none_wide ws)) first_of-nil))
 
-of_atoms : (choice : LeafChoice) (limit : ℕ) (xs : List PredTree) → All (λ w. w ≤ limit) (map (width_of choice) xs) → All (λ a. width_of choice a ≤ limit) xs
+of_atoms : (choice : LeafChoice) (limit : ℕ) (xs : List PredTree) → All (λ w. w ≤ limit) (map (atom_width choice) xs) → All (λ a. atom_width choice a ≤ limit) xs
 of_atoms choice limit xs h k d l =
-    subst (λ w. w ≤ limit) (get_or-map (width_of choice) xs k d (width_of choice d) l) (h k (width_of choice d) (omega (arith, length-map xs (width_of choice))))
+    subst (λ w. w ≤ limit) (get_or-map (atom_width choice) xs k d (atom_width choice d) l) (h k (atom_width choice d) (omega (arith, length-map xs (atom_width choice))))
 
 -- what is known of a tree with which nothing is wrong
 pub record KeepsWidths (choice : LeafChoice) (tree : PredTree) : Type 0 where
   pub few : length (atoms tree) ≤ LEAF_LIMIT
-  pub narrow : All (λ a. width_of choice a ≤ WIDTH_LIMIT) (atoms tree)
-  pub not_wide : WIDE_LEAF_LIMIT < length (atoms tree) → All (λ a. width_of choice a ≤ NARROW_WIDTH_LIMIT) (atoms tree)
+  pub narrow : All (λ a. atom_width choice a ≤ WIDTH_LIMIT) (atoms tree)
+  pub not_wide : WIDE_LEAF_LIMIT < length (atoms tree) → All (λ a. atom_width choice a ≤ NARROW_WIDTH_LIMIT) (atoms tree)
 
 pub keeps_widths : (choice : LeafChoice) (tree : PredTree) → fault_with choice tree ≡ None → KeepsWidths choice tree
 keeps_widths choice tree e =
     let keeps = (limits_of (widths choice tree)).0 e in
-    let long = length-map (atoms tree) (width_of choice) in
+    let long = length-map (atoms tree) (atom_width choice) in
     record {
       few = (let l = keeps.0 in omega (arith, long, l));
       narrow = of_atoms choice WIDTH_LIMIT (atoms tree) keeps.1.0;
@@ -73,13 +73,13 @@ all_left P xs ys h k d l = subst P (get_or_append_left xs ys d k l) (h k d (omeg
 all_right : {A : Type 0} (P : A → Type 0) (xs ys : List A) → All P (xs ++ ys) → All P ys
 all_right P xs ys h k d l = subst P (get_or-append-add xs ys k d) (h (length xs + k) d (omega (arith, length-append xs ys)))
 
-pub buildable : (choice : LeafChoice) (n : ℕ) (tree : PredTree) → 1 ≤ n → n ≤ VARIABLE_LIMIT → HasAtoms n tree → All (λ a. width_of choice a ≤ WIDTH_LIMIT) (atoms tree) → AreBuildable choice tree
+pub buildable : (choice : LeafChoice) (n : ℕ) (tree : PredTree) → 1 ≤ n → n ≤ VARIABLE_LIMIT → HasAtoms n tree → All (λ a. atom_width choice a ≤ WIDTH_LIMIT) (atoms tree) → AreBuildable choice tree
 buildable choice n (LessThan coefs bound) some few has narrow =
     let long = has.0.0 in (((omega arith), (omega arith), has.0.1), has.1, narrow 0 (LessThan coefs bound) (omega arith))
 buildable choice n (Congruent coefs m rest) some few has narrow =
     let long = has.0.0 in (((omega arith), (omega arith), has.0.1), has.1, has.2, has.3)
 buildable choice n (Negation p) some few has narrow = buildable choice n p some few has narrow
 buildable choice n (Conjunction p q) some few has narrow =
-    (buildable choice n p some few has.0 (all_left (λ a. width_of choice a ≤ WIDTH_LIMIT) (atoms p) (atoms q) narrow), buildable choice n q some few has.1 (all_right (λ a. width_of choice a ≤ WIDTH_LIMIT) (atoms p) (atoms q) narrow))
+    (buildable choice n p some few has.0 (all_left (λ a. atom_width choice a ≤ WIDTH_LIMIT) (atoms p) (atoms q) narrow), buildable choice n q some few has.1 (all_right (λ a. atom_width choice a ≤ WIDTH_LIMIT) (atoms p) (atoms q) narrow))
 buildable choice n (Disjunction p q) some few has narrow =
-    (buildable choice n p some few has.0 (all_left (λ a. width_of choice a ≤ WIDTH_LIMIT) (atoms p) (atoms q) narrow), buildable choice n q some few has.1 (all_right (λ a. width_of choice a ≤ WIDTH_LIMIT) (atoms p) (atoms q) narrow))
+    (buildable choice n p some few has.0 (all_left (λ a. atom_width choice a ≤ WIDTH_LIMIT) (atoms p) (atoms q) narrow), buildable choice n q some few has.1 (all_right (λ a. atom_width choice a ≤ WIDTH_LIMIT) (atoms p) (atoms q) narrow))

@@ -32,7 +32,7 @@ use Rattle.comp_flock_leaf.proofs.PowerFound.{IsPower, power_is}
 use Rattle.comp_net.specs.declared.choice.LeafChoice.{LeafChoice}
 use Rattle.comp_net.specs.declared.choice.LeafChoice.TheVariants.{Plain, Flocks}
 use Rattle.comp_net.specs.declared.limits.TheConstants.{NARROW_WIDTH_LIMIT}
-use Rattle.comp_net.specs.Atoms.{atoms, postfix, flock_of_atom, less_width, width_of, IsAtomSum, AreBuildable}
+use Rattle.comp_net.specs.Atoms.{atoms, postfix, flock_of_atom, less_width, atom_width, IsAtomSum, AreBuildable}
 use Rattle.comp_net.specs.BuiltNet.{less_leaf, leaf_of, net_with}
 use Rattle.comp_net.specs.Building.{AreAtomProofs}
 use Rattle.comp_net.specs.CompileFaults.{fault_with}
@@ -50,7 +50,7 @@ pub record IsBuiltLeaf (n w : ℕ) (leaf : LeafModel) : Type 0 where
   pub single : AllPairs Differ leaf.moves
 
 abbrev IsBuilt : LeafChoice → ℕ → PredTree → Type 0
-IsBuilt choice n atom = IsBuiltLeaf n (width_of choice atom) (leaf_of choice atom)
+IsBuilt choice n atom = IsBuiltLeaf n (atom_width choice atom) (leaf_of choice atom)
 
 -- a flock atom that has the leaf of a flock
 pub flock_found : (choice : LeafChoice) (coefs : List ℤ) (bound : ℤ) (k : ℕ) → flock_of_atom choice coefs bound ≡ Some k → IsPower coefs bound k

@@ -37,12 +37,12 @@ abbrev pub less_width : List ℤ → ℤ → Option ℕ → ℕ
 less_width coefs bound None = threshold_width coefs bound
 less_width coefs bound (Some k) = 0
 
-abbrev pub width_of : LeafChoice → PredTree → ℕ
-width_of choice (LessThan coefs bound) = less_width coefs bound (flock_of_atom choice coefs bound)
-width_of choice (Congruent coefs m rest) = 0
-width_of choice (Negation p) = 0
-width_of choice (Conjunction p q) = 0
-width_of choice (Disjunction p q) = 0
+abbrev pub atom_width : LeafChoice → PredTree → ℕ
+atom_width choice (LessThan coefs bound) = less_width coefs bound (flock_of_atom choice coefs bound)
+atom_width choice (Congruent coefs m rest) = 0
+atom_width choice (Negation p) = 0
+atom_width choice (Conjunction p q) = 0
+atom_width choice (Disjunction p q) = 0
 
 -- a sum over one variable at least, within the limits of a predicate
 abbrev pub IsAtomSum : List ℤ → Type 0
@@ -51,7 +51,7 @@ IsAtomSum coefs = (1 ≤ length coefs) × (length coefs ≤ VARIABLE_LIMIT) × A
 -- each atom is within the limits of its built leaf
 abbrev pub AreBuildable : LeafChoice → PredTree → Type 0
 AreBuildable choice (LessThan coefs bound) =
-    IsAtomSum coefs × (nat_abs bound ≤ BOUND_LIMIT) × (width_of choice (LessThan coefs bound) ≤ WIDTH_LIMIT)
+    IsAtomSum coefs × (nat_abs bound ≤ BOUND_LIMIT) × (atom_width choice (LessThan coefs bound) ≤ WIDTH_LIMIT)
 AreBuildable choice (Congruent coefs m rest) = IsAtomSum coefs × (2 ≤ m) × (m ≤ MODULUS_LIMIT) × (rest < m)
 AreBuildable choice (Negation p) = AreBuildable choice p
 AreBuildable choice (Conjunction p q) = AreBuildable choice p × AreBuildable choice q

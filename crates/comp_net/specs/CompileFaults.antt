@@ -5,14 +5,14 @@ use Rattle.pres_ast.specs.PredTree.{PredTree}
 use Rattle.pop_net.specs.declared.limits.TheConstants.{LEAF_LIMIT, WIDE_LEAF_LIMIT}
 use Rattle.pop_net.specs.FirstFault.{unless, first_of}
 use Rattle.comp_threshold_leaf.specs.declared.limits.TheConstants.{WIDTH_LIMIT}
-use Rattle.comp_net.specs.Atoms.{atoms, width_of}
+use Rattle.comp_net.specs.Atoms.{atoms, atom_width}
 use Rattle.comp_net.specs.declared.choice.LeafChoice.{LeafChoice}
 use Rattle.comp_net.specs.declared.limits.TheConstants.{NARROW_WIDTH_LIMIT}
 use Rattle.comp_net.specs.declared.fault.CompileFault.{CompileFault}
 use Rattle.comp_net.specs.declared.fault.CompileFault.TheVariants as fault
 
 abbrev pub widths : LeafChoice → PredTree → List ℕ
-widths choice tree = map (width_of choice) (atoms tree)
+widths choice tree = map (atom_width choice) (atoms tree)
 
 -- the first atom whose width is over a limit
 abbrev pub first_over : ℕ → List ℕ → Option ℕ

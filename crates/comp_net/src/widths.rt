@@ -4,7 +4,7 @@ ghost use Rattle.std.specs.Prelude.{◌≡◌, ◌≤◌, ◌<◌, ◌++◌, len
 ghost use Rattle.pres_ast.specs.PredModel.{IsPred};
 ghost use Rattle.pres_ast.specs.TreeOf.{tree_of};
 ghost use Rattle.pres_ast.specs.PredTree.{LessThan};
-ghost use Rattle.comp_net.specs.Atoms.{width_of as width_of_atom};
+ghost use Rattle.comp_net.specs.Atoms.{atom_width};
 ghost use Rattle.comp_net.specs.CompileFaults.{fault_by as fault_in, fault_with, widths as widths_of};
 ghost use Rattle.comp_net.specs.CompileFaults.{first_over as first_width, first_wide as first_wide_width};
 
@@ -32,7 +32,7 @@ pub(crate) fn fault_of(
 
 /// The width of an atom `Less`.
 fn less_width(choice: LeafChoice, coefs: &[i64], bound: i64) -> u64
-    ensures { result ≡ width_of_atom choice (LessThan coefs.now bound) }
+    ensures { result ≡ atom_width choice (LessThan coefs.now bound) }
 {
     match flock_in(choice, coefs, bound) {
         Some(_) => 0,

@@ -12,7 +12,7 @@ use Rattle.cert_base.specs.ValidLayers.{weight_at, IsLower, ValidLayers}
 use Rattle.comp_layers.specs.SortedLayers.{leader_kind, IsLeaderProtocol}
 use Rattle.comp_layers.proofs.SortedLayers.{AreKinds, sorted_layers-valid}
 use Rattle.comp_layers.proofs.LeaderLayers.{kind-pair, kind-below, kind-first, kind-up, kind-down, leader_wakes}
-use Rattle.comp_threshold_leaf.specs.ThresholdLeaf.{span_of, place_in, follower, joined, leftover, leader_move, alters, moves_of, state_count, name_of, built}
+use Rattle.comp_threshold_leaf.specs.ThresholdLeaf.{span_of, place_in, follower, joined_value, leftover, leader_move, alters, moves_of, state_count, name_of, built}
 use Rattle.comp_threshold.specs.ThresholdProof.{distance, first_weight, false_weight, true_weight, weights_by, threshold_layers}
 use Rattle.comp_threshold_leaf.proofs.Places.{IsCut, cut, Kind, a_leader, a_follower, kind_of, place-follower, follower-above, follower-below}
 use Rattle.comp_threshold_leaf.proofs.MoveLists.{all_moves_changing, leader_move-cut, pair-loud, turn-loud, has_pair}
@@ -64,17 +64,17 @@ lower-by s weight m a b c d lp lq lr ls ep eq er es h =
 
 -- what a leader does to the value of a follower
 pub record IsTurn (s t p v : ℕ) (bit : Bool) : Type 0 where
-  pub cut : IsCut s p v (joined s p v) (leftover s p v)
-  pub r_is : (leader_move s t p (follower s bit v)).r ≡ joined s p v
-  pub s_is : (leader_move s t p (follower s bit v)).s ≡ follower s (nat_lt (joined s p v) t) (leftover s p v)
+  pub cut : IsCut s p v (joined_value s p v) (leftover s p v)
+  pub r_is : (leader_move s t p (follower s bit v)).r ≡ joined_value s p v
+  pub s_is : (leader_move s t p (follower s bit v)).s ≡ follower s (nat_lt (joined_value s p v) t) (leftover s p v)
 
 turn : (s t p v : ℕ) (bit : Bool) → p < span_of s → v < span_of s → IsTurn s t p v bit
 turn s t p v bit l m =
     let place = place-follower s v bit m in
     record {
       cut = cut s p v (omega arith) (omega arith);
-      r_is = ap (joined s p) place;
-      s_is = ap (λ k. follower s (nat_lt (joined s p k) t) (leftover s p k)) place;
+      r_is = ap (joined_value s p) place;
+      s_is = ap (λ k. follower s (nat_lt (joined_value s p k) t) (leftover s p k)) place;
     }
 
 first_lowers-pair : (s t p q : ℕ) → p < span_of s → q < span_of s → lowers s (first_weight s) (leader_move s t p q)
@@ -82,9 +82,9 @@ first_lowers-pair s t p q l m =
     let is = leader_move-cut s t p q l (a_leader q m) in
     let j = is.joined in
     let k = is.leftover in
-    let bit = nat_lt (joined s p (place_in s q)) t in
+    let bit = nat_lt (joined_value s p (place_in s q)) t in
     lower-by s (first_weight s) (leader_move s t p q) (pos (s + 1)) (pos (s + 1)) (pos (s + 1)) (pos (distance s (leftover s p (place_in s q)))) (omega arith) (omega arith) (omega arith) (follower-below s (leftover s p (place_in s q)) bit (omega arith))
-    (first-leader s p l) (first-leader s q m) (first-leader s (joined s p (place_in s q)) (omega arith)) (first-follower s (leftover s p (place_in s q)) bit (omega arith))
+    (first-leader s p l) (first-leader s q m) (first-leader s (joined_value s p (place_in s q)) (omega arith)) (first-follower s (leftover s p (place_in s q)) bit (omega arith))
     (omega (arith, ints))
 
 -- a follower whose value changes comes closer to 0
@@ -96,32 +96,32 @@ closer s p v j k is l ne =
       | inr h ↦ elim h [ inl a ↦ (let b = a.0 in let c = a.1 in omega arith) | inr a ↦ omega arith ]
     ]
 
-first_lowers-turn : (s t p v : ℕ) (bit : Bool) → p < span_of s → v < span_of s → joined s p v ≢ p → lowers s (first_weight s) (leader_move s t p (follower s bit v))
+first_lowers-turn : (s t p v : ℕ) (bit : Bool) → p < span_of s → v < span_of s → joined_value s p v ≢ p → lowers s (first_weight s) (leader_move s t p (follower s bit v))
 first_lowers-turn s t p v bit l m ne =
     let is = turn s t p v bit l m in
     let j = is.cut.joined in
     let k = is.cut.leftover in
     let r_is = is.r_is in
-    let to = nat_lt (joined s p v) t in
-    let nearer = closer s p v (joined s p v) (leftover s p v) is.cut (omega arith) ne in
+    let to = nat_lt (joined_value s p v) t in
+    let nearer = closer s p v (joined_value s p v) (leftover s p v) is.cut (omega arith) ne in
     let below = follower-below s (leftover s p v) to (omega arith) in
     lower-by s (first_weight s) (leader_move s t p (follower s bit v)) (pos (s + 1)) (pos (distance s v)) (pos (s + 1)) (pos (distance s (leftover s p v))) (omega arith) (follower-below s v bit m) (omega arith) (subst (λ x. x < state_count s) (sym is.s_is) below)
-    (first-leader s p l) (first-follower s v bit m) (ap (first_weight s) r_is ∙ first-leader s (joined s p v) (omega arith)) (ap (first_weight s) is.s_is ∙ first-follower s (leftover s p v) to (omega arith))
+    (first-leader s p l) (first-follower s v bit m) (ap (first_weight s) r_is ∙ first-leader s (joined_value s p v) (omega arith)) (ap (first_weight s) is.s_is ∙ first-follower s (leftover s p v) to (omega arith))
     (omega (arith, ints))
 
 -- a turn that keeps the values turns the bit
 pub record IsFlip (s t p v : ℕ) (bit : Bool) : Type 0 where
   pub left_is : leftover s p v ≡ v
-  pub bit_is : nat_lt (joined s p v) t ≡ not bit
+  pub bit_is : nat_lt (joined_value s p v) t ≡ not bit
 
-flip : (s t p v : ℕ) (bit : Bool) → p < span_of s → v < span_of s → joined s p v ≡ p → alters (leader_move s t p (follower s bit v)) ≡ true → IsFlip s t p v bit
+flip : (s t p v : ℕ) (bit : Bool) → p < span_of s → v < span_of s → joined_value s p v ≡ p → alters (leader_move s t p (follower s bit v)) ≡ true → IsFlip s t p v bit
 flip s t p v bit l m e c =
     let is = turn s t p v bit l m in
     let whole = is.cut.whole in
     let left_is : leftover s p v ≡ v = omega arith in
     record {
       left_is = left_is;
-      bit_is = other bit (nat_lt (joined s p v) t) (λ same. (
+      bit_is = other bit (nat_lt (joined_value s p v) t) (λ same. (
           let r_same = eq-eqb _ _ (is.r_is ∙ e) in
           let s_same = eq-eqb _ _ (is.s_is ∙ ap (λ (b : Bool). follower s b (leftover s p v)) same ∙ ap (follower s bit) left_is) in
           let none : alters (leader_move s t p (follower s bit v)) ≡ false = rw (r_same, s_same) refl in
@@ -140,7 +140,7 @@ all_weights s = weights_by s (first_weight s) ∷ weights_by s (false_weight s) 
 lower_of : (s : ℕ) (m : Move) (k : ℕ) (weights : List ℤ) → leader_kind (span_of s) m ≡ k → get_or (all_weights s) k [] ≡ weights → IsLower weights m → IsLower (get_or (all_weights s) (leader_kind (span_of s) m) []) m
 lower_of s m k weights e f h = subst (λ w. IsLower w m) (sym (ap (λ i. get_or (all_weights s) i []) e ∙ f)) h
 
-lower-flip : (s t p v : ℕ) (bit : Bool) → p < span_of s → v < span_of s → joined s p v ≡ p → IsFlip s t p v bit → IsLower (get_or (all_weights s) (leader_kind (span_of s) (leader_move s t p (follower s bit v))) []) (leader_move s t p (follower s bit v))
+lower-flip : (s t p v : ℕ) (bit : Bool) → p < span_of s → v < span_of s → joined_value s p v ≡ p → IsFlip s t p v bit → IsLower (get_or (all_weights s) (leader_kind (span_of s) (leader_move s t p (follower s bit v))) []) (leader_move s t p (follower s bit v))
 lower-flip s t p v true l m e is =
     let at = turn s t p v true l m in
     let s_is : (leader_move s t p (follower s true v)).s ≡ follower s false v = at.s_is ∙ ap (λ (b : Bool). follower s b (leftover s p v)) is.bit_is ∙ ap (follower s false) is.left_is in
@@ -162,9 +162,9 @@ lower : (s t p q : ℕ) → p < span_of s → Kind s q → (q < span_of s) ⊎ (
 lower s t p _ l (a_leader q m) why =
     lower_of s (leader_move s t p q) 0 (weights_by s (first_weight s)) (kind-pair (span_of s) (leader_move s t p q) m) refl (first_lowers-pair s t p q l m)
 lower s t p _ l (a_follower bit v m) (inl k) = absurd (let above = follower-above s v bit in omega arith)
-lower s t p _ l (a_follower bit v m) (inr c) = go (eqb_tells (joined s p v) p)
+lower s t p _ l (a_follower bit v m) (inr c) = go (eqb_tells (joined_value s p v) p)
   where
-    go : ((joined s p v == p) ≡ true) × (joined s p v ≡ p) ⊎ ((joined s p v == p) ≡ false) × (joined s p v ≢ p) → IsLower (get_or (all_weights s) (leader_kind (span_of s) (leader_move s t p (follower s bit v))) []) (leader_move s t p (follower s bit v))
+    go : ((joined_value s p v == p) ≡ true) × (joined_value s p v ≡ p) ⊎ ((joined_value s p v == p) ≡ false) × (joined_value s p v ≢ p) → IsLower (get_or (all_weights s) (leader_kind (span_of s) (leader_move s t p (follower s bit v))) []) (leader_move s t p (follower s bit v))
     go (inl h) = lower-flip s t p v bit l m h.1 (flip s t p v bit l m h.1 c)
     go (inr h) =
         let at = turn s t p v bit l m in
@@ -189,14 +189,14 @@ settled_at : (s t p q : ℕ) → p < span_of s → Kind s q → span_of s ≤ q 
 settled_at s t p _ l (a_leader q m) above e = absurd (omega arith)
 settled_at s t p _ l (a_follower bit v m) above e =
     let at = turn s t p v bit l m in
-    let r_is : joined s p v ≡ p = sym at.r_is ∙ e in
+    let r_is : joined_value s p v ≡ p = sym at.r_is ∙ e in
     let whole = at.cut.whole in
     let left_is : leftover s p v ≡ v = omega arith in
-    let to = nat_lt (joined s p v) t in
+    let to = nat_lt (joined_value s p v) t in
     let s_is : (leader_move s t p (follower s bit v)).s ≡ follower s to v = at.s_is ∙ ap (follower s to) left_is in
     ap (λ q. alters (leader_move s t p q)) s_is ∙ again to refl r_is left_is
   where
-    again : (to : Bool) → nat_lt (joined s p v) t ≡ to → joined s p v ≡ p → leftover s p v ≡ v → alters (leader_move s t p (follower s to v)) ≡ false
+    again : (to : Bool) → nat_lt (joined_value s p v) t ≡ to → joined_value s p v ≡ p → leftover s p v ≡ v → alters (leader_move s t p (follower s to v)) ≡ false
     again to f g h =
         let next = turn s t p v to l m in
         let r_same = eq-eqb _ _ (next.r_is ∙ g) in
@@ -219,14 +219,14 @@ module _ (s t : ℕ) (inputs : List ℕ) where
       let p_same : y.p ≡ x.p = sym (ap (λ (m : Move). m.p) y.move_is) ∙ g ∙ ap (λ (m : Move). m.p) x.move_is in
       let q_same : y.q ≡ (leader_move s t x.p x.q).s = sym (ap (λ (m : Move). m.q) y.move_is) ∙ f ∙ ap (λ (m : Move). m.s) x.move_is in
       let none : alters (leader_move s t y.p y.q) ≡ false = ap (λ p. alters (leader_move s t p y.q)) p_same ∙ ap (λ q. alters (leader_move s t x.p q)) q_same ∙ settled_at s t x.p x.q x.p_below x.kind q_above r_same in
-      let late = follower-above s (leftover s x.p (place_in s x.q)) (nat_lt (joined s x.p (place_in s x.q)) t) in
+      let late = follower-above s (leftover s x.p (place_in s x.q)) (nat_lt (joined_value s x.p (place_in s x.q)) t) in
       elim y.why [ inl h ↦ omega (arith, h, q_same, late) | inr h ↦ (let k : true ≡ false = sym h ∙ none in cc) ]
 
   pub is_protocol : IsLeaderProtocol leaf (span_of s)
   is_protocol = record {
     loud = all_moves_changing s t (λ m. silent_move m ≡ false) (λ p q l m why. elim why [ inl h ↦ pair-loud s t p q l h | inr h ↦ turn-loud s t p q l h ]);
     leads = all_moves_changing s t (λ m. m.p < span_of s) (λ p q l m why. l);
-    follows = all_moves_changing s t (λ m. span_of s ≤ m.s) (λ p q l m why. follower-above s (leftover s p (place_in s q)) (nat_lt (joined s p (place_in s q)) t));
+    follows = all_moves_changing s t (λ m. span_of s ≤ m.s) (λ p q l m why. follower-above s (leftover s p (place_in s q)) (nat_lt (joined_value s p (place_in s q)) t));
     meet = λ p q l m ne. elim (cases_lt p q) [
       | inl h ↦ (leader_move s t p q, has_pair s t p q (omega arith) m, m, inl (refl, refl))
       | inr h ↦ (leader_move s t q p, has_pair s t q p h l, l, inr (refl, refl))

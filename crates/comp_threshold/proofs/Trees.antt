@@ -20,7 +20,7 @@ use Rattle.comp_trees.specs.LeaderTree.{IsLed, facts_of_trap, facts_of_leader, c
 use Rattle.comp_trees.proofs.LeaderEnds.{is_wrong, rules_out, wrong_closes}
 use Rattle.comp_trees.proofs.ValueNodes.{value_closes}
 use Rattle.comp_trees.proofs.LeaderClosing.{leader_tree-closes}
-use Rattle.comp_threshold_leaf.specs.ThresholdLeaf.{threshold_width, span_of, place_of_value, place_in, follower, joined, leftover, output_of, leader_move, alters, state_count, name_of, threshold_leaf, value_of}
+use Rattle.comp_threshold_leaf.specs.ThresholdLeaf.{threshold_width, span_of, place_of_value, place_in, follower, joined_value, leftover, output_of, leader_move, alters, state_count, name_of, threshold_leaf, value_of}
 use Rattle.comp_threshold.specs.ThresholdProof.{signed_value, leader_node, threshold_tree}
 use Rattle.comp_threshold_leaf.proofs.Places.{cut, Kind, a_leader, a_follower, kind_of, place-leader, place-follower, follower-above, output-leader, output-follower, place-within, place-most, value-place, width-bound, width-coef}
 use Rattle.comp_threshold_leaf.proofs.MoveLists.{all_moves, leader_move-cut, leaders-meet, turned-meet}
@@ -40,33 +40,33 @@ leader_move-value s t p q l m =
     let j = is.joined in
     let k = is.leftover in
     let whole = is.whole in
-    let first = value-leader s (joined s p (place_in s q)) (omega arith) in
-    let second = value-follower s (leftover s p (place_in s q)) (nat_lt (joined s p (place_in s q)) t) (omega arith) in
+    let first = value-leader s (joined_value s p (place_in s q)) (omega arith) in
+    let second = value-follower s (leftover s p (place_in s q)) (nat_lt (joined_value s p (place_in s q)) t) (omega arith) in
     let third = value-leader s p l in
     omega (arith, ints, first, second, third)
 
 -- a follower that a leader leaves as it is
 pub record IsKept (s t p v : ℕ) (bit : Bool) : Type 0 where
-  pub same : joined s p v ≡ p
+  pub same : joined_value s p v ≡ p
   pub turned : nat_lt p t ≡ bit
 
 pub kept : (s t p v : ℕ) (bit : Bool) → p < span_of s → v < span_of s → alters (leader_move s t p (follower s bit v)) ≡ false → IsKept s t p v bit
 kept s t p v bit l m e =
     let place = place-follower s v bit m in
     let both = and_parts _ _ (not-false _ e) in
-    let r_is : joined s p (place_in s (follower s bit v)) ≡ p = eqb-true _ _ both.0 in
+    let r_is : joined_value s p (place_in s (follower s bit v)) ≡ p = eqb-true _ _ both.0 in
     let s_is : (leader_move s t p (follower s bit v)).s ≡ follower s bit v = eqb-true _ _ both.1 in
-    let same : joined s p v ≡ p = ap (joined s p) (sym place_of_value) ∙ r_is in
+    let same : joined_value s p v ≡ p = ap (joined_value s p) (sym place_of_value) ∙ r_is in
     let is = cut s p v (omega arith) (omega arith) in
     let few = is.leftover in
-    let first : output_of s t (leader_move s t p (follower s bit v)).s ≡ nat_lt (joined s p (place_in s (follower s bit v))) t = output-follower s t (leftover s p (place_in s (follower s bit v))) (nat_lt (joined s p (place_in s (follower s bit v))) t) (let n : leftover s p v < span_of s = omega arith in subst (λ k. leftover s p k < span_of s) (sym place_of_value) n) in
+    let first : output_of s t (leader_move s t p (follower s bit v)).s ≡ nat_lt (joined_value s p (place_in s (follower s bit v))) t = output-follower s t (leftover s p (place_in s (follower s bit v))) (nat_lt (joined_value s p (place_in s (follower s bit v))) t) (let n : leftover s p v < span_of s = omega arith in subst (λ k. leftover s p k < span_of s) (sym place_of_value) n) in
     record {
       same = same;
       turned = ap (λ k. nat_lt k t) (sym r_is) ∙ sym first ∙ ap (output_of s t) s_is ∙ output-follower s t v bit m;
     }
 
 -- the value of such a follower
-kept-value : (s p v : ℕ) → p < span_of s → v < span_of s → joined s p v ≡ p → ((p ≡ 0) × (v ≤ s)) ⊎ ((p ≡ s + s) × (s ≤ v)) ⊎ (v ≡ s)
+kept-value : (s p v : ℕ) → p < span_of s → v < span_of s → joined_value s p v ≡ p → ((p ≡ 0) × (v ≤ s)) ⊎ ((p ≡ s + s) × (s ≤ v)) ⊎ (v ≡ s)
 kept-value s p v l m e =
     elim (cut s p v (omega arith) (omega arith)).low [
       | inl h ↦ inl (omega (arith, h.0), omega (arith, h.1))

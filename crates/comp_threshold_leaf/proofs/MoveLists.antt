@@ -10,7 +10,7 @@ use Rattle.pop_net.specs.Reaction.{takes}
 use Rattle.cert_base.specs.FactsAndCases.{can_meet}
 use Rattle.cert_base.proofs.WeightedSums.{list_any-from}
 use Rattle.comp_layers.proofs.Members.{all_range, all_flat, range_has, has_map, has_filter, has_flat, all_filtered}
-use Rattle.comp_threshold_leaf.specs.ThresholdLeaf.{span_of, place_in, follower, joined, leftover, leader_move, alters, pairs_of, turns_of, moves_of, state_count, built}
+use Rattle.comp_threshold_leaf.specs.ThresholdLeaf.{span_of, place_in, follower, joined_value, leftover, leader_move, alters, pairs_of, turns_of, moves_of, state_count, built}
 use Rattle.comp_threshold_leaf.proofs.Places.{IsCut, cut, Kind, kind_of, place-below, follower-above, follower-below}
 
 -- ---- moves
@@ -41,7 +41,7 @@ has_turn s t p q l m k c =
 
 -- ---- a meeting
 
-pub leader_move-cut : (s t p q : ℕ) → p < span_of s → Kind s q → IsCut s p (place_in s q) (joined s p (place_in s q)) (leftover s p (place_in s q))
+pub leader_move-cut : (s t p q : ℕ) → p < span_of s → Kind s q → IsCut s p (place_in s q) (joined_value s p (place_in s q)) (leftover s p (place_in s q))
 leader_move-cut s t p q l kind = cut s p (place_in s q) (omega arith) (let m = place-below s q kind in omega arith)
 
 pub leader_move-below : (s t p q : ℕ) → p < span_of s → q < state_count s → IsMoveBelow (state_count s) (leader_move s t p q)
@@ -49,7 +49,7 @@ leader_move-below s t p q l m =
     let is = leader_move-cut s t p q l (kind_of s q m) in
     let j = is.joined in
     let k = is.leftover in
-    let bit = nat_lt (joined s p (place_in s q)) t in
+    let bit = nat_lt (joined_value s p (place_in s q)) t in
     let after = follower-below s (leftover s p (place_in s q)) bit (omega arith) in
     (omega arith, m, omega arith, after)
 
@@ -64,10 +64,10 @@ and_no false = refl
 -- a meeting of two leaders is not silent, and one with a follower is silent where nothing changes
 pub pair-loud : (s t p q : ℕ) → p < span_of s → q < span_of s → silent_move (leader_move s t p q) ≡ false
 pair-loud s t p q l m =
-    let bit = nat_lt (joined s p (place_in s q)) t in
+    let bit = nat_lt (joined_value s p (place_in s q)) t in
     let first = not-leader s (leftover s p (place_in s q)) q bit m in
     let second = not-leader s (leftover s p (place_in s q)) p bit l in
-    let left_side : ((p == joined s p (place_in s q)) && false) ≡ false = and_no (p == joined s p (place_in s q)) in
+    let left_side : ((p == joined_value s p (place_in s q)) && false) ≡ false = and_no (p == joined_value s p (place_in s q)) in
     rw (first, second, left_side) refl
 
 same_turned : (a b : ℕ) → (a == b) ≡ (b == a)
@@ -82,7 +82,7 @@ same_turned a b = elim (cases_lt a b) [
 pub turn-loud : (s t p q : ℕ) → p < span_of s → alters (leader_move s t p q) ≡ true → silent_move (leader_move s t p q) ≡ false
 turn-loud s t p q l c =
     let m = leader_move s t p q in
-    let bit = nat_lt (joined s p (place_in s q)) t in
+    let bit = nat_lt (joined_value s p (place_in s q)) t in
     let second : (p == m.s) ≡ false = not-leader s (leftover s p (place_in s q)) p bit l in
     let first : ((p == m.r) && (q == m.s)) ≡ false = ap (λ (b : Bool). b && (q == m.s)) (same_turned p m.r) ∙ ap (λ (b : Bool). (m.r == p) && b) (same_turned q m.s) ∙ not-true ((m.r == p) && (m.s == q)) c in
     rw (first, second) refl

@@ -3,7 +3,7 @@ use Rattle.std.proofs.Common.{◌≡◌, ◌⊎◌, inl, inr, subst, ℕ, zero, 
 use Rattle.std.specs.Prelude.{ℤ, pos, negsuc, ◌+ℤ◌, ◌≤ℤ◌, nat_lt, nat_abs, fold}
 use Rattle.std.proofs.lemmas.Int.{ints}
 use Rattle.std.proofs.lemmas.Bool.{lt-ltb, le-ltb, cases_lt}
-use Rattle.comp_threshold_leaf.specs.ThresholdLeaf.{greater, smaller, threshold_width, span_of, place_of_value, place_in, follower, joined, leftover, output_of, value_of}
+use Rattle.comp_threshold_leaf.specs.ThresholdLeaf.{greater, smaller, threshold_width, span_of, place_of_value, place_in, follower, joined_value, leftover, output_of, value_of}
 
 -- ---- the smaller one
 
@@ -21,20 +21,20 @@ smaller_is a b = go (cases_lt a b)
 
 -- what is known of a sum that is cut
 pub record IsCut (s u v j k : ℕ) : Type 0 where
-  pub joined : j ≤ s + s
+  pub joined_value : j ≤ s + s
   pub leftover : k ≤ s + s
   pub whole : j + k ≡ u + v
   pub low : ((j ≡ 0) × (u + v ≤ s)) ⊎ ((j ≡ s + s) × (s + s + s ≤ u + v)) ⊎ (j + s ≡ u + v)
 
-pub cut : (s u v : ℕ) → u ≤ s + s → v ≤ s + s → IsCut s u v (joined s u v) (leftover s u v)
-cut s u v l m = go (joined s u v) (smaller_is (s + s) (u + v - s))
+pub cut : (s u v : ℕ) → u ≤ s + s → v ≤ s + s → IsCut s u v (joined_value s u v) (leftover s u v)
+cut s u v l m = go (joined_value s u v) (smaller_is (s + s) (u + v - s))
   where
     go : (j : ℕ) → IsSmaller (s + s) (u + v - s) j → IsCut s u v j (u + v - j)
     go j is = elim is.one [
-      | inl e ↦ record { joined = omega arith; leftover = omega arith; whole = omega arith; low = inr (inl (e, (let below = is.second in omega arith))) }
+      | inl e ↦ record { joined_value = omega arith; leftover = omega arith; whole = omega arith; low = inr (inl (e, (let below = is.second in omega arith))) }
       | inr e ↦ elim (cases_lt (u + v) s) [
-        | inl k ↦ record { joined = omega arith; leftover = omega arith; whole = omega arith; low = inl (omega arith, omega arith) }
-        | inr k ↦ record { joined = omega arith; leftover = omega arith; whole = omega arith; low = inr (inr (omega arith)) }
+        | inl k ↦ record { joined_value = omega arith; leftover = omega arith; whole = omega arith; low = inl (omega arith, omega arith) }
+        | inr k ↦ record { joined_value = omega arith; leftover = omega arith; whole = omega arith; low = inr (inr (omega arith)) }
       ]
     ]
 

@@ -39,11 +39,11 @@ abbrev pub follower : ℕ → Bool → ℕ → ℕ
 follower s bit v = if bit then span_of s + span_of s + v else span_of s + v
 
 -- the sum of two values, cut to the range, and what is left of it, as places
-abbrev pub joined : ℕ → ℕ → ℕ → ℕ
-joined s u v = smaller (s + s) (u + v - s)
+abbrev pub joined_value : ℕ → ℕ → ℕ → ℕ
+joined_value s u v = smaller (s + s) (u + v - s)
 
 abbrev pub leftover : ℕ → ℕ → ℕ → ℕ
-leftover s u v = u + v - joined s u v
+leftover s u v = u + v - joined_value s u v
 
 -- what a leader makes of a state; the bound stands at place t
 abbrev pub leader_move : (s t p q : ℕ) → Move
@@ -51,8 +51,8 @@ leader_move s t p q =
     record {
       p = p;
       q = q;
-      r = joined s p (place_in s q);
-      s = follower s (nat_lt (joined s p (place_in s q)) t) (leftover s p (place_in s q));
+      r = joined_value s p (place_in s q);
+      s = follower s (nat_lt (joined_value s p (place_in s q)) t) (leftover s p (place_in s q));
     }
 
 -- whether a state changes

@@ -12,7 +12,7 @@ use Rattle.tool_texts.specs.declared.status.Status.TheVariants.{Done}
 use Rattle.tool_texts.specs.Statuses.{status_of}
 use Rattle.tool_texts.specs.Steps.{After}
 use Rattle.tool_texts.specs.Refusals.{output_for}
-use Rattle.tool_commands.specs.Compile.{asked, fitting, OfFitting, OfAsked, CompileGives}
+use Rattle.tool_commands.specs.Compile.{asked, fits_its_leaves, OfFitting, OfAsked, CompileGives}
 use Rattle.pop_tool.specs.Headline.{CompileSays}
 
 abbrev IsDone : Result Output Refusal → Type 0
@@ -36,7 +36,7 @@ module _ (choice : LeafChoice) (input : List ℕ) (given : Result Output Refusal
 
   asked_says : (found : Result (List (List ℕ) × PredModel) Refusal) → asked (lines_of input) ≡ found → After found (OfAsked choice) given → CompileSays choice input (output_for given).text
   asked_says (Err refusal) tells is = absurd (refused refusal given is done)
-  asked_says (Ok (names, pred)) tells is = fitting_says names pred tells (fitting choice pred.tree) is
+  asked_says (Ok (names, pred)) tells is = fitting_says names pred tells (fits_its_leaves choice pred.tree) is
 
   by_length : (long : Bool) → MatchBool long (given ≡ Err TooLong) (CompileGives choice (lines_of input) given) → CompileSays choice input (output_for given).text
   by_length true is = absurd (refused TooLong given is done)

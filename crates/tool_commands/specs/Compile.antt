@@ -44,8 +44,8 @@ unless_refused None = Ok tt
 unless_refused (Some refusal) = Err refusal
 
 -- the predicate has a built net with these leaves, or it is refused
-abbrev pub fitting : LeafChoice → PredTree → Result (Unit {0}) Refusal
-fitting choice tree = unless_refused (option_and_then refusal_of (fault_with choice tree))
+abbrev pub fits_its_leaves : LeafChoice → PredTree → Result (Unit {0}) Refusal
+fits_its_leaves choice tree = unless_refused (option_and_then refusal_of (fault_with choice tree))
 
 -- a bundle of the predicate's built net over these names, the predicate, and a valid proof within the limits of its file. No
 -- leaf has two moves for the same states.
@@ -64,7 +64,7 @@ OfFitting choice names pred fits given =
     (bundle : Bundle) × IsCompiled choice names pred bundle × (given ≡ Ok (record { text = bundle_line bundle; ending = Done }))
 
 abbrev pub OfAsked : LeafChoice → List (List ℕ) × PredModel → Result Output Refusal → Type 0
-OfAsked choice asked = After (fitting choice asked.1.tree) (OfFitting choice asked.0 asked.1)
+OfAsked choice asked = After (fits_its_leaves choice asked.1.tree) (OfFitting choice asked.0 asked.1)
 
 -- what the command gives with these leaves for the lines of its input
 abbrev pub CompileGives : LeafChoice → List (List ℕ) → Result Output Refusal → Type 0

@@ -5,7 +5,7 @@ ghost use Rattle.pop_lines.specs.Lines.{lines_of};
 ghost use Rattle.pop_words.specs.Vars.{AreVariables};
 ghost use Rattle.comp_net.specs.Compiles.{Compiles};
 ghost use Rattle.tool_texts.specs.Steps.{Gives, Obeys};
-ghost use Rattle.tool_commands.specs.Compile.{asked as asked_by, fitting, bundle_line, IsCompiled, CompileGives};
+ghost use Rattle.tool_commands.specs.Compile.{asked as asked_by, fits_its_leaves, bundle_line, IsCompiled, CompileGives};
 
 use crate::eval::{names_of, pred_of};
 use bundle_text::write_bundle;
@@ -57,7 +57,7 @@ fn bundle_of(
 ) -> Result<Bundle, Stop>
     requires formed { AreVariables names.now }
     requires count { pred.variables ≡ length names.now }
-    ensures fits { Gives (λ _. tt) result (fitting choice pred.tree) }
+    ensures fits { Gives (λ _. tt) result (fits_its_leaves choice pred.tree) }
     ensures compiled { IfOk result (IsCompiled choice names.now pred) }
 {
     let refusal = match build_with(alloc, choice, &pred, names) {

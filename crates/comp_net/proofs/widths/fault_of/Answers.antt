@@ -2,7 +2,7 @@ use Rattle.std.proofs.Common.{◌∙◌, ◌++◌, length, ap, arith}
 use Rattle.std.proofs.lemmas.List.{length-map}
 use Rattle.pres_ast.specs.PredModel.{weight_of}
 use Rattle.pres_ast.specs.TreeOf.{tree_of}
-use Rattle.comp_net.specs.Atoms.{atoms, width_of}
+use Rattle.comp_net.specs.Atoms.{atoms, atom_width}
 use Rattle.comp_net.specs.CompileFaults.{widths}
 use Rattle.comp_net.proofs.Postfix.{atoms-most}
 use Rattle.comp_net.proofs.widths.fault_of.Goals as goal
@@ -14,4 +14,4 @@ fault_by-requires c =
     let few = atoms-most tree in
     let most = c.tree.ensures.limits.weight in
     let same = ap weight_of c.tree.ensures.value in
-    omega (arith, long, length-map (atoms tree) (width_of c.args.choice), few, most, same)
+    omega (arith, long, length-map (atoms tree) (atom_width c.args.choice), few, most, same)
