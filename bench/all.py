@@ -13,7 +13,7 @@ import sys
 HERE = os.path.dirname(os.path.abspath(__file__))
 BENCHES = [
     "net_file", "bundle_file", "layers", "tree", "check", "pairs", "play",
-    "runs", "field", "parts", "replay", "watch", "settle", "demo", "growth",
+    "runs", "field", "parts", "profile", "replay", "watch", "settle", "demo", "growth",
 ]
 
 
