@@ -21,7 +21,7 @@ smaller_is a b = go (cases_lt a b)
 
 -- what is known of a sum that is cut
 pub record IsCut (s u v j k : ℕ) : Type 0 where
-  pub joined_value : j ≤ s + s
+  pub joined : j ≤ s + s
   pub leftover : k ≤ s + s
   pub whole : j + k ≡ u + v
   pub low : ((j ≡ 0) × (u + v ≤ s)) ⊎ ((j ≡ s + s) × (s + s + s ≤ u + v)) ⊎ (j + s ≡ u + v)
@@ -31,10 +31,10 @@ cut s u v l m = go (joined_value s u v) (smaller_is (s + s) (u + v - s))
   where
     go : (j : ℕ) → IsSmaller (s + s) (u + v - s) j → IsCut s u v j (u + v - j)
     go j is = elim is.one [
-      | inl e ↦ record { joined_value = omega arith; leftover = omega arith; whole = omega arith; low = inr (inl (e, (let below = is.second in omega arith))) }
+      | inl e ↦ record { joined = omega arith; leftover = omega arith; whole = omega arith; low = inr (inl (e, (let below = is.second in omega arith))) }
       | inr e ↦ elim (cases_lt (u + v) s) [
-        | inl k ↦ record { joined_value = omega arith; leftover = omega arith; whole = omega arith; low = inl (omega arith, omega arith) }
-        | inr k ↦ record { joined_value = omega arith; leftover = omega arith; whole = omega arith; low = inr (inr (omega arith)) }
+        | inl k ↦ record { joined = omega arith; leftover = omega arith; whole = omega arith; low = inl (omega arith, omega arith) }
+        | inr k ↦ record { joined = omega arith; leftover = omega arith; whole = omega arith; low = inr (inr (omega arith)) }
       ]
     ]
 
