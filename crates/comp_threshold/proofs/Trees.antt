@@ -52,14 +52,14 @@ pub record IsKept (s t p v : ℕ) (bit : Bool) : Type 0 where
 
 pub kept : (s t p v : ℕ) (bit : Bool) → p < span_of s → v < span_of s → alters (leader_move s t p (follower s bit v)) ≡ false → IsKept s t p v bit
 kept s t p v bit l m e =
-    let place = place-follower s v bit m in
+    let same_place = place-follower s v bit m in
     let both = and_parts _ _ (not-false _ e) in
     let r_is : joined_value s p (place_in s (follower s bit v)) ≡ p = eqb-true _ _ both.0 in
     let s_is : (leader_move s t p (follower s bit v)).s ≡ follower s bit v = eqb-true _ _ both.1 in
-    let same : joined_value s p v ≡ p = ap (joined_value s p) (sym place_of_value) ∙ r_is in
+    let same : joined_value s p v ≡ p = ap (joined_value s p) (sym same_place) ∙ r_is in
     let is = cut s p v (omega arith) (omega arith) in
     let few = is.leftover in
-    let first : output_of s t (leader_move s t p (follower s bit v)).s ≡ nat_lt (joined_value s p (place_in s (follower s bit v))) t = output-follower s t (leftover s p (place_in s (follower s bit v))) (nat_lt (joined_value s p (place_in s (follower s bit v))) t) (let n : leftover s p v < span_of s = omega arith in subst (λ k. leftover s p k < span_of s) (sym place_of_value) n) in
+    let first : output_of s t (leader_move s t p (follower s bit v)).s ≡ nat_lt (joined_value s p (place_in s (follower s bit v))) t = output-follower s t (leftover s p (place_in s (follower s bit v))) (nat_lt (joined_value s p (place_in s (follower s bit v))) t) (let n : leftover s p v < span_of s = omega arith in subst (λ k. leftover s p k < span_of s) (sym same_place) n) in
     record {
       same = same;
       turned = ap (λ k. nat_lt k t) (sym r_is) ∙ sym first ∙ ap (output_of s t) s_is ∙ output-follower s t v bit m;

@@ -16,7 +16,7 @@ ghost use Rattle.pres_read.specs.Reading.{equality_step, modulus_step};
 ghost use Rattle.pres_read.specs.Reading.{given_modulus, step, finish, going_on};
 ghost use Rattle.pres_read.specs.Reading.{progress_after_constant, tree_up_to_unit};
 ghost use Rattle.pres_read.specs.Atoms.{limit_of, negation_if};
-ghost use Rattle.pres_read.specs.Atoms.{equality as equality_tree};
+ghost use Rattle.pres_read.specs.Atoms.{equality_tree};
 ghost use Rattle.pres_read.specs.Sound.{HasNext};
 ghost use Rattle.pres_read.specs.Views.{span_of, factor_of, around_of, progress_of, next_of};
 
