@@ -1,8 +1,9 @@
 -- What stands when every seat was taken in.
-use Rattle.std.proofs.Common.{◌≡◌, ◌≢◌, ℕ, zero, suc, ◌+◌, ◌<◌, ◌≤◌, true, true≢false, List, [], ◌∷◌, length, map, get_or, drop, refl, sym, ap, ◌∙◌, subst, inl, inr, ⊎_elim, arith, length-drop, Option, Some, None}
+use Rattle.std.proofs.Common.{◌≡◌, ◌≢◌, ℕ, zero, suc, ◌<◌, ◌≤◌, true, true≢false, List, [], ◌∷◌, length, get_or, refl, sym, ap, ◌∙◌, subst, inl, inr, ⊎_elim, arith, zero-add, Option, Some, None}
 use Rattle.std.specs.Prelude.{IsSome, All}
 use Rattle.std.proofs.lemmas.Bool.{cases_eq, cases_lt}
-use Rattle.std.proofs.lemmas.List.{length-map, get_or-map, get_or-drop, ext_get_or}
+use Rattle.std.proofs.lemmas.List.{length-map, get_or-map, ext_get_or}
+use Rattle.std.proofs.lemmas.List.FromFn.{length-map-range_with_len, get_or-map-range_with_len}
 use Rattle.std.proofs.Math.ListN.{replicate, length-replicate}
 use mathlib.Core.Option.{Option as Seated, some, some-injective, some-ne-none}
 use lib.ListN.{get_elem?}
@@ -17,7 +18,7 @@ use Rattle.agent_field.specs.declared.view.View.{View}
 use Rattle.agent_field.specs.declared.field.Field.{Field}
 use Rattle.agent_field.specs.declared.field.FieldSeat.{FieldSeat}
 use Rattle.agent_field.specs.History.{IsHistory, calls, placed, placed_logs}
-use Rattle.agent_field.specs.Standing.{In, agents_of, packed, crowd_after, IsLook, IsOwedByNone, StandsAt, FieldStands, idle}
+use Rattle.agent_field.specs.Standing.{In, agents_of, packed, agent_word, words_of_agents, crowd_after, IsLook, IsOwedByNone, StandsAt, FieldStands, idle}
 use Rattle.agent_field.specs.Seats.{IsWhole}
 use Rattle.agent_field.specs.Steps.{Mine}
 use Rattle.agent_field.proofs.Histories.{length-replay, calls_from-below}
@@ -30,7 +31,7 @@ some_value (Some a) h = (a, refl)
 
 -- the agents' words of a table
 abbrev pub agent_words : Setup → List ℕ → List Word
-agent_words k words = map packed (drop (2 + k.shards) words)
+agent_words k words = words_of_agents k.shards (agents_of k) words
 
 module _ (k : Setup) (words : List ℕ) (views : List View) (history : List Meeting) (seat : ℕ → Seated ℕ) (st : StandsAt k words views history seat) (id : ℕ) (v : View) (at : get_elem? views id ≡ some v) (live : v.live ≡ true) (zeroth : v.number ≡ 0)
     (whole : (w : ℕ) → 0 < w → w < v.next → IsSome (get_or v.taken w None)) (none_due : v.due ≡ []) where
@@ -54,30 +55,24 @@ module _ (k : Setup) (words : List ℕ) (views : List View) (history : List Meet
   owed_by_none : (a : ℕ) → IsOwedByNone views a
   owed_by_none a j u x e alive h = subst (In (a, x)) none_due (subst (λ (z : View). In (a, x) z.due) (alone j u e alive) h)
 
-  count_words : length (drop (2 + k.shards) words) ≡ agents_of k
-  count_words = let l = length-drop (2 + k.shards) words in let w = st.wide in omega arith
-
   closes_words : crowd_of k.net.value (agent_words k words) ≡ crowd_after k history
   closes_words =
       let net = k.net.value in
-      let rest = drop (2 + k.shards) words in
-      let count = count_words in
-      let many : length (crowd_of net (agent_words k words)) ≡ length rest = length-map (agent_words k words) (tuple_of net) ∙ length-map rest packed in
-      ext_get_or [] (crowd_of net (agent_words k words)) (crowd_after k history)
-      (many ∙ count ∙ sym (length-replay net history (crowd_of net k.opening.value) ∙ length-map k.opening.value (tuple_of net)))
+      let all = agent_words k words in
+      let many : length all ≡ agents_of k = length-map-range_with_len (agent_word k words) 0 (agents_of k) in
+      ext_get_or [] (crowd_of net all) (crowd_after k history)
+      (length-map all (tuple_of net) ∙ many ∙ sym (length-replay net history (crowd_of net k.opening.value) ∙ length-map k.opening.value (tuple_of net)))
       (λ a h.
-      let fits : a < length rest = subst (λ (n : ℕ). a < n) many h in
-      let inside : a < agents_of k = subst (λ (n : ℕ). a < n) count fits in
-      get_or-map (tuple_of net) (agent_words k words) a (packed 0) [] (subst (λ (n : ℕ). a < n) (sym (length-map rest packed)) fits)
-      ∙ ap (tuple_of net) (get_or-map packed rest a 0 (packed 0) fits ∙ ap packed (get_or-drop (2 + k.shards) words a 0))
+      let fits : a < length all = subst (λ (n : ℕ). a < n) (length-map all (tuple_of net)) h in
+      let inside : a < agents_of k = subst (λ (n : ℕ). a < n) many fits in
+      get_or-map (tuple_of net) all a (packed 0) [] fits
+      ∙ ap (tuple_of net) (get_or-map-range_with_len (agent_word k words) 0 (agents_of k) a a (packed 0) inside (zero-add a))
       ∙ st.settled a inside (owed_by_none a))
 
   closes_valid : AreValid k.net.value (agent_words k words)
   closes_valid a d h =
-      let rest = drop (2 + k.shards) words in
-      let fits : a < length rest = subst (λ (n : ℕ). a < n) (length-map rest packed) h in
-      let inside : a < agents_of k = subst (λ (n : ℕ). a < n) count_words fits in
-      subst (IsValid k.net.value) (sym (get_or-map packed rest a 0 d fits ∙ ap packed (get_or-drop (2 + k.shards) words a 0))) (st.valid a inside)
+      let inside : a < agents_of k = subst (λ (n : ℕ). a < n) (length-map-range_with_len (agent_word k words) 0 (agents_of k)) h in
+      subst (IsValid k.net.value) (sym (get_or-map-range_with_len (agent_word k words) 0 (agents_of k) a a d inside (zero-add a))) (st.valid a inside)
 
   -- a number whose log was not taken in has made nothing
   closes_rest : (w : ℕ) → w ≢ 0 → get_or v.taken w None ≡ None → calls w history ≡ []

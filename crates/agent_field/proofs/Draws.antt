@@ -20,6 +20,7 @@ use Rattle.agent_field.specs.History.{IsHistory, logged, calls, made}
 use Rattle.agent_field.specs.Standing.{agents_of, lock_at, agent_at, shard_of, packed, crowd_after, tuple_after, In, locks_of, joined_away, IsFirst, IsLook, LooksPart, Agrees, IsHeldBySome, StandsAt}
 use Rattle.agent_field.specs.Steps.{IsReaction, meeting, IsNewest, IsDrawnAt}
 use Rattle.agent_field.proofs.Histories.{length-replay, replay-push, history-push, calls-push_mine, calls-push_other, calls_from-below, length-most, after_meeting-first, after_meeting-second, after_meeting-other}
+use Rattle.agent_field.proofs.InTurns.{lock_behind, agent_behind}
 use Rattle.agent_field.proofs.Views.{at_length, set_each, one_seat, one_holder, owed_back, held_after, sits_set, not_dead}
 use Rattle.agent_field.proofs.Keeps.{owed_by_none}
 
@@ -121,7 +122,7 @@ module _ (k : Setup) (words : List ℕ) (views : List View) (history : List Meet
       let kept : (c : ℕ) → c ≢ a → c ≢ b → tuple_after k later c ≡ tuple_after k history c = λ c not_a not_b. ap (λ (z : CrowdModel). get_or z c []) pushed ∙ after_meeting-other net crowd a b c not_a not_b in
       let longer : calls v.number later ≡ calls v.number history ++ logged ticket a b changed ∷ [] = calls-push_mine v.number history m refl in
       let clock_only : (i : ℕ) → i ≢ 0 → get_or words' i 0 ≡ get_or words i 0 = λ i more. get_or-set_other words 0 i (ticket + 1) 0 more in
-      let no_agent : (c : ℕ) → get_or words' (agent_at k c) 0 ≡ get_or words (agent_at k c) 0 = λ c. clock_only (agent_at k c) (λ same. absurd (omega arith)) in
+      let no_agent : (c : ℕ) → get_or words' (agent_at k c) 0 ≡ get_or words (agent_at k c) 0 = λ c. clock_only (agent_at k c) (λ same. agent_behind k 0 c (omega arith) (sym same)) in
       let owes_a : (p : ℕ × Word) → p ≡ (a, x') → (p.0 < agents_of k) × In (shard_of k p.0) v.held × (tuple_of net p.1 ≡ tuple_after k later p.0) × IsValid net p.1 = λ p same.
       subst (λ (p : ℕ × Word). (p.0 < agents_of k) × In (shard_of k p.0) v.held × (tuple_of net p.1 ≡ tuple_after k later p.0) × IsValid net p.1) (sym same) (know_a.0, know_a.1, new_a, reacts_so.first) in
       let owes_b : (p : ℕ × Word) → p ≡ (b, y') → (p.0 < agents_of k) × In (shard_of k p.0) v.held × (tuple_of net p.1 ≡ tuple_after k later p.0) × IsValid net p.1 = λ p same.
@@ -132,7 +133,7 @@ module _ (k : Setup) (words : List ℕ) (views : List View) (history : List Meet
         numbered = f.numbered;
         first = λ zeroth. first_later m refl v.next v.taken (f.first zeroth);
         logs = ap (λ (l : List Logged). l ++ logged ticket a b changed ∷ []) f.logs ∙ sym longer;
-        locks = λ s h. ((f.locks s h).0, clock_only (lock_at s) (λ e. absurd (omega arith)) ∙ (f.locks s h).1);
+        locks = λ s h. ((f.locks s h).0, clock_only (lock_at k s) (λ e. lock_behind k 0 s (omega arith) (sym e)) ∙ (f.locks s h).1);
         knows = λ c z h. absurd h;
         owes = λ c z h. ⊎_elim (owes_a (c, z)) (λ (rest : In (c, z) ((b, y') ∷ [])). ⊎_elim (owes_b (c, z)) (λ (none : ⊥). absurd none) rest) h;
         tight = λ c z h. (
@@ -160,7 +161,7 @@ module _ (k : Setup) (words : List ℕ) (views : List View) (history : List Meet
         grounded = st.grounded;
         sits = sits_set seat views id v w at live refl st.sits;
         locked = λ t within. ⊎_elim
-            (λ (zero_word : get_or words (lock_at t) 0 ≡ 0). inl (clock_only (lock_at t) (λ same. absurd (omega arith)) ∙ zero_word))
+            (λ (zero_word : get_or words (lock_at k t) 0 ≡ 0). inl (clock_only (lock_at k t) (λ same. lock_behind k 0 t (omega arith) (sym same)) ∙ zero_word))
             (λ (by : IsHeldBySome views t). inr (held_after views id v w t at (λ h. (live, h)) by))
             (st.locked t within);
         settled = λ c inside free_now.
@@ -179,7 +180,7 @@ module _ (k : Setup) (words : List ℕ) (views : List View) (history : List Meet
               numbered = g.numbered;
               first = λ zeroth. first_later m refl u.next u.taken (g.first zeroth);
               logs = g.logs ∙ sym (calls-push_other u.number history m (λ same. other (one_seat k words history seat id j v u f g (sym same))));
-              locks = λ s h. ((g.locks s h).0, clock_only (lock_at s) (λ same. absurd (omega arith)) ∙ (g.locks s h).1);
+              locks = λ s h. ((g.locks s h).0, clock_only (lock_at k s) (λ same. lock_behind k 0 s (omega arith) (sym same)) ∙ (g.locks s h).1);
               knows = λ c z h. let was = g.knows c z h in (was.0, was.1, ap packed (no_agent c) ∙ was.2, was.3);
               owes = λ c z h. let o = g.owes c z h in (o.0, o.1, o.2 ∙ sym (kept c (not_theirs a know_a.1 c o.1) (not_theirs b know_b.1 c o.1)), o.3);
               tight = g.tight;

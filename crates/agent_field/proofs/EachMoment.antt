@@ -18,9 +18,9 @@ use Rattle.pop_crowd.specs.Replay.{reacts}
 use Rattle.agent_field.specs.declared.view.Setup.{Setup}
 use Rattle.agent_field.specs.declared.view.View.{View}
 use Rattle.agent_field.specs.History.{made}
-use Rattle.agent_field.specs.Standing.{agents_of, crowd_after, Stands, In, StandsAt, IsUnfounded, founder, joined_away}
+use Rattle.agent_field.specs.Standing.{agents_of, crowd_after, Stands, In, StandsAt, IsUnfounded, founder, joined_away, opening_words}
 use Rattle.agent_field.specs.Steps.{IsReaction, first_seat, meeting, looking}
-use Rattle.agent_field.specs.Kinds.{Sits, QuietStep, makes, locks, finds_locked, reads, writes, unlocks, splits, joins, looks, DrawStep, draws, FieldRun, stays, goes, meets, HasHistory, opening_words, EachMomentStands}
+use Rattle.agent_field.specs.Kinds.{Sits, QuietStep, makes, locks, finds_locked, reads, writes, unlocks, splits, joins, looks, DrawStep, draws, FieldRun, stays, goes, meets, HasHistory, EachMomentStands}
 use Rattle.agent_field.proofs.Keeps.{locks_keep, releases_keep, reads_keep, writes_keep}
 use Rattle.agent_field.proofs.Histories.{length-replay, replay-push}
 use Rattle.agent_field.proofs.Draws.{known_after, draws_keep}

@@ -1,3 +1,4 @@
+pub mod InTurns
 pub mod Histories
 pub mod Views
 pub mod Keeps

@@ -17,6 +17,7 @@ use Rattle.agent_field.specs.declared.view.View.{View}
 use Rattle.agent_field.specs.History.{made}
 use Rattle.agent_field.specs.Standing.{agents_of, lock_at, agent_at, agent_word, shard_of, In, founder, joined_away, StandsAt, IsUnfounded, FieldStands}
 use Rattle.agent_field.specs.Steps.{Mine, first_seat, holding, releasing, knowing, IsReaction, MayDraw, HasSeenAll, meeting, writing, kept_back, newcomer, taking_in, looking, IsNewest, IsDrawnAt, IsSeenAt, Founds, Locks, Unlocks, Reads, Draws, Writes, Watches}
+use Rattle.agent_field.proofs.InTurns.{lock_once, agent_once}
 use Rattle.agent_field.proofs.Keeps.{locks_keep, releases_keep, reads_keep, writes_keep}
 use Rattle.agent_field.proofs.Draws.{draws_keep, is_newest, is_drawn_at, history_fits}
 use Rattle.agent_field.proofs.Watching.{looks_keep, is_seen_at}
@@ -46,30 +47,30 @@ module _ (k : Setup) where
   unmoved s i id me h at =
       subst (λ (t : List ℕ × List View). FieldStands k (record { words = t.0; homes = s.homes; views = t.1 })) (λ j. (sym (set-get_or s.words i 0) j, sym (set_again s.views id me.0 at) j)) h
 
-  pub locks : (slots id : ℕ) (me : Mine) (s n : ℕ) → me.0.live ≡ true → me.0.number + 1 ≡ n → s < k.shards → me.0.due ≡ []
-      → Allows (FieldStands k) slots id me (lock_at s) (λ r. either (eqb r 0) n r) (Locks (step slots (lock_at s) 0 n none) me)
-  locks slots id me s n live is inside none_due state h _ at _ =
-      let x : ℕ = get_or state.words (lock_at s) 0 in
+  locks : (slots id : ℕ) (me : Mine) (s n : ℕ) → me.0.live ≡ true → me.0.setup ≡ k → me.0.number + 1 ≡ n → s < k.shards → me.0.due ≡ []
+      → Allows (FieldStands k) slots id me (lock_at k s) (λ r. either (eqb r 0) n r) (Locks (step slots (lock_at k s) 0 n none) me)
+  locks slots id me s n live setup is inside none_due state h _ at _ =
+      let x : ℕ = get_or state.words (lock_at k s) 0 in
       let w = holding s me.0 in
       dite (ℕ_discrete x 0)
       (λ hit. let t = founded state h id me.0 at live in (
         w,
         keeps,
         tt,
-        subst (λ (b : Bool). FieldStands k (stepped state (lock_at s) (either b n x) id me.1 w keeps)) (sym (eq-eqb x 0 hit))
-            (inr (t.0, t.1, subst (λ (m : ℕ). StandsAt k (set state.words (lock_at s) m) (set state.views id w) t.0 t.1) is (locks_keep k state.words state.views t.0 t.1 t.2 id me.0 at live s inside hit none_due))),
-        ((λ _. ap (λ (z : ℕ). (holding z me.0, me.1)) (omega arith)), λ not. absurd (not hit)),
+        subst (λ (b : Bool). FieldStands k (stepped state (lock_at k s) (either b n x) id me.1 w keeps)) (sym (eq-eqb x 0 hit))
+            (inr (t.0, t.1, subst (λ (m : ℕ). StandsAt k (set state.words (lock_at k s) m) (set state.views id w) t.0 t.1) is (locks_keep k state.words state.views t.0 t.1 t.2 id me.0 at live s inside hit none_due))),
+        ((λ t same _. ap (λ (z : ℕ). (holding z me.0, me.1)) (lock_once k s t (same ∙ ap (λ (z : Setup). lock_at z t) setup))), λ not. absurd (not hit)),
       ))
       (λ miss. (
         me.0,
         keeps,
         tt,
-        subst (λ (b : Bool). FieldStands k (stepped state (lock_at s) (either b n x) id me.1 me.0 keeps)) (sym (ne_eqb x 0 miss)) (unmoved state (lock_at s) id me h at),
-        ((λ hit. absurd (miss hit)), λ _. refl),
+        subst (λ (b : Bool). FieldStands k (stepped state (lock_at k s) (either b n x) id me.1 me.0 keeps)) (sym (ne_eqb x 0 miss)) (unmoved state (lock_at k s) id me h at),
+        ((λ t same hit. absurd (miss hit)), λ _. refl),
       ))
 
-  pub unlocks : (slots id : ℕ) (me : Mine) (s : ℕ) (held : List ℕ) → me.0.live ≡ true → me.0.held ≡ s ∷ held → (In s held → ⊥) → me.0.due ≡ []
-      → Allows (FieldStands k) slots id me (lock_at s) (λ _. 0) (λ _. Unlocks (step slots (lock_at s) 0 0 none) me 0)
+  unlocks : (slots id : ℕ) (me : Mine) (s : ℕ) (held : List ℕ) → me.0.live ≡ true → me.0.held ≡ s ∷ held → (In s held → ⊥) → me.0.due ≡ []
+      → Allows (FieldStands k) slots id me (lock_at k s) (λ _. 0) (λ _. Unlocks (step slots (lock_at k s) 0 0 none) me 0)
   unlocks slots id me s held live is once none_due state h _ at _ =
       let t = founded state h id me.0 at live in
       (releasing me.0, keeps, tt, inr (t.0, t.1, releases_keep k state.words state.views t.0 t.1 t.2 id me.0 at live s held is once none_due), refl)
@@ -83,7 +84,7 @@ module _ (k : Setup) where
         keeps,
         tt,
         inr (t.0, t.1, subst (λ (ws : List ℕ). StandsAt k ws (set state.views id (knowing a x me.0)) t.0 t.1) (sym (set-get_or state.words (agent_at k a) 0)) (reads_keep k state.words state.views t.0 t.1 t.2 id me.0 at live a in_range held not_due)),
-        (ap (λ (z : ℕ). (knowing z x me.0, me.1)) (let same : me.0.setup.shards ≡ k.shards = ap (λ (z : Setup). z.shards) setup in omega arith), subst (λ (z : Setup). IsValid z.net.value x) (sym setup) (t.2.valid a in_range)),
+        ((λ b same. ap (λ (z : ℕ). (knowing z x me.0, me.1)) (agent_once k a b (same ∙ ap (λ (z : Setup). agent_at z b) setup))), subst (λ (z : Setup). IsValid z.net.value x) (sym setup) (t.2.valid a in_range)),
       )
 
   pub draws : (slots id : ℕ) (me : Mine) (a b : ℕ) (x y x' y' : Word) → me.0.live ≡ true → me.0.setup ≡ k → MayDraw k me.0 a b x y x' y'
@@ -170,6 +171,16 @@ module _ (k : Setup) where
       h
 
   -- the same, where the word's place is written in another way
+  pub locks_at : (slots id : ℕ) (me : Mine) (s n i : ℕ) → i ≡ lock_at k s → me.0.live ≡ true → me.0.setup ≡ k → me.0.number + 1 ≡ n → s < k.shards → me.0.due ≡ []
+      → Allows (FieldStands k) slots id me i (λ r. either (eqb r 0) n r) (Locks (step slots i 0 n none) me)
+  locks_at slots id me s n i is live setup number inside none_due =
+      subst (λ (j : ℕ). Allows (FieldStands k) slots id me j (λ r. either (eqb r 0) n r) (Locks (step slots j 0 n none) me)) (sym is) (locks slots id me s n live setup number inside none_due)
+
+  pub unlocks_at : (slots id : ℕ) (me : Mine) (s i : ℕ) (held : List ℕ) → i ≡ lock_at k s → me.0.live ≡ true → me.0.held ≡ s ∷ held → (In s held → ⊥) → me.0.due ≡ []
+      → Allows (FieldStands k) slots id me i (λ _. 0) (λ _. Unlocks (step slots i 0 0 none) me 0)
+  unlocks_at slots id me s i held is live last once none_due =
+      subst (λ (j : ℕ). Allows (FieldStands k) slots id me j (λ _. 0) (λ _. Unlocks (step slots j 0 0 none) me 0)) (sym is) (unlocks slots id me s held live last once none_due)
+
   pub reads_at : (slots id : ℕ) (me : Mine) (a i : ℕ) → i ≡ agent_at k a → me.0.live ≡ true → me.0.setup ≡ k → a < agents_of k → In (shard_of k a) me.0.held → ((y : Word) → In (a, y) me.0.due → ⊥)
       → Allows (FieldStands k) slots id me i (λ r. r) (Reads (step slots i 0 0 none) me)
   reads_at slots id me a i is live setup in_range held not_due =

@@ -119,7 +119,7 @@ module _ (k : Setup) (words : List ℕ) (views : List View) (history : List Meet
               (old_one.0, at_longer (set views id w) (newcomer v ∷ []) j old_one.0 old_one.1, old_one.2, old_one.3))
               (cases_eq m n);
           locked = λ t within. ⊎_elim
-              (λ (zero_word : get_or words (lock_at t) 0 ≡ 0). inl zero_word)
+              (λ (zero_word : get_or words (lock_at k t) 0 ≡ 0). inl zero_word)
               (λ (by : IsHeldBySome views t). let now = held_after views id v w t at (λ h. (live, h)) by in inr (now.0, now.1, at_longer (set views id w) (newcomer v ∷ []) now.0 now.1 now.2, now.3, now.4))
               (st.locked t within);
           settled = λ a inside free_now. st.settled a inside (owed_back views id v w a at live (λ x h. (x, h)) (λ j u x e. free_now j u x (at_longer (set views id w) (newcomer v ∷ []) j u e)));
@@ -202,7 +202,7 @@ module _ (k : Setup) (words : List ℕ) (views : List View) (history : List Meet
               (was.0, set_else (set views id w) other j joined_away not_other ∙ was.1, was.2, was.3))
               (cases_eq m n);
           locked = λ t within. ⊎_elim
-              (λ (zero_word : get_or words (lock_at t) 0 ≡ 0). inl zero_word)
+              (λ (zero_word : get_or words (lock_at k t) 0 ≡ 0). inl zero_word)
               (λ (by : IsHeldBySome views t). let now = held_after views id v w t at (λ h. (live, h)) by in
               inr (held_after (set views id w) other z joined_away t there' (λ h. absurd (subst (In t) none_held h)) now))
               (st.locked t within);

@@ -8,7 +8,7 @@ use Rattle.pop_net.specs.declared.net.Word.{Word}
 use Rattle.pop_crowd.specs.declared.crowd.Meeting.{Meeting}
 use Rattle.agent_field.specs.declared.view.Setup.{Setup}
 use Rattle.agent_field.specs.declared.view.View.{View}
-use Rattle.agent_field.specs.Standing.{lock_at, agent_at, packed, In, Agrees, IsOwedByNone, IsHeldBySome}
+use Rattle.agent_field.specs.Standing.{agents_of, lock_at, agent_at, packed, In, Agrees, IsOwedByNone, IsHeldBySome}
 
 pub at_length : {A : Type 0} (l : List A) (i : ℕ) (a : A) → get_elem? l i ≡ some a → i < length l
 at_length [] i a e = absurd (some-ne-none a (sym e))
@@ -25,15 +25,15 @@ set_each views id w P mine others j u e =
 
 -- a word is changed that this view says nothing of
 pub agrees_word : (k : Setup) (words : List ℕ) (history : List Meeting) (seat : ℕ → Option ℕ) (id : ℕ) (u : View) (i n : ℕ) → Agrees k words history seat id u
-    → ((s : ℕ) → In s u.held → lock_at s ≢ i) → ((a : ℕ) (x : Word) → In (a, x) u.known → agent_at k a ≢ i) → Agrees k (set words i n) history seat id u
+    → ((s : ℕ) → In s u.held → lock_at k s ≢ i) → ((a : ℕ) (x : Word) → In (a, x) u.known → a < agents_of k → agent_at k a ≢ i) → Agrees k (set words i n) history seat id u
 agrees_word k words history seat id u i n f locks agents = record {
   setup = f.setup;
   seated = f.seated;
   numbered = f.numbered;
   first = f.first;
   logs = f.logs;
-  locks = λ s h. ((f.locks s h).0, get_or-set_other words i (lock_at s) n 0 (locks s h) ∙ (f.locks s h).1);
-  knows = λ a x h. let was = f.knows a x h in (was.0, was.1, ap packed (get_or-set_other words i (agent_at k a) n 0 (agents a x h)) ∙ was.2, was.3);
+  locks = λ s h. ((f.locks s h).0, get_or-set_other words i (lock_at k s) n 0 (locks s h) ∙ (f.locks s h).1);
+  knows = λ a x h. let was = f.knows a x h in (was.0, was.1, ap packed (get_or-set_other words i (agent_at k a) n 0 (agents a x h was.0)) ∙ was.2, was.3);
   owes = f.owes;
   tight = f.tight;
   looked = f.looked;
@@ -47,9 +47,6 @@ module _ (k : Setup) (words : List ℕ) (history : List Meeting) (seat : ℕ →
   pub one_holder : (i j : ℕ) (v u : View) → Agrees k words history seat i v → Agrees k words history seat j u → (s : ℕ) → In s v.held → In s u.held → j ≡ i
   one_holder i j v u f g s mine theirs =
       let a = (f.locks s mine).1 in let b = (g.locks s theirs).1 in one_seat i j v u f g (omega arith)
-
-pub lock_is_no_agent : (k : Setup) (s a : ℕ) → s < k.shards → lock_at s ≢ agent_at k a
-lock_is_no_agent k s a h e = omega arith
 
 -- an agent that no seat owes after a step of one seat was owed by none before it, where that seat owed no less
 pub owed_back : (views : List View) (id : ℕ) (v w : View) (a : ℕ) → get_elem? views id ≡ some v → w.live ≡ true → ((x : Word) → In (a, x) v.due → (y : Word) × In (a, y) w.due) → IsOwedByNone (set views id w) a → IsOwedByNone views a

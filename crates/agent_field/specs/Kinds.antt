@@ -1,5 +1,5 @@
 -- The kinds of atomic step of a seat, each with where it is allowed and what it changes; and runs of steps, by any seats in any order.
-use Rattle.std.specs.Prelude.{◌≡◌, ◌≢◌, ◌⊎◌, ℕ, ◌+◌, ◌<◌, ◌≤◌, ◌++◌, true, List, [], ◌∷◌, map, replicate, slice_index, slice_set}
+use Rattle.std.specs.Prelude.{◌≡◌, ◌≢◌, ◌⊎◌, ℕ, ◌+◌, ◌<◌, ◌≤◌, ◌++◌, true, List, [], ◌∷◌, slice_index, slice_set}
 use mathlib.Core.Option.{Option, some}
 use lib.ListN.{get_elem?}
 use Rattle.pop_net.specs.declared.net.Word.{Word}
@@ -7,12 +7,12 @@ use Rattle.pop_net.specs.Lanes.{tuple_of, AreValid}
 use Rattle.pop_net.specs.Step.{Step}
 use Rattle.pop_crowd.specs.declared.crowd.Meeting.{Meeting}
 use Rattle.pop_crowd.specs.Replay.{reacts}
-use Rattle.agent_field.specs.declared.places.TheConstants.{CLOCK, FOUNDER, LOCKS}
+use Rattle.agent_field.specs.declared.places.TheConstants.{CLOCK, FOUNDER}
 use Rattle.agent_field.specs.declared.limits.TheConstants.{SEAT_LIMIT}
 use Rattle.agent_field.specs.declared.view.Setup.{Setup}
 use Rattle.agent_field.specs.declared.view.View.{View}
 use Rattle.agent_field.specs.History.{made}
-use Rattle.agent_field.specs.Standing.{In, agents_of, lock_at, agent_at, agent_word, shard_of, crowd_after, founder, joined_away, IsUnfounded, StandsAt, Stands}
+use Rattle.agent_field.specs.Standing.{In, agents_of, lock_at, agent_at, agent_word, shard_of, crowd_after, founder, joined_away, opening_words, IsUnfounded, StandsAt, Stands}
 use Rattle.agent_field.specs.Steps.{first_seat, holding, releasing, knowing, MayDraw, HasSeenAll, meeting, writing, kept_back, newcomer, taking_in, looking}
 
 -- the seat `id` is live and has this view
@@ -24,9 +24,9 @@ pub record Sits (views : List View) (id : ℕ) (v : View) : Type 0 where
 pub data QuietStep (k : Setup) : List ℕ → List View → List ℕ → List View → Type 0 where
   makes : (words : List ℕ) (views : List View) (id : ℕ) → get_elem? views id ≡ some (founder k)
       → QuietStep k words views (slice_set words FOUNDER 1) (slice_set views id (first_seat k))
-  locks : (words : List ℕ) (views : List View) (id : ℕ) (v : View) (s : ℕ) → Sits views id v → s < k.shards → v.due ≡ [] → slice_index words (lock_at s) ≡ 0
-      → QuietStep k words views (slice_set words (lock_at s) (v.number + 1)) (slice_set views id (holding s v))
-  finds_locked : (words : List ℕ) (views : List View) (id : ℕ) (v : View) (s : ℕ) → Sits views id v → s < k.shards → slice_index words (lock_at s) ≢ 0
+  locks : (words : List ℕ) (views : List View) (id : ℕ) (v : View) (s : ℕ) → Sits views id v → s < k.shards → v.due ≡ [] → slice_index words (lock_at k s) ≡ 0
+      → QuietStep k words views (slice_set words (lock_at k s) (v.number + 1)) (slice_set views id (holding s v))
+  finds_locked : (words : List ℕ) (views : List View) (id : ℕ) (v : View) (s : ℕ) → Sits views id v → s < k.shards → slice_index words (lock_at k s) ≢ 0
       → QuietStep k words views words views
   reads : (words : List ℕ) (views : List View) (id : ℕ) (v : View) (a : ℕ) → Sits views id v → a < agents_of k → In (shard_of k a) v.held
       → ((y : Word) → In (a, y) v.due → ⊥)
@@ -36,7 +36,7 @@ pub data QuietStep (k : Setup) : List ℕ → List View → List ℕ → List Vi
       → QuietStep k words views (slice_set words (agent_at k a) y.0) (slice_set views id (writing v))
   unlocks : (words : List ℕ) (views : List View) (id : ℕ) (v : View) (s : ℕ) (held : List ℕ) → Sits views id v → v.held ≡ s ∷ held → (In s held → ⊥)
       → v.due ≡ []
-      → QuietStep k words views (slice_set words (lock_at s) 0) (slice_set views id (releasing v))
+      → QuietStep k words views (slice_set words (lock_at k s) 0) (slice_set views id (releasing v))
   splits : (words : List ℕ) (views : List View) (id : ℕ) (v : View) → Sits views id v → v.number ≡ 0 → v.next < k.seats
       → QuietStep k words views words (slice_set views id (kept_back v) ++ newcomer v ∷ [])
   joins : (words : List ℕ) (views : List View) (id other : ℕ) (v w : View) → Sits views id v → v.number ≡ 0 → other ≢ id → Sits views other w
@@ -63,10 +63,6 @@ pub data FieldRun (k : Setup) : List ℕ → List View → List Meeting → List
 abbrev pub HasHistory : Setup → List ℕ → List View → List Meeting → Type 0
 HasHistory k words views history =
     (IsUnfounded k words views × (history ≡ [])) ⊎ ((seat : ℕ → Option ℕ) × StandsAt k words views history seat)
-
--- the words and views with which a field is opened
-abbrev pub opening_words : Setup → List ℕ
-opening_words k = replicate (LOCKS + k.shards) 0 ++ map (λ w. w.0) k.opening.value
 
 -- the field stands at every moment, and its history is what the draws made
 pub record MomentsStand (k : Setup) : Type 0 where

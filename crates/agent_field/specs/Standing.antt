@@ -1,7 +1,8 @@
 -- FieldStands: the rule of the field's table, over its words and the views of all seats.
--- The clock and the founder word come first, then the lock words of the shards and the words of the agents.
+-- The clock and the founder word come first. Behind them the lock words of the shards and the words of the agents take turns, a lock first, as long as there are both.
 use Rattle.std.specs.Prelude.{◌≡◌, ℕ, ◌+◌, ◌<◌, ◌≤◌, ◌%◌, ◌⊎◌, ◌==◌, min, max, IsSome, Bool, true, false, List, [], ◌∷◌, ◌++◌}
 use Rattle.std.specs.Prelude.{length, map, take, replicate, slice_index, slice_index_or, Option as Maybe, Some as Given, None as Missing}
+use Rattle.std.specs.List.{range_with_len}
 use mathlib.Core.Option.{Option, none, some}
 use lib.ListN.{get_elem?}
 use Rattle.atomic_table.specs.Table.{State}
@@ -11,7 +12,7 @@ use Rattle.pop_net.specs.Lanes.{tuple_of, crowd_of, IsValid, AreValid}
 use Rattle.pop_crowd.specs.declared.crowd.Meeting.{Meeting}
 use Rattle.pop_crowd.specs.Replay.{replay}
 use Rattle.agent_field.specs.declared.limits.TheConstants.{SEAT_LIMIT, LOG_LIMIT}
-use Rattle.agent_field.specs.declared.places.TheConstants.{CLOCK, FOUNDER, LOCKS}
+use Rattle.agent_field.specs.declared.places.TheConstants.{CLOCK, FOUNDER, HEAD_WORDS}
 use Rattle.agent_field.specs.declared.view.Logged.{Logged}
 use Rattle.agent_field.specs.declared.view.Look.{Look}
 use Rattle.agent_field.specs.declared.view.Setup.{Setup}
@@ -21,11 +22,18 @@ use Rattle.agent_field.specs.History.{IsHistory, calls}
 abbrev pub agents_of : Setup → ℕ
 agents_of k = length k.opening.value
 
-abbrev pub lock_at : ℕ → ℕ
-lock_at s = LOCKS + s
+-- the place of a shard's lock in a table of so many agents, and that of an agent's word in a table of so many shards
+abbrev pub lock_place : ℕ → ℕ → ℕ
+lock_place agents s = HEAD_WORDS + s + min s agents
+
+abbrev pub agent_place : ℕ → ℕ → ℕ
+agent_place shards a = HEAD_WORDS + a + min (a + 1) shards
+
+abbrev pub lock_at : Setup → ℕ → ℕ
+lock_at k s = lock_place (agents_of k) s
 
 abbrev pub agent_at : Setup → ℕ → ℕ
-agent_at k a = LOCKS + k.shards + a
+agent_at k a = agent_place k.shards a
 
 abbrev pub shard_of : Setup → ℕ → ℕ
 shard_of k a = a % k.shards
@@ -36,6 +44,20 @@ packed number = record { 0 = number }
 -- an agent's word in the table
 abbrev pub agent_word : Setup → List ℕ → ℕ → Word
 agent_word k words a = packed (slice_index words (agent_at k a))
+
+-- the words of the agents, in their order, in a table of so many shards and agents
+abbrev pub words_of_agents : ℕ → ℕ → List ℕ → List Word
+words_of_agents shards agents words = map (λ a. packed (slice_index words (agent_place shards a))) (range_with_len 0 agents)
+
+-- the elements of two lists in turns, as long as there are both
+abbrev pub in_turns : {X : Type 0} → List X → List X → List X
+in_turns [] ys = ys
+in_turns (x ∷ xs) [] = x ∷ xs
+in_turns (x ∷ xs) (y ∷ ys) = x ∷ y ∷ in_turns xs ys
+
+-- the words with which a field is opened: the clock, the founder word, and free locks in turns with the agents' words
+abbrev pub opening_words : Setup → List ℕ
+opening_words k = 0 ∷ 0 ∷ in_turns (replicate k.shards 0) (map (λ w. w.0) k.opening.value)
 
 -- the crowd after the replay of a history from the opening words
 abbrev pub crowd_after : Setup → List Meeting → CrowdModel
@@ -93,7 +115,7 @@ pub record IsFirst (k : Setup) (history : List Meeting) (seat : ℕ → Option �
 
 -- LocksPart, of a view: the lock words of the shards that it holds name it
 abbrev pub LocksPart : Setup → List ℕ → View → Type 0
-LocksPart k words v = (s : ℕ) → In s v.held → (s < k.shards) × (slice_index words (lock_at s) ≡ v.number + 1)
+LocksPart k words v = (s : ℕ) → In s v.held → (s < k.shards) × (slice_index words (lock_at k s) ≡ v.number + 1)
 
 -- KnownPart: of whom it knows the word, it holds the shard, that agent is not due, and that is the agent's word
 abbrev pub KnownPart : Setup → List ℕ → View → Type 0
@@ -163,7 +185,7 @@ SettledPart k words views history =
 
 -- the field stands at a history, where `seat` gives the seat of each number that has one
 pub record StandsAt (k : Setup) (words : List ℕ) (views : List View) (history : List Meeting) (seat : ℕ → Option ℕ) : Type 0 where
-  pub wide : length words ≡ LOCKS + k.shards + agents_of k
+  pub wide : length words ≡ HEAD_WORDS + k.shards + agents_of k
   pub some_shard : 0 < k.shards
   pub few_seats : k.seats ≤ SEAT_LIMIT
   -- FounderPart
@@ -176,7 +198,7 @@ pub record StandsAt (k : Setup) (words : List ℕ) (views : List View) (history 
   pub grounded : (id : ℕ) × (seat 0 ≡ some id)
   pub sits : (n id : ℕ) → seat n ≡ some id → (v : View) × (get_elem? views id ≡ some v) × (v.live ≡ true) × (v.number ≡ n)
   -- LocksPart: a lock word is 0, or a view holds the shard
-  pub locked : (s : ℕ) → s < k.shards → (slice_index words (lock_at s) ≡ 0) ⊎ IsHeldBySome views s
+  pub locked : (s : ℕ) → s < k.shards → (slice_index words (lock_at k s) ≡ 0) ⊎ IsHeldBySome views s
   pub settled : SettledPart k words views history
   pub valid : ValidPart k words
   pub each : (id : ℕ) (v : View) → get_elem? views id ≡ some v → v.live ≡ true → Agrees k words history seat id v
@@ -186,7 +208,7 @@ pub record StandsAt (k : Setup) (words : List ℕ) (views : List View) (history 
 pub record IsUnfounded (k : Setup) (words : List ℕ) (views : List View) : Type 0 where
   pub limits : (0 < k.shards) × (0 < k.seats) × (k.seats ≤ SEAT_LIMIT)
   pub valid : AreValid k.net.value k.opening.value
-  pub fresh : words ≡ replicate (LOCKS + k.shards) 0 ++ map (λ w. w.0) k.opening.value
+  pub fresh : words ≡ opening_words k
   pub each : (id : ℕ) (v : View) → get_elem? views id ≡ some v → ((id ≡ 0) × (v ≡ founder k)) ⊎ (v ≡ joined_away)
 
 abbrev pub Stands : Setup → List ℕ → List View → Type 0

@@ -1,5 +1,5 @@
 -- What each step of a seat tells.
-use Rattle.std.specs.Prelude.{zero, suc, ◌≡◌, ◌≢◌, ℕ, ◌+◌, ◌-◌, ◌<◌, ◌≤◌, List, [], ◌∷◌, ◌++◌, length}
+use Rattle.std.specs.Prelude.{zero, suc, ◌≡◌, ◌≢◌, ℕ, ◌+◌, ◌<◌, ◌≤◌, List, [], ◌∷◌, ◌++◌, length}
 use Rattle.std.specs.Prelude.{slice_index_or, slice_set, replicate, Option as Maybe, Some as Given, None as Missing}
 use Rattle.atomic_table.specs.Table.{Me, Step}
 use Rattle.pop_net.specs.declared.net.Word.{Word}
@@ -9,13 +9,12 @@ use Rattle.pop_net.specs.Reaction.{reaction}
 use Rattle.pop_crowd.specs.declared.crowd.Meeting.{Meeting}
 use Rattle.pop_crowd.specs.Replay.{reacts}
 use Rattle.agent_field.specs.declared.limits.TheConstants.{LOG_LIMIT}
-use Rattle.agent_field.specs.declared.places.TheConstants.{LOCKS}
 use Rattle.agent_field.specs.declared.view.Logged.{Logged}
 use Rattle.agent_field.specs.declared.view.Look.{Look}
 use Rattle.agent_field.specs.declared.view.Setup.{Setup}
 use Rattle.agent_field.specs.declared.view.View.{View}
 use Rattle.agent_field.specs.History.{logged, calls, IsHistory}
-use Rattle.agent_field.specs.Standing.{In, agents_of, locks_of, idle, packed, tuple_after, IsLook}
+use Rattle.agent_field.specs.Standing.{In, agents_of, lock_at, agent_at, locks_of, idle, packed, tuple_after, IsLook}
 
 abbrev pub Mine : Type 0
 Mine = Me (Unit {0}) View
@@ -102,13 +101,14 @@ abbrev pub Founds : Step (Unit {0}) → Mine → ℕ → Mine → Type 0
 Founds st m r m' = (r ≡ 0) × (m' ≡ (first_seat m.0.setup, m.1))
 
 abbrev pub Locks : Step (Unit {0}) → Mine → ℕ → Mine → Type 0
-Locks st m r m' = (r ≡ 0 → m' ≡ (holding (st.word - LOCKS) m.0, m.1)) × (r ≢ 0 → m' ≡ m)
+Locks st m r m' = ((s : ℕ) → st.word ≡ lock_at m.0.setup s → r ≡ 0 → m' ≡ (holding s m.0, m.1)) × (r ≢ 0 → m' ≡ m)
 
 abbrev pub Unlocks : Step (Unit {0}) → Mine → ℕ → Mine → Type 0
 Unlocks st m r m' = m' ≡ (releasing m.0, m.1)
 
 abbrev pub Reads : Step (Unit {0}) → Mine → ℕ → Mine → Type 0
-Reads st m r m' = (m' ≡ (knowing (st.word - (LOCKS + m.0.setup.shards)) (packed r) m.0, m.1)) × IsValid m.0.setup.net.value (packed r)
+Reads st m r m' =
+    ((a : ℕ) → st.word ≡ agent_at m.0.setup a → m' ≡ (knowing a (packed r) m.0, m.1)) × IsValid m.0.setup.net.value (packed r)
 
 -- the pair whose words were read meets, and its new words are due
 pub record HasDrawn (ticket : ℕ) (m m' : Mine) : Type 0 where

@@ -1,15 +1,16 @@
 //! The end of a field: its words and its history.
 
-ghost use Rattle.std.specs.Prelude.{◌≡◌, ℕ, ◌+◌, ◌<◌, ◌≤◌, false, List as Items, length, map, [], IfOk, IsTrue, ◌↔◌};
+ghost use Rattle.std.specs.Prelude.{◌≡◌, ℕ, ◌+◌, ◌<◌, ◌≤◌, false, List as Items, length, [], IfOk, IsTrue, ◌↔◌};
 ghost use Rattle.std.specs.Prelude.{All, None};
-ghost use Rattle.std.specs.Prelude.{Some, drop, replicate, slice_index_or, vec_capacity};
+ghost use Rattle.std.specs.Prelude.{Some, replicate, slice_index_or, vec_capacity};
 ghost use Rattle.std.specs.Mem.Slots.{slots_items, slots_len, IsFull};
 ghost use Rattle.agent_field.specs.History.{placed, placed_some, placed_logs, made};
-ghost use Rattle.agent_field.specs.Standing.{packed};
+ghost use Rattle.agent_field.specs.Standing.{words_of_agents};
+ghost use Rattle.agent_field.specs.declared.places.TheConstants.{HEAD_WORDS};
 
 use crate::field::{Field, FieldSeat};
 use crate::limits::SEAT_LIMIT;
-use crate::places::{CLOCK, LOCKS};
+use crate::places::{CLOCK, place_of_agent};
 use crate::view::Logged;
 use atomic_table::Closed;
 use pop_crowd::Meeting;
@@ -85,17 +86,17 @@ fn arrange(
 /// The agents' words of a table.
 fn agent_words(
     closed: &Closed<(), Global>,
-    from: usize,
-    agents: usize,
+    shards: u32,
+    agents: u32,
     mut out: Vec<Word>,
 ) -> Vec<Word>
     requires full { IsFull closed.now.words }
-    requires count { slots_len closed.now.words ≡ from + agents }
+    requires count { slots_len closed.now.words ≡ HEAD_WORDS + shards + agents }
     requires room { (out.items ≡ []) × (agents ≤ vec_capacity out) }
-    ensures { result.items ≡ map packed (drop from (slots_items closed.now.words)) }
+    ensures { result.items ≡ words_of_agents shards agents (slots_items closed.now.words) }
 {
     for a in 0..agents {
-        out.push_reserved(Word(closed.word(from + a)));
+        out.push_reserved(Word(closed.word(place_of_agent(a, shards))));
     }
     out
 }
@@ -128,15 +129,13 @@ impl<'n> Field<'n> {
         requires whole { IsWhole seat }
         ensures { IfOk result (IsRoundOf self.entry seat) }
     {
-        let agents = self.agents as usize;
-        let from = LOCKS + self.shards as usize;
-        let room = Vec::with_capacity(alloc, agents)?;
+        let room = Vec::with_capacity(alloc, self.agents as usize)?;
         let Field {
             table,
             net: _,
-            shards: _,
+            shards,
             seats: _,
-            agents: _,
+            agents,
         } = self;
         let FieldSeat {
             seat: token,
@@ -151,7 +150,7 @@ impl<'n> Field<'n> {
         } = seat;
         let closed = table.close_with(token);
         let count = closed.word(CLOCK) as usize;
-        let words = agent_words(&closed, from, agents, room);
+        let words = agent_words(&closed, shards, agents, room);
         closed.free();
         let meetings = arrange(alloc, count, log.as_slice(), taken.as_slice())?;
         Ok(Round {

@@ -2,7 +2,7 @@
 
 ghost use Rattle.std.specs.Prelude.{◌≡◌, ◌+◌, ◌<◌, ◌≤◌, length, [], All, Some, OnOk, OnErr, vec_len, vec_capacity};
 ghost use Rattle.std.specs.Prelude.{slice_get};
-ghost use Rattle.agent_field.specs.declared.places.TheConstants.{LOCKS};
+ghost use Rattle.agent_field.specs.declared.places.TheConstants.{HEAD_WORDS};
 ghost use Rattle.agent_field.specs.declared.limits.TheConstants.{LOG_LIMIT, LOOK_LIMIT, SEAT_LIMIT};
 ghost use Rattle.agent_field.specs.Standing.{idle};
 
@@ -24,7 +24,7 @@ pub struct Field<'n> {
     ghost shards_are: { table.shared.key.shards ≡ shards },
     ghost seats_are: { table.shared.key.seats ≡ seats },
     ghost agents_are: { length table.shared.key.opening.value ≡ agents },
-    ghost words_are: { table.shared.table_id.words ≡ LOCKS + shards + agents },
+    ghost words_are: { table.shared.table_id.words ≡ HEAD_WORDS + shards + agents },
     ghost no_slots: { table.shared.table_id.slots ≡ 0 },
     ghost limits: { (0 < shards) × (0 < seats) × (seats ≤ SEAT_LIMIT) },
 }

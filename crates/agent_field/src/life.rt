@@ -1,12 +1,12 @@
 //! How a field begins, and how its seats are dealt and taken in.
 
-ghost use Rattle.agent_field.specs.declared.places.TheConstants.{LOCKS as LOCKS_AT};
-ghost use Rattle.std.specs.Prelude.{◌≡◌, ◌+◌, ◌<◌, ◌≤◌, length, map, ◌++◌, IfOk, IfErr, OnOk, OnErr, replicate};
+ghost use Rattle.std.specs.Prelude.{◌≡◌, ◌+◌, ◌<◌, ◌≤◌, length, map, ◌∷◌, IfOk, IfErr, OnOk, OnErr, replicate};
 ghost use Rattle.std.specs.Prelude.{slice_set, slice_index_or, None, Some};
+ghost use Rattle.agent_field.specs.Standing.{in_turns};
 
 use crate::field::{Field, FieldSeat};
 use crate::limits::SEAT_LIMIT;
-use crate::places::{FOUNDER, LOCKS};
+use crate::places::{FOUNDER, HEAD_WORDS, place_of_agent};
 use crate::view::{Deal, Found, Logged, Rule, Setup, View};
 use atomic_table::Table;
 use pop_crowd::{AGENT_LEAST, AGENT_LIMIT};
@@ -18,11 +18,12 @@ use std::sync::Wait;
 
 /// The words of a table before its field is founded.
 fn layout(alloc: Global, words: &[Word], shards: u32) -> Result<Vec<u64>, NoMemory>
-    ensures { IfOk result (λ all. all.items ≡ replicate (LOCKS_AT + shards) 0 ++ map (λ w. w.0) words.now) }
+    requires { length words.now ≤ AGENT_LIMIT }
+    ensures { IfOk result (λ all. all.items ≡ 0 ∷ 0 ∷ in_turns (replicate shards 0) (map (λ w. w.0) words.now)) }
 {
-    let mut all = vec![in alloc; 0u64; LOCKS + shards as usize]?;
-    for word in words {
-        all.push(word.0)?;
+    let mut all = vec![in alloc; 0u64; HEAD_WORDS + shards as usize + words.len()]?;
+    for (a, word) in words.iter().enumerate() {
+        all[place_of_agent(a as u32, shards)] = word.0;
     }
     Ok(all)
 }

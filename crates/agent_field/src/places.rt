@@ -1,4 +1,8 @@
-//! Where the words of a field stand in its table. Behind the locks of the shards come the words of the agents.
+//! Where the words of a field stand in its table. Behind the clock and the founder word, the locks of the shards and the
+//! words of the agents take turns, so that with as many shards as agents each lock stands before its agent's word.
+
+ghost use Rattle.std.specs.Prelude.{◌≡◌};
+ghost use Rattle.agent_field.specs.Standing.{lock_place, agent_place};
 
 /// The number of meetings so far.
 pub(crate) const CLOCK: usize = 0;
@@ -6,5 +10,20 @@ pub(crate) const CLOCK: usize = 0;
 /// 1 once the field is founded.
 pub(crate) const FOUNDER: usize = 1;
 
-/// The lock of shard 0, and then those of the others.
-pub(crate) const LOCKS: usize = 2;
+/// How many words stand before those that take turns.
+pub(crate) const HEAD_WORDS: usize = 2;
+
+/// The place of a shard's lock.
+pub(crate) fn place_of_lock(shard: u32, agents: u32) -> usize
+    ensures { result ≡ lock_place agents shard }
+{
+    HEAD_WORDS + shard as usize + shard.min(agents) as usize
+}
+
+/// The place of an agent's word.
+pub(crate) fn place_of_agent(agent: u32, shards: u32) -> usize
+    ensures { result ≡ agent_place shards agent }
+{
+    let agent = agent as usize;
+    HEAD_WORDS + agent + (agent + 1).min(shards as usize)
+}

@@ -8,7 +8,7 @@ ghost use Rattle.agent_field.specs.Steps.{holding, releasing, knowing, writing, 
 ghost use Rattle.agent_field.specs.Steps.{IsNewest, IsDrawnAt, IsSeenAt};
 
 use crate::field::Field;
-use crate::places::{CLOCK, LOCKS};
+use crate::places::{CLOCK, place_of_agent, place_of_lock};
 use crate::view::{Draw, Lock, Read, Unlock, View, Watch, Write};
 use atomic_table::Seat;
 use pop_net::Word;
@@ -27,11 +27,12 @@ impl<'n> Field<'n> {
         ensures table { token.new.table_id ≡ token.old.table_id }
         ensures held { token.new.me ≡ (holding s token.old.me.0, token.old.me.1) }
     {
+        let at = place_of_lock(s, self.agents);
         for _ in rt.forever() {
             let found = self
                 .table
                 .shared
-                .compare_exchange::<Lock>(token, LOCKS + s as usize, 0, number as u64 + 1);
+                .compare_exchange::<Lock>(token, at, 0, number as u64 + 1);
             if found == 0 {
                 return;
             }
@@ -49,9 +50,8 @@ impl<'n> Field<'n> {
         ensures table { token.new.table_id ≡ token.old.table_id }
         ensures freed { token.new.me ≡ (releasing token.old.me.0, token.old.me.1) }
     {
-        self.table
-            .shared
-            .store::<Unlock>(token, LOCKS + s as usize, 0);
+        let at = place_of_lock(s, self.agents);
+        self.table.shared.store::<Unlock>(token, at, 0);
     }
 
     /// Reads an agent's word, under its shard's lock.
@@ -64,8 +64,8 @@ impl<'n> Field<'n> {
         ensures known { token.new.me ≡ (knowing a result token.old.me.0, token.old.me.1) }
         ensures valid { IsValid self.now.net.now result }
     {
-        let word = LOCKS + self.shards as usize + a as usize;
-        Word(self.table.shared.load::<Read>(token, word))
+        let at = place_of_agent(a, self.shards);
+        Word(self.table.shared.load::<Read>(token, at))
     }
 
     /// Draws a ticket for the pair whose words were read.
@@ -90,7 +90,7 @@ impl<'n> Field<'n> {
         ensures table { token.new.table_id ≡ token.old.table_id }
         ensures written { token.new.me ≡ (writing token.old.me.0, token.old.me.1) }
     {
-        let at = LOCKS + self.shards as usize + a as usize;
+        let at = place_of_agent(a, self.shards);
         self.table.shared.store::<Write>(token, at, word.0);
     }
 

@@ -1,6 +1,12 @@
-use Rattle.std.proofs.Common.{◌≡◌, ◌+◌, ◌++◌, map, replicate, take}
-use Rattle.pop_net.specs.declared.net.Word.{Word}
+use Rattle.std.proofs.Common.{◌≡◌, ℕ, List, ◌∷◌, length, replicate}
+use Rattle.agent_field.specs.Standing.{in_turns}
+use Rattle.agent_field.proofs.InTurns.{AreWrittenTo}
 use Rattle.agent_field.proofs.life.layout.Given as goal
 
-abbrev pub invariant-loop-word : goal.invariant-loop-word
-invariant-loop-word l = l.all.items ≡ replicate (2 + l.shards) 0 ++ map (λ (w : Word). w.0) (take l.word-index l.words)
+abbrev pub invariant-loop-a : goal.invariant-loop-a
+invariant-loop-a l = record {
+  numbers : List ℕ;
+  laid : l.all.items ≡ 0 ∷ 0 ∷ in_turns (replicate l.shards 0) numbers;
+  count : length numbers ≡ length l.words;
+  written : AreWrittenTo l.a numbers l.words;
+}

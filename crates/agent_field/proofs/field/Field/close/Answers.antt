@@ -1,8 +1,8 @@
 use Rattle.std.specs.Mem.Slots.{slots_items}
-use Rattle.std.proofs.Common.{ℕ, drop, map, ◌+◌, ◌∙◌, ap, sym, List, get_or, None}
+use Rattle.std.proofs.Common.{◌∙◌, ap, sym, List, get_or, None}
 use Rattle.std.proofs.Math.ListN.{replicate}
 use Rattle.agent_field.specs.History.{placed, placed_logs}
-use Rattle.agent_field.specs.Standing.{packed}
+use Rattle.agent_field.specs.Standing.{words_of_agents}
 use Rattle.agent_field.proofs.Arranged.{nobody}
 use Rattle.agent_field.proofs.Closing.{IsRoundOf, the_end, rounds, at_value, tickets_below}
 use Rattle.agent_field.proofs.field.Field.close.Goals.{After-drop-seat-3}
@@ -26,7 +26,7 @@ round_of c =
     let s = c.args.seat in
     let e = the_end c.args.self s _ _ c.close_with-closed.ensures.values.2 c.requires.whole in
     let put = c.from_vec-2.ensures ∙ c.in_ok-meetings.ensures ∙ (λ i. placed_logs (0, placed 0 (replicate c.word-count.result nobody) (c.as_slice.ensures.value i)) (c.as_slice-2.ensures.value i)) in
-    let read = c.from_vec.ensures ∙ c.agent_words-words.ensures ∙ ap (λ (n : ℕ). map packed (drop (2 + n) (slots_items c.close_with-closed.result.words))) (sym c.args.self.shards_are) in
+    let read = c.from_vec.ensures ∙ c.agent_words-words.ensures ∙ (λ i. words_of_agents (sym c.args.self.shards_are i) (sym c.args.self.agents_are i) (slots_items c.close_with-closed.result.words)) in
     rounds c.args.self.table.shared.key _ s.log.items s.taken.items s.looks.items c.word-count.result c.from_vec.result c.from_vec-2.result e c.word-count.ensures read put
 
 pub returns : goal.returns
