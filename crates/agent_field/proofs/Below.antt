@@ -5,7 +5,8 @@ use Rattle.std.proofs.lemmas.List.{get_or_append_left, get_or-append-add}
 use Rattle.pop_net.specs.declared.net.Word.{Word}
 use Rattle.agent_field.specs.declared.view.Setup.{Setup}
 use Rattle.agent_field.specs.Standing.{In, agents_of}
-use Rattle.agent_field.specs.Steps.{Mine, below, seen, with_known, with_locks, HasReadAll, HasSeenAll}
+use Rattle.agent_field.specs.Steps.{Mine, below, seen, with_known, with_locks, HasSeenAll}
+use Rattle.agent_field.specs.Tokens.{Token, Becomes, HasReadAll}
 
 pub In-below : (t n : ℕ) → t < n → In t (below n)
 In-below t zero h = absurd (omega arith)
@@ -38,13 +39,13 @@ held_again m held locks due i = (
 )
 
 -- all words were read under all locks
-pub saw_all : (k : Setup) (m m₁ m₂ : Mine) (shards agents : ℕ) (words : List Word) → m.0.number ≡ 0 → m₁ ≡ (with_locks (below shards) m.0, m.1) → HasReadAll agents words m₁ m₂ → length words ≡ agents → k.shards ≡ shards → agents_of k ≡ agents → HasSeenAll k m₂.0
-saw_all k m m₁ m₂ shards agents words zeroth locked h long all_shards all_agents =
-    let now : m₂ ≡ (with_known h.known (with_locks (below shards) m.0), m.1) = h.read ∙ ap (λ (n : Mine). (with_known h.known n.0, n.1)) locked in
-    let same : seen m₂.0.known ≡ words = ap (λ (n : Mine). seen n.0.known) now ∙ h.these in record {
+pub saw_all : (k : Setup) (t t₁ t₂ : Token) (shards agents : ℕ) (words : List Word) → t.me.0.number ≡ 0 → Becomes t t₁ (with_locks (below shards) t.me.0) → HasReadAll agents words t₁ t₂ → k.shards ≡ shards → agents_of k ≡ agents → HasSeenAll k t₂.me.0
+saw_all k t t₁ t₂ shards agents words zeroth locked h all_shards all_agents =
+    let now : t₂.me ≡ (with_known h.known (with_locks (below shards) t.me.0), t.me.1) = h.read.me ∙ ap (λ (n : Mine). (with_known h.known n.0, n.1)) locked.me in
+    let same : seen t₂.me.0.known ≡ words = ap (λ (n : Mine). seen n.0.known) now ∙ h.these in record {
       first = ap (λ (n : Mine). n.0.number) now ∙ zeroth;
       locked = λ s l. subst (In s) (sym (ap (λ (n : Mine). n.0.held) now)) (In-below s shards (omega arith));
-      whole = ap (length {A = Word}) same ∙ long ∙ sym all_agents;
+      whole = ap (length {A = Word}) same ∙ h.whole ∙ sym all_agents;
       all = λ a d l. subst (λ (p : List Word × List (ℕ × Word)). In (a, get_or p.0 a d) p.1) (λ i. (sym same i, sym (ap (λ (n : Mine). n.0.known) now) i)) (h.each a d (omega arith));
       due = ap (λ (n : Mine). n.0.due) now;
     }

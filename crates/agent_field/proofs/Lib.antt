@@ -12,5 +12,6 @@ pub mod Drawn
 pub mod Arranged
 pub mod Closing
 pub mod Below
+pub mod Usable
 pub mod OneHistory
 pub mod Called

@@ -3,3 +3,5 @@ pub mod Standing
 pub mod Steps
 pub mod Kinds
 pub mod Seats
+pub mod Tokens
+pub mod Calls

@@ -1,6 +1,5 @@
 -- Which field a seat is of, what it keeps, and what its calls say.
-use Rattle.std.specs.Prelude.{◌≡◌, ◌≢◌, All, ℕ, ◌<◌, ◌≤◌, Bool, true, List, [], length, IsSome, None, Some, Option, slice_index_or}
-use Rattle.atomic_table.specs.Seated.{TableId}
+use Rattle.std.specs.Prelude.{◌≡◌, ◌≢◌, All, ℕ, ◌<◌, ◌≤◌, Bool, List, [], length, IsSome, None, Some, Option, slice_index_or}
 use Rattle.pop_net.specs.declared.net.Word.{Word}
 use Rattle.pop_net.specs.NetModel.{NetModel, CrowdModel}
 use Rattle.pop_net.specs.Lanes.{crowd_of, AreValid}
@@ -12,7 +11,6 @@ use Rattle.agent_field.specs.declared.field.Met.{Met}
 use Rattle.agent_field.specs.declared.close.Round.{Round}
 use Rattle.agent_field.specs.declared.view.Logged.{Logged}
 use Rattle.agent_field.specs.declared.view.Look.{Look}
-use Rattle.agent_field.specs.declared.view.View.{View}
 use Rattle.agent_field.specs.History.{IsHistory, calls}
 use Rattle.agent_field.specs.Standing.{In, IsLook}
 
@@ -44,18 +42,22 @@ start_of f = crowd_of (net_of f) (opening_of f)
 abbrev pub IsSeatOf : Field → FieldSeat → Type 0
 IsSeatOf f s = (s.seat.table_id ≡ f.table.shared.table_id) × (s.seat.me.0.setup ≡ f.table.shared.key)
 
--- a token of the field's table, with which its seat may take steps
-pub record IsUsable (f : Field) (id : TableId) (v : View) : Type 0 where
-  pub table : id ≡ f.table.shared.table_id
-  pub live : v.live ≡ true
-  pub ours : v.setup ≡ f.table.shared.key
-
 -- the seat is still of the same field
 abbrev pub KeepsField : FieldSeat → FieldSeat → Type 0
 KeepsField s t = (t.seat.table_id ≡ s.seat.table_id) × (t.seat.me.0.setup ≡ s.seat.me.0.setup)
 
 abbrev pub number_of : FieldSeat → ℕ
 number_of s = s.number
+
+-- the field's number 0
+abbrev pub IsFirstOf : Field → FieldSeat → Type 0
+IsFirstOf f s = IsSeatOf f s × (number_of s ≡ 0)
+
+-- two different agents of the field
+pub record IsPairOf (f : Field) (a b : ℕ) : Type 0 where
+  pub different : a ≢ b
+  pub a_in : a < length (opening_of f)
+  pub b_in : b < length (opening_of f)
 
 -- its own meetings
 abbrev pub log_of : FieldSeat → List Logged

@@ -168,10 +168,3 @@ below (suc n) = n ∷ below n
 
 abbrev pub with_known : List (ℕ × Word) → View → View
 with_known known v = record v { known = known }
-
--- these are the known words, of all agents below so many
-pub record HasReadAll (agents : ℕ) (words : List Word) (m m' : Mine) : Type 0 where
-  pub known : List (ℕ × Word)
-  pub read : m' ≡ (with_known known m.0, m.1)
-  pub these : seen known ≡ words
-  pub each : (a : ℕ) (d : Word) → a < agents → In (a, slice_index_or words a d) known

@@ -69,9 +69,8 @@ fn arrange(
     taken: &[Option<List<Logged>>],
 ) -> Result<Vec<Meeting>, NoMemory>
     requires few { length taken.now ≤ SEAT_LIMIT }
-    requires own { All (λ e. e.ticket < count) own.now }
-    requires taken { (w : ℕ) (l : Items Logged) → slice_index_or taken.now w None ≡ Some l
-        → All (λ e. e.ticket < count) l }
+    requires tickets { All (λ e. e.ticket < count) own.now
+        × ((w : ℕ) (l : Items Logged) → slice_index_or taken.now w None ≡ Some l → All (λ e. e.ticket < count) l) }
     ensures { IfOk result
         (λ v. v.items ≡ placed_logs (0, placed 0 (replicate count (made 0 0 0 false)) own.now) taken.now) }
 {
@@ -90,8 +89,7 @@ fn agent_words(
     agents: u32,
     mut out: Vec<Word>,
 ) -> Vec<Word>
-    requires full { IsFull closed.now.words }
-    requires count { slots_len closed.now.words ≡ HEAD_WORDS + shards + agents }
+    requires full { IsFull closed.now.words × (slots_len closed.now.words ≡ HEAD_WORDS + shards + agents) }
     requires room { (out.items ≡ []) × (agents ≤ vec_capacity out) }
     ensures { result.items ≡ words_of_agents shards agents (slots_items closed.now.words) }
 {

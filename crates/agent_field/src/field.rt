@@ -1,6 +1,6 @@
 //! The field and its seats.
 
-ghost use Rattle.std.specs.Prelude.{◌≡◌, ◌+◌, ◌<◌, ◌≤◌, length, [], All, Some, OnOk, OnErr, vec_len, vec_capacity};
+ghost use Rattle.std.specs.Prelude.{◌≡◌, ◌+◌, ◌<◌, ◌≤◌, length, [], All, Some, vec_len, vec_capacity};
 ghost use Rattle.std.specs.Prelude.{slice_get};
 ghost use Rattle.agent_field.specs.declared.places.TheConstants.{HEAD_WORDS};
 ghost use Rattle.agent_field.specs.declared.limits.TheConstants.{LOG_LIMIT, LOOK_LIMIT, SEAT_LIMIT};
@@ -72,8 +72,8 @@ impl<'n> Field<'n> {
 }
 
 impl FieldSeat {
-    ghost use Rattle.agent_field.specs.Seats.{number_of, log_of, made_of, spare_of, left_of, looks_of, spare_looks_of};
-    ghost use Rattle.agent_field.specs.Seats.{KeepsField, KeepsRest};
+    ghost use Rattle.agent_field.specs.Seats.{number_of, made_of, spare_of, left_of, looks_of, spare_looks_of};
+    ghost use Rattle.agent_field.specs.Calls.{HasReserved};
 
     /// The seat's number, from 0.
     pub fn number(&self) -> u16
@@ -128,11 +128,7 @@ impl FieldSeat {
     /// Room for so many more meetings.
     pub fn reserve(&mut self, turns: u64) -> Result<(), NoMemory>
         requires { made_of self.old + turns ≤ LOG_LIMIT }
-        ensures room { OnOk result (turns ≤ spare_of self.new) }
-        ensures none { OnErr result (spare_of self.new ≡ spare_of self.old) }
-        ensures own { log_of self.new ≡ log_of self.old }
-        ensures rest { KeepsRest self.old self.new }
-        ensures field { KeepsField self.old self.new }
+        ensures { HasReserved turns result self.old self.new }
     {
         if self.spare < turns {
             self.log.reserve(turns as usize)?;

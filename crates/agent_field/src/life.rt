@@ -1,7 +1,6 @@
 //! How a field begins, and how its seats are dealt and taken in.
 
-ghost use Rattle.std.specs.Prelude.{◌≡◌, ◌+◌, ◌<◌, ◌≤◌, length, map, ◌∷◌, IfOk, IfErr, OnOk, OnErr, replicate};
-ghost use Rattle.std.specs.Prelude.{slice_set, slice_index_or, None, Some};
+ghost use Rattle.std.specs.Prelude.{◌≡◌, ◌+◌, ◌<◌, ◌≤◌, length, map, ◌∷◌, IfOk, replicate, None};
 ghost use Rattle.agent_field.specs.Standing.{in_turns};
 
 use crate::field::{Field, FieldSeat};
@@ -40,8 +39,8 @@ fn no_logs(alloc: Global, seats: u16) -> Result<Vec<Option<List<Logged>>>, NoMem
 
 impl<'n> Field<'n> {
     ghost use Rattle.pop_net.specs.Lanes.{AreValid};
-    ghost use Rattle.agent_field.specs.Seats.{IsOpened, IsSeatOf, number_of, log_of, next_of, left_of, taken_of};
-    ghost use Rattle.agent_field.specs.Seats.{IsFresh, KeepsOwn};
+    ghost use Rattle.agent_field.specs.Seats.{IsFirstOf, IsSeatOf, left_of};
+    ghost use Rattle.agent_field.specs.Calls.{IsOpening, HasSplit, HasJoined};
 
     /// A field with these words, and its seat with the number 0.
     pub fn open<R: Wait>(
@@ -56,10 +55,7 @@ impl<'n> Field<'n> {
         requires agents { (AGENT_LEAST ≤ length words) × (length words ≤ AGENT_LIMIT) }
         requires shards { (1 ≤ shards) × (shards ≤ SHARD_LIMIT) }
         requires seats { (1 ≤ seats) × (seats ≤ SEAT_LIMIT) }
-        ensures field { IfOk result (λ r. IsOpened r.0 net.now words shards seats) }
-        ensures ours { IfOk result (λ r. IsSeatOf r.0 r.1) }
-        ensures first { IfOk result (λ r. (number_of r.1 ≡ 0) × (next_of r.1 ≡ 1) × (left_of r.1 + 1 ≡ seats)) }
-        ensures fresh { IfOk result (λ r. IsFresh r.1 × (taken_of r.1 ≡ replicate seats None)) }
+        ensures { IfOk result (λ r. IsOpening r.0 r.1 net.now words shards seats) }
     {
         // No other seat can have founded the field, so there is nobody to wait for.
         let _ = rt;
@@ -101,16 +97,9 @@ impl<'n> Field<'n> {
 
     /// A new seat, with the least number that is left. It allocates nothing today.
     pub fn split(&self, alloc: Global, seat: &mut FieldSeat) -> Result<FieldSeat, NoMemory>
-        requires ours { IsSeatOf self.now seat.old }
-        requires first { number_of seat.old ≡ 0 }
+        requires first { IsFirstOf self.now seat.old }
         requires left { 1 ≤ left_of seat.old }
-        ensures ours { IsSeatOf self.now seat.new }
-        ensures theirs { IfOk result (IsSeatOf self.now) }
-        ensures new { IfOk result (λ r. (number_of r ≡ next_of seat.old) × (left_of r ≡ 0) × IsFresh r) }
-        ensures dealt { OnOk result
-            ((next_of seat.new ≡ next_of seat.old + 1) × (left_of seat.new + 1 ≡ left_of seat.old)) }
-        ensures rest { KeepsOwn seat.old seat.new × (taken_of seat.new ≡ taken_of seat.old) }
-        ensures refused { OnErr result ((next_of seat.new ≡ next_of seat.old) × (left_of seat.new ≡ left_of seat.old)) }
+        ensures { HasSplit self.now result seat.old seat.new }
     {
         let token = self.table.shared.split_seat::<Deal>(&mut seat.seat);
         let number = seat.next;
@@ -131,16 +120,9 @@ impl<'n> Field<'n> {
 
     /// Takes in another seat's log, under its number. It allocates nothing today.
     pub fn join(&self, seat: &mut FieldSeat, other: FieldSeat) -> Result<(), (FieldSeat, NoMemory)>
-        requires ours { IsSeatOf self.now seat.old }
+        requires first { IsFirstOf self.now seat.old }
         requires theirs { IsSeatOf self.now other }
-        requires first { number_of seat.old ≡ 0 }
-        ensures ours { IsSeatOf self.now seat.new }
-        ensures taken { OnOk result
-            (taken_of seat.new ≡ slice_set (taken_of seat.old) (number_of other) (Some (log_of other))) }
-        ensures there { OnOk result (slice_index_or (taken_of seat.new) (number_of other) None ≡ Some (log_of other)) }
-        ensures rest { KeepsOwn seat.old seat.new × (next_of seat.new ≡ next_of seat.old)
-            × (left_of seat.new ≡ left_of seat.old) }
-        ensures refused { IfErr result (λ r. (r.0 ≡ other) × (taken_of seat.new ≡ taken_of seat.old)) }
+        ensures { HasJoined self.now other result seat.old seat.new }
     {
         let FieldSeat {
             seat: token,

@@ -1,9 +1,7 @@
 //! Looks at all agents at once.
 
-ghost use Rattle.std.specs.Prelude.{◌≡◌, ◌+◌, ◌<◌, ◌≤◌, List as Items, length, [], ◌∷◌, ◌++◌, vec_capacity, All, IfOk};
-ghost use Rattle.std.specs.Prelude.{OnOk, OnErr};
-ghost use Rattle.pop_net.specs.declared.net.Word.{Word as WordModel};
-ghost use Rattle.agent_field.specs.Steps.{below, with_locks, look_of, HasReadAll};
+ghost use Rattle.std.specs.Prelude.{◌≡◌, ◌+◌, ◌≤◌, length, [], vec_capacity, All, IfOk};
+ghost use Rattle.agent_field.specs.Steps.{below, with_locks};
 
 use crate::field::{Field, FieldSeat};
 use crate::limits::LOOK_LIMIT;
@@ -27,16 +25,14 @@ fn look_rooms(alloc: Global, looks: u16, agents: u32) -> Result<Vec<Vec<Word>>, 
 }
 
 impl<'n> Field<'n> {
-    ghost use Rattle.agent_field.specs.Seats.{opening_of, IsUsable, IsSeatOf, number_of, looks_of, spare_looks_of};
-    ghost use Rattle.agent_field.specs.Seats.{KeepsLogs, IsNewestOf, IsGlance};
+    ghost use Rattle.agent_field.specs.Tokens.{IsIdle, HasLocked, HoldsJust, HasReadAll, Becomes};
+    ghost use Rattle.agent_field.specs.Seats.{IsFirstOf, looks_of, spare_looks_of};
+    ghost use Rattle.agent_field.specs.Calls.{HasReservedLooks, HasLooked};
 
     /// Takes the locks of all shards, in ascending order.
     pub(crate) fn lock_all<R: Wait>(&self, rt: &R, token: &mut Seat<(), View>, number: u16)
-        requires usable { IsUsable self.now token.old.table_id token.old.me.0 }
-        requires number { token.old.me.0.number ≡ number }
-        requires clear { (token.old.me.0.held ≡ []) × (token.old.me.0.known ≡ []) × (token.old.me.0.due ≡ []) }
-        ensures table { token.new.table_id ≡ token.old.table_id }
-        ensures locked { token.new.me ≡ (with_locks (below self.now.shards) token.old.me.0, token.old.me.1) }
+        requires { IsIdle self.now number token.old }
+        ensures { Becomes token.old token.new (with_locks (below self.now.shards) token.old.me.0) }
     {
         for s in 0..self.shards {
             self.lock(rt, token, number, s);
@@ -45,13 +41,9 @@ impl<'n> Field<'n> {
 
     /// Reads all words, under the locks of all shards, into a list that has the room.
     fn read_all(&self, token: &mut Seat<(), View>, mut out: Vec<Word>) -> Vec<Word>
-        requires usable { IsUsable self.now token.old.table_id token.old.me.0 }
-        requires held { token.old.me.0.held ≡ below self.now.shards }
-        requires clear { (token.old.me.0.known ≡ []) × (token.old.me.0.due ≡ []) }
+        requires locked { HasLocked self.now (below self.now.shards) token.old }
         requires room { (out.items ≡ []) × (self.now.agents ≤ vec_capacity out) }
-        ensures table { token.new.table_id ≡ token.old.table_id }
-        ensures known { HasReadAll self.now.agents result.items token.old.me token.new.me }
-        ensures all { length result.items ≡ self.now.agents }
+        ensures { HasReadAll self.now.agents result.items token.old token.new }
     {
         for a in 0..self.agents {
             out.push_reserved(self.read(token, a));
@@ -61,12 +53,8 @@ impl<'n> Field<'n> {
 
     /// Gives the locks of all shards back, in descending order.
     fn unlock_all(&self, token: &mut Seat<(), View>)
-        requires usable { IsUsable self.now token.old.table_id token.old.me.0 }
-        requires held { token.old.me.0.held ≡ below self.now.shards }
-        requires due { token.old.me.0.due ≡ [] }
-        requires some { 0 < self.now.shards }
-        ensures table { token.new.table_id ≡ token.old.table_id }
-        ensures freed { token.new.me ≡ (with_locks [] token.old.me.0, token.old.me.1) }
+        requires { HoldsJust self.now (below self.now.shards) token.old }
+        ensures { Becomes token.old token.new (with_locks [] token.old.me.0) }
     {
         for s in (0..self.shards).rev() {
             self.unlock(token, s);
@@ -80,14 +68,9 @@ impl<'n> Field<'n> {
         seat: &mut FieldSeat,
         looks: u16,
     ) -> Result<(), NoMemory>
-        requires ours { IsSeatOf self.now seat.old }
-        requires first { number_of seat.old ≡ 0 }
+        requires first { IsFirstOf self.now seat.old }
         requires limit { length (looks_of seat.old) + looks ≤ LOOK_LIMIT }
-        ensures ours { IsSeatOf self.now seat.new }
-        ensures room { OnOk result (looks ≤ spare_looks_of seat.new) }
-        ensures refused { OnErr result (spare_looks_of seat.new ≡ spare_looks_of seat.old) }
-        ensures looks { looks_of seat.new ≡ looks_of seat.old }
-        ensures rest { KeepsLogs seat.old seat.new }
+        ensures { HasReservedLooks self.now looks result seat.old seat.new }
     {
         if seat.rooms.len() < looks as usize {
             let rooms = look_rooms(alloc, looks, self.agents)?;
@@ -100,16 +83,9 @@ impl<'n> Field<'n> {
     /// Looks at all agents, under the locks of all shards, and answers the ticket of the next meeting.
     /// It may wait for a lock, and allocates nothing.
     pub fn look<R: Wait>(&self, rt: &R, seat: &mut FieldSeat) -> u64
-        requires ours { IsSeatOf self.now seat.old }
-        requires first { number_of seat.old ≡ 0 }
+        requires first { IsFirstOf self.now seat.old }
         requires room { 1 ≤ spare_looks_of seat.old }
-        ensures ours { IsSeatOf self.now seat.new }
-        ensures looked { (words : Items WordModel)
-            × (looks_of seat.new ≡ looks_of seat.old ++ look_of result words ∷ [])
-            × (length words ≡ length (opening_of self.now)) × IsGlance self.now seat.old (look_of result words) }
-        ensures spare { spare_looks_of seat.new + 1 ≡ spare_looks_of seat.old }
-        ensures newest { IsNewestOf result seat.old }
-        ensures rest { KeepsLogs seat.old seat.new }
+        ensures { HasLooked self.now result seat.old seat.new }
     {
         let Some(room) = seat.rooms.pop() else {
             unreachable!()

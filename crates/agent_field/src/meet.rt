@@ -1,11 +1,10 @@
 //! A meeting: two agents react under the locks of their shards.
 
-ghost use Rattle.std.specs.Prelude.{◌≡◌, ◌≢◌, ◌+◌, ◌<◌, ◌≤◌, ◌==◌, length, [], ◌∷◌, ◌++◌};
+ghost use Rattle.std.specs.Prelude.{◌≡◌, ◌≢◌, ◌<◌, ◌≤◌, ◌==◌, length, []};
 ghost use Rattle.pop_net.specs.Lanes.{tuple_of, IsValid};
 ghost use Rattle.pop_crowd.specs.Replay.{reacts};
-ghost use Rattle.agent_field.specs.History.{logged};
 ghost use Rattle.agent_field.specs.Standing.{locks_of, pair_locks};
-ghost use Rattle.agent_field.specs.Steps.{recorded, with_locks, IsReaction, IsNewest};
+ghost use Rattle.agent_field.specs.Steps.{with_locks, IsReaction};
 
 use crate::field::{Field, FieldSeat, Met};
 use crate::limits::LOG_LIMIT;
@@ -18,8 +17,7 @@ use std::sync::Wait;
 
 /// What two words become, and whether that changes one.
 fn reacted(net: &Net, x: Word, y: Word) -> (Word, Word, bool)
-    requires first { IsValid net.now x }
-    requires second { IsValid net.now y }
+    requires { IsValid net.now x × IsValid net.now y }
     ensures reacted { IsReaction net.now x y result.0 result.1 }
     ensures changed { result.2 ≡ reacts net.now (tuple_of net.now x) (tuple_of net.now y) }
 {
@@ -28,8 +26,9 @@ fn reacted(net: &Net, x: Word, y: Word) -> (Word, Word, bool)
 }
 
 impl<'n> Field<'n> {
-    ghost use Rattle.agent_field.specs.Seats.{opening_of, IsUsable, IsSeatOf, log_of, spare_of, KeepsRest, IsMoment};
-    ghost use Rattle.agent_field.specs.Seats.{IsNewestOf, IsMetAt};
+    ghost use Rattle.agent_field.specs.Tokens.{IsIdle, HasLocked, HoldsJust, HasReacted, Becomes};
+    ghost use Rattle.agent_field.specs.Seats.{IsPairOf, IsSeatOf, spare_of};
+    ghost use Rattle.agent_field.specs.Calls.{HasMet};
 
     /// Takes the locks of a pair's shards, the lower one first.
     fn lock_pair<R: Wait>(
@@ -40,13 +39,9 @@ impl<'n> Field<'n> {
         low: u32,
         high: u32,
     )
-        requires usable { IsUsable self.now token.old.table_id token.old.me.0 }
-        requires number { token.old.me.0.number ≡ number }
+        requires idle { IsIdle self.now number token.old }
         requires shards { (low ≤ high) × (high < self.now.shards) }
-        requires clear { (token.old.me.0.held ≡ []) × (token.old.me.0.known ≡ []) × (token.old.me.0.due ≡ []) }
-        ensures table { token.new.table_id ≡ token.old.table_id }
-        ensures locked { token.new.me
-            ≡ (with_locks (pair_locks low high (low == high)) token.old.me.0, token.old.me.1) }
+        ensures { Becomes token.old token.new (with_locks (pair_locks low high (low == high)) token.old.me.0) }
     {
         if low == high {
             self.lock(rt, token, number, low);
@@ -58,12 +53,9 @@ impl<'n> Field<'n> {
 
     /// Gives the locks back, the higher one first.
     fn unlock_pair(&self, token: &mut Seat<(), View>, low: u32, high: u32)
-        requires usable { IsUsable self.now token.old.table_id token.old.me.0 }
         requires shards { (low ≤ high) × (high < self.now.shards) }
-        requires locked { token.old.me.0.held ≡ pair_locks low high (low == high) }
-        requires due { token.old.me.0.due ≡ [] }
-        ensures table { token.new.table_id ≡ token.old.table_id }
-        ensures freed { token.new.me ≡ (with_locks [] token.old.me.0, token.old.me.1) }
+        requires locked { HoldsJust self.now (pair_locks low high (low == high)) token.old }
+        ensures { Becomes token.old token.new (with_locks [] token.old.me.0) }
     {
         if low == high {
             self.unlock(token, low);
@@ -75,15 +67,10 @@ impl<'n> Field<'n> {
 
     /// Under the locks of both agents: reads both words, draws a ticket, and writes both words.
     fn react_pair(&self, token: &mut Seat<(), View>, a: u32, b: u32) -> (u64, bool)
-        requires usable { IsUsable self.now token.old.table_id token.old.me.0 }
+        requires locked { HasLocked self.now (locks_of self.now.table.shared.key a b) token.old }
         requires agents { (a < self.now.agents) × (b < self.now.agents) × (a ≢ b) }
-        requires held { token.old.me.0.held ≡ locks_of self.now.table.shared.key a b }
-        requires clear { (token.old.me.0.known ≡ []) × (token.old.me.0.due ≡ []) }
         requires room { length token.old.me.0.log < LOG_LIMIT }
-        ensures table { token.new.table_id ≡ token.old.table_id }
-        ensures logged { token.new.me ≡ (recorded (logged result.0 a b result.1) token.old.me.0, token.old.me.1) }
-        ensures newest { IsNewest result.0 token.old.me.0 }
-        ensures moment { IsMetAt self.now token.old.me.0.number token.old.me.0.log a b result.0 result.1 }
+        ensures { HasReacted self.now a b result.0 result.1 token.old token.new }
     {
         let x = self.read(token, a);
         let y = self.read(token, b);
@@ -104,16 +91,9 @@ impl<'n> Field<'n> {
         gate: &G,
     ) -> Met
         requires ours { IsSeatOf self.now seat.old }
-        requires different { a ≢ b }
-        requires a_in { a < length (opening_of self.now) }
-        requires b_in { b < length (opening_of self.now) }
+        requires pair { IsPairOf self.now a b }
         requires room { 1 ≤ spare_of seat.old }
-        ensures ours { IsSeatOf self.now seat.new }
-        ensures logged { log_of seat.new ≡ log_of seat.old ++ logged result.ticket a b result.changed ∷ [] }
-        ensures spare { spare_of seat.new + 1 ≡ spare_of seat.old }
-        ensures newest { IsNewestOf result.ticket seat.old }
-        ensures moment { IsMoment self.now seat.old a b result }
-        ensures rest { KeepsRest seat.old seat.new }
+        ensures { HasMet self.now a b result seat.old seat.new }
     {
         let shards = self.shards;
         let low = (a % shards).min(b % shards);

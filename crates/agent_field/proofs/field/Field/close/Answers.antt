@@ -8,17 +8,13 @@ use Rattle.agent_field.proofs.Closing.{IsRoundOf, the_end, rounds, at_value, tic
 use Rattle.agent_field.proofs.field.Field.close.Goals.{After-drop-seat-3}
 use Rattle.agent_field.proofs.field.Field.close.Goals as goal
 
-pub arrange-requires-clause-own : goal.arrange-requires-clause-own
-arrange-requires-clause-own c =
+pub arrange-requires-clause-tickets : goal.arrange-requires-clause-tickets
+arrange-requires-clause-tickets c =
     let e = the_end c.args.self c.args.seat _ _ c.close_with-closed.ensures.values.2 c.requires.whole in
-    let count = sym e.count ∙ at_value _ 0 _ c.word-count.ensures in
-    tickets_below 0 c.word-count.result e.history _ (c.as_slice.ensures.value ∙ e.logs.own_log) count
-
-pub arrange-requires-clause-taken : goal.arrange-requires-clause-taken
-arrange-requires-clause-taken c = λ w l is.
-    let e = the_end c.args.self c.args.seat _ _ c.close_with-closed.ensures.values.2 c.requires.whole in
-    let count = sym e.count ∙ at_value _ 0 _ c.word-count.ensures in
-    tickets_below w c.word-count.result e.history l (e.logs.taken_logs w l (ap (λ (ls : List _). get_or ls w None) (sym c.as_slice-2.ensures.value) ∙ is)) count
+    let count = sym e.count ∙ at_value _ 0 _ c.word-count.ensures in (
+      tickets_below 0 c.word-count.result e.history _ (c.as_slice.ensures.value ∙ e.logs.own_log) count,
+      λ w l is. tickets_below w c.word-count.result e.history l (e.logs.taken_logs w l (ap (λ (ls : List _). get_or ls w None) (sym c.as_slice-2.ensures.value) ∙ is)) count,
+    )
 
 -- what the words and the meetings are
 round_of : (c : After-drop-seat-3) → IsRoundOf c.args.self.table.shared.key c.args.seat.log.items c.args.seat.taken.items c.args.seat.looks.items c.from_vec.result c.from_vec-2.result

@@ -11,5 +11,5 @@ join_seat-requires c =
       search rules,
       ap (λ (m : Mine). m.1) theirs,
       search rules,
-      joins c.args.self.now.table.shared.key _ _ _ _ (ap (λ (m : Mine). m.0.live) mine) (ap (λ (m : Mine). m.0.number) mine ∙ c.requires.first) (ap (λ (m : Mine). m.0.live) theirs) (ap (λ (m : Mine). m.0.due) theirs) (ap (λ (m : Mine). m.0.held) theirs),
+      joins c.args.self.now.table.shared.key _ _ _ _ (ap (λ (m : Mine). m.0.live) mine) (ap (λ (m : Mine). m.0.number) mine ∙ c.requires.first.1) (ap (λ (m : Mine). m.0.live) theirs) (ap (λ (m : Mine). m.0.due) theirs) (ap (λ (m : Mine). m.0.held) theirs),
     )

@@ -14,7 +14,7 @@ compare_exchange-found-requires g c =
           (c.place_of_lock-at.ensures ∙ ap (λ (n : ℕ). lock_place n c.args.s) (sym f.agents_are))
           (ap (λ (m : Mine). m.0.live) same ∙ c.requires.usable.live)
           (ap (λ (m : Mine). m.0.setup) same ∙ c.requires.usable.ours)
-          (ap (λ (m : Mine). m.0.number + 1) same ∙ ap (λ (n : ℕ). n + 1) c.requires.number)
+          (ap (λ (m : Mine). m.0.number + 1) same ∙ ap (λ (n : ℕ). n + 1) c.requires.number_is)
           (subst (λ (n : ℕ). c.args.s < n) (sym f.shards_are) c.requires.shard)
           (ap (λ (m : Mine). m.0.due) same ∙ c.requires.due),
     )
