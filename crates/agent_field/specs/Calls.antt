@@ -57,7 +57,7 @@ pub record HasMet (f : Field) (a b : ℕ) (met : Met) (before after : FieldSeat)
   pub ours : IsSeatOf f after
   pub logged : log_of after ≡ log_of before ++ logged met.ticket a b met.changed ∷ []
   pub spare : spare_of after + 1 ≡ spare_of before
-  -- its ticket is above all that the seat knew, and is that of a moment at which the meeting changed what it says
+  -- the ticket is above all that the seat knew, and whether a tuple changed is right at its moment
   pub newest : IsNewestOf met.ticket before
   pub moment : IsMoment f before a b met
   pub rest : KeepsRest before after

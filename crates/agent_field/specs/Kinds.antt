@@ -12,7 +12,8 @@ use Rattle.agent_field.specs.declared.limits.TheConstants.{SEAT_LIMIT}
 use Rattle.agent_field.specs.declared.view.Setup.{Setup}
 use Rattle.agent_field.specs.declared.view.View.{View}
 use Rattle.agent_field.specs.History.{made}
-use Rattle.agent_field.specs.Standing.{In, agents_of, lock_at, agent_at, agent_word, shard_of, crowd_after, founder, joined_away, opening_words, IsUnfounded, StandsAt, Stands}
+use Rattle.agent_field.specs.Standing.{In, agents_of, lock_at, agent_at, agent_word, shard_of, crowd_after}
+use Rattle.agent_field.specs.Standing.{founder, joined_away, opening_words, IsUnfounded, StandsAt, Stands}
 use Rattle.agent_field.specs.Steps.{first_seat, holding, releasing, knowing, MayDraw, HasSeenAll, meeting, writing, kept_back, newcomer, taking_in, looking}
 
 -- the seat `id` is live and has this view

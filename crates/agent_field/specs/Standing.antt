@@ -1,5 +1,5 @@
 -- FieldStands: the rule of the field's table, over its words and the views of all seats.
--- The clock and the founder word come first. Behind them the lock words of the shards and the words of the agents take turns, a lock first, as long as there are both.
+-- The clock and the founder word come first. Behind them the lock words of the shards and the words of the agents take turns, as long as there are both.
 use Rattle.std.specs.Prelude.{◌≡◌, ℕ, ◌+◌, ◌<◌, ◌≤◌, ◌%◌, ◌⊎◌, ◌==◌, min, max, IsSome, Bool, true, false, List, [], ◌∷◌, ◌++◌}
 use Rattle.std.specs.Prelude.{length, map, take, replicate, slice_index, slice_index_or, Option as Maybe, Some as Given, None as Missing}
 use Rattle.std.specs.List.{range_with_len}

@@ -24,12 +24,12 @@ pub record HoldsJust (f : Field) (locks : List ℕ) (t : Token) : Type 0 where
   pub held : t.me.0.held ≡ locks
   pub due : t.me.0.due ≡ []
 
--- and has read nothing under them
+-- it has just taken these locks: nothing is known under them
 pub record HasLocked (f : Field) (locks : List ℕ) (t : Token) : Type 0 where
   pub holds : HoldsJust f locks t
   pub known : t.me.0.known ≡ []
 
--- between the calls of the seat with this number
+-- it is that of the seat with this number between its calls, and holds no lock
 pub record IsIdle (f : Field) (number : ℕ) (t : Token) : Type 0 where
   pub free : HasLocked f [] t
   pub number_is : t.me.0.number ≡ number
@@ -66,20 +66,20 @@ pub record Becomes (before after : Token) (view : View) : Type 0 where
   pub table : after.table_id ≡ before.table_id
   pub me : after.me ≡ (view, before.me.1)
 
--- the draw of a ticket
+-- a ticket was drawn for the pair whose words are known: above all that the seat knew, and at a moment when these words stood
 pub record IsDraw (ticket : ℕ) (before after : Token) : Type 0 where
   pub table : after.table_id ≡ before.table_id
   pub drawn : HasDrawn ticket before.me after.me
   pub newest : IsNewest ticket before.me.0
   pub moment : IsDrawnAt ticket before.me.0
 
--- a look at the clock
+-- the clock was read under all locks: not below what the seat knew, and at a moment when the known words stood
 pub record IsWatch (ticket : ℕ) (before after : Token) : Type 0 where
   pub watched : Becomes before after (looking ticket before.me.0)
   pub newest : IsNewest ticket before.me.0
   pub moment : IsSeenAt ticket before.me.0
 
--- the agents a and b have met under their locks
+-- the agents a and b have met under their locks, as the meeting with this ticket
 pub record HasReacted (f : Field) (a b ticket : ℕ) (changed : Bool) (before after : Token) : Type 0 where
   pub logged : Becomes before after (recorded (logged ticket a b changed) before.me.0)
   pub newest : IsNewest ticket before.me.0

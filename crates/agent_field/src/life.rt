@@ -1,6 +1,6 @@
 //! How a field begins, and how its seats are dealt and taken in.
 
-ghost use Rattle.std.specs.Prelude.{◌≡◌, ◌+◌, ◌<◌, ◌≤◌, length, map, ◌∷◌, IfOk, replicate, None};
+ghost use Rattle.std.specs.Prelude.{◌≡◌, ◌≤◌, length, map, ◌∷◌, IfOk, None, replicate};
 ghost use Rattle.agent_field.specs.Standing.{in_turns};
 
 use crate::field::{Field, FieldSeat};

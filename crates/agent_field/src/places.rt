@@ -1,5 +1,5 @@
-//! Where the words of a field stand in its table. Behind the clock and the founder word, the locks of the shards and the
-//! words of the agents take turns, so that with as many shards as agents each lock stands before its agent's word.
+//! Where the words of a field stand in its table. Behind the clock and the founder word, the locks of the shards and
+//! the words of the agents take turns: with as many shards as agents, each lock stands before its agent's word.
 
 ghost use Rattle.std.specs.Prelude.{◌≡◌};
 ghost use Rattle.agent_field.specs.Standing.{lock_place, agent_place};

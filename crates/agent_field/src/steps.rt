@@ -14,7 +14,8 @@ use std::sync::Wait;
 use std::thread;
 
 impl<'n> Field<'n> {
-    ghost use Rattle.agent_field.specs.Tokens.{IsUsable, MayLock, MayUnlock, MayRead, MayWrite, Becomes, IsDraw, IsWatch};
+    ghost use Rattle.agent_field.specs.Tokens.{IsUsable, MayLock, MayUnlock, MayRead, MayWrite};
+    ghost use Rattle.agent_field.specs.Tokens.{Becomes, IsDraw, IsWatch};
 
     /// Takes a shard's lock.
     pub(crate) fn lock<R: Wait>(&self, rt: &R, token: &mut Seat<(), View>, number: u16, s: u32)
