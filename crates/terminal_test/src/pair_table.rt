@@ -1,14 +1,14 @@
 //! The least pair of agents whose meeting changes a word, in a time that grows with the agents alone.
 
-ghost use Rattle.std.specs.Prelude.{◌≡◌, ◌<◌, ◌↔◌, length, map, None, IfOk, IfSome};
+ghost use Rattle.std.specs.Prelude.{◌≡◌, ◌<◌, ◌↔◌, length, map, true, None, IfOk, IfSome};
 ghost use Rattle.pop_net.specs.Lanes.{crowd_of, AreValid};
 ghost use Rattle.pop_net.specs.Step.{Step};
 ghost use Rattle.pop_net.specs.Terminal.{IsTerminal};
 ghost use Rattle.terminal_test.specs.Loud.{pairs_of};
-ghost use Rattle.terminal_test.specs.Pairs.{IsLeastPair, MovesOn};
+ghost use Rattle.terminal_test.specs.Pairs.{IsEnabled, IsLeastPair, MovesOn};
 
 use crate::loud::loud_pairs;
-use crate::partner::partner;
+use crate::partner::{are_enabled, partner};
 use crate::restless::{is_restless, restless_states};
 use pop_crowd::Crowd;
 use pop_io::{List, NoMemory};
@@ -60,5 +60,30 @@ impl<'n> PairTable<'n> {
             }
         }
         Ok(None)
+    }
+    /// Whether a crowd is terminal. The pair that was found last is looked at first, and the agents are walked over
+    /// only where its meeting changes nothing now: then the pair that is found is kept.
+    pub fn is_terminal(
+        &self,
+        alloc: Global,
+        crowd: &Crowd,
+        last: &mut Option<(u32, u32)>,
+    ) -> Result<bool, NoMemory>
+        requires { AreValid (net_of self.now) crowd.now }
+        ensures terminal { IfOk result
+            (λ terminal. (terminal ≡ true) ↔ IsTerminal (Step (net_of self.now)) (crowd_of (net_of self.now) crowd.now)) }
+        // The pair that is kept is enabled in this crowd.
+        ensures kept { IfOk result
+            (λ _.
+            IfSome last.new (λ pair. IsEnabled (net_of self.now) (crowd_of (net_of self.now) crowd.now) pair.0 pair.1)) }
+    {
+        if let Some((a, b)) = *last {
+            if are_enabled(self.net, crowd, a, b) {
+                return Ok(false);
+            }
+        }
+        let found = self.enabled_pair(alloc, crowd)?;
+        *last = found;
+        Ok(found.is_none())
     }
 }

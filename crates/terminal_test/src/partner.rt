@@ -1,9 +1,9 @@
-//! The first agent that another one can react with.
+//! The agents that another one can react with.
 
-ghost use Rattle.std.specs.Prelude.{◌≡◌, ◌<◌, length};
+ghost use Rattle.std.specs.Prelude.{◌≡◌, ◌<◌, ◌↔◌, length, true};
 ghost use Rattle.pop_net.specs.Lanes.{tuple_of, crowd_of, IsValid, AreValid};
 ghost use Rattle.pop_crowd.specs.Replay.{reacts};
-ghost use Rattle.terminal_test.specs.Pairs.{IsPartner};
+ghost use Rattle.terminal_test.specs.Pairs.{IsEnabled, IsPartner};
 
 use pop_crowd::{Crowd, differ};
 use pop_net::{Net, Word};
@@ -22,6 +22,17 @@ pub(crate) fn partner(net: &Net, crowd: &Crowd, a: u32) -> Option<u32>
         }
     }
     None
+}
+
+/// Whether the first of two agents is the lower one, and their meeting changes a word.
+pub(crate) fn are_enabled(net: &Net, crowd: &Crowd, a: u32, b: u32) -> bool
+    requires { AreValid net.now crowd.now }
+    ensures { (result ≡ true) ↔ IsEnabled net.now (crowd_of net.now crowd.now) a b }
+{
+    if a < b && b < crowd.len() {
+        return is_enabled(net, crowd.word(a), crowd.word(b));
+    }
+    false
 }
 
 /// Whether the reaction of two words changes one of them.
