@@ -11,7 +11,8 @@ use Rattle.pair_workers.specs.Work.{pairs_of}
 pub picked_none : (n : ℕ) (s : List ℕ) → HasPicked n 0 s s []
 picked_none n s = record { long = refl; picked = λ count. ap (λ k. picks_from (words_from s) n k) (zero-add count) }
 
-picked_more : (n turns : ℕ) (before now after : List ℕ) (made : List (ℕ × ℕ)) (pick : ℕ × ℕ) → HasPicked n turns before now made
+-- one pick more
+pub picked_more : (n turns : ℕ) (before now after : List ℕ) (made : List (ℕ × ℕ)) (pick : ℕ × ℕ) → HasPicked n turns before now made
     → ((count : ℕ) → picks_from (words_from now) n (suc count) ≡ pick ∷ picks_from (words_from after) n count) → HasPicked n (turns + 1) before after (made ++ pick ∷ [])
 picked_more n turns before now after made pick h next =
     record {

@@ -7,11 +7,26 @@ use Rattle.pop_net.specs.Lanes.{crowd_of, AreValid}
 use Rattle.pop_net.specs.declared.net.Word.{Word}
 use Rattle.terminal_test.specs.Pairs.{IsLeastPair}
 use Rattle.pop_words.specs.declared.spec.RunSpec.{RunSpec}
+use Rattle.pop_words.specs.Options.{IsWithinLimits}
 use Rattle.pair_workers.specs.declared.alone.TheConstants.{ROUND_TURNS}
 use Rattle.pair_workers.specs.declared.alone.End.{End}
 use Rattle.pair_workers.specs.declared.alone.RunEnd.{RunEnd}
 use Rattle.pair_workers.specs.declared.alone.End.TheVariants.{Terminal, Open}
 use Rattle.pair_workers.specs.Run.{IsRun}
+
+-- a run with these numbers can be made from this crowd
+pub record CanMakeRun (net : NetModel) (crowd : List Word) (spec : RunSpec) : Type 0 where
+  pub limits : IsWithinLimits spec
+  pub valid : AreValid net crowd
+
+-- a further round is made: turns are left, and the crowd is not terminal
+abbrev pub RunGoesOn : NetModel → CrowdModel → ℕ → Type 0
+RunGoesOn net crowd left = (1 ≤ left) × (IsTerminal (Step net) crowd → ⊥)
+
+-- the crowd is terminal; or it is not, and this pair of agents is the least that can change
+abbrev pub IsEndOf : NetModel → CrowdModel → End → Type 0
+IsEndOf net crowd Terminal = IsTerminal (Step net) crowd
+IsEndOf net crowd (Open a b) = IsLeastPair net crowd a b × (IsTerminal (Step net) crowd → ⊥)
 
 -- why a run ended in this crowd after so many rounds: the crowd is terminal; or the turns are spent and this pair of agents is the least that can change
 abbrev pub EndsBy : NetModel → CrowdModel → RunSpec → ℕ → End → Type 0

@@ -1,5 +1,5 @@
 -- Picks: the pairs of agents that a worker lets meet, from its stream of random words.
-use Rattle.std.specs.Prelude.{ℕ, zero, suc, ◌+◌, ◌-◌, ◌/◌, ◌%◌, ◌^◌, nat_le, if◌then◌else◌, List, [], ◌∷◌}
+use Rattle.std.specs.Prelude.{◌≡◌, ◌≢◌, ℕ, zero, suc, ◌+◌, ◌-◌, ◌/◌, ◌%◌, ◌^◌, ◌<◌, nat_le, if◌then◌else◌, List, [], ◌∷◌}
 use Rattle.rand_core.specs.Stream.{Stream, next_u64}
 use Rattle.rand_core.specs.Steps.{stream_of, steps_u64_high}
 use Rattle.rand_xoshiro.specs.SplitMix64.{splitmix_seed}
@@ -26,3 +26,16 @@ picks_from words n (suc count) = pick_of n (next_u64 words).0 ∷ picks_from (ne
 -- the first picks of a worker among n agents
 abbrev pub picks : (seed worker n count : ℕ) → List (ℕ × ℕ)
 picks seed worker n count = picks_from (words_from (first_state seed worker)) n count
+
+-- two different agents of n
+pub record IsPairOf (n : ℕ) (pair : ℕ × ℕ) : Type 0 where
+  pub different : pair.0 ≢ pair.1
+  pub first : pair.0 < n
+  pub second : pair.1 < n
+
+-- the pair is the pick of the next word, and the picker stands behind that word
+pub record IsNextPick (n : ℕ) (before after : List ℕ) (pair : ℕ × ℕ) : Type 0 where
+  pub pick : pair ≡ pick_of n (next_u64 (words_from before)).0
+  pub rest : words_from after ≡ (next_u64 (words_from before)).1
+  -- picks in a row are those of the definition
+  pub in_row : (count : ℕ) → picks_from (words_from before) n (suc count) ≡ pair ∷ picks_from (words_from after) n count

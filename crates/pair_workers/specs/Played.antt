@@ -2,9 +2,11 @@
 use Rattle.std.specs.Prelude.{◌≡◌, ℕ, ◌+◌, List, ◌++◌, length, All}
 use Rattle.rand_core.specs.Stream.{Stream}
 use Rattle.pop_net.specs.NetModel.{NetModel, CrowdModel}
+use Rattle.pop_net.specs.Lanes.{crowd_of, AreValid}
+use Rattle.pop_net.specs.declared.net.Word.{Word}
 use Rattle.pop_crowd.specs.declared.crowd.Meeting.{Meeting}
 use Rattle.pop_crowd.specs.Replay.{replay, AreMarked}
-use Rattle.pair_workers.specs.Picks.{picks_from}
+use Rattle.pair_workers.specs.Picks.{picks_from, words_from}
 use Rattle.pair_workers.specs.Run.{pairs}
 
 -- the meetings are the next picks of the worker 0, they lead from one crowd to another, and these words are left
@@ -14,3 +16,9 @@ pub record IsPlayed (net : NetModel) (start : CrowdModel) (words : Stream) (meet
   pub marked : AreMarked net meetings start
   pub replays : replay net meetings start ≡ end
   pub agents : length end ≡ length start
+
+-- the same of the words of the crowds and of a picker, before and after
+pub record PlaysOn (net : NetModel) (before after : List Word) (picker next : List ℕ) (meetings : List Meeting) : Type 0 where
+  pub played : IsPlayed net (crowd_of net before) (words_from picker) meetings (crowd_of net after) (words_from next)
+  pub valid : AreValid net after
+  pub agents : length after ≡ length before

@@ -1,11 +1,12 @@
 -- The turns of many workers in one round.
-use Rattle.std.specs.Prelude.{◌≡◌, ℕ, ◌+◌, ◌<◌, List, ◌++◌, length, All, slice_index_or}
+use Rattle.std.specs.Prelude.{◌≡◌, ℕ, ◌+◌, ◌<◌, ◌≤◌, List, ◌++◌, length, All, slice_index_or}
 use Rattle.pop_net.specs.NetModel.{NetModel, CrowdModel}
 use Rattle.pop_net.specs.Lanes.{crowd_of, AreValid}
 use Rattle.pop_net.specs.declared.net.Word.{Word}
 use Rattle.pop_crowd.specs.declared.crowd.Meeting.{Meeting}
 use Rattle.pop_crowd.specs.Replay.{replay, AreMarked}
 use Rattle.agent_field.specs.declared.close.Round.{Round}
+use Rattle.pair_workers.specs.declared.alone.TheConstants.{ROUND_TURNS}
 use Rattle.pair_workers.specs.Picks.{picks_from, words_from}
 use Rattle.pair_workers.specs.Run.{meetings_of, pairs}
 
@@ -22,6 +23,12 @@ pub record ArePlayed (net : NetModel) (start : CrowdModel) (workers turns : ℕ)
   pub picked : (w : ℕ) (d : List ℕ) → w < workers
       → HasPicked (length start) turns (slice_index_or before w d) (slice_index_or after w d) (pairs (meetings_of w meetings))
   pub nobody_else : All (λ m. m.worker < workers) meetings
+
+-- a round can be made from this crowd: there is a picker for each worker, and there are no more turns than a round has
+pub record CanMakeRound (net : NetModel) (crowd : List Word) (workers turns : ℕ) (before : List (List ℕ)) : Type 0 where
+  pub valid : AreValid net crowd
+  pub pickers : length before ≡ workers
+  pub few : turns ≤ ROUND_TURNS
 
 -- a round from this crowd: each worker makes its turns by its picker, and the pickers stand after them
 pub record IsRoundFrom (net : NetModel) (crowd : List Word) (workers turns : ℕ) (before after : List (List ℕ)) (round : Round) : Type 0 where

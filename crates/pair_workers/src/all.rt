@@ -1,13 +1,13 @@
 //! Runs by all workers.
 
-ghost use Rattle.std.specs.Prelude.{◌≡◌, ℕ, ◌-◌, ◌*◌, ◌^◌, ◌<◌, ◌≤◌, length, IfOk, slice_index_or};
+ghost use Rattle.std.specs.Prelude.{◌≡◌, ℕ, ◌<◌, ◌≤◌, length, IfOk, slice_index_or};
 ghost use Rattle.pop_net.specs.Lanes.{crowd_of, AreValid};
-ghost use Rattle.pop_words.specs.Options.{IsWithinLimits};
 ghost use Rattle.pair_workers.specs.Picks.{first_state};
 ghost use Rattle.pair_workers.specs.OneRun.{IsOnlyRun};
-ghost use Rattle.pair_workers.specs.Ends.{IsRunFrom};
+ghost use Rattle.pair_workers.specs.Ends.{CanMakeRun, IsRunFrom};
 
-use crate::alone::{End, ROUND_TURNS, RunEnd, run_alone};
+use crate::alone::{ROUND_TURNS, RunEnd, run_alone};
+use crate::ends::{end_of, goes_on};
 use crate::picker::Picker;
 use crate::round::run_round;
 use agent_field::Round;
@@ -54,23 +54,16 @@ fn run_many<R: Threads + Wait + Sync, G: Gate>(
     spec: &RunSpec,
     gate: &G,
 ) -> Result<RunEnd, NoMemory>
-    requires limits { IsWithinLimits spec.now }
-    requires valid { AreValid net.now crowd }
-    ensures run { IfOk result (IsRunFrom net.now crowd spec.now) }
+    requires { CanMakeRun net.now crowd spec.now }
+    ensures { IfOk result (IsRunFrom net.now crowd spec.now) }
 {
     let mut crowd = crowd;
     let mut pickers = first_pickers(alloc, spec)?;
     let mut rounds = Vec::new(alloc);
     let mut left = spec.turns;
     let table = PairTable::new(alloc, net)?;
-    'rounds: while let Some((a, b)) = table.enabled_pair(alloc, &crowd)? {
-        if left == 0 {
-            return Ok(RunEnd {
-                rounds: List::from_vec(rounds),
-                crowd,
-                end: End::Open(a, b),
-            });
-        }
+    let mut last = None;
+    'rounds: while goes_on(alloc, &table, &crowd, left, &mut last)? {
         let turns = ROUND_TURNS.min(left);
         let lent = pickers.as_mut_slice();
         let Round { words, meetings } = run_round(rt, alloc, net, &crowd, spec, lent, turns, gate)?;
@@ -78,10 +71,11 @@ fn run_many<R: Threads + Wait + Sync, G: Gate>(
         rounds.push(meetings)?;
         left -= turns;
     }
+    let end = end_of(alloc, &table, &crowd)?;
     Ok(RunEnd {
         rounds: List::from_vec(rounds),
         crowd,
-        end: End::Terminal,
+        end,
     })
 }
 
@@ -94,8 +88,7 @@ pub fn run_all<R: Threads + Wait + Sync, G: Gate>(
     spec: &RunSpec,
     gate: &G,
 ) -> Result<RunEnd, NoMemory>
-    requires limits { IsWithinLimits spec.now }
-    requires valid { AreValid net.now crowd }
+    requires { CanMakeRun net.now crowd spec.now }
     ensures run { IfOk result (IsRunFrom net.now crowd spec.now) }
     // No other rounds and no other end are a run by one worker.
     ensures only { spec.now.workers ≡ 1

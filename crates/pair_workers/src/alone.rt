@@ -1,13 +1,12 @@
 //! Runs by one worker, on the plain crowd.
 
-ghost use Rattle.std.specs.Prelude.{◌≡◌, ◌-◌, ◌^◌, ◌≤◌, [], ◌∷◌, length, IfOk};
-ghost use Rattle.pop_net.specs.Lanes.{crowd_of, AreValid};
-ghost use Rattle.pop_words.specs.Options.{IsWithinLimits};
-ghost use Rattle.pair_workers.specs.Picks.{words_from};
-ghost use Rattle.pair_workers.specs.OneRun.{IsOnlyRun};
-ghost use Rattle.pair_workers.specs.Played.{IsPlayed};
-ghost use Rattle.pair_workers.specs.Ends.{IsRunFrom};
+ghost use Rattle.std.specs.Prelude.{◌≡◌, ◌≤◌, [], ◌∷◌, length, IfOk};
+ghost use Rattle.pop_net.specs.Lanes.{AreValid};
+ghost use Rattle.pair_workers.specs.OneRun.{IsOnlyRunFrom};
+ghost use Rattle.pair_workers.specs.Played.{PlaysOn};
+ghost use Rattle.pair_workers.specs.Ends.{CanMakeRun};
 
+use crate::ends::{end_of, goes_on};
 use crate::picker::Picker;
 use pop_crowd::{Crowd, Meeting};
 use pop_io::{Gate, List, NoMemory};
@@ -46,35 +45,27 @@ pub fn run_alone<G: Gate>(
     gate: &G,
 ) -> Result<RunEnd, NoMemory>
     requires alone { spec.now.workers ≡ 1 }
-    requires limits { IsWithinLimits spec.now }
-    requires valid { AreValid net.now crowd }
-    ensures run { IfOk result (IsRunFrom net.now crowd spec.now) }
+    requires can { CanMakeRun net.now crowd spec.now }
     // No other rounds and no other end are a run.
-    ensures only { IfOk result
-        (λ run. IsOnlyRun net.now (crowd_of net.now crowd) spec.now run.rounds (crowd_of net.now run.crowd)) }
+    ensures { IfOk result (IsOnlyRunFrom net.now crowd spec.now) }
 {
     let mut crowd = crowd;
     let mut picker = Picker::new(spec.seed, 0);
     let mut rounds = Vec::new(alloc);
     let mut left = spec.turns;
     let table = PairTable::new(alloc, net)?;
-    'rounds: while let Some((a, b)) = table.enabled_pair(alloc, &crowd)? {
-        if left == 0 {
-            return Ok(RunEnd {
-                rounds: List::from_vec(rounds),
-                crowd,
-                end: End::Open(a, b),
-            });
-        }
+    let mut last = None;
+    'rounds: while goes_on(alloc, &table, &crowd, left, &mut last)? {
         let turns = ROUND_TURNS.min(left);
         let meetings = play_round(alloc, net, &mut crowd, &mut picker, turns, gate)?;
         rounds.push(List::from_vec(meetings))?;
         left -= turns;
     }
+    let end = end_of(alloc, &table, &crowd)?;
     Ok(RunEnd {
         rounds: List::from_vec(rounds),
         crowd,
-        end: End::Terminal,
+        end,
     })
 }
 
@@ -89,12 +80,8 @@ pub(crate) fn play_round<G: Gate>(
 ) -> Result<Vec<Meeting>, NoMemory>
     requires valid { AreValid net.now crowd.old }
     requires few { turns ≤ ROUND_TURNS }
-    ensures played { IfOk result
-        (λ log. IsPlayed net.now (crowd_of net.now crowd.old) (words_from picker.old) log.items
-        (crowd_of net.now crowd.new) (words_from picker.new)) }
-    ensures turns { IfOk result (λ log. length log.items ≡ turns) }
-    ensures valid { AreValid net.now crowd.new }
-    ensures agents { length crowd.new ≡ length crowd.old }
+    ensures { IfOk result (λ log. (length log.items ≡ turns)
+        × PlaysOn net.now crowd.old crowd.new picker.old picker.new log.items) }
 {
     let mut log = Vec::with_capacity(alloc, turns as usize)?;
     'turns: for turn in 0..turns {
@@ -107,10 +94,7 @@ pub(crate) fn play_round<G: Gate>(
 /// The meeting of the next pick.
 fn meet_next(net: &Net, crowd: &mut Crowd, picker: &mut Picker) -> Meeting
     requires { AreValid net.now crowd.old }
-    ensures played { IsPlayed net.now (crowd_of net.now crowd.old) (words_from picker.old) (result ∷ [])
-        (crowd_of net.now crowd.new) (words_from picker.new) }
-    ensures valid { AreValid net.now crowd.new }
-    ensures agents { length crowd.new ≡ length crowd.old }
+    ensures { PlaysOn net.now crowd.old crowd.new picker.old picker.new (result ∷ []) }
 {
     let (a, b) = picker.pick(crowd.len());
     let changed = crowd.meet(net, a, b);

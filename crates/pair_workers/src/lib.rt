@@ -5,6 +5,7 @@
 
 mod all;
 mod alone;
+mod ends;
 mod examples;
 mod picker;
 mod round;
@@ -12,6 +13,7 @@ mod work;
 
 pub use all::{first_pickers, run_all};
 pub use alone::{End, ROUND_TURNS, RunEnd, run_alone};
+pub use ends::{end_of, goes_on};
 pub use examples::{pick_examples, run_examples};
 pub use picker::Picker;
 pub use round::{run_round, words_of};

@@ -1,12 +1,9 @@
 //! The pairs of agents that a worker lets meet.
 
-ghost use Rattle.std.specs.Prelude.{◌≡◌, ◌≢◌, ℕ, ◌+◌, ◌-◌, ◌^◌, ◌<◌, ◌≤◌, suc, ◌∷◌, IfOk};
-ghost use Rattle.rand_core.specs.Stream.{next_u64};
-ghost use Rattle.rand_core.specs.Steps.{stream_of, steps_u64_high};
-ghost use Rattle.rand_xoshiro.specs.Xoshiro256.{plus_plus};
-ghost use Rattle.pair_workers.specs.Picks.{words_from, first_state, pick_of, picks_from, picks};
+ghost use Rattle.std.specs.Prelude.{◌≡◌, ℕ, ◌≤◌, IfOk};
+ghost use Rattle.pair_workers.specs.CrowdSize.{IsCrowdSize};
+ghost use Rattle.pair_workers.specs.Picks.{words_from, first_state, picks_from, picks, IsPairOf, IsNextPick};
 
-use pop_crowd::{AGENT_LEAST, AGENT_LIMIT};
 use pop_io::NoMemory;
 use pop_words::SEED_LIMIT;
 use rand_core::{Rng, SeedableRng};
@@ -51,16 +48,9 @@ impl Picker {
 
     /// Two different agents of `n`, from the next word. It allocates nothing.
     pub fn pick(&mut self, n: u32) -> (u32, u32)
-        requires two { AGENT_LEAST ≤ n }
-        requires few { n ≤ AGENT_LIMIT }
-        ensures pick { result ≡ pick_of n (next_u64 (words_from self.old)).0 }
-        ensures rest { words_from self.new ≡ (next_u64 (words_from self.old)).1 }
-        // Picks in a row are those of the definition.
-        ensures picks { (count : ℕ)
-            → picks_from (words_from self.old) n (suc count) ≡ result ∷ picks_from (words_from self.new) n count }
-        ensures different { result.0 ≢ result.1 }
-        ensures first { result.0 < n }
-        ensures second { result.1 < n }
+        requires { IsCrowdSize n }
+        ensures next { IsNextPick n self.old self.new result }
+        ensures pair { IsPairOf n result }
     {
         let word = self.words.next_u64();
         let a = ((word >> 32) % u64::from(n)) as u32;

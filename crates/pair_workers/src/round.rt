@@ -1,18 +1,17 @@
 //! A round: seats are dealt, all workers make their turns, and the field is closed.
 
-ghost use Rattle.std.specs.Prelude.{◌≡◌, ℕ, ◌+◌, ◌<◌, ◌≤◌, length, [], All, IfOk, IfErr, slice_index_or};
-ghost use Rattle.pop_net.specs.Lanes.{crowd_of, AreValid};
-ghost use Rattle.agent_field.specs.Seats.{IsSeatOf, KeepsOwn, number_of, next_of, left_of, log_of, opening_of};
-ghost use Rattle.agent_field.specs.Seats.{taken_of, seats_of};
+ghost use Rattle.std.specs.Prelude.{◌≡◌, ◌≤◌, length, All, IfOk, MatchResult};
 ghost use Rattle.pop_words.specs.Options.{IsWithinLimits};
-ghost use Rattle.pair_workers.specs.Turns.{HasPicked, IsRoundFrom};
-ghost use Rattle.pair_workers.specs.Work.{MayWork, HasWorked, AreReady, AreDone, HasAll, agents_of};
+ghost use Rattle.pair_workers.specs.CrowdSize.{IsCrowdSize};
+ghost use Rattle.pair_workers.specs.Turns.{CanMakeRound, IsRoundFrom};
+ghost use Rattle.pair_workers.specs.Work.{MayWork, HasWorked, HaveWorked, HasAll, agents_of};
+ghost use Rattle.pair_workers.specs.Work.{IsFirstSeat, HasSeated, HasDealt, AreTakenBack};
 
 use crate::alone::{ROUND_TURNS, play_round};
 use crate::picker::Picker;
 use crate::work::{Worker, work, work_all};
 use agent_field::{Field, FieldSeat, Round};
-use pop_crowd::{AGENT_LEAST, AGENT_LIMIT, Crowd};
+use pop_crowd::Crowd;
 use pop_io::{Gate, List, NoMemory};
 use pop_net::{Net, Word};
 use pop_words::RunSpec;
@@ -23,7 +22,7 @@ use std::thread::{Threads, join_mut};
 /// A crowd's words.
 pub fn words_of(alloc: Global, crowd: &Crowd) -> Result<List<Word>, NoMemory>
     ensures words { IfOk result (λ words. words ≡ crowd.now) }
-    ensures agents { (AGENT_LEAST ≤ length crowd.now) × (length crowd.now ≤ AGENT_LIMIT) }
+    ensures agents { IsCrowdSize (length crowd.now) }
 {
     let mut words = Vec::new(alloc);
     'agents: for agent in 0..crowd.len() {
@@ -40,14 +39,9 @@ fn seat_others(
     pickers: &[Picker],
     turns: u64,
 ) -> Result<Vec<Worker>, NoMemory>
-    requires ours { IsSeatOf field.now first.old }
-    requires fresh { (number_of first.old ≡ 0) × (next_of first.old ≡ 1)
-        × (left_of first.old + 1 ≡ length pickers.now) }
+    requires first { IsFirstSeat field.now (length pickers.now) first.old }
     requires turns { turns ≤ ROUND_TURNS }
-    ensures ours { IsSeatOf field.now first.new }
-    ensures own { KeepsOwn first.old first.new × (taken_of first.new ≡ taken_of first.old) }
-    ensures ready { IfOk result
-        (λ workers. (next_of first.new ≡ length pickers.now) × AreReady field.now turns pickers.now workers.items) }
+    ensures { IfOk result (λ workers. HasSeated field.now turns pickers.now first.old first.new workers.items) }
 {
     let mut others = Vec::new(alloc);
     'workers: for w in 1..pickers.len() {
@@ -68,18 +62,9 @@ fn take_in(
     mut others: Vec<Worker>,
     pickers: &mut [Picker],
 ) -> Result<FieldSeat, NoMemory>
-    requires ours { IsSeatOf field.now first }
-    requires first { (number_of first ≡ 0) × (next_of first ≡ length others.items + 1)
-        × (next_of first ≤ seats_of field.now) }
-    requires others { (i : ℕ) (d : Worker) → i < length others.items
-        → IsSeatOf field.now (slice_index_or others.items i d).seat
-        × (number_of (slice_index_or others.items i d).seat ≡ i + 1) }
-    requires pickers { length others.items + 1 ≡ length pickers.old }
+    requires { HasDealt field.now pickers.old first others.items }
     ensures all { IfOk result (HasAll field.now others.items first) }
-    ensures long { length pickers.new ≡ length pickers.old }
-    ensures moved { IfOk result
-        (λ _. (i : ℕ) (d : Worker) (e : _) → i < length others.items
-        → slice_index_or pickers.new (i + 1) e ≡ (slice_index_or others.items i d).picker) }
+    ensures back { IfOk result (λ _. AreTakenBack others.items pickers.new) }
 {
     let mut first = first;
     'workers: while let Some(worker) = others.pop() {
@@ -102,26 +87,19 @@ fn work_beside<R: Threads + Wait + Sync, G: Gate>(
     turns: u64,
     gate: &G,
 )
-    requires agents { (AGENT_LEAST ≤ agents_of field.now) × (agents_of field.now ≤ AGENT_LIMIT) }
-    requires first { MayWork field.now turns first.old }
-    requires others { All (MayWork field.now turns) others.old }
-    ensures first { HasWorked field.now turns first.old first.new }
-    ensures others { (i : ℕ) (d : Worker) → i < length others.old
-        → HasWorked field.now turns (slice_index_or others.old i d) (slice_index_or others.new i d) }
+    requires agents { IsCrowdSize (agents_of field.now) }
+    requires may { MayWork field.now turns first.old × All (MayWork field.now turns) others.old }
+    ensures { HasWorked field.now turns first.old first.new × HaveWorked field.now turns others.old others.new }
 {
     join_mut(
         rt,
         &mut ||
-            requires { (AGENT_LEAST ≤ agents_of field.now) × (agents_of field.now ≤ AGENT_LIMIT)
-                × MayWork field.now turns first.now }
+            requires { IsCrowdSize (agents_of field.now) × MayWork field.now turns first.now }
             ensures { HasWorked field.entry.now turns first.entry.now first.exit.now }
         { work(rt, field, first, turns, gate) },
         &mut ||
-            requires { (AGENT_LEAST ≤ agents_of field.now) × (agents_of field.now ≤ AGENT_LIMIT)
-                × All (MayWork field.now turns) others.now }
-            ensures { (i : ℕ) (d : Worker) → i < length others.entry.now
-                → HasWorked field.entry.now turns
-                (slice_index_or others.entry.now i d) (slice_index_or others.exit.now i d) }
+            requires { IsCrowdSize (agents_of field.now) × All (MayWork field.now turns) others.now }
+            ensures { HaveWorked field.entry.now turns others.entry.now others.exit.now }
         { work_all(rt, field, others, turns, gate) },
     );
 }
@@ -137,10 +115,8 @@ fn field_round<R: Threads + Wait + Sync, G: Gate>(
     turns: u64,
     gate: &G,
 ) -> Result<Round, NoMemory>
-    requires valid { AreValid net.now crowd.now }
+    requires round { CanMakeRound net.now crowd.now spec.now.workers turns pickers.old }
     requires limits { IsWithinLimits spec.now }
-    requires pickers { length pickers.old ≡ spec.now.workers }
-    requires turns { turns ≤ ROUND_TURNS }
     ensures { IfOk result (IsRoundFrom net.now crowd.now spec.now.workers turns pickers.old pickers.new) }
 {
     let words = words_of(alloc, crowd)?;
@@ -166,9 +142,7 @@ fn plain_round<G: Gate>(
     turns: u64,
     gate: &G,
 ) -> Result<Round, NoMemory>
-    requires valid { AreValid net.now crowd.now }
-    requires pickers { length pickers.old ≡ 1 }
-    requires turns { turns ≤ ROUND_TURNS }
+    requires { CanMakeRound net.now crowd.now 1 turns pickers.old }
     ensures { IfOk result (IsRoundFrom net.now crowd.now 1 turns pickers.old pickers.new) }
 {
     let mut end = crowd.copy(alloc)?;
@@ -193,10 +167,8 @@ fn round_of<R: Threads + Wait + Sync, G: Gate>(
     turns: u64,
     gate: &G,
 ) -> Result<Round, NoMemory>
-    requires valid { AreValid net.now crowd.now }
+    requires round { CanMakeRound net.now crowd.now spec.now.workers turns pickers.old }
     requires limits { IsWithinLimits spec.now }
-    requires pickers { length pickers.old ≡ spec.now.workers }
-    requires turns { turns ≤ ROUND_TURNS }
     ensures { IfOk result (IsRoundFrom net.now crowd.now spec.now.workers turns pickers.old pickers.new) }
 {
     if spec.workers == 1 {
@@ -228,13 +200,11 @@ pub fn run_round<R: Threads + Wait + Sync, G: Gate>(
     turns: u64,
     gate: &G,
 ) -> Result<Round, NoMemory>
-    requires valid { AreValid net.now crowd.now }
+    requires round { CanMakeRound net.now crowd.now spec.now.workers turns pickers.old }
     requires limits { IsWithinLimits spec.now }
-    requires pickers { length pickers.old ≡ spec.now.workers }
-    requires turns { turns ≤ ROUND_TURNS }
-    ensures round { IfOk result (IsRoundFrom net.now crowd.now spec.now.workers turns pickers.old pickers.new) }
     // Out of memory leaves the pickers as they were.
-    ensures kept { IfErr result (λ _. pickers.new ≡ pickers.old) }
+    ensures { MatchResult result (IsRoundFrom net.now crowd.now spec.now.workers turns pickers.old pickers.new)
+        (λ _. pickers.new ≡ pickers.old) }
 {
     let mut moved = copies(alloc, pickers)?;
     let round = round_of(

@@ -1,11 +1,11 @@
 //! One worker's turns on the field, and those of all.
 
-ghost use Rattle.std.specs.Prelude.{◌≡◌, ℕ, ◌<◌, ◌≤◌, length, All, slice_index_or};
-ghost use Rattle.pair_workers.specs.Work.{MayWork, HasWorked, agents_of};
+ghost use Rattle.std.specs.Prelude.{All};
+ghost use Rattle.pair_workers.specs.CrowdSize.{IsCrowdSize};
+ghost use Rattle.pair_workers.specs.Work.{MayWork, HasWorked, HaveWorked, agents_of};
 
 use crate::picker::Picker;
 use agent_field::{Field, FieldSeat};
-use pop_crowd::{AGENT_LEAST, AGENT_LIMIT};
 use pop_io::Gate;
 use std::sync::Wait;
 use std::thread;
@@ -26,7 +26,7 @@ pub(crate) fn work<R: Wait, G: Gate>(
     turns: u64,
     gate: &G,
 )
-    requires agents { (AGENT_LEAST ≤ agents_of field.now) × (agents_of field.now ≤ AGENT_LIMIT) }
+    requires agents { IsCrowdSize (agents_of field.now) }
     requires may { MayWork field.now turns worker.old }
     ensures { HasWorked field.now turns worker.old worker.new }
 {
@@ -45,10 +45,9 @@ pub(crate) fn work_all<R: Threads + Wait + Sync, G: Gate>(
     turns: u64,
     gate: &G,
 )
-    requires agents { (AGENT_LEAST ≤ agents_of field.now) × (agents_of field.now ≤ AGENT_LIMIT) }
+    requires agents { IsCrowdSize (agents_of field.now) }
     requires may { All (MayWork field.now turns) workers.old }
-    ensures { (i : ℕ) (d : Worker) → i < length workers.old
-        → HasWorked field.now turns (slice_index_or workers.old i d) (slice_index_or workers.new i d) }
+    ensures { HaveWorked field.now turns workers.old workers.new }
 {
     let threads = workers.len().max(1);
     thread::for_each_mut(
@@ -56,8 +55,7 @@ pub(crate) fn work_all<R: Threads + Wait + Sync, G: Gate>(
         workers,
         threads,
         &|_i: usize, worker: &mut Worker|
-            requires { (AGENT_LEAST ≤ agents_of field.now) × (agents_of field.now ≤ AGENT_LIMIT)
-                × MayWork field.now turns worker.now }
+            requires { IsCrowdSize (agents_of field.now) × MayWork field.now turns worker.now }
             ensures { HasWorked field.entry.now turns worker.entry.now worker.exit.now }
         { work(rt, field, worker, turns, gate) },
     );

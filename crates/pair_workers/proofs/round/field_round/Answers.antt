@@ -7,7 +7,7 @@ use Rattle.pop_net.specs.Lanes.{crowd_of}
 use Rattle.agent_field.specs.Seats.{net_of, opening_of, seats_of, log_of}
 use Rattle.pair_workers.specs.declared.work.Worker.{Worker}
 use Rattle.pair_workers.specs.Turns.{HasPicked, ArePlayed}
-use Rattle.pair_workers.specs.Work.{MayWork, HasWorked, AreDone, agents_of, pairs_of}
+use Rattle.pair_workers.specs.Work.{MayWork, HaveWorked, AreDone, agents_of, pairs_of}
 use Rattle.pair_workers.proofs.FieldRounds.{whole_written, are_done, all_picked, are_played, as_long}
 use Rattle.pair_workers.proofs.round.field_round.Goals as goal
 
@@ -21,22 +21,31 @@ work_beside-requires-clause-agents g c κs within =
     let e = c.in_ok-words.ensures in
     subst (λ (l : List Word). (2 ≤ length l) × (length l ≤ 65536)) (sym (c.in_ok-field.ensures.field.opening_is ∙ e.words)) e.agents
 
-pub work_beside-requires-clause-others : goal.work_beside-requires-clause-others
-work_beside-requires-clause-others g c κs within =
-    let ready = c.in_ok-others.ensures.ready.1 in
-    subst (λ (l : List Worker). All (MayWork c.in_ok-field.field c.args.turns) l) (sym c.as_mut_slice.ensures.value) (λ k d h. (ready.1 k d [] h).may)
+pub work_beside-requires-clause-may : goal.work_beside-requires-clause-may
+work_beside-requires-clause-may g c κs within =
+    let ready = c.in_ok-others.ensures.ready in (
+      search rules,
+      subst (λ (l : List Worker). All (MayWork c.in_ok-field.field c.args.turns) l) (sym c.as_mut_slice.ensures.value) (λ k d h. (ready.1 k d [] h).may),
+    )
 
-pub take_in-requires-clause-others : goal.take_in-requires-clause-others
-take_in-requires-clause-others g c =
+pub take_in-requires : goal.take_in-requires
+take_in-requires g c =
     let f = c.in_ok-field.field in
     let new = c.work_beside.new.others in
     let old = c.in_ok-others.others.items in
     let value = c.as_mut_slice.ensures.value in
     let same = c.work_beside.auto.others ∙ ap (length {A = Worker}) value in
-    let worked = subst (λ (l : List Worker). (i : ℕ) (d : Worker) → i < length l → HasWorked f c.args.turns (get_or l i d) (get_or new i d)) value c.work_beside.ensures.others in
+    let worked = subst (λ (l : List Worker). HaveWorked f c.args.turns l new) value c.work_beside.ensures.1 in
     let done = subst (AreDone f c.args.turns c.args.pickers.now) (sym (whole_written c.in_ok-others.others.len new old same (omega arith)))
-    (are_done f c.args.turns c.args.pickers.now old new c.in_ok-others.ensures.ready.1 same worked) in
-    λ i d h. ((done.1 i d [] h).ours, (done.1 i d [] h).numbered)
+    (are_done f c.args.turns c.args.pickers.now old new c.in_ok-others.ensures.ready same worked) in
+    record {
+      ours = search rules;
+      number = search rules;
+      next = search rules;
+      within = search rules;
+      each = λ i d h. ((done.1 i d [] h).ours, (done.1 i d [] h).numbered);
+      all = done.0;
+    }
 
 pub returns : goal.returns
 returns g c =
@@ -47,14 +56,14 @@ returns g c =
     let old = c.in_ok-others.others.items in
     let value = c.as_mut_slice.ensures.value in
     let same = c.work_beside.auto.others ∙ ap (length {A = Worker}) value in
-    let worked = subst (λ (l : List Worker). (i : ℕ) (d : Worker) → i < length l → HasWorked f turns (get_or l i d) (get_or new i d)) value c.work_beside.ensures.others in
+    let worked = subst (λ (l : List Worker). HaveWorked f turns l new) value c.work_beside.ensures.1 in
     let done = subst (AreDone f turns pickers) (sym (whole_written c.in_ok-others.others.len new old same (omega arith)))
-    (are_done f turns pickers old new c.in_ok-others.ensures.ready.1 same worked) in
+    (are_done f turns pickers old new c.in_ok-others.ensures.ready same worked) in
     let first = c.work_beside.new.first in
     let is = c.in_ok-field.ensures.field in
-    let some : 0 < length pickers = omega (arith, c.requires.pickers, c.requires.limits.workers.0) in
+    let some : 0 < length pickers = omega (arith, c.requires.round.pickers, c.requires.limits.workers.0) in
     let mine : (d : List ℕ) → HasPicked (agents_of f) turns (get_or pickers 0 d) first.picker (pairs_of (log_of first.seat)) = (λ d.
-    subst (λ (p : List ℕ). HasPicked (agents_of f) turns p first.picker (pairs_of (log_of first.seat))) (c.in_ok-picker.ensures ∙ get_or_default pickers 0 c.index-pickers-0.result d some) c.work_beside.ensures.first.picked) in
+    subst (λ (p : List ℕ). HasPicked (agents_of f) turns p first.picker (pairs_of (log_of first.seat))) (c.in_ok-picker.ensures ∙ get_or_default pickers 0 c.index-pickers-0.result d some) c.work_beside.ensures.0.picked) in
     let closed = c.in_ok-round.ensures in
     let taken = c.in_ok-whole.ensures in
     let round = c.in_ok-round.round in
@@ -64,7 +73,7 @@ returns g c =
       played =
           subst (λ (t : NetModel × List Word × ℕ). ArePlayed t.0 (crowd_of t.0 t.1) t.2 turns pickers after round.meetings (crowd_of t.0 round.words)) (λ i. (is.net_is i, opening i, is.seats_are i))
           (are_played (net_of f) (opening_of f) round.words (seats_of f) turns pickers after round.meetings closed.words closed.history
-          (λ w d h. all_picked f turns pickers _ _ first _ round.meetings mine done taken.all taken.long taken.moved closed.own closed.taken w d (omega (arith, h, is.seats_are, c.requires.pickers))));
+          (λ w d h. all_picked f turns pickers _ _ first _ round.meetings mine done taken.all c.take_in.auto.pickers taken.back closed.own closed.taken w d (omega (arith, h, is.seats_are, c.requires.round.pickers))));
       valid = search rules;
       agents =
           as_long (net_of f) (opening_of f) round.words round.meetings closed.words

@@ -20,13 +20,13 @@ workers-preserved c =
     let p = popped init c.workers.others.items rest worker items was.same in
     let j = c.in-Ok.ensures in
     let last : length rest < length init = omega (arith, long, was.few) in
-    let mine : IsSeatOf f worker.seat × (number_of worker.seat ≡ length rest + 1) = subst (λ (v : Worker). IsSeatOf f v.seat × (number_of v.seat ≡ length rest + 1)) (p.1 worker) (c.requires.others (length rest) worker last) in
+    let mine : IsSeatOf f worker.seat × (number_of worker.seat ≡ length rest + 1) = subst (λ (v : Worker). IsSeatOf f v.seat × (number_of v.seat ≡ length rest + 1)) (p.1 worker) (c.requires.each (length rest) worker last) in
     let number = worker.seat.number in
     let log = log_of worker.seat in
     let before = taken_of c.workers.first in
     let fits : number < length before = (let places = c.workers.first.places was.number in subst (λ (n : ℕ). number < n) (sym places.2 ∙ search rules) (subst (λ (k : Setup). number < k.seats) (mine.0.1 ∙ sym was.ours.1) worker.seat.known)) in
     let place : c.len.result + 1 ≡ length rest + 1 = search rules in
-    let in_range : c.len.result + 1 < length c.workers.pickers = omega (arith, place, last, was.long, c.requires.pickers) in
+    let in_range : c.len.result + 1 < length c.workers.pickers = omega (arith, place, last, was.long, c.requires.all) in
     let taken : (i : ℕ) (d : Worker) → length rest ≤ i → i < length init → get_or (taken_of c.join.new.seat) (i + 1) None ≡ Some (log_of (get_or init i d).seat) = λ i d late within. ⊎_elim
     (λ (is : i ≡ length rest).
     ap (λ (l : List (Option (List Logged))). get_or l (i + 1) None) j.taken

@@ -1,0 +1,39 @@
+-- Why a run ends.
+use Rattle.std.proofs.Common.{◌≡◌, ◌⊎◌, inl, inr, ℕ, zero, suc, ◌*◌, ◌≤◌, Bool, true, false, List, length, refl, arith}
+use Rattle.std.specs.Prelude.{◌↔◌}
+use Rattle.pop_net.specs.declared.net.Word.{Word}
+use Rattle.pop_net.specs.NetModel.{NetModel, CrowdModel}
+use Rattle.pop_net.specs.Step.{Step}
+use Rattle.pop_net.specs.Terminal.{IsTerminal}
+use Rattle.pop_net.specs.Lanes.{crowd_of, AreValid}
+use Rattle.pop_crowd.specs.declared.crowd.Meeting.{Meeting}
+use Rattle.pop_words.specs.declared.spec.RunSpec.{RunSpec}
+use Rattle.pair_workers.specs.declared.alone.TheConstants.{ROUND_TURNS}
+use Rattle.pair_workers.specs.declared.alone.End.{End}
+use Rattle.pair_workers.specs.declared.alone.End.TheVariants.{Terminal, Open}
+use Rattle.pair_workers.specs.Run.{IsRun}
+use Rattle.pair_workers.specs.Ends.{RunGoesOn, IsEndOf, EndsBy, IsRunFrom}
+use Rattle.pair_workers.proofs.ManyRounds.{AreOnTheRun, all_run_over}
+
+-- where no further round is made the crowd is terminal, or no turns are left
+pub over_by : (net : NetModel) (crowd : CrowdModel) (left : ℕ) (more : Bool) → more ≡ false → (more ≡ true) ↔ RunGoesOn net crowd left → (end : End) → IsEndOf net crowd end → IsTerminal (Step net) crowd ⊎ (left ≡ 0)
+over_by net crowd left more none goes Terminal is = inl is
+over_by net crowd zero more none goes (Open a b) is = inr refl
+over_by net crowd (suc left) more none goes (Open a b) is = let on : more ≡ true = goes.1 (omega arith, is.1) in absurd cc
+
+ends_by : (net : NetModel) (crowd : CrowdModel) (spec : RunSpec) (rounds : ℕ) (end : End) → IsEndOf net crowd end → IsTerminal (Step net) crowd ⊎ (spec.turns ≤ ROUND_TURNS * rounds) → EndsBy net crowd spec rounds end
+ends_by net crowd spec rounds Terminal is over = is
+ends_by net crowd spec rounds (Open a b) is (inl terminal) = absurd (is.1 terminal)
+ends_by net crowd spec rounds (Open a b) is (inr spent) = (is.0, spent, is.1)
+
+-- rounds after which no further one is made are a run
+pub run_ended : (net : NetModel) (first last : List Word) (spec : RunSpec) (rounds : List (List Meeting)) (pickers : List (List ℕ)) (left : ℕ) (more : Bool) (end : End) → AreOnTheRun net (crowd_of net first) spec rounds (crowd_of net last) pickers left
+    → AreValid net last → length last ≡ length first → more ≡ false → (more ≡ true) ↔ RunGoesOn net (crowd_of net last) left → IsEndOf net (crowd_of net last) end → IsRunFrom net first spec (record { rounds = rounds; crowd = last; end = end })
+run_ended net first last spec rounds pickers left more end on valid agents none goes is =
+    let run : IsRun net (crowd_of net first) spec rounds (crowd_of net last) = all_run_over net _ spec rounds _ _ left on (over_by net (crowd_of net last) left more none goes end is) in
+    record {
+      run = run;
+      ends = ends_by net (crowd_of net last) spec (length rounds) end is run.over;
+      valid = valid;
+      agents = agents;
+    }
