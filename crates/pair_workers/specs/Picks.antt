@@ -28,7 +28,7 @@ abbrev pub picks : (seed worker n count : ℕ) → List (ℕ × ℕ)
 picks seed worker n count = picks_from (words_from (first_state seed worker)) n count
 
 -- two different agents of n
-pub record IsPairOf (n : ℕ) (pair : ℕ × ℕ) : Type 0 where
+pub record IsPairBelow (n : ℕ) (pair : ℕ × ℕ) : Type 0 where
   pub different : pair.0 ≢ pair.1
   pub first : pair.0 < n
   pub second : pair.1 < n

@@ -2,7 +2,7 @@
 
 ghost use Rattle.std.specs.Prelude.{◌≡◌, ℕ, ◌≤◌, IfOk};
 ghost use Rattle.pair_workers.specs.CrowdSize.{IsCrowdSize};
-ghost use Rattle.pair_workers.specs.Picks.{words_from, first_state, picks_from, picks, IsPairOf, IsNextPick};
+ghost use Rattle.pair_workers.specs.Picks.{words_from, first_state, picks_from, picks, IsPairBelow, IsNextPick};
 
 use pop_io::NoMemory;
 use pop_words::SEED_LIMIT;
@@ -50,7 +50,7 @@ impl Picker {
     pub fn pick(&mut self, n: u32) -> (u32, u32)
         requires { IsCrowdSize n }
         ensures next { IsNextPick n self.old self.new result }
-        ensures pair { IsPairOf n result }
+        ensures pair { IsPairBelow n result }
     {
         let word = self.words.next_u64();
         let a = ((word >> 32) % u64::from(n)) as u32;

@@ -61,6 +61,7 @@ impl<'n> PairTable<'n> {
         }
         Ok(None)
     }
+
     /// Whether a crowd is terminal. The pair that was found last is looked at first, and the agents are walked over
     /// only where its meeting changes nothing now: then the pair that is found is kept.
     pub fn is_terminal(
