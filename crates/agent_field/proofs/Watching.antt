@@ -10,7 +10,7 @@ use Rattle.pop_crowd.specs.Replay.{replay}
 use Rattle.agent_field.specs.declared.view.Look.{Look}
 use Rattle.agent_field.specs.declared.view.Setup.{Setup}
 use Rattle.agent_field.specs.declared.view.View.{View}
-use Rattle.agent_field.specs.Standing.{agents_of, packed, crowd_after, In, IsLook, AreAscending, StandsAt}
+use Rattle.agent_field.specs.Standing.{agents_of, packed, crowd_after, In, IsLook, LooksAscend, StandsAt}
 use Rattle.agent_field.specs.History.{IsHistory}
 use Rattle.agent_field.specs.Steps.{seen, look_of, looking, IsSeenAt}
 use Rattle.agent_field.proofs.Histories.{length-replay}
@@ -21,7 +21,7 @@ In-push : {A : Type 0} (l : List A) (a x : A) → In x (l ++ a ∷ []) → In x 
 In-push [] a x h = ⊎_elim (λ e. inr e) (λ (n : ⊥). absurd n) h
 In-push (y ∷ ys) a x h = ⊎_elim (λ e. inl (inl e)) (λ i. ⊎_elim (λ was. inl (inr was)) (λ e. inr e) (In-push ys a x i)) h
 
-ascending-push : (looks : List Look) (new : Look) → AreAscending looks → ((look : Look) → In look looks → look.ticket ≤ new.ticket) → AreAscending (looks ++ new ∷ [])
+ascending-push : (looks : List Look) (new : Look) → LooksAscend looks → ((look : Look) → In look looks → look.ticket ≤ new.ticket) → LooksAscend (looks ++ new ∷ [])
 ascending-push [] new h late = ((λ later i. absurd i), tt)
 ascending-push (look ∷ looks) new h late = (
   (λ later i. ⊎_elim (λ (was : In later looks). h.0 later was) (λ (e : later ≡ new). subst (λ (n : ℕ). look.ticket ≤ n) (ap (λ (l : Look). l.ticket) (sym e)) (late look (inl refl))) (In-push looks new later i)),

@@ -142,14 +142,14 @@ IsLook net opening history look =
     × AreValid net look.words
 
 -- no look has a lower ticket than one before it
-abbrev pub AreAscending : List Look → Type 0
-AreAscending [] = Unit {0}
-AreAscending (look ∷ looks) = ((later : Look) → In later looks → look.ticket ≤ later.ticket) × AreAscending looks
+abbrev pub LooksAscend : List Look → Type 0
+LooksAscend [] = Unit {0}
+LooksAscend (look ∷ looks) = ((later : Look) → In later looks → look.ticket ≤ later.ticket) × LooksAscend looks
 
 -- LooksPart
 pub record LooksPart (k : Setup) (history : List Meeting) (looks : List Look) : Type 0 where
   pub each : (look : Look) → In look looks → IsLook k.net.value k.opening.value history look
-  pub ascending : AreAscending looks
+  pub ascending : LooksAscend looks
 
 -- what stands of the view of the seat `id`
 pub record Agrees (k : Setup) (words : List ℕ) (history : List Meeting) (seat : ℕ → Option ℕ) (id : ℕ) (v : View) : Type 0 where

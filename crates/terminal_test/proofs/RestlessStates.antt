@@ -17,7 +17,7 @@ use Rattle.pop_net.proofs.Quiet.{leaf_quiet, leaves_quiet, All-slice_get}
 use Rattle.pop_net.proofs.Silent.{same_pair_cases}
 use Rattle.pop_crowd.specs.Replay.{reacts, changes}
 use Rattle.terminal_test.specs.Loud.{pairs_of, ArePairsBelow}
-use Rattle.terminal_test.specs.Restless.{CountsTo, AreSeen, are_held_by, AreMarkedTo, AreMarked, IsMarked, AreRestlessTo, AreRestless, IsCalmTo, IsCalm}
+use Rattle.terminal_test.specs.Restless.{CountsTo, AreSeen, are_held_by, AreMarkedTo, AreMarkedByAll, IsMarked, AreRestlessTo, AreRestless, IsCalmTo, IsCalm}
 use Rattle.terminal_test.proofs.LoudPairs.{in_pairs, pairs_below}
 use Rattle.terminal_test.proofs.Pairwise.{moved}
 use Rattle.terminal_test.proofs.Searches.{changes_at}
@@ -151,7 +151,7 @@ mover leaf x y loud = go (find (takes x y) leaf.moves) refl
         let parts = and_parts (not (silent_move t)) (same_pair x y t.p t.q) s.2 in
         (s.0, t, s.1, not-true _ parts.0, parts.1)
 
-module _ (leaf : LeafModel) (states seen : List ℕ) (marks : List Bool) (n : ℕ) (agents : length states ≡ n) (counted : CountsTo states seen n) (marked : AreMarked (pairs_of leaf.moves) seen marks) where
+module _ (leaf : LeafModel) (states seen : List ℕ) (marks : List Bool) (n : ℕ) (agents : length states ≡ n) (counted : CountsTo states seen n) (marked : AreMarkedByAll (pairs_of leaf.moves) seen marks) where
   there : (a x : ℕ) → slice_get states a ≡ Some x → 1 ≤ get_or seen x 0
   there a x ha = counted.once a x (let l = slice_get_within states a x ha in omega (arith, l, agents)) ha
 
@@ -281,9 +281,9 @@ pairs_in_range leaf pairs n formed e same =
     (subst (λ (m : ℕ). ArePairsBelow m (pairs_of leaf.moves)) (sym same) (pairs_below (length leaf.states) leaf.moves formed.moves))
 
 -- the marks of a leaf
-pub leaf_marked : (net : NetModel) (crowd : CrowdModel) (i : ℕ) (leaf : LeafModel) (pairs : List (ℕ × ℕ)) (seen : List ℕ) (marks : List Bool) → slice_get net.leaves i ≡ Some leaf → pairs ≡ pairs_of leaf.moves → AreSeen net i crowd seen → AreMarked pairs seen marks → IsMarked leaf (component i crowd) marks
+pub leaf_marked : (net : NetModel) (crowd : CrowdModel) (i : ℕ) (leaf : LeafModel) (pairs : List (ℕ × ℕ)) (seen : List ℕ) (marks : List Bool) → slice_get net.leaves i ≡ Some leaf → pairs ≡ pairs_of leaf.moves → AreSeen net i crowd seen → AreMarkedByAll pairs seen marks → IsMarked leaf (component i crowd) marks
 leaf_marked net crowd i leaf pairs seen marks h e are marked =
     record {
       size = marked.size ∙ are.size leaf h;
-      marked = mark_there leaf (component i crowd) seen marks (length crowd) (length-map crowd (λ tuple. state_of tuple i)) are.counted (subst (λ (zs : List (ℕ × ℕ)). AreMarked zs seen marks) e marked);
+      marked = mark_there leaf (component i crowd) seen marks (length crowd) (length-map crowd (λ tuple. state_of tuple i)) are.counted (subst (λ (zs : List (ℕ × ℕ)). AreMarkedByAll zs seen marks) e marked);
     }

@@ -27,8 +27,8 @@ pub record AreMarkedTo (pairs : List (ℕ × ℕ)) (seen : List ℕ) (marks : Li
   pub first : (j p q : ℕ) → j < k → slice_get pairs j ≡ Some (p, q) → are_held_by seen p q ≡ true → slice_get marks p ≡ Some true
   pub second : (j p q : ℕ) → j < k → slice_get pairs j ≡ Some (p, q) → are_held_by seen p q ≡ true → slice_get marks q ≡ Some true
 
-abbrev pub AreMarked : List (ℕ × ℕ) → List ℕ → List Bool → Type 0
-AreMarked pairs seen marks = AreMarkedTo pairs seen marks (length pairs)
+abbrev pub AreMarkedByAll : List (ℕ × ℕ) → List ℕ → List Bool → Type 0
+AreMarkedByAll pairs seen marks = AreMarkedTo pairs seen marks (length pairs)
 
 -- a state in which some agent reacts with another one is marked
 pub record IsMarked (leaf : LeafModel) (states : List ℕ) (marks : List Bool) : Type 0 where

@@ -4,7 +4,7 @@ ghost use Rattle.std.specs.Prelude.{◌≡◌, ◌<◌, length, map, IfOk, false
 ghost use Rattle.pop_net.specs.Lanes.{tuple_of, crowd_of, IsValid, AreValid};
 ghost use Rattle.pop_net.proofs.Projection.{component};
 ghost use Rattle.terminal_test.specs.Loud.{pairs_of, ArePairsBelow};
-ghost use Rattle.terminal_test.specs.Restless.{AreSeen, are_held_by, AreMarked, IsMarked, IsLeafOf, AreRestless};
+ghost use Rattle.terminal_test.specs.Restless.{AreSeen, are_held_by, AreMarkedByAll, IsMarked, IsLeafOf, AreRestless};
 ghost use Rattle.terminal_test.specs.Restless.{AreSizes, IsCalm};
 
 use pop_crowd::Crowd;
@@ -88,7 +88,7 @@ fn seen_states(alloc: Global, net: &Net, crowd: &Crowd, leaf: u8) -> Result<Vec<
 /// The states of the pairs that can meet.
 fn marked_states(alloc: Global, pairs: &[(u16, u16)], seen: &[u8]) -> Result<List<bool>, NoMemory>
     requires { ArePairsBelow (length seen.now) pairs.now }
-    ensures { IfOk result (AreMarked pairs.now seen.now) }
+    ensures { IfOk result (AreMarkedByAll pairs.now seen.now) }
 {
     let mut marks = vec![in alloc; false; seen.len()]?;
     for pair in pairs {
