@@ -7,7 +7,7 @@ use Rattle.pop_crowd.specs.declared.crowd.Meeting.{Meeting}
 use Rattle.pop_words.specs.declared.spec.RunSpec.{RunSpec}
 use Rattle.pair_workers.specs.Run.{IsRound, joined, made_by, turns_in}
 use Rattle.pair_workers.specs.WatchedRun.{IsWatchedRound, AreSpent}
-use Rattle.pair_workers.proofs.WholeWatched.{joined_made, turns_on}
+use Rattle.pair_workers.proofs.SpentTurns.{HasTurns, joined_made, turns_on, first_turns, next_turns, made_most, has_turns}
 use Rattle.pop_journal.specs.Expected.{lacking}
 use Rattle.pop_journal.specs.Standing.{lacking_behind}
 
@@ -103,56 +103,27 @@ module _ (spec : RunSpec) where
       i r h)
 
   module _ (w : ℕ) where
-    abbrev HasTurns : ℕ → List (List Meeting) → Type 0
-    HasTurns k rounds = (i : ℕ) (r : List Meeting) → slice_get rounds i ≡ Some r → made_by w r ≤ turns_in spec (k + i + 1)
-
-    first_turns : (k : ℕ) (r : List Meeting) (rounds : List (List Meeting)) → HasTurns k (r ∷ rounds) → made_by w r ≤ min 4096 (spec.turns - 4096 * k)
-    first_turns k r rounds each = subst (λ (n : ℕ). made_by w r ≤ min 4096 (spec.turns - 4096 * n)) (let e : k + 0 + 1 - 1 ≡ k = omega arith in e) (each 0 r refl)
-
-    next_turns : (k : ℕ) (r : List Meeting) (rounds : List (List Meeting)) → HasTurns k (r ∷ rounds) → HasTurns (k + 1) rounds
-    next_turns k r rounds each i s h = subst (λ (n : ℕ). made_by w s ≤ turns_in spec n) (let e : k + suc i + 1 ≡ k + 1 + i + 1 = omega arith in e) (each (suc i) s h)
-
-    -- rounds from round k on have no more meetings than turns are left
-    made_most : (k : ℕ) (rounds : List (List Meeting)) → HasTurns k rounds → made_by w (joined rounds) ≤ spec.turns - 4096 * k
-    made_most k [] each = omega arith
-    made_most k (r ∷ rounds) each =
-        let first = first_turns k r rounds each in
-        let rest = made_most (k + 1) rounds (next_turns k r rounds each) in
-        let all = turns_on spec.turns k in
-        let sum = joined_made w r rounds in omega (arith, first, rest, all, sum)
-
-    made_few : (k : ℕ) (rounds : List (List Meeting)) → HasTurns k rounds → made_by w (joined rounds) ≤ 4096 * length rounds
-    made_few k [] each = omega arith
-    made_few k (r ∷ rounds) each =
-        let first = first_turns k r rounds each in
-        let few : min 4096 (spec.turns - 4096 * k) ≤ 4096 = omega arith in
-        let rest = made_few (k + 1) rounds (next_turns k r rounds each) in
-        let sum = joined_made w r rounds in omega (arith, first, few, rest, sum)
-
-    -- and fewer where the worker lacks one in the last
-    made_less : (k : ℕ) (worker : Option ℕ) (rounds : List (List Meeting)) → lacking_after (k + 1) worker rounds ≡ Some w → HasTurns k rounds → (worker ≡ Some w) ⊎ (made_by w (joined rounds) < spec.turns - 4096 * k)
+    -- rounds from round k on have fewer meetings than turns are left, where the worker lacks one in the last
+    made_less : (k : ℕ) (worker : Option ℕ) (rounds : List (List Meeting)) → lacking_after (k + 1) worker rounds ≡ Some w → HasTurns spec w k rounds → (worker ≡ Some w) ⊎ (made_by w (joined rounds) < spec.turns - 4096 * k)
     made_less k worker [] e each = inl e
     made_less k worker (r ∷ rounds) e each = inr (by_rest (made_less (k + 1) (lacking spec (k + 1) r) rounds e next))
       where
-        next : HasTurns (k + 1) rounds
-        next = next_turns k r rounds each
+        next : HasTurns spec w (k + 1) rounds
+        next = next_turns spec w k r rounds each
 
         by_rest : (lacking spec (k + 1) r ≡ Some w) ⊎ (made_by w (joined rounds) < spec.turns - 4096 * (k + 1)) → made_by w (joined (r ∷ rounds)) < spec.turns - 4096 * k
         by_rest (inl h) =
             let here : made_by w r < min 4096 (spec.turns - 4096 * k) =
             subst (λ (n : ℕ). made_by w r < min 4096 (spec.turns - 4096 * n)) (let same : k + 1 - 1 ≡ k = omega arith in same) (lacking_some (k + 1) r w h).1 in
-            let rest = made_most (k + 1) rounds next in
+            let rest = made_most spec w (k + 1) rounds next in
             let all = turns_on spec.turns k in
             let sum = joined_made w r rounds in omega (arith, here, rest, all, sum)
         by_rest (inr less) =
-            let first = first_turns k r rounds each in
+            let first = first_turns spec w k r rounds each in
             let all = turns_on spec.turns k in
             let sum = joined_made w r rounds in omega (arith, first, less, all, sum)
 
   module _ (rounds : List (List Meeting)) (each : (i : ℕ) (r : List Meeting) → slice_get rounds i ≡ Some r → IsWatchedRound spec (i + 1) r) (spent : AreSpent spec rounds) where
-    has_turns : (w : ℕ) → w < spec.workers → HasTurns w 0 rounds
-    has_turns w l i r h = subst (λ (n : ℕ). made_by w r ≤ turns_in spec n) (let e : i + 1 ≡ 0 + i + 1 = omega arith in e) ((each i r h).each_worker w l)
-
     -- where all turns are spent the last round lacks nothing
     pub spent_none : lacking_after 1 None rounds ≡ None
     spent_none = by_last (lacking_after 1 None rounds) refl
@@ -165,10 +136,4 @@ module _ (spec : RunSpec) where
         by_last None e = e
         by_last (Some w) e =
             let below : w < spec.workers = subst (λ (o : Option ℕ). IfSome o (λ v. v < spec.workers)) e (after_below 1 None rounds tt) in
-            absurd (by_less w below (made_less w 0 None rounds e (has_turns w below)))
-
-    -- and there are rounds for all turns
-    pub spent_rounds : 1 ≤ spec.workers → spec.turns ≤ 4096 * length rounds
-    spent_rounds some =
-        let first : 0 < spec.workers = omega (arith, some) in
-        let few = made_few 0 0 rounds (has_turns 0 first) in let all = spent 0 first in omega (arith, few, all)
+            absurd (by_less w below (made_less w 0 None rounds e (has_turns spec rounds each w below)))

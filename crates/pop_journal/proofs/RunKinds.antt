@@ -16,11 +16,11 @@ use Rattle.pair_workers.specs.Run.{IsRun, joined, meetings_of}
 use Rattle.pair_workers.specs.WatchedRun.{IsWatchedRound, IsWatchedRun, IsRunOf, AreSpent}
 use Rattle.pair_workers.proofs.Meets.{picked_meet}
 use Rattle.pair_workers.proofs.Rounds.{joined_all}
+use Rattle.pair_workers.proofs.SpentTurns.{over_by_rounds}
 use Rattle.pair_workers.proofs.WholeWatched.{watched_round, whole_is_watched}
 use Rattle.pop_journal.specs.Expected.{words_after, next_meeting}
 use Rattle.pop_journal.specs.Rounds.{AreRounds, AreWatchedRounds, AreRoundsOf}
 use Rattle.pop_journal.proofs.Due.{AreDue, picked_due}
-use Rattle.pop_journal.proofs.Lacks.{spent_rounds}
 
 pub few_workers : (kind : RunKind) (n : ℕ) → n ≤ most_workers kind → n ≤ 64
 few_workers Whole n l = omega (arith, l)
@@ -64,12 +64,8 @@ module _ (net : NetModel) (start : CrowdModel) (spec : RunSpec) (rounds : List (
         marked = run.marked;
         replays = run.replays;
         goes_on = run.goes_on;
-        over = over run.over;
+        over = over_by_rounds spec rounds run.each_round some run.over;
       }
-    where
-      over : IsTerminal (Step net) end ⊎ AreSpent spec rounds → IsTerminal (Step net) end ⊎ (spec.turns ≤ 4096 * length rounds)
-      over (inl t) = inl t
-      over (inr spent) = inr (spent_rounds spec rounds run.each_round spent some)
 
   pub is_of_kind : (kind : RunKind) (agents : ℕ) → AreRoundsOf kind spec agents rounds → 1 ≤ spec.workers → IsWatchedRun net start spec rounds end → IsRunOf kind net start spec rounds end
   is_of_kind Whole agents form some run = is_whole agents form some run

@@ -4,6 +4,7 @@ ghost use Rattle.std.specs.Prelude.{◌≡◌, ◌≢◌, true, false, ◌∷◌
 ghost use Rattle.pop_net.specs.NetModel.{CrowdModel};
 ghost use Rattle.pop_net.specs.Lanes.{crowd_of, AreValid};
 ghost use Rattle.pop_crowd.specs.Replay.{AreMeetings};
+ghost use Rattle.pair_workers.specs.CrowdSize.{IsCrowdSize};
 ghost use Rattle.pair_workers.specs.Picks.{first_state, words_from};
 ghost use Rattle.pop_lines.specs.Lines.{lines_of, ended};
 ghost use Rattle.pop_crowd.specs.Tally.{crowd_lines};
@@ -19,7 +20,7 @@ use crate::last::Last;
 use crate::limits::ROUND_LIMIT;
 use crate::write::push_last_line;
 use pair_workers::{Picker, ROUND_TURNS};
-use pop_crowd::{AGENT_LEAST, AGENT_LIMIT, Crowd, Meeting};
+use pop_crowd::{Crowd, Meeting};
 use pop_io::{List, NoMemory, WORKER_LIMIT};
 use pop_lines::{next_line, push_number};
 use pop_net::Net;
@@ -32,6 +33,8 @@ use terminal_test::{PairTable, agreed};
 pub(crate) struct Replayer {
     pub(crate) crowd: Crowd,
     pub(crate) pickers: Vec<Picker>,
+    /// The pair that was found last where a crowd was looked at.
+    pub(crate) last: Option<(u32, u32)>,
 }
 
 /// A meeting line.
@@ -120,8 +123,7 @@ impl Replayer {
         requires valid { AreValid net.now self.old.crowd }
         requires meetings { AreMeetings (length self.old.crowd) meetings.now }
         requires workers { All (λ m. m.worker < length self.old.pickers.items) meetings.now }
-        requires few { (AGENT_LEAST ≤ length self.old.crowd) × (length self.old.crowd ≤ AGENT_LIMIT)
-            × (length self.old.pickers.items ≤ WORKER_LIMIT) }
+        requires few { IsCrowdSize (length self.old.crowd) × (length self.old.pickers.items ≤ WORKER_LIMIT) }
         requires line { line + length meetings.now < 2 ^ 64 }
         ensures passes { (start : CrowdModel) (spec : RunSpec) (before : List Meeting)
             → IsReplaying net.now start spec before self.old
@@ -154,8 +156,7 @@ impl Replayer {
         requires valid { AreValid net.now self.old.crowd }
         requires meetings { AreMeetings (length self.old.crowd) meetings.now }
         requires workers { All (λ m. m.worker < length self.old.pickers.items) meetings.now }
-        requires few { (AGENT_LEAST ≤ length self.old.crowd) × (length self.old.crowd ≤ AGENT_LIMIT)
-            × (length self.old.pickers.items ≤ WORKER_LIMIT) }
+        requires few { IsCrowdSize (length self.old.crowd) × (length self.old.pickers.items ≤ WORKER_LIMIT) }
         requires line { line + 1 + length meetings.now < 2 ^ 64 }
         ensures passes { (start : CrowdModel) (spec : RunSpec) (before : List Meeting)
             → IsReplaying net.now start spec before self.old → 1 ≤ turns_in spec round
@@ -167,7 +168,7 @@ impl Replayer {
         ensures agents { length self.new.crowd ≡ length self.old.crowd }
         ensures workers { length self.new.pickers.items ≡ length self.old.pickers.items }
     {
-        if is_quiet(alloc, table, &self.crowd)? {
+        if is_quiet(alloc, table, &self.crowd, &mut self.last)? {
             return Err(round_for_end(alloc, line, round)?);
         }
         self.compare_meetings(alloc, net, meetings, line + 1)
@@ -260,13 +261,17 @@ fn tail_text(alloc: Global, net: &Net, crowd: &Crowd, last: Last) -> Result<Vec<
     Ok(text)
 }
 
-/// Whether a crowd is terminal.
-fn is_quiet(alloc: Global, table: &PairTable, crowd: &Crowd) -> Result<bool, NoMemory>
+/// Whether a crowd is terminal. The pair that was found last is looked at first.
+fn is_quiet(
+    alloc: Global,
+    table: &PairTable,
+    crowd: &Crowd,
+    last: &mut Option<(u32, u32)>,
+) -> Result<bool, NoMemory>
     requires { AreValid (net_of table.now) crowd.now }
     ensures { IfOk result (λ quiet. quiet ≡ is_terminal (net_of table.now) (crowd_of (net_of table.now) crowd.now)) }
 {
-    let found = table.enabled_pair(alloc, crowd)?;
-    Ok(found.is_none())
+    table.is_terminal(alloc, crowd, last)
 }
 
 /// The last line for a crowd.

@@ -3,6 +3,7 @@
 ghost use Rattle.std.specs.Prelude.{◌≡◌, ◌≤◌, ◌+◌, [], length, IfOk, IfErr};
 ghost use Rattle.pop_net.specs.Lanes.{crowd_of, AreValid};
 ghost use Rattle.pop_words.specs.Options.{IsWithinLimits};
+ghost use Rattle.pair_workers.specs.CrowdSize.{IsCrowdSize};
 ghost use Rattle.pair_workers.specs.Run.{joined};
 ghost use Rattle.pop_journal.specs.Rounds.{AreWatchedRounds, AreRoundsOf};
 ghost use Rattle.pop_journal.specs.Expected.{journal_compared, Holds};
@@ -14,7 +15,7 @@ use crate::journal::{Journal, LINE_LIMIT};
 use crate::lacking::lacking_last;
 use crate::replayer::Replayer;
 use pair_workers::first_pickers;
-use pop_crowd::{AGENT_LEAST, AGENT_LIMIT, Crowd};
+use pop_crowd::Crowd;
 use pop_io::NoMemory;
 use pop_net::Net;
 use pop_words::{RunSpec, SEED_LIMIT};
@@ -32,12 +33,16 @@ fn first_replayer(
     requires valid { AreValid net.now crowd }
     ensures stands { IfOk result (IsReplaying net.now (crowd_of net.now crowd) spec.now []) }
     ensures crowd { IfOk result (λ r. r.crowd ≡ crowd) }
-    ensures few { (AGENT_LEAST ≤ length crowd) × (length crowd ≤ AGENT_LIMIT) }
+    ensures few { IsCrowdSize (length crowd) }
 {
     let _ = net;
     let _ = crowd.len();
     let pickers = first_pickers(alloc, spec)?;
-    Ok(Replayer { crowd, pickers })
+    Ok(Replayer {
+        crowd,
+        pickers,
+        last: None,
+    })
 }
 
 /// Compares all lines of a journal behind the first.
@@ -49,7 +54,7 @@ fn compare(alloc: Global, net: &Net, crowd: Crowd, journal: &Journal) -> Result<
     ensures passes { Passes (journal.now.first + 1)
         (journal_compared net.now (crowd_of net.now crowd) journal.now) result }
     ensures meetings { IfOk result (λ k. k ≡ length (joined journal.now.rounds)) }
-    ensures agents { (AGENT_LEAST ≤ length crowd) × (length crowd ≤ AGENT_LIMIT) }
+    ensures agents { IsCrowdSize (length crowd) }
 {
     let table = PairTable::new(alloc, net)?;
     let mut replayer = first_replayer(alloc, net, crowd, &journal.spec)?;
