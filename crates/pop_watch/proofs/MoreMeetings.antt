@@ -12,20 +12,9 @@ use Rattle.pair_workers.specs.Picks.{picks_from, words_from}
 use Rattle.pair_workers.specs.Turns.{HasPicked}
 use Rattle.pair_workers.specs.Run.{meetings_of, pairs, made_by}
 use Rattle.pair_workers.proofs.Played.{marked_append}
+use Rattle.pair_workers.proofs.Turns.{picked_more}
 use Rattle.pop_watch.specs.declared.played.Played.{Played}
 use Rattle.pop_watch.specs.Playing.{ArePlaying, IsPlayed, GoesOn, HasMore}
-
-picked_more : (n turns : ℕ) (before now after : List ℕ) (made : List (ℕ × ℕ)) (pick : ℕ × ℕ) → HasPicked n turns before now made
-    → ((count : ℕ) → picks_from (words_from now) n (suc count) ≡ pick ∷ picks_from (words_from after) n count) → HasPicked n (turns + 1) before after (made ++ pick ∷ [])
-picked_more n turns before now after made pick h next =
-    record {
-      long = length-append made (pick ∷ []) ∙ ap (λ k. k + 1) h.long;
-      picked = λ count.
-          ap (λ k. picks_from (words_from before) n k) (let e : turns + 1 + count ≡ turns + suc count = omega arith in e)
-          ∙ h.picked (suc count)
-          ∙ ap (λ (ps : List (ℕ × ℕ)). made ++ ps) (next count)
-          ∙ sym (append_assoc made (pick ∷ []) (picks_from (words_from after) n count));
-    }
 
 -- a meeting more, if it is the worker's
 picked_if : (b : Bool) (n : ℕ) (ms : List Meeting) (m : Meeting) (first now next : List ℕ) → HasPicked n (length ms) first now (pairs ms)

@@ -22,7 +22,11 @@ use Rattle.pair_workers.proofs.Turns.{picked_on}
 use Rattle.pair_workers.proofs.ManyRounds.{AreOnTheRun, all_more_rounds, all_run_over}
 use Rattle.pair_workers.specs.WatchedRun.{IsWatchedRound, IsWatchedRun, AreSpent}
 use Rattle.pair_workers.proofs.WholeWatched.{watched_round, whole_is_watched}
+use Rattle.pair_workers.specs.declared.alone.End.{End}
+use Rattle.pair_workers.specs.declared.alone.End.TheVariants.{Terminal, Open}
+use Rattle.pair_workers.specs.Ends.{IsEndOf}
 use Rattle.pop_watch.specs.Playing.{ArePlaying, AreAllMade}
+use Rattle.pop_watch.specs.WatchedEnds.{EndsBy}
 
 -- the run goes on, or it is over in a terminal crowd
 abbrev pub IsOnTheWay : NetModel → CrowdModel → RunSpec → List (List Meeting) → CrowdModel → List (List ℕ) → ℕ → Type 0
@@ -102,15 +106,12 @@ module _ (net : NetModel) (start : CrowdModel) (spec : RunSpec) (rounds : List (
     one_round_more (inl on) some goes few (inl all) = inl (all_more_rounds net start spec rounds crowd pickers left on end after round (all_played all) some goes)
     one_round_more (inl on) some goes few (inr t) = inr (stopped_run on some goes few t, t)
 
-  pub ended : IsOnTheWay net start spec rounds crowd pickers left → IsTerminal (Step net) crowd → IsWatchedRun net start spec rounds crowd
-  ended (inl on) t = whole_is_watched net start spec rounds crowd (all_run_over net start spec rounds crowd pickers left on (inl t))
-  ended (inr over) t = over.0
+  -- such a run, once it is over
+  pub run_over : IsOnTheWay net start spec rounds crowd pickers left → IsTerminal (Step net) crowd ⊎ (left ≡ 0) → IsWatchedRun net start spec rounds crowd
+  run_over (inl on) over = whole_is_watched net start spec rounds crowd (all_run_over net start spec rounds crowd pickers left on over)
+  run_over (inr stopped) over = stopped.0
 
-  pub used_up : IsOnTheWay net start spec rounds crowd pickers left → left ≡ 0 → (IsTerminal (Step net) crowd → ⊥) → IsWatchedRun net start spec rounds crowd × AreSpent spec rounds
-  used_up (inl on) none goes =
-      let run = whole_is_watched net start spec rounds crowd (all_run_over net start spec rounds crowd pickers left on (inr none)) in (run, spent run.over)
-    where
-      spent : IsTerminal (Step net) crowd ⊎ AreSpent spec rounds → AreSpent spec rounds
-      spent (inl t) = absurd (goes t)
-      spent (inr s) = s
-  used_up (inr over) none goes = absurd (goes over.1)
+pub ends_by : (net : NetModel) (crowd : CrowdModel) (spec : RunSpec) (rounds : List (List Meeting)) (end : End) → IsEndOf net crowd end → IsTerminal (Step net) crowd ⊎ AreSpent spec rounds → EndsBy net crowd spec rounds end
+ends_by net crowd spec rounds Terminal is over = is
+ends_by net crowd spec rounds (Open a b) is (inl terminal) = absurd (is.1 terminal)
+ends_by net crowd spec rounds (Open a b) is (inr spent) = (is.0, spent, is.1)

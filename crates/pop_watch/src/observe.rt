@@ -4,12 +4,13 @@ ghost use Rattle.std.specs.Prelude.{◌≡◌, ◌+◌, ◌≤◌, length, IfOk}
 ghost use Rattle.pop_net.specs.Lanes.{AreValid};
 ghost use Rattle.agent_field.specs.Seats.{IsSeatOf, KeepsLogs, number_of, opening_of, spare_looks_of, net_of};
 ghost use Rattle.terminal_test.specs.TableNet.{net_of as table_net};
+ghost use Rattle.pair_workers.specs.CrowdSize.{IsCrowdSize};
 
 use crate::limits::LOOKS_A_ROUND;
 use crate::signals::Signals;
 use agent_field::{Field, FieldSeat};
 use pair_workers::ROUND_TURNS;
-use pop_crowd::{AGENT_LEAST, AGENT_LIMIT, Crowd};
+use pop_crowd::Crowd;
 use pop_io::{Gate, NoMemory};
 use pop_net::Net;
 use std::alloc::Global;
@@ -25,7 +26,7 @@ fn seen_crowd<R: Wait>(
     seat: &mut FieldSeat,
 ) -> Result<Crowd, NoMemory>
     requires net { net_of field.now ≡ net.now }
-    requires agents { (AGENT_LEAST ≤ length (opening_of field.now)) × (length (opening_of field.now) ≤ AGENT_LIMIT) }
+    requires agents { IsCrowdSize (length (opening_of field.now)) }
     requires ours { IsSeatOf field.now seat.old }
     requires first { number_of seat.old ≡ 0 }
     requires room { 1 ≤ spare_looks_of seat.old }
@@ -55,7 +56,7 @@ fn look_on<R: Wait, G: Gate>(
 ) -> Result<u64, NoMemory>
     requires table { table_net table.now ≡ net.now }
     requires net { net_of field.now ≡ net.now }
-    requires agents { (AGENT_LEAST ≤ length (opening_of field.now)) × (length (opening_of field.now) ≤ AGENT_LIMIT) }
+    requires agents { IsCrowdSize (length (opening_of field.now)) }
     requires ours { IsSeatOf field.now seat.old }
     requires first { number_of seat.old ≡ 0 }
     requires room { LOOKS_A_ROUND ≤ spare_looks_of seat.old }
@@ -64,6 +65,7 @@ fn look_on<R: Wait, G: Gate>(
     ensures ours { IsSeatOf field.now seat.new }
     ensures rest { KeepsLogs seat.old seat.new }
 {
+    let mut last = None;
     'looks: for look in 0..LOOKS_A_ROUND {
         let due = turns * u64::from(look) / u64::from(LOOKS_A_ROUND);
         if turns <= signals.turn_from(due) {
@@ -71,7 +73,7 @@ fn look_on<R: Wait, G: Gate>(
         }
         gate.pass(workers, u64::from(look) + 1);
         let crowd = seen_crowd(rt, alloc, net, field, seat)?;
-        if table.enabled_pair(alloc, &crowd)?.is_none() {
+        if table.is_terminal(alloc, &crowd, &mut last)? {
             signals.stop();
             return Ok(u64::from(look) + 1);
         }
@@ -94,7 +96,7 @@ pub(crate) fn observe<R: Wait, G: Gate>(
 ) -> Result<(), NoMemory>
     requires table { table_net table.now ≡ net.now }
     requires net { net_of field.now ≡ net.now }
-    requires agents { (AGENT_LEAST ≤ length (opening_of field.now)) × (length (opening_of field.now) ≤ AGENT_LIMIT) }
+    requires agents { IsCrowdSize (length (opening_of field.now)) }
     requires ours { IsSeatOf field.now seat.old }
     requires first { number_of seat.old ≡ 0 }
     requires room { LOOKS_A_ROUND ≤ spare_looks_of seat.old }

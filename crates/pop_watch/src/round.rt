@@ -6,6 +6,8 @@ ghost use Rattle.pop_crowd.specs.declared.crowd.Meeting.{Meeting as MeetingModel
 ghost use Rattle.agent_field.specs.Seats.{IsOpened, IsSeatOf, KeepsLogs, number_of, spare_looks_of, net_of};
 ghost use Rattle.terminal_test.specs.TableNet.{net_of as table_net};
 ghost use Rattle.pop_words.specs.Options.{IsWithinLimits};
+ghost use Rattle.pair_workers.specs.CrowdSize.{IsCrowdSize};
+ghost use Rattle.pair_workers.specs.Turns.{CanMakeRound};
 ghost use Rattle.pair_workers.specs.Work.{agents_of};
 ghost use Rattle.pair_workers.specs.Run.{made_by};
 ghost use Rattle.pop_watch.specs.Work.{MayWatch, MayPlay, AreSeated, HasPlayed};
@@ -20,7 +22,7 @@ use crate::signals::Signals;
 use crate::work::{Worker, work_all};
 use agent_field::{Field, FieldSeat};
 use pair_workers::{Picker, ROUND_TURNS, words_of};
-use pop_crowd::{AGENT_LEAST, AGENT_LIMIT, Crowd, Meeting};
+use pop_crowd::{Crowd, Meeting};
 use pop_io::{Gate, NoMemory};
 use pop_net::Net;
 use pop_words::{RunSpec, WATCHED_WORKERS};
@@ -61,7 +63,7 @@ fn watch_beside<R: Threads + Wait + Sync, G: Gate>(
 ) -> Result<(), NoMemory>
     requires table { table_net table.now ≡ net.now }
     requires net { net_of field.now ≡ net.now }
-    requires agents { (AGENT_LEAST ≤ agents_of field.now) × (agents_of field.now ≤ AGENT_LIMIT) }
+    requires agents { IsCrowdSize (agents_of field.now) }
     requires turns { turns ≤ ROUND_TURNS }
     requires seat { IsSeatOf field.now seat.old × (number_of seat.old ≡ 0) × (LOOKS_A_ROUND ≤ spare_looks_of seat.old) }
     requires workers { All (MayPlay field.now turns) workers.old }
@@ -75,7 +77,7 @@ fn watch_beside<R: Threads + Wait + Sync, G: Gate>(
         rt,
         &mut || -> Result<(), NoMemory>
             requires { (table_net table.now ≡ net.now) × (net_of field.now ≡ net.now)
-                × (AGENT_LEAST ≤ agents_of field.now) × (agents_of field.now ≤ AGENT_LIMIT) × (turns ≤ ROUND_TURNS)
+                × IsCrowdSize (agents_of field.now) × (turns ≤ ROUND_TURNS)
                 × IsSeatOf field.now seat.now × (number_of seat.now ≡ 0) × (LOOKS_A_ROUND ≤ spare_looks_of seat.now) }
             ensures { IsSeatOf field.entry.now seat.exit.now × KeepsLogs seat.entry.now seat.exit.now }
         {
@@ -84,8 +86,7 @@ fn watch_beside<R: Threads + Wait + Sync, G: Gate>(
             )
         },
         &mut ||
-            requires { (AGENT_LEAST ≤ agents_of field.now) × (agents_of field.now ≤ AGENT_LIMIT)
-                × All (MayPlay field.now turns) workers.now }
+            requires { IsCrowdSize (agents_of field.now) × All (MayPlay field.now turns) workers.now }
             ensures { (i : ℕ) (d : Worker) → i < length workers.entry.now
                 → HasPlayed field.entry.now turns
                 (slice_index_or workers.entry.now i d) (slice_index_or workers.exit.now i d) }
@@ -104,13 +105,11 @@ fn open_round<'n, R: Wait>(
     pickers: Vec<Picker>,
     turns: u64,
 ) -> Result<(Field<'n>, FieldSeat, Vec<Worker>), NoMemory>
-    requires valid { AreValid net.now crowd.now }
+    requires round { CanMakeRound net.now crowd.now spec.now.workers turns pickers.items }
     requires limits { IsWithinLimits spec.now }
     requires few { spec.now.workers ≤ WATCHED_WORKERS }
-    requires pickers { length pickers.items ≡ spec.now.workers }
-    requires turns { turns ≤ ROUND_TURNS }
     ensures field { IfOk result (λ r. IsOpened r.0 net.now crowd.now spec.now.shards (spec.now.workers + 1)) }
-    ensures agents { (AGENT_LEAST ≤ length crowd.now) × (length crowd.now ≤ AGENT_LIMIT) }
+    ensures agents { IsCrowdSize (length crowd.now) }
     ensures observer { IfOk result (λ r. MayWatch r.0 LOOKS_A_ROUND spec.now.workers r.1) }
     ensures workers { IfOk result (λ r. AreSeated r.0 turns pickers.items r.2.items) }
 {
@@ -134,11 +133,9 @@ fn field_round<R: Threads + Wait + Sync, G: Gate>(
     gate: &G,
 ) -> Result<(Played, Vec<u64>), NoMemory>
     requires table { table_net table.now ≡ net.now }
-    requires valid { AreValid net.now crowd.now }
+    requires round { CanMakeRound net.now crowd.now spec.now.workers turns pickers.items }
     requires limits { IsWithinLimits spec.now }
     requires few { spec.now.workers ≤ WATCHED_WORKERS }
-    requires pickers { length pickers.items ≡ spec.now.workers }
-    requires turns { turns ≤ ROUND_TURNS }
     ensures part { IfOk result (λ r. IsPartOfRound net.now crowd.now spec.now.workers turns pickers.items r.0) }
     ensures made { IfOk result
         (λ r. (length r.1.items ≡ spec.now.workers)
@@ -190,18 +187,16 @@ pub(crate) fn watched_round<R: Threads + Wait + Sync, G: Gate>(
     gate: &G,
 ) -> Result<Played, NoMemory>
     requires table { table_net table.now ≡ net.now }
-    requires valid { AreValid net.now crowd.now }
+    requires round { CanMakeRound net.now crowd.now spec.now.workers turns pickers.items }
     requires limits { IsWithinLimits spec.now }
     requires few { spec.now.workers ≤ WATCHED_WORKERS }
-    requires pickers { length pickers.items ≡ spec.now.workers }
-    requires turns { turns ≤ ROUND_TURNS }
     ensures { IfOk result (IsWatchedRoundFrom net.now crowd.now spec.now.workers turns pickers.items) }
 {
     let (mut played, made) = field_round(rt, alloc, net, table, crowd, spec, pickers, turns, gate)?;
     if are_made(made.as_slice(), turns) {
         return Ok(played);
     }
-    if table.enabled_pair(alloc, &played.crowd)?.is_none() {
+    if table.is_terminal(alloc, &played.crowd, &mut None)? {
         return Ok(played);
     }
     make_missing(net, &mut played, made.as_slice(), turns)?;

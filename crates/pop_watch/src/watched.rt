@@ -1,13 +1,12 @@
 //! Watched runs, round by round.
 
 ghost use Rattle.std.specs.Prelude.{◌≤◌, IfOk};
-ghost use Rattle.pop_net.specs.Lanes.{AreValid};
-ghost use Rattle.pop_words.specs.Options.{IsWithinLimits};
+ghost use Rattle.pair_workers.specs.Ends.{CanMakeRun};
 ghost use Rattle.pop_watch.specs.WatchedEnds.{IsWatchedRunFrom};
 
 use crate::played::Played;
 use crate::round::watched_round;
-use pair_workers::{End, ROUND_TURNS, RunEnd, first_pickers};
+use pair_workers::{ROUND_TURNS, RunEnd, end_of, first_pickers, goes_on};
 use pop_crowd::Crowd;
 use pop_io::{Gate, List, NoMemory};
 use pop_net::Net;
@@ -28,9 +27,8 @@ pub fn run_watched<R: Threads + Wait + Sync, G: Gate>(
     spec: &RunSpec,
     gate: &G,
 ) -> Result<RunEnd, NoMemory>
-    requires limits { IsWithinLimits spec.now }
+    requires can { CanMakeRun net.now crowd spec.now }
     requires workers { spec.now.workers ≤ WATCHED_WORKERS }
-    requires valid { AreValid net.now crowd }
     ensures run { IfOk result (IsWatchedRunFrom net.now crowd spec.now) }
 {
     let mut crowd = crowd;
@@ -38,14 +36,8 @@ pub fn run_watched<R: Threads + Wait + Sync, G: Gate>(
     let mut rounds = Vec::new(alloc);
     let mut left = spec.turns;
     let table = PairTable::new(alloc, net)?;
-    'rounds: while let Some((a, b)) = table.enabled_pair(alloc, &crowd)? {
-        if left == 0 {
-            return Ok(RunEnd {
-                rounds: List::from_vec(rounds),
-                crowd,
-                end: End::Open(a, b),
-            });
-        }
+    let mut last = None;
+    'rounds: while goes_on(alloc, &table, &crowd, left, &mut last)? {
         let turns = ROUND_TURNS.min(left);
         let Played {
             crowd: after,
@@ -57,9 +49,10 @@ pub fn run_watched<R: Threads + Wait + Sync, G: Gate>(
         rounds.push(List::from_vec(meetings))?;
         left -= turns;
     }
+    let end = end_of(alloc, &table, &crowd)?;
     Ok(RunEnd {
         rounds: List::from_vec(rounds),
         crowd,
-        end: End::Terminal,
+        end,
     })
 }

@@ -1,13 +1,13 @@
 //! One worker's turns on the field, up to a stop, and those of all.
 
 ghost use Rattle.std.specs.Prelude.{◌≡◌, ℕ, ◌<◌, ◌≤◌, length, All, slice_index_or};
+ghost use Rattle.pair_workers.specs.CrowdSize.{IsCrowdSize};
 ghost use Rattle.pair_workers.specs.Work.{agents_of};
 ghost use Rattle.pop_watch.specs.Work.{MayPlay, HasPlayed};
 
 use crate::signals::Signals;
 use agent_field::{Field, FieldSeat};
 use pair_workers::Picker;
-use pop_crowd::{AGENT_LEAST, AGENT_LIMIT};
 use pop_io::Gate;
 use std::sync::Wait;
 use std::thread;
@@ -29,7 +29,7 @@ pub(crate) fn work<R: Wait, G: Gate>(
     signals: &Signals,
     gate: &G,
 )
-    requires agents { (AGENT_LEAST ≤ agents_of field.now) × (agents_of field.now ≤ AGENT_LIMIT) }
+    requires agents { IsCrowdSize (agents_of field.now) }
     requires may { MayPlay field.now turns worker.old }
     ensures { HasPlayed field.now turns worker.old worker.new }
 {
@@ -55,7 +55,7 @@ pub(crate) fn work_all<R: Threads + Wait + Sync, G: Gate>(
     signals: &Signals,
     gate: &G,
 )
-    requires agents { (AGENT_LEAST ≤ agents_of field.now) × (agents_of field.now ≤ AGENT_LIMIT) }
+    requires agents { IsCrowdSize (agents_of field.now) }
     requires may { All (MayPlay field.now turns) workers.old }
     ensures { (i : ℕ) (d : Worker) → i < length workers.old
         → HasPlayed field.now turns (slice_index_or workers.old i d) (slice_index_or workers.new i d) }
@@ -66,8 +66,7 @@ pub(crate) fn work_all<R: Threads + Wait + Sync, G: Gate>(
         workers,
         threads,
         &|_i: usize, worker: &mut Worker|
-            requires { (AGENT_LEAST ≤ agents_of field.now) × (agents_of field.now ≤ AGENT_LIMIT)
-                × MayPlay field.now turns worker.now }
+            requires { IsCrowdSize (agents_of field.now) × MayPlay field.now turns worker.now }
             ensures { HasPlayed field.entry.now turns worker.entry.now worker.exit.now }
         { work(rt, field, worker, turns, signals, gate) },
     );

@@ -23,7 +23,7 @@ returns-clause-goes_on c =
     record {
       more = λ start first h.
           let same : c.len.result ≡ length start = c.len.ensures.count ∙ sym (length-map crowd (tuple_of net)) ∙ ap length (sym h.replays) ∙ length-replay net meetings start in
-          let picks = subst (λ (n : ℕ). (count : ℕ) → picks_from (words_from now) n (suc count) ≡ pair ∷ picks_from (words_from next) n count) same c.pick-a.ensures.picks in
+          let picks = subst (λ (n : ℕ). (count : ℕ) → picks_from (words_from now) n (suc count) ≡ pair ∷ picks_from (words_from next) n count) same c.pick-a.ensures.next.in_row in
           subst (λ (t : List Meeting × CrowdModel). ArePlaying net start (length pickers) first (set pickers c.args.worker next) t.0 t.1) (λ i. (sym c.in_ok-push.ensures.items i, sym c.meet-changed.ensures.after i))
           (one_more net start (length pickers) first pickers meetings (crowd_of net crowd) h c.args.worker now next m c.requires.worker refl found refl c.meet-changed.ensures.changed picks);
       pickers = search rules;

@@ -75,9 +75,9 @@ returns-clause-made g c =
     let mine : c.in_ok-meetings.meetings.items ≡ map of_worker meetings = c.in_ok-meetings.ensures ∙ ap (map of_worker) c.as_slice-2.ensures in
     let any : Worker = record { seat = c.watch_beside.new.seat; picker = [] } in
     let made : c.in_ok-made.made.items ≡ map (λ (v : Worker). length (log_of v.seat)) new = c.in_ok-made.ensures ∙ ap (map (λ (v : Worker). length (log_of v.seat))) (c.as_slice.ensures.value ∙ list) in (
-      ap (length {A = ℕ}) made ∙ length-map new (λ (v : Worker). length (log_of v.seat)) ∙ done.0 ∙ c.requires.pickers,
+      ap (length {A = ℕ}) made ∙ length-map new (λ (v : Worker). length (log_of v.seat)) ∙ done.0 ∙ c.requires.round.pickers,
       λ w d l.
-          made_each f turns pickers new c.watch_beside.new.seat c.in_ok-whole.whole meetings done all closed.taken some c.in_ok-made.made.items made w d any (omega (arith, l, done.0, c.requires.pickers))
+          made_each f turns pickers new c.watch_beside.new.seat c.in_ok-whole.whole meetings done all closed.taken some c.in_ok-made.made.items made w d any (omega (arith, l, done.0, c.requires.round.pickers))
           ∙ ap (made_by w) (sym mine),
     )
 
@@ -106,7 +106,7 @@ returns-clause-part g c =
     let words = c.in_ok-round.round.words in
     let crowd : words ≡ c.of_words-crowd.result = sym c.of_words-crowd.ensures in
     let long = as_long (net_of f) (opening_of f) words meetings closed.words ∙ ap (length {A = Word}) is.opening_is in
-    let within : (w : ℕ) → w < workers → w < length new = (λ w l. omega (arith, l, done.0, c.requires.pickers)) in
+    let within : (w : ℕ) → w < workers → w < length new = (λ w l. omega (arith, l, done.0, c.requires.round.pickers)) in
     let playing = are_playing (net_of f) (opening_of f) words workers (seats_of f) pickers after meetings closed.words closed.history is.seats_are some
     (λ w d l. all_picked f turns pickers new c.watch_beside.new.seat c.in_ok-whole.whole meetings done all closed.taken some after moved w d any (within w l)) in
     record {
@@ -116,5 +116,5 @@ returns-clause-part g c =
       few = λ w l. subst (λ (ms : List Meeting). made_by w ms ≤ turns) (sym mine) (few_made f turns pickers new c.watch_beside.new.seat c.in_ok-whole.whole meetings done all closed.taken some w any (within w l));
       valid = subst (λ (t : NetModel × List Word). AreValid t.0 t.1) (λ i. (is.net_is i, crowd i)) closed.valid;
       agents = ap (length {A = Word}) (sym crowd) ∙ long;
-      pickers = ap (length {A = List ℕ}) moved ∙ length-map new (λ (v : Worker). v.picker) ∙ done.0 ∙ c.requires.pickers;
+      pickers = ap (length {A = List ℕ}) moved ∙ length-map new (λ (v : Worker). v.picker) ∙ done.0 ∙ c.requires.round.pickers;
     }

@@ -1,5 +1,5 @@
 use Rattle.std.proofs.Common.{◌≡◌, ◌<◌, ℕ, List, length, inl, inr, sym, ap, subst, ◌∙◌, arith, rules}
-use Rattle.std.specs.Prelude.{All, None, ◌↔◌}
+use Rattle.std.specs.Prelude.{All, true, ◌↔◌}
 use Rattle.pop_net.specs.NetModel.{NetModel}
 use Rattle.pop_net.specs.Step.{Step}
 use Rattle.pop_net.specs.Terminal.{IsTerminal}
@@ -17,13 +17,11 @@ returns-then-are_made g c =
       ends = inl (λ w l. sym (made.1 w 0 l) ∙ all w 0 (omega (arith, l, made.0)));
     }
 
-pub returns-then-is_none : goal.returns-then-is_none
-returns-then-is_none g c =
-    let found = c.in_ok-enabled_pair.field-0 in
-    let none : found ≡ None = search rules in
+pub returns-then-branch : goal.returns-then-branch
+returns-then-branch g c =
     record {
       part = c.in_ok-played.ensures.part;
-      ends = inr ((subst (λ (n : NetModel). (found ≡ None) ↔ IsTerminal (Step n) (crowd_of n c.in_ok-played.played.crowd)) c.requires.table c.in_ok-enabled_pair.ensures.none).0 none);
+      ends = inr ((subst (λ (n : NetModel). (c.in_ok-is_terminal.field-0 ≡ true) ↔ IsTerminal (Step n) (crowd_of n c.in_ok-played.played.crowd)) c.requires.table c.in_ok-is_terminal.ensures.terminal).0 c.if-branch.true);
     }
 
 pub returns : goal.returns
