@@ -14,7 +14,7 @@ use Rattle.pair_workers.specs.Run.{meetings_of, pairs, made_by}
 use Rattle.pair_workers.proofs.Played.{marked_append}
 use Rattle.pair_workers.proofs.Turns.{picked_more}
 use Rattle.pop_watch.specs.declared.played.Played.{Played}
-use Rattle.pop_watch.specs.Playing.{ArePlaying, IsPlayed, GoesOn, HasMore}
+use Rattle.pop_watch.specs.Playing.{ArePlaying, IsPlayedFrom, KeepsPlaying, HasMore}
 
 -- a meeting more, if it is the worker's
 picked_if : (b : Bool) (n : ℕ) (ms : List Meeting) (m : Meeting) (first now next : List ℕ) → HasPicked n (length ms) first now (pairs ms)
@@ -82,13 +82,13 @@ has_more_on w turns more p q r h k v =
     ∙ ap (λ (n : ℕ). n + (if v == w then more else 0)) (h v)
     ∙ sum_if (v == w) (made_by v p.meetings.items) turns more
 
-pub goes_on_none : (net : NetModel) (p : Played) → GoesOn net p p
+pub goes_on_none : (net : NetModel) (p : Played) → KeepsPlaying net p p
 goes_on_none net p = record { more = λ start first h. h; pickers = refl; agents = refl }
 
-pub goes_on_more : (net : NetModel) (p q r : Played) → GoesOn net p q → GoesOn net q r → GoesOn net p r
+pub goes_on_more : (net : NetModel) (p q r : Played) → KeepsPlaying net p q → KeepsPlaying net q r → KeepsPlaying net p r
 goes_on_more net p q r h k =
     record {
-      more = λ start first is. subst (λ (n : ℕ). IsPlayed net start n first r) h.pickers (k.more start first (subst (λ (n : ℕ). IsPlayed net start n first q) (sym h.pickers) (h.more start first is)));
+      more = λ start first is. subst (λ (n : ℕ). IsPlayedFrom net start n first r) h.pickers (k.more start first (subst (λ (n : ℕ). IsPlayedFrom net start n first q) (sym h.pickers) (h.more start first is)));
       pickers = k.pickers ∙ h.pickers;
       agents = k.agents ∙ h.agents;
     }

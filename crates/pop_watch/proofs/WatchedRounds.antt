@@ -26,7 +26,7 @@ use Rattle.pair_workers.specs.declared.alone.End.{End}
 use Rattle.pair_workers.specs.declared.alone.End.TheVariants.{Terminal, Open}
 use Rattle.pair_workers.specs.Ends.{IsEndOf}
 use Rattle.pop_watch.specs.Playing.{ArePlaying, AreAllMade}
-use Rattle.pop_watch.specs.WatchedEnds.{EndsBy}
+use Rattle.pop_watch.specs.WatchedEnds.{WatchedEndsBy}
 
 -- the run goes on, or it is over in a terminal crowd
 abbrev pub IsOnTheWay : NetModel → CrowdModel → RunSpec → List (List Meeting) → CrowdModel → List (List ℕ) → ℕ → Type 0
@@ -111,7 +111,7 @@ module _ (net : NetModel) (start : CrowdModel) (spec : RunSpec) (rounds : List (
   run_over (inl on) over = whole_is_watched net start spec rounds crowd (all_run_over net start spec rounds crowd pickers left on over)
   run_over (inr stopped) over = stopped.0
 
-pub ends_by : (net : NetModel) (crowd : CrowdModel) (spec : RunSpec) (rounds : List (List Meeting)) (end : End) → IsEndOf net crowd end → IsTerminal (Step net) crowd ⊎ AreSpent spec rounds → EndsBy net crowd spec rounds end
+pub ends_by : (net : NetModel) (crowd : CrowdModel) (spec : RunSpec) (rounds : List (List Meeting)) (end : End) → IsEndOf net crowd end → IsTerminal (Step net) crowd ⊎ AreSpent spec rounds → WatchedEndsBy net crowd spec rounds end
 ends_by net crowd spec rounds Terminal is over = is
 ends_by net crowd spec rounds (Open a b) is (inl terminal) = absurd (is.1 terminal)
 ends_by net crowd spec rounds (Open a b) is (inr spent) = (is.0, spent, is.1)

@@ -25,14 +25,14 @@ pub record ArePlaying (net : NetModel) (start : CrowdModel) (workers : ℕ) (bef
   pub nobody_else : All (λ m. m.worker < workers) meetings
 
 -- the same, where the crowd, the pickers and the meetings stand together
-abbrev pub IsPlayed : NetModel → CrowdModel → ℕ → List (List ℕ) → Played → Type 0
-IsPlayed net start workers before p =
+abbrev pub IsPlayedFrom : NetModel → CrowdModel → ℕ → List (List ℕ) → Played → Type 0
+IsPlayedFrom net start workers before p =
     ArePlaying net start workers before p.pickers.items p.meetings.items (crowd_of net p.crowd)
 
 -- what was played from some crowd is still played from it
-pub record GoesOn (net : NetModel) (before after : Played) : Type 0 where
-  pub more : (start : CrowdModel) (first : List (List ℕ)) → IsPlayed net start (length before.pickers.items) first before
-      → IsPlayed net start (length before.pickers.items) first after
+pub record KeepsPlaying (net : NetModel) (before after : Played) : Type 0 where
+  pub more : (start : CrowdModel) (first : List (List ℕ)) → IsPlayedFrom net start (length before.pickers.items) first before
+      → IsPlayedFrom net start (length before.pickers.items) first after
   pub pickers : length after.pickers.items ≡ length before.pickers.items
   pub agents : length after.crowd ≡ length before.crowd
 
@@ -47,7 +47,7 @@ AreAllMade workers turns meetings = (w : ℕ) → w < workers → made_by w meet
 
 -- a round from this crowd: each worker has made its turns at most
 pub record IsPartOfRound (net : NetModel) (crowd : List Word) (workers turns : ℕ) (before : List (List ℕ)) (p : Played) : Type 0 where
-  pub played : IsPlayed net (crowd_of net crowd) workers before p
+  pub played : IsPlayedFrom net (crowd_of net crowd) workers before p
   pub few : (w : ℕ) → w < workers → made_by w p.meetings.items ≤ turns
   pub valid : AreValid net p.crowd
   pub agents : length p.crowd ≡ length crowd

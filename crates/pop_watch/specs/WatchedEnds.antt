@@ -14,14 +14,14 @@ use Rattle.pair_workers.specs.declared.alone.End.TheVariants.{Terminal, Open}
 use Rattle.pair_workers.specs.WatchedRun.{IsWatchedRun, AreSpent}
 
 -- why a run ended in this crowd after these rounds: the crowd is terminal; or the turns are spent and this pair of agents is the least that can change
-abbrev pub EndsBy : NetModel → CrowdModel → RunSpec → List (List Meeting) → End → Type 0
-EndsBy net crowd spec rounds Terminal = IsTerminal (Step net) crowd
-EndsBy net crowd spec rounds (Open a b) =
+abbrev pub WatchedEndsBy : NetModel → CrowdModel → RunSpec → List (List Meeting) → End → Type 0
+WatchedEndsBy net crowd spec rounds Terminal = IsTerminal (Step net) crowd
+WatchedEndsBy net crowd spec rounds (Open a b) =
     IsLeastPair net crowd a b × AreSpent spec rounds × (IsTerminal (Step net) crowd → ⊥)
 
 -- a watched run from this crowd: its rounds, the crowd that they lead to, and why it ended
 pub record IsWatchedRunFrom (net : NetModel) (crowd : List Word) (spec : RunSpec) (ran : RunEnd) : Type 0 where
   pub run : IsWatchedRun net (crowd_of net crowd) spec ran.rounds (crowd_of net ran.crowd)
-  pub ends : EndsBy net (crowd_of net ran.crowd) spec ran.rounds ran.end
+  pub ends : WatchedEndsBy net (crowd_of net ran.crowd) spec ran.rounds ran.end
   pub valid : AreValid net ran.crowd
   pub agents : length ran.crowd ≡ length crowd

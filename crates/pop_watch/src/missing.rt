@@ -3,7 +3,7 @@
 ghost use Rattle.std.specs.Prelude.{◌≡◌, ℕ, ◌<◌, ◌≤◌, length, OnOk, slice_index_or};
 ghost use Rattle.pop_net.specs.Lanes.{AreValid};
 ghost use Rattle.pair_workers.specs.Run.{made_by};
-ghost use Rattle.pop_watch.specs.Playing.{GoesOn, HasMore, AreAllMade};
+ghost use Rattle.pop_watch.specs.Playing.{KeepsPlaying, HasMore, AreAllMade};
 
 use crate::played::Played;
 use pop_crowd::Meeting;
@@ -15,7 +15,7 @@ use pop_words::WATCHED_WORKERS;
 fn meet_next(net: &Net, played: &mut Played, worker: u16) -> Result<(), NoMemory>
     requires valid { AreValid net.now played.old.crowd }
     requires worker { worker < length played.old.pickers.items }
-    ensures goes_on { OnOk result (GoesOn net.now played.old played.new) }
+    ensures goes_on { OnOk result (KeepsPlaying net.now played.old played.new) }
     ensures more { OnOk result (HasMore worker 1 played.old played.new) }
     ensures valid { OnOk result (AreValid net.now played.new.crowd) }
 {
@@ -34,7 +34,7 @@ fn meet_next(net: &Net, played: &mut Played, worker: u16) -> Result<(), NoMemory
 fn make_turns(net: &Net, played: &mut Played, worker: u16, turns: u64) -> Result<(), NoMemory>
     requires valid { AreValid net.now played.old.crowd }
     requires worker { worker < length played.old.pickers.items }
-    ensures goes_on { OnOk result (GoesOn net.now played.old played.new) }
+    ensures goes_on { OnOk result (KeepsPlaying net.now played.old played.new) }
     ensures more { OnOk result (HasMore worker turns played.old played.new) }
     ensures valid { OnOk result (AreValid net.now played.new.crowd) }
 {
@@ -56,7 +56,7 @@ pub(crate) fn make_missing(
     requires made { (w d : ℕ) → w < length made.now
         → slice_index_or made.now w d ≡ made_by w played.old.meetings.items }
     requires few { (w : ℕ) → w < length made.now → made_by w played.old.meetings.items ≤ turns }
-    ensures goes_on { OnOk result (GoesOn net.now played.old played.new) }
+    ensures goes_on { OnOk result (KeepsPlaying net.now played.old played.new) }
     ensures all { OnOk result (AreAllMade (length made.now) turns played.new.meetings.items) }
     ensures valid { OnOk result (AreValid net.now played.new.crowd) }
 {

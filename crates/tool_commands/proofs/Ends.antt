@@ -7,7 +7,7 @@ use Rattle.pop_net.specs.Terminal.{IsTerminal}
 use Rattle.terminal_test.specs.Pairs.{IsLeastPair}
 use Rattle.pop_words.specs.declared.spec.RunSpec.{RunSpec}
 use Rattle.pair_workers.specs.Ends.{EndsBy}
-use Rattle.pop_watch.specs.WatchedEnds.{EndsBy as WatchedEndsBy}
+use Rattle.pop_watch.specs.WatchedEnds.{WatchedEndsBy}
 use Rattle.pop_crowd.specs.declared.crowd.Meeting.{Meeting}
 use Rattle.pair_workers.specs.declared.alone.End.{End}
 use Rattle.pair_workers.specs.declared.alone.End.TheVariants.{Terminal, Open}

@@ -1,12 +1,12 @@
 use Rattle.std.proofs.Common.{◌≡◌, ℕ, ◌<◌, ◌≤◌}
 use Rattle.pop_net.specs.Lanes.{AreValid}
 use Rattle.pair_workers.specs.Run.{made_by}
-use Rattle.pop_watch.specs.Playing.{GoesOn}
+use Rattle.pop_watch.specs.Playing.{KeepsPlaying}
 use Rattle.pop_watch.proofs.missing.make_missing.Given as goal
 
 abbrev pub invariant-workers : goal.invariant-workers
 invariant-workers l = record {
-  goes_on : GoesOn l.net l.initial.played l.played;
+  goes_on : KeepsPlaying l.net l.initial.played l.played;
   whole : (w : ℕ) → w < l.worker → made_by w l.played.meetings.items ≡ l.turns;
   rest : (w : ℕ) → l.worker ≤ w → made_by w l.played.meetings.items ≡ made_by w l.initial.played.meetings.items;
   valid : AreValid l.net l.played.crowd;

@@ -5,7 +5,7 @@ use Rattle.pop_net.specs.Step.{Step}
 use Rattle.pop_net.specs.Terminal.{IsTerminal}
 use Rattle.pop_net.specs.Lanes.{crowd_of}
 use Rattle.pair_workers.specs.Run.{made_by}
-use Rattle.pop_watch.specs.Playing.{IsPlayed}
+use Rattle.pop_watch.specs.Playing.{IsPlayedFrom}
 use Rattle.pop_watch.proofs.round.watched_round.Goals as goal
 
 pub returns-then-are_made : goal.returns-then-are_made
@@ -37,7 +37,7 @@ returns g c =
     let all : (w : ℕ) → w < c.args.spec.now.workers → made_by w after.meetings.items ≡ c.args.turns = (λ w l. on.all w (omega (arith, l, long))) in
     record {
       part = record {
-        played = subst (λ (n : ℕ). IsPlayed net start n pickers after) was.pickers (on.goes_on.more start pickers (subst (λ (n : ℕ). IsPlayed net start n pickers before) (sym was.pickers) was.played));
+        played = subst (λ (n : ℕ). IsPlayedFrom net start n pickers after) was.pickers (on.goes_on.more start pickers (subst (λ (n : ℕ). IsPlayedFrom net start n pickers before) (sym was.pickers) was.played));
         few = λ w l. omega (arith, all w l);
         valid = on.valid;
         agents = on.goes_on.agents ∙ was.agents;
