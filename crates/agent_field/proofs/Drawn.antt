@@ -5,9 +5,11 @@ use Rattle.pop_net.specs.NetModel.{NetModel, Tuple}
 use Rattle.pop_net.specs.Lanes.{tuple_of}
 use Rattle.pop_net.specs.Reaction.{reaction}
 use Rattle.pop_net.proofs.Packing.{same_word}
+use Rattle.agent_field.specs.declared.field.Field.{Field}
+use Rattle.agent_field.specs.declared.view.Setup.{Setup}
 use Rattle.agent_field.specs.Standing.{packed}
 use Rattle.agent_field.specs.Steps.{Mine, knowing, IsReaction, meeting, HasDrawn}
-use Rattle.agent_field.specs.Tokens.{Token, Becomes, IsDraw}
+use Rattle.agent_field.specs.Tokens.{Token, HasLocked, Becomes, IsDraw}
 
 -- words that react alike become the same words
 module _ (net : NetModel) (x y x' y' u v u' v' : Word) (r : IsReaction net x y x' y') (s : IsReaction net u v u' v') (first : x ≡ u) (second : y ≡ v) where
@@ -34,13 +36,14 @@ drawn_is ticket m m' a b x y x' y' known reacted h =
     h.met ∙ (λ i. (meeting ticket (first i).0 (second i).0 (is_x i) (is_y i) (is_x' i) (is_y' i) m.0, m.1))
 
 -- the same from before the two reads on, where nothing was known
-pub pair_drawn : (ticket : ℕ) (t t₁ t₂ t₃ : Token) (a b : ℕ) (x y x' y' : Word) → Becomes t t₁ (knowing a x t.me.0) → Becomes t₁ t₂ (knowing b y t₁.me.0) → t.me.0.known ≡ [] → IsReaction t.me.0.setup.net.value x y x' y' → IsDraw ticket t₂ t₃
+pub pair_drawn : (f : Field) (locks : List ℕ) (ticket : ℕ) (t t₁ t₂ t₃ : Token) (a b : ℕ) (x y x' y' : Word) → HasLocked f locks t
+    → Becomes t t₁ (knowing a x t.me.0) → Becomes t₁ t₂ (knowing b y t₁.me.0) → IsReaction f.net.now x y x' y' → IsDraw ticket t₂ t₃
     → Becomes t t₃ (meeting ticket a b x y x' y' t.me.0)
-pair_drawn ticket t t₁ t₂ t₃ a b x y x' y' read_a read_b none reacted h =
+pair_drawn f locks ticket t t₁ t₂ t₃ a b x y x' y' locked read_a read_b reacted h =
     let read : t₂.me ≡ (knowing b y (knowing a x t.me.0), t.me.1) = read_b.me ∙ ap (λ (n : Mine). (knowing b y n.0, n.1)) read_a.me in
-    let known : t₂.me.0.known ≡ (b, y) ∷ (a, x) ∷ [] = ap (λ (n : Mine). n.0.known) read ∙ ap (λ (l : List (ℕ × Word)). (b, y) ∷ (a, x) ∷ l) none in
-    let net : t.me.0.setup.net.value ≡ t₂.me.0.setup.net.value = ap (λ (n : Mine). n.0.setup.net.value) (sym read) in record {
+    let known : t₂.me.0.known ≡ (b, y) ∷ (a, x) ∷ [] = ap (λ (n : Mine). n.0.known) read ∙ ap (λ (l : List (ℕ × Word)). (b, y) ∷ (a, x) ∷ l) locked.known in
+    let net : t₂.me.0.setup.net.value ≡ f.net.now = ap (λ (n : Mine). n.0.setup.net.value) read ∙ ap (λ (k : Setup). k.net.value) locked.holds.usable.ours ∙ f.net_is in record {
       table = h.table ∙ read_b.table ∙ read_a.table;
-      me = drawn_is ticket t₂.me t₃.me a b x y x' y' known (subst (λ (n : NetModel). IsReaction n x y x' y') net reacted) h.drawn
+      me = drawn_is ticket t₂.me t₃.me a b x y x' y' known (subst (λ (n : NetModel). IsReaction n x y x' y') (sym net) reacted) h.drawn
           ∙ ap (λ (n : Mine). (meeting ticket a b x y x' y' n.0, n.1)) read;
     }

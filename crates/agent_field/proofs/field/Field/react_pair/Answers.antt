@@ -5,7 +5,7 @@ use Rattle.pop_net.specs.Lanes.{tuple_of}
 use Rattle.pop_crowd.specs.Replay.{reacts}
 use Rattle.agent_field.specs.declared.view.Setup.{Setup}
 use Rattle.agent_field.specs.History.{logged}
-use Rattle.agent_field.specs.Steps.{Mine, knowing, writing, recorded, IsReaction, IsNewest}
+use Rattle.agent_field.specs.Steps.{Mine, knowing, writing, recorded, IsNewest}
 use Rattle.agent_field.proofs.Drawn.{pair_drawn}
 use Rattle.agent_field.proofs.Usable.{still_usable}
 use Rattle.agent_field.proofs.field.Field.react_pair.Goals as goal
@@ -13,12 +13,8 @@ use Rattle.agent_field.proofs.field.Field.react_pair.Goals as goal
 pub write-requires : goal.write-requires
 write-requires c =
     let t = c.args.token.now in
-    let x = c.read-x.result in
-    let y = c.read-y.result in
     let r = c.reacted-changed.result in
-    let net = ap (λ (k : Setup). k.net.value) c.requires.locked.holds.usable.ours ∙ c.args.self.now.net_is in
-    let reacted = subst (λ (n : NetModel). IsReaction n x y r.0 r.1) (sym net) c.reacted-changed.ensures.reacted in
-    let drawn = pair_drawn c.draw-ticket.result t _ _ c.draw-ticket.new.token c.args.a c.args.b x y r.0 r.1 c.read-x.ensures.known c.read-y.ensures.known c.requires.locked.known reacted c.draw-ticket.ensures in record {
+    let drawn = pair_drawn c.args.self.now _ c.draw-ticket.result t _ _ c.draw-ticket.new.token c.args.a c.args.b c.read-x.result c.read-y.result r.0 r.1 c.requires.locked c.read-x.ensures.known c.read-y.ensures.known c.reacted-changed.ensures.reacted c.draw-ticket.ensures in record {
       usable = still_usable c.args.self.now t _ _ c.requires.locked.holds.usable drawn refl refl;
       agent = c.requires.agents.0;
       due = (
@@ -31,12 +27,8 @@ write-requires c =
 pub write-requires-2 : goal.write-requires-2
 write-requires-2 c =
     let t = c.args.token.now in
-    let x = c.read-x.result in
-    let y = c.read-y.result in
     let r = c.reacted-changed.result in
-    let net = ap (λ (k : Setup). k.net.value) c.requires.locked.holds.usable.ours ∙ c.args.self.now.net_is in
-    let reacted = subst (λ (n : NetModel). IsReaction n x y r.0 r.1) (sym net) c.reacted-changed.ensures.reacted in
-    let drawn = pair_drawn c.draw-ticket.result t _ _ c.draw-ticket.new.token c.args.a c.args.b x y r.0 r.1 c.read-x.ensures.known c.read-y.ensures.known c.requires.locked.known reacted c.draw-ticket.ensures in
+    let drawn = pair_drawn c.args.self.now _ c.draw-ticket.result t _ _ c.draw-ticket.new.token c.args.a c.args.b c.read-x.result c.read-y.result r.0 r.1 c.requires.locked c.read-x.ensures.known c.read-y.ensures.known c.reacted-changed.ensures.reacted c.draw-ticket.ensures in
     let first = still_usable c.args.self.now t _ _ c.requires.locked.holds.usable drawn refl refl in record {
       usable = still_usable c.args.self.now _ _ _ first c.write.ensures refl refl;
       agent = c.requires.agents.1;
@@ -54,8 +46,7 @@ returns c =
     let y = c.read-y.result in
     let r = c.reacted-changed.result in
     let net = ap (λ (k : Setup). k.net.value) c.requires.locked.holds.usable.ours ∙ c.args.self.now.net_is in
-    let reacted = subst (λ (n : NetModel). IsReaction n x y r.0 r.1) (sym net) c.reacted-changed.ensures.reacted in
-    let drawn = pair_drawn c.draw-ticket.result t _ _ c.draw-ticket.new.token c.args.a c.args.b x y r.0 r.1 c.read-x.ensures.known c.read-y.ensures.known c.requires.locked.known reacted c.draw-ticket.ensures in
+    let drawn = pair_drawn c.args.self.now _ c.draw-ticket.result t _ _ c.draw-ticket.new.token c.args.a c.args.b c.read-x.result c.read-y.result r.0 r.1 c.requires.locked c.read-x.ensures.known c.read-y.ensures.known c.reacted-changed.ensures.reacted c.draw-ticket.ensures in
     let read = c.read-y.ensures.known.me ∙ ap (λ (m : Mine). (knowing c.args.b y m.0, m.1)) c.read-x.ensures.known.me in
     let newest = subst (IsNewest c.draw-ticket.result) (ap (λ (m : Mine). m.0) read) c.draw-ticket.ensures.newest in
     let changed : reacts t.me.0.setup.net.value (tuple_of t.me.0.setup.net.value x) (tuple_of t.me.0.setup.net.value y) ≡ r.2 =
