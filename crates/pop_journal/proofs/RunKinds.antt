@@ -1,10 +1,8 @@
 -- What holds of the rounds and runs of both kinds.
-use Rattle.std.proofs.Common.{◌≡◌, ◌⊎◌, inl, inr, ℕ, ◌+◌, ◌*◌, ◌<◌, ◌≤◌, List, [], ◌∷◌, ◌++◌, length, All, refl, sym, subst, arith}
+use Rattle.std.proofs.Common.{◌≡◌, ℕ, ◌+◌, ◌<◌, ◌≤◌, List, [], ◌∷◌, ◌++◌, length, All, refl, sym, subst, arith}
 use Rattle.std.specs.Prelude.{Some, slice_get}
 use Rattle.std.proofs.lemmas.List.Elements.{All-head, All-nil, All-cons}
 use Rattle.pop_net.specs.NetModel.{NetModel, CrowdModel}
-use Rattle.pop_net.specs.Step.{Step}
-use Rattle.pop_net.specs.Terminal.{IsTerminal}
 use Rattle.pop_crowd.specs.declared.crowd.Meeting.{Meeting}
 use Rattle.pop_crowd.specs.Replay.{IsMeeting, AreMeetings}
 use Rattle.pop_words.specs.declared.spec.RunSpec.{RunSpec}
@@ -13,7 +11,7 @@ use Rattle.pop_words.specs.declared.kind.RunKind.TheVariants.{Whole, Watched}
 use Rattle.pop_words.specs.Kinds.{most_workers}
 use Rattle.pair_workers.specs.Picks.{words_from, first_state}
 use Rattle.pair_workers.specs.Run.{IsRun, joined, meetings_of}
-use Rattle.pair_workers.specs.WatchedRun.{IsWatchedRound, IsWatchedRun, IsRunOf, AreSpent}
+use Rattle.pair_workers.specs.WatchedRun.{IsWatchedRound, IsWatchedRun, IsRunOf}
 use Rattle.pair_workers.proofs.Meets.{picked_meet}
 use Rattle.pair_workers.proofs.Rounds.{joined_all}
 use Rattle.pair_workers.proofs.SpentTurns.{over_by_rounds}
