@@ -72,11 +72,12 @@ impl<'n> PairTable<'n> {
     ) -> Result<bool, NoMemory>
         requires { AreValid (net_of self.now) crowd.now }
         ensures terminal { IfOk result
-            (λ terminal. (terminal ≡ true) ↔ IsTerminal (Step (net_of self.now)) (crowd_of (net_of self.now) crowd.now)) }
+            (λ terminal. (terminal ≡ true)
+            ↔ IsTerminal (Step (net_of self.now)) (crowd_of (net_of self.now) crowd.now)) }
         // The pair that is kept is enabled in this crowd.
         ensures kept { IfOk result
-            (λ _.
-            IfSome last.new (λ pair. IsEnabled (net_of self.now) (crowd_of (net_of self.now) crowd.now) pair.0 pair.1)) }
+            (λ _. IfSome last.new
+            (λ pair. IsEnabled (net_of self.now) (crowd_of (net_of self.now) crowd.now) pair.0 pair.1)) }
     {
         if let Some((a, b)) = *last {
             if are_enabled(self.net, crowd, a, b) {
