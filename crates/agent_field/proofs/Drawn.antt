@@ -9,7 +9,7 @@ use Rattle.agent_field.specs.declared.field.Field.{Field}
 use Rattle.agent_field.specs.declared.view.Setup.{Setup}
 use Rattle.agent_field.specs.Standing.{packed}
 use Rattle.agent_field.specs.Steps.{Mine, knowing, IsReaction, meeting, HasDrawn}
-use Rattle.agent_field.specs.Tokens.{Token, HasLocked, Becomes, IsDraw}
+use Rattle.agent_field.specs.Tokens.{SeatToken, HasLocked, Becomes, IsDraw}
 
 -- words that react alike become the same words
 module _ (net : NetModel) (x y x' y' u v u' v' : Word) (r : IsReaction net x y x' y') (s : IsReaction net u v u' v') (first : x ≡ u) (second : y ≡ v) where
@@ -36,7 +36,7 @@ drawn_is ticket m m' a b x y x' y' known reacted h =
     h.met ∙ (λ i. (meeting ticket (first i).0 (second i).0 (is_x i) (is_y i) (is_x' i) (is_y' i) m.0, m.1))
 
 -- the same from before the two reads on, where nothing was known
-pub pair_drawn : (f : Field) (locks : List ℕ) (ticket : ℕ) (t t₁ t₂ t₃ : Token) (a b : ℕ) (x y x' y' : Word) → HasLocked f locks t
+pub pair_drawn : (f : Field) (locks : List ℕ) (ticket : ℕ) (t t₁ t₂ t₃ : SeatToken) (a b : ℕ) (x y x' y' : Word) → HasLocked f locks t
     → Becomes t t₁ (knowing a x t.me.0) → Becomes t₁ t₂ (knowing b y t₁.me.0) → IsReaction f.net.now x y x' y' → IsDraw ticket t₂ t₃
     → Becomes t t₃ (meeting ticket a b x y x' y' t.me.0)
 pair_drawn f locks ticket t t₁ t₂ t₃ a b x y x' y' locked read_a read_b reacted h =

@@ -57,7 +57,8 @@ pub data FieldRun (k : Setup) : List ℕ → List View → List Meeting → List
   stays : (words : List ℕ) (views : List View) → FieldRun k words views [] words views
   goes : (words : List ℕ) (views : List View) (words' : List ℕ) (views' : List View) (meetings : List Meeting) (words'' : List ℕ) (views'' : List View)
       → QuietStep k words views words' views' → FieldRun k words' views' meetings words'' views'' → FieldRun k words views meetings words'' views''
-  meets : (words : List ℕ) (views : List View) (m : Meeting) (words' : List ℕ) (views' : List View) (meetings : List Meeting) (words'' : List ℕ) (views'' : List View)
+  meets : (words : List ℕ) (views : List View) (m : Meeting) (words' : List ℕ) (views' : List View) (meetings : List Meeting)
+      (words'' : List ℕ) (views'' : List View)
       → DrawStep k words views m words' views' → FieldRun k words' views' meetings words'' views'' → FieldRun k words views (m ∷ meetings) words'' views''
 
 -- the field stands at this history: none before it is founded

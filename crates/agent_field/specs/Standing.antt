@@ -97,7 +97,8 @@ no_field =
 
 -- a seat that was joined away
 abbrev pub joined_away : View
-joined_away = record { setup = no_field; founding = false; live = false; number = 0; held = []; known = []; due = []; log = []; next = 0; taken = []; looks = [] }
+joined_away =
+    record { setup = no_field; founding = false; live = false; number = 0; held = []; known = []; due = []; log = []; next = 0; taken = []; looks = [] }
 
 -- a seat between its calls
 abbrev pub idle : Setup → ℕ → List Logged → ℕ → List (Maybe (List Logged)) → List Look → View

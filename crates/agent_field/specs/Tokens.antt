@@ -9,84 +9,84 @@ use Rattle.agent_field.specs.Standing.{In, shard_of}
 use Rattle.agent_field.specs.Steps.{HasDrawn, IsNewest, IsDrawnAt, IsSeenAt, looking, recorded, seen, with_known}
 use Rattle.agent_field.specs.Seats.{IsMetAt}
 
-abbrev pub Token : Type 0
-Token = Seat (Unit {0}) View
+abbrev pub SeatToken : Type 0
+SeatToken = Seat (Unit {0}) View
 
 -- a token of the field's table, with which its seat may take steps
-pub record IsUsable (f : Field) (t : Token) : Type 0 where
+pub record IsUsable (f : Field) (t : SeatToken) : Type 0 where
   pub table : t.table_id ≡ f.table.shared.table_id
   pub live : t.me.0.live ≡ true
   pub ours : t.me.0.setup ≡ f.table.shared.key
 
 -- it holds just these locks, the last one first, and owes no word
-pub record HoldsJust (f : Field) (locks : List ℕ) (t : Token) : Type 0 where
+pub record HoldsJust (f : Field) (locks : List ℕ) (t : SeatToken) : Type 0 where
   pub usable : IsUsable f t
   pub held : t.me.0.held ≡ locks
   pub due : t.me.0.due ≡ []
 
 -- it has just taken these locks: nothing is known under them
-pub record HasLocked (f : Field) (locks : List ℕ) (t : Token) : Type 0 where
+pub record HasLocked (f : Field) (locks : List ℕ) (t : SeatToken) : Type 0 where
   pub holds : HoldsJust f locks t
   pub known : t.me.0.known ≡ []
 
 -- it is that of the seat with this number between its calls, and holds no lock
-pub record IsIdle (f : Field) (number : ℕ) (t : Token) : Type 0 where
+pub record IsBetweenCalls (f : Field) (number : ℕ) (t : SeatToken) : Type 0 where
   pub free : HasLocked f [] t
   pub number_is : t.me.0.number ≡ number
 
 -- what taking a shard's lock needs
-pub record MayLock (f : Field) (number s : ℕ) (t : Token) : Type 0 where
+pub record MayLock (f : Field) (number s : ℕ) (t : SeatToken) : Type 0 where
   pub usable : IsUsable f t
   pub number_is : t.me.0.number ≡ number
   pub shard : s < f.shards
   pub due : t.me.0.due ≡ []
 
 -- what giving it back needs: it was taken last
-pub record MayUnlock (f : Field) (s : ℕ) (t : Token) : Type 0 where
+pub record MayUnlock (f : Field) (s : ℕ) (t : SeatToken) : Type 0 where
   pub usable : IsUsable f t
   pub shard : s < f.shards
   pub last : (held : List ℕ) × (t.me.0.held ≡ s ∷ held) × (In s held → ⊥)
   pub due : t.me.0.due ≡ []
 
 -- what reading an agent's word needs: its shard's lock
-pub record MayRead (f : Field) (a : ℕ) (t : Token) : Type 0 where
+pub record MayRead (f : Field) (a : ℕ) (t : SeatToken) : Type 0 where
   pub usable : IsUsable f t
   pub agent : a < f.agents
   pub held : In (shard_of f.table.shared.key a) t.me.0.held
   pub due : t.me.0.due ≡ []
 
 -- what writing an agent's word needs: it is due first, and that agent's only one
-pub record MayWrite (f : Field) (a : ℕ) (x : Word) (t : Token) : Type 0 where
+pub record MayWrite (f : Field) (a : ℕ) (x : Word) (t : SeatToken) : Type 0 where
   pub usable : IsUsable f t
   pub agent : a < f.agents
   pub due : (due : List (ℕ × Word)) × (t.me.0.due ≡ (a, x) ∷ due) × ((y : Word) → In (a, y) due → ⊥)
 
 -- after a step the token is still of its table, and its seat has this view
-pub record Becomes (before after : Token) (view : View) : Type 0 where
+pub record Becomes (before after : SeatToken) (view : View) : Type 0 where
   pub table : after.table_id ≡ before.table_id
   pub me : after.me ≡ (view, before.me.1)
 
 -- a ticket was drawn for the pair whose words are known: above all that the seat knew, and at a moment when these words stood
-pub record IsDraw (ticket : ℕ) (before after : Token) : Type 0 where
+pub record IsDraw (ticket : ℕ) (before after : SeatToken) : Type 0 where
   pub table : after.table_id ≡ before.table_id
   pub drawn : HasDrawn ticket before.me after.me
   pub newest : IsNewest ticket before.me.0
   pub moment : IsDrawnAt ticket before.me.0
 
 -- the clock was read under all locks: not below what the seat knew, and at a moment when the known words stood
-pub record IsWatch (ticket : ℕ) (before after : Token) : Type 0 where
+pub record IsWatch (ticket : ℕ) (before after : SeatToken) : Type 0 where
   pub watched : Becomes before after (looking ticket before.me.0)
   pub newest : IsNewest ticket before.me.0
   pub moment : IsSeenAt ticket before.me.0
 
 -- the agents a and b have met under their locks, as the meeting with this ticket
-pub record HasReacted (f : Field) (a b ticket : ℕ) (changed : Bool) (before after : Token) : Type 0 where
+pub record HasReacted (f : Field) (a b ticket : ℕ) (changed : Bool) (before after : SeatToken) : Type 0 where
   pub logged : Becomes before after (recorded (logged ticket a b changed) before.me.0)
   pub newest : IsNewest ticket before.me.0
   pub moment : IsMetAt f before.me.0.number before.me.0.log a b ticket changed
 
 -- the words of all agents, so many, were read and are known
-pub record HasReadAll (agents : ℕ) (words : List Word) (before after : Token) : Type 0 where
+pub record HasReadAll (agents : ℕ) (words : List Word) (before after : SeatToken) : Type 0 where
   pub known : List (ℕ × Word)
   pub read : Becomes before after (with_known known before.me.0)
   pub these : seen known ≡ words

@@ -25,13 +25,13 @@ fn look_rooms(alloc: Global, looks: u16, agents: u32) -> Result<Vec<Vec<Word>>, 
 }
 
 impl<'n> Field<'n> {
-    ghost use Rattle.agent_field.specs.Tokens.{IsIdle, HasLocked, HoldsJust, HasReadAll, Becomes};
+    ghost use Rattle.agent_field.specs.Tokens.{IsBetweenCalls, HasLocked, HoldsJust, HasReadAll, Becomes};
     ghost use Rattle.agent_field.specs.Seats.{IsFirstOf, looks_of, spare_looks_of};
     ghost use Rattle.agent_field.specs.Calls.{HasReservedLooks, HasLooked};
 
     /// Takes the locks of all shards, in ascending order.
     pub(crate) fn lock_all<R: Wait>(&self, rt: &R, token: &mut Seat<(), View>, number: u16)
-        requires { IsIdle self.now number token.old }
+        requires { IsBetweenCalls self.now number token.old }
         ensures { Becomes token.old token.new (with_locks (below self.now.shards) token.old.me.0) }
     {
         for s in 0..self.shards {

@@ -26,7 +26,7 @@ fn reacted(net: &Net, x: Word, y: Word) -> (Word, Word, bool)
 }
 
 impl<'n> Field<'n> {
-    ghost use Rattle.agent_field.specs.Tokens.{IsIdle, HasLocked, HoldsJust, HasReacted, Becomes};
+    ghost use Rattle.agent_field.specs.Tokens.{IsBetweenCalls, HasLocked, HoldsJust, HasReacted, Becomes};
     ghost use Rattle.agent_field.specs.Seats.{IsPairOf, IsSeatOf, spare_of};
     ghost use Rattle.agent_field.specs.Calls.{HasMet};
 
@@ -39,7 +39,7 @@ impl<'n> Field<'n> {
         low: u32,
         high: u32,
     )
-        requires idle { IsIdle self.now number token.old }
+        requires idle { IsBetweenCalls self.now number token.old }
         requires shards { (low ≤ high) × (high < self.now.shards) }
         ensures { Becomes token.old token.new (with_locks (pair_locks low high (low == high)) token.old.me.0) }
     {
