@@ -45,22 +45,32 @@ const PARTS: [(Parts, LeafFault); 4] = [
     ((["A", "B"], [1, 1], [0, 1], 2), LeafFault::Helper(0)),
 ];
 
+fn fault_of_parts(alloc: Global, parts: Parts) -> Result<Option<LeafFault>, AllocError> {
+    let (names, ends, inputs, helper) = parts;
+    let names = texts(alloc, names.as_slice())?;
+    let moves = [step(0, 1, ends[0], 0), step(1, 1, ends[1], 1)];
+    let moves = list(alloc, moves.as_slice())?;
+    let inputs = list(alloc, inputs.as_slice())?;
+    let outputs = list(alloc, &[true, false])?;
+    let helpers = list(alloc, &[helper])?;
+    Ok(Leaf::with_helpers(alloc, names, moves, inputs, outputs, helpers).err())
+}
+
 #[test]
 fn names_and_numbers_of_a_leaf(rt: HostRuntime) -> Result<(), Fail> {
-    let alloc = rt.alloc();
-    for ((names, ends, inputs, helper), fault) in PARTS {
-        let moves = [step(0, 1, ends[0], 0), step(1, 1, ends[1], 1)];
-        let leaf = Leaf::with_helpers(
-            alloc,
-            texts(alloc, names.as_slice())?,
-            list(alloc, moves.as_slice())?,
-            list(alloc, inputs.as_slice())?,
-            list(alloc, &[true, false])?,
-            list(alloc, &[helper])?,
-        );
-        assert_eq!(rt; leaf.err(), Some(fault));
+    for (parts, fault) in PARTS {
+        assert!(rt; fault_of_parts(rt.alloc(), parts)? == Some(fault));
     }
     Ok(())
+}
+
+/// The leaf of majority.
+fn majority_leaf(alloc: Global) -> Option<Leaf> {
+    let net = majority(alloc)?;
+    if net.leaf_count() == 0 {
+        return None;
+    }
+    net.leaf(0).copy(alloc).ok()
 }
 
 /// The numbers of states, moves, inputs and helpers.
@@ -73,26 +83,35 @@ fn numbers(leaf: &Leaf) -> (u16, u32, u16, u32) {
     )
 }
 
-#[test]
-fn parts_of_a_leaf(rt: HostRuntime) -> Result<(), Fail> {
-    let net = majority(rt.alloc()).ok_or("a net")?;
-    assert!(rt; net.leaf_count() > 0);
-    let leaf = net.leaf(0).copy(rt.alloc())?;
-    assert!(rt; numbers(&leaf) == (4, 4, 2, 0));
-    Ok(())
+/// The name of state 2, the outputs of states 2 and 3, and the start state of variable 1.
+fn named(leaf: &Leaf) -> Option<(&str, bool, bool, u16)> {
+    if leaf.state_count() < 4 || leaf.input_count() < 2 {
+        return None;
+    }
+    Some((leaf.name(2), leaf.output(2), leaf.output(3), leaf.input(1)))
 }
 
 #[test]
-fn what_stands_in_a_leaf(rt: HostRuntime) -> Result<(), Fail> {
-    let net = majority(rt.alloc()).ok_or("a net")?;
-    assert!(rt; net.leaf_count() > 0);
-    let leaf = net.leaf(0);
-    assert_eq!(rt; leaf.state_count(), 4);
-    assert_eq!(rt; leaf.name(2), "a");
-    assert!(rt; leaf.output(2) && !leaf.output(3));
-    assert_eq!(rt; leaf.input_count(), 2);
-    assert_eq!(rt; leaf.input(1), 1);
+fn parts_of_a_leaf(rt: HostRuntime) -> Result<(), Fail> {
+    let leaf = majority_leaf(rt.alloc()).ok_or("a leaf")?;
+    assert!(rt; numbers(&leaf) == (4, 4, 2, 0) && named(&leaf) == Some(("a", true, false, 1)));
     Ok(())
+}
+
+/// The first move, and whether it is silent.
+fn first_move(leaf: &Leaf) -> Option<(Move, bool)> {
+    if leaf.move_count() == 0 {
+        return None;
+    }
+    Some((leaf.move_at(0), leaf.silent(0)))
+}
+
+/// What the states of a pair become.
+fn reaction(leaf: &Leaf, p: u16, q: u16) -> Option<(u16, u16)> {
+    if leaf.state_count() <= p || leaf.state_count() <= q {
+        return None;
+    }
+    Some(leaf.react(p, q))
 }
 
 /// Each pair of states with what they become.
@@ -104,15 +123,10 @@ const REACTIONS: [((u16, u16), (u16, u16)); 3] = [
 
 #[test]
 fn reactions_of_a_leaf(rt: HostRuntime) -> Result<(), Fail> {
-    let net = majority(rt.alloc()).ok_or("a net")?;
-    assert!(rt; net.leaf_count() > 0);
-    let leaf = net.leaf(0);
-    assert_eq!(rt; leaf.move_count(), 4);
-    assert_eq!(rt; leaf.move_at(0), step(0, 1, 2, 3));
-    assert!(rt; !leaf.silent(0));
-    for (met, after) in REACTIONS {
-        assert!(rt; met.0 < leaf.state_count() && met.1 < leaf.state_count());
-        assert!(rt; leaf.react(met.0, met.1) == after);
+    let leaf = majority_leaf(rt.alloc()).ok_or("a leaf")?;
+    assert!(rt; first_move(&leaf) == Some((step(0, 1, 2, 3), false)));
+    for ((p, q), after) in REACTIONS {
+        assert!(rt; reaction(&leaf, p, q) == Some(after));
     }
     Ok(())
 }

@@ -13,6 +13,15 @@ fn small_leaf(alloc: Global, helpers: &[u16]) -> Option<Leaf> {
     leaf_of(alloc, &["p", "q"], &[], &[0, 1], &[true, false], helpers)
 }
 
+/// So many leaves of two states.
+fn small_leaves(alloc: Global, count: usize) -> Option<Vec<Leaf>> {
+    let mut leaves = Vec::new(alloc);
+    for _ in 0..count {
+        leaves.push(small_leaf(alloc, &[])?).ok()?;
+    }
+    Some(leaves)
+}
+
 /// What a net of so many of these leaves with this combination is refused for.
 fn fault_of(
     alloc: Global,
@@ -20,12 +29,16 @@ fn fault_of(
     leaves: usize,
     items: &[Item],
 ) -> Result<Option<NetFault>, Fail> {
-    let mut list_of_leaves = Vec::new(alloc);
-    for _ in 0..leaves {
-        list_of_leaves.push(small_leaf(alloc, &[]).ok_or("a leaf")?)?;
-    }
+    let leaves = List::from_vec(small_leaves(alloc, leaves).ok_or("leaves")?);
     let items = list(alloc, items)?;
-    Ok(Net::new(alloc, names, List::from_vec(list_of_leaves), items).err())
+    Ok(Net::new(alloc, names, leaves, items).err())
+}
+
+/// What a net of these leaves over two variables is refused for.
+fn fault_of_leaves(alloc: Global, leaves: Vec<Leaf>) -> Option<NetFault> {
+    let names = numbered(alloc, 2).ok()?;
+    let items = list(alloc, &[Item::Leaf(0)]).ok()?;
+    Net::new(alloc, names, List::from_vec(leaves), items).err()
 }
 
 const SIZES: [(usize, usize, NetFault); 3] = [
@@ -84,33 +97,44 @@ fn a_combination_is_not_long(rt: HostRuntime) -> Result<(), Fail> {
     Ok(())
 }
 
+/// Leaves with one helper and with two.
+fn other_helpers(alloc: Global) -> Option<Vec<Leaf>> {
+    let mut leaves = Vec::new(alloc);
+    leaves.push(small_leaf(alloc, &[0])?).ok()?;
+    leaves.push(small_leaf(alloc, &[0, 1])?).ok()?;
+    Some(leaves)
+}
+
 #[test]
 fn leaves_with_other_helpers(rt: HostRuntime) -> Result<(), Fail> {
-    let alloc = rt.alloc();
-    let one = small_leaf(alloc, &[0]).ok_or("a leaf")?;
-    let two = small_leaf(alloc, &[0, 1]).ok_or("a leaf")?;
-    let leaves = List::from_vec(vec![in alloc; one, two]?);
-    let items = list(alloc, &[Item::Leaf(0)])?;
-    let net = Net::new(alloc, numbered(alloc, 2)?, leaves, items);
-    assert_eq!(rt; net.err(), Some(NetFault::LeafHelpers(1)));
+    let leaves = other_helpers(rt.alloc()).ok_or("leaves")?;
+    assert!(rt; fault_of_leaves(rt.alloc(), leaves) == Some(NetFault::LeafHelpers(1)));
     Ok(())
 }
 
+/// The first leaf of the wide net.
+fn wide_leaf(alloc: Global) -> Option<Leaf> {
+    let net = wide(alloc)?;
+    if net.leaf_count() == 0 {
+        return None;
+    }
+    net.leaf(0).copy(alloc).ok()
+}
+
 /// Five leaves, of which the second one is wide.
+fn one_wide_leaf(alloc: Global) -> Option<Vec<Leaf>> {
+    let mut leaves = small_leaves(alloc, 1)?;
+    leaves.push(wide_leaf(alloc)?).ok()?;
+    for _ in 0..3 {
+        leaves.push(small_leaf(alloc, &[])?).ok()?;
+    }
+    Some(leaves)
+}
+
 #[test]
 fn wide_leaves_are_few(rt: HostRuntime) -> Result<(), Fail> {
-    let alloc = rt.alloc();
-    let mut leaves = vec![in alloc; small_leaf(alloc, &[]).ok_or("a leaf")?]?;
-    let net = wide(alloc).ok_or("a net")?;
-    if net.leaf_count() > 0 {
-        leaves.push(net.leaf(0).copy(alloc)?)?;
-    }
-    for _ in 0..3 {
-        leaves.push(small_leaf(alloc, &[]).ok_or("a leaf")?)?;
-    }
-    let items = list(alloc, &[Item::Leaf(0)])?;
-    let net = Net::new(alloc, numbered(alloc, 2)?, List::from_vec(leaves), items);
-    assert_eq!(rt; net.err(), Some(NetFault::Wide(1)));
+    let leaves = one_wide_leaf(rt.alloc()).ok_or("leaves")?;
+    assert!(rt; fault_of_leaves(rt.alloc(), leaves) == Some(NetFault::Wide(1)));
     Ok(())
 }
 
@@ -124,13 +148,22 @@ fn numbers(net: &Net) -> (u16, usize, u8, u32) {
     )
 }
 
+/// How many items the combination has, and the fourth one.
+fn fourth_item(net: &Net) -> Option<(u32, Item)> {
+    if net.item_count() < 4 {
+        return None;
+    }
+    Some((net.item_count(), net.item(3)))
+}
+
+fn copied(net: Option<Net>, alloc: Global) -> Option<Net> {
+    net?.copy(alloc).ok()
+}
+
 #[test]
 fn parts_of_a_net(rt: HostRuntime) -> Result<(), Fail> {
-    let net = pair_of_leaves(rt.alloc()).ok_or("a net")?;
-    let net = net.copy(rt.alloc())?;
-    assert!(rt; numbers(&net) == (2, 2, 2, 0));
-    assert_eq!(rt; net.item_count(), 4);
-    assert_eq!(rt; net.item(3), Item::Or);
+    let net = copied(pair_of_leaves(rt.alloc()), rt.alloc()).ok_or("a net")?;
+    assert!(rt; numbers(&net) == (2, 2, 2, 0) && fourth_item(&net) == Some((4, Item::Or)));
     Ok(())
 }
 
@@ -171,6 +204,11 @@ fn words_within_their_lanes(rt: HostRuntime) -> Result<(), Fail> {
     let net = pair_of_leaves(rt.alloc()).ok_or("a net")?;
     let words = [Word(0x0302), Word(0x0402), Word(0x0001_0302)];
     assert!(rt; valid(&net, words) == [true, false, false]);
+    Ok(())
+}
+
+#[test]
+fn words_within_wide_lanes(rt: HostRuntime) -> Result<(), Fail> {
     let net = wide(rt.alloc()).ok_or("a net")?;
     let words = [Word(0x012b_0000), Word(0x012c_0000), Word(0x012b_012b)];
     assert!(rt; valid(&net, words) == [true, false, true]);
@@ -178,30 +216,43 @@ fn words_within_their_lanes(rt: HostRuntime) -> Result<(), Fail> {
 }
 
 /// The state of the last leaf in the word of the second variable, and what that word outputs.
-fn last_state(net: &Net) -> (u16, bool)
+fn last_state(net: &Net) -> Option<(u16, bool)>
     requires { length net.now.variables ≡ 2 }
 {
     let word = net.start(1);
     let leaves = net.leaf_count();
     if leaves == 0 {
-        return (0, false);
+        return None;
     }
-    (net.lane(word, leaves - 1), net.output(word))
+    Some((net.lane(word, leaves - 1), net.output(word)))
 }
 
 #[test]
 fn states_and_outputs_of_words(rt: HostRuntime) -> Result<(), Fail> {
-    let net = wide(rt.alloc()).ok_or("a net")?;
-    assert!(rt; last_state(&net) == (299, true));
     let net = pair_of_leaves(rt.alloc()).ok_or("a net")?;
-    assert!(rt; last_state(&net) == (1, true));
+    assert!(rt; last_state(&net) == Some((1, true)));
     Ok(())
+}
+
+#[test]
+fn states_and_outputs_of_wide_words(rt: HostRuntime) -> Result<(), Fail> {
+    let net = wide(rt.alloc()).ok_or("a net")?;
+    assert!(rt; last_state(&net) == Some((299, true)));
+    Ok(())
+}
+
+/// The words of the helpers.
+fn helpers(net: &Net) -> (u32, Option<Word>) {
+    let count = net.helper_count();
+    if count == 0 {
+        return (0, None);
+    }
+    (count, Some(net.helper(0)))
 }
 
 #[test]
 fn a_helper_of_a_net(rt: HostRuntime) -> Result<(), Fail> {
     let net = helped(rt.alloc()).ok_or("a net")?;
-    assert_eq!(rt; net.helper_count(), 1);
-    assert_eq!(rt; net.helper(0), Word(0));
+    assert!(rt; helpers(&net) == (1, Some(Word(0))));
     Ok(())
 }
