@@ -10,7 +10,7 @@ use std::sync::Wait;
 use std::thread::Threads;
 
 /// More bytes than any row writes.
-const ROOM: usize = 1 << 22;
+const ROOM: usize = 1 << 23;
 
 /// The longest input that is also given byte by byte.
 const CRUMBS_LIMIT: usize = 1024;
