@@ -1,68 +1,67 @@
-//! The texts of runs.
+//! The journal of a run whose agents disagree in the end. No command tells one, since each checks its net first.
 
-ghost use Rattle.std.specs.Prelude.{◌≡◌, length, IfOk, IfSome};
-ghost use Rattle.pop_net.specs.Lanes.{AreValid};
+ghost use Rattle.std.specs.Prelude.{◌≡◌, length, IfSome};
 
 use pair_workers::{End, RunEnd};
-use pop_crowd::{Crowd, Meeting};
+use pop_crowd::Crowd;
 use pop_io::List;
-use pop_journal::{Last, write_journal};
-use pop_net::Net;
+use pop_journal::{Last, read_journal, verify, write_journal};
+use pop_net::{Item, Net};
 use pop_words::{RunKind, RunSpec};
-use sample_nets::{flock, list};
+use sample_nets::{leaf_of, net_of};
 use std::alloc::Global;
 use std::test::Fail;
-
-fn meeting(a: u32, b: u32, changed: bool) -> Meeting {
-    Meeting {
-        worker: 0,
-        a,
-        b,
-        changed,
-    }
-}
-
-/// Two rounds, of which the second has one meeting.
-fn two_rounds(alloc: Global, net: &Net) -> Result<Option<RunEnd>, Fail>
-    requires { length net.now.variables ≡ 1 }
-    ensures { IfOk result (λ end. IfSome end (λ end. AreValid net.now end.crowd)) }
-{
-    let crowd = Crowd::of_counts(alloc, net, &[12]).ok().ok_or("a crowd")?;
-    let first = list(alloc, &[meeting(0, 11, true), meeting(11, 0, false)])?;
-    let second = list(alloc, &[meeting(2, 1, true)])?;
-    Ok(Some(RunEnd {
-        rounds: List::from_vec(vec![in alloc; first, second]?),
-        crowd,
-        end: End::Open(0, 1),
-    }))
-}
 
 const SPEC: RunSpec = RunSpec {
     workers: 1,
     shards: 16,
-    turns: 4_098,
+    turns: 5,
     seed: 18,
 };
 
-const LINES: &str =
-    "run workers 1 shards 16 turns 4098 seed 18\nround 1\n0 0 11 *\n0 11 0\nround 2\n0 2 1 *\nend\nA 12\n";
+const TEXT: &str = "run workers 1 shards 16 turns 5 seed 18\nend\np 1\nq 1\nterminal\n";
+
+/// Two states without a move, whose outputs differ.
+fn split(alloc: Global) -> Option<Net>
+    ensures { IfSome result (λ net. length net.variables ≡ 2) }
+{
+    let leaf = leaf_of(alloc, &["p", "q"], &[], &[0, 1], &[true, false], &[])?;
+    let leaves = vec![in alloc; leaf].ok()?;
+    net_of(alloc, &["x", "y"], leaves, &[Item::Leaf(0)])
+}
+
+/// What is written of a run without a round.
+fn written(alloc: Global, net: &Net) -> Option<List<u8>>
+    requires { length net.now.variables ≡ 2 }
+{
+    let end = RunEnd {
+        rounds: List::from_vec(Vec::new(alloc)),
+        crowd: Crowd::of_counts(alloc, net, &[1, 1]).ok()?,
+        end: End::Terminal,
+    };
+    write_journal(alloc, RunKind::Whole, net, &SPEC, &end, Last::Terminal).ok()
+}
 
 #[test]
-fn journals(rt: HostRuntime) -> Result<(), Fail> {
-    let alloc = rt.alloc();
-    let net = flock(alloc).ok_or("a net")?;
-    let end = two_rounds(alloc, &net)?.ok_or("a run")?;
-    for (last, line) in [
-        (Last::Terminal, "terminal\n"),
-        (Last::Verdict(true), "verdict true\n"),
-        (Last::Verdict(false), "verdict false\n"),
-        (Last::Undecided(0, 11), "undecided 0 11\n"),
-    ] {
-        let text = write_journal(alloc, RunKind::Whole, &net, &SPEC, &end, last)
-            .ok()
-            .ok_or("memory is there")?;
-        let want = format!(in alloc; "{LINES}{line}")?;
-        assert_eq!(rt; text.as_slice(), want.as_bytes());
-    }
+fn a_journal_is_written(rt: HostRuntime) -> Result<(), Fail> {
+    let net = split(rt.alloc()).ok_or("a net")?;
+    let text = written(rt.alloc(), &net).ok_or("a text")?;
+    assert!(rt; text.as_slice() == TEXT.as_bytes());
+    Ok(())
+}
+
+/// How many meetings this journal has, if it holds.
+fn verified(alloc: Global, net: &Net, text: &[u8]) -> Option<u64>
+    requires { length net.now.variables ≡ 2 }
+{
+    let crowd = Crowd::of_counts(alloc, net, &[1, 1]).ok()?;
+    let journal = read_journal(alloc, RunKind::Whole, text, 3, crowd.len()).ok()?;
+    verify(alloc, net, crowd, &journal).ok()
+}
+
+#[test]
+fn agents_that_disagree_hold(rt: HostRuntime) -> Result<(), Fail> {
+    let net = split(rt.alloc()).ok_or("a net")?;
+    assert!(rt; verified(rt.alloc(), &net, TEXT.as_bytes()) == Some(0));
     Ok(())
 }

@@ -1,11 +1,7 @@
-//! Tests of journals, as tables: what is given, and what must come out.
+//! A test of journals that no row of `worked_rows` can hold.
 //! It stands on the crates that it tests, and has no code but tests.
 //! Nothing stands above it.
 #![tactic(auto)]
 
 #[cfg(test)]
 mod journals;
-#[cfg(test)]
-mod reads;
-#[cfg(test)]
-mod verdicts;
