@@ -1,4 +1,4 @@
-//! Tests of texts, streams, words, JSON parts and predicates, as tables: what is given, and what must come out.
+//! Tests of lines, streams, JSON parts and predicates that no row of `worked_rows` can hold.
 //! It stands on the crates that it tests, and has no code but tests.
 //! Nothing stands above it.
 #![tactic(auto)]
@@ -13,7 +13,3 @@ mod parts;
 mod predicates;
 #[cfg(test)]
 mod streams;
-#[cfg(test)]
-mod texts;
-#[cfg(test)]
-mod words;

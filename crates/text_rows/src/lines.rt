@@ -79,11 +79,24 @@ fn numbers_of_digits(rt: HostRuntime) {
     for (text, value) in NUMBERS {
         assert_eq!(rt; number(text), value, "at {text:?}");
     }
+}
+
+fn bounds(text: &[u8]) -> (bool, bool, bool, bool) {
+    (
+        small_number(text).is_some(),
+        number_within(text, 1, 64).is_some(),
+        printed_number(text).is_some(),
+        printed_within(text, 1, 64).is_some(),
+    )
+}
+
+#[test]
+fn numbers_within_bounds(rt: HostRuntime) {
     for (text, small, within, printed, both) in BOUNDED {
-        assert_eq!(rt; small_number(text).is_some(), small, "at {text:?}");
-        assert_eq!(rt; number_within(text, 1, 64).is_some(), within, "at {text:?}");
-        assert_eq!(rt; printed_number(text).is_some(), printed, "at {text:?}");
-        assert_eq!(rt; printed_within(text, 1, 64).is_some(), both, "at {text:?}");
+        assert!(rt;
+            bounds(text) == (small, within, printed, both),
+            "at {text:?}"
+        );
     }
 }
 

@@ -5,52 +5,91 @@ use json_shape::{
     member_of, number_of, object_of, only_item, pair_of, text_of, truth_of, word_of,
 };
 use serde_json::Value;
+use std::alloc::Global;
 use std::test::Fail;
+
+/// The items of the member `a`, which is a list of four.
+fn items_of_a(alloc: Global, value: &Value) -> Option<&[Value]> {
+    let root = Path::Root;
+    object_of(alloc, &root, value).ok()?;
+    let list = member_of(alloc, &root, "a", value).ok()?;
+    let items = list_of(alloc, &root, 4, 4, list).ok()?;
+    Some(items.as_slice())
+}
+
+/// The parts of a number, a text and a truth value.
+fn parts_of(alloc: Global, items: &[Value]) -> Option<(u32, &str, bool)> {
+    let [number, text, truth, ..] = items else {
+        return None;
+    };
+    let number = number_of(alloc, &Path::Root, 3, 3, number).ok()?;
+    let text = text_of(alloc, &Path::Root, text).ok()?;
+    let truth = truth_of(alloc, &Path::Root, truth).ok()?;
+    Some((number, text, truth))
+}
 
 #[test]
 fn parts_of_a_value(rt: HostRuntime) -> Result<(), Fail> {
-    let alloc = rt.alloc();
-    let value = Value::from_str(alloc, "{\"a\":[3,\"b\",true,1.0]}")?;
-    let root = Path::Root;
-    assert!(rt; object_of(alloc, &root, &value).is_ok());
-    let list = member_of(alloc, &root, "a", &value).ok().ok_or("a member")?;
-    let at = Path::Member(&root, "a");
-    let items = list_of(alloc, &at, 4, 4, list).ok().ok_or("a list")?;
-    assert_eq!(rt; items.len(), 4);
-    let third = Path::Item(&at, 3);
-    assert_eq!(rt; number_of(alloc, &at, 3, 3, &items[0]).ok(), Some(3));
-    assert_eq!(rt; text_of(alloc, &at, &items[1]).ok(), Some("b"));
-    assert_eq!(rt; truth_of(alloc, &at, &items[2]).ok(), Some(true));
-    match number_of(alloc, &third, 0, 9, &items[3]) {
-        Err(FormatFault::Broken { path, why }) => {
-            assert_eq!(rt; path.as_str(), "/a/3");
-            assert_eq!(rt; why, Why::Kind);
-        }
-        _ => return Err(Fail::from("1.0 is no whole number")),
-    }
+    let value = Value::from_str(rt.alloc(), "{\"a\":[3,\"b\",true,1.0]}")?;
+    let items = items_of_a(rt.alloc(), &value).ok_or("four items")?;
+    assert!(rt; parts_of(rt.alloc(), items) == Some((3, "b", true)));
     Ok(())
+}
+
+/// Whether item 3 of the member `a` is refused at its path, since it is no whole number.
+fn is_no_number(alloc: Global, value: &Value) -> bool {
+    let root = Path::Root;
+    let list = Path::Member(&root, "a");
+    match number_of(alloc, &Path::Item(&list, 3), 0, 9, value) {
+        Err(FormatFault::Broken { path, why }) => path.as_str() == "/a/3" && why == Why::Kind,
+        _ => false,
+    }
+}
+
+#[test]
+fn a_fault_has_a_path(rt: HostRuntime) -> Result<(), Fail> {
+    let value = Value::from_str(rt.alloc(), "1.0")?;
+    assert!(rt; is_no_number(rt.alloc(), &value));
+    Ok(())
+}
+
+/// The word of a list, and the pair and the number behind it.
+fn tagged(alloc: Global, value: &Value) -> Option<(&str, &Value, &Value)> {
+    let items = items_of(alloc, &Path::Root, value).ok()?;
+    let word = word_of(alloc, &Path::Root, items).ok()?;
+    let (pair, number) = both_items(alloc, &Path::Root, items).ok()?;
+    Some((word, pair, number))
+}
+
+/// The second number of a pair, if it is at most this far from 0.
+fn second(alloc: Global, pair: &Value, size: u64) -> Option<i64> {
+    let (_first, second) = pair_of(alloc, &Path::Root, pair).ok()?;
+    integer_of(alloc, &Path::Root, size, second).ok()
 }
 
 #[test]
 fn parts_of_a_tagged_list(rt: HostRuntime) -> Result<(), Fail> {
-    let alloc = rt.alloc();
-    let value = Value::from_str(alloc, "[\"two\",[3,-4],5]")?;
-    let root = Path::Root;
-    let items = items_of(alloc, &root, &value).ok().ok_or("a list")?;
-    assert_eq!(rt; word_of(alloc, &root, items).ok(), Some("two"));
-    assert!(rt; only_item(alloc, &root, items).is_err());
-    let both = both_items(alloc, &root, items).ok().ok_or("two items")?;
-    assert_eq!(rt;
-        ascending_of(alloc, &root, 5, Some(4), both.1).ok(),
-        Some(5)
-    );
-    assert!(rt; ascending_of(alloc, &root, 5, Some(5), both.1).is_err());
-    let pair = pair_of(alloc, &root, both.0).ok().ok_or("a pair")?;
-    assert_eq!(rt; integer_of(alloc, &root, 4, pair.1).ok(), Some(-4));
-    assert!(rt; integer_of(alloc, &root, 3, pair.1).is_err());
-    let (_word, tail) = items.split_first().ok_or("a word")?;
-    let item = only_item(alloc, &root, tail).ok().ok_or("one item")?;
-    assert_eq!(rt; number_of(alloc, &root, 0, 5, item).ok(), Some(5));
+    let value = Value::from_str(rt.alloc(), "[\"two\",[3,-4],5]")?;
+    let (word, pair, _) = tagged(rt.alloc(), &value).ok_or("a list")?;
+    assert!(rt; word == "two");
+    assert!(rt; second(rt.alloc(), pair, 4) == Some(-4));
+    assert!(rt; second(rt.alloc(), pair, 3).is_none());
+    assert!(rt; only_above(rt.alloc(), &value, 4).is_none());
+    Ok(())
+}
+
+/// The only item behind a word, a number up to 5 that is above this one.
+fn only_above(alloc: Global, value: &Value, last: u32) -> Option<u32> {
+    let items = items_of(alloc, &Path::Root, value).ok()?;
+    let item = only_item(alloc, &Path::Root, items).ok()?;
+    ascending_of(alloc, &Path::Root, 5, Some(last), item).ok()
+}
+
+#[test]
+fn an_only_item(rt: HostRuntime) -> Result<(), Fail> {
+    let value = Value::from_str(rt.alloc(), "[\"one\",5]")?;
+    assert!(rt; only_above(rt.alloc(), &value, 4) == Some(5));
+    assert!(rt; only_above(rt.alloc(), &value, 5).is_none());
     Ok(())
 }
 

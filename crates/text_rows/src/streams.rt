@@ -4,6 +4,7 @@ use pop_io::{
     CalmSink, CalmSource, Gate, List, MemorySink, MemorySource, OpenGate, ReadAll, Sink, Source,
     StdSink, StdSource, Text, Trouble, TroubleKind, is_among, place_of, read_all, write_all,
 };
+use std::alloc::Global;
 use std::test::Fail;
 
 const PART_OF_ONE: Trouble = Trouble {
@@ -11,52 +12,69 @@ const PART_OF_ONE: Trouble = Trouble {
     kind: TroubleKind::Part(1),
 };
 
+const PART_OF_TWO: Trouble = Trouble {
+    call: 1,
+    kind: TroubleKind::Part(2),
+};
+
 const SECOND_FAILS: Trouble = Trouble {
     call: 2,
     kind: TroubleKind::Fail,
 };
 
+/// What is read of `hello` by a source with these troubles.
+fn read(alloc: Global, troubles: &[Trouble]) -> Result<List<u8>, ReadAll> {
+    let troubles = List::from_vec(troubles.to_vec(alloc)?);
+    let hello = List::from_vec(b"hello".to_vec(alloc)?);
+    read_all(alloc, &mut MemorySource::new(hello, troubles))
+}
+
 #[test]
-fn parts_are_joined(rt: HostRuntime) -> Result<(), Fail> {
-    let alloc = rt.alloc();
-    let bytes = List::from_vec(b"hello".to_vec(alloc)?);
-    let part = List::from_vec(vec![in alloc; PART_OF_ONE]?);
-    let other = part.copy(alloc).ok().ok_or("memory")?;
-    let mut source = MemorySource::new(bytes, part);
-    let all = read_all(alloc, &mut source).ok().ok_or("memory")?;
-    let mut sink = MemorySink::new(alloc, 100, other).ok().ok_or("memory")?;
-    assert!(rt; write_all(&mut sink, all.as_slice()).is_ok());
-    assert_eq!(rt; sink.held(), b"hello".as_slice());
+fn parts_are_read(rt: HostRuntime) -> Result<(), Fail> {
+    let all = read(rt.alloc(), &[PART_OF_ONE]).ok().ok_or("memory")?;
+    let copy = all.copy(rt.alloc()).ok().ok_or("memory")?;
+    assert!(rt; copy.as_slice() == b"hello".as_slice());
     Ok(())
 }
 
 #[test]
-fn a_failed_take_is_a_read_fault(rt: HostRuntime) -> Result<(), Fail> {
-    let alloc = rt.alloc();
-    let bytes = List::from_vec(b"hello".to_vec(alloc)?);
-    let first = Trouble {
-        call: 1,
-        kind: TroubleKind::Part(2),
-    };
-    let troubles = vec![in alloc; first, SECOND_FAILS]?;
-    let mut source = MemorySource::new(bytes, List::from_vec(troubles));
-    assert!(rt; matches!(read_all(alloc, &mut source), Err(ReadAll::ReadFault)));
-    Ok(())
+fn a_failed_take_is_a_read_fault(rt: HostRuntime) {
+    let read = read(rt.alloc(), &[PART_OF_TWO, SECOND_FAILS]);
+    assert!(rt; matches!(read, Err(ReadAll::ReadFault)));
 }
 
 #[test]
-fn calm_streams(rt: HostRuntime) -> Result<(), Fail> {
-    let alloc = rt.alloc();
-    let mut source = CalmSource::new(List::from_vec(b"hello".to_vec(alloc)?));
+fn parts_are_written(rt: HostRuntime) -> Result<(), Fail> {
+    let troubles = List::from_vec(vec![in rt.alloc(); PART_OF_ONE]?);
+    let mut sink = MemorySink::new(rt.alloc(), 100, troubles)
+        .ok()
+        .ok_or("memory")?;
+    let written = write_all(&mut sink, b"hello").is_ok();
+    assert!(rt; written && sink.held() == b"hello".as_slice());
+    Ok(())
+}
+
+/// How many bytes are taken into three places, which these are then, and how many are left.
+fn taken(alloc: Global, source: &mut CalmSource) -> Option<(usize, [u8; 3], usize)> {
     let mut out = [0u8; 3];
-    assert_eq!(rt; source.take(&mut out).ok(), Some(3));
-    assert_eq!(rt; out.as_slice(), b"hel".as_slice());
-    let rest = read_all(alloc, &mut source).ok().ok_or("memory")?;
-    assert_eq!(rt; rest.as_slice(), b"lo".as_slice());
-    let mut sink = CalmSink::new(alloc, 5).ok().ok_or("memory")?;
-    assert_eq!(rt; sink.put(&out).ok(), Some(3));
-    assert_eq!(rt; sink.spare(), 2);
-    assert_eq!(rt; sink.held(), b"hel".as_slice());
+    let count = source.take(&mut out).ok()?;
+    let rest = read_all(alloc, source).ok()?;
+    Some((count, out, rest.as_slice().len()))
+}
+
+#[test]
+fn a_calm_source(rt: HostRuntime) -> Result<(), Fail> {
+    let hello = List::from_vec(b"hello".to_vec(rt.alloc())?);
+    let taken = taken(rt.alloc(), &mut CalmSource::new(hello));
+    assert!(rt; taken == Some((3, *b"hel", 2)));
+    Ok(())
+}
+
+#[test]
+fn a_calm_sink(rt: HostRuntime) -> Result<(), Fail> {
+    let mut sink = CalmSink::new(rt.alloc(), 5).ok().ok_or("memory")?;
+    let put = sink.put(b"hel").ok();
+    assert!(rt; (put, sink.spare()) == (Some(3), 2) && sink.held() == b"hel".as_slice());
     Ok(())
 }
 
