@@ -86,7 +86,7 @@ pub fn verify_watched(
     ensures passes { Passes (journal.now.first + 1)
         (journal_compared net.now (crowd_of net.now crowd) journal.now) result }
     ensures meetings { IfOk result (λ k. k ≡ length (joined journal.now.rounds)) }
-    // It passes exactly where the rounds are a watched run and the tail has the lines of its end.
+    // It passes exactly when the rounds are a watched run and the tail has the lines of its end.
     ensures holds { IfOk result (λ _. Holds net.now (crowd_of net.now crowd) journal.now) }
     ensures accepts { Holds net.now (crowd_of net.now crowd) journal.now → IfErr result (λ fault. fault ≡ OutOfMemory) }
 {
