@@ -18,7 +18,7 @@ use Rattle.agent_field.specs.declared.view.View.{View}
 use Rattle.agent_field.specs.declared.field.Field.{Field}
 use Rattle.agent_field.specs.declared.field.FieldSeat.{FieldSeat}
 use Rattle.agent_field.specs.History.{IsHistory, calls, placed, placed_logs}
-use Rattle.agent_field.specs.Standing.{In, agents_of, packed, agent_word, words_of_agents, crowd_after, IsLook, IsOwedByNone, StandsAt, FieldStands, idle}
+use Rattle.agent_field.specs.Standing.{In, agents_opened, packed, agent_word, words_of_agents, crowd_after, IsLook, IsOwedByNone, StandsAt, FieldStands, idle}
 use Rattle.agent_field.specs.Seats.{IsWhole}
 use Rattle.agent_field.specs.Steps.{Mine}
 use Rattle.agent_field.proofs.Histories.{length-replay, calls_from-below}
@@ -31,7 +31,7 @@ some_value (Some a) h = (a, refl)
 
 -- the agents' words of a table
 abbrev pub agent_words : Setup → List ℕ → List Word
-agent_words k words = words_of_agents k.shards (agents_of k) words
+agent_words k words = words_of_agents k.shards (agents_opened k) words
 
 module _ (k : Setup) (words : List ℕ) (views : List View) (history : List Meeting) (seat : ℕ → Seated ℕ) (st : StandsAt k words views history seat) (id : ℕ) (v : View) (at : get_elem? views id ≡ some v) (live : v.live ≡ true) (zeroth : v.number ≡ 0)
     (whole : (w : ℕ) → 0 < w → w < v.next → IsSome (get_or v.taken w None)) (none_due : v.due ≡ []) where
@@ -59,20 +59,20 @@ module _ (k : Setup) (words : List ℕ) (views : List View) (history : List Meet
   closes_words =
       let net = k.net.value in
       let all = agent_words k words in
-      let many : length all ≡ agents_of k = length-map-range_with_len (agent_word k words) 0 (agents_of k) in
+      let many : length all ≡ agents_opened k = length-map-range_with_len (agent_word k words) 0 (agents_opened k) in
       ext_get_or [] (crowd_of net all) (crowd_after k history)
       (length-map all (tuple_of net) ∙ many ∙ sym (length-replay net history (crowd_of net k.opening.value) ∙ length-map k.opening.value (tuple_of net)))
       (λ a h.
       let fits : a < length all = subst (λ (n : ℕ). a < n) (length-map all (tuple_of net)) h in
-      let inside : a < agents_of k = subst (λ (n : ℕ). a < n) many fits in
+      let inside : a < agents_opened k = subst (λ (n : ℕ). a < n) many fits in
       get_or-map (tuple_of net) all a (packed 0) [] fits
-      ∙ ap (tuple_of net) (get_or-map-range_with_len (agent_word k words) 0 (agents_of k) a a (packed 0) inside (zero-add a))
+      ∙ ap (tuple_of net) (get_or-map-range_with_len (agent_word k words) 0 (agents_opened k) a a (packed 0) inside (zero-add a))
       ∙ st.settled a inside (owed_by_none a))
 
   closes_valid : AreValid k.net.value (agent_words k words)
   closes_valid a d h =
-      let inside : a < agents_of k = subst (λ (n : ℕ). a < n) (length-map-range_with_len (agent_word k words) 0 (agents_of k)) h in
-      subst (IsValid k.net.value) (sym (get_or-map-range_with_len (agent_word k words) 0 (agents_of k) a a d inside (zero-add a))) (st.valid a inside)
+      let inside : a < agents_opened k = subst (λ (n : ℕ). a < n) (length-map-range_with_len (agent_word k words) 0 (agents_opened k)) h in
+      subst (IsValid k.net.value) (sym (get_or-map-range_with_len (agent_word k words) 0 (agents_opened k) a a d inside (zero-add a))) (st.valid a inside)
 
   -- a number whose log was not taken in has made nothing
   closes_rest : (w : ℕ) → w ≢ 0 → get_or v.taken w None ≡ None → calls w history ≡ []

@@ -8,7 +8,7 @@ use Rattle.pop_net.proofs.Packing.{same_word}
 use Rattle.agent_field.specs.declared.field.Field.{Field}
 use Rattle.agent_field.specs.declared.view.Setup.{Setup}
 use Rattle.agent_field.specs.Standing.{packed}
-use Rattle.agent_field.specs.Steps.{Mine, knowing, IsReaction, meeting, HasDrawn}
+use Rattle.agent_field.specs.Steps.{Mine, knowing, IsReaction, meeting_made, HasDrawn}
 use Rattle.agent_field.specs.Tokens.{SeatToken, HasLocked, Becomes, IsDraw}
 
 -- words that react alike become the same words
@@ -22,7 +22,7 @@ module _ (net : NetModel) (x y x' y' u v u' v' : Word) (r : IsReaction net x y x
   same_second : y' ≡ v'
   same_second = same_word net y' v' r.second s.second (ap (λ (p : Tuple × Tuple). p.1) both)
 
-pub drawn_is : (ticket : ℕ) (m m' : Mine) (a b : ℕ) (x y x' y' : Word) → m.0.known ≡ (b, y) ∷ (a, x) ∷ [] → IsReaction m.0.setup.net.value x y x' y' → HasDrawn ticket m m' → m' ≡ (meeting ticket a b x y x' y' m.0, m.1)
+pub drawn_is : (ticket : ℕ) (m m' : Mine) (a b : ℕ) (x y x' y' : Word) → m.0.known ≡ (b, y) ∷ (a, x) ∷ [] → IsReaction m.0.setup.net.value x y x' y' → HasDrawn ticket m m' → m' ≡ (meeting_made ticket a b x y x' y' m.0, m.1)
 drawn_is ticket m m' a b x y x' y' known reacted h =
     let none : ℕ × Word = (0, packed 0) in
     let same = sym h.known ∙ known in
@@ -33,17 +33,17 @@ drawn_is ticket m m' a b x y x' y' known reacted h =
     let net = m.0.setup.net.value in
     let is_x' = same_first net h.x h.y h.x' h.y' x y x' y' h.reacted reacted is_x is_y in
     let is_y' = same_second net h.x h.y h.x' h.y' x y x' y' h.reacted reacted is_x is_y in
-    h.met ∙ (λ i. (meeting ticket (first i).0 (second i).0 (is_x i) (is_y i) (is_x' i) (is_y' i) m.0, m.1))
+    h.met ∙ (λ i. (meeting_made ticket (first i).0 (second i).0 (is_x i) (is_y i) (is_x' i) (is_y' i) m.0, m.1))
 
 -- the same from before the two reads on, where nothing was known
 pub pair_drawn : (f : Field) (locks : List ℕ) (ticket : ℕ) (t t₁ t₂ t₃ : SeatToken) (a b : ℕ) (x y x' y' : Word) → HasLocked f locks t
     → Becomes t t₁ (knowing a x t.me.0) → Becomes t₁ t₂ (knowing b y t₁.me.0) → IsReaction f.net.now x y x' y' → IsDraw ticket t₂ t₃
-    → Becomes t t₃ (meeting ticket a b x y x' y' t.me.0)
+    → Becomes t t₃ (meeting_made ticket a b x y x' y' t.me.0)
 pair_drawn f locks ticket t t₁ t₂ t₃ a b x y x' y' locked read_a read_b reacted h =
     let read : t₂.me ≡ (knowing b y (knowing a x t.me.0), t.me.1) = read_b.me ∙ ap (λ (n : Mine). (knowing b y n.0, n.1)) read_a.me in
     let known : t₂.me.0.known ≡ (b, y) ∷ (a, x) ∷ [] = ap (λ (n : Mine). n.0.known) read ∙ ap (λ (l : List (ℕ × Word)). (b, y) ∷ (a, x) ∷ l) locked.known in
     let net : t₂.me.0.setup.net.value ≡ f.net.now = ap (λ (n : Mine). n.0.setup.net.value) read ∙ ap (λ (k : Setup). k.net.value) locked.holds.usable.ours ∙ f.net_is in record {
       table = h.table ∙ read_b.table ∙ read_a.table;
       me = drawn_is ticket t₂.me t₃.me a b x y x' y' known (subst (λ (n : NetModel). IsReaction n x y x' y') (sym net) reacted) h.drawn
-          ∙ ap (λ (n : Mine). (meeting ticket a b x y x' y' n.0, n.1)) read;
+          ∙ ap (λ (n : Mine). (meeting_made ticket a b x y x' y' n.0, n.1)) read;
     }

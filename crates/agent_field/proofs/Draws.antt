@@ -17,8 +17,8 @@ use Rattle.agent_field.specs.declared.view.Look.{Look}
 use Rattle.agent_field.specs.declared.view.Setup.{Setup}
 use Rattle.agent_field.specs.declared.view.View.{View}
 use Rattle.agent_field.specs.History.{IsHistory, logged, calls, made}
-use Rattle.agent_field.specs.Standing.{agents_of, lock_at, agent_at, shard_of, packed, crowd_after, tuple_after, In, locks_of, joined_away, IsFirst, IsLook, LooksPart, Agrees, IsHeldBySome, StandsAt}
-use Rattle.agent_field.specs.Steps.{IsReaction, meeting, IsNewest, IsDrawnAt}
+use Rattle.agent_field.specs.Standing.{agents_opened, lock_at, agent_at, shard_of, packed, crowd_after, tuple_after, In, locks_of, joined_away, IsFirst, IsLook, LooksPart, Agrees, IsHeldBySome, StandsAt}
+use Rattle.agent_field.specs.Steps.{IsReaction, meeting_made, IsNewest, IsDrawnAt}
 use Rattle.agent_field.proofs.Histories.{length-replay, replay-push, history-push, calls-push_mine, calls-push_other, calls_from-below, length-most, after_meeting-first, after_meeting-second, after_meeting-other}
 use Rattle.agent_field.proofs.InTurns.{lock_behind, agent_behind}
 use Rattle.agent_field.proofs.Views.{at_length, set_each, one_seat, one_holder, owed_back, held_after, sits_set, not_dead}
@@ -94,7 +94,7 @@ module _ (k : Setup) (words : List ℕ) (views : List View) (history : List Meet
       }
 
   pub draws_keep : (a b : ℕ) (x y x' y' : Word) → v.known ≡ (b, y) ∷ (a, x) ∷ [] → IsReaction v.setup.net.value x y x' y' → v.due ≡ [] → a ≢ b → length v.log < 2 ^ 40 → v.held ≡ locks_of k a b
-      → StandsAt k (set words 0 (length history + 1)) (set views id (meeting (length history) a b x y x' y' v)) (history ++ made v.number a b (reacts v.setup.net.value (tuple_of v.setup.net.value x) (tuple_of v.setup.net.value y)) ∷ []) seat
+      → StandsAt k (set words 0 (length history + 1)) (set views id (meeting_made (length history) a b x y x' y' v)) (history ++ made v.number a b (reacts v.setup.net.value (tuple_of v.setup.net.value x) (tuple_of v.setup.net.value y)) ∷ []) seat
   draws_keep a b x y x' y' known reacted none_due apart room exactly =
       let net = k.net.value in
       let f = mine in
@@ -102,7 +102,7 @@ module _ (k : Setup) (words : List ℕ) (views : List View) (history : List Meet
       let changed = reacts v.setup.net.value (tuple_of v.setup.net.value x) (tuple_of v.setup.net.value y) in
       let m = made v.number a b changed in
       let ticket = length history in
-      let w = meeting ticket a b x y x' y' v in
+      let w = meeting_made ticket a b x y x' y' v in
       let words' = set words 0 (ticket + 1) in
       let later = history ++ m ∷ [] in
       let crowd = crowd_after k history in
@@ -112,7 +112,7 @@ module _ (k : Setup) (words : List ℕ) (views : List View) (history : List Meet
       let know_b = f.knows b y in_b in
       let is_a : tuple_after k history a ≡ tuple_of net x = known_after none_due a x in_a in
       let is_b : tuple_after k history b ≡ tuple_of net y = known_after none_due b y in_b in
-      let long : length crowd ≡ agents_of k = length-replay net history (crowd_of net k.opening.value) ∙ length-map k.opening.value (tuple_of net) in
+      let long : length crowd ≡ agents_opened k = length-replay net history (crowd_of net k.opening.value) ∙ length-map k.opening.value (tuple_of net) in
       let fits_a : a < length crowd = subst (λ (n : ℕ). a < n) (sym long) know_a.0 in
       let fits_b : b < length crowd = subst (λ (n : ℕ). b < n) (sym long) know_b.0 in
       let reacts_so : IsReaction net x y x' y' = subst (λ (z : NetModel). IsReaction z x y x' y') same_net reacted in
@@ -123,10 +123,10 @@ module _ (k : Setup) (words : List ℕ) (views : List View) (history : List Meet
       let longer : calls v.number later ≡ calls v.number history ++ logged ticket a b changed ∷ [] = calls-push_mine v.number history m refl in
       let clock_only : (i : ℕ) → i ≢ 0 → get_or words' i 0 ≡ get_or words i 0 = λ i more. get_or-set_other words 0 i (ticket + 1) 0 more in
       let no_agent : (c : ℕ) → get_or words' (agent_at k c) 0 ≡ get_or words (agent_at k c) 0 = λ c. clock_only (agent_at k c) (λ same. agent_behind k 0 c (omega arith) (sym same)) in
-      let owes_a : (p : ℕ × Word) → p ≡ (a, x') → (p.0 < agents_of k) × In (shard_of k p.0) v.held × (tuple_of net p.1 ≡ tuple_after k later p.0) × IsValid net p.1 = λ p same.
-      subst (λ (p : ℕ × Word). (p.0 < agents_of k) × In (shard_of k p.0) v.held × (tuple_of net p.1 ≡ tuple_after k later p.0) × IsValid net p.1) (sym same) (know_a.0, know_a.1, new_a, reacts_so.first) in
-      let owes_b : (p : ℕ × Word) → p ≡ (b, y') → (p.0 < agents_of k) × In (shard_of k p.0) v.held × (tuple_of net p.1 ≡ tuple_after k later p.0) × IsValid net p.1 = λ p same.
-      subst (λ (p : ℕ × Word). (p.0 < agents_of k) × In (shard_of k p.0) v.held × (tuple_of net p.1 ≡ tuple_after k later p.0) × IsValid net p.1) (sym same) (know_b.0, know_b.1, new_b, reacts_so.second) in
+      let owes_a : (p : ℕ × Word) → p ≡ (a, x') → (p.0 < agents_opened k) × In (shard_of k p.0) v.held × (tuple_of net p.1 ≡ tuple_after k later p.0) × IsValid net p.1 = λ p same.
+      subst (λ (p : ℕ × Word). (p.0 < agents_opened k) × In (shard_of k p.0) v.held × (tuple_of net p.1 ≡ tuple_after k later p.0) × IsValid net p.1) (sym same) (know_a.0, know_a.1, new_a, reacts_so.first) in
+      let owes_b : (p : ℕ × Word) → p ≡ (b, y') → (p.0 < agents_opened k) × In (shard_of k p.0) v.held × (tuple_of net p.1 ≡ tuple_after k later p.0) × IsValid net p.1 = λ p same.
+      subst (λ (p : ℕ × Word). (p.0 < agents_opened k) × In (shard_of k p.0) v.held × (tuple_of net p.1 ≡ tuple_after k later p.0) × IsValid net p.1) (sym same) (know_b.0, know_b.1, new_b, reacts_so.second) in
       let new : Agrees k words' later seat id w = record {
         setup = f.setup;
         seated = f.seated;

@@ -18,8 +18,8 @@ use Rattle.pop_crowd.specs.Replay.{reacts}
 use Rattle.agent_field.specs.declared.view.Setup.{Setup}
 use Rattle.agent_field.specs.declared.view.View.{View}
 use Rattle.agent_field.specs.History.{made}
-use Rattle.agent_field.specs.Standing.{agents_of, crowd_after, Stands, In, StandsAt, IsUnfounded, founder, joined_away, opening_words}
-use Rattle.agent_field.specs.Steps.{IsReaction, first_seat, meeting, looking}
+use Rattle.agent_field.specs.Standing.{agents_opened, crowd_after, Stands, In, StandsAt, IsUnfounded, founder, joined_away, opening_words}
+use Rattle.agent_field.specs.Steps.{IsReaction, first_seat, meeting_made, looking}
 use Rattle.agent_field.specs.Kinds.{Sits, QuietStep, makes, locks, finds_locked, reads, writes, unlocks, splits, joins, looks, DrawStep, draws, FieldRun, stays, goes, meets, HasHistory, EachMomentStands}
 use Rattle.agent_field.proofs.Keeps.{locks_keep, releases_keep, reads_keep, writes_keep}
 use Rattle.agent_field.proofs.Histories.{length-replay, replay-push}
@@ -78,7 +78,7 @@ module _ (k : Setup) where
       let f = st.each id v is.at is.live in
       let in_a : In (a, x) v.known = subst (In (a, x)) (sym known) (inr (inl refl)) in
       let in_b : In (b, y) v.known = subst (In (b, y)) (sym known) (inl refl) in
-      let long : length crowd ≡ agents_of k = length-replay net history start ∙ length-map k.opening.value (tuple_of net) in
+      let long : length crowd ≡ agents_opened k = length-replay net history start ∙ length-map k.opening.value (tuple_of net) in
       let fits_a : a < length crowd = subst (λ (n : ℕ). a < n) (sym long) (f.knows a x in_a).0 in
       let fits_b : b < length crowd = subst (λ (n : ℕ). b < n) (sym long) (f.knows b y in_b).0 in
       let is_a = slice_get-get_or crowd a [] fits_a ∙ ap Some (known_after k words views history seat st id v is.at is.live none_due a x in_a) in
@@ -93,8 +93,8 @@ module _ (k : Setup) where
       let same : v.setup.net.value ≡ k.net.value = ap (λ (z : Setup). z.net.value) (t.1.each id v is.at is.live).setup in
       let met : NetModel → Meeting = λ net. made v.number a b (reacts net (tuple_of net x) (tuple_of net y)) in
       let kept = draws_keep k words views history t.0 t.1 id v is.at is.live a b x y x' y' may.known (subst (λ (net : NetModel). IsReaction net x y x' y') (sym same) may.reacted) may.due may.apart may.room may.exactly in
-      let at_ticket = subst (λ (n : ℕ). StandsAt k (set words 0 (n + 1)) (set views id (meeting n a b x y x' y' v)) (history ++ met v.setup.net.value ∷ []) t.0) (sym t.1.clock) kept in (
-        inr (t.0, subst (λ (net : NetModel). StandsAt k (set words 0 (get_or words 0 0 + 1)) (set views id (meeting (get_or words 0 0) a b x y x' y' v)) (history ++ met net ∷ []) t.0) same at_ticket),
+      let at_ticket = subst (λ (n : ℕ). StandsAt k (set words 0 (n + 1)) (set views id (meeting_made n a b x y x' y' v)) (history ++ met v.setup.net.value ∷ []) t.0) (sym t.1.clock) kept in (
+        inr (t.0, subst (λ (net : NetModel). StandsAt k (set words 0 (get_or words 0 0 + 1)) (set views id (meeting_made (get_or words 0 0) a b x y x' y' v)) (history ++ met net ∷ []) t.0) same at_ticket),
         drawn_step words views history t.0 t.1 id v is a b x y may.known may.due may.apart (met k.net.value) refl refl,
       )
 

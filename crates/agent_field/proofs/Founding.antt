@@ -15,7 +15,7 @@ use Rattle.pop_crowd.specs.Replay.{IsMeeting}
 use Rattle.agent_field.specs.declared.places.TheConstants.{HEAD_WORDS}
 use Rattle.agent_field.specs.declared.view.Setup.{Setup}
 use Rattle.agent_field.specs.declared.view.View.{View}
-use Rattle.agent_field.specs.Standing.{agents_of, lock_at, agent_at, packed, agent_word, founder, joined_away, in_turns, Agrees, StandsAt, IsUnfounded}
+use Rattle.agent_field.specs.Standing.{agents_opened, lock_at, agent_at, packed, agent_word, founder, joined_away, in_turns, Agrees, StandsAt, IsUnfounded}
 use Rattle.agent_field.specs.Steps.{first_seat}
 use Rattle.agent_field.proofs.InTurns.{lock_behind, agent_behind, length-in_turns, get_or-in_turns_first, get_or-in_turns_second}
 use Rattle.agent_field.proofs.Views.{at_length, set_each}
@@ -36,11 +36,11 @@ module _ (k : Setup) (words : List ℕ) (views : List View) (un : IsUnfounded k 
   pub founder_word : get_or words 1 0 ≡ 0
   founder_word = ap (λ (l : List ℕ). get_or l 1 0) un.fresh
 
-  wide : length words ≡ HEAD_WORDS + k.shards + agents_of k
+  wide : length words ≡ HEAD_WORDS + k.shards + agents_opened k
   unfolding zeros numbers
   wide =
       let long : length zeros ≡ k.shards = length-replicate k.shards 0 in
-      let many : length numbers ≡ agents_of k = length-map k.opening.value (λ (w : Word). w.0) in
+      let many : length numbers ≡ agents_opened k = length-map k.opening.value (λ (w : Word). w.0) in
       ap (length {A = ℕ}) un.fresh ∙ ap (λ (n : ℕ). suc (suc n)) (length-in_turns zeros numbers) ∙ omega (arith, long, many)
 
   -- the locks are free, and the agents' words are the opening words
@@ -48,17 +48,17 @@ module _ (k : Setup) (words : List ℕ) (views : List View) (un : IsUnfounded k 
   unfolding zeros numbers
   free_lock s h =
       let long : length zeros ≡ k.shards = length-replicate k.shards 0 in
-      let many : length numbers ≡ agents_of k = length-map k.opening.value (λ (w : Word). w.0) in
+      let many : length numbers ≡ agents_opened k = length-map k.opening.value (λ (w : Word). w.0) in
       ap (λ (l : List ℕ). get_or l (lock_at k s) 0) un.fresh
       ∙ ap (λ (i : ℕ). get_or (0 ∷ 0 ∷ in_turns zeros numbers) i 0) (let at : lock_at k s ≡ suc (suc (s + min s (length numbers))) = omega arith in at)
       ∙ get_or-in_turns_first 0 zeros numbers s (omega arith)
       ∙ get_or-replicate k.shards s 0 0 h
 
-  opening_word : (a : ℕ) → a < agents_of k → agent_word k words a ≡ get_or k.opening.value a (packed 0)
+  opening_word : (a : ℕ) → a < agents_opened k → agent_word k words a ≡ get_or k.opening.value a (packed 0)
   unfolding zeros numbers
   opening_word a h =
       let long : length zeros ≡ k.shards = length-replicate k.shards 0 in
-      let many : length numbers ≡ agents_of k = length-map k.opening.value (λ (w : Word). w.0) in
+      let many : length numbers ≡ agents_opened k = length-map k.opening.value (λ (w : Word). w.0) in
       ap packed
       (ap (λ (l : List ℕ). get_or l (agent_at k a) 0) un.fresh
       ∙ ap (λ (i : ℕ). get_or (0 ∷ 0 ∷ in_turns zeros numbers) i 0) (let at : agent_at k a ≡ suc (suc (a + min (a + 1) (length zeros))) = omega arith in at)
@@ -70,10 +70,10 @@ module _ (k : Setup) (words : List ℕ) (views : List View) (un : IsUnfounded k 
       let w = first_seat k in
       let words' = set words 1 1 in
       let lims = un.limits in
-      let long : length words ≡ HEAD_WORDS + k.shards + agents_of k = wide in
+      let long : length words ≡ HEAD_WORDS + k.shards + agents_opened k = wide in
       let net = k.net.value in
       let as_before : (i : ℕ) → i ≢ 1 → get_or words' i 0 ≡ get_or words i 0 = λ i apart. get_or-set_other words 1 i 1 0 apart in
-      let agent : (a : ℕ) → a < agents_of k → agent_word k words' a ≡ get_or k.opening.value a (packed 0) = λ a h. ap packed (as_before (agent_at k a) (λ e. agent_behind k 1 a (omega arith) (sym e))) ∙ opening_word a h in
+      let agent : (a : ℕ) → a < agents_opened k → agent_word k words' a ≡ get_or k.opening.value a (packed 0) = λ a h. ap packed (as_before (agent_at k a) (λ e. agent_behind k 1 a (omega arith) (sym e))) ∙ opening_word a h in
       let at_zero : id ≡ 0 = ⊎_elim (λ (t : (id ≡ 0) × (founder k ≡ founder k)). t.0) (λ (s : founder k ≡ joined_away). absurd (true≢false (ap (λ (u : View). u.founding) s))) (un.each id (founder k) at) in
       let only_joined_away : (j : ℕ) (u : View) → j ≢ id → get_elem? views j ≡ some u → u ≡ joined_away = λ j u apart e. ⊎_elim (λ (t : (j ≡ 0) × (u ≡ founder k)). absurd (apart (t.0 ∙ sym at_zero))) (λ (s : u ≡ joined_away). s) (un.each j u e) in
       let seat = seat_for (λ n. none) 0 (some id) in
@@ -103,7 +103,7 @@ module _ (k : Setup) (words : List ℕ) (views : List View) (un : IsUnfounded k 
           few_seats = lims.2;
           founded = get_or-set_same words 1 1 0 (omega arith);
           clock = as_before 0 (λ e. absurd (omega arith)) ∙ ap (λ (l : List ℕ). get_or l 0 0) un.fresh;
-          right = record { meetings = All-nil (IsMeeting (agents_of k)); marked = tt; numbers = All-nil (λ (m : Meeting). m.worker < k.seats) };
+          right = record { meetings = All-nil (IsMeeting (agents_opened k)); marked = tt; numbers = All-nil (λ (m : Meeting). m.worker < k.seats) };
           short = λ n. omega arith;
           grounded = (id, seated);
           sits = λ n j there. ⊎_elim

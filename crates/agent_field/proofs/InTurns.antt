@@ -6,7 +6,7 @@ use Rattle.std.proofs.Math.ListN.{replicate, length-replicate}
 use Rattle.pop_net.specs.declared.net.Word.{Word}
 use Rattle.agent_field.specs.declared.places.TheConstants.{HEAD_WORDS}
 use Rattle.agent_field.specs.declared.view.Setup.{Setup}
-use Rattle.agent_field.specs.Standing.{agents_of, packed, lock_place, agent_place, lock_at, agent_at, in_turns}
+use Rattle.agent_field.specs.Standing.{agents_opened, packed, lock_place, agent_place, lock_at, agent_at, in_turns}
 
 pub lock_place-inside : (shards agents s : ℕ) → s < shards → lock_place agents s < HEAD_WORDS + shards + agents
 lock_place-inside shards agents s h = omega arith
@@ -22,7 +22,7 @@ module _ (k : Setup) where
   pub agent_once : (a b : ℕ) → agent_at k a ≡ agent_at k b → a ≡ b
   agent_once a b same = omega arith
 
-  pub lock_is_no_agent : (s a : ℕ) → s < k.shards → a < agents_of k → lock_at k s ≢ agent_at k a
+  pub lock_is_no_agent : (s a : ℕ) → s < k.shards → a < agents_opened k → lock_at k s ≢ agent_at k a
   lock_is_no_agent s a inside in_range same = omega arith
 
   -- the clock and the founder word stand before them

@@ -9,7 +9,7 @@ use Rattle.pop_net.specs.Lanes.{tuple_of, IsValid}
 use Rattle.pop_crowd.specs.declared.crowd.Meeting.{Meeting}
 use Rattle.agent_field.specs.declared.view.Setup.{Setup}
 use Rattle.agent_field.specs.declared.view.View.{View}
-use Rattle.agent_field.specs.Standing.{agents_of, lock_at, agent_at, shard_of, packed, agent_word, tuple_after, In, joined_away, Agrees, IsOwedByNone, IsHeldBySome, StandsAt}
+use Rattle.agent_field.specs.Standing.{agents_opened, lock_at, agent_at, shard_of, packed, agent_word, tuple_after, In, joined_away, Agrees, IsOwedByNone, IsHeldBySome, StandsAt}
 use Rattle.agent_field.specs.Steps.{holding, rest_of, releasing, knowing, writing}
 use Rattle.agent_field.proofs.InTurns.{lock_place-inside, agent_place-inside, lock_once, agent_once, lock_is_no_agent, lock_behind, agent_behind}
 use Rattle.agent_field.proofs.Views.{at_length, set_each, agrees_word, one_holder, owed_back, held_after, sits_set, not_dead}
@@ -23,9 +23,9 @@ module _ (k : Setup) (words : List ℕ) (views : List View) (history : List Meet
       let n = v.number + 1 in
       let w = holding s v in
       let f = mine in
-      let fits : lock_at k s < length words = subst (λ (n : ℕ). lock_at k s < n) (sym st.wide) (lock_place-inside k.shards (agents_of k) s inside) in
+      let fits : lock_at k s < length words = subst (λ (n : ℕ). lock_at k s < n) (sym st.wide) (lock_place-inside k.shards (agents_opened k) s inside) in
       let words' = set words (lock_at k s) n in
-      let no_agent : (a : ℕ) → a < agents_of k → get_or words' (agent_at k a) 0 ≡ get_or words (agent_at k a) 0 = λ a h. get_or-set_other words (lock_at k s) (agent_at k a) n 0 (λ e. lock_is_no_agent k s a inside h (sym e)) in
+      let no_agent : (a : ℕ) → a < agents_opened k → get_or words' (agent_at k a) 0 ≡ get_or words (agent_at k a) 0 = λ a h. get_or-set_other words (lock_at k s) (agent_at k a) n 0 (λ e. lock_is_no_agent k s a inside h (sym e)) in
       let new : Agrees k words' history seat id w = record {
         setup = f.setup;
         seated = f.seated;
@@ -74,7 +74,7 @@ module _ (k : Setup) (words : List ℕ) (views : List View) (history : List Meet
       let inside : s < k.shards = (f.locks s (subst (In s) (sym is) (inl refl))).0 in
       let words' = set words (lock_at k s) 0 in
       let left : (t : ℕ) → In t (rest_of v.held) → In t held = λ t h. subst (In t) (ap rest_of is) h in
-      let no_agent : (a : ℕ) → a < agents_of k → get_or words' (agent_at k a) 0 ≡ get_or words (agent_at k a) 0 = λ a h. get_or-set_other words (lock_at k s) (agent_at k a) 0 0 (λ e. lock_is_no_agent k s a inside h (sym e)) in
+      let no_agent : (a : ℕ) → a < agents_opened k → get_or words' (agent_at k a) 0 ≡ get_or words (agent_at k a) 0 = λ a h. get_or-set_other words (lock_at k s) (agent_at k a) 0 0 (λ e. lock_is_no_agent k s a inside h (sym e)) in
       let new : Agrees k words' history seat id w = record {
         setup = f.setup;
         seated = f.seated;
@@ -98,7 +98,7 @@ module _ (k : Setup) (words : List ℕ) (views : List View) (history : List Meet
         grounded = st.grounded;
         sits = sits_set seat views id v w at live refl st.sits;
         locked = λ t within. ⊎_elim
-            (λ (same : t ≡ s). inl (ap (λ (z : ℕ). get_or words' (lock_at k z) 0) same ∙ get_or-set_same words (lock_at k s) 0 0 (subst (λ (n : ℕ). lock_at k s < n) (sym st.wide) (lock_place-inside k.shards (agents_of k) s inside))))
+            (λ (same : t ≡ s). inl (ap (λ (z : ℕ). get_or words' (lock_at k z) 0) same ∙ get_or-set_same words (lock_at k s) 0 0 (subst (λ (n : ℕ). lock_at k s < n) (sym st.wide) (lock_place-inside k.shards (agents_opened k) s inside))))
             (λ (apart : t ≢ s). ⊎_elim
             (λ (zero_word : get_or words (lock_at k t) 0 ≡ 0). inl (get_or-set_other words (lock_at k s) (lock_at k t) 0 0 (λ e. apart (lock_once k t s e)) ∙ zero_word))
             (λ (by : IsHeldBySome views t). inr (held_after views id v w t at (λ h. (live, subst (In t) (sym (ap rest_of is)) (⊎_elim (λ (e : t ≡ s). absurd (apart e)) (λ (i : In t held). i) (subst (In t) is h)))) by))
@@ -135,7 +135,7 @@ module _ (k : Setup) (words : List ℕ) (views : List View) (history : List Meet
     others = set_each views id w (λ j u. u.live ≡ false → u ≡ joined_away) (not_dead w alive (w ≡ joined_away)) (λ j u apart e. st.others j u e);
   }
 
-  pub reads_keep : (a : ℕ) → a < agents_of k → In (shard_of k a) v.held → ((y : Word) → In (a, y) v.due → ⊥) → StandsAt k words (set views id (knowing a (agent_word k words a) v)) history seat
+  pub reads_keep : (a : ℕ) → a < agents_opened k → In (shard_of k a) v.held → ((y : Word) → In (a, y) v.due → ⊥) → StandsAt k words (set views id (knowing a (agent_word k words a) v)) history seat
   reads_keep a in_range held not_due =
       let f = mine in
       views_keep (knowing a (agent_word k words a) v) live refl refl refl
@@ -148,7 +148,7 @@ module _ (k : Setup) (words : List ℕ) (views : List View) (history : List Meet
         locks = f.locks;
         knows = λ b y h. ⊎_elim
             (λ (same : (b, y) ≡ (a, agent_word k words a)).
-            subst (λ (p : ℕ × Word). (p.0 < agents_of k) × In (shard_of k p.0) v.held × (agent_word k words p.0 ≡ p.1) × ((z : Word) → In (p.0, z) v.due → ⊥)) (sym same) (in_range, held, refl, not_due))
+            subst (λ (p : ℕ × Word). (p.0 < agents_opened k) × In (shard_of k p.0) v.held × (agent_word k words p.0 ≡ p.1) × ((z : Word) → In (p.0, z) v.due → ⊥)) (sym same) (in_range, held, refl, not_due))
             (λ (i : In (b, y) v.known). f.knows b y i)
             h;
         owes = f.owes;
@@ -162,7 +162,7 @@ module _ (k : Setup) (words : List ℕ) (views : List View) (history : List Meet
       let f = mine in
       let here : In (a, y) v.due = subst (In (a, y)) (sym is) (inl refl) in
       let owed = f.owes a y here in
-      let fits : agent_at k a < length words = subst (λ (n : ℕ). agent_at k a < n) (sym st.wide) (agent_place-inside k.shards (agents_of k) a owed.0) in
+      let fits : agent_at k a < length words = subst (λ (n : ℕ). agent_at k a < n) (sym st.wide) (agent_place-inside k.shards (agents_opened k) a owed.0) in
       let words' = set words (agent_at k a) y.0 in
       let left : (p : ℕ × Word) → In p (rest_of v.due) → In p v.due = λ p h. subst (In p) (sym is) (inr (subst (In p) (ap rest_of is) h)) in
       let written : (b : ℕ) → b ≡ a → agent_word k words' b ≡ y = λ b same. ap (λ (z : ℕ). agent_word k words' z) same ∙ ap packed (get_or-set_same words (agent_at k a) y.0 0 fits) in

@@ -15,8 +15,8 @@ use Rattle.pop_crowd.specs.Replay.{reacts}
 use Rattle.agent_field.specs.declared.view.Setup.{Setup}
 use Rattle.agent_field.specs.declared.view.View.{View}
 use Rattle.agent_field.specs.History.{made}
-use Rattle.agent_field.specs.Standing.{agents_of, lock_at, agent_at, agent_word, shard_of, In, founder, joined_away, StandsAt, IsUnfounded, FieldStands}
-use Rattle.agent_field.specs.Steps.{Mine, first_seat, holding, releasing, knowing, IsReaction, MayDraw, HasSeenAll, meeting, writing, kept_back, newcomer, taking_in, looking, IsNewest, IsDrawnAt, IsSeenAt, Founds, Locks, Unlocks, Reads, Draws, Writes, Watches}
+use Rattle.agent_field.specs.Standing.{agents_opened, lock_at, agent_at, agent_word, shard_of, In, founder, joined_away, StandsAt, IsUnfounded, FieldStands}
+use Rattle.agent_field.specs.Steps.{Mine, first_seat, holding, releasing, knowing, IsReaction, MayDraw, HasSeenAll, meeting_made, writing, kept_back, newcomer, taking_in, looking, IsNewest, IsDrawnAt, IsSeenAt, Founds, Locks, Unlocks, Reads, Draws, Writes, Watches}
 use Rattle.agent_field.proofs.InTurns.{lock_once, agent_once}
 use Rattle.agent_field.proofs.Keeps.{locks_keep, releases_keep, reads_keep, writes_keep}
 use Rattle.agent_field.proofs.Draws.{draws_keep, is_newest, is_drawn_at, history_fits}
@@ -75,7 +75,7 @@ module _ (k : Setup) where
       let t = founded state h id me.0 at live in
       (releasing me.0, keeps, tt, inr (t.0, t.1, releases_keep k state.words state.views t.0 t.1 t.2 id me.0 at live s held is once none_due), refl)
 
-  reads : (slots id : ℕ) (me : Mine) (a : ℕ) → me.0.live ≡ true → me.0.setup ≡ k → a < agents_of k → In (shard_of k a) me.0.held → ((y : Word) → In (a, y) me.0.due → ⊥)
+  reads : (slots id : ℕ) (me : Mine) (a : ℕ) → me.0.live ≡ true → me.0.setup ≡ k → a < agents_opened k → In (shard_of k a) me.0.held → ((y : Word) → In (a, y) me.0.due → ⊥)
       → Allows (FieldStands k) slots id me (agent_at k a) (λ r. r) (Reads (step slots (agent_at k a) 0 0 none) me)
   reads slots id me a live setup in_range held not_due state h _ at _ =
       let t = founded state h id me.0 at live in
@@ -93,7 +93,7 @@ module _ (k : Setup) where
       let t = founded state h id me.0 at live in
       let st = t.2 in
       let n : ℕ = get_or state.words 0 0 in
-      let w = meeting (length t.0) a b x y x' y' me.0 in
+      let w = meeting_made (length t.0) a b x y x' y' me.0 in
       let net = me.0.setup.net.value in
       let reacted = subst (λ (z : Setup). IsReaction z.net.value x y x' y') (sym setup) may.reacted in
       let later = t.0 ++ made me.0.number a b (reacts net (tuple_of net x) (tuple_of net y)) ∷ [] in
@@ -112,7 +112,7 @@ module _ (k : Setup) where
             y' = y';
             known = may.known;
             reacted = reacted;
-            met = ap (λ (m : ℕ). (meeting m a b x y x' y' me.0, me.1)) (sym st.clock);
+            met = ap (λ (m : ℕ). (meeting_made m a b x y x' y' me.0, me.1)) (sym st.clock);
           },
           subst (λ (m : ℕ). IsNewest m me.0) (sym st.clock) (is_newest k state.words state.views t.0 t.1 st id me.0 at live),
           subst (λ (m : ℕ). IsDrawnAt m me.0) (sym st.clock) (is_drawn_at k state.words state.views t.0 t.1 st id me.0 at live may.due),
@@ -181,7 +181,7 @@ module _ (k : Setup) where
   unlocks_at slots id me s i held is live last once none_due =
       subst (λ (j : ℕ). Allows (FieldStands k) slots id me j (λ _. 0) (λ _. Unlocks (step slots j 0 0 none) me 0)) (sym is) (unlocks slots id me s held live last once none_due)
 
-  pub reads_at : (slots id : ℕ) (me : Mine) (a i : ℕ) → i ≡ agent_at k a → me.0.live ≡ true → me.0.setup ≡ k → a < agents_of k → In (shard_of k a) me.0.held → ((y : Word) → In (a, y) me.0.due → ⊥)
+  pub reads_at : (slots id : ℕ) (me : Mine) (a i : ℕ) → i ≡ agent_at k a → me.0.live ≡ true → me.0.setup ≡ k → a < agents_opened k → In (shard_of k a) me.0.held → ((y : Word) → In (a, y) me.0.due → ⊥)
       → Allows (FieldStands k) slots id me i (λ r. r) (Reads (step slots i 0 0 none) me)
   reads_at slots id me a i is live setup in_range held not_due =
       subst (λ (j : ℕ). Allows (FieldStands k) slots id me j (λ r. r) (Reads (step slots j 0 0 none) me)) (sym is) (reads slots id me a live setup in_range held not_due)

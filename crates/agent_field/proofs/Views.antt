@@ -8,7 +8,7 @@ use Rattle.pop_net.specs.declared.net.Word.{Word}
 use Rattle.pop_crowd.specs.declared.crowd.Meeting.{Meeting}
 use Rattle.agent_field.specs.declared.view.Setup.{Setup}
 use Rattle.agent_field.specs.declared.view.View.{View}
-use Rattle.agent_field.specs.Standing.{agents_of, lock_at, agent_at, packed, In, Agrees, IsOwedByNone, IsHeldBySome}
+use Rattle.agent_field.specs.Standing.{agents_opened, lock_at, agent_at, packed, In, Agrees, IsOwedByNone, IsHeldBySome}
 
 pub at_length : {A : Type 0} (l : List A) (i : ℕ) (a : A) → get_elem? l i ≡ some a → i < length l
 at_length [] i a e = absurd (some-ne-none a (sym e))
@@ -25,7 +25,7 @@ set_each views id w P mine others j u e =
 
 -- a word is changed that this view says nothing of
 pub agrees_word : (k : Setup) (words : List ℕ) (history : List Meeting) (seat : ℕ → Option ℕ) (id : ℕ) (u : View) (i n : ℕ) → Agrees k words history seat id u
-    → ((s : ℕ) → In s u.held → lock_at k s ≢ i) → ((a : ℕ) (x : Word) → In (a, x) u.known → a < agents_of k → agent_at k a ≢ i) → Agrees k (set words i n) history seat id u
+    → ((s : ℕ) → In s u.held → lock_at k s ≢ i) → ((a : ℕ) (x : Word) → In (a, x) u.known → a < agents_opened k → agent_at k a ≢ i) → Agrees k (set words i n) history seat id u
 agrees_word k words history seat id u i n f locks agents = record {
   setup = f.setup;
   seated = f.seated;

@@ -10,7 +10,7 @@ use Rattle.pop_crowd.specs.Replay.{replay}
 use Rattle.agent_field.specs.declared.view.Look.{Look}
 use Rattle.agent_field.specs.declared.view.Setup.{Setup}
 use Rattle.agent_field.specs.declared.view.View.{View}
-use Rattle.agent_field.specs.Standing.{agents_of, packed, crowd_after, In, IsLook, LooksAscend, StandsAt}
+use Rattle.agent_field.specs.Standing.{agents_opened, packed, crowd_after, In, IsLook, LooksAscend, StandsAt}
 use Rattle.agent_field.specs.History.{IsHistory}
 use Rattle.agent_field.specs.Steps.{seen, look_of, looking, IsSeenAt}
 use Rattle.agent_field.proofs.Histories.{length-replay}
@@ -30,13 +30,13 @@ ascending-push (look ∷ looks) new h late = (
 
 module _ (k : Setup) (words : List ℕ) (views : List View) (history : List Meeting) (seat : ℕ → Option ℕ) (st : StandsAt k words views history seat) (id : ℕ) (v : View) (at : get_elem? views id ≡ some v) (live : v.live ≡ true) where
   -- all words that were read under all locks are those after the history so far
-  is_look : length (seen v.known) ≡ agents_of k → ((a : ℕ) (d : Word) → a < agents_of k → In (a, get_or (seen v.known) a d) v.known) → v.due ≡ []
+  is_look : length (seen v.known) ≡ agents_opened k → ((a : ℕ) (d : Word) → a < agents_opened k → In (a, get_or (seen v.known) a d) v.known) → v.due ≡ []
       → IsLook k.net.value k.opening.value history (look_of (length history) (seen v.known))
   is_look whole all none_due =
       let net = k.net.value in
       let all_words = seen v.known in
       let long : length (crowd_of net all_words) ≡ length (crowd_after k history) = length-map all_words (tuple_of net) ∙ whole ∙ sym (length-replay net history (crowd_of net k.opening.value) ∙ length-map k.opening.value (tuple_of net)) in
-      let inside : (a : ℕ) → a < length all_words → a < agents_of k = λ a h. subst (λ (n : ℕ). a < n) whole h in
+      let inside : (a : ℕ) → a < length all_words → a < agents_opened k = λ a h. subst (λ (n : ℕ). a < n) whole h in
       let same : crowd_of net all_words ≡ crowd_after k history = ext_get_or [] (crowd_of net all_words) (crowd_after k history) long
       (λ a h. let fits : a < length all_words = subst (λ (n : ℕ). a < n) (length-map all_words (tuple_of net)) h in
       get_or-map (tuple_of net) all_words a (packed 0) [] fits ∙ sym (known_after k words views history seat st id v at live none_due a (get_or all_words a (packed 0)) (all a (packed 0) (inside a fits)))) in (
@@ -45,7 +45,7 @@ module _ (k : Setup) (words : List ℕ) (views : List View) (history : List Meet
         (λ a d h. let n = (st.each id v at live).knows a (get_or all_words a d) (all a d (inside a h)) in subst (IsValid net) n.2 (st.valid a n.0)),
       )
 
-  pub looks_keep : length (seen v.known) ≡ agents_of k → ((a : ℕ) (d : Word) → a < agents_of k → In (a, get_or (seen v.known) a d) v.known) → v.due ≡ []
+  pub looks_keep : length (seen v.known) ≡ agents_opened k → ((a : ℕ) (d : Word) → a < agents_opened k → In (a, get_or (seen v.known) a d) v.known) → v.due ≡ []
       → StandsAt k words (set views id (looking (length history) v)) history seat
   looks_keep whole all none_due =
       let f = st.each id v at live in
@@ -70,7 +70,7 @@ module _ (k : Setup) (words : List ℕ) (views : List View) (history : List Meet
         };
       })
 
-  pub is_seen_at : length (seen v.known) ≡ agents_of k → ((a : ℕ) (d : Word) → a < agents_of k → In (a, get_or (seen v.known) a d) v.known) → v.due ≡ [] → IsSeenAt (length history) v
+  pub is_seen_at : length (seen v.known) ≡ agents_opened k → ((a : ℕ) (d : Word) → a < agents_opened k → In (a, get_or (seen v.known) a d) v.known) → v.due ≡ [] → IsSeenAt (length history) v
   is_seen_at whole all none_due =
       let f = st.each id v at live in record {
         history = history;

@@ -9,21 +9,21 @@ use Rattle.agent_field.specs.declared.field.FieldSeat.{FieldSeat}
 use Rattle.agent_field.specs.declared.field.Met.{Met}
 use Rattle.agent_field.specs.History.{logged}
 use Rattle.agent_field.specs.Steps.{look_of}
-use Rattle.agent_field.specs.Seats.{opening_of, number_of, log_of, spare_of, next_of, left_of, taken_of, looks_of, spare_looks_of}
+use Rattle.agent_field.specs.Seats.{opening_of, seat_number, log_of, spare_of, next_of, left_of, taken_of, looks_of, spare_looks_of}
 use Rattle.agent_field.specs.Seats.{IsOpened, IsSeatOf, IsFresh, IsNewestOf, IsMoment, IsGlance, KeepsField, KeepsRest, KeepsOwn, KeepsLogs}
 
 -- a field with these words, and its number 0, which has made nothing and taken in nobody
 pub record IsOpening (f : Field) (s : FieldSeat) (net : NetModel) (words : List Word) (shards seats : ℕ) : Type 0 where
   pub field : IsOpened f net words shards seats
   pub ours : IsSeatOf f s
-  pub first : (number_of s ≡ 0) × (next_of s ≡ 1) × (left_of s + 1 ≡ seats)
+  pub first : (seat_number s ≡ 0) × (next_of s ≡ 1) × (left_of s + 1 ≡ seats)
   pub fresh : IsFresh s × (taken_of s ≡ replicate seats None)
 
 -- number 0 has given its least number that is left to a new seat, or stays as it was
 pub record HasSplit (f : Field) (result : Result FieldSeat NoMemory) (before after : FieldSeat) : Type 0 where
   pub ours : IsSeatOf f after
   pub theirs : IfOk result (IsSeatOf f)
-  pub new : IfOk result (λ r. (number_of r ≡ next_of before) × (left_of r ≡ 0) × IsFresh r)
+  pub new : IfOk result (λ r. (seat_number r ≡ next_of before) × (left_of r ≡ 0) × IsFresh r)
   pub dealt : OnOk result ((next_of after ≡ next_of before + 1) × (left_of after + 1 ≡ left_of before))
   pub rest : KeepsOwn before after × (taken_of after ≡ taken_of before)
   pub refused : OnErr result ((next_of after ≡ next_of before) × (left_of after ≡ left_of before))
@@ -31,8 +31,8 @@ pub record HasSplit (f : Field) (result : Result FieldSeat NoMemory) (before aft
 -- number 0 has taken in the other seat's log under its number, or gives the seat back and stays as it was
 pub record HasJoined (f : Field) (other : FieldSeat) (result : Result (Unit {0}) (FieldSeat × NoMemory)) (before after : FieldSeat) : Type 0 where
   pub ours : IsSeatOf f after
-  pub taken : OnOk result (taken_of after ≡ slice_set (taken_of before) (number_of other) (Some (log_of other)))
-  pub there : OnOk result (slice_index_or (taken_of after) (number_of other) None ≡ Some (log_of other))
+  pub taken : OnOk result (taken_of after ≡ slice_set (taken_of before) (seat_number other) (Some (log_of other)))
+  pub there : OnOk result (slice_index_or (taken_of after) (seat_number other) None ≡ Some (log_of other))
   pub rest : KeepsOwn before after × (next_of after ≡ next_of before) × (left_of after ≡ left_of before)
   pub refused : IfErr result (λ r. (r.0 ≡ other) × (taken_of after ≡ taken_of before))
 

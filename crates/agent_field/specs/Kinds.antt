@@ -12,9 +12,10 @@ use Rattle.agent_field.specs.declared.limits.TheConstants.{SEAT_LIMIT}
 use Rattle.agent_field.specs.declared.view.Setup.{Setup}
 use Rattle.agent_field.specs.declared.view.View.{View}
 use Rattle.agent_field.specs.History.{made}
-use Rattle.agent_field.specs.Standing.{In, agents_of, lock_at, agent_at, agent_word, shard_of, crowd_after}
+use Rattle.agent_field.specs.Standing.{In, agents_opened, lock_at, agent_at, agent_word, shard_of, crowd_after}
 use Rattle.agent_field.specs.Standing.{founder, joined_away, opening_words, IsUnfounded, StandsAt, Stands}
-use Rattle.agent_field.specs.Steps.{first_seat, holding, releasing, knowing, MayDraw, HasSeenAll, meeting, writing, kept_back, newcomer, taking_in, looking}
+use Rattle.agent_field.specs.Steps.{first_seat, holding, releasing, knowing, MayDraw, HasSeenAll, meeting_made, writing, kept_back}
+use Rattle.agent_field.specs.Steps.{newcomer, taking_in, looking}
 
 -- the seat `id` is live and has this view
 pub record Sits (views : List View) (id : ℕ) (v : View) : Type 0 where
@@ -29,7 +30,7 @@ pub data QuietStep (k : Setup) : List ℕ → List View → List ℕ → List Vi
       → QuietStep k words views (slice_set words (lock_at k s) (v.number + 1)) (slice_set views id (holding s v))
   finds_locked : (words : List ℕ) (views : List View) (id : ℕ) (v : View) (s : ℕ) → Sits views id v → s < k.shards → slice_index words (lock_at k s) ≢ 0
       → QuietStep k words views words views
-  reads : (words : List ℕ) (views : List View) (id : ℕ) (v : View) (a : ℕ) → Sits views id v → a < agents_of k → In (shard_of k a) v.held
+  reads : (words : List ℕ) (views : List View) (id : ℕ) (v : View) (a : ℕ) → Sits views id v → a < agents_opened k → In (shard_of k a) v.held
       → ((y : Word) → In (a, y) v.due → ⊥)
       → QuietStep k words views words (slice_set views id (knowing a (agent_word k words a) v))
   writes : (words : List ℕ) (views : List View) (id : ℕ) (v : View) (a : ℕ) (y : Word) (due : List (ℕ × Word)) → Sits views id v
@@ -50,7 +51,7 @@ pub data QuietStep (k : Setup) : List ℕ → List View → List ℕ → List Vi
 pub data DrawStep (k : Setup) : List ℕ → List View → Meeting → List ℕ → List View → Type 0 where
   draws : (words : List ℕ) (views : List View) (id : ℕ) (v : View) (a b : ℕ) (x y x' y' : Word) → Sits views id v → MayDraw k v a b x y x' y'
       → DrawStep k words views (made v.number a b (reacts k.net.value (tuple_of k.net.value x) (tuple_of k.net.value y)))
-      (slice_set words CLOCK (slice_index words CLOCK + 1)) (slice_set views id (meeting (slice_index words CLOCK) a b x y x' y' v))
+      (slice_set words CLOCK (slice_index words CLOCK + 1)) (slice_set views id (meeting_made (slice_index words CLOCK) a b x y x' y' v))
 
 -- any number of steps, with the meetings that they make
 pub data FieldRun (k : Setup) : List ℕ → List View → List Meeting → List ℕ → List View → Type 0 where

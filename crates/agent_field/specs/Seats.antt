@@ -35,8 +35,8 @@ pub record IsOpened (f : Field) (net : NetModel) (words : List Word) (shards sea
   pub seats_are : seats_of f ≡ seats
 
 -- the crowd with which it is opened
-abbrev pub start_of : Field → CrowdModel
-start_of f = crowd_of (net_of f) (opening_of f)
+abbrev pub field_start : Field → CrowdModel
+field_start f = crowd_of (net_of f) (opening_of f)
 
 -- the seat is of this field
 abbrev pub IsSeatOf : Field → FieldSeat → Type 0
@@ -46,12 +46,12 @@ IsSeatOf f s = (s.seat.table_id ≡ f.table.shared.table_id) × (s.seat.me.0.set
 abbrev pub KeepsField : FieldSeat → FieldSeat → Type 0
 KeepsField s t = (t.seat.table_id ≡ s.seat.table_id) × (t.seat.me.0.setup ≡ s.seat.me.0.setup)
 
-abbrev pub number_of : FieldSeat → ℕ
-number_of s = s.number
+abbrev pub seat_number : FieldSeat → ℕ
+seat_number s = s.number
 
 -- the field's number 0
 abbrev pub IsFirstOf : Field → FieldSeat → Type 0
-IsFirstOf f s = IsSeatOf f s × (number_of s ≡ 0)
+IsFirstOf f s = IsSeatOf f s × (seat_number s ≡ 0)
 
 -- two different agents of the field
 pub record IsPairOf (f : Field) (a b : ℕ) : Type 0 where
@@ -89,19 +89,19 @@ spare_looks_of s = length s.rooms.items
 -- all but the own log and the room for it stays
 abbrev pub KeepsRest : FieldSeat → FieldSeat → Type 0
 KeepsRest s t =
-    (number_of t ≡ number_of s) × (next_of t ≡ next_of s) × (left_of t ≡ left_of s) × (taken_of t ≡ taken_of s)
+    (seat_number t ≡ seat_number s) × (next_of t ≡ next_of s) × (left_of t ≡ left_of s) × (taken_of t ≡ taken_of s)
     × (looks_of t ≡ looks_of s) × (spare_looks_of t ≡ spare_looks_of s)
 
 -- all but the logs and the numbers stays
 abbrev pub KeepsOwn : FieldSeat → FieldSeat → Type 0
 KeepsOwn s t =
-    (number_of t ≡ number_of s) × (log_of t ≡ log_of s) × (spare_of t ≡ spare_of s) × (looks_of t ≡ looks_of s)
+    (seat_number t ≡ seat_number s) × (log_of t ≡ log_of s) × (spare_of t ≡ spare_of s) × (looks_of t ≡ looks_of s)
     × (spare_looks_of t ≡ spare_looks_of s)
 
 -- all but the looks and the room for them stays
 abbrev pub KeepsLogs : FieldSeat → FieldSeat → Type 0
 KeepsLogs s t =
-    (number_of t ≡ number_of s) × (next_of t ≡ next_of s) × (left_of t ≡ left_of s) × (taken_of t ≡ taken_of s)
+    (seat_number t ≡ seat_number s) × (next_of t ≡ next_of s) × (left_of t ≡ left_of s) × (taken_of t ≡ taken_of s)
     × (log_of t ≡ log_of s) × (spare_of t ≡ spare_of s)
 
 -- a seat that has made nothing, nor has room for anything
@@ -110,12 +110,12 @@ IsFresh s = (log_of s ≡ []) × (spare_of s ≡ 0) × (looks_of s ≡ []) × (s
 
 -- number 0 has taken in every seat that was split from it
 abbrev pub IsWhole : FieldSeat → Type 0
-IsWhole s = (number_of s ≡ 0) × ((w : ℕ) → 0 < w → w < next_of s → IsSome (slice_index_or (taken_of s) w None))
+IsWhole s = (seat_number s ≡ 0) × ((w : ℕ) → 0 < w → w < next_of s → IsSome (slice_index_or (taken_of s) w None))
 
 -- the ticket is greater than all in the seat's own log and in those that it took in, and at least that of each of its looks
 pub record IsNewestOf (ticket : ℕ) (s : FieldSeat) : Type 0 where
   pub own : (e : Logged) → In e (log_of s) → e.ticket < ticket
-  pub taken_in : number_of s ≡ 0 → (w : ℕ) (l : List Logged) (e : Logged) → slice_index_or (taken_of s) w None ≡ Some l → In e l → e.ticket < ticket
+  pub taken_in : seat_number s ≡ 0 → (w : ℕ) (l : List Logged) (e : Logged) → slice_index_or (taken_of s) w None ≡ Some l → In e l → e.ticket < ticket
   pub looks : (look : Look) → In look (looks_of s) → look.ticket ≤ ticket
 
 -- a history of the field so far, with just this log for the number
@@ -128,19 +128,19 @@ pub record IsSoFar (f : Field) (number : ℕ) (log : List Logged) (ticket : ℕ)
 abbrev pub IsMetAt : Field → ℕ → List Logged → ℕ → ℕ → ℕ → Bool → Type 0
 IsMetAt f number log a b ticket changed =
     (history : List Meeting) × IsSoFar f number log ticket history
-    × (changed ≡ changes (net_of f) a b (replay (net_of f) history (start_of f)))
+    × (changed ≡ changes (net_of f) a b (replay (net_of f) history (field_start f)))
 
 abbrev pub IsMoment : Field → FieldSeat → ℕ → ℕ → Met → Type 0
-IsMoment f s a b met = IsMetAt f (number_of s) (log_of s) a b met.ticket met.changed
+IsMoment f s a b met = IsMetAt f (seat_number s) (log_of s) a b met.ticket met.changed
 
 -- at the ticket there was such a history, and the look shows the crowd after it
 abbrev pub IsGlance : Field → FieldSeat → Look → Type 0
 IsGlance f s look =
-    (history : List Meeting) × IsSoFar f (number_of s) (log_of s) look.ticket history × IsLook (net_of f) (opening_of f) history look
+    (history : List Meeting) × IsSoFar f (seat_number s) (log_of s) look.ticket history × IsLook (net_of f) (opening_of f) history look
 
 -- what the field is closed with, once this seat is whole: the words, and the history that they are the replay of
 pub record IsRoundOf (f : Field) (s : FieldSeat) (r : Round) : Type 0 where
-  pub words : crowd_of (net_of f) r.words ≡ replay (net_of f) r.meetings (start_of f)
+  pub words : crowd_of (net_of f) r.words ≡ replay (net_of f) r.meetings (field_start f)
   pub valid : AreValid (net_of f) r.words
   -- meetings of different agents, by seats of the field, each with the right mark
   pub history : IsHistory (net_of f) (seats_of f) (opening_of f) r.meetings

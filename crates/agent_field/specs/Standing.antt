@@ -19,8 +19,8 @@ use Rattle.agent_field.specs.declared.view.Setup.{Setup}
 use Rattle.agent_field.specs.declared.view.View.{View}
 use Rattle.agent_field.specs.History.{IsHistory, calls}
 
-abbrev pub agents_of : Setup → ℕ
-agents_of k = length k.opening.value
+abbrev pub agents_opened : Setup → ℕ
+agents_opened k = length k.opening.value
 
 -- the place of a shard's lock in a table of so many agents, and that of an agent's word in a table of so many shards
 abbrev pub lock_place : ℕ → ℕ → ℕ
@@ -30,7 +30,7 @@ abbrev pub agent_place : ℕ → ℕ → ℕ
 agent_place shards a = HEAD_WORDS + a + min (a + 1) shards
 
 abbrev pub lock_at : Setup → ℕ → ℕ
-lock_at k s = lock_place (agents_of k) s
+lock_at k s = lock_place (agents_opened k) s
 
 abbrev pub agent_at : Setup → ℕ → ℕ
 agent_at k a = agent_place k.shards a
@@ -121,13 +121,13 @@ LocksPart k words v = (s : ℕ) → In s v.held → (s < k.shards) × (slice_ind
 -- KnownPart: of whom it knows the word, it holds the shard, that agent is not due, and that is the agent's word
 abbrev pub KnownPart : Setup → List ℕ → View → Type 0
 KnownPart k words v =
-    (a : ℕ) (x : Word) → In (a, x) v.known → (a < agents_of k) × In (shard_of k a) v.held × (agent_word k words a ≡ x) × ((y : Word) → In (a, y) v.due → ⊥)
+    (a : ℕ) (x : Word) → In (a, x) v.known → (a < agents_opened k) × In (shard_of k a) v.held × (agent_word k words a ≡ x) × ((y : Word) → In (a, y) v.due → ⊥)
 
 -- DuePart and ValidPart: of whom a word is due, it holds the shard, and the due word is what the history gives, and valid
 abbrev pub DuePart : Setup → List Meeting → View → Type 0
 DuePart k history v =
     (a : ℕ) (x : Word) → In (a, x) v.due
-    → (a < agents_of k) × In (shard_of k a) v.held × (tuple_of k.net.value x ≡ tuple_after k history a) × IsValid k.net.value x
+    → (a < agents_opened k) × In (shard_of k a) v.held × (tuple_of k.net.value x ≡ tuple_after k history a) × IsValid k.net.value x
 
 -- while words of a pair are due, that pair made the view's last meeting, and the view holds the pair's shards and no other
 abbrev pub TightPart : Setup → View → Type 0
@@ -177,16 +177,16 @@ IsHeldBySome views s = (id : ℕ) × (v : View) × (get_elem? views id ≡ some 
 
 -- ValidPart: an agent's word
 abbrev pub ValidPart : Setup → List ℕ → Type 0
-ValidPart k words = (a : ℕ) → a < agents_of k → IsValid k.net.value (agent_word k words a)
+ValidPart k words = (a : ℕ) → a < agents_opened k → IsValid k.net.value (agent_word k words a)
 
 -- SettledPart: the word of an agent that is due nowhere is what the history gives
 abbrev pub SettledPart : Setup → List ℕ → List View → List Meeting → Type 0
 SettledPart k words views history =
-    (a : ℕ) → a < agents_of k → IsOwedByNone views a → tuple_of k.net.value (agent_word k words a) ≡ tuple_after k history a
+    (a : ℕ) → a < agents_opened k → IsOwedByNone views a → tuple_of k.net.value (agent_word k words a) ≡ tuple_after k history a
 
 -- the field stands at a history, where `seat` gives the seat of each number that has one
 pub record StandsAt (k : Setup) (words : List ℕ) (views : List View) (history : List Meeting) (seat : ℕ → Option ℕ) : Type 0 where
-  pub wide : length words ≡ HEAD_WORDS + k.shards + agents_of k
+  pub wide : length words ≡ HEAD_WORDS + k.shards + agents_opened k
   pub some_shard : 0 < k.shards
   pub few_seats : k.seats ≤ SEAT_LIMIT
   -- FounderPart

@@ -14,7 +14,7 @@ use Rattle.agent_field.specs.declared.view.Look.{Look}
 use Rattle.agent_field.specs.declared.view.Setup.{Setup}
 use Rattle.agent_field.specs.declared.view.View.{View}
 use Rattle.agent_field.specs.History.{logged, calls, IsHistory}
-use Rattle.agent_field.specs.Standing.{In, agents_of, lock_at, agent_at, locks_of, idle, packed, tuple_after, IsLook}
+use Rattle.agent_field.specs.Standing.{In, agents_opened, lock_at, agent_at, locks_of, idle, packed, tuple_after, IsLook}
 
 abbrev pub Mine : Type 0
 Mine = Me (Unit {0}) View
@@ -47,8 +47,8 @@ pub record IsReaction (net : NetModel) (x y x' y' : Word) : Type 0 where
   pub second : IsValid net y'
 
 -- the agents a and b, with the words x and y, meet, and x' and y' are due
-abbrev pub meeting : ℕ → ℕ → ℕ → Word → Word → Word → Word → View → View
-meeting ticket a b x y x' y' v =
+abbrev pub meeting_made : ℕ → ℕ → ℕ → Word → Word → Word → Word → View → View
+meeting_made ticket a b x y x' y' v =
     record v {
       known = [];
       due = (a, x') ∷ (b, y') ∷ [];
@@ -93,8 +93,8 @@ pub record MayDraw (k : Setup) (v : View) (a b : ℕ) (x y x' y' : Word) : Type 
 pub record HasSeenAll (k : Setup) (v : View) : Type 0 where
   pub first : v.number ≡ 0
   pub locked : (s : ℕ) → s < k.shards → In s v.held
-  pub whole : length (seen v.known) ≡ agents_of k
-  pub all : (a : ℕ) (d : Word) → a < agents_of k → In (a, slice_index_or (seen v.known) a d) v.known
+  pub whole : length (seen v.known) ≡ agents_opened k
+  pub all : (a : ℕ) (d : Word) → a < agents_opened k → In (a, slice_index_or (seen v.known) a d) v.known
   pub due : v.due ≡ []
 
 abbrev pub Founds : Step (Unit {0}) → Mine → ℕ → Mine → Type 0
@@ -120,7 +120,7 @@ pub record HasDrawn (ticket : ℕ) (m m' : Mine) : Type 0 where
   pub y' : Word
   pub known : m.0.known ≡ (b, y) ∷ (a, x) ∷ []
   pub reacted : IsReaction m.0.setup.net.value x y x' y'
-  pub met : m' ≡ (meeting ticket a b x y x' y' m.0, m.1)
+  pub met : m' ≡ (meeting_made ticket a b x y x' y' m.0, m.1)
 
 abbrev pub Draws : Step (Unit {0}) → Mine → ℕ → Mine → Type 0
 Draws st m r m' = HasDrawn r m m' × IsNewest r m.0 × IsDrawnAt r m.0

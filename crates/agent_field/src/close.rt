@@ -1,8 +1,7 @@
 //! The end of a field: its words and its history.
 
 ghost use Rattle.std.specs.Prelude.{◌≡◌, ℕ, ◌+◌, ◌<◌, ◌≤◌, false, List as Items, length, [], IfOk, IsTrue, ◌↔◌};
-ghost use Rattle.std.specs.Prelude.{All, None};
-ghost use Rattle.std.specs.Prelude.{Some, replicate, slice_index_or, vec_capacity};
+ghost use Rattle.std.specs.Prelude.{All, None, Some, replicate, slice_index_or, vec_capacity};
 ghost use Rattle.std.specs.Mem.Slots.{slots_items, slots_len, IsFull};
 ghost use Rattle.agent_field.specs.History.{placed, placed_some, placed_logs, made};
 ghost use Rattle.agent_field.specs.Standing.{words_of_agents};

@@ -1,7 +1,6 @@
 //! The field and its seats.
 
-ghost use Rattle.std.specs.Prelude.{◌≡◌, ◌+◌, ◌<◌, ◌≤◌, length, [], All, Some, vec_len, vec_capacity};
-ghost use Rattle.std.specs.Prelude.{slice_get};
+ghost use Rattle.std.specs.Prelude.{◌≡◌, ◌+◌, ◌<◌, ◌≤◌, length, [], All, Some, vec_len, vec_capacity, slice_get};
 ghost use Rattle.agent_field.specs.declared.places.TheConstants.{HEAD_WORDS};
 ghost use Rattle.agent_field.specs.declared.limits.TheConstants.{LOG_LIMIT, LOOK_LIMIT, SEAT_LIMIT};
 ghost use Rattle.agent_field.specs.Standing.{idle};
@@ -72,12 +71,12 @@ impl<'n> Field<'n> {
 }
 
 impl FieldSeat {
-    ghost use Rattle.agent_field.specs.Seats.{number_of, made_of, spare_of, left_of, looks_of, spare_looks_of};
+    ghost use Rattle.agent_field.specs.Seats.{seat_number, made_of, spare_of, left_of, looks_of, spare_looks_of};
     ghost use Rattle.agent_field.specs.Calls.{HasReserved};
 
     /// The seat's number, from 0.
     pub fn number(&self) -> u16
-        ensures { result ≡ number_of self.now }
+        ensures { result ≡ seat_number self.now }
     {
         self.number
     }

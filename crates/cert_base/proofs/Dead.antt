@@ -3,7 +3,7 @@ use Rattle.std.proofs.Common.{◌≡◌, ◌≢◌, ℕ, zero, suc, ◌+◌, ◌
 use Rattle.std.specs.Prelude.{Some, slice_get}
 use Rattle.std.proofs.lemmas.List.Sums.{sum_by-cons}
 use Rattle.pop_net.specs.declared.leaf.Move.{Move}
-use Rattle.pop_net.specs.LeafModel.{LeafModel, one_at, times_in, pre, post}
+use Rattle.pop_net.specs.LeafModel.{LeafModel, one_at, times_in_pair, pre, post}
 use Rattle.pop_net.specs.Step.{LeafMove, LeafStep}
 use Rattle.cert_base.specs.declared.layer.Layer.{Layer}
 use Rattle.cert_base.specs.ValidLayers.{IsInLayer, ValidLayers}
@@ -24,7 +24,7 @@ one_there z (q ∷ crowd) (suc a) x h =
     let more = one_there z crowd a x h in rw (number_in-cons z q crowd) (omega (arith, more))
 
 -- two different agents are two in number
-pub two_there : (z : ℕ) (crowd : List ℕ) (a b x y : ℕ) → a ≢ b → slice_get crowd a ≡ Some x → slice_get crowd b ≡ Some y → times_in x y z ≤ number_in z crowd
+pub two_there : (z : ℕ) (crowd : List ℕ) (a b x y : ℕ) → a ≢ b → slice_get crowd a ≡ Some x → slice_get crowd b ≡ Some y → times_in_pair x y z ≤ number_in z crowd
 two_there z [] a b x y ne ha hb = cc
 two_there z (q ∷ crowd) zero zero x y ne ha hb = absurd (ne refl)
 two_there z (q ∷ crowd) zero (suc b) x y ne ha hb =

@@ -5,7 +5,7 @@ use Rattle.std.proofs.Math.Nat.{add-mul, one-mul, zero-mul}
 use Rattle.std.proofs.lemmas.Bool.{eq-eqb}
 use Rattle.std.proofs.lemmas.Bool.Decides.{eqb_tells}
 use Rattle.pop_net.specs.declared.leaf.Move.{Move}
-use Rattle.pop_net.specs.LeafModel.{LeafModel, one_at, times_in, pre, post}
+use Rattle.pop_net.specs.LeafModel.{LeafModel, one_at, times_in_pair, pre, post}
 use Rattle.pop_net.specs.Step.{LeafChange, LeafStep}
 use Rattle.pop_net.specs.Reachable.{Leads}
 use Rattle.cert_base.specs.Valuation.{is_by, times_taken}
@@ -47,9 +47,9 @@ sum_times-none f i [] = refl
 sum_times-none f i (t ∷ moves) = rw (zero-mul (f t), sum_times-none f (i + 1) moves) refl
 
 -- one step's change, split by what it is
-change_flow : (leaf : LeafModel) (z x y x' y' : ℕ) (c : LeafChange leaf x y x' y') (taken : ℕ → ℕ) (before after end : ℕ) → after + times_in x y z ≡ before + times_in x' y' z → end + sum_times taken (λ t. pre t z) 0 leaf.moves ≡ after + sum_times taken (λ t. post t z) 0 leaf.moves → end + sum_times (λ t. is_by t c + taken t) (λ t. pre t z) 0 leaf.moves ≡ before + sum_times (λ t. is_by t c + taken t) (λ t. post t z) 0 leaf.moves
+change_flow : (leaf : LeafModel) (z x y x' y' : ℕ) (c : LeafChange leaf x y x' y') (taken : ℕ → ℕ) (before after end : ℕ) → after + times_in_pair x y z ≡ before + times_in_pair x' y' z → end + sum_times taken (λ t. pre t z) 0 leaf.moves ≡ after + sum_times taken (λ t. post t z) 0 leaf.moves → end + sum_times (λ t. is_by t c + taken t) (λ t. pre t z) 0 leaf.moves ≡ before + sum_times (λ t. is_by t c + taken t) (λ t. post t z) 0 leaf.moves
 change_flow leaf z x y x' y' (inl stay) taken before after end e f =
-    let same : after ≡ before = omega (arith, e, ap (λ v. times_in v y' z) stay.0, ap (λ v. times_in x v z) stay.1) in
+    let same : after ≡ before = omega (arith, e, ap (λ v. times_in_pair v y' z) stay.0, ap (λ v. times_in_pair x v z) stay.1) in
     let plain : ◌≡◌ {A = ℕ → ℕ} (λ t. 0 + taken t) taken = λ i t. zero-add (taken t) i in
     rw plain (omega (arith, same, f))
 change_flow leaf z x y x' y' (inr m) taken before after end e f =

@@ -12,14 +12,14 @@ use Rattle.cert_base.specs.declared.fact.Fact.{Fact}
 use Rattle.cert_base.specs.declared.fact.Fact.TheVariants.{Holds}
 use Rattle.cert_base.specs.Rows.{move_variable, variable_count}
 use Rattle.cert_base.specs.ClosingTests.{coefficient_in}
-use Rattle.cert_base.specs.FactsAndCases.{states_of, flow, base_list, two_agents, wrong_output}
-use Rattle.cert_base.specs.WeightedSums.{weighted_sum, coefficient, constant_of}
+use Rattle.cert_base.specs.FactsAndCases.{states_of, flow, base_list, two_agents_fact, wrong_output_fact}
+use Rattle.cert_base.specs.WeightedSums.{sum_of_facts, coefficient, constant_of}
 use Rattle.cert_base.specs.FlowLaw.{valued_flow, FlowLaw}
 use Rattle.cert_base.proofs.WeightedSums.{none_weighted, all_from, coefficient-sum, constant-sum}
 use Rattle.cert_base.proofs.FlowSums.{law-input, law-state, law-move, law-past, law-constant}
 
 -- multipliers for the first facts alone
-weighted_sum-first : (value : Fact → ℤ) (fs gs : List Fact) (ms : List ℤ) → length ms ≤ length fs → weighted_sum value (fs ++ gs) ms ≡ weighted_sum value fs ms
+weighted_sum-first : (value : Fact → ℤ) (fs gs : List Fact) (ms : List ℤ) → length ms ≤ length fs → sum_of_facts value (fs ++ gs) ms ≡ sum_of_facts value fs ms
 weighted_sum-first value [] gs [] l = none_weighted value gs
 weighted_sum-first value [] gs (m ∷ ms) l = absurd (omega arith)
 weighted_sum-first value (f ∷ fs) gs [] l = refl
@@ -36,17 +36,17 @@ module _ (leaf : LeafModel) (w : ℕ → ℤ) (p : PredModel) (b : Bool) where
   few_values = omega (arith, length-map-range_with_len w 0 (length leaf.states), length-map-range_with_len (flow leaf) 0 (length leaf.states))
 
   few : length (values leaf w) ≤ length (base_list leaf p b)
-  few = omega (arith, few_values, length-append (flows leaf) (two_agents leaf ∷ Holds p b ∷ wrong_output leaf b ∷ []))
+  few = omega (arith, few_values, length-append (flows leaf) (two_agents_fact leaf ∷ Holds p b ∷ wrong_output_fact leaf b ∷ []))
 
-  flow-coefficient : (x : ℕ) → coefficient_in (valued_flow leaf w p b).terms x ≡ weighted_sum (coefficient x) (flows leaf) (values leaf w)
+  flow-coefficient : (x : ℕ) → coefficient_in (valued_flow leaf w p b).terms x ≡ sum_of_facts (coefficient x) (flows leaf) (values leaf w)
   flow-coefficient x =
       coefficient-sum x (base_list leaf p b) (base_list leaf p b) 0 (values leaf w) (all_from (base_list leaf p b)) few
-      ∙ weighted_sum-first (coefficient x) (flows leaf) (two_agents leaf ∷ Holds p b ∷ wrong_output leaf b ∷ []) (values leaf w) few_values
+      ∙ weighted_sum-first (coefficient x) (flows leaf) (two_agents_fact leaf ∷ Holds p b ∷ wrong_output_fact leaf b ∷ []) (values leaf w) few_values
 
-  flow-constant : (valued_flow leaf w p b).constant ≡ weighted_sum constant_of (flows leaf) (values leaf w)
+  flow-constant : (valued_flow leaf w p b).constant ≡ sum_of_facts constant_of (flows leaf) (values leaf w)
   flow-constant =
       constant-sum (base_list leaf p b) (base_list leaf p b) 0 (values leaf w) (all_from (base_list leaf p b)) few
-      ∙ weighted_sum-first constant_of (flows leaf) (two_agents leaf ∷ Holds p b ∷ wrong_output leaf b ∷ []) (values leaf w) few_values
+      ∙ weighted_sum-first constant_of (flows leaf) (two_agents_fact leaf ∷ Holds p b ∷ wrong_output_fact leaf b ∷ []) (values leaf w) few_values
 
   balanced-input : IsLeaf leaf → (i q : ℕ) → slice_get leaf.inputs i ≡ Some q → coefficient_in (valued_flow leaf w p b).terms i ≡ w q
   balanced-input is i q e =
@@ -69,7 +69,7 @@ module _ (leaf : LeafModel) (w : ℕ → ℤ) (p : PredModel) (b : Bool) where
   balanced-other x l =
       let e : length leaf.inputs + length leaf.states + (length leaf.moves + (x - variable_count leaf)) ≡ x = omega arith in
       flow-coefficient x
-      ∙ ap (λ y. weighted_sum (coefficient y) (flows leaf) (values leaf w)) (sym e)
+      ∙ ap (λ y. sum_of_facts (coefficient y) (flows leaf) (values leaf w)) (sym e)
       ∙ law-past leaf w (x - variable_count leaf)
 
 pub flows-balance : FlowLaw

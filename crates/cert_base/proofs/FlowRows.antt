@@ -16,7 +16,7 @@ use Rattle.cert_base.specs.declared.fact.Fact.{Fact}
 use Rattle.cert_base.specs.declared.fact.Fact.TheVariants.{Eq}
 use Rattle.cert_base.specs.Rows.{terms_from, move_variable, state_variable}
 use Rattle.cert_base.specs.FactsAndCases.{indicator, states_of, helpers_starting, is_in, flow}
-use Rattle.cert_base.specs.Parts.{term_of, change_at, flow_terms, flow_rows, entered}
+use Rattle.cert_base.specs.Parts.{term_of, change_at, flow_terms, flow_rows_after, entered_rows}
 use Rattle.cert_base.proofs.Numbers.{slice_get-set_other}
 use Rattle.cert_base.proofs.TermLists.{terms_from-cons, terms_from-append, terms_from-next, minus_one_at, terms_from-state}
 
@@ -79,7 +79,7 @@ record HasRows (leaf : LeafModel) (t : ℕ) (rows : List (List Term)) (states : 
   long : length rows ≡ length leaf.states
   each : (z : ℕ) → z < length leaf.states → slice_get rows z ≡ Some (if is_in states z then flow_terms leaf (t + 1) z else flow_terms leaf t z)
 
-start_has : (leaf : LeafModel) (t : ℕ) → HasRows leaf t (flow_rows leaf t) []
+start_has : (leaf : LeafModel) (t : ℕ) → HasRows leaf t (flow_rows_after leaf t) []
 start_has leaf t = record {
   long = length-map-range_with_len (flow_terms leaf t) 0 (length leaf.states);
   each = λ z l. get-range (flow_terms leaf t) (length leaf.states) z l;
@@ -87,7 +87,7 @@ start_has leaf t = record {
 
 module _ (leaf : LeafModel) (t : ℕ) (taken : Move) (h : slice_get leaf.moves t ≡ Some taken) where
   abbrev after : List (List Term) → ℕ → List ℕ → List (List Term)
-  after rows state before = entered rows state before taken (move_variable leaf t)
+  after rows state before = entered_rows rows state before taken (move_variable leaf t)
 
   step_there : (rows : List (List Term)) (state : ℕ) (before : List ℕ) (b : Bool) → is_in before state ≡ b → state < length leaf.states → HasRows leaf t rows before → HasRows leaf t (if b then rows else slice_set rows state (get_or rows state [] ++ term_of (move_variable leaf t) (change_at state taken))) (state ∷ before)
   step_there rows state before true e l has = record {
@@ -138,30 +138,30 @@ module _ (leaf : LeafModel) (t : ℕ) (taken : Move) (h : slice_get leaf.moves t
       ∙ ap (λ a. flow_terms leaf t z ++ term_of (move_variable leaf t) a) (sym (other_state z e))
       ∙ flow_terms-more leaf t z taken h
 
-  end_has : (rows : List (List Term)) → HasRows leaf t rows (taken.s ∷ taken.r ∷ taken.q ∷ taken.p ∷ []) → rows ≡ flow_rows leaf (t + 1)
+  end_has : (rows : List (List Term)) → HasRows leaf t rows (taken.s ∷ taken.r ∷ taken.q ∷ taken.p ∷ []) → rows ≡ flow_rows_after leaf (t + 1)
   end_has rows has =
-      same_lists rows (flow_rows leaf (t + 1)) (has.long ∙ sym (length-map-range_with_len (flow_terms leaf (t + 1)) 0 (length leaf.states)))
+      same_lists rows (flow_rows_after leaf (t + 1)) (has.long ∙ sym (length-map-range_with_len (flow_terms leaf (t + 1)) 0 (length leaf.states)))
       (λ z l. let m : z < length leaf.states = omega (arith, has.long) in has.each z m ∙ ap Some (end_row z (is_in (taken.s ∷ taken.r ∷ taken.q ∷ taken.p ∷ []) z) refl) ∙ sym (get-range (flow_terms leaf (t + 1)) (length leaf.states) z m))
 
   -- all rows after the move, where each of its states is entered once
-  pub rows_entered : (taken.p < length leaf.states) × (taken.q < length leaf.states) × (taken.r < length leaf.states) × (taken.s < length leaf.states) → after (after (after (after (flow_rows leaf t) taken.p []) taken.q (taken.p ∷ [])) taken.r (taken.q ∷ taken.p ∷ [])) taken.s (taken.r ∷ taken.q ∷ taken.p ∷ []) ≡ flow_rows leaf (t + 1)
+  pub rows_entered : (taken.p < length leaf.states) × (taken.q < length leaf.states) × (taken.r < length leaf.states) × (taken.s < length leaf.states) → after (after (after (after (flow_rows_after leaf t) taken.p []) taken.q (taken.p ∷ [])) taken.r (taken.q ∷ taken.p ∷ [])) taken.s (taken.r ∷ taken.q ∷ taken.p ∷ []) ≡ flow_rows_after leaf (t + 1)
   rows_entered below =
       end_has _ (step_has _ taken.s (taken.r ∷ taken.q ∷ taken.p ∷ []) below.3 (step_has _ taken.r (taken.q ∷ taken.p ∷ []) below.2 (step_has _ taken.q (taken.p ∷ []) below.1 (step_has _ taken.p [] below.0 (start_has leaf t)))))
 
   pub move_below : IsLeaf leaf → IsMoveBelow (length leaf.states) taken
   move_below is = All-slice_get (IsMoveBelow (length leaf.states)) leaf.moves t taken is.moves h
 
-pub length-rows : (leaf : LeafModel) (t : ℕ) (rows : List (List Term)) → rows ≡ flow_rows leaf t → length rows ≡ length leaf.states
+pub length-rows : (leaf : LeafModel) (t : ℕ) (rows : List (List Term)) → rows ≡ flow_rows_after leaf t → length rows ≡ length leaf.states
 length-rows leaf t rows e = ap length e ∙ length-map-range_with_len (flow_terms leaf t) 0 (length leaf.states)
 
 -- what four entries make of the rows
-pub rows_moved : (leaf : LeafModel) (t variable : ℕ) (taken : Move) (rows one two three four : List (List Term)) → IsLeaf leaf → slice_get leaf.moves t ≡ Some taken → variable ≡ move_variable leaf t → rows ≡ flow_rows leaf t → one ≡ entered rows taken.p [] taken variable → two ≡ entered one taken.q (taken.p ∷ []) taken variable → three ≡ entered two taken.r (taken.q ∷ taken.p ∷ []) taken variable → four ≡ entered three taken.s (taken.r ∷ taken.q ∷ taken.p ∷ []) taken variable → four ≡ flow_rows leaf (t + 1)
+pub rows_moved : (leaf : LeafModel) (t variable : ℕ) (taken : Move) (rows one two three four : List (List Term)) → IsLeaf leaf → slice_get leaf.moves t ≡ Some taken → variable ≡ move_variable leaf t → rows ≡ flow_rows_after leaf t → one ≡ entered_rows rows taken.p [] taken variable → two ≡ entered_rows one taken.q (taken.p ∷ []) taken variable → three ≡ entered_rows two taken.r (taken.q ∷ taken.p ∷ []) taken variable → four ≡ entered_rows three taken.s (taken.r ∷ taken.q ∷ taken.p ∷ []) taken variable → four ≡ flow_rows_after leaf (t + 1)
 rows_moved leaf t variable taken rows one two three four is h v start e f g k =
     let all = rows_entered leaf t taken h (move_below leaf t taken h is) in
-    let first : one ≡ entered (flow_rows leaf t) taken.p [] taken (move_variable leaf t) = e ∙ ap (λ rs. entered rs taken.p [] taken variable) start ∙ ap (λ n. entered (flow_rows leaf t) taken.p [] taken n) v in
-    let second : two ≡ entered (entered (flow_rows leaf t) taken.p [] taken (move_variable leaf t)) taken.q (taken.p ∷ []) taken (move_variable leaf t) = f ∙ ap (λ rs. entered rs taken.q (taken.p ∷ []) taken variable) first ∙ ap (λ n. entered (entered (flow_rows leaf t) taken.p [] taken (move_variable leaf t)) taken.q (taken.p ∷ []) taken n) v in
-    let third = g ∙ ap (λ rs. entered rs taken.r (taken.q ∷ taken.p ∷ []) taken variable) second in
-    k ∙ ap (λ rs. entered rs taken.s (taken.r ∷ taken.q ∷ taken.p ∷ []) taken variable) third ∙ ap (λ n. entered (entered (entered (entered (flow_rows leaf t) taken.p [] taken (move_variable leaf t)) taken.q (taken.p ∷ []) taken (move_variable leaf t)) taken.r (taken.q ∷ taken.p ∷ []) taken n) taken.s (taken.r ∷ taken.q ∷ taken.p ∷ []) taken n) v ∙ all
+    let first : one ≡ entered_rows (flow_rows_after leaf t) taken.p [] taken (move_variable leaf t) = e ∙ ap (λ rs. entered_rows rs taken.p [] taken variable) start ∙ ap (λ n. entered_rows (flow_rows_after leaf t) taken.p [] taken n) v in
+    let second : two ≡ entered_rows (entered_rows (flow_rows_after leaf t) taken.p [] taken (move_variable leaf t)) taken.q (taken.p ∷ []) taken (move_variable leaf t) = f ∙ ap (λ rs. entered_rows rs taken.q (taken.p ∷ []) taken variable) first ∙ ap (λ n. entered_rows (entered_rows (flow_rows_after leaf t) taken.p [] taken (move_variable leaf t)) taken.q (taken.p ∷ []) taken n) v in
+    let third = g ∙ ap (λ rs. entered_rows rs taken.r (taken.q ∷ taken.p ∷ []) taken variable) second in
+    k ∙ ap (λ rs. entered_rows rs taken.s (taken.r ∷ taken.q ∷ taken.p ∷ []) taken variable) third ∙ ap (λ n. entered_rows (entered_rows (entered_rows (entered_rows (flow_rows_after leaf t) taken.p [] taken (move_variable leaf t)) taken.q (taken.p ∷ []) taken (move_variable leaf t)) taken.r (taken.q ∷ taken.p ∷ []) taken n) taken.s (taken.r ∷ taken.q ∷ taken.p ∷ []) taken n) v ∙ all
 
 -- ---- all moves
 
@@ -198,7 +198,7 @@ map-zip : {A B : Type 0} (f : A × ℕ → B) (g : ℕ → A) (xs : List ℕ) �
 map-zip f g [] = refl
 map-zip f g (x ∷ xs) = ap (λ ys. f (g x, x) ∷ ys) (map-zip f g xs)
 
-pub flow_rows-facts : (leaf : LeafModel) (rows : List (List Term)) → rows ≡ flow_rows leaf (length leaf.moves) → map (fact_of leaf) (zip rows (states_of leaf)) ≡ map (flow leaf) (states_of leaf)
+pub flow_rows-facts : (leaf : LeafModel) (rows : List (List Term)) → rows ≡ flow_rows_after leaf (length leaf.moves) → map (fact_of leaf) (zip rows (states_of leaf)) ≡ map (flow leaf) (states_of leaf)
 flow_rows-facts leaf rows e =
     ap (λ rs. map (fact_of leaf) (zip rs (states_of leaf))) e
     ∙ map-zip (fact_of leaf) (flow_terms leaf (length leaf.moves)) (states_of leaf)

@@ -17,7 +17,7 @@ use Rattle.cert_base.specs.Rows.{terms_from}
 use Rattle.cert_base.specs.ClosingTests.{coefficient_in}
 use Rattle.cert_base.specs.FactsAndCases.{indicator, states_of, helpers_starting, flow}
 use Rattle.cert_base.proofs.Integers.{mul-add}
-use Rattle.cert_base.specs.WeightedSums.{weighted_sum, coefficient, constant_of, total}
+use Rattle.cert_base.specs.WeightedSums.{sum_of_facts, coefficient, constant_of, total}
 
 -- ---- the coefficients of a dense row
 
@@ -89,7 +89,7 @@ total-neg f [] = refl
 total-neg f (x ∷ xs) = let e = total-neg f xs in omega (arith, ints, e)
 
 -- a list that is mapped twice
-pub weighted_sum-map : {A : Type 0} (value : Fact → ℤ) (fact : A → Fact) (by : A → ℤ) (xs : List A) → weighted_sum value (map fact xs) (map by xs) ≡ total (λ x. by x *ℤ value (fact x)) xs
+pub weighted_sum-map : {A : Type 0} (value : Fact → ℤ) (fact : A → Fact) (by : A → ℤ) (xs : List A) → sum_of_facts value (map fact xs) (map by xs) ≡ total (λ x. by x *ℤ value (fact x)) xs
 weighted_sum-map value fact by [] = refl
 weighted_sum-map value fact by (x ∷ xs) = ap (λ z. (by x *ℤ value (fact x)) +ℤ z) (weighted_sum-map value fact by xs)
 
@@ -220,7 +220,7 @@ flow-past leaf q j =
 
 -- the flow facts, each times the value of its state
 abbrev pub valued : LeafModel → (ℕ → ℤ) → ℕ → ℤ
-valued leaf w x = weighted_sum (coefficient x) (map (flow leaf) (states_of leaf)) (map w (states_of leaf))
+valued leaf w x = sum_of_facts (coefficient x) (map (flow leaf) (states_of leaf)) (map w (states_of leaf))
 
 valued-total : (leaf : LeafModel) (w : ℕ → ℤ) (x : ℕ) (f : ℕ → ℤ) → ((q : ℕ) → coefficient x (flow leaf q) ≡ f q) → valued leaf w x ≡ total (λ q. w q *ℤ f q) (states_of leaf)
 valued-total leaf w x f e =
@@ -285,5 +285,5 @@ each_variable leaf P inputs states moves past x = first (cases_lt x (length leaf
     first (inr l) = second (cases_lt x (length leaf.inputs + length leaf.states)) l
 
 -- the constant of the sum
-pub law-constant : (leaf : LeafModel) (w : ℕ → ℤ) → weighted_sum constant_of (map (flow leaf) (states_of leaf)) (map w (states_of leaf)) ≡ total (λ q. w q *ℤ pos (helpers_starting leaf q)) (states_of leaf)
+pub law-constant : (leaf : LeafModel) (w : ℕ → ℤ) → sum_of_facts constant_of (map (flow leaf) (states_of leaf)) (map w (states_of leaf)) ≡ total (λ q. w q *ℤ pos (helpers_starting leaf q)) (states_of leaf)
 law-constant leaf w = weighted_sum-map constant_of (flow leaf) w (states_of leaf)

@@ -5,10 +5,10 @@ use Rattle.std.specs.List.{list_any}
 use Rattle.std.proofs.lemmas.Bool.{eq-eqb, eqb-true}
 use Rattle.pop_net.specs.declared.leaf.Move.{Move}
 use Rattle.pop_net.specs.LeafModel.{LeafModel, silent_move, same_pair}
-use Rattle.pop_net.specs.Reaction.{takes, after_move, by_move, leaf_reaction}
+use Rattle.pop_net.specs.Reaction.{takes_states, after_move, by_move, leaf_reaction}
 use Rattle.pop_net.proofs.Found.{find_some}
 use Rattle.pop_net.proofs.Reactions.{and_left, and_right, or_right, not_true}
-use Rattle.cert_base.specs.FactsAndCases.{can_meet}
+use Rattle.cert_base.specs.FactsAndCases.{can_meet_in}
 
 any-find : (test : Move → Bool) (moves : List Move) → list_any test moves ≡ is_some (find test moves)
 any-find test [] = refl
@@ -33,7 +33,7 @@ changed x y p q h = go (x == p) (y == q) refl refl
 loud-contradicts : (t : Move) → silent_move t ≡ true → silent_move t ≡ false → ⊥
 loud-contradicts t e f = absurd (let g : true ≡ false = sym e ∙ f in cc)
 
-after-changes : (p q : ℕ) (t : Move) (b : Bool) → ((p == t.p) && (q == t.q)) ≡ b → takes p q t ≡ true → (not ((after_move b t).0 == p) || not ((after_move b t).1 == q)) ≡ true
+after-changes : (p q : ℕ) (t : Move) (b : Bool) → ((p == t.p) && (q == t.q)) ≡ b → takes_states p q t ≡ true → (not ((after_move b t).0 == p) || not ((after_move b t).1 == q)) ≡ true
 after-changes p q t true e h =
     let loud = not_true (silent_move t) (and_left (not (silent_move t)) (same_pair p q t.p t.q) h) in
     let first = eqb-true p t.p (and_left (p == t.p) (q == t.q) e) in
@@ -46,12 +46,12 @@ after-changes p q t false e h =
     let second = eqb-true q t.p (and_right (p == t.q) (q == t.p) other) in
     changed t.s t.r p q (λ f g. loud-contradicts t (silent-same t (g ∙ second) (f ∙ first)) loud)
 
-found-changes : (p q : ℕ) (moves : List Move) (found : Option Move) → find (takes p q) moves ≡ found → is_some found ≡ (not ((by_move p q found).0 == p) || not ((by_move p q found).1 == q))
+found-changes : (p q : ℕ) (moves : List Move) (found : Option Move) → find (takes_states p q) moves ≡ found → is_some found ≡ (not ((by_move p q found).0 == p) || not ((by_move p q found).1 == q))
 found-changes p q moves None e =
     let a = eq-eqb p p refl in let b = eq-eqb q q refl in rw (a, b) refl
 found-changes p q moves (Some t) e =
-    sym (after-changes p q t ((p == t.p) && (q == t.q)) refl (find_some (takes p q) moves t e).2)
+    sym (after-changes p q t ((p == t.p) && (q == t.q)) refl (find_some (takes_states p q) moves t e).2)
 
-pub meet-react : (leaf : LeafModel) (p q : ℕ) → can_meet leaf p q ≡ (not ((leaf_reaction leaf p q).0 == p) || not ((leaf_reaction leaf p q).1 == q))
+pub meet-react : (leaf : LeafModel) (p q : ℕ) → can_meet_in leaf p q ≡ (not ((leaf_reaction leaf p q).0 == p) || not ((leaf_reaction leaf p q).1 == q))
 meet-react leaf p q =
-    any-find (takes p q) leaf.moves ∙ found-changes p q leaf.moves (find (takes p q) leaf.moves) refl
+    any-find (takes_states p q) leaf.moves ∙ found-changes p q leaf.moves (find (takes_states p q) leaf.moves) refl

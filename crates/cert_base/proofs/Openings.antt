@@ -9,7 +9,7 @@ use Rattle.std.proofs.lemmas.Float.{T_from_true}
 use Rattle.std.proofs.lemmas.List.Elements.{All-nil, All-cons}
 use Rattle.pres_ast.specs.PredTree.{PredTree, LessThan, Congruent, Negation, Conjunction, Disjunction}
 use Rattle.pres_ast.specs.PredModel.{PredModel, HasAtoms}
-use Rattle.pres_ast.specs.PredicateValue.{weighted_sum, divides, predicate_value}
+use Rattle.pres_ast.specs.PredicateValue.{weighted_sum, is_multiple, predicate_value}
 use Rattle.pop_net.proofs.Reactions.{and_left, and_right}
 use Rattle.cert_base.specs.declared.fact.Term.{Term}
 use Rattle.cert_base.specs.declared.fact.Row.{Row}
@@ -17,7 +17,7 @@ use Rattle.cert_base.specs.declared.fact.Fact.{Fact}
 use Rattle.cert_base.specs.declared.fact.Fact.TheVariants.{Ge, Eq, Cong, NotCong, Holds}
 use Rattle.cert_base.specs.Rows.{input_row}
 use Rattle.cert_base.specs.Valuation.{Valuation, terms_value, row_value, MeetsFact, input_counts}
-use Rattle.cert_base.specs.FactsAndCases.{plus, negated, split_cases, both_of, one_of, over, open_tree, open_cases}
+use Rattle.cert_base.specs.FactsAndCases.{plus, negated_row, cases_of_split, both_of, one_of, over_count, open_tree, cases_of_open}
 use Rattle.cert_base.specs.Ends.{MeetsOne, MeetsAll, CoverValue, CoverAll}
 use Rattle.cert_base.proofs.Integers.{mul-pos_suc}
 use Rattle.cert_base.proofs.FlowFacts.{dot, terms_value-terms_from}
@@ -96,11 +96,11 @@ rest_is count n coefs rest long =
     let row = row_is count coefs (neg_ℤ (pos rest)) in
     omega (arith, ints, sum, row)
 
-rest_met : (count : Valuation) (n : ℕ) (coefs : List ℤ) (m rest : ℕ) (value : Bool) → length coefs ≡ n → divides m (weighted_sum coefs (input_counts count n) -ℤ pos rest) ≡ value → MeetsOne count (open_tree n (Congruent coefs m rest) value)
+rest_met : (count : Valuation) (n : ℕ) (coefs : List ℤ) (m rest : ℕ) (value : Bool) → length coefs ≡ n → is_multiple m (weighted_sum coefs (input_counts count n) -ℤ pos rest) ≡ value → MeetsOne count (open_tree n (Congruent coefs m rest) value)
 rest_met count n coefs m rest true long e =
-    in_first count (Cong (input_row coefs (neg_ℤ (pos rest))) m ∷ []) [] (one_fact count (Cong (input_row coefs (neg_ℤ (pos rest))) m) (ap (divides m) (rest_is count n coefs rest long) ∙ e))
+    in_first count (Cong (input_row coefs (neg_ℤ (pos rest))) m ∷ []) [] (one_fact count (Cong (input_row coefs (neg_ℤ (pos rest))) m) (ap (is_multiple m) (rest_is count n coefs rest long) ∙ e))
 rest_met count n coefs m rest false long e =
-    in_first count (NotCong (input_row coefs (neg_ℤ (pos rest))) m ∷ []) [] (one_fact count (NotCong (input_row coefs (neg_ℤ (pos rest))) m) (ap (divides m) (rest_is count n coefs rest long) ∙ e))
+    in_first count (NotCong (input_row coefs (neg_ℤ (pos rest))) m ∷ []) [] (one_fact count (NotCong (input_row coefs (neg_ℤ (pos rest))) m) (ap (is_multiple m) (rest_is count n coefs rest long) ∙ e))
 
 -- ---- parts
 
@@ -132,18 +132,18 @@ tree_met : (count : Valuation) (n : ℕ) (tree : PredTree) (value : Bool) → Ha
 tree_met count n (LessThan coefs bound) value has e = less_met count n coefs bound value has.0.0 e
 tree_met count n (Congruent coefs m rest) value has e = rest_met count n coefs m rest value has.0.0 e
 tree_met count n (Negation p) value has e =
-    in_first count (Holds (over n p) (not value) ∷ []) [] (one_fact count (Holds (over n p) (not value)) (not_is (predicate_value p (input_counts count n)) value e))
+    in_first count (Holds (over_count n p) (not value) ∷ []) [] (one_fact count (Holds (over_count n p) (not value)) (not_is (predicate_value p (input_counts count n)) value e))
 tree_met count n (Conjunction p q) true has e =
-    both_met count (Holds (over n p) true) (Holds (over n q) true) (and_left _ _ e) (and_right (predicate_value p (input_counts count n)) _ e)
+    both_met count (Holds (over_count n p) true) (Holds (over_count n q) true) (and_left _ _ e) (and_right (predicate_value p (input_counts count n)) _ e)
 tree_met count n (Conjunction p q) false has e =
-    one_met count (Holds (over n p) false) (Holds (over n q) false) (and_cases (predicate_value p (input_counts count n)) (predicate_value q (input_counts count n)) e)
+    one_met count (Holds (over_count n p) false) (Holds (over_count n q) false) (and_cases (predicate_value p (input_counts count n)) (predicate_value q (input_counts count n)) e)
 tree_met count n (Disjunction p q) true has e =
-    one_met count (Holds (over n p) true) (Holds (over n q) true) (or_cases (predicate_value p (input_counts count n)) (predicate_value q (input_counts count n)) e)
+    one_met count (Holds (over_count n p) true) (Holds (over_count n q) true) (or_cases (predicate_value p (input_counts count n)) (predicate_value q (input_counts count n)) e)
 tree_met count n (Disjunction p q) false has e =
     let none = or_none (predicate_value p (input_counts count n)) (predicate_value q (input_counts count n)) e in
-    both_met count (Holds (over n p) false) (Holds (over n q) false) none.0 none.1
+    both_met count (Holds (over_count n p) false) (Holds (over_count n q) false) none.0 none.1
 
-pub open_cases-cover : (p : PredModel) (value : Bool) → HasAtoms p.variables p.tree → CoverValue p value (open_cases p value)
+pub open_cases-cover : (p : PredModel) (value : Bool) → HasAtoms p.variables p.tree → CoverValue p value (cases_of_open p value)
 open_cases-cover p value has count e = tree_met count p.variables p.tree value has e
 
 -- ---- a split
@@ -156,16 +156,16 @@ module _ (count : Valuation) (row : Row) where
   at = Eq row ∷ []
 
   abbrev below : List Fact
-  below = Ge (plus (negated row) (negsuc 0)) ∷ []
+  below = Ge (plus (negated_row row) (negsuc 0)) ∷ []
 
-  split_at : (z : ℤ) → row_value count row ≡ z → MeetsOne count (split_cases row)
+  split_at : (z : ℤ) → row_value count row ≡ z → MeetsOne count (cases_of_split row)
   split_at (pos zero) e =
       in_rest count above (at ∷ below ∷ []) (in_first count at (below ∷ []) (one_fact count (Eq row) e))
   split_at (pos (suc n)) e =
       in_first count above (at ∷ below ∷ []) (one_fact count (Ge (plus row (negsuc 0))) (omega (arith, ints, e)))
   split_at (negsuc n) e =
       let turned = terms_value-neg count row.terms in
-      in_rest count above (at ∷ below ∷ []) (in_rest count at (below ∷ []) (in_first count below [] (one_fact count (Ge (plus (negated row) (negsuc 0))) (omega (arith, ints, e, turned)))))
+      in_rest count above (at ∷ below ∷ []) (in_rest count at (below ∷ []) (in_first count below [] (one_fact count (Ge (plus (negated_row row) (negsuc 0))) (omega (arith, ints, e, turned)))))
 
-pub split_cases-cover : (row : Row) → CoverAll (split_cases row)
+pub split_cases-cover : (row : Row) → CoverAll (cases_of_split row)
 split_cases-cover row count = split_at count row (row_value count row) refl

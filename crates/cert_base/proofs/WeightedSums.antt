@@ -4,7 +4,7 @@ use Rattle.std.specs.Prelude.{ℤ, pos, negsuc, ◌+ℤ◌, ◌*ℤ◌, ◌≤�
 use Rattle.std.specs.Ordering.{int_eq}
 use lib.Dec.{T}
 use Rattle.std.proofs.lemmas.Bool.{eq-eqb}
-use Rattle.pres_ast.specs.PredicateValue.{divides}
+use Rattle.pres_ast.specs.PredicateValue.{is_multiple}
 use Rattle.cert_base.specs.declared.fact.Fact.TheVariants.{NotCong}
 use Rattle.std.specs.List.{list_any}
 use Rattle.std.proofs.lemmas.Int.{ints}
@@ -17,7 +17,7 @@ use Rattle.cert_base.specs.declared.fact.Fact.{Fact}
 use Rattle.cert_base.specs.Rows.{terms_from, zeros}
 use Rattle.cert_base.specs.ClosingTests.{row_of, times, add_rows, scaled, sum_of, coefficient_in, each_coefficient, may_have, all_named, may_add, closes_by_sum, may_add_modulo, closes_by_residue, denies}
 use Rattle.cert_base.proofs.Integers.{mul-add}
-use Rattle.cert_base.specs.WeightedSums.{weighted_sum, coefficient, constant_of, may_weigh, StandFrom}
+use Rattle.cert_base.specs.WeightedSums.{sum_of_facts, coefficient, constant_of, may_weigh, StandFrom}
 
 and_left : (a b : Bool) → a && b ≡ true → a ≡ true
 and_left true b e = refl
@@ -49,7 +49,7 @@ coefficient-times a (t ∷ ts) q =
 int_eq-true : (a b : ℤ) → int_eq a b ≡ true → a ≡ b
 int_eq-true a b e = (Decides-int_eq a b).0 e
 
-pub none_weighted : (value : Fact → ℤ) (facts : List Fact) → weighted_sum value facts [] ≡ pos 0
+pub none_weighted : (value : Fact → ℤ) (facts : List Fact) → sum_of_facts value facts [] ≡ pos 0
 none_weighted value [] = refl
 none_weighted value (f ∷ facts) = refl
 
@@ -61,27 +61,27 @@ from_first : (all facts : List Fact) (f : Fact) (k : ℕ) → StandFrom all k (f
 from_first all facts f k are = ap (slice_get all) (let e : k ≡ k + 0 = omega arith in e) ∙ are 0
 
 -- the sum that the terms name, variable by variable
-pub coefficient-sum : (x : ℕ) (all facts : List Fact) (k : ℕ) (ms : List ℤ) → StandFrom all k facts → length ms ≤ length facts → coefficient_in (sum_of all (terms_from k ms)).terms x ≡ weighted_sum (coefficient x) facts ms
+pub coefficient-sum : (x : ℕ) (all facts : List Fact) (k : ℕ) (ms : List ℤ) → StandFrom all k facts → length ms ≤ length facts → coefficient_in (sum_of all (terms_from k ms)).terms x ≡ sum_of_facts (coefficient x) facts ms
 coefficient-sum x all facts k [] are l = sym (none_weighted (coefficient x) facts)
 coefficient-sum x all [] k (m ∷ ms) are l = absurd (omega arith)
 coefficient-sum x all (f ∷ facts) k (m ∷ ms) are l =
     step (int_eq m (pos 0)) refl (coefficient-sum x all facts (k + 1) ms (from_later all facts f k are) (omega arith))
   where
-    step : (b : Bool) → int_eq m (pos 0) ≡ b → coefficient_in (sum_of all (terms_from (k + 1) ms)).terms x ≡ weighted_sum (coefficient x) facts ms → coefficient_in (sum_of all (if b then terms_from (k + 1) ms else (record { at = k; by = m } ∷ terms_from (k + 1) ms))).terms x ≡ ((m *ℤ coefficient x f) +ℤ weighted_sum (coefficient x) facts ms)
+    step : (b : Bool) → int_eq m (pos 0) ≡ b → coefficient_in (sum_of all (terms_from (k + 1) ms)).terms x ≡ sum_of_facts (coefficient x) facts ms → coefficient_in (sum_of all (if b then terms_from (k + 1) ms else (record { at = k; by = m } ∷ terms_from (k + 1) ms))).terms x ≡ ((m *ℤ coefficient x f) +ℤ sum_of_facts (coefficient x) facts ms)
     step true e rest =
         let none : (m *ℤ coefficient x f) ≡ pos 0 = ap (λ z. z *ℤ coefficient x f) (int_eq-true m (pos 0) e) ∙ zero-*ℤ (coefficient x f) in
         omega (arith, ints, none, rest)
     step false e rest =
         let here : coefficient_in (scaled m (slice_get all k)).terms x ≡ (m *ℤ coefficient x f) = ap (λ o. coefficient_in (scaled m o).terms x) (from_first all facts f k are) ∙ coefficient-times m (row_of f).terms x in
-        coefficient-append (scaled m (slice_get all k)).terms (sum_of all (terms_from (k + 1) ms)).terms x ∙ (let h : (coefficient_in (scaled m (slice_get all k)).terms x +ℤ coefficient_in (sum_of all (terms_from (k + 1) ms)).terms x) ≡ ((m *ℤ coefficient x f) +ℤ weighted_sum (coefficient x) facts ms) = rw (here, rest) refl in h)
+        coefficient-append (scaled m (slice_get all k)).terms (sum_of all (terms_from (k + 1) ms)).terms x ∙ (let h : (coefficient_in (scaled m (slice_get all k)).terms x +ℤ coefficient_in (sum_of all (terms_from (k + 1) ms)).terms x) ≡ ((m *ℤ coefficient x f) +ℤ sum_of_facts (coefficient x) facts ms) = rw (here, rest) refl in h)
 
-pub constant-sum : (all facts : List Fact) (k : ℕ) (ms : List ℤ) → StandFrom all k facts → length ms ≤ length facts → (sum_of all (terms_from k ms)).constant ≡ weighted_sum constant_of facts ms
+pub constant-sum : (all facts : List Fact) (k : ℕ) (ms : List ℤ) → StandFrom all k facts → length ms ≤ length facts → (sum_of all (terms_from k ms)).constant ≡ sum_of_facts constant_of facts ms
 constant-sum all facts k [] are l = sym (none_weighted constant_of facts)
 constant-sum all [] k (m ∷ ms) are l = absurd (omega arith)
 constant-sum all (f ∷ facts) k (m ∷ ms) are l =
     step (int_eq m (pos 0)) refl (constant-sum all facts (k + 1) ms (from_later all facts f k are) (omega arith))
   where
-    step : (b : Bool) → int_eq m (pos 0) ≡ b → (sum_of all (terms_from (k + 1) ms)).constant ≡ weighted_sum constant_of facts ms → (sum_of all (if b then terms_from (k + 1) ms else (record { at = k; by = m } ∷ terms_from (k + 1) ms))).constant ≡ ((m *ℤ constant_of f) +ℤ weighted_sum constant_of facts ms)
+    step : (b : Bool) → int_eq m (pos 0) ≡ b → (sum_of all (terms_from (k + 1) ms)).constant ≡ sum_of_facts constant_of facts ms → (sum_of all (if b then terms_from (k + 1) ms else (record { at = k; by = m } ∷ terms_from (k + 1) ms))).constant ≡ ((m *ℤ constant_of f) +ℤ sum_of_facts constant_of facts ms)
     step true e rest =
         let none : (m *ℤ constant_of f) ≡ pos 0 = ap (λ z. z *ℤ constant_of f) (int_eq-true m (pos 0) e) ∙ zero-*ℤ (constant_of f) in
         omega (arith, ints, none, rest)
@@ -103,7 +103,7 @@ all_named-weighted may all (f ∷ facts) k (m ∷ ms) are e =
         rw here rest
 
 -- the sum of two parts
-pub weighted_sum-append : (value : Fact → ℤ) (fs gs : List Fact) (ms ns : List ℤ) → length fs ≡ length ms → weighted_sum value (fs ++ gs) (ms ++ ns) ≡ (weighted_sum value fs ms +ℤ weighted_sum value gs ns)
+pub weighted_sum-append : (value : Fact → ℤ) (fs gs : List Fact) (ms ns : List ℤ) → length fs ≡ length ms → sum_of_facts value (fs ++ gs) (ms ++ ns) ≡ (sum_of_facts value fs ms +ℤ sum_of_facts value gs ns)
 weighted_sum-append value [] gs [] ns e = omega (arith, ints)
 weighted_sum-append value [] gs (m ∷ ms) ns e = absurd (omega arith)
 weighted_sum-append value (f ∷ fs) gs [] ns e = absurd (omega arith)
@@ -120,7 +120,7 @@ may_weigh-append may (f ∷ fs) gs (m ∷ ms) ns e h i =
     rw (first, rest) refl
 
 -- multipliers that are 0
-pub weighted_sum-zeros : (value : Fact → ℤ) (fs : List Fact) (n : ℕ) → weighted_sum value fs (zeros n) ≡ pos 0
+pub weighted_sum-zeros : (value : Fact → ℤ) (fs : List Fact) (n : ℕ) → sum_of_facts value fs (zeros n) ≡ pos 0
 weighted_sum-zeros value [] n = refl
 weighted_sum-zeros value (f ∷ fs) zero = refl
 weighted_sum-zeros value (f ∷ fs) (suc n) =
@@ -150,7 +150,7 @@ le-test : (a b : ℤ) → a ≤ℤ b → int_le a b ≡ true
 le-test a b l = from_T (int_le a b) l.le
 
 -- a test that the coefficient of each variable passes
-each-weighted : (test : ℤ → Bool) (facts : List Fact) (ms : List ℤ) → length ms ≤ length facts → ((x : ℕ) → test (weighted_sum (coefficient x) facts ms) ≡ true) → each_coefficient test (sum_of facts (terms_from 0 ms)) ≡ true
+each-weighted : (test : ℤ → Bool) (facts : List Fact) (ms : List ℤ) → length ms ≤ length facts → ((x : ℕ) → test (sum_of_facts (coefficient x) facts ms) ≡ true) → each_coefficient test (sum_of facts (terms_from 0 ms)) ≡ true
 each-weighted test facts ms l passes =
     let terms = (sum_of facts (terms_from 0 ms)).terms in
     list_all-from_AllPass (λ t. test (coefficient_in terms t.at)) terms (λ k d m. ap test (coefficient-sum (get_or terms k d).at facts facts 0 ms (all_from facts) l) ∙ passes (get_or terms k d).at)
@@ -166,7 +166,7 @@ list_any-from {A} test (y ∷ xs) x (suc k, l, h) e =
     or_yes false r = r
 
 -- the closing tests
-pub linear_closes-weighted : (facts : List Fact) (ms : List ℤ) → may_weigh may_add facts ms ≡ true → ((x : ℕ) → weighted_sum (coefficient x) facts ms ≤ℤ pos 0) → weighted_sum constant_of facts ms ≤ℤ negsuc 0 → closes_by_sum facts (terms_from 0 ms) ≡ true
+pub linear_closes-weighted : (facts : List Fact) (ms : List ℤ) → may_weigh may_add facts ms ≡ true → ((x : ℕ) → sum_of_facts (coefficient x) facts ms ≤ℤ pos 0) → sum_of_facts constant_of facts ms ≤ℤ negsuc 0 → closes_by_sum facts (terms_from 0 ms) ≡ true
 linear_closes-weighted facts ms may low constant =
     let l = may_weigh-short may_add facts ms may in
     let named = all_named-weighted may_add facts facts 0 ms (all_from facts) may in
@@ -175,28 +175,28 @@ linear_closes-weighted facts ms may low constant =
     rw (named, each, last) refl
 
 -- modulo m, by the constant alone
-pub residue_closes-constant : (facts : List Fact) (m : ℕ) (ms : List ℤ) → may_weigh (may_add_modulo m) facts ms ≡ true → ((x : ℕ) → divides m (weighted_sum (coefficient x) facts ms) ≡ true) → divides m (weighted_sum constant_of facts ms) ≡ false → closes_by_residue facts m (terms_from 0 ms) ≡ true
+pub residue_closes-constant : (facts : List Fact) (m : ℕ) (ms : List ℤ) → may_weigh (may_add_modulo m) facts ms ≡ true → ((x : ℕ) → is_multiple m (sum_of_facts (coefficient x) facts ms) ≡ true) → is_multiple m (sum_of_facts constant_of facts ms) ≡ false → closes_by_residue facts m (terms_from 0 ms) ≡ true
 residue_closes-constant facts m ms may even odd =
     let l = may_weigh-short (may_add_modulo m) facts ms may in
     let named = all_named-weighted (may_add_modulo m) facts facts 0 ms (all_from facts) may in
-    let each = each-weighted (divides m) facts ms l even in
-    let last : divides m (sum_of facts (terms_from 0 ms)).constant ≡ false = ap (divides m) (constant-sum facts facts 0 ms (all_from facts) l) ∙ odd in
+    let each = each-weighted (is_multiple m) facts ms l even in
+    let last : is_multiple m (sum_of facts (terms_from 0 ms)).constant ≡ false = ap (is_multiple m) (constant-sum facts facts 0 ms (all_from facts) l) ∙ odd in
     rw (named, each, last) refl
 
 -- modulo m, by a fact that denies it
-pub residue_closes-denied : (facts : List Fact) (m : ℕ) (ms : List ℤ) (row : Row) → Contains facts (NotCong row m) → may_weigh (may_add_modulo m) facts ms ≡ true → ((x : ℕ) → divides m (weighted_sum (coefficient x) facts ms +ℤ (negsuc 0 *ℤ coefficient_in row.terms x)) ≡ true) → divides m (weighted_sum constant_of facts ms +ℤ (negsuc 0 *ℤ row.constant)) ≡ true → closes_by_residue facts m (terms_from 0 ms) ≡ true
+pub residue_closes-denied : (facts : List Fact) (m : ℕ) (ms : List ℤ) (row : Row) → Contains facts (NotCong row m) → may_weigh (may_add_modulo m) facts ms ≡ true → ((x : ℕ) → is_multiple m (sum_of_facts (coefficient x) facts ms +ℤ (negsuc 0 *ℤ coefficient_in row.terms x)) ≡ true) → is_multiple m (sum_of_facts constant_of facts ms +ℤ (negsuc 0 *ℤ row.constant)) ≡ true → closes_by_residue facts m (terms_from 0 ms) ≡ true
 residue_closes-denied facts m ms row there may even constant =
     let l = may_weigh-short (may_add_modulo m) facts ms may in
     let named = all_named-weighted (may_add_modulo m) facts facts 0 ms (all_from facts) may in
     let sum = sum_of facts (terms_from 0 ms) in
     let both = add_rows sum (times (negsuc 0) row) in
-    let at : (x : ℕ) → coefficient_in both.terms x ≡ (weighted_sum (coefficient x) facts ms +ℤ (negsuc 0 *ℤ coefficient_in row.terms x)) = λ x. coefficient-append sum.terms (multiplied (negsuc 0) row.terms) x ∙ (let h : (coefficient_in sum.terms x +ℤ coefficient_in (multiplied (negsuc 0) row.terms) x) ≡ (weighted_sum (coefficient x) facts ms +ℤ (negsuc 0 *ℤ coefficient_in row.terms x)) = rw (coefficient-sum x facts facts 0 ms (all_from facts) l, coefficient-times (negsuc 0) row.terms x) refl in h) in
-    let each : each_coefficient (divides m) both ≡ true = list_all-from_AllPass (λ t. divides m (coefficient_in both.terms t.at)) both.terms (λ k d n. ap (divides m) (at (get_or both.terms k d).at) ∙ even (get_or both.terms k d).at) in
-    let last : divides m both.constant ≡ true = ap (λ z. divides m (z +ℤ (negsuc 0 *ℤ row.constant))) (constant-sum facts facts 0 ms (all_from facts) l) ∙ constant in
+    let at : (x : ℕ) → coefficient_in both.terms x ≡ (sum_of_facts (coefficient x) facts ms +ℤ (negsuc 0 *ℤ coefficient_in row.terms x)) = λ x. coefficient-append sum.terms (multiplied (negsuc 0) row.terms) x ∙ (let h : (coefficient_in sum.terms x +ℤ coefficient_in (multiplied (negsuc 0) row.terms) x) ≡ (sum_of_facts (coefficient x) facts ms +ℤ (negsuc 0 *ℤ coefficient_in row.terms x)) = rw (coefficient-sum x facts facts 0 ms (all_from facts) l, coefficient-times (negsuc 0) row.terms x) refl in h) in
+    let each : each_coefficient (is_multiple m) both ≡ true = list_all-from_AllPass (λ t. is_multiple m (coefficient_in both.terms t.at)) both.terms (λ k d n. ap (is_multiple m) (at (get_or both.terms k d).at) ∙ even (get_or both.terms k d).at) in
+    let last : is_multiple m both.constant ≡ true = ap (λ z. is_multiple m (z +ℤ (negsuc 0 *ℤ row.constant))) (constant-sum facts facts 0 ms (all_from facts) l) ∙ constant in
     let same : (m == m) ≡ true = eq-eqb m m refl in
     let denied : denies m sum (NotCong row m) ≡ true = rw (same, each, last) refl in
     let found : list_any (denies m sum) facts ≡ true = list_any-from (denies m sum) facts (NotCong row m) there denied in
-    rw (named, found) (or_true (each_coefficient (divides m) sum && not (divides m sum.constant)))
+    rw (named, found) (or_true (each_coefficient (is_multiple m) sum && not (is_multiple m sum.constant)))
   where
     or_true : (b : Bool) → (true && (b || true)) ≡ true
     or_true true = refl

@@ -13,7 +13,7 @@ use Rattle.pop_net.specs.LeafModel.{LeafModel, IsLeaf, one_at}
 use Rattle.pop_net.proofs.Quiet.{All-slice_get}
 use Rattle.cert_base.specs.declared.fact.Fact.TheVariants.{Holds}
 use Rattle.cert_base.specs.Valuation.{Valuation, MeetsFact, input_counts}
-use Rattle.cert_base.specs.FactsAndCases.{states_of, flow, two_agents, differs, wrong_output, base_list}
+use Rattle.cert_base.specs.FactsAndCases.{states_of, flow, two_agents_fact, differs, wrong_output_fact, base_list}
 use Rattle.cert_base.specs.Ends.{IsWrongEnd, HoldAtWrongEnds}
 use Rattle.cert_base.proofs.Dead.{one_there}
 use Rattle.cert_base.proofs.FlowFacts.{dot, terms_value-terms_from, flow_met}
@@ -69,7 +69,7 @@ module _ (leaf : LeafModel) (p : PredModel) (value : Bool) (count : Valuation) (
       (all_range (λ q. MeetsFact count (flow leaf q)) 0 (length leaf.states)
       (λ q a l. flow_met leaf count end.reached.counts end.reached.path end.reached.end end.reached.way end.reached.input.one_each end.reached.execution q (let m : q < length leaf.states = omega arith in m)))
 
-  two_met : MeetsFact count (two_agents leaf)
+  two_met : MeetsFact count (two_agents_fact leaf)
   two_met =
       let terms = terms_value-terms_from count 0 (replicate (length leaf.inputs) (pos 1)) in
       let ones = dot-ones count 0 end.reached.counts inputs_are in
@@ -108,7 +108,7 @@ module _ (leaf : LeafModel) (p : PredModel) (value : Bool) (count : Valuation) (
       let no_one = sum_if-none count is_wrong (length leaf.inputs) (states_of leaf) zero_sum end.state end.state (range_get (length leaf.states) end.state below) state_wrong in
       absurd (omega (arith, some, one, counted, no_one))
 
-  wrong_met : MeetsFact count (wrong_output leaf value)
+  wrong_met : MeetsFact count (wrong_output_fact leaf value)
   wrong_met =
       let row = row_value-behind count is_wrong (length leaf.inputs) (states_of leaf) (negsuc 0) in
       let some = some_wrong (cases_lt 0 (sum_if count is_wrong (length leaf.inputs) (states_of leaf))) in
@@ -116,8 +116,8 @@ module _ (leaf : LeafModel) (p : PredModel) (value : Bool) (count : Valuation) (
 
   all_met : All (MeetsFact count) (base_list leaf p value)
   all_met =
-      All-append (MeetsFact count) (map (flow leaf) (states_of leaf)) (two_agents leaf ∷ Holds p value ∷ wrong_output leaf value ∷ []) flows_met
-      (All-cons (MeetsFact count) (two_agents leaf) (Holds p value ∷ wrong_output leaf value ∷ []) two_met (All-cons (MeetsFact count) (Holds p value) (wrong_output leaf value ∷ []) holds_met (All-cons (MeetsFact count) (wrong_output leaf value) [] wrong_met (All-nil (MeetsFact count)))))
+      All-append (MeetsFact count) (map (flow leaf) (states_of leaf)) (two_agents_fact leaf ∷ Holds p value ∷ wrong_output_fact leaf value ∷ []) flows_met
+      (All-cons (MeetsFact count) (two_agents_fact leaf) (Holds p value ∷ wrong_output_fact leaf value ∷ []) two_met (All-cons (MeetsFact count) (Holds p value) (wrong_output_fact leaf value ∷ []) holds_met (All-cons (MeetsFact count) (wrong_output_fact leaf value) [] wrong_met (All-nil (MeetsFact count)))))
 
 pub wrong_ends-met : (leaf : LeafModel) (p : PredModel) (value : Bool) → IsLeaf leaf → p.variables ≡ length leaf.inputs → HoldAtWrongEnds leaf p.tree value (base_list leaf p value)
 wrong_ends-met leaf p value is variables count end = all_met leaf p value count is variables end

@@ -17,22 +17,22 @@ abbrev pub change_at : ℕ → Move → ℤ
 change_at q t = pos (post t q) -ℤ pos (pre t q)
 
 -- the terms of a state's flow fact for the inputs from number i on
-abbrev pub input_terms : LeafModel → ℕ → ℕ → List ℕ → List Term
-input_terms leaf q i starts = terms_from i (map (λ start. indicator (start == q)) starts)
+abbrev pub input_terms_from : LeafModel → ℕ → ℕ → List ℕ → List Term
+input_terms_from leaf q i starts = terms_from i (map (λ start. indicator (start == q)) starts)
 
 -- the terms of a state's flow fact, with its first k moves
 abbrev pub flow_terms : LeafModel → ℕ → ℕ → List Term
 flow_terms leaf k q =
-    input_terms leaf q 0 leaf.inputs
+    input_terms_from leaf q 0 leaf.inputs
     ++ (record { at = state_variable leaf q; by = negsuc 0 } ∷ terms_from (move_variable leaf 0) (map (change_at q) (take k leaf.moves)))
 
 -- the same for each state
-abbrev pub flow_rows : LeafModel → ℕ → List (List Term)
-flow_rows leaf k = map (flow_terms leaf k) (states_of leaf)
+abbrev pub flow_rows_after : LeafModel → ℕ → List (List Term)
+flow_rows_after leaf k = map (flow_terms leaf k) (states_of leaf)
 
 -- the rows with what a move changes at a state, unless it was entered before
-abbrev pub entered : List (List Term) → ℕ → List ℕ → Move → ℕ → List (List Term)
-entered rows state before taken variable =
+abbrev pub entered_rows : List (List Term) → ℕ → List ℕ → Move → ℕ → List (List Term)
+entered_rows rows state before taken variable =
     if is_in before state
     then rows
     else slice_set rows state (slice_index_or rows state [] ++ term_of variable (change_at state taken))

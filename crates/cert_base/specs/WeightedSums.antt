@@ -5,10 +5,10 @@ use Rattle.cert_base.specs.declared.fact.Fact.{Fact}
 use Rattle.cert_base.specs.ClosingTests.{row_of, coefficient_in}
 
 -- the sum of what the facts have, each times the multiplier at its place; the last facts may lack one
-abbrev pub weighted_sum : (Fact → ℤ) → List Fact → List ℤ → ℤ
-weighted_sum value [] ms = pos 0
-weighted_sum value (f ∷ facts) [] = pos 0
-weighted_sum value (f ∷ facts) (m ∷ ms) = (m *ℤ value f) +ℤ weighted_sum value facts ms
+abbrev pub sum_of_facts : (Fact → ℤ) → List Fact → List ℤ → ℤ
+sum_of_facts value [] ms = pos 0
+sum_of_facts value (f ∷ facts) [] = pos 0
+sum_of_facts value (f ∷ facts) (m ∷ ms) = (m *ℤ value f) +ℤ sum_of_facts value facts ms
 
 abbrev pub coefficient : ℕ → Fact → ℤ
 coefficient x f = coefficient_in (row_of f).terms x

@@ -2,7 +2,7 @@
 
 ghost use Rattle.std.specs.Prelude.{◌≡◌, ◌<◌, length, map, slice_index_or, false, IfOk};
 ghost use Rattle.cert_base.specs.FactsAndCases.{indicator, states_of, differs, base_list};
-ghost use Rattle.cert_base.specs.FactsAndCases.{two_agents as at_least_two, wrong_output as some_wrong};
+ghost use Rattle.cert_base.specs.FactsAndCases.{two_agents_fact, wrong_output_fact};
 ghost use Rattle.cert_base.specs.Ends.{HoldAtWrongEnds};
 
 use crate::fact::{Fact, Row};
@@ -33,14 +33,14 @@ pub fn base_facts(
 }
 
 fn two_agents(alloc: Global, leaf: &Leaf) -> Result<Fact, NoMemory>
-    ensures { IfOk result (λ fact. fact ≡ at_least_two leaf.now) }
+    ensures { IfOk result (λ fact. fact ≡ two_agents_fact leaf.now) }
 {
     let ones = vec![in alloc; 1i64; usize::from(leaf.input_count())]?;
     Ok(Fact::Ge(Row::over_inputs(alloc, ones.as_slice(), i64::from(leaf.helper_count()) - 2)?))
 }
 
 fn wrong_output(alloc: Global, leaf: &Leaf, value: bool) -> Result<Fact, NoMemory>
-    ensures { IfOk result (λ fact. fact ≡ some_wrong leaf.now value) }
+    ensures { IfOk result (λ fact. fact ≡ wrong_output_fact leaf.now value) }
 {
     let coefs = wrong_states(alloc, leaf, value)?;
     Ok(Fact::Ge(Row::over_states(alloc, leaf, coefs.as_slice(), -1)?))

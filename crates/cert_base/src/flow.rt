@@ -2,10 +2,10 @@
 
 ghost use Rattle.std.specs.Prelude.{◌≡◌, ◌<◌, ◌+◌, ◌++◌, length, map, slice_index_or, IfOk, OnOk, pos, []};
 ghost use Rattle.std.specs.List.{zip};
-ghost use Rattle.pop_net.specs.LeafModel.{IsLeaf, times_in as times_in_pair};
+ghost use Rattle.pop_net.specs.LeafModel.{IsLeaf, times_in_pair};
 ghost use Rattle.cert_base.specs.FactsAndCases.{flow, states_of, helpers_starting};
-ghost use Rattle.cert_base.specs.Parts.{term_of, change_at, input_terms as input_part, flow_terms};
-ghost use Rattle.cert_base.specs.Parts.{flow_rows as rows_after, entered};
+ghost use Rattle.cert_base.specs.Parts.{term_of, change_at, input_terms_from, flow_terms};
+ghost use Rattle.cert_base.specs.Parts.{flow_rows_after, entered_rows};
 ghost use Rattle.cert_base.specs.declared.fact.Fact.TheVariants.{Eq};
 
 use crate::fact::Fact;
@@ -40,7 +40,7 @@ fn facts_of(alloc: Global, leaf: &Leaf, rows: Vec<Terms>) -> Result<Vec<Fact>, N
 
 /// The terms of each state's flow fact.
 fn flow_rows(alloc: Global, leaf: &Leaf) -> Result<Vec<Terms>, NoMemory>
-    ensures rows { IfOk result (λ rows. rows.items ≡ rows_after leaf.now (length leaf.now.moves)) }
+    ensures rows { IfOk result (λ rows. rows.items ≡ flow_rows_after leaf.now (length leaf.now.moves)) }
     ensures formed { IsLeaf leaf.now }
 {
     let mut rows = start_rows(alloc, leaf)?;
@@ -52,7 +52,7 @@ fn flow_rows(alloc: Global, leaf: &Leaf) -> Result<Vec<Terms>, NoMemory>
 
 /// The same without the moves.
 fn start_rows(alloc: Global, leaf: &Leaf) -> Result<Vec<Terms>, NoMemory>
-    ensures rows { IfOk result (λ rows. rows.items ≡ rows_after leaf.now 0) }
+    ensures rows { IfOk result (λ rows. rows.items ≡ flow_rows_after leaf.now 0) }
     ensures formed { IsLeaf leaf.now }
 {
     let mut rows = Vec::new(alloc);
@@ -72,7 +72,7 @@ fn start_row(alloc: Global, leaf: &Leaf, q: u16) -> Result<Terms, NoMemory>
 }
 
 fn input_terms(alloc: Global, leaf: &Leaf, q: u16) -> Result<Terms, NoMemory>
-    ensures { IfOk result (λ terms. terms ≡ input_part leaf.now q 0 leaf.now.inputs) }
+    ensures { IfOk result (λ terms. terms ≡ input_terms_from leaf.now q 0 leaf.now.inputs) }
 {
     let mut terms = Terms::new(alloc);
     for i in 0..leaf.input_count() {
@@ -84,8 +84,8 @@ fn input_terms(alloc: Global, leaf: &Leaf, q: u16) -> Result<Terms, NoMemory>
 /// Enters what a move changes into the rows of its states, each of them once.
 fn enter_move(rows: &mut Vec<Terms>, leaf: &Leaf, t: u32) -> Result<(), NoMemory>
     requires in_range { t < length leaf.now.moves }
-    requires rows { rows.old.items ≡ rows_after leaf.now t }
-    ensures { OnOk result (rows.new.items ≡ rows_after leaf.now (t + 1)) }
+    requires rows { rows.old.items ≡ flow_rows_after leaf.now t }
+    ensures { OnOk result (rows.new.items ≡ flow_rows_after leaf.now (t + 1)) }
 {
     let taken = leaf.move_at(t);
     let Move { p, q, r, s } = taken;
@@ -106,7 +106,7 @@ fn enter(
     variable: u32,
 ) -> Result<(), NoMemory>
     requires { state < length rows.old.items }
-    ensures entered { OnOk result (rows.new.items ≡ entered rows.old.items state before.now taken variable) }
+    ensures entered { OnOk result (rows.new.items ≡ entered_rows rows.old.items state before.now taken variable) }
     ensures len { OnOk result (length rows.new.items ≡ length rows.old.items) }
 {
     if before.contains(&state) {

@@ -1,7 +1,7 @@
 //! Which states can meet.
 
 ghost use Rattle.std.specs.Prelude.{◌≡◌, ◌<◌, ◌||◌, ◌==◌, not, length};
-ghost use Rattle.cert_base.specs.FactsAndCases.{can_meet as can_meet_in};
+ghost use Rattle.cert_base.specs.FactsAndCases.{can_meet_in};
 
 use pop_net::Leaf;
 

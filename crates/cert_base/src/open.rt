@@ -5,7 +5,7 @@ ghost use Rattle.pres_ast.specs.PredModel.{AreCoefs, HasAtoms, IsPred};
 ghost use Rattle.pres_ast.specs.PredTree.{LessThan, Congruent};
 ghost use Rattle.pres_ast.specs.TreeOf.{tree_of};
 ghost use Rattle.cert_base.specs.declared.fact.Fact.TheVariants.{Holds};
-ghost use Rattle.cert_base.specs.FactsAndCases.{open_tree, open_cases as open_list, both_of, one_of, over};
+ghost use Rattle.cert_base.specs.FactsAndCases.{open_tree, cases_of_open, both_of, one_of, over_count};
 ghost use Rattle.cert_base.specs.Ends.{CoverValue};
 
 use crate::fact::{Fact, Row, only};
@@ -15,7 +15,7 @@ use std::alloc::Global;
 
 /// One case with a linear fact for an atom; else the values of the parts, in one case or in two.
 pub fn open_cases(alloc: Global, pred: &Pred, value: bool) -> Result<List<List<Fact>>, NoMemory>
-    ensures cases { IfOk result (λ cases. cases ≡ open_list pred.now value) }
+    ensures cases { IfOk result (λ cases. cases ≡ cases_of_open pred.now value) }
     // Counts at which the predicate has the value meet all facts of one of the cases.
     ensures cover { IfOk result (CoverValue pred.now value) }
 {
@@ -59,7 +59,7 @@ fn tree_cases(
 
 fn holds(alloc: Global, vars: u16, tree: &Tree, value: bool) -> Result<Fact, NoMemory>
     requires { IsPred vars (tree_of tree.now) }
-    ensures { IfOk result (λ fact. fact ≡ Holds (over vars (tree_of tree.now)) value) }
+    ensures { IfOk result (λ fact. fact ≡ Holds (over_count vars (tree_of tree.now)) value) }
 {
     let tree = tree.copy(alloc)?;
     Ok(Fact::Holds(Pred::new(vars, tree), value))

@@ -1,7 +1,7 @@
 //! A row is above 0, is 0, or is below 0.
 
 ghost use Rattle.std.specs.Prelude.{◌≡◌, ◌≤◌, nat_abs, neg_ℤ, negsuc, map, All, IfOk};
-ghost use Rattle.cert_base.specs.FactsAndCases.{plus, negated as turned_row, split_cases as split_list};
+ghost use Rattle.cert_base.specs.FactsAndCases.{plus, negated_row, cases_of_split};
 ghost use Rattle.cert_base.specs.Ends.{CoverAll};
 
 use crate::fact::{Fact, Row, Term, only};
@@ -13,7 +13,7 @@ use std::alloc::Global;
 pub fn split_cases(alloc: Global, row: &Row) -> Result<List<List<Fact>>, NoMemory>
     requires coefs { All (λ term. nat_abs term.by ≤ SIZE_LIMIT) row.now.terms }
     requires constant { nat_abs row.now.constant ≤ SIZE_LIMIT }
-    ensures cases { IfOk result (λ cases. cases ≡ split_list row.now) }
+    ensures cases { IfOk result (λ cases. cases ≡ cases_of_split row.now) }
     // All counts meet all facts of one of the cases.
     ensures cover { IfOk result CoverAll }
 {
@@ -41,7 +41,7 @@ fn less_one(row: Row) -> Row
 fn negated(alloc: Global, row: &Row) -> Result<Row, NoMemory>
     requires coefs { All (λ term. nat_abs term.by ≤ SIZE_LIMIT) row.now.terms }
     requires constant { nat_abs row.now.constant ≤ SIZE_LIMIT }
-    ensures { IfOk result (λ turned. turned ≡ turned_row row.now) }
+    ensures { IfOk result (λ turned. turned ≡ negated_row row.now) }
 {
     let mut terms = Vec::new(alloc);
     for term in row.terms.as_slice() {

@@ -4,7 +4,7 @@ use Rattle.std.specs.Prelude.{◌≢◌, IfOk, IfErr}
 use Rattle.serde_json.specs.Data.{Data}
 use Rattle.json_shape.specs.declared.fault.FormatFault.{FormatFault}
 use Rattle.json_shape.specs.declared.fault.FormatFault.TheVariants as fault
-use Rattle.json_shape.specs.Faults.{Fault, ◌>>=◌, Gives}
+use Rattle.json_shape.specs.Faults.{Fault, ◌>>=◌, GivesRead}
 use Rattle.json_shape.specs.Paths.{member_path}
 use Rattle.json_shape.specs.Shapes.{object_at, member_at, member_by}
 use Rattle.json_shape.proofs.Steps.{bind_ok, same_ok}
@@ -58,15 +58,15 @@ bundle_again d bundle file =
       proof_again net.variables (length net.leaves) d bundle.proof file.proof file.within,
     ) refl
 
-pub read-file : (d : Data) (r : Result Bundle FormatFault) → Gives (λ bundle. bundle) r (bundle_at d) → IfOk r (λ bundle. IsBundleFile bundle d)
+pub read-file : (d : Data) (r : Result Bundle FormatFault) → GivesRead (λ bundle. bundle) r (bundle_at d) → IfOk r (λ bundle. IsBundleFile bundle d)
 read-file d (Ok bundle) given = bundle_takes d bundle given
 read-file d (Err e) given = tt
 
-pub read-within : (d : Data) (r : Result Bundle FormatFault) → Gives (λ bundle. bundle) r (bundle_at d) → IfOk r (λ bundle. IsProofWithin (length bundle.net.variables) (length bundle.net.leaves) bundle.proof)
+pub read-within : (d : Data) (r : Result Bundle FormatFault) → GivesRead (λ bundle. bundle) r (bundle_at d) → IfOk r (λ bundle. IsProofWithin (length bundle.net.variables) (length bundle.net.leaves) bundle.proof)
 read-within d (Ok bundle) given = (bundle_takes d bundle given).within
 read-within d (Err e) given = tt
 
-pub broken-no_file : (d : Data) (r : Result Bundle FormatFault) → Gives (λ bundle. bundle) r (bundle_at d) → IfErr r (λ f. f ≢ fault.NoMemory → (bundle : Bundle) → IsBundleFile bundle d → ⊥)
+pub broken-no_file : (d : Data) (r : Result Bundle FormatFault) → GivesRead (λ bundle. bundle) r (bundle_at d) → IfErr r (λ f. f ≢ fault.NoMemory → (bundle : Bundle) → IsBundleFile bundle d → ⊥)
 broken-no_file d (Ok bundle) given = tt
 broken-no_file d (Err (fault.Broken p w)) given = λ other bundle file. absurd (cc (given, bundle_again d bundle file))
 broken-no_file d (Err fault.NoMemory) given = λ other bundle file. other refl

@@ -19,19 +19,19 @@ use Rattle.cert_base.specs.declared.limits.TheConstants.{NODE_LIMIT}
 use Rattle.pres_ast.specs.declared.limits.TheConstants.{MODULUS_LIMIT}
 use Rattle.cert_json.specs.declared.kind.NodeKind.{NodeKind}
 use Rattle.cert_json.specs.declared.kind.NodeKind.TheVariants as kind
-use Rattle.cert_json.specs.Kinds.{text_of, kind_else, kind_named}
+use Rattle.cert_json.specs.Kinds.{kind_text, kind_else, kind_named}
 use Rattle.cert_json.specs.ProofFile.{IsTerm, AreParts, IsNode}
-use Rattle.cert_json.specs.Examined.{index_at, state_at, modulus_at, small_at, terms_at, numbers_of, row_terms_at, states_at, with_one, with_two, split_by, after_word, by_kind, node_at, node_item, nodes_at}
+use Rattle.cert_json.specs.Examined.{index_at, state_at, modulus_at, small_at, terms_at, numbers_of, row_terms_at, set_states_at, with_one, with_two, split_by, after_word, by_kind, node_at, node_item, nodes_at}
 use Rattle.cert_json.proofs.PartLaws
 
-by_test : (v w : NodeKind) (s : List ℕ) (other : Option NodeKind) → (other ≡ Some w → s ≡ text_of w) → (b : Bool) → bytes_eq s (text_of v) ≡ b → cond b (Some v) other ≡ Some w → s ≡ text_of w
-by_test v w s other so true is e = let same : v ≡ w = cc in (bytes_eq-Decides s (text_of v)).0 is ∙ ap text_of same
+by_test : (v w : NodeKind) (s : List ℕ) (other : Option NodeKind) → (other ≡ Some w → s ≡ kind_text w) → (b : Bool) → bytes_eq s (kind_text v) ≡ b → cond b (Some v) other ≡ Some w → s ≡ kind_text w
+by_test v w s other so true is e = let same : v ≡ w = cc in (bytes_eq-Decides s (kind_text v)).0 is ∙ ap kind_text same
 by_test v w s other so false is e = so e
 
-else_takes : (v w : NodeKind) (s : List ℕ) (other : Option NodeKind) → (other ≡ Some w → s ≡ text_of w) → kind_else v s other ≡ Some w → s ≡ text_of w
-else_takes v w s other so e = by_test v w s other so (bytes_eq s (text_of v)) refl e
+else_takes : (v w : NodeKind) (s : List ℕ) (other : Option NodeKind) → (other ≡ Some w → s ≡ kind_text w) → kind_else v s other ≡ Some w → s ≡ kind_text w
+else_takes v w s other so e = by_test v w s other so (bytes_eq s (kind_text v)) refl e
 
-named_takes : (s : List ℕ) (w : NodeKind) → kind_named s ≡ Some w → s ≡ text_of w
+named_takes : (s : List ℕ) (w : NodeKind) → kind_named s ≡ Some w → s ≡ kind_text w
 named_takes s w =
     else_takes kind.Linear w s _
     (else_takes kind.Residue w s _
@@ -96,7 +96,7 @@ row_again path d ts is fits = PartLaws.row_terms_at-again path d ts is fits.0 fi
 abbrev Taken : List Data → Node → Type 0
 Taken ds node = AreParts node ds × IsNodeWithin node
 
-parts_takes : (path : List ℕ) (ds : List Data) (node : Node) (w : NodeKind) → word_at path ds ≡ Ok (text_of w) → after_word path w ds ≡ Ok node → Taken ds node
+parts_takes : (path : List ℕ) (ds : List Data) (node : Node) (w : NodeKind) → word_at path ds ≡ Ok (kind_text w) → after_word path w ds ≡ Ok node → Taken ds node
 parts_takes path ds node kind.Linear w e =
     let r = one_takes terms_at (IsList IsTerm) AreTermsWithin Linear PartLaws.terms_at-takes path (codes "lin") ds node w e in
     subst (Taken ds) r.1 (r.2, r.3)
@@ -113,10 +113,10 @@ parts_takes path ds node kind.Twin w e =
     let r = one_takes state_at IsNumber (λ q. q < 2 ^ 16) Twin PartLaws.state_takes path (codes "twin") ds node w e in
     subst (Taken ds) r.1 (r.2, r.3)
 parts_takes path ds node kind.Trap w e =
-    let r = one_takes states_at (IsList IsNumber) IsSetWithin Trap PartLaws.states_at-takes path (codes "trap") ds node w e in
+    let r = one_takes set_states_at (IsList IsNumber) IsSetWithin Trap PartLaws.states_at-takes path (codes "trap") ds node w e in
     subst (Taken ds) r.1 (r.2, r.3)
 parts_takes path ds node kind.Siphon w e =
-    let r = one_takes states_at (IsList IsNumber) IsSetWithin Siphon PartLaws.states_at-takes path (codes "siphon") ds node w e in
+    let r = one_takes set_states_at (IsList IsNumber) IsSetWithin Siphon PartLaws.states_at-takes path (codes "siphon") ds node w e in
     subst (Taken ds) r.1 (r.2, r.3)
 parts_takes path ds node kind.Open w e =
     let r = one_takes index_at IsNumber (λ n. n < 2 ^ 32) Open PartLaws.index_takes path (codes "open") ds node w e in
@@ -148,9 +148,9 @@ parts_again path ds (Present p) parts fits =
 parts_again path ds (Twin p) parts fits =
     let t = one_again state_at IsNumber (λ q. q < 2 ^ 16) Twin PartLaws.state_again path (codes "twin") ds p parts fits in rw t.0 t.1
 parts_again path ds (Trap set) parts fits =
-    let t = one_again states_at (IsList IsNumber) IsSetWithin Trap PartLaws.states_at-again path (codes "trap") ds set parts fits in rw t.0 t.1
+    let t = one_again set_states_at (IsList IsNumber) IsSetWithin Trap PartLaws.states_at-again path (codes "trap") ds set parts fits in rw t.0 t.1
 parts_again path ds (Siphon set) parts fits =
-    let t = one_again states_at (IsList IsNumber) IsSetWithin Siphon PartLaws.states_at-again path (codes "siphon") ds set parts fits in rw t.0 t.1
+    let t = one_again set_states_at (IsList IsNumber) IsSetWithin Siphon PartLaws.states_at-again path (codes "siphon") ds set parts fits in rw t.0 t.1
 parts_again path ds (Open f) parts fits =
     let t = one_again index_at IsNumber (λ n. n < 2 ^ 32) Open PartLaws.index_again path (codes "open") ds f parts fits in rw t.0 t.1
 

@@ -16,7 +16,7 @@ use Rattle.cert_base.specs.ProofLimits.{IsSmall, IsAscending, IsTermWithin, AreT
 use Rattle.cert_base.specs.declared.limits.TheConstants.{LAYER_LIMIT, TERM_LIMIT, SIZE_LIMIT}
 use Rattle.pop_net.specs.declared.limits.TheConstants.{STATE_LIMIT, MOVE_LIMIT}
 use Rattle.cert_json.specs.ProofFile.{IsTerm, IsLayerFile}
-use Rattle.cert_json.specs.Examined.{index_at, state_at, small_at, term_from, term_at, term_item, terms_at, row_term_at, numbers_of, row_term_item, row_terms_at, state_item, states_at, index_item, moves_at, weight_item, weights_at, layer_at, layer_item, layers_at}
+use Rattle.cert_json.specs.Examined.{index_at, state_at, small_at, term_from, term_at, term_item, terms_at, row_term_at, numbers_of, row_term_item, row_terms_at, set_state_item, set_states_at, index_item, layer_moves_at, weight_item, weights_at, layer_at, layer_item, layers_at}
 use Rattle.cert_json.proofs.Sets
 
 pub index_takes : (path : List ℕ) (d : Data) (n : ℕ) → index_at path d ≡ Ok n → IsNumber n d × (n < 2 ^ 32)
@@ -120,10 +120,10 @@ itself n = n
 abbrev IsNextState : List ℕ → ℕ → Type 0
 IsNextState found q = (q < 2 ^ 16) × (comes_after (last_of found) q ≡ true)
 
-next_takes : (path : List ℕ) (found : List ℕ) (i : ℕ) (d : Data) (q : ℕ) → item_by state_item path found i d ≡ Ok q → IsNumber q d × IsNextState found q
+next_takes : (path : List ℕ) (found : List ℕ) (i : ℕ) (d : Data) (q : ℕ) → item_by set_state_item path found i d ≡ Ok q → IsNumber q d × IsNextState found q
 next_takes path found i d q e = let r = Tagged.ascending_at-takes (item_path path i) (2 ^ 16 - 1) (last_of found) d q e in let lt : q < 2 ^ 16 = omega (arith, r.1) in (r.0, (lt, r.2))
 
-next_again : (path : List ℕ) (found : List ℕ) (i : ℕ) (d : Data) (q : ℕ) → IsNumber q d → IsNextState found q → item_by state_item path found i d ≡ Ok q
+next_again : (path : List ℕ) (found : List ℕ) (i : ℕ) (d : Data) (q : ℕ) → IsNumber q d → IsNextState found q → item_by set_state_item path found i d ≡ Ok q
 next_again path found i d q is fits = Tagged.ascending_at-again (item_path path i) (2 ^ 16 - 1) (last_of found) d q is (omega (arith, fits.0)) fits.1
 
 plain_follows : (found : List ℕ) (q : ℕ) → comes_after (last_of found) q ≡ true → Sets.Follows itself found q
@@ -132,29 +132,29 @@ plain_follows found q after = rw Sets.map_same after
 follows_plain : (found : List ℕ) (q : ℕ) → Sets.Follows itself found q → comes_after (last_of found) q ≡ true
 follows_plain found q after = rw Sets.map_same at after
 
-pub states_at-takes : (path : List ℕ) (d : Data) (qs : List ℕ) → states_at path d ≡ Ok qs → IsList IsNumber qs d × IsSetWithin qs
+pub states_at-takes : (path : List ℕ) (d : Data) (qs : List ℕ) → set_states_at path d ≡ Ok qs → IsList IsNumber qs d × IsSetWithin qs
 unfolding each_at
 states_at-takes path d qs e =
-    let r = Readers.list-takes (item_by state_item path) IsNumber IsNextState (next_takes path) path 0 STATE_LIMIT d qs e in
+    let r = Readers.list-takes (item_by set_state_item path) IsNumber IsNextState (next_takes path) path 0 STATE_LIMIT d qs e in
     let fits = EachFrom-weaker IsNextState (λ _ q. q < 2 ^ 16) (λ found q next. next.0) [] qs r.1 in
     let up = EachFrom-weaker IsNextState (Sets.Follows itself) (λ found q next. plain_follows found q next.1) [] qs r.1 in
     (r.0, (r.3, EachFrom-All (λ q. q < 2 ^ 16) [] qs fits, subst IsAscending (Sets.map_same qs) (Sets.follows-ascending itself qs up)))
 
-pub states_at-again : (path : List ℕ) (d : Data) (qs : List ℕ) → IsList IsNumber qs d → IsSetWithin qs → states_at path d ≡ Ok qs
+pub states_at-again : (path : List ℕ) (d : Data) (qs : List ℕ) → IsList IsNumber qs d → IsSetWithin qs → set_states_at path d ≡ Ok qs
 unfolding each_at
 states_at-again path d qs is fits =
     let up = Sets.ascending-follows itself qs (subst IsAscending (sym (Sets.map_same qs)) fits.2) in
     let plain = EachFrom-weaker (Sets.Follows itself) (λ found q. comes_after (last_of found) q ≡ true) follows_plain [] qs up in
     let each_one = Sets.EachFrom-both (λ _ q. q < 2 ^ 16) (λ found q. comes_after (last_of found) q ≡ true) [] qs (All-EachFrom (λ q. q < 2 ^ 16) [] qs fits.1) plain in
-    Readers.list-again (item_by state_item path) IsNumber IsNextState (next_again path) path 0 STATE_LIMIT d qs is each_one (omega arith) fits.0
+    Readers.list-again (item_by set_state_item path) IsNumber IsNextState (next_again path) path 0 STATE_LIMIT d qs is each_one (omega arith) fits.0
 
-pub moves_at-takes : (path : List ℕ) (d : Data) (ns : List ℕ) → moves_at path d ≡ Ok ns → IsList IsNumber ns d × (length ns ≤ MOVE_LIMIT) × All (λ n. n < 2 ^ 32) ns
+pub moves_at-takes : (path : List ℕ) (d : Data) (ns : List ℕ) → layer_moves_at path d ≡ Ok ns → IsList IsNumber ns d × (length ns ≤ MOVE_LIMIT) × All (λ n. n < 2 ^ 32) ns
 unfolding each_at
 moves_at-takes path d ns e =
     let r = Readers.list-takes (item_by index_item path) IsNumber (λ _ n. n < 2 ^ 32) (λ found i x n h. index_takes (item_path path i) x n h) path 0 MOVE_LIMIT d ns e in
     (r.0, r.3, EachFrom-All (λ n. n < 2 ^ 32) [] ns r.1)
 
-pub moves_at-again : (path : List ℕ) (d : Data) (ns : List ℕ) → IsList IsNumber ns d → length ns ≤ MOVE_LIMIT → All (λ n. n < 2 ^ 32) ns → moves_at path d ≡ Ok ns
+pub moves_at-again : (path : List ℕ) (d : Data) (ns : List ℕ) → IsList IsNumber ns d → length ns ≤ MOVE_LIMIT → All (λ n. n < 2 ^ 32) ns → layer_moves_at path d ≡ Ok ns
 unfolding each_at
 moves_at-again path d ns is hi below =
     Readers.list-again (item_by index_item path) IsNumber (λ _ n. n < 2 ^ 32) (λ found i x n h lt. index_again (item_path path i) x n h lt) path 0 MOVE_LIMIT d ns is (All-EachFrom (λ n. n < 2 ^ 32) [] ns below) (omega arith) hi
@@ -174,12 +174,12 @@ layer_takes : (path : List ℕ) (d : Data) (layer : Layer) → layer_at path d �
 unfolding layer_at
 layer_takes path d layer e =
     let made = λ (ms : List ℕ) (ws : List ℤ). (let o : Result Layer Fault = Ok (record { moves = ms; weights = ws }) in o) in
-    let moves = member_by path (codes "moves") moves_at d in
+    let moves = member_by path (codes "moves") layer_moves_at d in
     let weights = member_by path (codes "weights") weights_at d in
     let a = bind_ok (object_at path d) (λ o. moves >>= λ ms. weights >>= λ ws. made ms ws) layer e in
     let m = bind_ok moves (λ ms. weights >>= λ ws. made ms ws) layer a.2 in
     let w = bind_ok weights (λ ws. made m.0 ws) layer m.2 in
-    let m' = bind_ok (member_at path (codes "moves") d) (λ v. moves_at (member_path path (codes "moves")) v) m.0 m.1 in
+    let m' = bind_ok (member_at path (codes "moves") d) (λ v. layer_moves_at (member_path path (codes "moves")) v) m.0 m.1 in
     let w' = bind_ok (member_at path (codes "weights") d) (λ v. weights_at (member_path path (codes "weights")) v) w.0 w.1 in
     let mt = moves_at-takes (member_path path (codes "moves")) m'.0 m.0 m'.2 in
     let wt = weights_at-takes (member_path path (codes "weights")) w'.0 w.0 w'.2 in

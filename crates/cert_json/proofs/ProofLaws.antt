@@ -4,7 +4,7 @@ use Rattle.std.specs.Prelude.{◌≢◌, IfOk, IfErr}
 use Rattle.serde_json.specs.Data.{Data}
 use Rattle.json_shape.specs.declared.fault.FormatFault.{FormatFault}
 use Rattle.json_shape.specs.declared.fault.FormatFault.TheVariants as fault
-use Rattle.json_shape.specs.Faults.{Fault, ◌>>=◌, Gives}
+use Rattle.json_shape.specs.Faults.{Fault, ◌>>=◌, GivesRead}
 use Rattle.json_shape.specs.Paths.{member_path, item_path}
 use Rattle.json_shape.specs.Shapes.{object_at, member_at, member_by, text_at, item_by, each_at}
 use Rattle.json_shape.proofs.Steps.{bind_ok, same_ok}
@@ -13,7 +13,7 @@ use Rattle.json_shape.proofs.Fresh.{EachFrom-All, All-EachFrom}
 use Rattle.pres_ast.specs.PredTree.{PredTree}
 use Rattle.pres_ast.specs.PredModel.{PredModel}
 use Rattle.pres_read.specs.TextFault.{TextFault}
-use Rattle.pres_read.specs.Reading.{over, tree_read, pred_read}
+use Rattle.pres_read.specs.Reading.{over_names, tree_read, pred_read}
 use Rattle.cert_base.specs.declared.layer.Layer.{Layer}
 use Rattle.cert_base.specs.declared.node.Node.{Node}
 use Rattle.cert_base.specs.declared.proof.Proof.{Proof}
@@ -28,7 +28,7 @@ read_ok : (path : List ℕ) (r : Result PredModel TextFault) (p : PredModel) →
 read_ok path (Ok q) p e = ap (λ (m : PredModel). Ok m) (same_ok q p e)
 read_ok path (Err f) p e = absurd cc
 
-over_variables : (n : ℕ) (r : Result PredTree TextFault) (p : PredModel) → over n r ≡ Ok p → p.variables ≡ n
+over_variables : (n : ℕ) (r : Result PredTree TextFault) (p : PredModel) → over_names n r ≡ Ok p → p.variables ≡ n
 over_variables n (Ok tree) p e = let same : (let m : PredModel = record { variables = n; tree = tree } in m) ≡ p = cc in ap (λ (m : PredModel). m.variables) (sym same)
 over_variables n (Err f) p e = absurd cc
 
@@ -125,15 +125,15 @@ module _ (names : List (List ℕ)) where
             (All-EachFrom (IsLeafProofWithin (length names)) [] proof.leaves fits.parts) (omega (arith, fits.one_each)) (omega (arith, fits.one_each)),
       ) refl
 
-  pub read-file : (leaves : ℕ) (d : Data) (r : Result Proof FormatFault) → Gives (λ proof. proof) r (proof_at names leaves d) → IfOk r (λ proof. IsProofFile names proof d)
+  pub read-file : (leaves : ℕ) (d : Data) (r : Result Proof FormatFault) → GivesRead (λ proof. proof) r (proof_at names leaves d) → IfOk r (λ proof. IsProofFile names proof d)
   read-file leaves d (Ok proof) given = (proof_takes leaves d proof given).0
   read-file leaves d (Err e) given = tt
 
-  pub read-within : (leaves : ℕ) (d : Data) (r : Result Proof FormatFault) → Gives (λ proof. proof) r (proof_at names leaves d) → IfOk r (λ proof. IsProofWithin (length names) leaves proof)
+  pub read-within : (leaves : ℕ) (d : Data) (r : Result Proof FormatFault) → GivesRead (λ proof. proof) r (proof_at names leaves d) → IfOk r (λ proof. IsProofWithin (length names) leaves proof)
   read-within leaves d (Ok proof) given = (proof_takes leaves d proof given).1
   read-within leaves d (Err e) given = tt
 
-  pub broken-no_file : (leaves : ℕ) (d : Data) (r : Result Proof FormatFault) → Gives (λ proof. proof) r (proof_at names leaves d) → IfErr r (λ f. f ≢ fault.NoMemory → (proof : Proof) → IsProofFile names proof d → IsProofWithin (length names) leaves proof → ⊥)
+  pub broken-no_file : (leaves : ℕ) (d : Data) (r : Result Proof FormatFault) → GivesRead (λ proof. proof) r (proof_at names leaves d) → IfErr r (λ f. f ≢ fault.NoMemory → (proof : Proof) → IsProofFile names proof d → IsProofWithin (length names) leaves proof → ⊥)
   broken-no_file leaves d (Ok proof) given = tt
   broken-no_file leaves d (Err (fault.Broken p w)) given = λ other proof file fits. absurd (cc (given, proof_again leaves d proof file fits))
   broken-no_file leaves d (Err fault.NoMemory) given = λ other proof file fits. other refl

@@ -18,7 +18,7 @@ use Rattle.pres_read.specs.TextFault.{TextFault, TooDeep, LongText}
 use Rattle.pres_read.specs.Outcome.{◌>>=◌}
 use Rattle.pres_read.specs.Progress.{Progress, start}
 use Rattle.pres_read.specs.Depth.{Depth, surface, deeper, sunk}
-use Rattle.pres_read.specs.Reading.{step, with_progress, run, tree_read, over, pred_read}
+use Rattle.pres_read.specs.Reading.{step, with_progress, run, tree_read, over_names, pred_read}
 use Rattle.pres_read.specs.Sound.{IsSoundProgress}
 use Rattle.pres_read.proofs.Ends.{sound_further, finish_fits}
 use Rattle.cert_base.specs.declared.proof.LeafProof.{LeafProof}
@@ -73,7 +73,7 @@ module _ (names : List (List ℕ)) (one : 1 ≤ length names) (most : length nam
   abbrev IsOver : PredModel → Type 0
   IsOver p = (p.variables ≡ length names) × HasAtoms p.variables p.tree
 
-  over_fits : (r : Result PredTree TextFault) → Fits r → IfOk (over (length names) r) IsOver
+  over_fits : (r : Result PredTree TextFault) → Fits r → IfOk (over_names (length names) r) IsOver
   over_fits (Ok tree) fits = (refl, fits.atoms)
   over_fits (Err e) fits = tt
 

@@ -89,11 +89,11 @@ abbrev pub row_terms_at : List ℕ → Data → Result (List Term) Fault
 row_terms_at path d = each_at row_term_item path 0 TERM_LIMIT d
 
 -- a state with a greater number than the one before it
-abbrev pub state_item : List ℕ → List ℕ → Data → Result ℕ Fault
-state_item path found d = ascending_at path (2 ^ 16 - 1) (last_of found) d
+abbrev pub set_state_item : List ℕ → List ℕ → Data → Result ℕ Fault
+set_state_item path found d = ascending_at path (2 ^ 16 - 1) (last_of found) d
 
-abbrev pub states_at : List ℕ → Data → Result (List ℕ) Fault
-states_at path d = each_at state_item path 0 STATE_LIMIT d
+abbrev pub set_states_at : List ℕ → Data → Result (List ℕ) Fault
+set_states_at path d = each_at set_state_item path 0 STATE_LIMIT d
 
 abbrev pub with_one : {A : Type 0} → (List ℕ → Data → Result A Fault) → (A → Node) → List ℕ → List Data → Result Node Fault
 with_one read make path ds = do
@@ -119,8 +119,8 @@ after_word path kind.Residue ds = with_two modulus_at terms_at Residue path ds
 after_word path kind.Split ds = with_two row_terms_at small_at split_by path ds
 after_word path kind.Present ds = with_one state_at Present path ds
 after_word path kind.Twin ds = with_one state_at Twin path ds
-after_word path kind.Trap ds = with_one states_at Trap path ds
-after_word path kind.Siphon ds = with_one states_at Siphon path ds
+after_word path kind.Trap ds = with_one set_states_at Trap path ds
+after_word path kind.Siphon ds = with_one set_states_at Siphon path ds
 after_word path kind.Open ds = with_one index_at Open path ds
 
 -- a word that no node has is refused before the number of items is looked at
@@ -143,8 +143,8 @@ nodes_at path d = each_at node_item path 0 NODE_LIMIT d
 abbrev pub index_item : List ℕ → List ℕ → Data → Result ℕ Fault
 index_item path found d = index_at path d
 
-abbrev pub moves_at : List ℕ → Data → Result (List ℕ) Fault
-moves_at path d = each_at index_item path 0 MOVE_LIMIT d
+abbrev pub layer_moves_at : List ℕ → Data → Result (List ℕ) Fault
+layer_moves_at path d = each_at index_item path 0 MOVE_LIMIT d
 
 abbrev pub weight_item : List ℕ → List ℤ → Data → Result ℤ Fault
 weight_item path found d = small_at path d
@@ -155,7 +155,7 @@ weights_at path d = each_at weight_item path 0 STATE_LIMIT d
 unfoldable pub layer_at : List ℕ → Data → Result Layer Fault
 layer_at path d = do
   o ← object_at path d
-  ms ← member_by path (codes "moves") moves_at d
+  ms ← member_by path (codes "moves") layer_moves_at d
   ws ← member_by path (codes "weights") weights_at d
   Ok (record { moves = ms; weights = ws })
 

@@ -4,18 +4,18 @@ use Rattle.std.specs.Str.{bytes_eq}
 use Rattle.cert_json.specs.declared.kind.NodeKind.{NodeKind}
 use Rattle.cert_json.specs.declared.kind.NodeKind.TheVariants.{Linear, Residue, Split, Present, Twin, Trap, Siphon, Open}
 
-abbrev pub text_of : NodeKind → List ℕ
-text_of Linear = codes "lin"
-text_of Residue = codes "residue"
-text_of Split = codes "split"
-text_of Present = codes "present"
-text_of Twin = codes "twin"
-text_of Trap = codes "trap"
-text_of Siphon = codes "siphon"
-text_of Open = codes "open"
+abbrev pub kind_text : NodeKind → List ℕ
+kind_text Linear = codes "lin"
+kind_text Residue = codes "residue"
+kind_text Split = codes "split"
+kind_text Present = codes "present"
+kind_text Twin = codes "twin"
+kind_text Trap = codes "trap"
+kind_text Siphon = codes "siphon"
+kind_text Open = codes "open"
 
 abbrev pub kind_else : NodeKind → List ℕ → Option NodeKind → Option NodeKind
-kind_else k s other = if bytes_eq s (text_of k) then Some k else other
+kind_else k s other = if bytes_eq s (kind_text k) then Some k else other
 
 -- the kind with this word
 abbrev pub kind_named : List ℕ → Option NodeKind

@@ -2,7 +2,7 @@
 
 ghost use Rattle.std.specs.Prelude.{◌≡◌, ◌≢◌, length, IfErr, IfOk};
 ghost use Rattle.serde_json.specs.View.{view};
-ghost use Rattle.json_shape.specs.Faults.{Gives};
+ghost use Rattle.json_shape.specs.Faults.{GivesRead};
 ghost use Rattle.cert_base.specs.ProofLimits.{IsProofWithin};
 ghost use Rattle.cert_json.specs.BundleFile.{IsBundleFile};
 ghost use Rattle.cert_json.specs.Bundles.{bundle_at};
@@ -25,7 +25,7 @@ pub struct Bundle {
 
 #[tactic(auto, unfolding(crate::specs::Bundles::bundle_at))]
 fn bundle_of(alloc: Global, value: &Value) -> Result<Bundle, FormatFault>
-    ensures exact { Gives (λ bundle. bundle) result (bundle_at (view value.now)) }
+    ensures exact { GivesRead (λ bundle. bundle) result (bundle_at (view value.now)) }
     ensures variables { IfOk result (λ bundle. bundle.pred.variables ≡ length bundle.net.variables) }
 {
     let root = Path::Root;
@@ -43,7 +43,7 @@ fn bundle_of(alloc: Global, value: &Value) -> Result<Bundle, FormatFault>
 /// The members are examined in the order `net`, `pred`, `proof`, each whole before the next is looked for. Other
 /// members are ignored.
 pub fn read_bundle(alloc: Global, value: &Value) -> Result<Bundle, FormatFault>
-    ensures exact { Gives (λ bundle. bundle) result (bundle_at (view value.now)) }
+    ensures exact { GivesRead (λ bundle. bundle) result (bundle_at (view value.now)) }
     ensures variables { IfOk result (λ bundle. bundle.pred.variables ≡ length bundle.net.variables) }
     ensures within { IfOk result (λ bundle.
         IsProofWithin (length bundle.net.variables) (length bundle.net.leaves) bundle.proof) }

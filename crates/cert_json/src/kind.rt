@@ -16,7 +16,7 @@ pub(crate) enum NodeKind {
 }
 
 impl NodeKind {
-    ghost use Rattle.cert_json.specs.Kinds.{text_of, kind_named};
+    ghost use Rattle.cert_json.specs.Kinds.{kind_text, kind_named};
 
     pub(crate) fn named(text: &str) -> Option<NodeKind>
         ensures { result ≡ kind_named text.now }
@@ -35,7 +35,7 @@ impl NodeKind {
     }
 
     pub(crate) fn text(self) -> &'static str
-        ensures { result.now ≡ text_of self }
+        ensures { result.now ≡ kind_text self }
     {
         match self {
             NodeKind::Linear => "lin",

@@ -2,9 +2,9 @@
 
 ghost use Rattle.std.specs.Prelude.{◌≡◌};
 ghost use Rattle.serde_json.specs.View.{view};
-ghost use Rattle.json_shape.specs.Faults.{Gives};
+ghost use Rattle.json_shape.specs.Faults.{GivesRead};
 ghost use Rattle.json_shape.specs.Paths.{path_text};
-ghost use Rattle.cert_json.specs.Examined.{moves_at, weights_at, layers_at};
+ghost use Rattle.cert_json.specs.Examined.{layer_moves_at, weights_at, layers_at};
 
 use crate::terms::{index_of, small_of};
 use cert_base::{LAYER_LIMIT, Layer};
@@ -41,7 +41,7 @@ impl ReadItem for Moves {
 
 /// At most `MOVE_LIMIT` numbers of moves.
 fn moves_of(alloc: Global, path: &Path<'_>, value: &Value) -> Result<List<u32>, FormatFault>
-    ensures { Gives (λ ns. ns) result (moves_at (path_text path.now) (view value.now)) }
+    ensures { GivesRead (λ ns. ns) result (layer_moves_at (path_text path.now) (view value.now)) }
 {
     each_of(alloc, path, 0, MOVE_LIMIT, &Moves, value)
 }
@@ -73,7 +73,7 @@ impl ReadItem for Weights {
 
 /// At most `STATE_LIMIT` weights.
 fn weights_of(alloc: Global, path: &Path<'_>, value: &Value) -> Result<List<i64>, FormatFault>
-    ensures { Gives (λ ws. ws) result (weights_at (path_text path.now) (view value.now)) }
+    ensures { GivesRead (λ ws. ws) result (weights_at (path_text path.now) (view value.now)) }
 {
     each_of(alloc, path, 0, STATE_LIMIT, &Weights, value)
 }
@@ -115,7 +115,7 @@ pub(crate) fn layers_of(
     path: &Path<'_>,
     value: &Value,
 ) -> Result<List<Layer>, FormatFault>
-    ensures { Gives (λ layers. layers) result (layers_at (path_text path.now) (view value.now)) }
+    ensures { GivesRead (λ layers. layers) result (layers_at (path_text path.now) (view value.now)) }
 {
     each_of(alloc, path, 0, LAYER_LIMIT, &Layers, value)
 }

@@ -2,7 +2,7 @@
 
 ghost use Rattle.std.specs.Prelude.{◌≡◌, map};
 ghost use Rattle.serde_json.specs.View.{view};
-ghost use Rattle.json_shape.specs.Faults.{Gives};
+ghost use Rattle.json_shape.specs.Faults.{GivesRead};
 ghost use Rattle.json_shape.specs.Paths.{path_text};
 ghost use Rattle.cert_json.specs.Examined.{split_by, after_word, nodes_at};
 
@@ -29,7 +29,7 @@ fn after_word(
     kind: NodeKind,
     items: &[Value],
 ) -> Result<Node, FormatFault>
-    ensures { Gives (λ node. node) result (after_word (path_text path.now) kind (map view items.now)) }
+    ensures { GivesRead (λ node. node) result (after_word (path_text path.now) kind (map view items.now)) }
 {
     macro_rules! one {
         ($read:ident, $node:path) => {{
@@ -95,7 +95,7 @@ pub(crate) fn nodes_of(
     path: &Path<'_>,
     value: &Value,
 ) -> Result<List<Node>, FormatFault>
-    ensures { Gives (λ nodes. nodes) result (nodes_at (path_text path.now) (view value.now)) }
+    ensures { GivesRead (λ nodes. nodes) result (nodes_at (path_text path.now) (view value.now)) }
 {
     each_of(alloc, path, 0, NODE_LIMIT, &Nodes, value)
 }

@@ -3,7 +3,7 @@
 ghost use Rattle.std.specs.Prelude.{◌≡◌, ◌≢◌, ◌≤◌, length, IfOk, IfErr};
 ghost use Rattle.serde_json.specs.View.{view};
 ghost use Rattle.pop_io.specs.Names.{variable_name, AreNames};
-ghost use Rattle.json_shape.specs.Faults.{Gives};
+ghost use Rattle.json_shape.specs.Faults.{GivesRead};
 ghost use Rattle.json_shape.specs.Paths.{path_text};
 ghost use Rattle.cert_base.specs.declared.proof.Proof.{Proof};
 ghost use Rattle.cert_base.specs.ProofLimits.{IsProofWithin};
@@ -34,7 +34,7 @@ pub(crate) fn pred_of(
     requires some { 1 ≤ length names.now }
     requires few { length names.now ≤ VARIABLE_LIMIT }
     requires names { AreNames variable_name names.now }
-    ensures pred { Gives (λ pred. pred) result (pred_at names.now (path_text path.now) (view value.now)) }
+    ensures pred { GivesRead (λ pred. pred) result (pred_at names.now (path_text path.now) (view value.now)) }
     ensures variables { IfOk result (λ pred. pred.variables ≡ length names.now) }
 {
     let text = text_of(alloc, path, value)?;
@@ -105,7 +105,7 @@ fn leaf_proofs_of(
     requires some { 1 ≤ length names.now }
     requires few { length names.now ≤ VARIABLE_LIMIT }
     requires names { AreNames variable_name names.now }
-    ensures { Gives (λ parts. parts) result
+    ensures { GivesRead (λ parts. parts) result
         (leaf_proofs_at names.now leaves (path_text path.now) (view value.now)) }
 {
     each_of(alloc, path, leaves, leaves, &LeafProofs { names }, value)
@@ -113,7 +113,7 @@ fn leaf_proofs_of(
 
 #[tactic(auto, unfolding(crate::specs::Examined::proof_at))]
 fn proof_of(alloc: Global, value: &Value, net: &Net) -> Result<Proof, FormatFault>
-    ensures { Gives (λ proof. proof) result
+    ensures { GivesRead (λ proof. proof) result
         (proof_at net.now.variables (length net.now.leaves) (view value.now)) }
 {
     let root = Path::Root;
@@ -131,7 +131,7 @@ fn proof_of(alloc: Global, value: &Value, net: &Net) -> Result<Proof, FormatFaul
 /// `false`; of a layer `moves`, `weights`; of a node its word, then how many items it has, then each of them. Each is
 /// examined whole before the next is looked for. Other members are ignored.
 pub fn read_proof(alloc: Global, value: &Value, net: &Net) -> Result<Proof, FormatFault>
-    ensures exact { Gives (λ proof. proof) result
+    ensures exact { GivesRead (λ proof. proof) result
         (proof_at net.now.variables (length net.now.leaves) (view value.now)) }
     ensures within { IfOk result (λ proof. IsProofWithin (length net.now.variables) (length net.now.leaves) proof) }
 

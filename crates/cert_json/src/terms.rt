@@ -2,11 +2,11 @@
 
 ghost use Rattle.std.specs.Prelude.{◌≡◌, ◌-◌, ◌^◌};
 ghost use Rattle.serde_json.specs.View.{view};
-ghost use Rattle.json_shape.specs.Faults.{Gives};
+ghost use Rattle.json_shape.specs.Faults.{GivesRead};
 ghost use Rattle.json_shape.specs.Paths.{path_text};
 ghost use Rattle.json_shape.specs.Shapes.{ascending_at, last_of};
 ghost use Rattle.cert_json.specs.Examined.{index_at, state_at, modulus_at, small_at};
-ghost use Rattle.cert_json.specs.Examined.{terms_at, numbers_of, row_terms_at, states_at};
+ghost use Rattle.cert_json.specs.Examined.{terms_at, numbers_of, row_terms_at, set_states_at};
 
 use cert_base::{SIZE_LIMIT, TERM_LIMIT, Term};
 use json_shape::{
@@ -20,28 +20,28 @@ use std::alloc::Global;
 
 /// The number of a fact, a variable or a move.
 pub(crate) fn index_of(alloc: Global, path: &Path<'_>, value: &Value) -> Result<u32, FormatFault>
-    ensures { Gives (λ n. n) result (index_at (path_text path.now) (view value.now)) }
+    ensures { GivesRead (λ n. n) result (index_at (path_text path.now) (view value.now)) }
 {
     number_of(alloc, path, 0, u32::MAX, value)
 }
 
 /// The number of a state.
 pub(crate) fn state_of(alloc: Global, path: &Path<'_>, value: &Value) -> Result<u16, FormatFault>
-    ensures { Gives (λ n. n) result (state_at (path_text path.now) (view value.now)) }
+    ensures { GivesRead (λ n. n) result (state_at (path_text path.now) (view value.now)) }
 {
     let state = number_of(alloc, path, 0, u32::from(u16::MAX), value)?;
     Ok(state as u16)
 }
 
 pub(crate) fn modulus_of(alloc: Global, path: &Path<'_>, value: &Value) -> Result<u32, FormatFault>
-    ensures { Gives (λ n. n) result (modulus_at (path_text path.now) (view value.now)) }
+    ensures { GivesRead (λ n. n) result (modulus_at (path_text path.now) (view value.now)) }
 {
     number_of(alloc, path, 2, MODULUS_LIMIT, value)
 }
 
 /// A weight, a multiplier, a coefficient or a constant.
 pub(crate) fn small_of(alloc: Global, path: &Path<'_>, value: &Value) -> Result<i64, FormatFault>
-    ensures { Gives (λ z. z) result (small_at (path_text path.now) (view value.now)) }
+    ensures { GivesRead (λ z. z) result (small_at (path_text path.now) (view value.now)) }
 {
     integer_of(alloc, path, SIZE_LIMIT, value)
 }
@@ -81,7 +81,7 @@ pub(crate) fn terms_of(
     path: &Path<'_>,
     value: &Value,
 ) -> Result<List<Term>, FormatFault>
-    ensures { Gives (λ ts. ts) result (terms_at (path_text path.now) (view value.now)) }
+    ensures { GivesRead (λ ts. ts) result (terms_at (path_text path.now) (view value.now)) }
 {
     each_of(alloc, path, 0, TERM_LIMIT, &Terms, value)
 }
@@ -92,7 +92,7 @@ fn variable_of(
     before: Option<u32>,
     value: &Value,
 ) -> Result<u32, FormatFault>
-    ensures { Gives (λ n. n) result (ascending_at (path_text path.now) (2 ^ 32 - 1) before (view value.now)) }
+    ensures { GivesRead (λ n. n) result (ascending_at (path_text path.now) (2 ^ 32 - 1) before (view value.now)) }
 {
     ascending_of(alloc, path, u32::MAX, before, value)
 }
@@ -143,7 +143,7 @@ pub(crate) fn row_terms_of(
     path: &Path<'_>,
     value: &Value,
 ) -> Result<List<Term>, FormatFault>
-    ensures { Gives (λ ts. ts) result (row_terms_at (path_text path.now) (view value.now)) }
+    ensures { GivesRead (λ ts. ts) result (row_terms_at (path_text path.now) (view value.now)) }
 {
     each_of(alloc, path, 0, TERM_LIMIT, &RowTerms, value)
 }
@@ -163,7 +163,7 @@ struct States;
 
 impl ReadItem for States {
     ghost use Rattle.std.specs.Prelude.{⊤};
-    ghost use Rattle.cert_json.specs.Examined.{state_item};
+    ghost use Rattle.cert_json.specs.Examined.{set_state_item};
 
     type Item = u16;
 
@@ -190,7 +190,7 @@ pub(crate) fn states_of(
     path: &Path<'_>,
     value: &Value,
 ) -> Result<List<u16>, FormatFault>
-    ensures { Gives (λ qs. qs) result (states_at (path_text path.now) (view value.now)) }
+    ensures { GivesRead (λ qs. qs) result (set_states_at (path_text path.now) (view value.now)) }
 {
     each_of(alloc, path, 0, STATE_LIMIT, &States, value)
 }

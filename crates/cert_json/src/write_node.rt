@@ -3,7 +3,7 @@
 ghost use Rattle.std.specs.Prelude.{◌≡◌, map, take, IfOk};
 ghost use Rattle.serde_json.specs.View.{view};
 ghost use Rattle.net_json.specs.Written.{numbers_data};
-ghost use Rattle.cert_json.specs.Kinds.{text_of};
+ghost use Rattle.cert_json.specs.Kinds.{kind_text};
 ghost use Rattle.cert_json.specs.Written.{term_data, terms_data, one_part, two_parts, node_data, nodes_data};
 
 use crate::kind::NodeKind;
@@ -38,13 +38,13 @@ fn states_value(alloc: Global, states: &[u16]) -> Result<Value, AllocError>
 }
 
 fn one_value(alloc: Global, kind: NodeKind, part: Value) -> Result<Value, AllocError>
-    ensures { IfOk result (λ v. view v ≡ one_part (text_of kind) (view part)) }
+    ensures { IfOk result (λ v. view v ≡ one_part (kind_text kind) (view part)) }
 {
     json!(in alloc; [kind.text(), part])
 }
 
 fn two_value(alloc: Global, kind: NodeKind, part: Value, rest: Value) -> Result<Value, AllocError>
-    ensures { IfOk result (λ v. view v ≡ two_parts (text_of kind) (view part) (view rest)) }
+    ensures { IfOk result (λ v. view v ≡ two_parts (kind_text kind) (view part) (view rest)) }
 {
     json!(in alloc; [kind.text(), part, rest])
 }

@@ -4,8 +4,8 @@ use Rattle.std.specs.Prelude.{◌==◌}
 use Rattle.std.proofs.lemmas.Bool.{eq-eqb, eqb-true, eqb-false, or_cases, or_parts, false≢true}
 use Rattle.std.proofs.lemmas.Bool.Decides.{eqb_tells}
 use Rattle.pop_net.specs.declared.leaf.Move.{Move}
-use Rattle.pop_net.specs.LeafModel.{one_at, times_in, post}
-use Rattle.cert_layers.specs.Waking.{brings, brings_both}
+use Rattle.pop_net.specs.LeafModel.{one_at, times_in_pair, post}
+use Rattle.cert_layers.specs.Waking.{brings_state, brings_two_states}
 
 -- a state is the same, once, or another, not at all
 abbrev One : ℕ → ℕ → Type 0
@@ -27,12 +27,12 @@ at_other x z ne = elim (one x z) [ inl h ↦ absurd (ne h.0) | inr h ↦ h.1 ]
 abbrev pub Like : ℕ → ℕ → ℕ → ℕ → Type 0
 Like a b x y = ((x ≡ a) × (y ≡ b)) ⊎ ((x ≡ b) × (y ≡ a))
 
-pub times-like : (a b x y z : ℕ) → Like a b x y → times_in a b z ≡ times_in x y z
+pub times-like : (a b x y z : ℕ) → Like a b x y → times_in_pair a b z ≡ times_in_pair x y z
 times-like a b x y z (inl h) = rw (h.0, h.1) refl
 times-like a b x y z (inr h) = rw (h.0, h.1) (omega arith)
 
 -- a pair that is within another pair is that pair
-pub within_two : (a b p q : ℕ) → ((z : ℕ) → times_in a b z ≤ times_in p q z) → Like a b p q
+pub within_two : (a b p q : ℕ) → ((z : ℕ) → times_in_pair a b z ≤ times_in_pair p q z) → Like a b p q
 within_two a b p q each = by_a (one p a)
   where
     by_q : p ≢ a → q ≡ a → Like a b p q
@@ -61,7 +61,7 @@ within_two a b p q each = by_a (one p a)
 abbrev pub TwoOf : ℕ → ℕ → ℕ → ℕ → ℕ → Type 0
 TwoOf a b p q o = Like a b p q ⊎ (Like a b p o ⊎ Like a b q o)
 
-pub within_three : (a b p q o : ℕ) → ((z : ℕ) → times_in a b z ≤ times_in p q z + one_at o z) → TwoOf a b p q o
+pub within_three : (a b p q o : ℕ) → ((z : ℕ) → times_in_pair a b z ≤ times_in_pair p q z + one_at o z) → TwoOf a b p q o
 within_three a b p q o each = by_a (one p a)
   where
     -- a is p
@@ -114,17 +114,17 @@ within_three a b p q o each = by_a (one p a)
     ]
 
 -- what a move that brings m leaves of m and o
-module _ (t : Move) (m o : ℕ) (b : brings t m ≡ true) where
+module _ (t : Move) (m o : ℕ) (b : brings_state t m ≡ true) where
   brings_second : (m == t.r) ≡ false → m ≡ t.s
   brings_second e = elim (or_cases (m == t.r) (m == t.s) b) [
     | inl h ↦ absurd (false≢true (sym e ∙ h))
     | inr h ↦ eqb-true m t.s h
   ]
 
-  pub left_none : brings_both t m o ≡ true → (z : ℕ) → times_in m o z - post t z ≡ 0
+  pub left_none : brings_two_states t m o ≡ true → (z : ℕ) → times_in_pair m o z - post t z ≡ 0
   left_none both z = by_first (m == t.r) refl both
     where
-      by_first : (first : Bool) → (m == t.r) ≡ first → (if first then o == t.s else o == t.r) ≡ true → times_in m o z - post t z ≡ 0
+      by_first : (first : Bool) → (m == t.r) ≡ first → (if first then o == t.s else o == t.r) ≡ true → times_in_pair m o z - post t z ≡ 0
       by_first true e f = rw (eqb-true m t.r e, eqb-true o t.s f) (omega arith)
       by_first false e f = rw (brings_second e, eqb-true o t.r f) (omega arith)
 
@@ -135,10 +135,10 @@ module _ (t : Move) (m o : ℕ) (b : brings t m ≡ true) where
     | inr h ↦ omega (arith, h.1)
   ]
 
-  pub left_one : brings_both t m o ≡ false → (z : ℕ) → times_in m o z - post t z ≡ one_at o z
+  pub left_one : brings_two_states t m o ≡ false → (z : ℕ) → times_in_pair m o z - post t z ≡ one_at o z
   left_one both z = by_first (m == t.r) refl both
     where
-      by_first : (first : Bool) → (m == t.r) ≡ first → (if first then o == t.s else o == t.r) ≡ false → times_in m o z - post t z ≡ one_at o z
+      by_first : (first : Bool) → (m == t.r) ≡ first → (if first then o == t.s else o == t.r) ≡ false → times_in_pair m o z - post t z ≡ one_at o z
       by_first true e f =
           let same : one_at m z ≡ one_at t.r z = ap (λ x. one_at x z) (eqb-true m t.r e) in
           omega (arith, stays t.s (eqb-false o t.s f) z, same)
@@ -147,16 +147,16 @@ module _ (t : Move) (m o : ℕ) (b : brings t m ≡ true) where
           omega (arith, stays t.r (eqb-false o t.r f) z, same)
 
 -- a move that brings neither x nor y leaves both
-pub left_both : (t : Move) (x y : ℕ) → brings t x ≡ false → brings t y ≡ false → (z : ℕ) → times_in x y z - post t z ≡ times_in x y z
+pub left_both : (t : Move) (x y : ℕ) → brings_state t x ≡ false → brings_state t y ≡ false → (z : ℕ) → times_in_pair x y z - post t z ≡ times_in_pair x y z
 left_both t x y b c z = elim (one t.r z) [
   | inl h ↦ (let none = absent t.r (eqb-false x t.r (or_parts (x == t.r) (x == t.s) b).0) (eqb-false y t.r (or_parts (y == t.r) (y == t.s) c).0) h.0 in omega (arith, none))
-  | inr h ↦ elim (one t.s z) as (λ _. times_in x y z - post t z ≡ times_in x y z) [
+  | inr h ↦ elim (one t.s z) as (λ _. times_in_pair x y z - post t z ≡ times_in_pair x y z) [
     | inl k ↦ (let none = absent t.s (eqb-false x t.s (or_parts (x == t.r) (x == t.s) b).1) (eqb-false y t.s (or_parts (y == t.r) (y == t.s) c).1) k.0 in omega (arith, none))
     | inr k ↦ omega (arith, h.1, k.1)
   ]
 ]
   where
-    absent : (r : ℕ) → x ≢ r → y ≢ r → r ≡ z → times_in x y z ≡ 0
+    absent : (r : ℕ) → x ≢ r → y ≢ r → r ≡ z → times_in_pair x y z ≡ 0
     absent r ne ne' e =
         let none : one_at x z ≡ 0 = at_other x z (λ f. ne (f ∙ sym e)) in
         let none' : one_at y z ≡ 0 = at_other y z (λ f. ne' (f ∙ sym e)) in

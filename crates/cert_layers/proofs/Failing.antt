@@ -10,7 +10,7 @@ use Rattle.pop_net.proofs.FirstFault.{none_below}
 use Rattle.cert_base.specs.declared.layer.Layer.{Layer}
 use Rattle.cert_layers.specs.LayerFaults.{ListedAt, LowerAt, SleepsAt, Each, IsFirstFailing, IsLayerFault}
 use Rattle.cert_layers.specs.MoveLayers.{AreMoveLayers, FindsMoveLayers}
-use Rattle.cert_layers.specs.Search.{is_unlisted, not_lower}
+use Rattle.cert_layers.specs.Search.{is_unlisted_move, not_lower}
 use Rattle.cert_layers.specs.Waking.{IsWakingTable, FindsWaking}
 use Rattle.cert_layers.specs.declared.fault.LayerFault.{LayerFault}
 use Rattle.cert_layers.specs.declared.fault.LayerFault.TheVariants.{Shape, NoLayer, NotLower, Wakes, NoMemory}
@@ -32,12 +32,12 @@ handed (Ok x) fault P is h = tt
 handed (Err e) fault P is h = rw is h
 
 module _ (leaf : LeafModel) (layers : List Layer) (layer_of_move : List (Option ℕ)) (p : AreMoveLayers leaf layers layer_of_move) where
-  pub all_listed : first_below (length leaf.moves) (is_unlisted leaf layer_of_move) ≡ None → Each (ListedAt leaf layers)
-  all_listed e n t move loud = unlisted-no leaf layers layer_of_move n p ((none_below (length leaf.moves) (is_unlisted leaf layer_of_move)).0 e n (slice_get_within leaf.moves n t move)) t move loud
+  pub all_listed : first_below (length leaf.moves) (is_unlisted_move leaf layer_of_move) ≡ None → Each (ListedAt leaf layers)
+  all_listed e n t move loud = unlisted-no leaf layers layer_of_move n p ((none_below (length leaf.moves) (is_unlisted_move leaf layer_of_move)).0 e n (slice_get_within leaf.moves n t move)) t move loud
 
-  pub first_not_listed : (n : ℕ) → first_below (length leaf.moves) (is_unlisted leaf layer_of_move) ≡ Some n → IsFirstFailing (ListedAt leaf layers) n
+  pub first_not_listed : (n : ℕ) → first_below (length leaf.moves) (is_unlisted_move leaf layer_of_move) ≡ Some n → IsFirstFailing (ListedAt leaf layers) n
   first_not_listed n e =
-      let f = first_below-Some (length leaf.moves) (is_unlisted leaf layer_of_move) n e in
+      let f = first_below-Some (length leaf.moves) (is_unlisted_move leaf layer_of_move) n e in
       (unlisted-yes leaf layers layer_of_move n p f.1, λ k l. unlisted-no leaf layers layer_of_move k p (f.2 k l))
 
   pub all_lower : first_below (length leaf.moves) (not_lower leaf layers layer_of_move) ≡ None → Each (LowerAt leaf layers)

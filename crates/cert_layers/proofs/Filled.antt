@@ -8,9 +8,9 @@ use Rattle.std.proofs.Math.Seq.{take-suc, take-length}
 use Rattle.std.proofs.lemmas.Option.{get_or_from_slice_get, slice_get_within}
 use Rattle.pop_net.specs.LeafModel.{LeafModel}
 use Rattle.cert_base.specs.declared.layer.Layer.{Layer}
-use Rattle.cert_base.specs.ValidLayers.{listed}
+use Rattle.cert_base.specs.ValidLayers.{moves_of_layers}
 use Rattle.cert_layers.specs.LayerFaults.{IsShaped, ShapedAt, IsFirstFailing}
-use Rattle.cert_layers.specs.MoveLayers.{layer_of, enter_all, enter_layer, AreMoveLayers}
+use Rattle.cert_layers.specs.MoveLayers.{layer_of, enter_all, entered_layer, AreMoveLayers}
 use Rattle.cert_layers.proofs.Entries.{Apart, Holds, tagged, holds-enter_all, fails-enter_all}
 
 -- the entries of the layers, of which the first has number i
@@ -42,7 +42,7 @@ first_of_tagged i [] = refl
 first_of_tagged i (n ∷ ns) = ap (λ ms. n ∷ ms) (first_of_tagged i ns)
 
 -- the moves of the entries are those that the layers list
-listed-tags : (i : ℕ) (layers : List Layer) → map (λ (e : ℕ × ℕ). e.0) (tags i layers) ≡ listed layers
+listed-tags : (i : ℕ) (layers : List Layer) → map (λ (e : ℕ × ℕ). e.0) (tags i layers) ≡ moves_of_layers layers
 listed-tags i [] = refl
 listed-tags i (layer ∷ layers) =
     map-append (λ (e : ℕ × ℕ). e.0) (tagged i layer.moves) (tags (suc i) layers)
@@ -125,20 +125,20 @@ filled-none leaf layers =
       shaped = λ k l. absurd (omega arith);
     }
 
-layer_entered : (states : ℕ) (layer_of_move : List (Option ℕ)) (i : ℕ) (layer : Layer) (more : List (Option ℕ)) → enter_layer states layer_of_move i layer ≡ Some more → (length layer.weights ≡ states) × (enter_all layer_of_move i layer.moves ≡ Some more)
+layer_entered : (states : ℕ) (layer_of_move : List (Option ℕ)) (i : ℕ) (layer : Layer) (more : List (Option ℕ)) → entered_layer states layer_of_move i layer ≡ Some more → (length layer.weights ≡ states) × (enter_all layer_of_move i layer.moves ≡ Some more)
 layer_entered states layer_of_move i layer more is = by_test (length layer.weights == states) refl is
   where
     by_test : (b : Bool) → (length layer.weights == states) ≡ b → (if b then enter_all layer_of_move i layer.moves else None) ≡ Some more → (length layer.weights ≡ states) × (enter_all layer_of_move i layer.moves ≡ Some more)
     by_test true e h = (eqb-true (length layer.weights) states e, h)
     by_test false e h = cc
 
-layer_refused : (states : ℕ) (layer_of_move : List (Option ℕ)) (i : ℕ) (layer : Layer) → enter_layer states layer_of_move i layer ≡ None → length layer.weights ≡ states → enter_all layer_of_move i layer.moves ≡ None
+layer_refused : (states : ℕ) (layer_of_move : List (Option ℕ)) (i : ℕ) (layer : Layer) → entered_layer states layer_of_move i layer ≡ None → length layer.weights ≡ states → enter_all layer_of_move i layer.moves ≡ None
 layer_refused states layer_of_move i layer is long =
     let test = eq-eqb (length layer.weights) states long in
     sym (ap (λ b. if b then enter_all layer_of_move i layer.moves else None) test) ∙ is
 
 -- one more layer
-pub filled-enter : (leaf : LeafModel) (layers : List Layer) (i : ℕ) (layer_of_move : List (Option ℕ)) (layer : Layer) (more : List (Option ℕ)) → Filled leaf layers i layer_of_move → slice_get layers i ≡ Some layer → enter_layer (length leaf.states) layer_of_move i layer ≡ Some more → Filled leaf layers (i + 1) more
+pub filled-enter : (leaf : LeafModel) (layers : List Layer) (i : ℕ) (layer_of_move : List (Option ℕ)) (layer : Layer) (more : List (Option ℕ)) → Filled leaf layers i layer_of_move → slice_get layers i ≡ Some layer → entered_layer (length leaf.states) layer_of_move i layer ≡ Some more → Filled leaf layers (i + 1) more
 filled-enter leaf layers i layer_of_move layer more filled is entered =
     record { holds = holds; shaped = shaped }
   where
@@ -172,7 +172,7 @@ filled-enter leaf layers i layer_of_move layer more filled is entered =
             rw (same, ← same_layer) here
 
 -- a layer that is refused is the first out of shape
-pub filled-refused : (leaf : LeafModel) (layers : List Layer) (i : ℕ) (layer_of_move : List (Option ℕ)) (layer : Layer) → Filled leaf layers i layer_of_move → slice_get layers i ≡ Some layer → enter_layer (length leaf.states) layer_of_move i layer ≡ None → IsFirstFailing (ShapedAt leaf layers) i
+pub filled-refused : (leaf : LeafModel) (layers : List Layer) (i : ℕ) (layer_of_move : List (Option ℕ)) (layer : Layer) → Filled leaf layers i layer_of_move → slice_get layers i ≡ Some layer → entered_layer (length leaf.states) layer_of_move i layer ≡ None → IsFirstFailing (ShapedAt leaf layers) i
 filled-refused leaf layers i layer_of_move layer filled is refused = (no, filled.shaped)
   where
     no : ShapedAt leaf layers i → ⊥

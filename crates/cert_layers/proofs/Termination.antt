@@ -18,8 +18,8 @@ use Rattle.pop_net.specs.Terminal.{IsTerminal}
 use Rattle.pop_net.proofs.Quiet.{All-slice_get, set_same}
 use Rattle.pop_net.proofs.Tuples.{meets_length}
 use Rattle.cert_base.specs.declared.layer.Layer.{Layer}
-use Rattle.cert_base.specs.ProofBound.{spread, layers_bound}
-use Rattle.cert_base.specs.ValidLayers.{IsLower, weight_at, listed, IsInLayer, ValidLayers}
+use Rattle.cert_base.specs.ProofBound.{weights_spread, layers_bound}
+use Rattle.cert_base.specs.ValidLayers.{IsLower, weight_at, moves_of_layers, IsInLayer, ValidLayers}
 use Rattle.cert_base.proofs.Agents.{enabled_test, agents_of, enabled_test-true, move_change, move_step, InRange, move_in_range}
 use Rattle.cert_base.proofs.Dead.{AreDead, stay_dead, two_there}
 use Rattle.cert_base.proofs.Numbers.{before_pre}
@@ -167,13 +167,13 @@ leads-append S c [] d ys e way more = subst (λ x. Leads S x ys e) way more
 leads-append S c (x ∷ xs) d ys e way more = (way.0, leads-append S x xs d ys e way.1 more)
 
 -- a layer takes no more steps than its spread times the number of agents
-layer_ends : (leaf : LeafModel) (layers : List Layer) → IsLeaf leaf → ValidLayers leaf layers → (i : ℕ) (layer : Layer) → slice_get layers i ≡ Some layer → (crowd : List ℕ) → InRange leaf crowd → AreDead leaf layers i crowd → Ended leaf layers (suc i) crowd (spread layer.weights * length crowd)
+layer_ends : (leaf : LeafModel) (layers : List Layer) → IsLeaf leaf → ValidLayers leaf layers → (i : ℕ) (layer : Layer) → slice_get layers i ≡ Some layer → (crowd : List ℕ) → InRange leaf crowd → AreDead leaf layers i crowd → Ended leaf layers (suc i) crowd (weights_spread layer.weights * length crowd)
 layer_ends leaf layers is v i layer h crowd range dead =
     let w = within layer.weights in
     let long = All-slice_get (λ (l : Layer). length l.weights ≡ length leaf.states) layers i layer v.weights h in
     let below = total-below layer.weights w.high crowd w.below (rw long range) in
-    let product : (w.high *ℤ pos (length crowd)) ≡ ((w.low *ℤ pos (length crowd)) +ℤ pos (spread layer.weights * length crowd)) = ap (λ z. z *ℤ pos (length crowd)) w.apart ∙ add-mul w.low (pos (spread layer.weights)) (pos (length crowd)) ∙ ap (λ z. (w.low *ℤ pos (length crowd)) +ℤ z) (pos-*ℤ-pos (spread layer.weights) (length crowd)) in
-    run_layer leaf layers is v i layer h w.low w.above (spread layer.weights * length crowd) crowd range dead (omega (arith, ints, below, product))
+    let product : (w.high *ℤ pos (length crowd)) ≡ ((w.low *ℤ pos (length crowd)) +ℤ pos (weights_spread layer.weights * length crowd)) = ap (λ z. z *ℤ pos (length crowd)) w.apart ∙ add-mul w.low (pos (weights_spread layer.weights)) (pos (length crowd)) ∙ ap (λ z. (w.low *ℤ pos (length crowd)) +ℤ z) (pos-*ℤ-pos (weights_spread layer.weights) (length crowd)) in
+    run_layer leaf layers is v i layer h w.low w.above (weights_spread layer.weights * length crowd) crowd range dead (omega (arith, ints, below, product))
 
 -- the layers from layer i on, one after the other
 layers_end : (leaf : LeafModel) (layers : List Layer) → IsLeaf leaf → ValidLayers leaf layers → (rest : List Layer) (i : ℕ) → ((j : ℕ) (layer : Layer) → slice_get rest j ≡ Some layer → slice_get layers (i + j) ≡ Some layer) → (crowd : List ℕ) → InRange leaf crowd → AreDead leaf layers i crowd → Ended leaf layers (i + length rest) crowd (layers_bound rest * length crowd)
@@ -192,8 +192,8 @@ layers_end leaf layers is v (layer ∷ rest) i h crowd range dead =
     let first = layer_ends leaf layers is v i layer here crowd range dead in
     let next : (j : ℕ) (other : Layer) → slice_get rest j ≡ Some other → slice_get layers (suc i + j) ≡ Some other = λ j other k. subst (λ (n : ℕ). slice_get layers n ≡ Some other) (let e : i + suc j ≡ suc i + j = omega arith in e) (h (suc j) other k) in
     let more = layers_end leaf layers is v rest (suc i) next first.end first.range first.dead in
-    let bound = sum_by-cons (λ (l : Layer). spread l.weights) layer rest in
-    let product : layers_bound (layer ∷ rest) * length crowd ≡ spread layer.weights * length crowd + layers_bound rest * length crowd = ap (λ n. n * length crowd) bound ∙ nat.add-mul (spread layer.weights) (layers_bound rest) (length crowd) in
+    let bound = sum_by-cons (λ (l : Layer). weights_spread l.weights) layer rest in
+    let product : layers_bound (layer ∷ rest) * length crowd ≡ weights_spread layer.weights * length crowd + layers_bound rest * length crowd = ap (λ n. n * length crowd) bound ∙ nat.add-mul (weights_spread layer.weights) (layers_bound rest) (length crowd) in
     let size : layers_bound rest * length first.end ≡ layers_bound rest * length crowd = ap (λ n. layers_bound rest * n) first.size in
     record {
       end = more.end;
@@ -209,11 +209,11 @@ layers_end leaf layers is v (layer ∷ rest) i h crowd range dead =
 abbrev Listed : List Layer → ℕ → Type 0
 Listed layers n = (i : ℕ) × (layer : Layer) × (slice_get layers i ≡ Some layer) × Contains layer.moves n
 
-pub listed_at : (layers : List Layer) (n : ℕ) → Contains (listed layers) n → Listed layers n
+pub listed_at : (layers : List Layer) (n : ℕ) → Contains (moves_of_layers layers) n → Listed layers n
 listed_at [] n c = absurd (omega (arith, c.1))
-listed_at (layer ∷ layers) n c = go (Contains-append_cases layer.moves (listed layers) n c) (listed_at layers n)
+listed_at (layer ∷ layers) n c = go (Contains-append_cases layer.moves (moves_of_layers layers) n c) (listed_at layers n)
   where
-    go : Contains layer.moves n ⊎ Contains (listed layers) n → (Contains (listed layers) n → Listed layers n) → Listed (layer ∷ layers) n
+    go : Contains layer.moves n ⊎ Contains (moves_of_layers layers) n → (Contains (moves_of_layers layers) n → Listed layers n) → Listed (layer ∷ layers) n
     go (inl here) more = (0, layer, refl, here)
     go (inr there) more = let m = more there in (suc m.0, m.1, m.2, m.3)
 

@@ -9,7 +9,7 @@ use Rattle.std.proofs.lemmas.Option.{slice_get-get_or}
 use Rattle.pop_net.specs.LeafModel.{LeafModel, IsLeaf}
 use Rattle.pop_net.proofs.Quiet.{All-slice_get}
 use Rattle.cert_base.specs.declared.layer.Layer.{Layer}
-use Rattle.cert_base.specs.ValidLayers.{listed, ValidLayers}
+use Rattle.cert_base.specs.ValidLayers.{moves_of_layers, ValidLayers}
 use Rattle.cert_base.specs.ProofBound.{layers_bound}
 use Rattle.cert_layers.specs.LayerFaults.{ShapedAt, ListedAt, LowerAt, SleepsAt, Each, IsLayerFault, EndsWithin}
 use Rattle.cert_layers.specs.declared.fault.LayerFault.{LayerFault}
@@ -21,18 +21,18 @@ use Rattle.cert_layers.proofs.Termination.{listed_at, valid_layers-end}
 All-each : {X : Type 0} (P : X → Type 0) (xs : List X) → ((x : X) → Contains xs x → P x) → All P xs
 All-each P xs each k d l = each (get_or xs k d) (k, l, get_or_default xs k (get_or xs k d) d l)
 
-once_all : (leaf : LeafModel) (layers : List Layer) → Each (ShapedAt leaf layers) → AllPairs ◌≢◌ (listed layers)
+once_all : (leaf : LeafModel) (layers : List Layer) → Each (ShapedAt leaf layers) → AllPairs ◌≢◌ (moves_of_layers layers)
 once_all leaf [] shaped = λ i j d before within. absurd (omega arith)
 once_all leaf (layer ∷ layers) shaped =
     let last = length layers in
     let got = slice_get-get_or (layer ∷ layers) last layer (let l : last < suc (length layers) = omega arith in l) in
     let whole : take (last + 1) (layer ∷ layers) ≡ layer ∷ layers = ap (λ n. take n (layer ∷ layers)) (let e : last + 1 ≡ suc (length layers) = omega arith in e) ∙ take-length (layer ∷ layers) in
-    subst (λ (ls : List Layer). AllPairs ◌≢◌ (listed ls)) whole (shaped last (get_or (layer ∷ layers) last layer) got).once
+    subst (λ (ls : List Layer). AllPairs ◌≢◌ (moves_of_layers ls)) whole (shaped last (get_or (layer ∷ layers) last layer) got).once
 
 pub valid-each : (leaf : LeafModel) (layers : List Layer) → Each (ShapedAt leaf layers) → Each (ListedAt leaf layers) → Each (LowerAt leaf layers) → Each (λ n. Each (SleepsAt leaf layers n)) → ValidLayers leaf layers
 valid-each leaf layers shaped all lower sleeps = record {
   weights = λ k d l. (shaped k (get_or layers k d) (slice_get-get_or layers k d l)).weights;
-  in_range = All-each (λ (n : ℕ). n < length leaf.moves) (listed layers) (λ n c. let f = listed_at layers n c in All-contains (λ (n : ℕ). n < length leaf.moves) f.1.moves n (shaped f.0 f.1 f.2).in_range f.3);
+  in_range = All-each (λ (n : ℕ). n < length leaf.moves) (moves_of_layers layers) (λ n c. let f = listed_at layers n c in All-contains (λ (n : ℕ). n < length leaf.moves) f.1.moves n (shaped f.0 f.1 f.2).in_range f.3);
   once = once_all leaf layers shaped;
   all = all;
   lower = λ i t at. lower at.number i t at refl;
@@ -47,10 +47,10 @@ module _ (leaf : LeafModel) (layers : List Layer) (v : ValidLayers leaf layers) 
   each-shaped : Each (ShapedAt leaf layers)
   each-shaped n layer is = record {
     weights = All-slice_get (λ (l : Layer). length l.weights ≡ length leaf.states) layers n layer v.weights is;
-    in_range = All-each (λ (number : ℕ). number < length leaf.moves) layer.moves (λ number c. All-contains (λ (number : ℕ). number < length leaf.moves) (listed layers) number v.in_range (contains-listed layers n number layer is c));
+    in_range = All-each (λ (number : ℕ). number < length leaf.moves) layer.moves (λ number c. All-contains (λ (number : ℕ). number < length leaf.moves) (moves_of_layers layers) number v.in_range (contains-listed layers n number layer is c));
     once =
-        pairs-front (listed (take (n + 1) layers)) (listed (drop (n + 1) layers))
-        (subst (λ (ns : List ℕ). AllPairs ◌≢◌ ns) (ap listed (sym (take-append-drop (n + 1) layers)) ∙ flat_map-append (λ (layer : Layer). layer.moves) (take (n + 1) layers) (drop (n + 1) layers)) v.once);
+        pairs-front (moves_of_layers (take (n + 1) layers)) (moves_of_layers (drop (n + 1) layers))
+        (subst (λ (ns : List ℕ). AllPairs ◌≢◌ ns) (ap moves_of_layers (sym (take-append-drop (n + 1) layers)) ∙ flat_map-append (λ (layer : Layer). layer.moves) (take (n + 1) layers) (drop (n + 1) layers)) v.once);
   }
 
   -- valid layers fail nowhere

@@ -7,7 +7,7 @@ use Rattle.pop_net.specs.Reachable.{ReachedWithin}
 use Rattle.pop_net.specs.Terminal.{IsTerminal}
 use Rattle.cert_base.specs.declared.limits.TheConstants.{SIZE_LIMIT}
 use Rattle.cert_base.specs.declared.layer.Layer.{Layer}
-use Rattle.cert_base.specs.ValidLayers.{listed, IsInLayer, IsLower, IsEnabledBefore}
+use Rattle.cert_base.specs.ValidLayers.{moves_of_layers, IsInLayer, IsLower, IsEnabledBefore}
 use Rattle.cert_layers.specs.declared.fault.LayerFault.{LayerFault}
 use Rattle.cert_layers.specs.declared.fault.LayerFault.TheVariants.{Shape, NoLayer, NotLower, Wakes, NoMemory}
 
@@ -15,14 +15,14 @@ use Rattle.cert_layers.specs.declared.fault.LayerFault.TheVariants.{Shape, NoLay
 pub record IsShaped (leaf : LeafModel) (layers : List Layer) (n : ℕ) (layer : Layer) : Type 0 where
   pub weights : length layer.weights ≡ length leaf.states
   pub in_range : All (λ number. number < length leaf.moves) layer.moves
-  pub once : AllPairs ◌≢◌ (listed (take (n + 1) layers))
+  pub once : AllPairs ◌≢◌ (moves_of_layers (take (n + 1) layers))
 
 abbrev pub ShapedAt : LeafModel → List Layer → ℕ → Type 0
 ShapedAt leaf layers n = (layer : Layer) → slice_get layers n ≡ Some layer → IsShaped leaf layers n layer
 
 -- a non-silent move with number n is listed
 abbrev pub ListedAt : LeafModel → List Layer → ℕ → Type 0
-ListedAt leaf layers n = (t : Move) → slice_get leaf.moves n ≡ Some t → silent_move t ≡ false → Contains (listed layers) n
+ListedAt leaf layers n = (t : Move) → slice_get leaf.moves n ≡ Some t → silent_move t ≡ false → Contains (moves_of_layers layers) n
 
 -- a non-silent move with number n lowers the weights of its layer
 abbrev pub LowerAt : LeafModel → List Layer → ℕ → Type 0

@@ -21,8 +21,8 @@ enter_all layer_of_move layer [] = Some layer_of_move
 enter_all layer_of_move layer (n ∷ ns) = option_and_then (λ more. enter_all more layer ns) (enter layer_of_move layer n)
 
 -- the layers of the moves, where all layers have their shape, or the first layer that hasn't
-abbrev pub enter_layer : ℕ → List (Option ℕ) → ℕ → Layer → Option (List (Option ℕ))
-enter_layer states layer_of_move i layer = if length layer.weights == states then enter_all layer_of_move i layer.moves else None
+abbrev pub entered_layer : ℕ → List (Option ℕ) → ℕ → Layer → Option (List (Option ℕ))
+entered_layer states layer_of_move i layer = if length layer.weights == states then enter_all layer_of_move i layer.moves else None
 
 -- each move's layer, if one lists it; all layers have their shape
 pub record AreMoveLayers (leaf : LeafModel) (layers : List Layer) (layer_of_move : List (Option ℕ)) : Type 0 where

@@ -25,14 +25,14 @@ some_layer test None = false
 some_layer test (Some i) = test i
 
 -- whether a non-silent move has number n and stands in no layer
-abbrev pub is_unlisted : LeafModel → List (Option ℕ) → ℕ → Bool
-is_unlisted leaf layer_of_move n = some_move (λ t. not (is_some (layer_of layer_of_move n))) (slice_get leaf.moves n)
+abbrev pub is_unlisted_move : LeafModel → List (Option ℕ) → ℕ → Bool
+is_unlisted_move leaf layer_of_move n = some_move (λ t. not (is_some (layer_of layer_of_move n))) (slice_get leaf.moves n)
 
 -- whether a move weighs less after it than before
-abbrev pub is_lower : List ℤ → Move → Bool
-is_lower w t = int_lt (weight_at w t.r +ℤ weight_at w t.s) (weight_at w t.p +ℤ weight_at w t.q)
+abbrev pub is_lower_after : List ℤ → Move → Bool
+is_lower_after w t = int_lt (weight_at w t.r +ℤ weight_at w t.s) (weight_at w t.p +ℤ weight_at w t.q)
 
 -- whether a non-silent move has number n, stands in a layer, and doesn't lower its weights
 abbrev pub not_lower : LeafModel → List Layer → List (Option ℕ) → ℕ → Bool
 not_lower leaf layers layer_of_move n =
-    some_move (λ t. some_layer (λ i. not (is_lower (layer_at layers i).weights t)) (layer_of layer_of_move n)) (slice_get leaf.moves n)
+    some_move (λ t. some_layer (λ i. not (is_lower_after (layer_at layers i).weights t)) (layer_of layer_of_move n)) (slice_get leaf.moves n)

@@ -44,42 +44,42 @@ abbrev pub is_early : List ℕ → ℕ → ℕ → ℕ → Bool
 is_early table i x y = nat_lt (first_at table x y) i
 
 -- whether a move brings the state x
-abbrev pub brings : Move → ℕ → Bool
-brings t x = x == t.r || x == t.s
+abbrev pub brings_state : Move → ℕ → Bool
+brings_state t x = x == t.r || x == t.s
 
 -- whether a move that brings m brings o beside it
-abbrev pub brings_both : Move → ℕ → ℕ → Bool
-brings_both t m o = if m == t.r then o == t.s else o == t.r
+abbrev pub brings_two_states : Move → ℕ → ℕ → Bool
+brings_two_states t m o = if m == t.r then o == t.s else o == t.r
 
 -- t brings m; no early move takes two of the states of t and of o, where t doesn't bring that too
-abbrev pub wakes_with : (ℕ → ℕ → Bool) → Move → ℕ → ℕ → Bool
-wakes_with early t m o = not (early t.p t.q || (not (brings_both t m o) && (early t.p o || early t.q o)))
+abbrev pub wakes_with_state : (ℕ → ℕ → Bool) → Move → ℕ → ℕ → Bool
+wakes_with_state early t m o = not (early t.p t.q || (not (brings_two_states t m o) && (early t.p o || early t.q o)))
 
 -- whether t wakes a move that takes x and y
-abbrev pub wakes : (ℕ → ℕ → Bool) → Move → ℕ → ℕ → Bool
-wakes early t x y = if brings t x then wakes_with early t x y else (brings t y && wakes_with early t y x)
+abbrev pub wakes_states : (ℕ → ℕ → Bool) → Move → ℕ → ℕ → Bool
+wakes_states early t x y = if brings_state t x then wakes_with_state early t x y else (brings_state t y && wakes_with_state early t y x)
 
 -- whether t, in layer i, wakes the move with number m, of an earlier layer
-abbrev pub wakes_move : LeafModel → List (Option ℕ) → List ℕ → ℕ → Move → ℕ → Bool
-wakes_move leaf layer_of_move table i t m =
-    some_move (λ u. some_layer (λ j. nat_lt j i && wakes (is_early table i) t u.p u.q) (layer_of layer_of_move m)) (slice_get leaf.moves m)
+abbrev pub wakes_numbered : LeafModel → List (Option ℕ) → List ℕ → ℕ → Move → ℕ → Bool
+wakes_numbered leaf layer_of_move table i t m =
+    some_move (λ u. some_layer (λ j. nat_lt j i && wakes_states (is_early table i) t u.p u.q) (layer_of layer_of_move m)) (slice_get leaf.moves m)
 
 -- whether the move with number n wakes the move with number m, of an earlier layer
 abbrev pub wakes_at : LeafModel → List (Option ℕ) → List ℕ → ℕ → ℕ → Bool
 wakes_at leaf layer_of_move table n m =
-    some_move (λ t. some_layer (λ i. wakes_move leaf layer_of_move table i t m) (layer_of layer_of_move n)) (slice_get leaf.moves n)
+    some_move (λ t. some_layer (λ i. wakes_numbered leaf layer_of_move table i t m) (layer_of layer_of_move n)) (slice_get leaf.moves n)
 
 -- whether t wakes an early move that takes x and y
 abbrev pub wakes_early : (ℕ → ℕ → Bool) → Move → ℕ → ℕ → Bool
-wakes_early early t x y = early x y && wakes early t x y
+wakes_early early t x y = early x y && wakes_states early t x y
 
 -- whether t wakes an early move that takes y beside a state that t brings
-abbrev pub wakes_beside : (ℕ → ℕ → Bool) → Move → ℕ → Bool
-wakes_beside early t y = wakes_early early t t.r y || wakes_early early t t.s y
+abbrev pub wakes_beside_state : (ℕ → ℕ → Bool) → Move → ℕ → Bool
+wakes_beside_state early t y = wakes_early early t t.r y || wakes_early early t t.s y
 
 -- whether t wakes an early move at all
-abbrev pub may_wake : (ℕ → ℕ → Bool) → Move → ℕ → Bool
-may_wake early t states = not (early t.p t.q) && list_any (wakes_beside early t) (range_with_len 0 states)
+abbrev pub may_wake_any : (ℕ → ℕ → Bool) → Move → ℕ → Bool
+may_wake_any early t states = not (early t.p t.q) && list_any (wakes_beside_state early t) (range_with_len 0 states)
 
 -- the least number that passes a test, if one does
 abbrev pub FindsFirst : (ℕ → Bool) → Option ℕ → Type 0

@@ -2,7 +2,7 @@
 
 ghost use Rattle.std.specs.Prelude.{◌≡◌, ◌≤◌, ◌*◌, length, All, fold};
 ghost use Rattle.std.specs.Int.{int_max, int_min};
-ghost use Rattle.cert_base.specs.ProofBound.{spread as weights_spread, layers_bound};
+ghost use Rattle.cert_base.specs.ProofBound.{weights_spread, layers_bound};
 ghost use Rattle.cert_layers.specs.LayerFaults.{IsWeight};
 
 use cert_base::{LAYER_LIMIT, Layer, SIZE_LIMIT};

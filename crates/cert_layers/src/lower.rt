@@ -6,7 +6,7 @@ ghost use Rattle.pop_net.specs.FirstFault.{first_below};
 ghost use Rattle.pop_net.specs.LeafModel.{IsLeaf};
 ghost use Rattle.cert_layers.specs.LayerFaults.{IsWeight};
 ghost use Rattle.cert_layers.specs.MoveLayers.{AreMoveLayers};
-ghost use Rattle.cert_layers.specs.Search.{is_unlisted as unlisted, is_lower as lower, not_lower};
+ghost use Rattle.cert_layers.specs.Search.{is_unlisted_move, is_lower_after, not_lower};
 
 use cert_base::Layer;
 use pop_net::{Leaf, Move};
@@ -14,7 +14,7 @@ use pop_net::{Leaf, Move};
 /// The least non-silent move in no layer.
 pub(crate) fn first_unlisted(leaf: &Leaf, layer_of_move: &[Option<u16>]) -> Option<u32>
     requires { length layer_of_move.now ≡ length leaf.now.moves }
-    ensures { result ≡ first_below (length leaf.now.moves) (unlisted leaf.now layer_of_move.now) }
+    ensures { result ≡ first_below (length leaf.now.moves) (is_unlisted_move leaf.now layer_of_move.now) }
 {
     (0..leaf.move_count()).find(|t| is_unlisted(leaf, layer_of_move, *t))
 }
@@ -22,7 +22,7 @@ pub(crate) fn first_unlisted(leaf: &Leaf, layer_of_move: &[Option<u16>]) -> Opti
 fn is_unlisted(leaf: &Leaf, layer_of_move: &[Option<u16>], t: u32) -> bool
     requires long { length layer_of_move.now ≡ length leaf.now.moves }
     requires in_range { t < length leaf.now.moves }
-    ensures { result ≡ unlisted leaf.now layer_of_move.now t }
+    ensures { result ≡ is_unlisted_move leaf.now layer_of_move.now t }
 {
     let taken = leaf.move_at(t);
     !taken.is_silent() && layer_of_move[t as usize].is_none()
@@ -63,7 +63,7 @@ fn is_lower(weights: &[i64], taken: Move) -> bool
     requires q_in { taken.q < length weights.now }
     requires r_in { taken.r < length weights.now }
     requires s_in { taken.s < length weights.now }
-    ensures { result ≡ lower weights.now taken }
+    ensures { result ≡ is_lower_after weights.now taken }
 {
     pair_weight(weights, taken.r, taken.s) < pair_weight(weights, taken.p, taken.q)
 }

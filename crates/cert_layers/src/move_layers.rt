@@ -2,7 +2,7 @@
 
 ghost use Rattle.std.specs.Prelude.{◌≡◌, ◌≤◌, length, Some, None, IfOk, MatchBool, replicate};
 ghost use Rattle.pop_net.specs.LeafModel.{IsLeaf};
-ghost use Rattle.cert_layers.specs.MoveLayers.{enter_all, enter_layer as layer_entered, FindsMoveLayers};
+ghost use Rattle.cert_layers.specs.MoveLayers.{enter_all, entered_layer, FindsMoveLayers};
 
 use crate::fault::LayerFault;
 use cert_base::{LAYER_LIMIT, Layer};
@@ -48,8 +48,8 @@ fn enter_layer(
     number: u16,
 ) -> bool
     ensures entered { MatchBool result
-        (layer_entered states layer_of_move.old.items number layer.now ≡ Some layer_of_move.new.items)
-        (layer_entered states layer_of_move.old.items number layer.now ≡ None) }
+        (entered_layer states layer_of_move.old.items number layer.now ≡ Some layer_of_move.new.items)
+        (entered_layer states layer_of_move.old.items number layer.now ≡ None) }
 {
     layer.weights.as_slice().len() == usize::from(states)
         && enter_moves(layer_of_move, layer.moves.as_slice(), number)

@@ -1,19 +1,16 @@
 //! Which moves wake moves of earlier layers.
 //!
-//! Let t be a move of layer i that brings a state m, and u a move of an earlier layer that takes m and o. Then t wakes u
-//! unless a move of a layer before i was enabled on the states that t takes and those of u that t doesn't bring: one
-//! that takes both states of t, or, where t doesn't bring o beside m, one that takes o and a state of t.
+//! Let t be a move of layer i that brings a state m, and u a move of an earlier layer that takes m and o. Then t
+//! wakes u unless a move of a layer before i was enabled on the states that t takes and those of u that t doesn't
+//! bring: one that takes both states of t, or, where t doesn't bring o beside m, one that takes o and a state of t.
 
 ghost use Rattle.std.specs.Prelude.{◌≡◌, ◌<◌, ◌≤◌, length, Option, Some, slice_get};
 ghost use Rattle.std.specs.List.{list_any, range_with_len};
 ghost use Rattle.pop_net.specs.FirstFault.{first_below};
 ghost use Rattle.pop_net.specs.LeafModel.{IsLeaf, IsMoveBelow};
-ghost use Rattle.cert_layers.specs.Waking.{is_early, brings as brings_state, brings_both as brings_two};
-ghost use Rattle.cert_layers.specs.Waking.{wakes_with as wakes_pair};
-ghost use Rattle.cert_layers.specs.Waking.{wakes as wakes_states, wakes_beside as wakes_beside_state};
-ghost use Rattle.cert_layers.specs.Waking.{may_wake as may_wake_any};
-ghost use Rattle.cert_layers.specs.Waking.{wakes_move as wakes_numbered, wakes_at, IsWakingTable};
-ghost use Rattle.cert_layers.specs.Waking.{FindsFirst, FindsWaking};
+ghost use Rattle.cert_layers.specs.Waking.{is_early, brings_state, brings_two_states, wakes_with_state};
+ghost use Rattle.cert_layers.specs.Waking.{wakes_states, wakes_beside_state, may_wake_any};
+ghost use Rattle.cert_layers.specs.Waking.{wakes_numbered, wakes_at, IsWakingTable, FindsFirst, FindsWaking};
 
 use crate::pairs::PairTable;
 use pop_net::{Leaf, Move, STATE_LIMIT};
@@ -158,7 +155,7 @@ fn wakes(table: &PairTable, layer: u16, taken: Move, x: u16, y: u16) -> bool
 fn wakes_with(table: &PairTable, layer: u16, taken: Move, brought: u16, other: u16) -> bool
     requires below { IsMoveBelow STATE_LIMIT taken }
     requires other_in { other < STATE_LIMIT }
-    ensures { result ≡ wakes_pair (is_early table.now layer) taken brought other }
+    ensures { result ≡ wakes_with_state (is_early table.now layer) taken brought other }
 {
     let p_and_q = table.is_early(taken.p, taken.q, layer);
     let with_other = table.is_early(taken.p, other, layer) || table.is_early(taken.q, other, layer);
@@ -173,7 +170,7 @@ fn brings(taken: Move, x: u16) -> bool
 
 /// Whether a move that brings a state brings the other beside it.
 fn brings_both(taken: Move, brought: u16, other: u16) -> bool
-    ensures { result ≡ brings_two taken brought other }
+    ensures { result ≡ brings_two_states taken brought other }
 {
     if brought == taken.r {
         other == taken.s

@@ -8,13 +8,13 @@ use Rattle.std.proofs.lemmas.Int.{ints}
 use Rattle.std.proofs.lemmas.Bool.{eqb-true, eq-eqb}
 use Rattle.pop_net.proofs.Reactions.{and_left, and_right}
 use Rattle.pop_net.proofs.Quiet.{All-slice_get}
-use Rattle.pres_ast.specs.PredicateValue.{divides}
+use Rattle.pres_ast.specs.PredicateValue.{is_multiple}
 use Rattle.cert_base.specs.declared.fact.Term.{Term}
 use Rattle.cert_base.specs.declared.fact.Row.{Row}
 use Rattle.cert_base.specs.declared.fact.Fact.{Fact}
 use Rattle.cert_base.specs.declared.fact.Fact.TheVariants.{Ge, Eq, Cong, NotCong, Holds}
 use Rattle.cert_base.specs.Valuation.{Valuation, row_value, MeetsFact}
-use Rattle.cert_base.specs.ClosingTests.{row_of, times, add_rows, scaled, sum_of, coefficient_in, each_coefficient, may_have, all_named, may_add_modulo, vanishes, denies, closes_by_residue}
+use Rattle.cert_base.specs.ClosingTests.{row_of, times, add_rows, scaled, sum_of, coefficient_in, each_coefficient, may_have, all_named, may_add_modulo, is_zero_row, denies, closes_by_residue}
 use Rattle.cert_base.proofs.Integers.{add-mul, mul-mul-pos}
 use Rattle.cert_linear.proofs.RowValues.{row_value-add_rows, row_value-times, total, terms_value-total, each_coefficient-at, end_of}
 
@@ -30,7 +30,7 @@ size_times : (k : ℤ) (m : ℕ) → nat_abs (k *ℤ pos m) ≡ nat_abs k * m
 size_times (pos k) m = refl
 size_times (negsuc k) m = size_negative (suc k * m)
 
-pub multiple-divides : (m : ℕ) (z : ℤ) → Multiple m z → divides m z ≡ true
+pub multiple-divides : (m : ℕ) (z : ℤ) → Multiple m z → is_multiple m z ≡ true
 multiple-divides m z h =
     eq-eqb (nat_abs z % m) 0 (ap (λ n. n % m) (ap nat_abs h.1 ∙ size_times h.0 m) ∙ mul-mod_left (nat_abs h.0) m)
 
@@ -42,7 +42,7 @@ divides-multiple_at : (m : ℕ) (z : ℤ) → nat_abs z ≡ (nat_abs z / m) * m 
 divides-multiple_at m (pos n) e = (pos (n / m), ap pos e)
 divides-multiple_at m (negsuc n) e = (neg_ℤ (pos (suc n / m)), negative_times n (suc n / m) m e)
 
-pub divides-multiple : (m : ℕ) (z : ℤ) → divides m z ≡ true → Multiple m z
+pub divides-multiple : (m : ℕ) (z : ℤ) → is_multiple m z ≡ true → Multiple m z
 divides-multiple m z h =
     let rest : nat_abs z % m ≡ 0 = eqb-true (nat_abs z % m) 0 h in
     let whole = div-add-mod (nat_abs z) m in
@@ -72,14 +72,14 @@ total-multiple : (m : ℕ) (f : ℕ → ℤ) (n : ℕ) → ((j : ℕ) → Multip
 total-multiple m f zero each = multiple-zero m
 total-multiple m f (suc n) each = multiple-add m (f n) (total f n) (each n) (total-multiple m f n each)
 
-pub divides-zero : (m : ℕ) → divides m (pos 0) ≡ true
+pub divides-zero : (m : ℕ) → is_multiple m (pos 0) ≡ true
 divides-zero m = multiple-divides m (pos 0) (multiple-zero m)
 
 -- where all coefficients are multiples, the value of the terms is one
-terms-multiple : (count : Valuation) (m : ℕ) (row : Row) → each_coefficient (divides m) row ≡ true → Multiple m (total (λ j. coefficient_in row.terms j *ℤ pos (count j)) (end_of row.terms))
+terms-multiple : (count : Valuation) (m : ℕ) (row : Row) → each_coefficient (is_multiple m) row ≡ true → Multiple m (total (λ j. coefficient_in row.terms j *ℤ pos (count j)) (end_of row.terms))
 terms-multiple count m row e =
     total-multiple m (λ j. coefficient_in row.terms j *ℤ pos (count j)) (end_of row.terms)
-    (λ j. let here = multiple-times m (pos (count j)) (coefficient_in row.terms j) (divides-multiple m (coefficient_in row.terms j) (each_coefficient-at (divides m) row j (divides-zero m) e)) in
+    (λ j. let here = multiple-times m (pos (count j)) (coefficient_in row.terms j) (divides-multiple m (coefficient_in row.terms j) (each_coefficient-at (is_multiple m) row j (divides-zero m) e)) in
     (here.0, *ℤ_comm (coefficient_in row.terms j) (pos (count j)) ∙ here.1))
 
 fact_multiple : (count : Valuation) (m : ℕ) (a : ℤ) (fact : Fact) → may_add_modulo m a fact ≡ true → MeetsFact count fact → Multiple m (row_value count (times a (row_of fact)))
@@ -106,17 +106,17 @@ sum_of-multiple count m facts (t ∷ terms) meets e =
     (both.0, row_value-add_rows count (scaled t.by (slice_get facts t.at)) (sum_of facts terms) ∙ both.1)
 
 -- a row whose coefficients are multiples has a multiple as its value exactly when its constant is one
-constant_multiple : (count : Valuation) (m : ℕ) (row : Row) → each_coefficient (divides m) row ≡ true → Multiple m (row_value count row) → Multiple m row.constant
+constant_multiple : (count : Valuation) (m : ℕ) (row : Row) → each_coefficient (is_multiple m) row ≡ true → Multiple m (row_value count row) → Multiple m row.constant
 constant_multiple count m row e h =
     let terms = terms-multiple count m row e in
     let same = terms_value-total count row.terms (end_of row.terms) (omega arith) in
     multiple-less m (total (λ j. coefficient_in row.terms j *ℤ pos (count j)) (end_of row.terms)) row.constant (h.0, ap (λ v. v +ℤ row.constant) (sym same) ∙ h.1) terms
 
-row_multiple : (count : Valuation) (m : ℕ) (row : Row) → vanishes m row ≡ true → Multiple m (row_value count row)
+row_multiple : (count : Valuation) (m : ℕ) (row : Row) → is_zero_row m row ≡ true → Multiple m (row_value count row)
 row_multiple count m row e =
     let terms = terms-multiple count m row (and_left _ _ e) in
     let same = terms_value-total count row.terms (end_of row.terms) (omega arith) in
-    let both = multiple-add m _ row.constant terms (divides-multiple m row.constant (and_right (each_coefficient (divides m) row) _ e)) in
+    let both = multiple-add m _ row.constant terms (divides-multiple m row.constant (and_right (each_coefficient (is_multiple m) row) _ e)) in
     (both.0, ap (λ v. v +ℤ row.constant) same ∙ both.1)
 
 denied_at : (count : Valuation) (m : ℕ) (sum : Row) (fact : Fact) → Multiple m (row_value count sum) → denies m sum fact ≡ true → MeetsFact count fact → ⊥
@@ -131,7 +131,7 @@ denied_at count m sum (NotCong row n) h e meets =
     let plus = multiple-times m (negsuc 0) (negsuc 0 *ℤ row_value count row) minus in
     let back : row_value count row ≡ (negsuc 0 *ℤ (negsuc 0 *ℤ row_value count row)) = twice (row_value count row) in
     let yes = multiple-divides m (row_value count row) (plus.0, back ∙ plus.1) in
-    let no : divides m (row_value count row) ≡ false = rw (← same) meets in
+    let no : is_multiple m (row_value count row) ≡ false = rw (← same) meets in
     (let clash : true ≡ false = sym yes ∙ no in cc)
   where
     twice : (z : ℤ) → z ≡ (negsuc 0 *ℤ (negsuc 0 *ℤ z))
@@ -158,9 +158,9 @@ not_true false e f = cc
 pub residue_closes-none : (count : Valuation) (facts : List Fact) (m : ℕ) (terms : List Term) → closes_by_residue facts m terms ≡ true → All (MeetsFact count) facts → ⊥
 residue_closes-none count facts m terms e meets =
     let sum = sum_of facts terms in
-    let by_constant = each_coefficient (divides m) sum && not (divides m sum.constant) in
+    let by_constant = each_coefficient (is_multiple m) sum && not (is_multiple m sum.constant) in
     let h = sum_of-multiple count m facts terms meets (and_left (all_named (may_add_modulo m) facts terms) _ e) in
     elim (or_either by_constant (list_any (denies m sum) facts) (and_right (all_named (may_add_modulo m) facts terms) _ e)) [
-      | inl here ↦ not_true (divides m sum.constant) (and_right (each_coefficient (divides m) sum) _ here) (multiple-divides m sum.constant (constant_multiple count m sum (and_left _ _ here) h))
+      | inl here ↦ not_true (is_multiple m sum.constant) (and_right (each_coefficient (is_multiple m) sum) _ here) (multiple-divides m sum.constant (constant_multiple count m sum (and_left _ _ here) h))
       | inr rest ↦ denied count m sum facts h rest meets
     ]

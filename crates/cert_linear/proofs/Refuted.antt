@@ -5,7 +5,7 @@ use Rattle.pop_io.specs.declared.fault.NoMemory.{NoMemory}
 use Rattle.cert_base.specs.declared.fact.Term.{Term}
 use Rattle.cert_base.specs.declared.fact.Fact.{Fact}
 use Rattle.cert_base.specs.ClosingTests.{closes_by_sum, closes_by_residue, all_named, may_add_modulo, each_coefficient, denies, sum_of}
-use Rattle.pres_ast.specs.PredicateValue.{divides}
+use Rattle.pres_ast.specs.PredicateValue.{is_multiple}
 use Rattle.std.specs.List.{list_any}
 use Rattle.cert_linear.specs.declared.sum.Sum.{Sum}
 use Rattle.cert_linear.specs.Sums.{IsSum}
@@ -28,6 +28,6 @@ residue-refuted facts m terms (Ok true) is = λ yes count meets. residue_closes-
 residue-refuted facts m terms (Ok false) is = λ no. absurd (false_true no)
 
 -- where the constant alone doesn't refute, the facts have to deny the sum
-pub residue_by_facts : (facts : List Fact) (m : ℕ) (terms : List Term) (sum : Sum) (r : Result Bool NoMemory) → all_named (may_add_modulo m) facts terms ≡ true → IsSum (sum_of facts terms) sum → (each_coefficient (divides m) (sum_of facts terms) && not (divides m (sum_of facts terms).constant)) ≡ false → IfOk r (λ denied. (row : Row) → IsSum row sum → denied ≡ list_any (denies m row) facts) → IfOk r (λ closes. closes ≡ closes_by_residue facts m terms)
+pub residue_by_facts : (facts : List Fact) (m : ℕ) (terms : List Term) (sum : Sum) (r : Result Bool NoMemory) → all_named (may_add_modulo m) facts terms ≡ true → IsSum (sum_of facts terms) sum → (each_coefficient (is_multiple m) (sum_of facts terms) && not (is_multiple m (sum_of facts terms).constant)) ≡ false → IfOk r (λ denied. (row : Row) → IsSum row sum → denied ≡ list_any (denies m row) facts) → IfOk r (λ closes. closes ≡ closes_by_residue facts m terms)
 residue_by_facts facts m terms sum (Err e) named is fails d = tt
 residue_by_facts facts m terms sum (Ok closes) named is fails d = d (sum_of facts terms) is ∙ rw (named, fails) refl

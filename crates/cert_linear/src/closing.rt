@@ -5,7 +5,7 @@ ghost use Rattle.std.specs.Prelude.{false, negsuc, Some, None};
 ghost use Rattle.std.specs.List.{list_any};
 ghost use Rattle.cert_base.specs.declared.fact.Row.{Row};
 ghost use Rattle.cert_base.specs.ClosingTests.{closes_by_sum, closes_by_residue};
-ghost use Rattle.cert_base.specs.ClosingTests.{row_of, denies, vanishes, add_rows, times};
+ghost use Rattle.cert_base.specs.ClosingTests.{row_of, denies, is_zero_row, add_rows, times};
 ghost use Rattle.cert_base.specs.Ends.{AreRefuted};
 ghost use Rattle.cert_linear.specs.Conditions.{AreAscending, IsOrdered, AreMultipliers, AreNamed};
 ghost use Rattle.cert_linear.specs.Sums.{may_by, SumsUp, IsTidy, IsSum, IsSame, IsSumWithin};
@@ -159,7 +159,7 @@ fn agrees(sum: &mut Sum, row: &Row, modulus: u32) -> Result<bool, NoMemory>
     requires size { IsSumWithin (2 ^ 119) sum.old }
     ensures value { IfOk result
         (λ agrees. (other : Row) → IsSum other sum.old
-        → agrees ≡ vanishes modulus (add_rows other (times (negsuc 0) row.now))) }
+        → agrees ≡ is_zero_row modulus (add_rows other (times (negsuc 0) row.now))) }
     ensures stays { OnOk result (IsSame sum.old sum.new) }
     ensures tidy { IsTidy sum.new }
 {

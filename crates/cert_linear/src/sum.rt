@@ -1,12 +1,11 @@
 //! A sum of rows.
 
 ghost use Rattle.std.specs.Prelude.{◌≡◌, ◌≤◌, ◌<◌, ◌+◌, ◌^◌, ◌+ℤ◌, ◌*ℤ◌, ℕ, ◌&&◌, not, ◌==◌, if◌then◌else◌, pos};
-ghost use Rattle.std.specs.Prelude.{negsuc, nat_abs};
-ghost use Rattle.std.specs.Prelude.{int_le, length, true, OnOk, IfSome};
+ghost use Rattle.std.specs.Prelude.{negsuc, nat_abs, int_le, length, true, OnOk, IfSome};
 ghost use Rattle.std.specs.List.{list_all};
-ghost use Rattle.pres_ast.specs.PredicateValue.{divides as is_multiple};
+ghost use Rattle.pres_ast.specs.PredicateValue.{is_multiple};
 ghost use Rattle.cert_base.specs.declared.fact.Row.{Row};
-ghost use Rattle.cert_base.specs.ClosingTests.{times, no_row, each_coefficient, vanishes as is_zero};
+ghost use Rattle.cert_base.specs.ClosingTests.{times, no_row, each_coefficient, is_zero_row};
 ghost use Rattle.cert_linear.specs.Conditions.{AreAscending};
 ghost use Rattle.cert_linear.specs.Sums.{coefficient_of, entry_at, rest_at, IsTidy, IsSum, AreSum, IsPlus, IsSumWithin};
 
@@ -250,7 +249,9 @@ impl Sum {
         ensures { result
             ≡ (list_all
             (λ q. int_le (coefficient_of self.now q +ℤ coefficient_of other.now q) (pos 0)) self.now.touched.items
-            && list_all (λ q. int_le (coefficient_of other.now q +ℤ coefficient_of self.now q) (pos 0)) other.now.touched.items) }
+            && list_all
+            (λ q. int_le (coefficient_of other.now q +ℤ coefficient_of self.now q) (pos 0))
+            other.now.touched.items) }
     {
         self.has_no_positive_with(other) && other.has_no_positive_with(self)
     }
@@ -280,7 +281,7 @@ impl Sum {
     pub(crate) fn vanishes(&self, modulus: u32) -> bool
         requires modulus { 0 < modulus }
         requires tidy { IsTidy self.now }
-        ensures { (row : Row) → IsSum row self.now → result ≡ is_zero modulus row }
+        ensures { (row : Row) → IsSum row self.now → result ≡ is_zero_row modulus row }
     {
         self.has_multiples(modulus) && divides(modulus, self.constant)
     }

@@ -8,7 +8,7 @@ use Rattle.std.proofs.lemmas.List.FromFn.{get_or-map-range_with_len, length-rang
 use Rattle.cert_base.specs.declared.fact.Fact.{Fact}
 use Rattle.cert_base.specs.declared.fact.Fact.TheVariants.{Eq}
 use Rattle.cert_base.specs.Rows.{single_row, move_variable, state_variable}
-use Rattle.cert_base.specs.FactsAndCases.{indicator, places_from, states_of, is_in, can_meet, absent, occurs, alone, not_twice, twin_case, no_moves, none_started}
+use Rattle.cert_base.specs.FactsAndCases.{indicator, places_from, states_of, is_in, can_meet_in, absent_fact, occurs_fact, alone_fact, not_twice, case_of_twin, no_moves, no_start_facts}
 use Rattle.cert_base.proofs.FlowRows.{take_one_more}
 use Rattle.cert_traps.specs.Facts.{zero_if, alone_if}
 use Rattle.cert_traps.specs.Partners.{ArePartners}
@@ -95,7 +95,7 @@ moves_zero leaf test first flags start facts at e f =
     ∙ ap (λ fs. map (λ t. Eq (single_row (move_variable leaf t) (pos 1) (pos 0))) (places_from 0 (λ flag. flag) fs)) e
     ∙ ap (map (λ t. Eq (single_row (move_variable leaf t) (pos 1) (pos 0)))) (places_from-flags 0 test leaf.moves))
 
-pub inputs_zero : (leaf : LeafModel) (set : List ℕ) (first : ℕ) (flags : List Bool) (start facts : List Fact) → first ≡ 0 → flags ≡ map (is_in set) leaf.inputs → facts ≡ start ++ map (λ t. Eq (single_row (first + t) (pos 1) (pos 0))) (places_from 0 (λ flag. flag) flags) → facts ≡ start ++ none_started leaf set
+pub inputs_zero : (leaf : LeafModel) (set : List ℕ) (first : ℕ) (flags : List Bool) (start facts : List Fact) → first ≡ 0 → flags ≡ map (is_in set) leaf.inputs → facts ≡ start ++ map (λ t. Eq (single_row (first + t) (pos 1) (pos 0))) (places_from 0 (λ flag. flag) flags) → facts ≡ start ++ no_start_facts leaf set
 inputs_zero leaf set first flags start facts z e f =
     let plain : ◌≡◌ {A = ℕ → Fact} (λ t. Eq (single_row (0 + t) (pos 1) (pos 0))) (λ t. Eq (single_row t (pos 1) (pos 0))) = λ i t. Eq (single_row (zero-add t i) (pos 1) (pos 0)) in
     f
@@ -115,18 +115,18 @@ range-one a n = ap (range_with_len a) (let e : n + 1 ≡ suc n = omega arith in 
 -- ---- partners
 
 -- one more state is asked
-pub partners_more : (leaf : LeafModel) (p q : ℕ) (flag : Bool) (before after : List Bool) → before ≡ map (can_meet leaf p) (range_with_len 0 q) → flag ≡ can_meet leaf p q → after ≡ before ++ flag ∷ [] → after ≡ map (can_meet leaf p) (range_with_len 0 (q + 1))
+pub partners_more : (leaf : LeafModel) (p q : ℕ) (flag : Bool) (before after : List Bool) → before ≡ map (can_meet_in leaf p) (range_with_len 0 q) → flag ≡ can_meet_in leaf p q → after ≡ before ++ flag ∷ [] → after ≡ map (can_meet_in leaf p) (range_with_len 0 (q + 1))
 partners_more leaf p q flag before after b is e =
     e
     ∙ ap (λ flags. flags ++ flag ∷ []) b
-    ∙ ap (λ f. map (can_meet leaf p) (range_with_len 0 q) ++ f ∷ []) is
-    ∙ sym (ap (map (can_meet leaf p)) (range-one 0 q ∙ ap (λ z. range_with_len 0 q ++ z ∷ []) (zero-add q)) ∙ map-one (can_meet leaf p) (range_with_len 0 q) q)
+    ∙ ap (λ f. map (can_meet_in leaf p) (range_with_len 0 q) ++ f ∷ []) is
+    ∙ sym (ap (map (can_meet_in leaf p)) (range-one 0 q ∙ ap (λ z. range_with_len 0 q ++ z ∷ []) (zero-add q)) ∙ map-one (can_meet_in leaf p) (range_with_len 0 q) q)
 
 -- what the whole table says
-pub partners_all : (leaf : LeafModel) (p q : ℕ) (table : List Bool) → q ≡ length leaf.states → table ≡ map (can_meet leaf p) (range_with_len 0 q) → ArePartners leaf p table
+pub partners_all : (leaf : LeafModel) (p q : ℕ) (table : List Bool) → q ≡ length leaf.states → table ≡ map (can_meet_in leaf p) (range_with_len 0 q) → ArePartners leaf p table
 partners_all leaf p q table all e = record {
-  long = ap length e ∙ length-map (range_with_len 0 q) (can_meet leaf p) ∙ length-range_with_len 0 q ∙ all;
-  each = λ n l. ap (λ (flags : List Bool). get_or flags n false) e ∙ get_or-map-range_with_len (can_meet leaf p) 0 q n n false (let m : n < q = omega (arith, all) in m) (zero-add n);
+  long = ap length e ∙ length-map (range_with_len 0 q) (can_meet_in leaf p) ∙ length-range_with_len 0 q ∙ all;
+  each = λ n l. ap (λ (flags : List Bool). get_or flags n false) e ∙ get_or-map-range_with_len (can_meet_in leaf p) 0 q n n false (let m : n < q = omega (arith, all) in m) (zero-add n);
 }
 
 filter-one : (test : ℕ → Bool) (xs : List ℕ) (x : ℕ) → filter test (xs ++ x ∷ []) ≡ filter test xs ++ (if test x then (x ∷ []) else [])
@@ -138,27 +138,27 @@ filter-one test (y ∷ xs) x = go (test y) (filter-one test xs x)
     go false e = e
 
 -- one more state that can't be there
-pub unmet_more : (leaf : LeafModel) (p q variable : ℕ) (flag : Bool) (table : List Bool) (before after : List Fact) → ArePartners leaf p table → q < length leaf.states → variable ≡ state_variable leaf q → flag ≡ (not (q == p) && get_or table q false) → before ≡ occurs leaf p ∷ map (absent leaf) (filter (λ q. not (q == p) && can_meet leaf p q) (range_with_len 0 q)) → after ≡ before ++ zero_if variable flag → after ≡ occurs leaf p ∷ map (absent leaf) (filter (λ q. not (q == p) && can_meet leaf p q) (range_with_len 0 (q + 1)))
+pub unmet_more : (leaf : LeafModel) (p q variable : ℕ) (flag : Bool) (table : List Bool) (before after : List Fact) → ArePartners leaf p table → q < length leaf.states → variable ≡ state_variable leaf q → flag ≡ (not (q == p) && get_or table q false) → before ≡ occurs_fact leaf p ∷ map (absent_fact leaf) (filter (λ q. not (q == p) && can_meet_in leaf p q) (range_with_len 0 q)) → after ≡ before ++ zero_if variable flag → after ≡ occurs_fact leaf p ∷ map (absent_fact leaf) (filter (λ q. not (q == p) && can_meet_in leaf p q) (range_with_len 0 (q + 1)))
 unmet_more leaf p q variable flag table before after are l at is b e =
-    let test : ℕ → Bool = λ q. not (q == p) && can_meet leaf p q in
-    let flag_is : flag ≡ (not (q == p) && can_meet leaf p q) = is ∙ ap (λ b. not (q == p) && b) (are.each q l) in
+    let test : ℕ → Bool = λ q. not (q == p) && can_meet_in leaf p q in
+    let flag_is : flag ≡ (not (q == p) && can_meet_in leaf p q) = is ∙ ap (λ b. not (q == p) && b) (are.each q l) in
     let more : filter test (range_with_len 0 (q + 1)) ≡ filter test (range_with_len 0 q) ++ (if test q then (q ∷ []) else []) =
     ap (filter test) (range-one 0 q ∙ ap (λ z. range_with_len 0 q ++ z ∷ []) (zero-add q)) ∙ filter-one test (range_with_len 0 q) q in
     e
     ∙ ap (λ fs. fs ++ zero_if variable flag) b
-    ∙ ap (λ fs. occurs leaf p ∷ (map (absent leaf) (filter test (range_with_len 0 q)) ++ fs)) (ap (λ n. zero_if n flag) at ∙ ap (zero_if (state_variable leaf q)) flag_is ∙ last (test q))
-    ∙ ap (λ fs. occurs leaf p ∷ fs) (sym (ap (map (absent leaf)) more ∙ map-append (absent leaf) (filter test (range_with_len 0 q)) (if test q then (q ∷ []) else [])))
+    ∙ ap (λ fs. occurs_fact leaf p ∷ (map (absent_fact leaf) (filter test (range_with_len 0 q)) ++ fs)) (ap (λ n. zero_if n flag) at ∙ ap (zero_if (state_variable leaf q)) flag_is ∙ last (test q))
+    ∙ ap (λ fs. occurs_fact leaf p ∷ fs) (sym (ap (map (absent_fact leaf)) more ∙ map-append (absent_fact leaf) (filter test (range_with_len 0 q)) (if test q then (q ∷ []) else [])))
   where
-    last : (b : Bool) → zero_if (state_variable leaf q) b ≡ map (absent leaf) (if b then (q ∷ []) else [])
+    last : (b : Bool) → zero_if (state_variable leaf q) b ≡ map (absent_fact leaf) (if b then (q ∷ []) else [])
     last true = refl
     last false = refl
 
-pub unmet_all : (leaf : LeafModel) (p q : ℕ) (flag : Bool) (table : List Bool) (before after : List Fact) → ArePartners leaf p table → p < length leaf.states → q ≡ length leaf.states → flag ≡ get_or table p false → before ≡ occurs leaf p ∷ map (absent leaf) (filter (λ q. not (q == p) && can_meet leaf p q) (range_with_len 0 q)) → after ≡ before ++ alone_if leaf p flag → after ≡ occurs leaf p ∷ map (absent leaf) (filter (λ q. not (q == p) && can_meet leaf p q) (states_of leaf)) ++ (if can_meet leaf p p then (alone leaf p ∷ []) else [])
+pub unmet_all : (leaf : LeafModel) (p q : ℕ) (flag : Bool) (table : List Bool) (before after : List Fact) → ArePartners leaf p table → p < length leaf.states → q ≡ length leaf.states → flag ≡ get_or table p false → before ≡ occurs_fact leaf p ∷ map (absent_fact leaf) (filter (λ q. not (q == p) && can_meet_in leaf p q) (range_with_len 0 q)) → after ≡ before ++ alone_if leaf p flag → after ≡ occurs_fact leaf p ∷ map (absent_fact leaf) (filter (λ q. not (q == p) && can_meet_in leaf p q) (states_of leaf)) ++ (if can_meet_in leaf p p then (alone_fact leaf p ∷ []) else [])
 unmet_all leaf p q flag table before after are l all is b e =
     e
     ∙ ap (λ fs. fs ++ alone_if leaf p flag) b
-    ∙ ap (λ n. (occurs leaf p ∷ map (absent leaf) (filter (λ q. not (q == p) && can_meet leaf p q) (range_with_len 0 n))) ++ alone_if leaf p flag) all
-    ∙ ap (λ b. (occurs leaf p ∷ map (absent leaf) (filter (λ q. not (q == p) && can_meet leaf p q) (states_of leaf))) ++ alone_if leaf p b) (is ∙ are.each p l)
+    ∙ ap (λ n. (occurs_fact leaf p ∷ map (absent_fact leaf) (filter (λ q. not (q == p) && can_meet_in leaf p q) (range_with_len 0 n))) ++ alone_if leaf p flag) all
+    ∙ ap (λ b. (occurs_fact leaf p ∷ map (absent_fact leaf) (filter (λ q. not (q == p) && can_meet_in leaf p q) (states_of leaf))) ++ alone_if leaf p b) (is ∙ are.each p l)
 
 -- the states of a move are below the greatest number that a leaf may have
 pub move_small : (leaf : LeafModel) (t : ℕ) (taken : Move) → IsLeaf leaf → slice_get leaf.moves t ≡ Some taken → IsMoveBelow STATE_LIMIT taken
@@ -189,5 +189,5 @@ three_cases empty one two three a b c a' b' c' e f g h i j k =
     ∙ ap (λ facts. a' ∷ facts ∷ c ∷ []) j
     ∙ ap (λ facts. a' ∷ b' ∷ facts ∷ []) k
 
-pub twin_as : (leaf : LeafModel) (p : ℕ) (b : Bool) → b ≡ can_meet leaf p p → (if b then Some (not_twice leaf p ∷ []) else None) ≡ twin_case leaf p
+pub twin_as : (leaf : LeafModel) (p : ℕ) (b : Bool) → b ≡ can_meet_in leaf p p → (if b then Some (not_twice leaf p ∷ []) else None) ≡ case_of_twin leaf p
 twin_as leaf p b e = ap (λ b. if b then Some (not_twice leaf p ∷ []) else None) e

@@ -11,11 +11,11 @@ use Rattle.pop_net.specs.declared.leaf.Move.{Move}
 use Rattle.pop_net.specs.LeafModel.{LeafModel, one_at, pre, silent_move, same_pair}
 use Rattle.pop_net.specs.Step.{LeafStep}
 use Rattle.pop_net.specs.Terminal.{IsTerminal}
-use Rattle.pop_net.specs.Reaction.{takes}
+use Rattle.pop_net.specs.Reaction.{takes_states}
 use Rattle.pop_net.proofs.Reactions.{and_left, and_right, not_true}
 use Rattle.cert_base.specs.Rows.{state_variable}
 use Rattle.cert_base.specs.Valuation.{Valuation, MeetsFact}
-use Rattle.cert_base.specs.FactsAndCases.{states_of, can_meet, absent, occurs, alone, not_twice, present_cases}
+use Rattle.cert_base.specs.FactsAndCases.{states_of, can_meet_in, absent_fact, occurs_fact, alone_fact, not_twice, cases_of_present}
 use Rattle.cert_base.proofs.Agents.{agents_of, enabled_test-true, move_step}
 use Rattle.cert_base.proofs.Dead.{IsEnabledIn}
 use Rattle.cert_base.proofs.Numbers.{number_in, slice_get-set_other}
@@ -62,9 +62,9 @@ pre_pair t p q z (inl e) = rw (e.0, e.1) refl
 pre_pair t p q z (inr e) = rw (e.0, e.1) (omega arith)
 
 -- two states that can meet are not both there at a terminal crowd
-pub cannot_meet : (leaf : LeafModel) (crowd : List ℕ) (p q : ℕ) → IsTerminal (LeafStep leaf) crowd → can_meet leaf p q ≡ true → ((z : ℕ) → one_at p z + one_at q z ≤ number_in z crowd) → ⊥
+pub cannot_meet : (leaf : LeafModel) (crowd : List ℕ) (p q : ℕ) → IsTerminal (LeafStep leaf) crowd → can_meet_in leaf p q ≡ true → ((z : ℕ) → one_at p z + one_at q z ≤ number_in z crowd) → ⊥
 cannot_meet leaf crowd p q terminal e there =
-    let found = list_any-contains (takes p q) leaf.moves e in
+    let found = list_any-contains (takes_states p q) leaf.moves e in
     let t = found.0 in
     let pair = pair_cases p q t.p t.q (and_right (not (silent_move t)) _ found.2) in
     terminal_dead leaf crowd terminal found.1.0 t (listed leaf.moves found.1.0 t found.1.1 found.1.2) (not_true _ (and_left _ _ found.2)) (λ z. rw (pre_pair t p q z pair) (there z))
@@ -79,13 +79,13 @@ one_times n = pos-*ℤ-pos 1 n ∙ ap pos (let e : 1 * n ≡ n = omega arith in 
 
 -- ---- what the facts on one state say
 
-absent_met : (leaf : LeafModel) (count : Valuation) (q : ℕ) → count (state_variable leaf q) ≡ 0 → MeetsFact count (absent leaf q)
+absent_met : (leaf : LeafModel) (count : Valuation) (q : ℕ) → count (state_variable leaf q) ≡ 0 → MeetsFact count (absent_fact leaf q)
 absent_met leaf count q e = let o = one_times (count (state_variable leaf q)) in omega (arith, ints, o, e)
 
-occurs_met : (leaf : LeafModel) (count : Valuation) (q : ℕ) → 1 ≤ count (state_variable leaf q) → MeetsFact count (occurs leaf q)
+occurs_met : (leaf : LeafModel) (count : Valuation) (q : ℕ) → 1 ≤ count (state_variable leaf q) → MeetsFact count (occurs_fact leaf q)
 occurs_met leaf count q l = let o = one_times (count (state_variable leaf q)) in omega (arith, ints, o, l)
 
-alone_met : (leaf : LeafModel) (count : Valuation) (q : ℕ) → count (state_variable leaf q) ≡ 1 → MeetsFact count (alone leaf q)
+alone_met : (leaf : LeafModel) (count : Valuation) (q : ℕ) → count (state_variable leaf q) ≡ 1 → MeetsFact count (alone_fact leaf q)
 alone_met leaf count q e = let o = one_times (count (state_variable leaf q)) in omega (arith, ints, o, e)
 
 minus_one_times : (n : ℕ) → n ≤ 1 → pos 0 ≤ℤ ((negsuc 0 *ℤ pos n) +ℤ pos 1)
@@ -137,7 +137,7 @@ twice crowd p l z = go (eqb_tells p z)
     go (inr e) = rw e.0 (omega arith)
 
 -- a state that can meet itself is there once at most
-pub once_at_most : (leaf : LeafModel) (crowd : List ℕ) (p : ℕ) → IsTerminal (LeafStep leaf) crowd → can_meet leaf p p ≡ true → number_in p crowd ≤ 1
+pub once_at_most : (leaf : LeafModel) (crowd : List ℕ) (p : ℕ) → IsTerminal (LeafStep leaf) crowd → can_meet_in leaf p p ≡ true → number_in p crowd ≤ 1
 once_at_most leaf crowd p terminal e = go (cases_lt 1 (number_in p crowd))
   where
     go : (1 < number_in p crowd) ⊎ (number_in p crowd ≤ 1) → number_in p crowd ≤ 1
@@ -147,9 +147,9 @@ once_at_most leaf crowd p terminal e = go (cases_lt 1 (number_in p crowd))
 module _ (leaf : LeafModel) (count : Valuation) (end : List ℕ) (counts : CountsStates leaf count end) (terminal : IsTerminal (LeafStep leaf) end) (p : ℕ) (lp : p < length leaf.states) where
   -- whether a state is another one, and could meet p
   abbrev meets : ℕ → Bool
-  meets q = not (q == p) && can_meet leaf p q
+  meets q = not (q == p) && can_meet_in leaf p q
 
-  other_absent : 1 ≤ number_in p end → (q : ℕ) → q < length leaf.states → meets q ≡ true → MeetsFact count (absent leaf q)
+  other_absent : 1 ≤ number_in p end → (q : ℕ) → q < length leaf.states → meets q ≡ true → MeetsFact count (absent_fact leaf q)
   other_absent some q lq e = absent_met leaf count q (counts q lq ∙ zero_there (cases_lt 0 (number_in q end)))
     where
       zero_there : (0 < number_in q end) ⊎ (number_in q end ≤ 0) → number_in q end ≡ 0
@@ -160,34 +160,34 @@ module _ (leaf : LeafModel) (count : Valuation) (end : List ℕ) (counts : Count
           apart : not (q == p) ≡ true → p ≢ q
           apart h same = let f : true ≡ false = sym (eq-eqb q p (sym same)) ∙ not_true _ h in cc
 
-  others_met : 1 ≤ number_in p end → All (MeetsFact count) (map (absent leaf) (filter meets (states_of leaf)))
+  others_met : 1 ≤ number_in p end → All (MeetsFact count) (map (absent_fact leaf) (filter meets (states_of leaf)))
   others_met some =
-      All-map (MeetsFact count) (absent leaf) (filter meets (states_of leaf))
-      (all_filtered (λ q. MeetsFact count (absent leaf q)) (λ q. q < 0 + length leaf.states) meets (states_of leaf) (λ q l e. other_absent some q (omega (arith, l)) e) (in_range 0 (length leaf.states)))
+      All-map (MeetsFact count) (absent_fact leaf) (filter meets (states_of leaf))
+      (all_filtered (λ q. MeetsFact count (absent_fact leaf q)) (λ q. q < 0 + length leaf.states) meets (states_of leaf) (λ q l e. other_absent some q (omega (arith, l)) e) (in_range 0 (length leaf.states)))
 
-  alone_if : 1 ≤ number_in p end → (b : Bool) → can_meet leaf p p ≡ b → All (MeetsFact count) (if b then (alone leaf p ∷ []) else [])
+  alone_if : 1 ≤ number_in p end → (b : Bool) → can_meet_in leaf p p ≡ b → All (MeetsFact count) (if b then (alone_fact leaf p ∷ []) else [])
   alone_if some true e =
-      All-cons (MeetsFact count) (alone leaf p) [] (alone_met leaf count p (omega (arith, some, counts p lp, once_at_most leaf end p terminal e))) (All-nil (MeetsFact count))
+      All-cons (MeetsFact count) (alone_fact leaf p) [] (alone_met leaf count p (omega (arith, some, counts p lp, once_at_most leaf end p terminal e))) (All-nil (MeetsFact count))
   alone_if some false e = All-nil (MeetsFact count)
 
   -- the counts of a terminal end meet all facts of one of the cases
-  pub present_met : MeetsOne count (present_cases leaf p)
+  pub present_met : MeetsOne count (cases_of_present leaf p)
   present_met = go (cases_lt 0 (number_in p end))
     where
-      go : (0 < number_in p end) ⊎ (number_in p end ≤ 0) → MeetsOne count (present_cases leaf p)
+      go : (0 < number_in p end) ⊎ (number_in p end ≤ 0) → MeetsOne count (cases_of_present leaf p)
       go (inr none) =
-          in_first count (absent leaf p ∷ []) ((occurs leaf p ∷ map (absent leaf) (filter meets (states_of leaf)) ++ (if can_meet leaf p p then (alone leaf p ∷ []) else [])) ∷ [])
-          (All-cons (MeetsFact count) (absent leaf p) [] (absent_met leaf count p (omega (arith, none, counts p lp))) (All-nil (MeetsFact count)))
+          in_first count (absent_fact leaf p ∷ []) ((occurs_fact leaf p ∷ map (absent_fact leaf) (filter meets (states_of leaf)) ++ (if can_meet_in leaf p p then (alone_fact leaf p ∷ []) else [])) ∷ [])
+          (All-cons (MeetsFact count) (absent_fact leaf p) [] (absent_met leaf count p (omega (arith, none, counts p lp))) (All-nil (MeetsFact count)))
       go (inl l) =
           let some : 1 ≤ number_in p end = omega (arith, l) in
-          in_rest count (absent leaf p ∷ []) ((occurs leaf p ∷ map (absent leaf) (filter meets (states_of leaf)) ++ (if can_meet leaf p p then (alone leaf p ∷ []) else [])) ∷ [])
-          (in_first count (occurs leaf p ∷ map (absent leaf) (filter meets (states_of leaf)) ++ (if can_meet leaf p p then (alone leaf p ∷ []) else [])) []
-          (All-append (MeetsFact count) (occurs leaf p ∷ map (absent leaf) (filter meets (states_of leaf))) (if can_meet leaf p p then (alone leaf p ∷ []) else [])
-          (All-cons (MeetsFact count) (occurs leaf p) (map (absent leaf) (filter meets (states_of leaf))) (occurs_met leaf count p (omega (arith, some, counts p lp))) (others_met some))
-          (alone_if some (can_meet leaf p p) refl)))
+          in_rest count (absent_fact leaf p ∷ []) ((occurs_fact leaf p ∷ map (absent_fact leaf) (filter meets (states_of leaf)) ++ (if can_meet_in leaf p p then (alone_fact leaf p ∷ []) else [])) ∷ [])
+          (in_first count (occurs_fact leaf p ∷ map (absent_fact leaf) (filter meets (states_of leaf)) ++ (if can_meet_in leaf p p then (alone_fact leaf p ∷ []) else [])) []
+          (All-append (MeetsFact count) (occurs_fact leaf p ∷ map (absent_fact leaf) (filter meets (states_of leaf))) (if can_meet_in leaf p p then (alone_fact leaf p ∷ []) else [])
+          (All-cons (MeetsFact count) (occurs_fact leaf p) (map (absent_fact leaf) (filter meets (states_of leaf))) (occurs_met leaf count p (omega (arith, some, counts p lp))) (others_met some))
+          (alone_if some (can_meet_in leaf p p) refl)))
 
   -- where the state can meet itself, they meet its one fact
-  pub twin_met : can_meet leaf p p ≡ true → MeetsOne count ((not_twice leaf p ∷ []) ∷ [])
+  pub twin_met : can_meet_in leaf p p ≡ true → MeetsOne count ((not_twice leaf p ∷ []) ∷ [])
   twin_met e =
       in_first count (not_twice leaf p ∷ []) []
       (All-cons (MeetsFact count) (not_twice leaf p) [] (not_twice_met leaf count p (omega (arith, counts p lp, once_at_most leaf end p terminal e))) (All-nil (MeetsFact count)))

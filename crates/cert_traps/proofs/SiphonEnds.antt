@@ -18,7 +18,7 @@ use Rattle.cert_base.specs.declared.fact.Fact.{Fact}
 use Rattle.cert_base.specs.declared.fact.Fact.TheVariants.{Ge, Eq}
 use Rattle.cert_base.specs.Rows.{input_row}
 use Rattle.cert_base.specs.Valuation.{Valuation, MeetsFact, is_by, times_taken, IsOfExecution}
-use Rattle.cert_base.specs.FactsAndCases.{indicator, states_of, is_in, takes_from, puts_into, helpers_among, no_moves, some_taken, count_row, siphon_cases}
+use Rattle.cert_base.specs.FactsAndCases.{indicator, states_of, is_in, takes_from, puts_into, helpers_among, no_moves, some_taken_fact, count_row, cases_of_siphon}
 use Rattle.cert_base.specs.Ends.{MeetsOne}
 use Rattle.cert_base.proofs.Dead.{number_in-cons}
 use Rattle.cert_base.proofs.Numbers.{number_in}
@@ -147,7 +147,7 @@ module _ (leaf : LeafModel) (set : List ℕ) (count : Valuation) (counts : List 
           (omega (arith, within, same), same)
 
   abbrev first_case : List Fact
-  first_case = some_taken leaf (enters_set set) ∷ []
+  first_case = some_taken_fact leaf (enters_set set) ∷ []
 
   abbrev second_case : List Fact
   second_case = Ge (input_row (map (λ start. indicator (is_in set start)) leaf.inputs) (pos (helpers_among leaf set) -ℤ pos 1)) ∷ []
@@ -165,10 +165,10 @@ module _ (leaf : LeafModel) (set : List ℕ) (count : Valuation) (counts : List 
       (All-cons (MeetsFact count) (Eq (count_row leaf set (pos 0))) [] (omega (arith, ints, row, zero_sum)) (All-nil (MeetsFact count)))
 
   -- the counts of an execution meet all facts of one of the cases
-  pub siphon_met : MeetsOne count (siphon_cases leaf set)
+  pub siphon_met : MeetsOne count (cases_of_siphon leaf set)
   siphon_met = first (cases_lt 0 (sum_if count (enters_set set) places leaf.moves))
     where
-      second : sum_if count (enters_set set) places leaf.moves ≡ 0 → (0 < sum_if count (is_in set) 0 leaf.inputs + helpers_among leaf set) ⊎ (sum_if count (is_in set) 0 leaf.inputs + helpers_among leaf set ≤ 0) → MeetsOne count (siphon_cases leaf set)
+      second : sum_if count (enters_set set) places leaf.moves ≡ 0 → (0 < sum_if count (is_in set) 0 leaf.inputs + helpers_among leaf set) ⊎ (sum_if count (is_in set) 0 leaf.inputs + helpers_among leaf set ≤ 0) → MeetsOne count (cases_of_siphon leaf set)
       second e (inl l) =
           let terms = terms_value-terms_from count 0 (map (λ start. indicator (is_in set start)) leaf.inputs) in
           let sum = dot-indicators count (is_in set) 0 leaf.inputs in
@@ -176,9 +176,9 @@ module _ (leaf : LeafModel) (set : List ℕ) (count : Valuation) (counts : List 
       second e (inr l) =
           in_rest count first_case (second_case ∷ third_case ∷ []) (in_rest count second_case (third_case ∷ []) (in_first count third_case [] (third_met e (let f : sum_if count (is_in set) 0 leaf.inputs + helpers_among leaf set ≡ 0 = omega (arith, l) in f))))
 
-      first : (0 < sum_if count (enters_set set) places leaf.moves) ⊎ (sum_if count (enters_set set) places leaf.moves ≤ 0) → MeetsOne count (siphon_cases leaf set)
+      first : (0 < sum_if count (enters_set set) places leaf.moves) ⊎ (sum_if count (enters_set set) places leaf.moves ≤ 0) → MeetsOne count (cases_of_siphon leaf set)
       first (inl l) =
           let value = row_value-behind count (enters_set set) places leaf.moves (negsuc 0) in
-          in_first count first_case (second_case ∷ third_case ∷ []) (All-cons (MeetsFact count) (some_taken leaf (enters_set set)) [] (omega (arith, ints, value, l)) (All-nil (MeetsFact count)))
+          in_first count first_case (second_case ∷ third_case ∷ []) (All-cons (MeetsFact count) (some_taken_fact leaf (enters_set set)) [] (omega (arith, ints, value, l)) (All-nil (MeetsFact count)))
       first (inr l) =
           second (let e : sum_if count (enters_set set) places leaf.moves ≡ 0 = omega (arith, l) in e) (cases_lt 0 (sum_if count (is_in set) 0 leaf.inputs + helpers_among leaf set))

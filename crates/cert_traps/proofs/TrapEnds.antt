@@ -18,7 +18,7 @@ use Rattle.cert_base.specs.declared.fact.Fact.{Fact}
 use Rattle.cert_base.specs.declared.fact.Fact.TheVariants.{Ge, Eq}
 use Rattle.cert_base.specs.Rows.{single_row, constant_row, input_variable}
 use Rattle.cert_base.specs.Valuation.{Valuation, MeetsFact, is_by, times_taken, IsOfExecution}
-use Rattle.cert_base.specs.FactsAndCases.{states_of, is_in, takes_from, puts_into, helpers_among, no_moves, none_started, none_helps, some_taken, count_row, trap_cases}
+use Rattle.cert_base.specs.FactsAndCases.{states_of, is_in, takes_from, puts_into, helpers_among, no_moves, no_start_facts, no_helper_facts, some_taken_fact, count_row, cases_of_trap}
 use Rattle.cert_base.proofs.Agents.{InRange}
 use Rattle.cert_base.proofs.Dead.{one_there}
 use Rattle.cert_base.proofs.Indicators.{sum_if, row_value-behind, sum_if-none, all_places}
@@ -194,7 +194,7 @@ module _ (leaf : LeafModel) (set : List ℕ) (count : Valuation) (counts : List 
           let counted = is.states x below in
           absurd (omega (arith, none, there, one, counted))
 
-  not_started : NoneIn set (leaf_input_crowd leaf counts) → All (MeetsFact count) (none_started leaf set)
+  not_started : NoneIn set (leaf_input_crowd leaf counts) → All (MeetsFact count) (no_start_facts leaf set)
   not_started none =
       All-map (MeetsFact count) (λ i. Eq (single_row (input_variable leaf i) (pos 1) (pos 0))) _
       (all_places (λ i. MeetsFact count (Eq (single_row (input_variable leaf i) (pos 1) (pos 0)))) (is_in set) 0 leaf.inputs
@@ -209,12 +209,12 @@ module _ (leaf : LeafModel) (set : List ℕ) (count : Valuation) (counts : List 
           cc
 
   abbrev first_case : List Fact
-  first_case = some_taken leaf (leaves_set set) ∷ []
+  first_case = some_taken_fact leaf (leaves_set set) ∷ []
 
   abbrev second_case : List Fact
-  second_case = no_moves leaf (puts_into set) ++ none_started leaf set ++ Eq (count_row leaf set (pos 0)) ∷ none_helps leaf set
+  second_case = no_moves leaf (puts_into set) ++ no_start_facts leaf set ++ Eq (count_row leaf set (pos 0)) ∷ no_helper_facts leaf set
 
-  not_helped : NoneIn set (leaf_input_crowd leaf counts) → All (MeetsFact count) (none_helps leaf set)
+  not_helped : NoneIn set (leaf_input_crowd leaf counts) → All (MeetsFact count) (no_helper_facts leaf set)
   not_helped none =
       let zero_helpers : (helpers_among leaf set == 0) ≡ true = eq-eqb (helpers_among leaf set) 0 (helps-none leaf set counts none) in
       subst (λ (b : Bool). All (MeetsFact count) (if b then [] else (Eq (constant_row (pos (helpers_among leaf set))) ∷ []))) (sym zero_helpers) (All-nil (MeetsFact count))
@@ -223,10 +223,10 @@ module _ (leaf : LeafModel) (set : List ℕ) (count : Valuation) (counts : List 
   third_case = Ge (count_row leaf set (negsuc 0)) ∷ []
 
   -- the counts of an execution meet all facts of one of the cases
-  pub trap_met : MeetsOne count (trap_cases leaf set)
+  pub trap_met : MeetsOne count (cases_of_trap leaf set)
   trap_met = first (cases_lt 0 (sum_if count (leaves_set set) places leaf.moves))
     where
-      third : sum_if count (leaves_set set) places leaf.moves ≡ 0 → (0 < sum_if count (is_in set) (length leaf.inputs) (states_of leaf)) ⊎ (sum_if count (is_in set) (length leaf.inputs) (states_of leaf) ≤ 0) → MeetsOne count (trap_cases leaf set)
+      third : sum_if count (leaves_set set) places leaf.moves ≡ 0 → (0 < sum_if count (is_in set) (length leaf.inputs) (states_of leaf)) ⊎ (sum_if count (is_in set) (length leaf.inputs) (states_of leaf) ≤ 0) → MeetsOne count (cases_of_trap leaf set)
       third e (inl l) =
           let value = row_value-behind count (is_in set) (length leaf.inputs) (states_of leaf) (negsuc 0) in
           in_rest count first_case (second_case ∷ third_case ∷ []) (in_rest count second_case (third_case ∷ []) (in_first count third_case [] (All-cons (MeetsFact count) (Ge (count_row leaf set (negsuc 0))) [] (omega (arith, ints, value, l)) (All-nil (MeetsFact count)))))
@@ -236,13 +236,13 @@ module _ (leaf : LeafModel) (set : List ℕ) (count : Valuation) (counts : List 
           let value = row_value-behind count (is_in set) (length leaf.inputs) (states_of leaf) (pos 0) in
           in_rest count first_case (second_case ∷ third_case ∷ [])
           (in_first count second_case (third_case ∷ [])
-          (All-append (MeetsFact count) (no_moves leaf (puts_into set) ++ none_started leaf set) (Eq (count_row leaf set (pos 0)) ∷ none_helps leaf set)
-          (All-append (MeetsFact count) (no_moves leaf (puts_into set)) (none_started leaf set) (untaken_met leaf count (puts_into set) (λ n. times_taken leaf n (leaf_input_crowd leaf counts) path end way) is.moves back.1) (not_started back.0))
-          (All-cons (MeetsFact count) (Eq (count_row leaf set (pos 0))) (none_helps leaf set) (omega (arith, ints, value, zero_sum)) (not_helped back.0))))
+          (All-append (MeetsFact count) (no_moves leaf (puts_into set) ++ no_start_facts leaf set) (Eq (count_row leaf set (pos 0)) ∷ no_helper_facts leaf set)
+          (All-append (MeetsFact count) (no_moves leaf (puts_into set)) (no_start_facts leaf set) (untaken_met leaf count (puts_into set) (λ n. times_taken leaf n (leaf_input_crowd leaf counts) path end way) is.moves back.1) (not_started back.0))
+          (All-cons (MeetsFact count) (Eq (count_row leaf set (pos 0))) (no_helper_facts leaf set) (omega (arith, ints, value, zero_sum)) (not_helped back.0))))
 
-      first : (0 < sum_if count (leaves_set set) places leaf.moves) ⊎ (sum_if count (leaves_set set) places leaf.moves ≤ 0) → MeetsOne count (trap_cases leaf set)
+      first : (0 < sum_if count (leaves_set set) places leaf.moves) ⊎ (sum_if count (leaves_set set) places leaf.moves ≤ 0) → MeetsOne count (cases_of_trap leaf set)
       first (inl l) =
           let value = row_value-behind count (leaves_set set) places leaf.moves (negsuc 0) in
-          in_first count first_case (second_case ∷ third_case ∷ []) (All-cons (MeetsFact count) (some_taken leaf (leaves_set set)) [] (omega (arith, ints, value, l)) (All-nil (MeetsFact count)))
+          in_first count first_case (second_case ∷ third_case ∷ []) (All-cons (MeetsFact count) (some_taken_fact leaf (leaves_set set)) [] (omega (arith, ints, value, l)) (All-nil (MeetsFact count)))
       first (inr l) =
           third (let e : sum_if count (leaves_set set) places leaf.moves ≡ 0 = omega (arith, l) in e) (cases_lt 0 (sum_if count (is_in set) (length leaf.inputs) (states_of leaf)))

@@ -4,7 +4,7 @@ use Rattle.pop_net.specs.LeafModel.{LeafModel}
 use Rattle.cert_base.specs.declared.fact.Fact.{Fact}
 use Rattle.cert_base.specs.declared.fact.Fact.TheVariants.{Eq}
 use Rattle.cert_base.specs.Rows.{single_row}
-use Rattle.cert_base.specs.FactsAndCases.{alone}
+use Rattle.cert_base.specs.FactsAndCases.{alone_fact}
 
 -- the variable is 0
 abbrev pub zero_if : ℕ → Bool → List Fact
@@ -12,4 +12,4 @@ zero_if variable flag = if flag then (Eq (single_row variable (pos 1) (pos 0)) �
 
 -- the state occurs once
 abbrev pub alone_if : LeafModel → ℕ → Bool → List Fact
-alone_if leaf q flag = if flag then (alone leaf q ∷ []) else []
+alone_if leaf q flag = if flag then (alone_fact leaf q ∷ []) else []

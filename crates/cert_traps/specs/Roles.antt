@@ -5,8 +5,8 @@ use Rattle.cert_base.specs.FactsAndCases.{takes_from, puts_into}
 use Rattle.cert_traps.specs.declared.role.Role.{Role}
 use Rattle.cert_traps.specs.declared.role.Role.TheVariants.{Takes, Puts, Leaves, Enters}
 
-abbrev pub passes : List ℕ → Role → Move → Bool
-passes set Takes t = takes_from set t
-passes set Puts t = puts_into set t
-passes set Leaves t = takes_from set t && not (puts_into set t)
-passes set Enters t = puts_into set t && not (takes_from set t)
+abbrev pub passes_role : List ℕ → Role → Move → Bool
+passes_role set Takes t = takes_from set t
+passes_role set Puts t = puts_into set t
+passes_role set Leaves t = takes_from set t && not (puts_into set t)
+passes_role set Enters t = puts_into set t && not (takes_from set t)

@@ -1,11 +1,9 @@
 //! What a terminal end says of one state.
 
 ghost use Rattle.std.specs.Prelude.{◌≡◌, ◌<◌, ◌≤◌, ◌^◌, ◌∷◌, ◌++◌, ◌==◌, ◌&&◌, not, [], length, map, filter};
-ghost use Rattle.std.specs.Prelude.{if◌then◌else◌};
-ghost use Rattle.std.specs.Prelude.{slice_index_or, false, Some, None, IfOk, OnOk, IfSome};
-ghost use Rattle.cert_base.specs.FactsAndCases.{states_of, can_meet, absent as absent_fact, occurs as occurs_fact};
-ghost use Rattle.cert_base.specs.FactsAndCases.{alone as alone_fact, not_twice, present_cases as present_list};
-ghost use Rattle.cert_base.specs.FactsAndCases.{twin_case as twin_list};
+ghost use Rattle.std.specs.Prelude.{if◌then◌else◌, slice_index_or, false, Some, None, IfOk, OnOk, IfSome};
+ghost use Rattle.cert_base.specs.FactsAndCases.{states_of, can_meet_in, absent_fact, occurs_fact};
+ghost use Rattle.cert_base.specs.FactsAndCases.{alone_fact, not_twice, cases_of_present, case_of_twin};
 ghost use Rattle.cert_base.specs.Ends.{Cover};
 ghost use Rattle.cert_traps.specs.Facts.{alone_if};
 
@@ -19,7 +17,7 @@ use std::alloc::Global;
 /// The state is absent; or it occurs, and nothing does that could meet it.
 pub fn present_cases(alloc: Global, leaf: &Leaf, state: u16) -> Result<List<List<Fact>>, NoMemory>
     requires { state < length leaf.now.states }
-    ensures cases { IfOk result (λ cases. cases ≡ present_list leaf.now state) }
+    ensures cases { IfOk result (λ cases. cases ≡ cases_of_present leaf.now state) }
     // Every terminal end meets all facts of one of the cases.
     ensures cover { IfOk result (Cover leaf.now) }
 {
@@ -32,7 +30,7 @@ pub fn present_cases(alloc: Global, leaf: &Leaf, state: u16) -> Result<List<List
 /// A state that can meet itself occurs once at most. For another state there is no case.
 pub fn twin_case(alloc: Global, leaf: &Leaf, state: u16) -> Result<Option<List<Fact>>, NoMemory>
     requires { state < length leaf.now.states }
-    ensures case { IfOk result (λ case. case ≡ twin_list leaf.now state) }
+    ensures case { IfOk result (λ case. case ≡ case_of_twin leaf.now state) }
     // Every terminal end meets all its facts.
     ensures cover { IfOk result (λ case. IfSome case (λ facts. Cover leaf.now (facts ∷ []))) }
 {
@@ -53,8 +51,10 @@ fn twin(alloc: Global, leaf: &Leaf, state: u16, meets: bool) -> Result<Option<Li
 fn unmet(alloc: Global, leaf: &Leaf, state: u16) -> Result<List<Fact>, NoMemory>
     requires { state < length leaf.now.states }
     ensures { IfOk result (λ facts. facts ≡ occurs_fact leaf.now state
-        ∷ map (absent_fact leaf.now) (filter (λ q. not (q == state) && can_meet leaf.now state q) (states_of leaf.now))
-        ++ (if can_meet leaf.now state state then (alone_fact leaf.now state ∷ []) else [])) }
+        ∷ map
+        (absent_fact leaf.now)
+        (filter (λ q. not (q == state) && can_meet_in leaf.now state q) (states_of leaf.now))
+        ++ (if can_meet_in leaf.now state state then (alone_fact leaf.now state ∷ []) else [])) }
 {
     let partners = partners(alloc, leaf, state)?;
     let mut facts = Vec::new(alloc);

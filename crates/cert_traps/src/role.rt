@@ -2,7 +2,7 @@
 
 ghost use Rattle.std.specs.Prelude.{◌≡◌, map, IfOk};
 ghost use Rattle.pop_net.specs.LeafModel.{IsLeaf, IsMoveBelow};
-ghost use Rattle.cert_traps.specs.Roles.{passes as passes_role};
+ghost use Rattle.cert_traps.specs.Roles.{passes_role};
 
 use crate::set::StateSet;
 use pop_io::NoMemory;

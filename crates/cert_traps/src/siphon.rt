@@ -5,7 +5,7 @@ ghost use Rattle.pop_net.specs.LeafModel.{IsLeaf};
 ghost use Rattle.cert_base.specs.declared.fact.Fact.TheVariants.{Ge, Eq};
 ghost use Rattle.cert_base.specs.Rows.{input_row};
 ghost use Rattle.cert_base.specs.FactsAndCases.{indicator, is_in, helpers_among, takes_from, no_moves};
-ghost use Rattle.cert_base.specs.FactsAndCases.{count_row, siphon_cases as siphon_list};
+ghost use Rattle.cert_base.specs.FactsAndCases.{count_row, cases_of_siphon};
 ghost use Rattle.cert_base.specs.Ends.{Cover};
 
 use crate::facts::coefs;
@@ -23,7 +23,7 @@ pub fn siphon_cases(
     leaf: &Leaf,
     set: &List<u16>,
 ) -> Result<List<List<Fact>>, NoMemory>
-    ensures cases { IfOk result (λ cases. cases ≡ siphon_list leaf.now set.now) }
+    ensures cases { IfOk result (λ cases. cases ≡ cases_of_siphon leaf.now set.now) }
     // Every terminal end meets all facts of one of the cases.
     ensures cover { IfOk result (Cover leaf.now) }
 {

@@ -3,12 +3,10 @@
 ghost use Rattle.std.specs.Prelude.{◌≡◌, ◌≤◌, ◌^◌, ◌++◌, ◌∷◌, [], pos, length, map, IfOk, OnOk};
 ghost use Rattle.pop_net.specs.LeafModel.{IsLeaf};
 ghost use Rattle.cert_base.specs.declared.fact.Fact.TheVariants.{Ge, Eq};
-ghost use Rattle.cert_base.specs.FactsAndCases.{no_moves, none_started as no_inputs};
-ghost use Rattle.cert_base.specs.FactsAndCases.{none_helps as no_helpers};
-ghost use Rattle.cert_base.specs.FactsAndCases.{some_taken as some_moves, count_row, puts_into};
-ghost use Rattle.cert_base.specs.FactsAndCases.{trap_cases as trap_list};
+ghost use Rattle.cert_base.specs.FactsAndCases.{no_moves, no_start_facts, no_helper_facts};
+ghost use Rattle.cert_base.specs.FactsAndCases.{some_taken_fact, count_row, puts_into, cases_of_trap};
 ghost use Rattle.cert_base.specs.Ends.{Cover};
-ghost use Rattle.cert_traps.specs.Roles.{passes};
+ghost use Rattle.cert_traps.specs.Roles.{passes_role};
 
 use crate::facts::{coefs, push_zeros};
 use crate::role::{Role, move_flags};
@@ -20,7 +18,7 @@ use std::alloc::Global;
 
 /// The set is no trap; or it was never marked; or it is marked at the end.
 pub fn trap_cases(alloc: Global, leaf: &Leaf, set: &List<u16>) -> Result<List<List<Fact>>, NoMemory>
-    ensures cases { IfOk result (λ cases. cases ≡ trap_list leaf.now set.now) }
+    ensures cases { IfOk result (λ cases. cases ≡ cases_of_trap leaf.now set.now) }
     // Every terminal end meets all facts of one of the cases.
     ensures cover { IfOk result (Cover leaf.now) }
 {
@@ -35,8 +33,8 @@ pub fn trap_cases(alloc: Global, leaf: &Leaf, set: &List<u16>) -> Result<List<Li
 
 fn never_marked(alloc: Global, leaf: &Leaf, set: &StateSet) -> Result<List<Fact>, NoMemory>
     requires { IsLeaf leaf.now }
-    ensures { IfOk result (λ facts. facts ≡ no_moves leaf.now (puts_into set.now) ++ no_inputs leaf.now set.now
-        ++ Eq (count_row leaf.now set.now (pos 0)) ∷ no_helpers leaf.now set.now) }
+    ensures { IfOk result (λ facts. facts ≡ no_moves leaf.now (puts_into set.now) ++ no_start_facts leaf.now set.now
+        ++ Eq (count_row leaf.now set.now (pos 0)) ∷ no_helper_facts leaf.now set.now) }
 {
     let mut facts = Vec::new(alloc);
     none_taken(alloc, &mut facts, leaf, set, Role::Puts)?;
@@ -54,7 +52,7 @@ pub(crate) fn some_taken(
     role: Role,
 ) -> Result<Fact, NoMemory>
     requires { IsLeaf leaf.now }
-    ensures { IfOk result (λ fact. fact ≡ some_moves leaf.now (passes set.now role)) }
+    ensures { IfOk result (λ fact. fact ≡ some_taken_fact leaf.now (passes_role set.now role)) }
 {
     let flags = move_flags(alloc, leaf, set, role)?;
     let coefs = coefs(alloc, flags.as_slice())?;
@@ -70,7 +68,7 @@ pub(crate) fn none_taken(
     role: Role,
 ) -> Result<(), NoMemory>
     requires { IsLeaf leaf.now }
-    ensures { OnOk result (facts.new.items ≡ facts.old.items ++ no_moves leaf.now (passes set.now role)) }
+    ensures { OnOk result (facts.new.items ≡ facts.old.items ++ no_moves leaf.now (passes_role set.now role)) }
 {
     let flags = move_flags(alloc, leaf, set, role)?;
     push_zeros(alloc, facts, variable_of_move(leaf, 0), flags.as_slice())?;
@@ -84,7 +82,7 @@ fn none_started(
     leaf: &Leaf,
     set: &StateSet,
 ) -> Result<(), NoMemory>
-    ensures { OnOk result (facts.new.items ≡ facts.old.items ++ no_inputs leaf.now set.now) }
+    ensures { OnOk result (facts.new.items ≡ facts.old.items ++ no_start_facts leaf.now set.now) }
 {
     let flags = set.starts(alloc, leaf)?;
     push_zeros(alloc, facts, variable_of_input(0), flags.as_slice())?;
@@ -99,7 +97,7 @@ fn none_helps(
     set: &StateSet,
 ) -> Result<(), NoMemory>
     requires { IsLeaf leaf.now }
-    ensures { OnOk result (facts.new.items ≡ facts.old.items ++ no_helpers leaf.now set.now) }
+    ensures { OnOk result (facts.new.items ≡ facts.old.items ++ no_helper_facts leaf.now set.now) }
 {
     let count = set.helpers(leaf);
     if count != 0 {

@@ -16,7 +16,7 @@ use Rattle.cert_base.specs.declared.fact.Fact.TheVariants.{Ge, Eq, Cong, NotCong
 use Rattle.cert_base.specs.declared.node.Node.{Node}
 use Rattle.cert_base.specs.declared.node.Node.TheVariants.{Linear, Residue, Split, Present, Twin, Trap, Siphon, Open}
 use Rattle.cert_base.specs.Rows.{constant_row, terms_from, single_row, input_row, state_row, zeros, input_variable, state_variable, move_variable, variable_count}
-use Rattle.cert_base.specs.FactsAndCases.{helpers_starting, helpers_among, none_helps, indicator, states_of, flow, two_agents, differs, wrong_output, base_list, absent, occurs, alone, not_twice, can_meet, present_cases, is_in, takes_from, puts_into, places_from, no_moves, none_started, some_taken, count_row, trap_cases, siphon_cases, plus, negated, split_cases, over, open_tree}
+use Rattle.cert_base.specs.FactsAndCases.{helpers_starting, helpers_among, no_helper_facts, indicator, states_of, flow, two_agents_fact, differs, wrong_output_fact, base_list, absent_fact, occurs_fact, alone_fact, not_twice, can_meet_in, cases_of_present, is_in, takes_from, puts_into, places_from, no_moves, no_start_facts, some_taken_fact, count_row, cases_of_trap, cases_of_siphon, plus, negated_row, cases_of_split, over_count, open_tree}
 use Rattle.cert_base.specs.Closes.{name_below, where_in_range, opened, only_case}
 use Rattle.cert_linear.specs.Conditions.{AreAscending, IsOrdered}
 use Rattle.cert_tree.specs.Refusals.{cases_at}
@@ -150,7 +150,7 @@ flow_ordered : (leaf : LeafModel) (q : ℕ) → HasOrder (flow leaf q)
 flow_ordered leaf q =
     dense_eq (map (λ start. indicator (start == q)) leaf.inputs ++ map (λ z. neg_ℤ (indicator (z == q))) (states_of leaf) ++ map (λ t. pos (post t q) -ℤ pos (pre t q)) leaf.moves) (pos (helpers_starting leaf q))
 
-two_ordered : (leaf : LeafModel) → HasOrder (two_agents leaf)
+two_ordered : (leaf : LeafModel) → HasOrder (two_agents_fact leaf)
 two_ordered leaf = dense_ge (replicate (length leaf.inputs) (pos 1)) (pos (length leaf.helpers) -ℤ pos 2)
 
 over_states : (leaf : LeafModel) (coefs : List ℤ) (c : ℤ) → HasOrder (Ge (state_row leaf coefs c))
@@ -159,42 +159,42 @@ over_states leaf coefs c = dense_ge (zeros (length leaf.inputs) ++ coefs) c
 zero_over_states : (leaf : LeafModel) (coefs : List ℤ) (c : ℤ) → HasOrder (Eq (state_row leaf coefs c))
 zero_over_states leaf coefs c = dense_eq (zeros (length leaf.inputs) ++ coefs) c
 
-wrong_ordered : (leaf : LeafModel) (value : Bool) → HasOrder (wrong_output leaf value)
+wrong_ordered : (leaf : LeafModel) (value : Bool) → HasOrder (wrong_output_fact leaf value)
 wrong_ordered leaf value =
     over_states leaf (map (λ q. indicator (differs value (slice_index_or leaf.outputs q false))) (states_of leaf)) (negsuc 0)
 
 pub base_ordered : (leaf : LeafModel) (p : PredModel) (value : Bool) → AllOrdered (base_list leaf p value)
 base_ordered leaf p value =
-    append_ordered (map (flow leaf) (states_of leaf)) (two_agents leaf ∷ Holds p value ∷ wrong_output leaf value ∷ [])
+    append_ordered (map (flow leaf) (states_of leaf)) (two_agents_fact leaf ∷ Holds p value ∷ wrong_output_fact leaf value ∷ [])
     (map_ordered (flow leaf) (states_of leaf) (flow_ordered leaf))
-    (more_facts (two_agents leaf) (Holds p value ∷ wrong_output leaf value ∷ []) (two_ordered leaf)
-    (more_facts (Holds p value) (wrong_output leaf value ∷ []) (holds_ordered p value) (one_fact (wrong_output leaf value) (wrong_ordered leaf value))))
+    (more_facts (two_agents_fact leaf) (Holds p value ∷ wrong_output_fact leaf value ∷ []) (two_ordered leaf)
+    (more_facts (Holds p value) (wrong_output_fact leaf value ∷ []) (holds_ordered p value) (one_fact (wrong_output_fact leaf value) (wrong_ordered leaf value))))
 
-absent_ordered : (leaf : LeafModel) (q : ℕ) → HasOrder (absent leaf q)
+absent_ordered : (leaf : LeafModel) (q : ℕ) → HasOrder (absent_fact leaf q)
 absent_ordered leaf q = single_eq (state_variable leaf q) (pos 1) (pos 0)
 
-alone_ordered : (leaf : LeafModel) (p : ℕ) (twice : Bool) → AllOrdered (if twice then (alone leaf p ∷ []) else [])
-alone_ordered leaf p true = one_fact (alone leaf p) (single_eq (state_variable leaf p) (pos 1) (negsuc 0))
+alone_ordered : (leaf : LeafModel) (p : ℕ) (twice : Bool) → AllOrdered (if twice then (alone_fact leaf p ∷ []) else [])
+alone_ordered leaf p true = one_fact (alone_fact leaf p) (single_eq (state_variable leaf p) (pos 1) (negsuc 0))
 alone_ordered leaf p false = no_fact
 
-present_ordered : (leaf : LeafModel) (p : ℕ) → CasesOrdered (present_cases leaf p)
+present_ordered : (leaf : LeafModel) (p : ℕ) → CasesOrdered (cases_of_present leaf p)
 present_ordered leaf p =
-    let others = filter (λ q. not (q == p) && can_meet leaf p q) (states_of leaf) in
-    let twice : List Fact = if can_meet leaf p p then (alone leaf p ∷ []) else [] in
-    two_cases (absent leaf p ∷ []) (occurs leaf p ∷ map (absent leaf) others ++ twice) (one_fact (absent leaf p) (absent_ordered leaf p))
-    (append_ordered (occurs leaf p ∷ map (absent leaf) others) twice
-    (more_facts (occurs leaf p) (map (absent leaf) others) (single_ge (state_variable leaf p) (pos 1) (negsuc 0)) (map_ordered (absent leaf) others (absent_ordered leaf)))
-    (alone_ordered leaf p (can_meet leaf p p)))
+    let others = filter (λ q. not (q == p) && can_meet_in leaf p q) (states_of leaf) in
+    let twice : List Fact = if can_meet_in leaf p p then (alone_fact leaf p ∷ []) else [] in
+    two_cases (absent_fact leaf p ∷ []) (occurs_fact leaf p ∷ map (absent_fact leaf) others ++ twice) (one_fact (absent_fact leaf p) (absent_ordered leaf p))
+    (append_ordered (occurs_fact leaf p ∷ map (absent_fact leaf) others) twice
+    (more_facts (occurs_fact leaf p) (map (absent_fact leaf) others) (single_ge (state_variable leaf p) (pos 1) (negsuc 0)) (map_ordered (absent_fact leaf) others (absent_ordered leaf)))
+    (alone_ordered leaf p (can_meet_in leaf p p)))
 
 none_taken_ordered : (leaf : LeafModel) (test : Move → Bool) → AllOrdered (no_moves leaf test)
 none_taken_ordered leaf test =
     map_ordered (λ t. Eq (single_row (move_variable leaf t) (pos 1) (pos 0))) (places_from 0 test leaf.moves) (λ t. single_eq (move_variable leaf t) (pos 1) (pos 0))
 
-none_started_ordered : (leaf : LeafModel) (set : List ℕ) → AllOrdered (none_started leaf set)
+none_started_ordered : (leaf : LeafModel) (set : List ℕ) → AllOrdered (no_start_facts leaf set)
 none_started_ordered leaf set =
     map_ordered (λ i. Eq (single_row (input_variable leaf i) (pos 1) (pos 0))) (places_from 0 (is_in set) leaf.inputs) (λ i. single_eq (input_variable leaf i) (pos 1) (pos 0))
 
-taken_ordered : (leaf : LeafModel) (test : Move → Bool) → HasOrder (some_taken leaf test)
+taken_ordered : (leaf : LeafModel) (test : Move → Bool) → HasOrder (some_taken_fact leaf test)
 taken_ordered leaf test =
     dense_ge (zeros (length leaf.inputs + length leaf.states) ++ map (λ t. indicator (test t)) leaf.moves) (negsuc 0)
 
@@ -206,33 +206,33 @@ none_helps_ordered leaf set true = no_fact
 none_helps_ordered leaf set false =
     one_fact (Eq (constant_row (pos (helpers_among leaf set)))) (dense_eq [] (pos (helpers_among leaf set)))
 
-trap_ordered : (leaf : LeafModel) (set : List ℕ) → CasesOrdered (trap_cases leaf set)
+trap_ordered : (leaf : LeafModel) (set : List ℕ) → CasesOrdered (cases_of_trap leaf set)
 trap_ordered leaf set =
-    three_cases (some_taken leaf (λ t. takes_from set t && not (puts_into set t)) ∷ [])
-    (no_moves leaf (puts_into set) ++ none_started leaf set ++ Eq (count_row leaf set (pos 0)) ∷ none_helps leaf set)
+    three_cases (some_taken_fact leaf (λ t. takes_from set t && not (puts_into set t)) ∷ [])
+    (no_moves leaf (puts_into set) ++ no_start_facts leaf set ++ Eq (count_row leaf set (pos 0)) ∷ no_helper_facts leaf set)
     (Ge (count_row leaf set (negsuc 0)) ∷ [])
-    (one_fact (some_taken leaf (λ t. takes_from set t && not (puts_into set t))) (taken_ordered leaf (λ t. takes_from set t && not (puts_into set t))))
-    (append_ordered (no_moves leaf (puts_into set) ++ none_started leaf set) (Eq (count_row leaf set (pos 0)) ∷ none_helps leaf set)
-    (append_ordered (no_moves leaf (puts_into set)) (none_started leaf set) (none_taken_ordered leaf (puts_into set)) (none_started_ordered leaf set))
-    (more_facts (Eq (count_row leaf set (pos 0))) (none_helps leaf set) (zero_over_states leaf (marks leaf set) (pos 0)) (none_helps_ordered leaf set (helpers_among leaf set == 0))))
+    (one_fact (some_taken_fact leaf (λ t. takes_from set t && not (puts_into set t))) (taken_ordered leaf (λ t. takes_from set t && not (puts_into set t))))
+    (append_ordered (no_moves leaf (puts_into set) ++ no_start_facts leaf set) (Eq (count_row leaf set (pos 0)) ∷ no_helper_facts leaf set)
+    (append_ordered (no_moves leaf (puts_into set)) (no_start_facts leaf set) (none_taken_ordered leaf (puts_into set)) (none_started_ordered leaf set))
+    (more_facts (Eq (count_row leaf set (pos 0))) (no_helper_facts leaf set) (zero_over_states leaf (marks leaf set) (pos 0)) (none_helps_ordered leaf set (helpers_among leaf set == 0))))
     (one_fact (Ge (count_row leaf set (negsuc 0))) (over_states leaf (marks leaf set) (negsuc 0)))
 
-siphon_ordered : (leaf : LeafModel) (set : List ℕ) → CasesOrdered (siphon_cases leaf set)
+siphon_ordered : (leaf : LeafModel) (set : List ℕ) → CasesOrdered (cases_of_siphon leaf set)
 siphon_ordered leaf set =
-    three_cases (some_taken leaf (λ t. puts_into set t && not (takes_from set t)) ∷ [])
+    three_cases (some_taken_fact leaf (λ t. puts_into set t && not (takes_from set t)) ∷ [])
     (Ge (input_row (map (λ start. indicator (is_in set start)) leaf.inputs) (pos (helpers_among leaf set) -ℤ pos 1)) ∷ [])
     (no_moves leaf (takes_from set) ++ Eq (count_row leaf set (pos 0)) ∷ [])
-    (one_fact (some_taken leaf (λ t. puts_into set t && not (takes_from set t))) (taken_ordered leaf (λ t. puts_into set t && not (takes_from set t))))
+    (one_fact (some_taken_fact leaf (λ t. puts_into set t && not (takes_from set t))) (taken_ordered leaf (λ t. puts_into set t && not (takes_from set t))))
     (one_fact (Ge (input_row (map (λ start. indicator (is_in set start)) leaf.inputs) (pos (helpers_among leaf set) -ℤ pos 1))) (dense_ge (map (λ start. indicator (is_in set start)) leaf.inputs) (pos (helpers_among leaf set) -ℤ pos 1)))
     (append_ordered (no_moves leaf (takes_from set)) (Eq (count_row leaf set (pos 0)) ∷ []) (none_taken_ordered leaf (takes_from set))
     (one_fact (Eq (count_row leaf set (pos 0))) (zero_over_states leaf (marks leaf set) (pos 0))))
 
-split_ordered : (row : Row) → AreAscending row.terms → CasesOrdered (split_cases row)
+split_ordered : (row : Row) → AreAscending row.terms → CasesOrdered (cases_of_split row)
 split_ordered row up =
-    three_cases (Ge (plus row (negsuc 0)) ∷ []) (Eq row ∷ []) (Ge (plus (negated row) (negsuc 0)) ∷ [])
+    three_cases (Ge (plus row (negsuc 0)) ∷ []) (Eq row ∷ []) (Ge (plus (negated_row row) (negsuc 0)) ∷ [])
     (one_fact (Ge (plus row (negsuc 0))) (record { ascending = up }))
     (one_fact (Eq row) (record { ascending = up }))
-    (one_fact (Ge (plus (negated row) (negsuc 0))) (record { ascending = turned_ascending row.terms up }))
+    (one_fact (Ge (plus (negated_row row) (negsuc 0))) (record { ascending = turned_ascending row.terms up }))
 
 both_ordered : (p q : PredModel) (b : Bool) → CasesOrdered ((Holds p b ∷ Holds q b ∷ []) ∷ [])
 both_ordered p q b =
@@ -252,11 +252,11 @@ open_ordered n (Congruent coefs m rest) true =
 open_ordered n (Congruent coefs m rest) false =
     one_in_one (NotCong (input_row coefs (neg_ℤ (pos rest))) m) (record { ascending = dense_ascending 0 coefs })
 open_ordered n (Negation p) b =
-    one_in_one (Holds (over n p) (not b)) (holds_ordered (over n p) (not b))
-open_ordered n (Conjunction p q) true = both_ordered (over n p) (over n q) true
-open_ordered n (Conjunction p q) false = either_ordered (over n p) (over n q) false
-open_ordered n (Disjunction p q) true = either_ordered (over n p) (over n q) true
-open_ordered n (Disjunction p q) false = both_ordered (over n p) (over n q) false
+    one_in_one (Holds (over_count n p) (not b)) (holds_ordered (over_count n p) (not b))
+open_ordered n (Conjunction p q) true = both_ordered (over_count n p) (over_count n q) true
+open_ordered n (Conjunction p q) false = either_ordered (over_count n p) (over_count n q) false
+open_ordered n (Disjunction p q) true = either_ordered (over_count n p) (over_count n q) true
+open_ordered n (Disjunction p q) false = both_ordered (over_count n p) (over_count n q) false
 
 where_ordered : (b : Bool) (cases : List (List Fact)) → CasesOrdered cases → CasesOrdered (unwrap_or (where_in_range b cases) [])
 where_ordered true cases h = h
@@ -280,9 +280,9 @@ opened_ordered (Some (Holds p b)) = open_ordered p.variables p.tree b
 pub cases_ordered : (leaf : LeafModel) (facts : List Fact) (node : Node) → IsWithinFormat node → CasesOrdered (cases_at leaf facts node)
 cases_ordered leaf facts (Linear terms) within = no_case
 cases_ordered leaf facts (Residue m terms) within = no_case
-cases_ordered leaf facts (Split row) within = where_ordered (name_below (variable_count leaf) row.terms) (split_cases row) (split_ordered row within.0)
-cases_ordered leaf facts (Present p) within = where_ordered (nat_lt p (length leaf.states)) (present_cases leaf p) (present_ordered leaf p)
-cases_ordered leaf facts (Twin p) within = twin_ordered leaf p (nat_lt p (length leaf.states)) (can_meet leaf p p)
-cases_ordered leaf facts (Trap set) within = where_ordered (list_all (λ q. nat_lt q (length leaf.states)) set) (trap_cases leaf set) (trap_ordered leaf set)
-cases_ordered leaf facts (Siphon set) within = where_ordered (list_all (λ q. nat_lt q (length leaf.states)) set) (siphon_cases leaf set) (siphon_ordered leaf set)
+cases_ordered leaf facts (Split row) within = where_ordered (name_below (variable_count leaf) row.terms) (cases_of_split row) (split_ordered row within.0)
+cases_ordered leaf facts (Present p) within = where_ordered (nat_lt p (length leaf.states)) (cases_of_present leaf p) (present_ordered leaf p)
+cases_ordered leaf facts (Twin p) within = twin_ordered leaf p (nat_lt p (length leaf.states)) (can_meet_in leaf p p)
+cases_ordered leaf facts (Trap set) within = where_ordered (list_all (λ q. nat_lt q (length leaf.states)) set) (cases_of_trap leaf set) (trap_ordered leaf set)
+cases_ordered leaf facts (Siphon set) within = where_ordered (list_all (λ q. nat_lt q (length leaf.states)) set) (cases_of_siphon leaf set) (siphon_ordered leaf set)
 cases_ordered leaf facts (Open f) within = opened_ordered (slice_get facts f)

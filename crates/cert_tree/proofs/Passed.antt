@@ -9,7 +9,7 @@ use Rattle.cert_base.specs.declared.fact.Row.{Row}
 use Rattle.cert_base.specs.declared.fact.Fact.{Fact}
 use Rattle.cert_base.specs.declared.node.Node.TheVariants.{Linear, Residue, Split, Present, Twin, Trap, Siphon}
 use Rattle.cert_base.specs.Rows.{variable_count}
-use Rattle.cert_base.specs.FactsAndCases.{can_meet, not_twice, twin_case, split_cases, present_cases, trap_cases, siphon_cases}
+use Rattle.cert_base.specs.FactsAndCases.{can_meet_in, not_twice, case_of_twin, cases_of_split, cases_of_present, cases_of_trap, cases_of_siphon}
 use Rattle.cert_base.specs.ClosingTests.{closes_by_sum, closes_by_residue}
 use Rattle.cert_base.specs.Closes.{name_below}
 use Rattle.cert_base.specs.Ends.{AreRefuted, Cover, CoverAll}
@@ -29,14 +29,14 @@ residue_passed facts m terms cases named closes refuted none leaf = record {
   cover = λ count end meets. absurd (refuted count meets);
 }
 
-pub split_passed : (leaf : LeafModel) (row : Row) (cases : List (List Fact)) → name_below (variable_count leaf) row.terms ≡ true → cases ≡ split_cases row → CoverAll cases → (facts : List Fact) → IsPassed leaf facts (Split row) cases
+pub split_passed : (leaf : LeafModel) (row : Row) (cases : List (List Fact)) → name_below (variable_count leaf) row.terms ≡ true → cases ≡ cases_of_split row → CoverAll cases → (facts : List Fact) → IsPassed leaf facts (Split row) cases
 split_passed leaf row cases named same cover facts = record {
   cases_are = same ∙ sym (rw named refl);
   unrefused = rw named refl;
   cover = λ count end meets. cover count;
 }
 
-pub present_passed : (leaf : LeafModel) (p : ℕ) (cases : List (List Fact)) → p < length leaf.states → cases ≡ present_cases leaf p → Cover leaf cases → (facts : List Fact) → IsPassed leaf facts (Present p) cases
+pub present_passed : (leaf : LeafModel) (p : ℕ) (cases : List (List Fact)) → p < length leaf.states → cases ≡ cases_of_present leaf p → Cover leaf cases → (facts : List Fact) → IsPassed leaf facts (Present p) cases
 present_passed leaf p cases l same cover facts =
     let named = lt-ltb p (length leaf.states) l in
     record {
@@ -45,10 +45,10 @@ present_passed leaf p cases l same cover facts =
       cover = λ count end meets. cover count end;
     }
 
-pub twin_passed : (leaf : LeafModel) (p : ℕ) (own : List Fact) (cases : List (List Fact)) → p < length leaf.states → Some own ≡ twin_case leaf p → Cover leaf (own ∷ []) → cases ≡ own ∷ [] → (facts : List Fact) → IsPassed leaf facts (Twin p) cases
-twin_passed leaf p own cases l same cover is facts = go (can_meet leaf p p) refl
+pub twin_passed : (leaf : LeafModel) (p : ℕ) (own : List Fact) (cases : List (List Fact)) → p < length leaf.states → Some own ≡ case_of_twin leaf p → Cover leaf (own ∷ []) → cases ≡ own ∷ [] → (facts : List Fact) → IsPassed leaf facts (Twin p) cases
+twin_passed leaf p own cases l same cover is facts = go (can_meet_in leaf p p) refl
   where
-    go : (meets : Bool) → can_meet leaf p p ≡ meets → IsPassed leaf facts (Twin p) cases
+    go : (meets : Bool) → can_meet_in leaf p p ≡ meets → IsPassed leaf facts (Twin p) cases
     go true e =
         let named = lt-ltb p (length leaf.states) l in
         let whole : Some own ≡ Some (not_twice leaf p ∷ []) = same ∙ rw e refl in
@@ -60,14 +60,14 @@ twin_passed leaf p own cases l same cover is facts = go (can_meet leaf p p) refl
         }
     go false e = let none : Some own ≡ None = same ∙ rw e refl in cc
 
-pub trap_passed : (leaf : LeafModel) (set : List ℕ) (cases : List (List Fact)) → list_all (λ q. nat_lt q (length leaf.states)) set ≡ true → cases ≡ trap_cases leaf set → Cover leaf cases → (facts : List Fact) → IsPassed leaf facts (Trap set) cases
+pub trap_passed : (leaf : LeafModel) (set : List ℕ) (cases : List (List Fact)) → list_all (λ q. nat_lt q (length leaf.states)) set ≡ true → cases ≡ cases_of_trap leaf set → Cover leaf cases → (facts : List Fact) → IsPassed leaf facts (Trap set) cases
 trap_passed leaf set cases named same cover facts = record {
   cases_are = same ∙ sym (rw named refl);
   unrefused = rw named refl;
   cover = λ count end meets. cover count end;
 }
 
-pub siphon_passed : (leaf : LeafModel) (set : List ℕ) (cases : List (List Fact)) → list_all (λ q. nat_lt q (length leaf.states)) set ≡ true → cases ≡ siphon_cases leaf set → Cover leaf cases → (facts : List Fact) → IsPassed leaf facts (Siphon set) cases
+pub siphon_passed : (leaf : LeafModel) (set : List ℕ) (cases : List (List Fact)) → list_all (λ q. nat_lt q (length leaf.states)) set ≡ true → cases ≡ cases_of_siphon leaf set → Cover leaf cases → (facts : List Fact) → IsPassed leaf facts (Siphon set) cases
 siphon_passed leaf set cases named same cover facts = record {
   cases_are = same ∙ sym (rw named refl);
   unrefused = rw named refl;

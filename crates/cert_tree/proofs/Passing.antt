@@ -10,12 +10,12 @@ use Rattle.cert_base.specs.declared.fact.Fact.{Fact}
 use Rattle.cert_base.specs.declared.fact.Fact.TheVariants.{Ge, Eq, Cong, NotCong, Holds}
 use Rattle.cert_base.specs.declared.node.Node.{Node}
 use Rattle.cert_base.specs.declared.node.Node.TheVariants.{Linear, Residue, Split, Present, Twin, Trap, Siphon, Open}
-use Rattle.cert_base.specs.FactsAndCases.{can_meet}
+use Rattle.cert_base.specs.FactsAndCases.{can_meet_in}
 use Rattle.cert_base.specs.ClosingTests.{may_have, all_named, may_add, may_add_modulo}
 use Rattle.cert_base.specs.Closes.{name_below, refutes, cases_of, where_in_range, opened, only_case, MayStand}
 use Rattle.cert_tree.specs.declared.fault.TreeWhy.{TreeWhy}
 use Rattle.cert_tree.specs.declared.fault.TreeWhy.TheVariants.{TooDeep, BadIndex, NoTwin, NotOpen, NotClosed, TooManyFacts}
-use Rattle.cert_tree.specs.Refusals.{in_range, has_twin, is_holds, opens_holds, refutes_facts, cases_at, all_fit, own_refusal, or_else, refusal}
+use Rattle.cert_tree.specs.Refusals.{names_in_range, has_twin, is_holds, opens_holds, refutes_facts, cases_at, all_fit, own_refusal, or_else, refusal}
 
 -- the node refutes the facts and has no case, or it has these cases
 abbrev pub RefutesOrDivides : LeafModel → List Fact → Node → Type 0
@@ -39,7 +39,7 @@ whole_test false b own e = cc
 
 -- ---- a node that passes its own tests
 
-twin_at : (leaf : LeafModel) (facts : List Fact) (p : ℕ) → nat_lt p (length leaf.states) ≡ true → can_meet leaf p p ≡ true → RefutesOrDivides leaf facts (Twin p)
+twin_at : (leaf : LeafModel) (facts : List Fact) (p : ℕ) → nat_lt p (length leaf.states) ≡ true → can_meet_in leaf p p ≡ true → RefutesOrDivides leaf facts (Twin p)
 twin_at leaf facts p e f = inr (rw (e, f) refl)
 
 open_at : (leaf : LeafModel) (facts : List Fact) (f : ℕ) (o : Option Fact) → slice_get facts f ≡ o → is_holds o ≡ true → opened o ≡ Some (unwrap_or (opened o) [])
@@ -50,7 +50,7 @@ open_at leaf facts f (Some (Cong row m)) h e = cc
 open_at leaf facts f (Some (NotCong row m)) h e = cc
 open_at leaf facts f (Some (Holds p b)) h e = refl
 
-pub passes-own : (leaf : LeafModel) (facts : List Fact) (node : Node) → (in_range leaf facts node ≡ true) × (has_twin leaf node ≡ true) × (opens_holds facts node ≡ true) × (refutes_facts facts node ≡ true) → RefutesOrDivides leaf facts node
+pub passes-own : (leaf : LeafModel) (facts : List Fact) (node : Node) → (names_in_range leaf facts node ≡ true) × (has_twin leaf node ≡ true) × (opens_holds facts node ≡ true) × (refutes_facts facts node ≡ true) → RefutesOrDivides leaf facts node
 passes-own leaf facts (Linear terms) h = inl (h.3, refl)
 passes-own leaf facts (Residue m terms) h = inl (h.3, refl)
 passes-own leaf facts (Split row) h = inr (rw h.0 refl)
@@ -72,7 +72,7 @@ unrefused-passes leaf above facts node e =
     record {
       depth = ltb-true above 4096 whole.0;
       fit = whole.1;
-      ways = passes-own leaf facts node (first_test (in_range leaf facts node) (has_twin leaf node) (opens_holds facts node) (refutes_facts facts node) whole.2);
+      ways = passes-own leaf facts node (first_test (names_in_range leaf facts node) (has_twin leaf node) (opens_holds facts node) (refutes_facts facts node) whole.2);
     }
 
 -- ---- a node that refutes or divides is not refused by its own tests
@@ -89,7 +89,7 @@ named_below_by may facts (t ∷ terms) e =
 
 -- all four tests are passed
 abbrev PassesOwn : LeafModel → List Fact → Node → Type 0
-PassesOwn leaf facts node = (in_range leaf facts node ≡ true) × (has_twin leaf node ≡ true) × (opens_holds facts node ≡ true) × (refutes_facts facts node ≡ true)
+PassesOwn leaf facts node = (names_in_range leaf facts node ≡ true) × (has_twin leaf node ≡ true) × (opens_holds facts node ≡ true) × (refutes_facts facts node ≡ true)
 
 refutes-passes : (leaf : LeafModel) (facts : List Fact) (node : Node) → refutes facts node ≡ true → PassesOwn leaf facts node × (cases_at leaf facts node ≡ [])
 refutes-passes leaf facts (Linear terms) e =
@@ -126,7 +126,7 @@ divides-passes leaf facts (Residue m terms) cases e = cc
 divides-passes leaf facts (Split row) cases e = (in_range_by _ _ cases e, refl, refl, refl)
 divides-passes leaf facts (Present p) cases e = (in_range_by _ _ cases e, refl, refl, refl)
 divides-passes leaf facts (Twin p) cases e =
-    let h = twin_by (nat_lt p (length leaf.states)) (can_meet leaf p p) _ cases e in (h.0, h.1, refl, refl)
+    let h = twin_by (nat_lt p (length leaf.states)) (can_meet_in leaf p p) _ cases e in (h.0, h.1, refl, refl)
 divides-passes leaf facts (Trap set) cases e = (in_range_by _ _ cases e, refl, refl, refl)
 divides-passes leaf facts (Siphon set) cases e = (in_range_by _ _ cases e, refl, refl, refl)
 divides-passes leaf facts (Open f) cases e =

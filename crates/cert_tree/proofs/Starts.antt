@@ -8,7 +8,7 @@ use Rattle.pres_ast.specs.PredModel.{PredModel}
 use Rattle.pop_net.specs.LeafModel.{LeafModel, IsLeaf}
 use Rattle.cert_base.specs.declared.fact.Fact.{Fact}
 use Rattle.cert_base.specs.declared.fact.Fact.TheVariants.{Holds}
-use Rattle.cert_base.specs.FactsAndCases.{states_of, flow, two_agents, wrong_output, base_list}
+use Rattle.cert_base.specs.FactsAndCases.{states_of, flow, two_agents_fact, wrong_output_fact, base_list}
 use Rattle.cert_base.specs.Ends.{HoldAtWrongEnds}
 use Rattle.cert_tree.specs.declared.walk.Walk.{Walk}
 use Rattle.cert_tree.specs.Frames.{waiting, IsNested, IsFit, IsWalkStart}
@@ -16,7 +16,7 @@ use Rattle.cert_tree.proofs.Ordered.{base_ordered, all_of}
 
 pub base_few : (leaf : LeafModel) (p : PredModel) (value : Bool) → IsLeaf leaf → length (base_list leaf p value) ≤ 65536
 base_few leaf p value is =
-    let long = length-append (map (flow leaf) (states_of leaf)) (two_agents leaf ∷ Holds p value ∷ wrong_output leaf value ∷ []) in
+    let long = length-append (map (flow leaf) (states_of leaf)) (two_agents_fact leaf ∷ Holds p value ∷ wrong_output_fact leaf value ∷ []) in
     let flows = length-map-range_with_len (flow leaf) 0 (length leaf.states) in
     let few = is.states in
     omega (arith, long, flows, few)

@@ -10,7 +10,7 @@ use Rattle.cert_base.specs.declared.fact.Fact.TheVariants.{Holds}
 use Rattle.cert_base.specs.declared.node.Node.{Node}
 use Rattle.cert_base.specs.declared.node.Node.TheVariants.{Linear, Residue, Split, Present, Twin, Trap, Siphon, Open}
 use Rattle.cert_base.specs.Rows.{variable_count}
-use Rattle.cert_base.specs.FactsAndCases.{base_list, can_meet}
+use Rattle.cert_base.specs.FactsAndCases.{base_list, can_meet_in}
 use Rattle.cert_base.specs.Closes.{name_below, refutes, cases_of}
 use Rattle.cert_tree.specs.declared.fault.TreeWhy.{TreeWhy}
 use Rattle.cert_tree.specs.declared.fault.TreeWhy.TheVariants.{Missing, TooDeep, BadIndex, NoTwin, NotOpen, NotClosed, TooManyFacts, Rest}
@@ -18,19 +18,19 @@ use Rattle.cert_tree.specs.declared.fault.TreeFault.{TreeFault}
 use Rattle.cert_tree.specs.declared.fault.TreeFault.TheVariants.{Broken, NoMemory}
 
 -- whether all fact, state and variable numbers of a node are in range
-abbrev pub in_range : LeafModel → List Fact → Node → Bool
-in_range leaf facts (Linear terms) = name_below (length facts) terms
-in_range leaf facts (Residue m terms) = name_below (length facts) terms
-in_range leaf facts (Split row) = name_below (variable_count leaf) row.terms
-in_range leaf facts (Present p) = nat_lt p (length leaf.states)
-in_range leaf facts (Twin p) = nat_lt p (length leaf.states)
-in_range leaf facts (Trap set) = list_all (λ q. nat_lt q (length leaf.states)) set
-in_range leaf facts (Siphon set) = list_all (λ q. nat_lt q (length leaf.states)) set
-in_range leaf facts (Open f) = nat_lt f (length facts)
+abbrev pub names_in_range : LeafModel → List Fact → Node → Bool
+names_in_range leaf facts (Linear terms) = name_below (length facts) terms
+names_in_range leaf facts (Residue m terms) = name_below (length facts) terms
+names_in_range leaf facts (Split row) = name_below (variable_count leaf) row.terms
+names_in_range leaf facts (Present p) = nat_lt p (length leaf.states)
+names_in_range leaf facts (Twin p) = nat_lt p (length leaf.states)
+names_in_range leaf facts (Trap set) = list_all (λ q. nat_lt q (length leaf.states)) set
+names_in_range leaf facts (Siphon set) = list_all (λ q. nat_lt q (length leaf.states)) set
+names_in_range leaf facts (Open f) = nat_lt f (length facts)
 
 -- a `Twin` names a state that can meet itself
 abbrev pub has_twin : LeafModel → Node → Bool
-has_twin leaf (Twin p) = can_meet leaf p p
+has_twin leaf (Twin p) = can_meet_in leaf p p
 has_twin leaf _ = true
 
 abbrev pub is_holds : Option Fact → Bool
@@ -59,7 +59,7 @@ all_fit facts = list_all (λ own. nat_le (length facts + length own) FACT_LIMIT)
 -- why a node is refused by its numbers, its move, its fact or its test
 abbrev pub own_refusal : LeafModel → List Fact → Node → Option TreeWhy
 own_refusal leaf facts node =
-    if not (in_range leaf facts node) then Some BadIndex
+    if not (names_in_range leaf facts node) then Some BadIndex
     else if not (has_twin leaf node) then Some NoTwin
     else if not (opens_holds facts node) then Some NotOpen
     else if not (refutes_facts facts node) then Some NotClosed

@@ -13,12 +13,12 @@ use Rattle.cert_base.specs.declared.fact.Fact.TheVariants.{Ge, Holds}
 use Rattle.cert_base.specs.declared.node.Node.{Node}
 use Rattle.cert_base.specs.declared.node.Node.TheVariants.{Present, Twin, Siphon, Open}
 use Rattle.cert_base.specs.Rows.{input_row}
-use Rattle.cert_base.specs.FactsAndCases.{states_of, flow, base_list, two_agents, wrong_output, absent, occurs, alone, not_twice, can_meet, open_cases}
+use Rattle.cert_base.specs.FactsAndCases.{states_of, flow, base_list, two_agents_fact, wrong_output_fact, absent_fact, occurs_fact, alone_fact, not_twice, can_meet_in, cases_of_open}
 use Rattle.cert_base.specs.Closes.{cases_of, ClosesUnder, refuted, by_cases, no_case, next_case, Closes}
-use Rattle.comp_trees.specs.LeaderTree.{weighed}
+use Rattle.comp_trees.specs.LeaderTree.{weighed_node}
 use Rattle.comp_layers.proofs.Members.{all_range, range_one_more}
-use Rattle.comp_flock_leaf.specs.FlockLeaf.{is_flock_coefficient, bound_of, flock_leaf_of}
-use Rattle.comp_flock.specs.FlockProof.{few_by, converted_by, first_by, start_by, never_by, true_tree, false_tree, flock_pred}
+use Rattle.comp_flock_leaf.specs.FlockLeaf.{is_flock_coefficient, flock_bound, flock_leaf_of}
+use Rattle.comp_flock.specs.FlockProof.{few_mix, converted_mix, first_mix, start_mix, never_mix, flock_true_tree, flock_false_tree, flock_pred_of}
 use Rattle.comp_flock_leaf.proofs.MoveLists.{doubles, converts}
 use Rattle.comp_flock_leaf.proofs.Formed.{states-long}
 use Rattle.comp_flock.proofs.TrueNodes.{few_facts, few_closes, converted_facts, converted_closes}
@@ -41,7 +41,7 @@ module _ (coefs : List ℤ) (k : ℕ) (some : 1 ≤ k) (most : k ≤ 39) (are : 
   leaf = flock_leaf_of coefs k
 
   abbrev pred : PredModel
-  pred = flock_pred coefs k
+  pred = flock_pred_of coefs k
 
   long : length leaf.states ≡ k + 2
   long = states-long k
@@ -50,20 +50,20 @@ module _ (coefs : List ℤ) (k : ℕ) (some : 1 ≤ k) (most : k ≤ 39) (are : 
   base b = base_list leaf pred b
 
   length_base : (b : Bool) → length (base b) ≡ k + 5
-  length_base b = omega (arith, length-append (map (flow leaf) (states_of leaf)) (two_agents leaf ∷ Holds pred b ∷ wrong_output leaf b ∷ []), length-map-range_with_len (flow leaf) 0 (length leaf.states), long)
+  length_base b = omega (arith, length-append (map (flow leaf) (states_of leaf)) (two_agents_fact leaf ∷ Holds pred b ∷ wrong_output_fact leaf b ∷ []), length-map-range_with_len (flow leaf) 0 (length leaf.states), long)
 
   in_states : nat_lt (k + 1) (length leaf.states) ≡ true
   in_states = lt-ltb (k + 1) (length leaf.states) (omega (arith, long))
 
-  opens : (b : Bool) → cases_of leaf (base b) (Open (k + 2 + 1)) ≡ Some (open_cases pred b)
+  opens : (b : Bool) → cases_of leaf (base b) (Open (k + 2 + 1)) ≡ Some (cases_of_open pred b)
   opens b =
-      let at = at_end (map (flow leaf) (states_of leaf)) (two_agents leaf ∷ Holds pred b ∷ wrong_output leaf b ∷ []) (k + 2) 1 (length-map-range_with_len (flow leaf) 0 (length leaf.states) ∙ long) in
+      let at = at_end (map (flow leaf) (states_of leaf)) (two_agents_fact leaf ∷ Holds pred b ∷ wrong_output_fact leaf b ∷ []) (k + 2) 1 (length-map-range_with_len (flow leaf) 0 (length leaf.states) ∙ long) in
       rw at refl
 
   -- ---- the tree for true
 
   abbrev true_opened : Fact
-  true_opened = Ge (input_row (map neg_ℤ coefs) (bound_of k -ℤ pos 1))
+  true_opened = Ge (input_row (map neg_ℤ coefs) (flock_bound k -ℤ pos 1))
 
   abbrev true_facts : List Fact
   true_facts = base true ++ true_opened ∷ []
@@ -81,7 +81,7 @@ module _ (coefs : List ℤ) (k : ℕ) (some : 1 ≤ k) (most : k ≤ 39) (are : 
   one_more : (j : ℕ) → few_at j ++ not_twice leaf (j + 1) ∷ [] ≡ few_at (j + 1)
   one_more j =
       append_assoc true_facts (few_facts coefs k are formed j) (not_twice leaf (j + 1) ∷ [])
-      ∙ ap (λ fs. true_facts ++ absent leaf (k + 1) ∷ fs) (sym (map-range_with_len_more (not_twice leaf) 1 j (j + 1) (let e : 1 + j ≡ j + 1 = omega arith in e)))
+      ∙ ap (λ fs. true_facts ++ absent_fact leaf (k + 1) ∷ fs) (sym (map-range_with_len_more (not_twice leaf) 1 j (j + 1) (let e : 1 + j ≡ j + 1 = omega arith in e)))
 
   twin_is : (j : ℕ) → j < k → cases_of leaf (few_at j) (Twin (j + 1)) ≡ Some ((not_twice leaf (j + 1) ∷ []) ∷ [])
   twin_is j l =
@@ -89,13 +89,13 @@ module _ (coefs : List ℤ) (k : ℕ) (some : 1 ≤ k) (most : k ≤ 39) (are : 
       let meets = doubles k j l in
       rw (here, meets) refl
 
-  close_few : (j m : ℕ) (rest : List Node) → j + m ≡ k → ClosesUnder leaf (j + 2) (few_at j) (map Twin (range_with_len (j + 1) m) ++ weighed (few_by k) ∷ rest) rest
+  close_few : (j m : ℕ) (rest : List Node) → j + m ≡ k → ClosesUnder leaf (j + 2) (few_at j) (map Twin (range_with_len (j + 1) m) ++ weighed_node (few_mix k) ∷ rest) rest
   close_few j zero rest e =
       let same : k ≡ j = omega arith in
-      subst (λ i. ClosesUnder leaf (j + 2) (few_at i) (weighed (few_by k) ∷ rest) rest) same
-      (refuted (j + 2) (few_at k) (weighed (few_by k)) rest (record { depth = omega arith; fact_count = omega (arith, length_few k) }) (few_closes coefs k are formed))
+      subst (λ i. ClosesUnder leaf (j + 2) (few_at i) (weighed_node (few_mix k) ∷ rest) rest) same
+      (refuted (j + 2) (few_at k) (weighed_node (few_mix k)) rest (record { depth = omega arith; fact_count = omega (arith, length_few k) }) (few_closes coefs k are formed))
   close_few j (suc m) rest e =
-      let nodes = map Twin (range_with_len (j + 1 + 1) m) ++ weighed (few_by k) ∷ rest in
+      let nodes = map Twin (range_with_len (j + 1 + 1) m) ++ weighed_node (few_mix k) ∷ rest in
       let more = close_few (j + 1) m rest (omega arith) in
       let above : j + 1 + 2 ≡ j + 2 + 1 = omega arith in
       let next : ClosesUnder leaf (j + 2 + 1) (few_at j ++ not_twice leaf (j + 1) ∷ []) nodes rest =
@@ -106,7 +106,7 @@ module _ (coefs : List ℤ) (k : ℕ) (some : 1 ≤ k) (most : k ≤ 39) (are : 
 
   -- every other state can meet 2^k
   abbrev meets_full : ℕ → Bool
-  meets_full q = not (q == k + 1) && can_meet leaf (k + 1) q
+  meets_full q = not (q == k + 1) && can_meet_in leaf (k + 1) q
 
   company-all : filter meets_full (states_of leaf) ≡ range_with_len 0 (k + 1)
   company-all =
@@ -122,12 +122,12 @@ module _ (coefs : List ℤ) (k : ℕ) (some : 1 ≤ k) (most : k ≤ 39) (are : 
       other q l = let e = ne_eqb q (k + 1) (λ e. omega arith) in let m = converts k q l in rw (e, m) refl
 
   abbrev extra : List Fact
-  extra = if can_meet leaf (k + 1) (k + 1) then (alone leaf (k + 1) ∷ []) else []
+  extra = if can_meet_in leaf (k + 1) (k + 1) then (alone_fact leaf (k + 1) ∷ []) else []
 
   length_extra : length extra ≤ 1
-  length_extra = short (can_meet leaf (k + 1) (k + 1))
+  length_extra = short (can_meet_in leaf (k + 1) (k + 1))
     where
-      short : (c : Bool) → length (if c then (alone leaf (k + 1) ∷ []) else []) ≤ 1
+      short : (c : Bool) → length (if c then (alone_fact leaf (k + 1) ∷ []) else []) ≤ 1
       short true = omega arith
       short false = omega arith
 
@@ -135,30 +135,30 @@ module _ (coefs : List ℤ) (k : ℕ) (some : 1 ≤ k) (most : k ≤ 39) (are : 
   met = converted_facts coefs k are formed extra
 
   length_met : length met ≤ k + 3
-  length_met = omega (arith, length-append (map (absent leaf) (range_with_len 0 (k + 1))) extra, length-map-range_with_len (absent leaf) 0 (k + 1), length_extra)
+  length_met = omega (arith, length-append (map (absent_fact leaf) (range_with_len 0 (k + 1))) extra, length-map-range_with_len (absent_fact leaf) 0 (k + 1), length_extra)
 
-  present_is : cases_of leaf true_facts (Present (k + 1)) ≡ Some ((absent leaf (k + 1) ∷ []) ∷ met ∷ [])
-  present_is = rw in_states (ap (λ qs. Some ((absent leaf (k + 1) ∷ []) ∷ (occurs leaf (k + 1) ∷ map (absent leaf) qs ++ extra) ∷ [])) company-all)
+  present_is : cases_of leaf true_facts (Present (k + 1)) ≡ Some ((absent_fact leaf (k + 1) ∷ []) ∷ met ∷ [])
+  present_is = rw in_states (ap (λ qs. Some ((absent_fact leaf (k + 1) ∷ []) ∷ (occurs_fact leaf (k + 1) ∷ map (absent_fact leaf) qs ++ extra) ∷ [])) company-all)
 
-  pub tree-true : Closes leaf (base_list leaf pred true) (true_tree k) []
+  pub tree-true : Closes leaf (base_list leaf pred true) (flock_true_tree k) []
   tree-true =
-      let last = weighed (converted_by k) in
-      let first : ClosesUnder leaf 2 (few_at 0) (map Twin (range_with_len 1 k) ++ weighed (few_by k) ∷ last ∷ []) (last ∷ []) = close_few 0 k (last ∷ []) (zero-add k) in
+      let last = weighed_node (converted_mix k) in
+      let first : ClosesUnder leaf 2 (few_at 0) (map Twin (range_with_len 1 k) ++ weighed_node (few_mix k) ∷ last ∷ []) (last ∷ []) = close_few 0 k (last ∷ []) (zero-add k) in
       let second : ClosesUnder leaf 2 (true_facts ++ met) (last ∷ []) [] =
       refuted 2 (true_facts ++ met) last [] (record { depth = omega arith; fact_count = omega (arith, length-append true_facts met, length_true, length_met) }) (converted_closes coefs k are formed extra) in
       by_cases 0 (base true) (Open (k + 2 + 1)) _ [] ((true_opened ∷ []) ∷ [])
       (record { depth = omega arith; fact_count = omega (arith, length_base true) }) (opens true)
       (next_case 1 (base true) (true_opened ∷ []) [] _ [] []
-      (by_cases 1 true_facts (Present (k + 1)) _ [] ((absent leaf (k + 1) ∷ []) ∷ met ∷ [])
+      (by_cases 1 true_facts (Present (k + 1)) _ [] ((absent_fact leaf (k + 1) ∷ []) ∷ met ∷ [])
       (record { depth = omega arith; fact_count = omega (arith, length_true) }) present_is
-      (next_case 2 true_facts (absent leaf (k + 1) ∷ []) (met ∷ []) _ (last ∷ []) [] first
+      (next_case 2 true_facts (absent_fact leaf (k + 1) ∷ []) (met ∷ []) _ (last ∷ []) [] first
       (next_case 2 true_facts met [] (last ∷ []) [] [] second (no_case 2 true_facts []))))
       (no_case 1 (base true) []))
 
   -- ---- the tree for false
 
   abbrev false_opened : Fact
-  false_opened = Ge (input_row coefs (neg_ℤ (bound_of k)))
+  false_opened = Ge (input_row coefs (neg_ℤ (flock_bound k)))
 
   abbrev false_facts : List Fact
   false_facts = base false ++ false_opened ∷ []
@@ -178,11 +178,11 @@ module _ (coefs : List ℤ) (k : ℕ) (some : 1 ≤ k) (most : k ≤ 39) (are : 
   siphon_is : cases_of leaf false_facts (Siphon (full k)) ≡ Some (firsts ∷ starts ∷ nevers ∷ [])
   siphon_is = rw in_states refl
 
-  pub tree-false : Closes leaf (base_list leaf pred false) (false_tree k) []
+  pub tree-false : Closes leaf (base_list leaf pred false) (flock_false_tree k) []
   tree-false =
-      let one = weighed (first_by k) in
-      let two = weighed (start_by k) in
-      let three = weighed (never_by k) in
+      let one = weighed_node (first_mix k) in
+      let two = weighed_node (start_mix k) in
+      let three = weighed_node (never_mix k) in
       let first : ClosesUnder leaf 2 (false_facts ++ firsts) (one ∷ two ∷ three ∷ []) (two ∷ three ∷ []) =
       refuted 2 (false_facts ++ firsts) one (two ∷ three ∷ []) (record { depth = omega arith; fact_count = omega (arith, length-append false_facts firsts, length_false) }) (first_closes coefs k some are formed) in
       let second : ClosesUnder leaf 2 (false_facts ++ starts) (two ∷ three ∷ []) (three ∷ []) =

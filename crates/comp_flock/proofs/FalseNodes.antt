@@ -17,14 +17,14 @@ use Rattle.cert_base.specs.declared.fact.Fact.{Fact}
 use Rattle.cert_base.specs.declared.fact.Fact.TheVariants.{Ge, Eq}
 use Rattle.cert_base.specs.Rows.{terms_from, zeros, input_row, single_row, move_variable}
 use Rattle.cert_base.specs.ClosingTests.{closes_by_sum, may_add}
-use Rattle.cert_base.specs.FactsAndCases.{indicator, states_of, is_in, takes_from, puts_into, places_from, some_taken, no_moves, count_row}
-use Rattle.cert_base.specs.WeightedSums.{weighted_sum, coefficient, constant_of, may_weigh}
+use Rattle.cert_base.specs.FactsAndCases.{indicator, states_of, is_in, takes_from, puts_into, places_from, some_taken_fact, no_moves, count_row}
+use Rattle.cert_base.specs.WeightedSums.{sum_of_facts, coefficient, constant_of, may_weigh}
 use Rattle.cert_base.proofs.WeightedSums.{weighted_sum-append, weighted_sum-zeros, may_weigh-append, may_weigh-zeros}
 use Rattle.cert_base.proofs.FlowSums.{coefficient-dense, times-one, mul-neg}
 use Rattle.comp_trees.proofs.LeaderEnds.{is_wrong}
 use Rattle.comp_trees.proofs.TrapNodes.{range-constant, states-state, states-input, states-past}
-use Rattle.comp_flock_leaf.specs.FlockLeaf.{is_flock_coefficient, bound_of, size_in, start_of, doubling, conversion, moves_of, flock_leaf_of}
-use Rattle.comp_flock.specs.FlockProof.{mix, size_below, first_by, start_by, never_by, flock_pred}
+use Rattle.comp_flock_leaf.specs.FlockLeaf.{is_flock_coefficient, flock_bound, size_in, flock_start, doubling_move, conversion_move, flock_moves, flock_leaf_of}
+use Rattle.comp_flock.specs.FlockProof.{flock_mix, lesser_size, first_mix, start_mix, never_mix, flock_pred_of}
 use Rattle.comp_flock_leaf.proofs.Powers.{power-double, size-power, size-at, zero_le}
 use Rattle.comp_flock_leaf.proofs.MoveLists.{all_moves, all_doublings, all_conversions}
 use Rattle.comp_flock_leaf.proofs.Formed.{start-low, states-long}
@@ -44,28 +44,28 @@ in-no : (k q : ℕ) → q ≢ k + 1 → is_in (full k) q ≡ false
 in-no k q ne = let e = ne_eqb (k + 1) q (λ e. ne (sym e)) in rw e refl
 
 -- whether a move puts into the set, and takes from it
-doubling-takes : (k i : ℕ) → i < k → takes_from (full k) (doubling i) ≡ false
+doubling-takes : (k i : ℕ) → i < k → takes_from (full k) (doubling_move i) ≡ false
 doubling-takes k i l = let e = in-no k (i + 1) (λ e. omega arith) in rw e refl
 
-conversion-takes : (k q : ℕ) → takes_from (full k) (conversion k q) ≡ true
+conversion-takes : (k q : ℕ) → takes_from (full k) (conversion_move k q) ≡ true
 conversion-takes k q = let e = in-yes k in rw e refl
 
-last-puts : (k i : ℕ) → i + 1 ≡ k → puts_into (full k) (doubling i) ≡ true
+last-puts : (k i : ℕ) → i + 1 ≡ k → puts_into (full k) (doubling_move i) ≡ true
 last-puts k i e = let h : is_in (full k) (i + 2) ≡ true = rw (eq-eqb (k + 1) (i + 2) (omega arith)) refl in rw h refl
 
-early-puts : (k i : ℕ) → i + 1 < k → puts_into (full k) (doubling i) ≡ false
+early-puts : (k i : ℕ) → i + 1 < k → puts_into (full k) (doubling_move i) ≡ false
 early-puts k i l = let e = in-no k (i + 2) (λ e. omega arith) in let f = in-no k 0 (λ e. omega arith) in rw (e, f) refl
 
 abbrev pub joins : ℕ → Move → Bool
 joins k t = puts_into (full k) t && not (takes_from (full k) t)
 
-size-full : (k : ℕ) → size_below k (k + 1) ≡ pos 0
+size-full : (k : ℕ) → lesser_size k (k + 1) ≡ pos 0
 size-full k = rw (eq-eqb (k + 1) (k + 1) refl) refl
 
-size-other : (k q : ℕ) → q ≢ k + 1 → size_below k q ≡ pos (size_in q)
+size-other : (k q : ℕ) → q ≢ k + 1 → lesser_size k q ≡ pos (size_in q)
 size-other k q ne = rw (ne_eqb q (k + 1) ne) refl
 
-size-positive : (k q : ℕ) → pos 0 ≤ℤ size_below k q
+size-positive : (k q : ℕ) → pos 0 ≤ℤ lesser_size k q
 size-positive k q = go (q == k + 1)
   where
     go : (b : Bool) → pos 0 ≤ℤ (if b then pos 0 else pos (size_in q))
@@ -80,7 +80,7 @@ module _ (coefs : List ℤ) (k : ℕ) (some : 1 ≤ k) (are : list_all is_flock_
   leaf = flock_leaf_of coefs k
 
   abbrev pred : PredModel
-  pred = flock_pred coefs k
+  pred = flock_pred_of coefs k
 
   abbrev n : ℕ
   n = length leaf.inputs
@@ -92,36 +92,36 @@ module _ (coefs : List ℤ) (k : ℕ) (some : 1 ≤ k) (are : list_all is_flock_
   long = states-long k
 
   -- the start of an input
-  start-at : (i : ℕ) → i < n → get_or leaf.inputs i 0 ≡ start_of (get_or coefs i (pos 0))
-  start-at i l = get_or-map start_of coefs i (pos 0) 0 (omega (arith, length-map coefs start_of))
+  start-at : (i : ℕ) → i < n → get_or leaf.inputs i 0 ≡ flock_start (get_or coefs i (pos 0))
+  start-at i l = get_or-map flock_start coefs i (pos 0) 0 (omega (arith, length-map coefs flock_start))
 
   -- ---- the first 2^k
 
   abbrev pub first_facts : List Fact
-  first_facts = some_taken leaf (joins k) ∷ []
+  first_facts = some_taken_fact leaf (joins k) ∷ []
 
   abbrev full_size : ℤ
   full_size = pos (2 ^ k)
 
   abbrev below : ℕ → ℤ
-  below = size_below k
+  below = lesser_size k
 
-  first_sum : (value : Fact → ℤ) → weighted_sum value first_facts (full_size ∷ []) ≡ (full_size *ℤ value (some_taken leaf (joins k)))
+  first_sum : (value : Fact → ℤ) → sum_of_facts value first_facts (full_size ∷ []) ≡ (full_size *ℤ value (some_taken_fact leaf (joins k)))
   first_sum value = omega (arith, ints)
 
-  first_none : (x : ℕ) → coefficient x (some_taken leaf (joins k)) ≡ pos 0 → weighted_sum (coefficient x) first_facts (full_size ∷ []) ≡ pos 0
+  first_none : (x : ℕ) → coefficient x (some_taken_fact leaf (joins k)) ≡ pos 0 → sum_of_facts (coefficient x) first_facts (full_size ∷ []) ≡ pos 0
   first_none x e = first_sum (coefficient x) ∙ ap (λ c. full_size *ℤ c) e ∙ *ℤ-zero full_size
 
   -- what a move loses, and what it counts for where it makes the first 2^k
   abbrev Loses : Move → Type 0
   Loses t = (((below t.r +ℤ below t.s) -ℤ (below t.p +ℤ below t.q)) +ℤ (full_size *ℤ indicator (joins k t))) ≤ℤ pos 0
 
-  first_moves : All Loses (moves_of k)
+  first_moves : All Loses (flock_moves k)
   first_moves = all_moves k Loses (λ i l. joining i l (cases_lt (i + 1) k)) converting
     where
-      joining : (i : ℕ) → i < k → (i + 1 < k) ⊎ (k ≤ i + 1) → Loses (doubling i)
+      joining : (i : ℕ) → i < k → (i + 1 < k) ⊎ (k ≤ i + 1) → Loses (doubling_move i)
       joining i l (inl m) =
-          let none : joins k (doubling i) ≡ false = let e = early-puts k i m in rw e refl in
+          let none : joins k (doubling_move i) ≡ false = let e = early-puts k i m in rw e refl in
           let a = size-other k (i + 1) (λ e. omega arith) in
           let b = size-other k (i + 2) (λ e. omega arith) in
           let c = size-other k 0 (λ e. omega arith) in
@@ -132,7 +132,7 @@ module _ (coefs : List ℤ) (k : ℕ) (some : 1 ≤ k) (are : list_all is_flock_
           omega (arith, ints, a, b, c, counts, e, f, g)
       joining i l (inr m) =
           let last : i + 1 ≡ k = omega arith in
-          let one : joins k (doubling i) ≡ true = let e = last-puts k i last in let f = doubling-takes k i l in rw (e, f) refl in
+          let one : joins k (doubling_move i) ≡ true = let e = last-puts k i last in let f = doubling-takes k i l in rw (e, f) refl in
           let a = size-other k (i + 1) (λ e. omega arith) in
           let b : below (i + 2) ≡ pos 0 = ap below (let e : i + 2 ≡ k + 1 = omega arith in e) ∙ size-full k in
           let c = size-other k 0 (λ e. omega arith) in
@@ -142,9 +142,9 @@ module _ (coefs : List ℤ) (k : ℕ) (some : 1 ≤ k) (are : list_all is_flock_
           let g = size-power i in
           omega (arith, ints, a, b, c, counts, e, f, g)
 
-      converting : (q : ℕ) → q ≤ k → Loses (conversion k q)
+      converting : (q : ℕ) → q ≤ k → Loses (conversion_move k q)
       converting q l =
-          let none : joins k (conversion k q) ≡ false = ap (λ (c : Bool). puts_into (full k) (conversion k q) && not c) (conversion-takes k q) ∙ and_no (puts_into (full k) (conversion k q)) in
+          let none : joins k (conversion_move k q) ≡ false = ap (λ (c : Bool). puts_into (full k) (conversion_move k q) && not c) (conversion-takes k q) ∙ and_no (puts_into (full k) (conversion_move k q)) in
           let a = size-full k in
           let b = size-positive k q in
           let counts = ap (λ j. full_size *ℤ indicator j) none ∙ *ℤ-zero full_size in
@@ -154,12 +154,12 @@ module _ (coefs : List ℤ) (k : ℕ) (some : 1 ≤ k) (are : list_all is_flock_
           and_no true = refl
           and_no false = refl
 
-  first_low : IsLow leaf pred false coefs (neg_ℤ (bound_of k)) first_facts below (pos 0) (pos 1) (full_size ∷ [])
+  first_low : IsLow leaf pred false coefs (neg_ℤ (flock_bound k)) first_facts below (pos 0) (pos 1) (full_size ∷ [])
   first_low = record {
     at_inputs = λ i l. (
         let a = get_or coefs i (pos 0) in
         let low = start-low a in
-        let first = ap below (start-at i l) ∙ size-other k (start_of a) (λ e. omega arith) ∙ start-size a (coefficient-at coefs i are (omega (arith, length-map coefs start_of))) in
+        let first = ap below (start-at i l) ∙ size-other k (flock_start a) (λ e. omega arith) ∙ start-size a (coefficient-at coefs i are (omega (arith, length-map coefs flock_start))) in
         let none = first_none i (taken-before leaf (joins k) i (omega arith)) in
         let one = one_times a in
         omega (arith, ints, first, none, one));
@@ -175,8 +175,8 @@ module _ (coefs : List ℤ) (k : ℕ) (some : 1 ≤ k) (are : list_all is_flock_
         omega (arith, ints, sum, here, low));
     at_past = λ j. (let none = first_none (n + length leaf.states + (length leaf.moves + j)) (taken-past leaf (joins k) j) in omega (arith, ints, none));
     at_end = (
-        let one = one_times (neg_ℤ (bound_of k)) in
-        let sum : weighted_sum constant_of first_facts (full_size ∷ []) ≡ neg_ℤ full_size = first_sum constant_of ∙ mul-neg full_size (pos 1) ∙ ap neg_ℤ (times-one full_size) in
+        let one = one_times (neg_ℤ (flock_bound k)) in
+        let sum : sum_of_facts constant_of first_facts (full_size ∷ []) ≡ neg_ℤ full_size = first_sum constant_of ∙ mul-neg full_size (pos 1) ∙ ap neg_ℤ (times-one full_size) in
         omega (arith, ints, one, sum));
   }
     where
@@ -190,10 +190,10 @@ module _ (coefs : List ℤ) (k : ℕ) (some : 1 ≤ k) (are : list_all is_flock_
       or_yes true = refl
       or_yes false = refl
 
-  pub first_closes : closes_by_sum (all_facts leaf pred false coefs (neg_ℤ (bound_of k)) first_facts) (terms_from 0 (first_by k)) ≡ true
+  pub first_closes : closes_by_sum (all_facts leaf pred false coefs (neg_ℤ (flock_bound k)) first_facts) (terms_from 0 (first_mix k)) ≡ true
   first_closes =
-      subst (λ m. closes_by_sum (all_facts leaf pred false coefs (neg_ℤ (bound_of k)) first_facts) (terms_from 0 (mix (map below (range_with_len 0 m)) (pos 0) (pos 1) (full_size ∷ []))) ≡ true) long
-      (mix_closes leaf pred false coefs (neg_ℤ (bound_of k)) first_facts below (pos 0) (pos 1) (full_size ∷ []) plain refl refl first_may first_low)
+      subst (λ m. closes_by_sum (all_facts leaf pred false coefs (neg_ℤ (flock_bound k)) first_facts) (terms_from 0 (flock_mix (map below (range_with_len 0 m)) (pos 0) (pos 1) (full_size ∷ []))) ≡ true) long
+      (mix_closes leaf pred false coefs (neg_ℤ (flock_bound k)) first_facts below (pos 0) (pos 1) (full_size ∷ []) plain refl refl first_may first_low)
 
   -- ---- no agent starts as 2^k
 
@@ -203,7 +203,7 @@ module _ (coefs : List ℤ) (k : ℕ) (some : 1 ≤ k) (are : list_all is_flock_
   abbrev pub start_facts : List Fact
   start_facts = Ge (input_row (map starts leaf.inputs) (negsuc 0)) ∷ []
 
-  start_none : (x : ℕ) → weighted_sum (coefficient x) start_facts (pos 1 ∷ []) ≡ pos 0
+  start_none : (x : ℕ) → sum_of_facts (coefficient x) start_facts (pos 1 ∷ []) ≡ pos 0
   start_none x =
       let row = coefficient-dense (map starts leaf.inputs) x ∙ zero_at (cases_lt x n) in
       omega (arith, ints, row)
@@ -214,25 +214,25 @@ module _ (coefs : List ℤ) (k : ℕ) (some : 1 ≤ k) (are : list_all is_flock_
           get_or-map starts leaf.inputs x 0 (pos 0) l ∙ ap indicator (in-no k (get_or leaf.inputs x 0) (λ e. let f = start-at x l in omega arith))
       zero_at (inr l) = get_or_past (map starts leaf.inputs) x (pos 0) (omega (arith, length-map leaf.inputs starts))
 
-  start_low : IsLow leaf pred false coefs (neg_ℤ (bound_of k)) start_facts (λ q. pos 0) (pos 0) (pos 0) (pos 1 ∷ [])
+  start_low : IsLow leaf pred false coefs (neg_ℤ (flock_bound k)) start_facts (λ q. pos 0) (pos 0) (pos 0) (pos 1 ∷ [])
   start_low = record {
     at_inputs = λ i l. (let none = start_none i in let row = zero-*ℤ (get_or coefs i (pos 0)) in omega (arith, ints, none, row));
     at_states = λ z l. (let none = start_none (n + z) in let right = zero-*ℤ (indicator (is_wrong leaf false z)) in omega (arith, ints, none, right));
     at_moves = λ t d l. (let none = start_none (n + length leaf.states + t) in omega (arith, ints, none));
     at_past = λ j. (let none = start_none (n + length leaf.states + (length leaf.moves + j)) in omega (arith, ints, none));
-    at_end = (let row = zero-*ℤ (neg_ℤ (bound_of k)) in omega (arith, ints, row));
+    at_end = (let row = zero-*ℤ (neg_ℤ (flock_bound k)) in omega (arith, ints, row));
   }
 
   -- the states' flows aren't added
-  no_flows : (wrong : ℤ) (own : List ℤ) → mix (map (λ (q : ℕ). pos 0) (states_of leaf)) wrong (pos 0) own ≡ mix (zeros (k + 2)) wrong (pos 0) own
+  no_flows : (wrong : ℤ) (own : List ℤ) → flock_mix (map (λ (q : ℕ). pos 0) (states_of leaf)) wrong (pos 0) own ≡ flock_mix (zeros (k + 2)) wrong (pos 0) own
   no_flows wrong own =
-      ap (λ m. mix (map (λ (q : ℕ). pos 0) (range_with_len 0 m)) wrong (pos 0) own) long
-      ∙ ap (λ zs. mix zs wrong (pos 0) own) (range-constant (pos 0) 0 (k + 2))
+      ap (λ m. flock_mix (map (λ (q : ℕ). pos 0) (range_with_len 0 m)) wrong (pos 0) own) long
+      ∙ ap (λ zs. flock_mix zs wrong (pos 0) own) (range-constant (pos 0) 0 (k + 2))
 
-  pub start_closes : closes_by_sum (all_facts leaf pred false coefs (neg_ℤ (bound_of k)) start_facts) (terms_from 0 (start_by k)) ≡ true
+  pub start_closes : closes_by_sum (all_facts leaf pred false coefs (neg_ℤ (flock_bound k)) start_facts) (terms_from 0 (start_mix k)) ≡ true
   start_closes =
-      subst (λ ms. closes_by_sum (all_facts leaf pred false coefs (neg_ℤ (bound_of k)) start_facts) (terms_from 0 ms) ≡ true) (no_flows (pos 0) (pos 1 ∷ []))
-      (mix_closes leaf pred false coefs (neg_ℤ (bound_of k)) start_facts (λ q. pos 0) (pos 0) (pos 0) (pos 1 ∷ []) plain refl refl refl start_low)
+      subst (λ ms. closes_by_sum (all_facts leaf pred false coefs (neg_ℤ (flock_bound k)) start_facts) (terms_from 0 ms) ≡ true) (no_flows (pos 0) (pos 1 ∷ []))
+      (mix_closes leaf pred false coefs (neg_ℤ (flock_bound k)) start_facts (λ q. pos 0) (pos 0) (pos 0) (pos 1 ∷ []) plain refl refl refl start_low)
 
   -- ---- 2^k never came
 
@@ -251,10 +251,10 @@ module _ (coefs : List ℤ) (k : ℕ) (some : 1 ≤ k) (are : list_all is_flock_
   length_taken : length not_taken ≡ k + 1
   length_taken =
       length-map (places_from 0 (takes_from (full k)) leaf.moves) (λ t. Eq (single_row (move_variable leaf t) (pos 1) (pos 0)))
-      ∙ ap length (places-none 0 (takes_from (full k)) (map doubling (range_with_len 0 k)) (map (conversion k) (range_with_len 0 (k + 1))) (all_doublings k (λ t. takes_from (full k) t ≡ false) (doubling-takes k)))
-      ∙ ap length (places-all (0 + length (map doubling (range_with_len 0 k))) (takes_from (full k)) (map (conversion k) (range_with_len 0 (k + 1))) (all_conversions k (λ t. takes_from (full k) t ≡ true) (λ q l. conversion-takes k q)))
-      ∙ length-range_with_len (0 + length (map doubling (range_with_len 0 k))) (length (map (conversion k) (range_with_len 0 (k + 1))))
-      ∙ length-map-range_with_len (conversion k) 0 (k + 1)
+      ∙ ap length (places-none 0 (takes_from (full k)) (map doubling_move (range_with_len 0 k)) (map (conversion_move k) (range_with_len 0 (k + 1))) (all_doublings k (λ t. takes_from (full k) t ≡ false) (doubling-takes k)))
+      ∙ ap length (places-all (0 + length (map doubling_move (range_with_len 0 k))) (takes_from (full k)) (map (conversion_move k) (range_with_len 0 (k + 1))) (all_conversions k (λ t. takes_from (full k) t ≡ true) (λ q l. conversion-takes k q)))
+      ∙ length-range_with_len (0 + length (map doubling_move (range_with_len 0 k))) (length (map (conversion_move k) (range_with_len 0 (k + 1))))
+      ∙ length-map-range_with_len (conversion_move k) 0 (k + 1)
 
   pub never_long : length never_facts ≡ k + 2
   never_long = omega (arith, length-append not_taken (no_count ∷ []), length_taken)
@@ -262,7 +262,7 @@ module _ (coefs : List ℤ) (k : ℕ) (some : 1 ≤ k) (are : list_all is_flock_
   same_length : length not_taken ≡ length (zeros (k + 1))
   same_length = length_taken ∙ sym (length-replicate (k + 1) (pos 0))
 
-  never_sum : (value : Fact → ℤ) → weighted_sum value never_facts never_own ≡ (negsuc 0 *ℤ value no_count)
+  never_sum : (value : Fact → ℤ) → sum_of_facts value never_facts never_own ≡ (negsuc 0 *ℤ value no_count)
   never_sum value =
       let both = weighted_sum-append value not_taken (no_count ∷ []) (zeros (k + 1)) (negsuc 0 ∷ []) same_length in
       let none = weighted_sum-zeros value not_taken (k + 1) in
@@ -274,7 +274,7 @@ module _ (coefs : List ℤ) (k : ℕ) (some : 1 ≤ k) (are : list_all is_flock_
   abbrev held : ℕ → ℤ
   held q = indicator (is_in (full k) q)
 
-  never_none : (x : ℕ) → coefficient x no_count ≡ pos 0 → weighted_sum (coefficient x) never_facts never_own ≡ pos 0
+  never_none : (x : ℕ) → coefficient x no_count ≡ pos 0 → sum_of_facts (coefficient x) never_facts never_own ≡ pos 0
   never_none x e = never_sum (coefficient x) ∙ ap (λ c. negsuc 0 *ℤ c) e
 
   -- a wrong output is that of 2^k
@@ -285,7 +285,7 @@ module _ (coefs : List ℤ) (k : ℕ) (some : 1 ≤ k) (are : list_all is_flock_
       same (inl h) = ap indicator h.0 ∙ sym (ap held h.1 ∙ ap indicator (in-yes k))
       same (inr h) = ap indicator h.0 ∙ sym (ap indicator (in-no k z h.1))
 
-  never_low : IsLow leaf pred false coefs (neg_ℤ (bound_of k)) never_facts (λ q. pos 0) (pos 1) (pos 0) never_own
+  never_low : IsLow leaf pred false coefs (neg_ℤ (flock_bound k)) never_facts (λ q. pos 0) (pos 1) (pos 0) never_own
   never_low = record {
     at_inputs = λ i l. (let none = never_none i (states-input leaf held i l) in let row = zero-*ℤ (get_or coefs i (pos 0)) in omega (arith, ints, none, row));
     at_states = λ z l. (
@@ -295,10 +295,10 @@ module _ (coefs : List ℤ) (k : ℕ) (some : 1 ≤ k) (are : list_all is_flock_
         omega (arith, ints, sum, here, wrong));
     at_moves = λ t d l. (let none = never_none (n + length leaf.states + t) (states-past leaf held t) in omega (arith, ints, none));
     at_past = λ j. (let none = never_none (n + length leaf.states + (length leaf.moves + j)) (states-past leaf held (length leaf.moves + j)) in omega (arith, ints, none));
-    at_end = (let sum = never_sum constant_of in let row = zero-*ℤ (neg_ℤ (bound_of k)) in omega (arith, ints, sum, row));
+    at_end = (let sum = never_sum constant_of in let row = zero-*ℤ (neg_ℤ (flock_bound k)) in omega (arith, ints, sum, row));
   }
 
-  pub never_closes : closes_by_sum (all_facts leaf pred false coefs (neg_ℤ (bound_of k)) never_facts) (terms_from 0 (never_by k)) ≡ true
+  pub never_closes : closes_by_sum (all_facts leaf pred false coefs (neg_ℤ (flock_bound k)) never_facts) (terms_from 0 (never_mix k)) ≡ true
   never_closes =
-      subst (λ ms. closes_by_sum (all_facts leaf pred false coefs (neg_ℤ (bound_of k)) never_facts) (terms_from 0 ms) ≡ true) (no_flows (pos 1) never_own)
-      (mix_closes leaf pred false coefs (neg_ℤ (bound_of k)) never_facts (λ q. pos 0) (pos 1) (pos 0) never_own plain refl refl never_may never_low)
+      subst (λ ms. closes_by_sum (all_facts leaf pred false coefs (neg_ℤ (flock_bound k)) never_facts) (terms_from 0 ms) ≡ true) (no_flows (pos 1) never_own)
+      (mix_closes leaf pred false coefs (neg_ℤ (flock_bound k)) never_facts (λ q. pos 0) (pos 1) (pos 0) never_own plain refl refl never_may never_low)

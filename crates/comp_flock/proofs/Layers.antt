@@ -11,39 +11,39 @@ use Rattle.pop_net.specs.declared.leaf.Move.{Move}
 use Rattle.pop_net.specs.LeafModel.{LeafModel}
 use Rattle.cert_base.specs.ValidLayers.{weight_at, IsLower, ValidLayers}
 use Rattle.comp_layers.proofs.SortedLayers.{AreKinds, sorted_layers-valid}
-use Rattle.comp_flock_leaf.specs.FlockLeaf.{doubling, conversion, moves_of, flock_leaf_of}
-use Rattle.comp_flock.specs.FlockProof.{weight_of, flock_layers}
+use Rattle.comp_flock_leaf.specs.FlockLeaf.{doubling_move, conversion_move, flock_moves, flock_leaf_of}
+use Rattle.comp_flock.specs.FlockProof.{flock_weight, flock_layers_of}
 use Rattle.comp_flock_leaf.proofs.MoveLists.{all_moves, moves-long}
 use Rattle.comp_flock_leaf.proofs.Formed.{states-long}
 use Rattle.comp_flock.proofs.OwnFacts.{places-all}
 
 abbrev weights : ℕ → List ℤ
-weights k = map (weight_of k) (range_with_len 0 (k + 2))
+weights k = map (flock_weight k) (range_with_len 0 (k + 2))
 
-weight-none : (k : ℕ) → weight_of k 0 ≡ pos 1
+weight-none : (k : ℕ) → flock_weight k 0 ≡ pos 1
 weight-none k = refl
 
-weight-full : (k : ℕ) → weight_of k (k + 1) ≡ pos 0
+weight-full : (k : ℕ) → flock_weight k (k + 1) ≡ pos 0
 weight-full k = let a = ne_eqb (k + 1) 0 (λ e. omega arith) in let b = eq-eqb (k + 1) (k + 1) refl in rw (a, b) refl
 
-weight-power : (k i : ℕ) → i < k → weight_of k (i + 1) ≡ pos 2
+weight-power : (k i : ℕ) → i < k → flock_weight k (i + 1) ≡ pos 2
 weight-power k i l = let a = ne_eqb (i + 1) 0 (λ e. omega arith) in let b = ne_eqb (i + 1) (k + 1) (λ e. omega arith) in rw (a, b) refl
 
-weight-is : (k q : ℕ) → q < k + 2 → weight_at (weights k) q ≡ weight_of k q
-weight-is k q l = get_or-map-range_with_len (weight_of k) 0 (k + 2) q q (pos 0) l (zero-add q)
+weight-is : (k q : ℕ) → q < k + 2 → weight_at (weights k) q ≡ flock_weight k q
+weight-is k q l = get_or-map-range_with_len (flock_weight k) 0 (k + 2) q q (pos 0) l (zero-add q)
 
-lower-doubling : (k i : ℕ) → i < k → IsLower (weights k) (doubling i)
+lower-doubling : (k i : ℕ) → i < k → IsLower (weights k) (doubling_move i)
 lower-doubling k i l =
     let p = weight-is k (i + 1) (omega arith) ∙ weight-power k i l in
     let r = weight-is k (i + 2) (omega arith) in
     let s = weight-is k 0 (omega arith) ∙ weight-none k in
     go (cases_eq (i + 1) k) p r s
   where
-    go : (i + 1 ≡ k) ⊎ (i + 1 ≡ k → ⊥) → weight_at (weights k) (i + 1) ≡ pos 2 → weight_at (weights k) (i + 2) ≡ weight_of k (i + 2) → weight_at (weights k) 0 ≡ pos 1 → IsLower (weights k) (doubling i)
-    go (inl e) p r s = let f = ap (weight_of k) (let g : i + 2 ≡ k + 1 = omega arith in g) ∙ weight-full k in omega (arith, ints, p, r, s, f)
-    go (inr ne) p r s = let f = ap (weight_of k) (let g : i + 2 ≡ i + 1 + 1 = omega arith in g) ∙ weight-power k (i + 1) (omega arith) in omega (arith, ints, p, r, s, f)
+    go : (i + 1 ≡ k) ⊎ (i + 1 ≡ k → ⊥) → weight_at (weights k) (i + 1) ≡ pos 2 → weight_at (weights k) (i + 2) ≡ flock_weight k (i + 2) → weight_at (weights k) 0 ≡ pos 1 → IsLower (weights k) (doubling_move i)
+    go (inl e) p r s = let f = ap (flock_weight k) (let g : i + 2 ≡ k + 1 = omega arith in g) ∙ weight-full k in omega (arith, ints, p, r, s, f)
+    go (inr ne) p r s = let f = ap (flock_weight k) (let g : i + 2 ≡ i + 1 + 1 = omega arith in g) ∙ weight-power k (i + 1) (omega arith) in omega (arith, ints, p, r, s, f)
 
-lower-conversion : (k q : ℕ) → q ≤ k → IsLower (weights k) (conversion k q)
+lower-conversion : (k q : ℕ) → q ≤ k → IsLower (weights k) (conversion_move k q)
 lower-conversion k zero l =
     let p = weight-is k (k + 1) (omega arith) ∙ weight-full k in
     let s = weight-is k 0 (omega arith) ∙ weight-none k in
@@ -51,8 +51,8 @@ lower-conversion k zero l =
 lower-conversion k (suc i) l =
     let p = weight-is k (k + 1) (omega arith) ∙ weight-full k in
     let s = weight-is k (i + 1) (omega arith) ∙ weight-power k i (omega arith) in
-    let low : IsLower (weights k) (conversion k (i + 1)) = omega (arith, ints, p, s) in
-    subst (λ q. IsLower (weights k) (conversion k q)) (let e : i + 1 ≡ suc i = omega arith in e) low
+    let low : IsLower (weights k) (conversion_move k (i + 1)) = omega (arith, ints, p, s) in
+    subst (λ q. IsLower (weights k) (conversion_move k q)) (let e : i + 1 ≡ suc i = omega arith in e) low
 
 module _ (coefs : List ℤ) (k : ℕ) where
   abbrev leaf : LeafModel
@@ -60,13 +60,13 @@ module _ (coefs : List ℤ) (k : ℕ) where
 
   are_kinds : AreKinds leaf (λ t. 0) (weights k ∷ [])
   are_kinds = record {
-    long = All-cons (λ w. length w ≡ length leaf.states) (weights k) [] (length-map-range_with_len (weight_of k) 0 (k + 2) ∙ sym (states-long k)) (All-nil (λ w. length w ≡ length leaf.states));
+    long = All-cons (λ w. length w ≡ length leaf.states) (weights k) [] (length-map-range_with_len (flock_weight k) 0 (k + 2) ∙ sym (states-long k)) (All-nil (λ w. length w ≡ length leaf.states));
     kinds = all_moves k (λ t. 0 < 1) (λ i l. omega arith) (λ q l. omega arith);
     lower = all_moves k (λ t. IsLower (weights k) t) (lower-doubling k) (lower-conversion k);
     wakes = λ t u ct cu lt lu l. absurd (omega (arith, l));
   }
 
-  pub layers-valid : ValidLayers leaf (flock_layers k)
+  pub layers-valid : ValidLayers leaf (flock_layers_of k)
   layers-valid =
-      let listed = places-all 0 (λ (t : Move). 0 == 0) (moves_of k) (all_moves k (λ t. true ≡ true) (λ i l. refl) (λ q l. refl)) ∙ ap (range_with_len 0) (moves-long k) in
+      let listed = places-all 0 (λ (t : Move). 0 == 0) (flock_moves k) (all_moves k (λ t. true ≡ true) (λ i l. refl) (λ q l. refl)) ∙ ap (range_with_len 0) (moves-long k) in
       subst (λ ns. ValidLayers leaf (record { moves = ns; weights = weights k } ∷ [])) listed (sorted_layers-valid leaf (λ t. 0) (weights k ∷ []) are_kinds)

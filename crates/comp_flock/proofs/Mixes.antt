@@ -13,13 +13,13 @@ use Rattle.cert_base.specs.declared.fact.Fact.{Fact}
 use Rattle.cert_base.specs.declared.fact.Fact.TheVariants.{Ge, Holds}
 use Rattle.cert_base.specs.Rows.{terms_from, input_row}
 use Rattle.cert_base.specs.ClosingTests.{row_of, closes_by_sum, may_add}
-use Rattle.cert_base.specs.FactsAndCases.{indicator, states_of, flow, base_list, two_agents, wrong_output}
-use Rattle.cert_base.specs.WeightedSums.{weighted_sum, coefficient, constant_of, may_weigh}
+use Rattle.cert_base.specs.FactsAndCases.{indicator, states_of, flow, base_list, two_agents_fact, wrong_output_fact}
+use Rattle.cert_base.specs.WeightedSums.{sum_of_facts, coefficient, constant_of, may_weigh}
 use Rattle.cert_base.proofs.WeightedSums.{weighted_sum-append, may_weigh-append, linear_closes-weighted}
 use Rattle.cert_base.proofs.FlowSums.{coefficient-dense, weighted_sum-map, total-none, law-input, law-state, law-move, law-past, each_variable, times-one, mul-neg}
 use Rattle.comp_trees.proofs.LeaderEnds.{may_weigh-eqs, is_wrong}
 use Rattle.comp_trees.proofs.TrapNodes.{states-state, states-input, states-past}
-use Rattle.comp_flock.specs.FlockProof.{mix}
+use Rattle.comp_flock.specs.FlockProof.{flock_mix}
 
 -- what is the same for all nodes of a leaf: no helpers, and states that are in range
 pub record IsPlain (leaf : LeafModel) (coefs : List ℤ) : Type 0 where
@@ -39,13 +39,13 @@ module _ (leaf : LeafModel) (pred : PredModel) (b : Bool) (coefs : List ℤ) (co
   all_facts = (base_list leaf pred b ++ opened ∷ []) ++ own
 
   abbrev pub mixed : (ℕ → ℤ) → ℤ → ℤ → List ℤ → List ℤ
-  mixed w wrong add ms = mix (map w (states_of leaf)) wrong add ms
+  mixed w wrong add ms = flock_mix (map w (states_of leaf)) wrong add ms
 
   abbrev flows : List Fact
   flows = map (flow leaf) (states_of leaf)
 
   abbrev last_three : List Fact
-  last_three = two_agents leaf ∷ Holds pred b ∷ wrong_output leaf b ∷ []
+  last_three = two_agents_fact leaf ∷ Holds pred b ∷ wrong_output_fact leaf b ∷ []
 
   len_flows : (w : ℕ → ℤ) → length flows ≡ length (map w (states_of leaf))
   len_flows w = length-map (states_of leaf) (flow leaf) ∙ sym (length-map (states_of leaf) w)
@@ -57,13 +57,13 @@ module _ (leaf : LeafModel) (pred : PredModel) (b : Bool) (coefs : List ℤ) (co
   len_open w wrong add = omega (arith, length-append (base_list leaf pred b) (opened ∷ []), length-append (map w (states_of leaf) ++ pos 0 ∷ pos 0 ∷ wrong ∷ []) (add ∷ []), len_base w wrong)
 
   -- what the facts add up to, by what each fact has
-  mix_sum : (value : Fact → ℤ) (w : ℕ → ℤ) (wrong add : ℤ) (ms : List ℤ) → weighted_sum value all_facts (mixed w wrong add ms) ≡ (((weighted_sum value flows (map w (states_of leaf)) +ℤ (wrong *ℤ value (wrong_output leaf b))) +ℤ (add *ℤ value opened)) +ℤ weighted_sum value own ms)
+  mix_sum : (value : Fact → ℤ) (w : ℕ → ℤ) (wrong add : ℤ) (ms : List ℤ) → sum_of_facts value all_facts (mixed w wrong add ms) ≡ (((sum_of_facts value flows (map w (states_of leaf)) +ℤ (wrong *ℤ value (wrong_output_fact leaf b))) +ℤ (add *ℤ value opened)) +ℤ sum_of_facts value own ms)
   mix_sum value w wrong add ms =
       let mb = map w (states_of leaf) ++ pos 0 ∷ pos 0 ∷ wrong ∷ [] in
       let e1 = weighted_sum-append value flows last_three (map w (states_of leaf)) (pos 0 ∷ pos 0 ∷ wrong ∷ []) (len_flows w) in
       let e2 = weighted_sum-append value (base_list leaf pred b) (opened ∷ []) mb (add ∷ []) (len_base w wrong) in
       let e3 = weighted_sum-append value (base_list leaf pred b ++ opened ∷ []) own (mb ++ add ∷ []) ms (len_open w wrong add) in
-      let z1 = zero-*ℤ (value (two_agents leaf)) in
+      let z1 = zero-*ℤ (value (two_agents_fact leaf)) in
       let z2 = zero-*ℤ (value (Holds pred b)) in
       omega (arith, ints, e1, e2, e3, z1, z2)
 
@@ -79,11 +79,11 @@ module _ (leaf : LeafModel) (pred : PredModel) (b : Bool) (coefs : List ℤ) (co
 
   -- the coefficients of each kind of variable are at most 0, and the constant is below 0
   pub record IsLow (w : ℕ → ℤ) (wrong add : ℤ) (ms : List ℤ) : Type 0 where
-    pub at_inputs : (i : ℕ) → i < length leaf.inputs → ((w (get_or leaf.inputs i 0) +ℤ (add *ℤ get_or coefs i (pos 0))) +ℤ weighted_sum (coefficient i) own ms) ≤ℤ pos 0
-    pub at_states : (z : ℕ) → z < length leaf.states → ((neg_ℤ (w z) +ℤ (wrong *ℤ indicator (is_wrong leaf b z))) +ℤ weighted_sum (coefficient (length leaf.inputs + z)) own ms) ≤ℤ pos 0
-    pub at_moves : (t : ℕ) (d : Move) → t < length leaf.moves → (((w (get_or leaf.moves t d).r +ℤ w (get_or leaf.moves t d).s) -ℤ (w (get_or leaf.moves t d).p +ℤ w (get_or leaf.moves t d).q)) +ℤ weighted_sum (coefficient (length leaf.inputs + length leaf.states + t)) own ms) ≤ℤ pos 0
-    pub at_past : (j : ℕ) → weighted_sum (coefficient (length leaf.inputs + length leaf.states + (length leaf.moves + j))) own ms ≤ℤ pos 0
-    pub at_end : ((neg_ℤ wrong +ℤ (add *ℤ constant)) +ℤ weighted_sum constant_of own ms) ≤ℤ negsuc 0
+    pub at_inputs : (i : ℕ) → i < length leaf.inputs → ((w (get_or leaf.inputs i 0) +ℤ (add *ℤ get_or coefs i (pos 0))) +ℤ sum_of_facts (coefficient i) own ms) ≤ℤ pos 0
+    pub at_states : (z : ℕ) → z < length leaf.states → ((neg_ℤ (w z) +ℤ (wrong *ℤ indicator (is_wrong leaf b z))) +ℤ sum_of_facts (coefficient (length leaf.inputs + z)) own ms) ≤ℤ pos 0
+    pub at_moves : (t : ℕ) (d : Move) → t < length leaf.moves → (((w (get_or leaf.moves t d).r +ℤ w (get_or leaf.moves t d).s) -ℤ (w (get_or leaf.moves t d).p +ℤ w (get_or leaf.moves t d).q)) +ℤ sum_of_facts (coefficient (length leaf.inputs + length leaf.states + t)) own ms) ≤ℤ pos 0
+    pub at_past : (j : ℕ) → sum_of_facts (coefficient (length leaf.inputs + length leaf.states + (length leaf.moves + j))) own ms ≤ℤ pos 0
+    pub at_end : ((neg_ℤ wrong +ℤ (add *ℤ constant)) +ℤ sum_of_facts constant_of own ms) ≤ℤ negsuc 0
 
   times_none : (a c : ℤ) → c ≡ pos 0 → (a *ℤ c) ≡ pos 0
   times_none a c e = ap (λ z. a *ℤ z) e ∙ *ℤ-zero a
@@ -97,21 +97,21 @@ module _ (leaf : LeafModel) (pred : PredModel) (b : Bool) (coefs : List ℤ) (co
   pub mix_closes : (w : ℕ → ℤ) (wrong add : ℤ) (ms : List ℤ) → IsPlain leaf coefs → (int_eq wrong (pos 0) || int_le (pos 0) wrong) ≡ true → (int_eq add (pos 0) || int_le (pos 0) add) ≡ true → may_weigh may_add own ms ≡ true → IsLow w wrong add ms → closes_by_sum all_facts (terms_from 0 (mixed w wrong add ms)) ≡ true
   mix_closes w wrong add ms is wrong_may add_may own_may low =
       linear_closes-weighted all_facts (mixed w wrong add ms) (mix_may w wrong add ms wrong_may add_may own_may)
-      (each_variable leaf (λ x. weighted_sum (coefficient x) all_facts (mixed w wrong add ms) ≤ℤ pos 0) inputs states moves past) last
+      (each_variable leaf (λ x. sum_of_facts (coefficient x) all_facts (mixed w wrong add ms) ≤ℤ pos 0) inputs states moves past) last
     where
       answers : ℕ → ℤ
       answers q = indicator (is_wrong leaf b q)
 
-      inputs : (i : ℕ) → i < length leaf.inputs → weighted_sum (coefficient i) all_facts (mixed w wrong add ms) ≤ℤ pos 0
+      inputs : (i : ℕ) → i < length leaf.inputs → sum_of_facts (coefficient i) all_facts (mixed w wrong add ms) ≤ℤ pos 0
       inputs i l =
           let sum = mix_sum (coefficient i) w wrong add ms in
           let first = law-input leaf w i l (All-get_or (λ q. q < length leaf.states) leaf.inputs i 0 l is.inputs) in
-          let second = times_none wrong (coefficient i (wrong_output leaf b)) (states-input leaf answers i l) in
+          let second = times_none wrong (coefficient i (wrong_output_fact leaf b)) (states-input leaf answers i l) in
           let third = ap (λ c. add *ℤ c) (coefficient-dense coefs i) in
           let bound = low.at_inputs i l in
           omega (arith, ints, sum, first, second, third, bound)
 
-      states : (z : ℕ) → z < length leaf.states → weighted_sum (coefficient (length leaf.inputs + z)) all_facts (mixed w wrong add ms) ≤ℤ pos 0
+      states : (z : ℕ) → z < length leaf.states → sum_of_facts (coefficient (length leaf.inputs + z)) all_facts (mixed w wrong add ms) ≤ℤ pos 0
       states z l =
           let x = length leaf.inputs + z in
           let sum = mix_sum (coefficient x) w wrong add ms in
@@ -121,27 +121,27 @@ module _ (leaf : LeafModel) (pred : PredModel) (b : Bool) (coefs : List ℤ) (co
           let bound = low.at_states z l in
           omega (arith, ints, sum, first, second, third, bound)
 
-      moves : (t : ℕ) → t < length leaf.moves → weighted_sum (coefficient (length leaf.inputs + length leaf.states + t)) all_facts (mixed w wrong add ms) ≤ℤ pos 0
+      moves : (t : ℕ) → t < length leaf.moves → sum_of_facts (coefficient (length leaf.inputs + length leaf.states + t)) all_facts (mixed w wrong add ms) ≤ℤ pos 0
       moves t l =
           let x = length leaf.inputs + length leaf.states + t in
           let sum = mix_sum (coefficient x) w wrong add ms in
           let first = law-move leaf w t a_move l (All-get_or (IsMoveBelow (length leaf.states)) leaf.moves t a_move l is.moves) in
-          let second = times_none wrong (coefficient x (wrong_output leaf b)) (states-past leaf answers t) in
+          let second = times_none wrong (coefficient x (wrong_output_fact leaf b)) (states-past leaf answers t) in
           let third = times_none add (coefficient x opened) (opened-past x is (omega arith)) in
           let bound = low.at_moves t a_move l in
           omega (arith, ints, sum, first, second, third, bound)
 
-      past : (j : ℕ) → weighted_sum (coefficient (length leaf.inputs + length leaf.states + (length leaf.moves + j))) all_facts (mixed w wrong add ms) ≤ℤ pos 0
+      past : (j : ℕ) → sum_of_facts (coefficient (length leaf.inputs + length leaf.states + (length leaf.moves + j))) all_facts (mixed w wrong add ms) ≤ℤ pos 0
       past j =
           let x = length leaf.inputs + length leaf.states + (length leaf.moves + j) in
           let sum = mix_sum (coefficient x) w wrong add ms in
           let first = law-past leaf w j in
-          let second = times_none wrong (coefficient x (wrong_output leaf b)) (states-past leaf answers (length leaf.moves + j)) in
+          let second = times_none wrong (coefficient x (wrong_output_fact leaf b)) (states-past leaf answers (length leaf.moves + j)) in
           let third = times_none add (coefficient x opened) (opened-past x is (omega arith)) in
           let bound = low.at_past j in
           omega (arith, ints, sum, first, second, third, bound)
 
-      last : weighted_sum constant_of all_facts (mixed w wrong add ms) ≤ℤ negsuc 0
+      last : sum_of_facts constant_of all_facts (mixed w wrong add ms) ≤ℤ negsuc 0
       last =
           let sum = mix_sum constant_of w wrong add ms in
           let first = weighted_sum-map constant_of (flow leaf) w (states_of leaf) ∙ total-none (λ q. w q *ℤ constant_of (flow leaf q)) (states_of leaf) (λ q. times_none (w q) (constant_of (flow leaf q)) (flow-constant q is)) in

@@ -10,7 +10,7 @@ use Rattle.std.proofs.lemmas.List.Elements.{All-head, All-tail}
 use Rattle.pop_net.specs.declared.leaf.Move.{Move}
 use Rattle.pop_net.specs.LeafModel.{LeafModel}
 use Rattle.cert_base.specs.Rows.{terms_from, zeros}
-use Rattle.cert_base.specs.FactsAndCases.{indicator, not_twice, some_taken, places_from}
+use Rattle.cert_base.specs.FactsAndCases.{indicator, not_twice, some_taken_fact, places_from}
 use Rattle.cert_base.specs.ClosingTests.{coefficient_in}
 use Rattle.cert_base.specs.WeightedSums.{coefficient, total}
 use Rattle.cert_base.proofs.FlowSums.{coefficient-dense, total-same, total-none_range, total-one, unlike}
@@ -39,13 +39,13 @@ part_of_moves leaf f t =
     ∙ ap (λ m. get_or (zeros n ++ map f leaf.moves) (m + t) (pos 0)) (sym (length-replicate n (pos 0)))
     ∙ get_or-append-add (zeros n) (map f leaf.moves) t (pos 0)
 
-pub taken-before : (leaf : LeafModel) (test : Move → Bool) (x : ℕ) → x < length leaf.inputs + length leaf.states → coefficient x (some_taken leaf test) ≡ pos 0
+pub taken-before : (leaf : LeafModel) (test : Move → Bool) (x : ℕ) → x < length leaf.inputs + length leaf.states → coefficient x (some_taken_fact leaf test) ≡ pos 0
 taken-before leaf test x l = before_moves leaf (λ t. indicator (test t)) x l
 
-pub taken-move : (leaf : LeafModel) (test : Move → Bool) (t : ℕ) (d : Move) → t < length leaf.moves → coefficient (length leaf.inputs + length leaf.states + t) (some_taken leaf test) ≡ indicator (test (get_or leaf.moves t d))
+pub taken-move : (leaf : LeafModel) (test : Move → Bool) (t : ℕ) (d : Move) → t < length leaf.moves → coefficient (length leaf.inputs + length leaf.states + t) (some_taken_fact leaf test) ≡ indicator (test (get_or leaf.moves t d))
 taken-move leaf test t d l = part_of_moves leaf (λ t. indicator (test t)) t ∙ get_or-map (λ t. indicator (test t)) leaf.moves t d (pos 0) l
 
-pub taken-past : (leaf : LeafModel) (test : Move → Bool) (j : ℕ) → coefficient (length leaf.inputs + length leaf.states + (length leaf.moves + j)) (some_taken leaf test) ≡ pos 0
+pub taken-past : (leaf : LeafModel) (test : Move → Bool) (j : ℕ) → coefficient (length leaf.inputs + length leaf.states + (length leaf.moves + j)) (some_taken_fact leaf test) ≡ pos 0
 taken-past leaf test j =
     part_of_moves leaf (λ t. indicator (test t)) (length leaf.moves + j)
     ∙ get_or_past (map (λ t. indicator (test t)) leaf.moves) (length leaf.moves + j) (pos 0) (omega (arith, length-map leaf.moves (λ t. indicator (test t))))

@@ -9,7 +9,7 @@ use Rattle.pop_io.specs.declared.names.TheConstants.{VARIABLE_LIMIT}
 use Rattle.pres_ast.specs.declared.limits.TheConstants.{COEFFICIENT_LIMIT}
 use Rattle.pres_ast.specs.PredTree.{LessThan}
 use Rattle.pres_ast.specs.PredModel.{IsPred}
-use Rattle.comp_flock_leaf.specs.FlockLeaf.{is_flock_coefficient, bound_of}
+use Rattle.comp_flock_leaf.specs.FlockLeaf.{is_flock_coefficient, flock_bound}
 use Rattle.comp_flock_leaf.proofs.Powers.{power-some, power_small}
 use Rattle.comp_flock.proofs.TrueNodes.{coefficient-cases}
 
@@ -20,9 +20,9 @@ abs-neg (suc n) = refl
 small : (a : ℤ) → is_flock_coefficient a ≡ true → nat_abs a ≤ COEFFICIENT_LIMIT
 small a e = elim (coefficient-cases a e) [ inl h ↦ omega (arith, ap nat_abs h) | inr h ↦ omega (arith, ap nat_abs h) ]
 
-pub flock_is_pred : (coefs : List ℤ) (k : ℕ) → 1 ≤ length coefs → length coefs ≤ VARIABLE_LIMIT → list_all is_flock_coefficient coefs ≡ true → k ≤ 39 → IsPred (length coefs) (LessThan coefs (bound_of k))
+pub flock_is_pred : (coefs : List ℤ) (k : ℕ) → 1 ≤ length coefs → length coefs ≤ VARIABLE_LIMIT → list_all is_flock_coefficient coefs ≡ true → k ≤ 39 → IsPred (length coefs) (LessThan coefs (flock_bound k))
 flock_is_pred coefs k some few are high =
-    let bound : bound_of k ≡ neg_ℤ (pos (2 ^ k - 1)) = (let e = power-some k in omega (arith, ints, e)) in
+    let bound : flock_bound k ≡ neg_ℤ (pos (2 ^ k - 1)) = (let e = power-some k in omega (arith, ints, e)) in
     let abs = ap nat_abs bound ∙ abs-neg (2 ^ k - 1) in
     let most = power_small k high in
     record {

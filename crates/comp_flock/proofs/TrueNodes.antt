@@ -16,15 +16,15 @@ use Rattle.pres_ast.specs.PredModel.{PredModel}
 use Rattle.cert_base.specs.declared.fact.Fact.{Fact}
 use Rattle.cert_base.specs.Rows.{terms_from, zeros}
 use Rattle.cert_base.specs.ClosingTests.{closes_by_sum, may_add}
-use Rattle.cert_base.specs.FactsAndCases.{indicator, states_of, absent, occurs, not_twice}
-use Rattle.cert_base.specs.WeightedSums.{weighted_sum, coefficient, constant_of, may_weigh, total}
+use Rattle.cert_base.specs.FactsAndCases.{indicator, states_of, absent_fact, occurs_fact, not_twice}
+use Rattle.cert_base.specs.WeightedSums.{sum_of_facts, coefficient, constant_of, may_weigh, total}
 use Rattle.cert_base.proofs.WeightedSums.{weighted_sum-append, may_weigh-append, none_weighted}
 use Rattle.cert_base.proofs.FlowSums.{weighted_sum-map, total-same, total-none, total-neg, mul-neg}
 use Rattle.comp_trees.proofs.LeaderEnds.{absent-at, is_wrong, may_weigh-eqs}
 use Rattle.comp_trees.proofs.TrapNodes.{range-constant}
 use Rattle.comp_layers.proofs.Members.{range_one_more}
-use Rattle.comp_flock_leaf.specs.FlockLeaf.{is_flock_coefficient, bound_of, size_in, start_of, moves_of, flock_leaf_of}
-use Rattle.comp_flock.specs.FlockProof.{mix, few_by, converted_by, flock_pred}
+use Rattle.comp_flock_leaf.specs.FlockLeaf.{is_flock_coefficient, flock_bound, size_in, flock_start, flock_moves, flock_leaf_of}
+use Rattle.comp_flock.specs.FlockProof.{flock_mix, few_mix, converted_mix, flock_pred_of}
 use Rattle.comp_flock_leaf.proofs.Powers.{power-double, size-power, size-at, size-le, sizes-total, zero_le}
 use Rattle.comp_flock_leaf.proofs.MoveLists.{all_moves}
 use Rattle.comp_flock_leaf.proofs.Formed.{states-long}
@@ -41,7 +41,7 @@ coefficient-cases a e = go (int_eq a (pos 0)) (int_eq a (negsuc 0)) refl refl e
     go false true f g h = inr ((Decides-int_eq a (negsuc 0)).0 g)
     go false false f g h = absurd (let n : false ≡ true = h in cc)
 
-pub start-size : (a : ℤ) → is_flock_coefficient a ≡ true → pos (size_in (start_of a)) ≡ neg_ℤ a
+pub start-size : (a : ℤ) → is_flock_coefficient a ≡ true → pos (size_in (flock_start a)) ≡ neg_ℤ a
 start-size a e = elim (coefficient-cases a e) [ inl h ↦ rw h refl | inr h ↦ rw h refl ]
 
 pub coefficient-at : (coefs : List ℤ) (i : ℕ) → list_all is_flock_coefficient coefs ≡ true → i < length coefs → is_flock_coefficient (get_or coefs i (pos 0)) ≡ true
@@ -52,7 +52,7 @@ is_plain coefs others k formed e = record {
   helpers = refl;
   inputs = formed.inputs;
   moves = formed.moves;
-  long = e ∙ sym (length-map coefs start_of);
+  long = e ∙ sym (length-map coefs flock_start);
 }
 
 -- the output of a state
@@ -64,7 +64,7 @@ module _ (coefs : List ℤ) (k : ℕ) (are : list_all is_flock_coefficient coefs
   leaf = flock_leaf_of coefs k
 
   abbrev pred : PredModel
-  pred = flock_pred coefs k
+  pred = flock_pred_of coefs k
 
   abbrev pub true_row : List ℤ
   true_row = map neg_ℤ coefs
@@ -81,7 +81,7 @@ module _ (coefs : List ℤ) (k : ℕ) (are : list_all is_flock_coefficient coefs
   -- ---- too few agents
 
   abbrev pub few_facts : ℕ → List Fact
-  few_facts j = absent leaf (k + 1) ∷ map (not_twice leaf) (range_with_len 1 j)
+  few_facts j = absent_fact leaf (k + 1) ∷ map (not_twice leaf) (range_with_len 1 j)
 
   abbrev size : ℕ → ℤ
   size q = pos (size_in q)
@@ -95,7 +95,7 @@ module _ (coefs : List ℤ) (k : ℕ) (are : list_all is_flock_coefficient coefs
   neg_times : (a c : ℤ) → (neg_ℤ a *ℤ c) ≡ neg_ℤ (a *ℤ c)
   neg_times a c = *ℤ_comm (neg_ℤ a) c ∙ mul-neg c a ∙ ap neg_ℤ (*ℤ_comm c a)
 
-  few_sum : (x : ℕ) → weighted_sum (coefficient x) (few_facts k) few_own ≡ neg_ℤ (counted x)
+  few_sum : (x : ℕ) → sum_of_facts (coefficient x) (few_facts k) few_own ≡ neg_ℤ (counted x)
   few_sum x =
       let f : ℕ → ℤ = λ q. size q *ℤ indicator ((n + q) == x) in
       let first = ap (λ c. neg_ℤ (pos (2 ^ k)) *ℤ c) (absent-at leaf (k + 1) x) ∙ neg_times (pos (2 ^ k)) (indicator ((n + (k + 1)) == x)) in
@@ -108,7 +108,7 @@ module _ (coefs : List ℤ) (k : ℕ) (are : list_all is_flock_coefficient coefs
       let none = zero-*ℤ (indicator ((n + 0) == x)) in
       omega (arith, ints, first, second, whole, early, last, none)
 
-  few_constant : weighted_sum constant_of (few_facts k) few_own ≡ (pos (2 ^ k) -ℤ pos 1)
+  few_constant : sum_of_facts constant_of (few_facts k) few_own ≡ (pos (2 ^ k) -ℤ pos 1)
   few_constant =
       let first = *ℤ-zero (neg_ℤ (pos (2 ^ k))) in
       let second = weighted_sum-map constant_of (not_twice leaf) (λ q. pos (size_in q)) (range_with_len 1 k) in
@@ -135,17 +135,17 @@ module _ (coefs : List ℤ) (k : ℕ) (are : list_all is_flock_coefficient coefs
           rw (here, rest) refl
 
   -- no move loses agents
-  few_moves : All (λ t. (neg_ℤ (size t.r) +ℤ neg_ℤ (size t.s)) ≤ℤ (neg_ℤ (size t.p) +ℤ neg_ℤ (size t.q))) (moves_of k)
+  few_moves : All (λ t. (neg_ℤ (size t.r) +ℤ neg_ℤ (size t.s)) ≤ℤ (neg_ℤ (size t.p) +ℤ neg_ℤ (size t.q))) (flock_moves k)
   few_moves =
       all_moves k (λ t. (neg_ℤ (size t.r) +ℤ neg_ℤ (size t.s)) ≤ℤ (neg_ℤ (size t.p) +ℤ neg_ℤ (size t.q)))
       (λ i l. let e = power-double i in let f = size-power i in let g = size-at (i + 2) (i + 1) (omega arith) in omega (arith, ints, e, f, g))
       (λ q l. let e = size-le k q (omega arith) in let f = size-power k in omega (arith, ints, e, f))
 
-  few_low : IsLow leaf pred true true_row (bound_of k -ℤ pos 1) (few_facts k) (λ q. neg_ℤ (size q)) (pos 0) (pos 1) few_own
+  few_low : IsLow leaf pred true true_row (flock_bound k -ℤ pos 1) (few_facts k) (λ q. neg_ℤ (size q)) (pos 0) (pos 1) few_own
   few_low = record {
     at_inputs = λ i l. (
-        let below : i < length coefs = omega (arith, length-map coefs start_of) in
-        let start = get_or-map start_of coefs i (pos 0) 0 below in
+        let below : i < length coefs = omega (arith, length-map coefs flock_start) in
+        let start = get_or-map flock_start coefs i (pos 0) 0 below in
         let a = get_or coefs i (pos 0) in
         let row = get_or-map neg_ℤ coefs i (pos 0) (pos 0) below in
         let first = ap (λ q. neg_ℤ (size q)) start ∙ ap neg_ℤ (start-size a (coefficient-at coefs i are below)) in
@@ -167,21 +167,21 @@ module _ (coefs : List ℤ) (k : ℕ) (are : list_all is_flock_coefficient coefs
         let sum = few_sum (n + length leaf.states + (length leaf.moves + j)) in
         let none = total-others n size (k + 2) (n + length leaf.states + (length leaf.moves + j)) (λ q m e. omega (arith, long)) in
         omega (arith, ints, sum, none));
-    at_end = (let sum = few_constant in let one = one_times (bound_of k -ℤ pos 1) in omega (arith, ints, sum, one));
+    at_end = (let sum = few_constant in let one = one_times (flock_bound k -ℤ pos 1) in omega (arith, ints, sum, one));
   }
     where
       one_times : (a : ℤ) → (pos 1 *ℤ a) ≡ a
       one_times a = omega (arith, ints)
 
-  pub few_closes : closes_by_sum (all_facts leaf pred true true_row (bound_of k -ℤ pos 1) (few_facts k)) (terms_from 0 (few_by k)) ≡ true
+  pub few_closes : closes_by_sum (all_facts leaf pred true true_row (flock_bound k -ℤ pos 1) (few_facts k)) (terms_from 0 (few_mix k)) ≡ true
   few_closes =
-      subst (λ m. closes_by_sum (all_facts leaf pred true true_row (bound_of k -ℤ pos 1) (few_facts k)) (terms_from 0 (mix (map (λ q. neg_ℤ (size q)) (range_with_len 0 m)) (pos 0) (pos 1) few_own)) ≡ true) long
-      (mix_closes leaf pred true true_row (bound_of k -ℤ pos 1) (few_facts k) (λ q. neg_ℤ (size q)) (pos 0) (pos 1) few_own plain refl refl few_may few_low)
+      subst (λ m. closes_by_sum (all_facts leaf pred true true_row (flock_bound k -ℤ pos 1) (few_facts k)) (terms_from 0 (flock_mix (map (λ q. neg_ℤ (size q)) (range_with_len 0 m)) (pos 0) (pos 1) few_own)) ≡ true) long
+      (mix_closes leaf pred true true_row (flock_bound k -ℤ pos 1) (few_facts k) (λ q. neg_ℤ (size q)) (pos 0) (pos 1) few_own plain refl refl few_may few_low)
 
   -- ---- all are converted
 
   abbrev pub converted_facts : List Fact → List Fact
-  converted_facts extra = occurs leaf (k + 1) ∷ (map (absent leaf) (range_with_len 0 (k + 1)) ++ extra)
+  converted_facts extra = occurs_fact leaf (k + 1) ∷ (map (absent_fact leaf) (range_with_len 0 (k + 1)) ++ extra)
 
   abbrev minus_one : ℕ → ℤ
   minus_one q = negsuc 0
@@ -189,26 +189,26 @@ module _ (coefs : List ℤ) (k : ℕ) (are : list_all is_flock_coefficient coefs
   abbrev converted_own : List ℤ
   converted_own = pos 0 ∷ map minus_one (range_with_len 0 (k + 1))
 
-  converted_sum : (extra : List Fact) (value : Fact → ℤ) → weighted_sum value (converted_facts extra) converted_own ≡ total (λ q. negsuc 0 *ℤ value (absent leaf q)) (range_with_len 0 (k + 1))
+  converted_sum : (extra : List Fact) (value : Fact → ℤ) → sum_of_facts value (converted_facts extra) converted_own ≡ total (λ q. negsuc 0 *ℤ value (absent_fact leaf q)) (range_with_len 0 (k + 1))
   converted_sum extra value =
       let range = range_with_len 0 (k + 1) in
-      let first = zero-*ℤ (value (occurs leaf (k + 1))) in
-      let same = ap (weighted_sum value (map (absent leaf) range ++ extra)) (sym (append-nil (map minus_one range))) in
-      let both = weighted_sum-append value (map (absent leaf) range) extra (map minus_one range) [] (length-map range (absent leaf) ∙ sym (length-map range minus_one)) in
+      let first = zero-*ℤ (value (occurs_fact leaf (k + 1))) in
+      let same = ap (sum_of_facts value (map (absent_fact leaf) range ++ extra)) (sym (append-nil (map minus_one range))) in
+      let both = weighted_sum-append value (map (absent_fact leaf) range) extra (map minus_one range) [] (length-map range (absent_fact leaf) ∙ sym (length-map range minus_one)) in
       let none = none_weighted value extra in
-      let here = weighted_sum-map value (absent leaf) minus_one range in
+      let here = weighted_sum-map value (absent_fact leaf) minus_one range in
       omega (arith, ints, first, same, both, none, here)
 
-  converted_at : (extra : List Fact) (x : ℕ) → weighted_sum (coefficient x) (converted_facts extra) converted_own ≡ total (λ q. negsuc 0 *ℤ indicator ((n + q) == x)) (range_with_len 0 (k + 1))
+  converted_at : (extra : List Fact) (x : ℕ) → sum_of_facts (coefficient x) (converted_facts extra) converted_own ≡ total (λ q. negsuc 0 *ℤ indicator ((n + q) == x)) (range_with_len 0 (k + 1))
   converted_at extra x =
       converted_sum extra (coefficient x)
-      ∙ total-same (λ q. negsuc 0 *ℤ coefficient x (absent leaf q)) (λ q. negsuc 0 *ℤ indicator ((n + q) == x)) (range_with_len 0 (k + 1)) (λ q. ap (λ c. negsuc 0 *ℤ c) (absent-at leaf q x))
+      ∙ total-same (λ q. negsuc 0 *ℤ coefficient x (absent_fact leaf q)) (λ q. negsuc 0 *ℤ indicator ((n + q) == x)) (range_with_len 0 (k + 1)) (λ q. ap (λ c. negsuc 0 *ℤ c) (absent-at leaf q x))
 
   converted_may : (extra : List Fact) → may_weigh may_add (converted_facts extra) converted_own ≡ true
   converted_may extra =
       let range = range_with_len 0 (k + 1) in
-      ap (may_weigh may_add (map (absent leaf) range ++ extra)) (sym (append-nil (map minus_one range)))
-      ∙ may_weigh-append may_add (map (absent leaf) range) extra (map minus_one range) [] (length-map range (absent leaf) ∙ sym (length-map range minus_one)) (may_weigh-eqs may_add (λ a row. refl) _ minus_one range) (rest extra)
+      ap (may_weigh may_add (map (absent_fact leaf) range ++ extra)) (sym (append-nil (map minus_one range)))
+      ∙ may_weigh-append may_add (map (absent_fact leaf) range) extra (map minus_one range) [] (length-map range (absent_fact leaf) ∙ sym (length-map range minus_one)) (may_weigh-eqs may_add (λ a row. refl) _ minus_one range) (rest extra)
     where
       rest : (extra : List Fact) → may_weigh may_add extra [] ≡ true
       rest [] = refl
@@ -218,7 +218,7 @@ module _ (coefs : List ℤ) (k : ℕ) (are : list_all is_flock_coefficient coefs
   wrong-at : (z : ℕ) → z < k + 2 → is_wrong leaf true z ≡ not (z == k + 1)
   wrong-at z l = ap (λ (c : Bool). not c) (output-at coefs k z l)
 
-  converted_low : (extra : List Fact) → IsLow leaf pred true true_row (bound_of k -ℤ pos 1) (converted_facts extra) (λ q. pos 0) (pos 1) (pos 0) converted_own
+  converted_low : (extra : List Fact) → IsLow leaf pred true true_row (flock_bound k -ℤ pos 1) (converted_facts extra) (λ q. pos 0) (pos 1) (pos 0) converted_own
   converted_low extra = record {
     at_inputs = λ i l. (
         let sum = converted_at extra i in
@@ -236,12 +236,12 @@ module _ (coefs : List ℤ) (k : ℕ) (are : list_all is_flock_coefficient coefs
         omega (arith, ints, sum, none));
     at_end = (
         let sum = converted_sum extra constant_of in
-        let none = total-none (λ q. negsuc 0 *ℤ constant_of (absent leaf q)) (range_with_len 0 (k + 1)) (λ q. refl) in
-        let zero_row = zero-*ℤ (bound_of k -ℤ pos 1) in
+        let none = total-none (λ q. negsuc 0 *ℤ constant_of (absent_fact leaf q)) (range_with_len 0 (k + 1)) (λ q. refl) in
+        let zero_row = zero-*ℤ (flock_bound k -ℤ pos 1) in
         omega (arith, ints, sum, none, zero_row));
   }
     where
-      state : (z : ℕ) → z < k + 2 → (z < k + 1) ⊎ (k + 1 ≤ z) → ((neg_ℤ (pos 0) +ℤ (pos 1 *ℤ indicator (is_wrong leaf true z))) +ℤ weighted_sum (coefficient (n + z)) (converted_facts extra) converted_own) ≤ℤ pos 0
+      state : (z : ℕ) → z < k + 2 → (z < k + 1) ⊎ (k + 1 ≤ z) → ((neg_ℤ (pos 0) +ℤ (pos 1 *ℤ indicator (is_wrong leaf true z))) +ℤ sum_of_facts (coefficient (n + z)) (converted_facts extra) converted_own) ≤ℤ pos 0
       state z l (inl m) =
           let sum = converted_at extra (n + z) in
           let here = total-counts n minus_one (k + 1) z m in
@@ -253,13 +253,13 @@ module _ (coefs : List ℤ) (k : ℕ) (are : list_all is_flock_coefficient coefs
           let right = ap indicator (wrong-at z l ∙ ap (λ (c : Bool). not c) (eq-eqb z (k + 1) (omega arith))) in
           omega (arith, ints, sum, none, right)
 
-  pub converted_closes : (extra : List Fact) → closes_by_sum (all_facts leaf pred true true_row (bound_of k -ℤ pos 1) (converted_facts extra)) (terms_from 0 (converted_by k)) ≡ true
+  pub converted_closes : (extra : List Fact) → closes_by_sum (all_facts leaf pred true true_row (flock_bound k -ℤ pos 1) (converted_facts extra)) (terms_from 0 (converted_mix k)) ≡ true
   converted_closes extra =
-      subst (λ ms. closes_by_sum (all_facts leaf pred true true_row (bound_of k -ℤ pos 1) (converted_facts extra)) (terms_from 0 ms) ≡ true) same
-      (mix_closes leaf pred true true_row (bound_of k -ℤ pos 1) (converted_facts extra) (λ q. pos 0) (pos 1) (pos 0) converted_own plain refl refl (converted_may extra) (converted_low extra))
+      subst (λ ms. closes_by_sum (all_facts leaf pred true true_row (flock_bound k -ℤ pos 1) (converted_facts extra)) (terms_from 0 ms) ≡ true) same
+      (mix_closes leaf pred true true_row (flock_bound k -ℤ pos 1) (converted_facts extra) (λ q. pos 0) (pos 1) (pos 0) converted_own plain refl refl (converted_may extra) (converted_low extra))
     where
-      same : mix (map (λ (q : ℕ). pos 0) (states_of leaf)) (pos 1) (pos 0) converted_own ≡ converted_by k
+      same : flock_mix (map (λ (q : ℕ). pos 0) (states_of leaf)) (pos 1) (pos 0) converted_own ≡ converted_mix k
       same =
-          ap (λ m. mix (map (λ (q : ℕ). pos 0) (range_with_len 0 m)) (pos 1) (pos 0) converted_own) long
-          ∙ ap (λ zs. mix zs (pos 1) (pos 0) converted_own) (range-constant (pos 0) 0 (k + 2))
-          ∙ ap (λ ms. mix (zeros (k + 2)) (pos 1) (pos 0) (pos 0 ∷ ms)) (range-constant (negsuc 0) 0 (k + 1))
+          ap (λ m. flock_mix (map (λ (q : ℕ). pos 0) (range_with_len 0 m)) (pos 1) (pos 0) converted_own) long
+          ∙ ap (λ zs. flock_mix zs (pos 1) (pos 0) converted_own) (range-constant (pos 0) 0 (k + 2))
+          ∙ ap (λ ms. flock_mix (zeros (k + 2)) (pos 1) (pos 0) (pos 0 ∷ ms)) (range-constant (negsuc 0) 0 (k + 1))

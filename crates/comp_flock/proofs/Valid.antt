@@ -10,7 +10,7 @@ use Rattle.cert_base.specs.declared.proof.LeafProof.{LeafProof}
 use Rattle.cert_base.specs.ValidProof.{ValidLeafProof}
 use Rattle.cert_base.specs.ProofLimits.{IsLeafProofWithin}
 use Rattle.comp_flock_leaf.specs.FlockLeaf.{is_flock_coefficient, flock_leaf_of}
-use Rattle.comp_flock.specs.FlockProof.{flock_layers, true_tree, false_tree, flock_pred, flock_part}
+use Rattle.comp_flock.specs.FlockProof.{flock_layers_of, flock_true_tree, flock_false_tree, flock_pred_of, flock_part}
 use Rattle.comp_flock_leaf.proofs.Formed.{flock-formed}
 use Rattle.comp_flock.proofs.Layers.{layers-valid}
 use Rattle.comp_flock.proofs.Closing.{tree-true, tree-false}
@@ -43,13 +43,13 @@ flock-within coefs k is = record {
 }
 
 -- the proof as the code puts it together
-pub part-as : (coefs : List ℤ) (k : ℕ) (pred : PredModel) (layers : List Layer) (on_true on_false : List Node) → pred ≡ flock_pred coefs k → layers ≡ flock_layers k → on_true ≡ true_tree k → on_false ≡ false_tree k → record { pred = pred; layers = layers; on_true = on_true; on_false = on_false } ≡ flock_part coefs k
+pub part-as : (coefs : List ℤ) (k : ℕ) (pred : PredModel) (layers : List Layer) (on_true on_false : List Node) → pred ≡ flock_pred_of coefs k → layers ≡ flock_layers_of k → on_true ≡ flock_true_tree k → on_false ≡ flock_false_tree k → record { pred = pred; layers = layers; on_true = on_true; on_false = on_false } ≡ flock_part coefs k
 part-as coefs k pred layers on_true on_false ep ey ea eb =
     let part : PredModel → List Layer → List Node → List Node → LeafProof = λ p y a b. record { pred = p; layers = y; on_true = a; on_false = b } in
     ap (λ p. part p layers on_true on_false) ep
-    ∙ ap (λ y. part (flock_pred coefs k) y on_true on_false) ey
-    ∙ ap (λ a. part (flock_pred coefs k) (flock_layers k) a on_false) ea
-    ∙ ap (λ b. part (flock_pred coefs k) (flock_layers k) (true_tree k) b) eb
+    ∙ ap (λ y. part (flock_pred_of coefs k) y on_true on_false) ey
+    ∙ ap (λ a. part (flock_pred_of coefs k) (flock_layers_of k) a on_false) ea
+    ∙ ap (λ b. part (flock_pred_of coefs k) (flock_layers_of k) (flock_true_tree k) b) eb
 
 pub whole-valid : (coefs : List ℤ) (k : ℕ) (leaf : LeafModel) (part : LeafProof) → leaf ≡ flock_leaf_of coefs k → part ≡ flock_part coefs k → IsFlock coefs k → ValidLeafProof leaf part
 whole-valid coefs k leaf part el ep is =

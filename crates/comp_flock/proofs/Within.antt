@@ -9,15 +9,15 @@ use Rattle.cert_base.specs.declared.layer.Layer.{Layer}
 use Rattle.cert_base.specs.declared.node.Node.TheVariants.{Present, Twin, Siphon, Open}
 use Rattle.cert_base.specs.Rows.{zeros}
 use Rattle.cert_base.specs.ProofLimits.{IsSmall, IsSetWithin, IsNodeWithin, AreNodesWithin, IsLayerWithin}
-use Rattle.comp_trees.specs.LeaderTree.{weighed}
+use Rattle.comp_trees.specs.LeaderTree.{weighed_node}
 use Rattle.comp_trees.proofs.Limits.{weighed-within, all-zeros}
 use Rattle.comp_layers.proofs.Members.{all_range}
 use Rattle.comp_flock_leaf.specs.FlockLeaf.{size_in}
-use Rattle.comp_flock.specs.FlockProof.{weight_of, flock_layers, mix, size_below, few_by, converted_by, first_by, start_by, never_by, true_tree, false_tree}
+use Rattle.comp_flock.specs.FlockProof.{flock_weight, flock_layers_of, flock_mix, lesser_size, few_mix, converted_mix, first_mix, start_mix, never_mix, flock_true_tree, flock_false_tree}
 use Rattle.comp_flock_leaf.proofs.Powers.{size-le, power_small}
 use Rattle.comp_flock.proofs.Small.{abs-neg}
 
-weight-small : (k q : ℕ) → IsSmall (weight_of k q)
+weight-small : (k q : ℕ) → IsSmall (flock_weight k q)
 weight-small k q = go (q == 0) (q == k + 1)
   where
     go : (a b : Bool) → IsSmall (if a then pos 1 else (if b then pos 0 else pos 2))
@@ -35,28 +35,28 @@ below-small k q n l = go (q == k + 1)
 one : (a : ℤ) → IsSmall a → All IsSmall (a ∷ [])
 one a h = All-cons IsSmall a [] h (All-nil IsSmall)
 
-mix-long : (flows : List ℤ) (wrong opened : ℤ) (own : List ℤ) → length (mix flows wrong opened own) ≡ length flows + length own + 4
+mix-long : (flows : List ℤ) (wrong opened : ℤ) (own : List ℤ) → length (flock_mix flows wrong opened own) ≡ length flows + length own + 4
 mix-long flows wrong opened own =
     let base = flows ++ pos 0 ∷ pos 0 ∷ wrong ∷ [] in
     omega (arith, length-append (base ++ opened ∷ []) own, length-append base (opened ∷ []), length-append flows (pos 0 ∷ pos 0 ∷ wrong ∷ []))
 
-pub few-short : (k : ℕ) → k ≤ 39 → length (few_by k) ≤ 200
+pub few-short : (k : ℕ) → k ≤ 39 → length (few_mix k) ≤ 200
 few-short k l =
     let minus : ℕ → ℤ = λ q. neg_ℤ (pos (size_in q)) in
     let size : ℕ → ℤ = λ q. pos (size_in q) in
     omega (arith, mix-long (map minus (range_with_len 0 (k + 2))) (pos 0) (pos 1) (neg_ℤ (pos (2 ^ k)) ∷ map size (range_with_len 1 k)), length-map-range_with_len minus 0 (k + 2), length-map-range_with_len size 1 k)
 
-pub first-short : (k : ℕ) → k ≤ 39 → length (first_by k) ≤ 200
+pub first-short : (k : ℕ) → k ≤ 39 → length (first_mix k) ≤ 200
 first-short k l =
-    omega (arith, mix-long (map (size_below k) (range_with_len 0 (k + 2))) (pos 0) (pos 1) (pos (2 ^ k) ∷ []), length-map-range_with_len (size_below k) 0 (k + 2))
+    omega (arith, mix-long (map (lesser_size k) (range_with_len 0 (k + 2))) (pos 0) (pos 1) (pos (2 ^ k) ∷ []), length-map-range_with_len (lesser_size k) 0 (k + 2))
 
 -- a node of few multipliers
-mix-within : (flows : List ℤ) (wrong opened : ℤ) (own : List ℤ) (n m : ℕ) → length flows ≤ n → length own ≤ m → n + m ≤ 200 → All IsSmall flows → IsSmall wrong → IsSmall opened → All IsSmall own → IsNodeWithin (weighed (mix flows wrong opened own))
+mix-within : (flows : List ℤ) (wrong opened : ℤ) (own : List ℤ) (n m : ℕ) → length flows ≤ n → length own ≤ m → n + m ≤ 200 → All IsSmall flows → IsSmall wrong → IsSmall opened → All IsSmall own → IsNodeWithin (weighed_node (flock_mix flows wrong opened own))
 mix-within flows wrong opened own n m ln lm few fs w o os =
     let base = flows ++ pos 0 ∷ pos 0 ∷ wrong ∷ [] in
     let all_base = All-append IsSmall flows (pos 0 ∷ pos 0 ∷ wrong ∷ []) fs (All-cons IsSmall (pos 0) (pos 0 ∷ wrong ∷ []) (omega arith) (All-cons IsSmall (pos 0) (wrong ∷ []) (omega arith) (one wrong w))) in
     let all = All-append IsSmall (base ++ opened ∷ []) own (All-append IsSmall base (opened ∷ []) all_base (one opened o)) os in
-    weighed-within (mix flows wrong opened own) (omega (arith, mix-long flows wrong opened own, ln, lm, few)) all
+    weighed-within (flock_mix flows wrong opened own) (omega (arith, mix-long flows wrong opened own, ln, lm, few)) all
 
 module _ (k : ℕ) (high : k ≤ 39) where
   top-small : 2 ^ k ≤ 549755813888
@@ -65,23 +65,23 @@ module _ (k : ℕ) (high : k ≤ 39) where
   size-small : (q : ℕ) → q < k + 2 → size_in q ≤ 549755813888
   size-small q l = let a = size-le k q (omega arith) in let b = top-small in omega (arith, a, b)
 
-  pub layers-within : All IsLayerWithin (flock_layers k)
+  pub layers-within : All IsLayerWithin (flock_layers_of k)
   layers-within =
-      let weights = map (weight_of k) (range_with_len 0 (k + 2)) in
+      let weights = map (flock_weight k) (range_with_len 0 (k + 2)) in
       let layer : Layer = record { moves = range_with_len 0 (k + (k + 1)); weights = weights } in
       All-cons IsLayerWithin layer []
       (record {
         move_count = omega (arith, length-range_with_len 0 (k + (k + 1)));
         moves = all_range (λ number. number < 2 ^ 32) 0 (k + (k + 1)) (λ number l m. omega arith);
-        weight_count = omega (arith, length-map-range_with_len (weight_of k) 0 (k + 2));
-        weights = All-map IsSmall (weight_of k) (range_with_len 0 (k + 2)) (all_range (λ q. IsSmall (weight_of k q)) 0 (k + 2) (λ q l m. weight-small k q));
+        weight_count = omega (arith, length-map-range_with_len (flock_weight k) 0 (k + 2));
+        weights = All-map IsSmall (flock_weight k) (range_with_len 0 (k + 2)) (all_range (λ q. IsSmall (flock_weight k q)) 0 (k + 2) (λ q l m. weight-small k q));
       })
       (All-nil IsLayerWithin)
 
-  nothing : (wrong : ℤ) (own : List ℤ) → IsSmall wrong → length own ≤ k + 2 → All IsSmall own → IsNodeWithin (weighed (mix (zeros (k + 2)) wrong (pos 0) own))
+  nothing : (wrong : ℤ) (own : List ℤ) → IsSmall wrong → length own ≤ k + 2 → All IsSmall own → IsNodeWithin (weighed_node (flock_mix (zeros (k + 2)) wrong (pos 0) own))
   nothing wrong own w l os = mix-within (zeros (k + 2)) wrong (pos 0) own (k + 2) (k + 2) (omega (arith, length-replicate (k + 2) (pos 0))) l (omega arith) (all-zeros (k + 2)) w (omega arith) os
 
-  few-within : IsNodeWithin (weighed (few_by k))
+  few-within : IsNodeWithin (weighed_node (few_mix k))
   few-within =
       let size : ℕ → ℤ = λ q. pos (size_in q) in
       let minus : ℕ → ℤ = λ q. neg_ℤ (pos (size_in q)) in
@@ -92,22 +92,22 @@ module _ (k : ℕ) (high : k ≤ 39) where
       (All-cons IsSmall (neg_ℤ (pos (2 ^ k))) (map size (range_with_len 1 k)) (let a = top-small in let b = abs-neg (2 ^ k) in omega (arith, a, b))
       (All-map IsSmall size (range_with_len 1 k) (all_range (λ q. IsSmall (size q)) 1 k (λ q l m. let a = size-small q (omega arith) in omega (arith, a)))))
 
-  first-within : IsNodeWithin (weighed (first_by k))
+  first-within : IsNodeWithin (weighed_node (first_mix k))
   first-within =
-      mix-within (map (size_below k) (range_with_len 0 (k + 2))) (pos 0) (pos 1) (pos (2 ^ k) ∷ []) (k + 2) (k + 2)
-      (omega (arith, length-map-range_with_len (size_below k) 0 (k + 2))) (omega arith) (omega arith)
-      (All-map IsSmall (size_below k) (range_with_len 0 (k + 2)) (all_range (λ q. IsSmall (size_below k q)) 0 (k + 2) (λ q l m. below-small k q (size_in q) (size-small q (omega arith)))))
+      mix-within (map (lesser_size k) (range_with_len 0 (k + 2))) (pos 0) (pos 1) (pos (2 ^ k) ∷ []) (k + 2) (k + 2)
+      (omega (arith, length-map-range_with_len (lesser_size k) 0 (k + 2))) (omega arith) (omega arith)
+      (All-map IsSmall (lesser_size k) (range_with_len 0 (k + 2)) (all_range (λ q. IsSmall (lesser_size k q)) 0 (k + 2) (λ q l m. below-small k q (size_in q) (size-small q (omega arith)))))
       (omega arith) (omega arith) (one (pos (2 ^ k)) (let a = top-small in omega (arith, a)))
 
-  converted-within : IsNodeWithin (weighed (converted_by k))
+  converted-within : IsNodeWithin (weighed_node (converted_mix k))
   converted-within =
       nothing (pos 1) (pos 0 ∷ replicate (k + 1) (negsuc 0)) (omega arith) (omega (arith, length-replicate (k + 1) (negsuc 0)))
       (All-cons IsSmall (pos 0) (replicate (k + 1) (negsuc 0)) (omega arith) (All-replicate IsSmall (k + 1) (negsuc 0) (omega arith)))
 
-  start-within : IsNodeWithin (weighed (start_by k))
+  start-within : IsNodeWithin (weighed_node (start_mix k))
   start-within = nothing (pos 0) (pos 1 ∷ []) (omega arith) (omega arith) (one (pos 1) (omega arith))
 
-  never-within : IsNodeWithin (weighed (never_by k))
+  never-within : IsNodeWithin (weighed_node (never_mix k))
   never-within =
       nothing (pos 1) (zeros (k + 1) ++ negsuc 0 ∷ []) (omega arith) (omega (arith, length-append (zeros (k + 1)) (negsuc 0 ∷ []), length-replicate (k + 1) (pos 0)))
       (All-append IsSmall (zeros (k + 1)) (negsuc 0 ∷ []) (all-zeros (k + 1)) (one (negsuc 0) (omega arith)))
@@ -115,30 +115,30 @@ module _ (k : ℕ) (high : k ≤ 39) where
   twins-within : All IsNodeWithin (map Twin (range_with_len 1 k))
   twins-within = All-map IsNodeWithin Twin (range_with_len 1 k) (all_range (λ q. q < 2 ^ 16) 1 k (λ q l m. omega arith))
 
-  pub true-within : AreNodesWithin (true_tree k)
+  pub true-within : AreNodesWithin (flock_true_tree k)
   true-within =
       let front = Open (k + 2 + 1) ∷ Present (k + 1) ∷ map Twin (range_with_len 1 k) in
-      let back = weighed (few_by k) ∷ weighed (converted_by k) ∷ [] in (
+      let back = weighed_node (few_mix k) ∷ weighed_node (converted_mix k) ∷ [] in (
         (omega (arith, length-append front back, length-map-range_with_len Twin 1 k)),
         All-append IsNodeWithin front back
             (All-cons IsNodeWithin (Open (k + 2 + 1)) (Present (k + 1) ∷ map Twin (range_with_len 1 k)) (omega arith)
             (All-cons IsNodeWithin (Present (k + 1)) (map Twin (range_with_len 1 k)) (omega arith) twins-within))
-            (All-cons IsNodeWithin (weighed (few_by k)) (weighed (converted_by k) ∷ []) few-within
-            (All-cons IsNodeWithin (weighed (converted_by k)) [] converted-within (All-nil IsNodeWithin))),
+            (All-cons IsNodeWithin (weighed_node (few_mix k)) (weighed_node (converted_mix k) ∷ []) few-within
+            (All-cons IsNodeWithin (weighed_node (converted_mix k)) [] converted-within (All-nil IsNodeWithin))),
       )
 
   full-within : IsSetWithin ((k + 1) ∷ [])
   full-within = (omega arith, All-cons (λ q. q < 2 ^ 16) (k + 1) [] (omega arith) (All-nil (λ q. q < 2 ^ 16)), tt)
 
-  pub false-within : AreNodesWithin (false_tree k)
+  pub false-within : AreNodesWithin (flock_false_tree k)
   false-within =
-      let three = weighed (never_by k) ∷ [] in
-      let two = weighed (start_by k) ∷ three in
-      let one = weighed (first_by k) ∷ two in (
+      let three = weighed_node (never_mix k) ∷ [] in
+      let two = weighed_node (start_mix k) ∷ three in
+      let one = weighed_node (first_mix k) ∷ two in (
         omega arith,
         All-cons IsNodeWithin (Open (k + 2 + 1)) (Siphon ((k + 1) ∷ []) ∷ one) (omega arith)
             (All-cons IsNodeWithin (Siphon ((k + 1) ∷ [])) one full-within
-            (All-cons IsNodeWithin (weighed (first_by k)) two first-within
-            (All-cons IsNodeWithin (weighed (start_by k)) three start-within
-            (All-cons IsNodeWithin (weighed (never_by k)) [] never-within (All-nil IsNodeWithin))))),
+            (All-cons IsNodeWithin (weighed_node (first_mix k)) two first-within
+            (All-cons IsNodeWithin (weighed_node (start_mix k)) three start-within
+            (All-cons IsNodeWithin (weighed_node (never_mix k)) [] never-within (All-nil IsNodeWithin))))),
       )

@@ -8,76 +8,76 @@ use Rattle.cert_base.specs.declared.node.Node.{Node}
 use Rattle.cert_base.specs.declared.node.Node.TheVariants.{Present, Twin, Siphon, Open}
 use Rattle.cert_base.specs.declared.proof.LeafProof.{LeafProof}
 use Rattle.cert_base.specs.Rows.{zeros}
-use Rattle.comp_trees.specs.LeaderTree.{weighed}
-use Rattle.comp_flock_leaf.specs.FlockLeaf.{bound_of, size_in, state_count}
+use Rattle.comp_trees.specs.LeaderTree.{weighed_node}
+use Rattle.comp_flock_leaf.specs.FlockLeaf.{flock_bound, size_in, flock_state_count}
 
 -- ---- the layer
 
-abbrev pub weight_of : ℕ → ℕ → ℤ
-weight_of k q = if q == 0 then pos 1 else (if q == k + 1 then pos 0 else pos 2)
+abbrev pub flock_weight : ℕ → ℕ → ℤ
+flock_weight k q = if q == 0 then pos 1 else (if q == k + 1 then pos 0 else pos 2)
 
 -- all moves, in one layer
-abbrev pub flock_layers : ℕ → List Layer
-flock_layers k =
+abbrev pub flock_layers_of : ℕ → List Layer
+flock_layers_of k =
     record {
       moves = range_with_len 0 (k + (k + 1));
-      weights = map (weight_of k) (range_with_len 0 (state_count k));
+      weights = map (flock_weight k) (range_with_len 0 (flock_state_count k));
     } ∷ []
 
 -- ---- the nodes
 
 -- the multipliers of the base facts, of the opened predicate, and of the facts after it
-abbrev pub mix : List ℤ → ℤ → ℤ → List ℤ → List ℤ
-mix flows wrong opened own = ((flows ++ pos 0 ∷ pos 0 ∷ wrong ∷ []) ++ opened ∷ []) ++ own
+abbrev pub flock_mix : List ℤ → ℤ → ℤ → List ℤ → List ℤ
+flock_mix flows wrong opened own = ((flows ++ pos 0 ∷ pos 0 ∷ wrong ∷ []) ++ opened ∷ []) ++ own
 
 abbrev pub for_states : ℕ → (ℕ → ℤ) → List ℤ
-for_states k value = map value (range_with_len 0 (state_count k))
+for_states k value = map value (range_with_len 0 (flock_state_count k))
 
-abbrev pub size_below : ℕ → ℕ → ℤ
-size_below k q = if q == k + 1 then pos 0 else pos (size_in q)
+abbrev pub lesser_size : ℕ → ℕ → ℤ
+lesser_size k q = if q == k + 1 then pos 0 else pos (size_in q)
 
 -- without 2^k, and with each smaller power once at most, the sizes add up to 2^k - 1 at most
-abbrev pub few_by : ℕ → List ℤ
-few_by k =
-    mix (for_states k (λ q. neg_ℤ (pos (size_in q)))) (pos 0) (pos 1)
+abbrev pub few_mix : ℕ → List ℤ
+few_mix k =
+    flock_mix (for_states k (λ q. neg_ℤ (pos (size_in q)))) (pos 0) (pos 1)
     (neg_ℤ (pos (2 ^ k)) ∷ map (λ q. pos (size_in q)) (range_with_len 1 k))
 
 -- beside 2^k there is no other state at the end
-abbrev pub converted_by : ℕ → List ℤ
-converted_by k = mix (zeros (state_count k)) (pos 1) (pos 0) (pos 0 ∷ replicate (k + 1) (negsuc 0))
+abbrev pub converted_mix : ℕ → List ℤ
+converted_mix k = flock_mix (zeros (flock_state_count k)) (pos 1) (pos 0) (pos 0 ∷ replicate (k + 1) (negsuc 0))
 
 -- the first 2^k takes 2^k agents
-abbrev pub first_by : ℕ → List ℤ
-first_by k = mix (for_states k (size_below k)) (pos 0) (pos 1) (pos (2 ^ k) ∷ [])
+abbrev pub first_mix : ℕ → List ℤ
+first_mix k = flock_mix (for_states k (lesser_size k)) (pos 0) (pos 1) (pos (2 ^ k) ∷ [])
 
 -- no agent starts as 2^k
-abbrev pub start_by : ℕ → List ℤ
-start_by k = mix (zeros (state_count k)) (pos 0) (pos 0) (pos 1 ∷ [])
+abbrev pub start_mix : ℕ → List ℤ
+start_mix k = flock_mix (zeros (flock_state_count k)) (pos 0) (pos 0) (pos 1 ∷ [])
 
 -- 2^k never came, so no output is true
-abbrev pub never_by : ℕ → List ℤ
-never_by k = mix (zeros (state_count k)) (pos 1) (pos 0) (zeros (k + 1) ++ negsuc 0 ∷ [])
+abbrev pub never_mix : ℕ → List ℤ
+never_mix k = flock_mix (zeros (flock_state_count k)) (pos 1) (pos 0) (zeros (k + 1) ++ negsuc 0 ∷ [])
 
 -- ---- the trees: 2^k is absent at the end, or present; 2^k was put in without being there, or was there at the start, or never came
-abbrev pub true_tree : ℕ → List Node
-true_tree k =
-    (Open (state_count k + 1) ∷ Present (k + 1) ∷ map Twin (range_with_len 1 k))
-    ++ weighed (few_by k) ∷ weighed (converted_by k) ∷ []
+abbrev pub flock_true_tree : ℕ → List Node
+flock_true_tree k =
+    (Open (flock_state_count k + 1) ∷ Present (k + 1) ∷ map Twin (range_with_len 1 k))
+    ++ weighed_node (few_mix k) ∷ weighed_node (converted_mix k) ∷ []
 
-abbrev pub false_tree : ℕ → List Node
-false_tree k =
-    Open (state_count k + 1) ∷ Siphon ((k + 1) ∷ []) ∷ weighed (first_by k) ∷ weighed (start_by k) ∷ weighed (never_by k) ∷ []
+abbrev pub flock_false_tree : ℕ → List Node
+flock_false_tree k =
+    Open (flock_state_count k + 1) ∷ Siphon ((k + 1) ∷ []) ∷ weighed_node (first_mix k) ∷ weighed_node (start_mix k) ∷ weighed_node (never_mix k) ∷ []
 
 -- ---- the whole proof of the leaf
 
-abbrev pub flock_pred : List ℤ → ℕ → PredModel
-flock_pred coefs k = record { variables = length coefs; tree = LessThan coefs (bound_of k) }
+abbrev pub flock_pred_of : List ℤ → ℕ → PredModel
+flock_pred_of coefs k = record { variables = length coefs; tree = LessThan coefs (flock_bound k) }
 
 abbrev pub flock_part : List ℤ → ℕ → LeafProof
 flock_part coefs k =
     record {
-      pred = flock_pred coefs k;
-      layers = flock_layers k;
-      on_true = true_tree k;
-      on_false = false_tree k;
+      pred = flock_pred_of coefs k;
+      layers = flock_layers_of k;
+      on_true = flock_true_tree k;
+      on_false = flock_false_tree k;
     }

@@ -3,11 +3,9 @@
 ghost use Rattle.std.specs.Prelude.{◌≡◌, ◌<◌, ◌≤◌, ◌+◌, ◌^◌, map, pos, neg_ℤ, length, IfOk};
 ghost use Rattle.std.specs.List.{range_with_len};
 ghost use Rattle.comp_flock_leaf.specs.declared.limits.TheConstants.{POWER_LIMIT};
-ghost use Rattle.comp_flock_leaf.specs.FlockLeaf.{size_in, state_count};
-ghost use Rattle.comp_flock.specs.FlockProof.{mix as mix_list, size_below as below_in, few_by as few_list};
-ghost use Rattle.comp_flock.specs.FlockProof.{converted_by as converted_list, first_by as first_list};
-ghost use Rattle.comp_flock.specs.FlockProof.{start_by as start_list};
-ghost use Rattle.comp_flock.specs.FlockProof.{never_by as never_list};
+ghost use Rattle.comp_flock_leaf.specs.FlockLeaf.{size_in, flock_state_count};
+ghost use Rattle.comp_flock.specs.FlockProof.{flock_mix, lesser_size, few_mix, converted_mix, first_mix, start_mix};
+ghost use Rattle.comp_flock.specs.FlockProof.{never_mix};
 
 use comp_flock_leaf::size_of;
 use pop_io::NoMemory;
@@ -21,7 +19,7 @@ fn mix(
     opened: i64,
     own: &[i64],
 ) -> Result<Vec<i64>, NoMemory>
-    ensures { IfOk result (λ multipliers. multipliers.items ≡ mix_list flows.now wrong opened own.now) }
+    ensures { IfOk result (λ multipliers. multipliers.items ≡ flock_mix flows.now wrong opened own.now) }
 {
     let mut multipliers = Vec::from_slice(alloc, flows)?;
     multipliers.extend_from_slice(&[0, 0, wrong])?;
@@ -48,7 +46,7 @@ fn lost(q: u16) -> i64
 fn size_below(power: u16, q: u16) -> i64
     requires power { power ≤ POWER_LIMIT }
     requires state { q ≤ POWER_LIMIT + 1 }
-    ensures { result ≡ below_in power q }
+    ensures { result ≡ lesser_size power q }
 {
     if q == power + 1 { 0 } else { size(q) }
 }
@@ -56,7 +54,7 @@ fn size_below(power: u16, q: u16) -> i64
 fn all_lost(alloc: Global, power: u16) -> Result<Vec<i64>, NoMemory>
     requires { power ≤ POWER_LIMIT }
     ensures { IfOk result (λ all.
-        all.items ≡ map (λ q. neg_ℤ (pos (size_in q))) (range_with_len 0 (state_count power))) }
+        all.items ≡ map (λ q. neg_ℤ (pos (size_in q))) (range_with_len 0 (flock_state_count power))) }
 {
     let all = (0..power + 2).map(|q| lost(q)).collect(alloc)?;
     Ok(all)
@@ -64,7 +62,7 @@ fn all_lost(alloc: Global, power: u16) -> Result<Vec<i64>, NoMemory>
 
 fn all_below(alloc: Global, power: u16) -> Result<Vec<i64>, NoMemory>
     requires { power ≤ POWER_LIMIT }
-    ensures { IfOk result (λ all. all.items ≡ map (below_in power) (range_with_len 0 (state_count power))) }
+    ensures { IfOk result (λ all. all.items ≡ map (lesser_size power) (range_with_len 0 (flock_state_count power))) }
 {
     let all = (0..power + 2).map(|q| size_below(power, q)).collect(alloc)?;
     Ok(all)
@@ -82,7 +80,7 @@ fn sizes(alloc: Global, power: u16) -> Result<Vec<i64>, NoMemory>
 /// 2^k is absent, and each smaller power is there once at most.
 pub(crate) fn few(alloc: Global, power: u16) -> Result<Vec<i64>, NoMemory>
     requires { power ≤ POWER_LIMIT }
-    ensures { IfOk result (λ multipliers. multipliers.items ≡ few_list power) }
+    ensures { IfOk result (λ multipliers. multipliers.items ≡ few_mix power) }
 {
     let mut own = Vec::from_slice(alloc, &[lost(power + 1)])?;
     let sizes = sizes(alloc, power)?;
@@ -94,7 +92,7 @@ pub(crate) fn few(alloc: Global, power: u16) -> Result<Vec<i64>, NoMemory>
 /// 2^k is there, and nothing else.
 pub(crate) fn converted(alloc: Global, power: u16) -> Result<Vec<i64>, NoMemory>
     requires { power ≤ POWER_LIMIT }
-    ensures { IfOk result (λ multipliers. multipliers.items ≡ converted_list power) }
+    ensures { IfOk result (λ multipliers. multipliers.items ≡ converted_mix power) }
 {
     let mut own = Vec::from_slice(alloc, &[0i64])?;
     let absent = vec![in alloc; -1i64; usize::from(power + 1)]?;
@@ -106,7 +104,7 @@ pub(crate) fn converted(alloc: Global, power: u16) -> Result<Vec<i64>, NoMemory>
 /// The first 2^k was put together.
 pub(crate) fn first(alloc: Global, power: u16) -> Result<Vec<i64>, NoMemory>
     requires { power ≤ POWER_LIMIT }
-    ensures { IfOk result (λ multipliers. multipliers.items ≡ first_list power) }
+    ensures { IfOk result (λ multipliers. multipliers.items ≡ first_mix power) }
 {
     let flows = all_below(alloc, power)?;
     mix(alloc, flows.as_slice(), 0, 1, &[size(power + 1)])
@@ -115,7 +113,7 @@ pub(crate) fn first(alloc: Global, power: u16) -> Result<Vec<i64>, NoMemory>
 /// An agent started as 2^k.
 pub(crate) fn start(alloc: Global, power: u16) -> Result<Vec<i64>, NoMemory>
     requires { power ≤ POWER_LIMIT }
-    ensures { IfOk result (λ multipliers. multipliers.items ≡ start_list power) }
+    ensures { IfOk result (λ multipliers. multipliers.items ≡ start_mix power) }
 {
     let flows = vec![in alloc; 0i64; usize::from(power + 2)]?;
     mix(alloc, flows.as_slice(), 0, 0, &[1])
@@ -124,7 +122,7 @@ pub(crate) fn start(alloc: Global, power: u16) -> Result<Vec<i64>, NoMemory>
 /// 2^k never came.
 pub(crate) fn never(alloc: Global, power: u16) -> Result<Vec<i64>, NoMemory>
     requires { power ≤ POWER_LIMIT }
-    ensures { IfOk result (λ multipliers. multipliers.items ≡ never_list power) }
+    ensures { IfOk result (λ multipliers. multipliers.items ≡ never_mix power) }
 {
     let mut own = vec![in alloc; 0i64; usize::from(power + 1)]?;
     own.extend_from_slice(&[-1])?;

@@ -4,7 +4,7 @@ ghost use Rattle.std.specs.Prelude.{◌≡◌, ◌≤◌, ◌+◌, ◌++◌, map
 ghost use Rattle.std.specs.List.{range_with_len};
 ghost use Rattle.cert_base.specs.declared.node.Node.TheVariants.{Twin as twin_node};
 ghost use Rattle.comp_flock_leaf.specs.declared.limits.TheConstants.{POWER_LIMIT};
-ghost use Rattle.comp_flock.specs.FlockProof.{true_tree as true_list, false_tree as false_list};
+ghost use Rattle.comp_flock.specs.FlockProof.{flock_true_tree, flock_false_tree};
 
 use crate::multipliers::{converted, few, first, never, start};
 use cert_base::Node;
@@ -34,7 +34,7 @@ fn push_twins(nodes: &mut Vec<Node>, power: u16) -> Result<(), NoMemory>
 /// Where the predicate holds: 2^k is absent at the end, or it is present.
 pub(crate) fn true_tree(alloc: Global, power: u16) -> Result<List<Node>, NoMemory>
     requires { power ≤ POWER_LIMIT }
-    ensures { IfOk result (λ nodes. nodes ≡ true_list power) }
+    ensures { IfOk result (λ nodes. nodes ≡ flock_true_tree power) }
 {
     let few = few(alloc, power)?;
     let converted = converted(alloc, power)?;
@@ -50,7 +50,7 @@ pub(crate) fn true_tree(alloc: Global, power: u16) -> Result<List<Node>, NoMemor
 /// Where it doesn't: 2^k was put together, or was there at the start, or never came.
 pub(crate) fn false_tree(alloc: Global, power: u16) -> Result<List<Node>, NoMemory>
     requires { power ≤ POWER_LIMIT }
-    ensures { IfOk result (λ nodes. nodes ≡ false_list power) }
+    ensures { IfOk result (λ nodes. nodes ≡ flock_false_tree power) }
 {
     let first = first(alloc, power)?;
     let start = start(alloc, power)?;

@@ -3,8 +3,8 @@
 ghost use Rattle.std.specs.Prelude.{◌≡◌, ◌≤◌, ◌+◌, map, IfOk};
 ghost use Rattle.std.specs.List.{range_with_len};
 ghost use Rattle.comp_flock_leaf.specs.declared.limits.TheConstants.{POWER_LIMIT};
-ghost use Rattle.comp_flock_leaf.specs.FlockLeaf.{state_count};
-ghost use Rattle.comp_flock.specs.FlockProof.{weight_of as weight_in, flock_layers as layer_list};
+ghost use Rattle.comp_flock_leaf.specs.FlockLeaf.{flock_state_count};
+ghost use Rattle.comp_flock.specs.FlockProof.{flock_weight, flock_layers_of};
 
 use cert_base::Layer;
 use pop_io::{List, NoMemory};
@@ -12,7 +12,7 @@ use std::alloc::Global;
 
 fn weight_of(power: u16, q: u16) -> i64
     requires { power ≤ POWER_LIMIT }
-    ensures { result ≡ weight_in power q }
+    ensures { result ≡ flock_weight power q }
 {
     if q == 0 {
         1
@@ -25,7 +25,8 @@ fn weight_of(power: u16, q: u16) -> i64
 
 fn weights(alloc: Global, power: u16) -> Result<Vec<i64>, NoMemory>
     requires { power ≤ POWER_LIMIT }
-    ensures { IfOk result (λ weights. weights.items ≡ map (weight_in power) (range_with_len 0 (state_count power))) }
+    ensures { IfOk result (λ weights.
+        weights.items ≡ map (flock_weight power) (range_with_len 0 (flock_state_count power))) }
 {
     let weights = (0..power + 2).map(|q| weight_of(power, q)).collect(alloc)?;
     Ok(weights)
@@ -44,7 +45,7 @@ fn numbers(alloc: Global, count: u32) -> Result<Vec<u32>, NoMemory>
 /// All moves in one layer.
 pub(crate) fn flock_layers(alloc: Global, power: u16) -> Result<List<Layer>, NoMemory>
     requires { power ≤ POWER_LIMIT }
-    ensures { IfOk result (λ layers. layers ≡ layer_list power) }
+    ensures { IfOk result (λ layers. layers ≡ flock_layers_of power) }
 {
     let doublings = u32::from(power);
     let moves = List::from_vec(numbers(alloc, doublings + (doublings + 1))?);

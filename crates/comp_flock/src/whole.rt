@@ -8,7 +8,7 @@ ghost use Rattle.cert_base.specs.ValidProof.{ValidLeafProof};
 ghost use Rattle.cert_base.specs.ProofLimits.{IsLeafProofWithin};
 ghost use Rattle.comp_flock_leaf.specs.declared.limits.TheConstants.{POWER_LIMIT};
 ghost use Rattle.comp_flock_leaf.specs.FlockLeaf.{is_flock_coefficient, flock_leaf_of};
-ghost use Rattle.comp_flock.specs.FlockProof.{flock_pred as built_pred};
+ghost use Rattle.comp_flock.specs.FlockProof.{flock_pred_of};
 
 use crate::trees::{false_tree, true_tree};
 use crate::weights::flock_layers;
@@ -24,7 +24,7 @@ fn flock_pred(alloc: Global, coefs: &[i64], power: u32) -> Result<Pred, NoMemory
     requires few { length coefs.now ≤ VARIABLE_LIMIT }
     requires coefs { list_all is_flock_coefficient coefs.now ≡ true }
     requires high { power ≤ POWER_LIMIT }
-    ensures { IfOk result (λ pred. pred ≡ built_pred coefs.now power) }
+    ensures { IfOk result (λ pred. pred ≡ flock_pred_of coefs.now power) }
 {
     let tree = Tree::Less {
         coefs: List::from_vec(Vec::from_slice(alloc, coefs)?),
@@ -41,7 +41,7 @@ pub fn flock(alloc: Global, coefs: &[i64], power: u32) -> Result<(Leaf, LeafProo
     requires low { 1 ≤ power }
     requires high { power ≤ POWER_LIMIT }
     ensures leaf { IfOk result (λ both. both.0 ≡ flock_leaf_of coefs.now power) }
-    ensures pred { IfOk result (λ both. both.1.pred ≡ built_pred coefs.now power) }
+    ensures pred { IfOk result (λ both. both.1.pred ≡ flock_pred_of coefs.now power) }
     ensures valid { IfOk result (λ both. ValidLeafProof both.0 both.1) }
     ensures within { IfOk result (λ both. IsLeafProofWithin (length coefs.now) both.1) }
     // No two moves of the leaf take the same states.

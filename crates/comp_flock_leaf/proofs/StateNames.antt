@@ -7,7 +7,7 @@ use Rattle.std.proofs.lemmas.Fmt.{decimal_injective, length-decimal-le}
 use Rattle.std.proofs.lemmas.Bool.{le-leb}
 use Rattle.pop_io.specs.Names.{is_printed, state_name, AreNames}
 use Rattle.comp_layers.proofs.StateNames.{decimal-printed, named-apart}
-use Rattle.comp_flock_leaf.specs.FlockLeaf.{size_in, name_of}
+use Rattle.comp_flock_leaf.specs.FlockLeaf.{size_in, flock_state_name}
 use Rattle.comp_flock_leaf.proofs.Powers.{size-le, size-injective, power_small}
 
 number-name : (n : ℕ) → n ≤ 549755813888 → IsTrue (state_name (decimal n))
@@ -29,7 +29,7 @@ number-name n l =
 size-small : (k q : ℕ) → k ≤ 39 → q < k + 2 → size_in q ≤ 549755813888
 size-small k q few l = let a = size-le k q (omega arith) in let b = power_small k few in omega (arith, a, b)
 
-pub names-formed : (k : ℕ) → k ≤ 39 → AreNames state_name (map name_of (range_with_len 0 (k + 2)))
+pub names-formed : (k : ℕ) → k ≤ 39 → AreNames state_name (map flock_state_name (range_with_len 0 (k + 2)))
 names-formed k few =
-    named-apart name_of (k + 2) (λ i l. number-name (size_in i) (size-small k i few l))
+    named-apart flock_state_name (k + 2) (λ i l. number-name (size_in i) (size-small k i few l))
     (λ i j l m e. let a = size-small k i few l in let b = size-small k j few m in size-injective i j (decimal_injective (size_in i) (size_in j) (omega arith) (omega arith) e))

@@ -5,7 +5,7 @@ ghost use Rattle.std.specs.List.{range_with_len};
 ghost use Rattle.pop_io.specs.declared.names.TheConstants.{VARIABLE_LIMIT};
 ghost use Rattle.pop_net.specs.Reaction.{Differ};
 ghost use Rattle.comp_flock_leaf.specs.declared.limits.TheConstants.{POWER_LIMIT};
-ghost use Rattle.comp_flock_leaf.specs.FlockLeaf.{start_of as start_in, state_count, flock_leaf_of};
+ghost use Rattle.comp_flock_leaf.specs.FlockLeaf.{flock_start, flock_state_count, flock_leaf_of};
 
 use crate::listing::moves;
 use crate::naming::names;
@@ -16,7 +16,7 @@ use std::alloc::Global;
 fn outputs(alloc: Global, power: u16) -> Result<Vec<bool>, NoMemory>
     requires { power ≤ POWER_LIMIT }
     ensures { IfOk result (λ outputs.
-        outputs.items ≡ map (λ q. q == power + 1) (range_with_len 0 (state_count power))) }
+        outputs.items ≡ map (λ q. q == power + 1) (range_with_len 0 (flock_state_count power))) }
 {
     let outputs = (0..power + 2).map(|q| q == power + 1).collect(alloc)?;
     Ok(outputs)
@@ -24,13 +24,13 @@ fn outputs(alloc: Global, power: u16) -> Result<Vec<bool>, NoMemory>
 
 /// The state of an agent of a variable at the start.
 fn start_of(coef: i64) -> u16
-    ensures { result ≡ start_in coef }
+    ensures { result ≡ flock_start coef }
 {
     if coef == 0 { 0 } else { 1 }
 }
 
 fn inputs(alloc: Global, coefs: &[i64]) -> Result<Vec<u16>, NoMemory>
-    ensures { IfOk result (λ inputs. inputs.items ≡ map start_in coefs.now) }
+    ensures { IfOk result (λ inputs. inputs.items ≡ map flock_start coefs.now) }
 {
     let mut inputs = Vec::new(alloc);
     for coef in coefs {

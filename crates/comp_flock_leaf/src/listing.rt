@@ -3,8 +3,7 @@
 ghost use Rattle.std.specs.Prelude.{◌≡◌, ◌<◌, ◌≤◌, ◌+◌, map, IfOk};
 ghost use Rattle.std.specs.List.{range_with_len};
 ghost use Rattle.comp_flock_leaf.specs.declared.limits.TheConstants.{POWER_LIMIT};
-ghost use Rattle.comp_flock_leaf.specs.FlockLeaf.{doubling as doubling_in, conversion as conversion_in};
-ghost use Rattle.comp_flock_leaf.specs.FlockLeaf.{moves_of as move_list};
+ghost use Rattle.comp_flock_leaf.specs.FlockLeaf.{doubling_move, conversion_move, flock_moves};
 
 use pop_io::NoMemory;
 use pop_net::Move;
@@ -13,7 +12,7 @@ use std::alloc::Global;
 /// Two agents with 2^i make one with 2^(i+1).
 fn doubling(i: u16) -> Move
     requires { i < POWER_LIMIT }
-    ensures { result ≡ doubling_in i }
+    ensures { result ≡ doubling_move i }
 {
     Move {
         p: i + 1,
@@ -26,7 +25,7 @@ fn doubling(i: u16) -> Move
 /// An agent with 2^k converts another one.
 fn conversion(power: u16, q: u16) -> Move
     requires { power ≤ POWER_LIMIT }
-    ensures { result ≡ conversion_in power q }
+    ensures { result ≡ conversion_move power q }
 {
     Move {
         p: power + 1,
@@ -38,7 +37,7 @@ fn conversion(power: u16, q: u16) -> Move
 
 fn doublings(alloc: Global, power: u16) -> Result<Vec<Move>, NoMemory>
     requires { power ≤ POWER_LIMIT }
-    ensures { IfOk result (λ moves. moves.items ≡ map doubling_in (range_with_len 0 power)) }
+    ensures { IfOk result (λ moves. moves.items ≡ map doubling_move (range_with_len 0 power)) }
 {
     let moves = (0..power).map(|i| doubling(i)).collect(alloc)?;
     Ok(moves)
@@ -46,7 +45,7 @@ fn doublings(alloc: Global, power: u16) -> Result<Vec<Move>, NoMemory>
 
 fn conversions(alloc: Global, power: u16) -> Result<Vec<Move>, NoMemory>
     requires { power ≤ POWER_LIMIT }
-    ensures { IfOk result (λ moves. moves.items ≡ map (conversion_in power) (range_with_len 0 (power + 1))) }
+    ensures { IfOk result (λ moves. moves.items ≡ map (conversion_move power) (range_with_len 0 (power + 1))) }
 {
     let moves = (0..power + 1).map(|q| conversion(power, q)).collect(alloc)?;
     Ok(moves)
@@ -55,7 +54,7 @@ fn conversions(alloc: Global, power: u16) -> Result<Vec<Move>, NoMemory>
 /// First the doublings, then the conversions.
 pub(crate) fn moves(alloc: Global, power: u16) -> Result<Vec<Move>, NoMemory>
     requires { power ≤ POWER_LIMIT }
-    ensures { IfOk result (λ moves. moves.items ≡ move_list power) }
+    ensures { IfOk result (λ moves. moves.items ≡ flock_moves power) }
 {
     let mut moves = doublings(alloc, power)?;
     let conversions = conversions(alloc, power)?;

@@ -3,7 +3,7 @@
 ghost use Rattle.std.specs.Prelude.{◌≡◌, ◌≤◌, ◌+◌, ◌^◌, map, IfOk};
 ghost use Rattle.std.specs.List.{range_with_len};
 ghost use Rattle.comp_flock_leaf.specs.declared.limits.TheConstants.{POWER_LIMIT};
-ghost use Rattle.comp_flock_leaf.specs.FlockLeaf.{state_count, size_in, name_of as name_bytes};
+ghost use Rattle.comp_flock_leaf.specs.FlockLeaf.{flock_state_count, size_in, flock_state_name};
 
 use crate::power::two_to;
 use pop_io::{List, NoMemory, Text};
@@ -20,7 +20,7 @@ pub fn size_of(q: u16) -> u64
 
 fn name_of(alloc: Global, q: u16) -> Result<Text, NoMemory>
     requires { q ≤ POWER_LIMIT + 1 }
-    ensures { IfOk result (λ name. name ≡ name_bytes q) }
+    ensures { IfOk result (λ name. name ≡ flock_state_name q) }
 {
     let size = size_of(q);
     Ok(Text::from_string(format!(in alloc; "{size}")?))
@@ -29,7 +29,7 @@ fn name_of(alloc: Global, q: u16) -> Result<Text, NoMemory>
 /// The names of all states, which are plain decimals.
 pub(crate) fn names(alloc: Global, power: u16) -> Result<List<Text>, NoMemory>
     requires { power ≤ POWER_LIMIT }
-    ensures { IfOk result (λ names. names ≡ map name_bytes (range_with_len 0 (state_count power))) }
+    ensures { IfOk result (λ names. names ≡ map flock_state_name (range_with_len 0 (flock_state_count power))) }
 {
     let mut names = Vec::new(alloc);
     for q in 0..power + 2 {

@@ -4,7 +4,7 @@ ghost use Rattle.std.specs.Prelude.{◌≡◌, ◌≤◌, ◌^◌, find};
 ghost use Rattle.std.specs.List.{range_with_len, list_all};
 ghost use Rattle.std.specs.Ordering.{int_eq};
 ghost use Rattle.comp_flock_leaf.specs.declared.limits.TheConstants.{POWER_LIMIT as GREATEST_POWER};
-ghost use Rattle.comp_flock_leaf.specs.FlockLeaf.{is_flock_coefficient, bound_of as bound_in, power_of};
+ghost use Rattle.comp_flock_leaf.specs.FlockLeaf.{is_flock_coefficient, flock_bound, power_of};
 
 use crate::limits::POWER_LIMIT;
 
@@ -21,7 +21,7 @@ pub(crate) fn two_to(k: u32) -> u64
 /// The bound of the flock atom with this power.
 pub fn bound_of(k: u32) -> i64
     requires { k ≤ GREATEST_POWER }
-    ensures { result ≡ bound_in k }
+    ensures { result ≡ flock_bound k }
 {
     1 - two_to(k) as i64
 }
@@ -40,7 +40,7 @@ fn are_coefficients(coefs: &[i64]) -> bool
 
 /// The power with this bound.
 fn power_by(bound: i64) -> Option<u32>
-    ensures { result ≡ find (λ k. int_eq bound (bound_in k)) (range_with_len 1 GREATEST_POWER) }
+    ensures { result ≡ find (λ k. int_eq bound (flock_bound k)) (range_with_len 1 GREATEST_POWER) }
 {
     (1..POWER_LIMIT + 1).find(|k| bound == bound_of(*k))
 }

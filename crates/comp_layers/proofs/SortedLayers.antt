@@ -9,9 +9,9 @@ use Rattle.pop_net.specs.declared.leaf.Move.{Move}
 use Rattle.pop_net.specs.LeafModel.{LeafModel, silent_move}
 use Rattle.cert_base.specs.declared.layer.Layer.{Layer}
 use Rattle.cert_base.specs.FactsAndCases.{places_from}
-use Rattle.cert_base.specs.ValidLayers.{listed, IsLower, IsInLayer, IsEnabledBefore, ValidLayers}
+use Rattle.cert_base.specs.ValidLayers.{moves_of_layers, IsLower, IsInLayer, IsEnabledBefore, ValidLayers}
 use Rattle.cert_base.proofs.Indicators.{all_places}
-use Rattle.comp_layers.specs.SortedLayers.{layer_of, sorted_layers}
+use Rattle.comp_layers.specs.SortedLayers.{sorted_layer, sorted_layers}
 
 -- ---- places
 
@@ -66,12 +66,12 @@ module _ (moves : List Move) (kind : Move → ℕ) where
   all_of : {A : Type 0} (P Q : A → Type 0) → ((x : A) → P x → Q x) → (xs : List A) → All P xs → All Q xs
   all_of P Q f xs all = λ k d l. f (get_or xs k d) (all k d l)
 
-  from_kind : (i : ℕ) (ws : List (List ℤ)) → All (IsFromKind i) (listed (sorted_layers moves kind i ws))
+  from_kind : (i : ℕ) (ws : List (List ℤ)) → All (IsFromKind i) (moves_of_layers (sorted_layers moves kind i ws))
   from_kind i [] = All-nil (IsFromKind i)
   from_kind i (w ∷ ws) =
-      All-append (IsFromKind i) (places_from 0 (λ t. kind t == i) moves) (listed (sorted_layers moves kind (i + 1) ws))
+      All-append (IsFromKind i) (places_from 0 (λ t. kind t == i) moves) (moves_of_layers (sorted_layers moves kind (i + 1) ws))
       (all_of (IsOfKind i) (IsFromKind i) (λ number is. record { kind_of = i; above = omega arith; of = is }) (places_from 0 (λ t. kind t == i) moves) (of_kind i))
-      (all_of (IsFromKind (i + 1)) (IsFromKind i) (λ number is. record { kind_of = is.kind_of; above = (let a = is.above in omega arith); of = is.of }) (listed (sorted_layers moves kind (i + 1) ws)) (from_kind (i + 1) ws))
+      (all_of (IsFromKind (i + 1)) (IsFromKind i) (λ number is. record { kind_of = is.kind_of; above = (let a = is.above in omega arith); of = is.of }) (moves_of_layers (sorted_layers moves kind (i + 1) ws)) (from_kind (i + 1) ws))
 
   other_kinds : (i k a b : ℕ) → i < k → IsOfKind i a → IsOfKind k b → a ≢ b
   other_kinds i k a b l x y e =
@@ -82,36 +82,36 @@ module _ (moves : List Move) (kind : Move → ℕ) where
       some_same : Some x.taken ≡ Some y.taken → x.taken ≡ y.taken
       some_same e = cc
 
-  once : (i : ℕ) (ws : List (List ℤ)) → AllPairs ◌≢◌ (listed (sorted_layers moves kind i ws))
+  once : (i : ℕ) (ws : List (List ℤ)) → AllPairs ◌≢◌ (moves_of_layers (sorted_layers moves kind i ws))
   once i [] = λ i j d l m. absurd (omega (arith, m))
   once i (w ∷ ws) =
-      AllPairs-append ◌≢◌ (places_from 0 (λ t. kind t == i) moves) (listed (sorted_layers moves kind (i + 1) ws)) (places-apart 0 (λ t. kind t == i) moves) (once (i + 1) ws)
-      (all_of (IsOfKind i) (λ a. All (λ b. a ≢ b) (listed (sorted_layers moves kind (i + 1) ws))) (λ a x. all_of (IsFromKind (i + 1)) (λ b. a ≢ b) (λ b y. other_kinds i y.kind_of a b (let l = y.above in omega arith) x y.of) (listed (sorted_layers moves kind (i + 1) ws)) (from_kind (i + 1) ws)) (places_from 0 (λ t. kind t == i) moves) (of_kind i))
+      AllPairs-append ◌≢◌ (places_from 0 (λ t. kind t == i) moves) (moves_of_layers (sorted_layers moves kind (i + 1) ws)) (places-apart 0 (λ t. kind t == i) moves) (once (i + 1) ws)
+      (all_of (IsOfKind i) (λ a. All (λ b. a ≢ b) (moves_of_layers (sorted_layers moves kind (i + 1) ws))) (λ a x. all_of (IsFromKind (i + 1)) (λ b. a ≢ b) (λ b y. other_kinds i y.kind_of a b (let l = y.above in omega arith) x y.of) (moves_of_layers (sorted_layers moves kind (i + 1) ws)) (from_kind (i + 1) ws)) (places_from 0 (λ t. kind t == i) moves) (of_kind i))
 
   -- the layer of a kind
-  layer_at : (i k : ℕ) (ws : List (List ℤ)) → k < length ws → slice_get (sorted_layers moves kind i ws) k ≡ Some (layer_of moves kind (i + k) (get_or ws k []))
+  layer_at : (i k : ℕ) (ws : List (List ℤ)) → k < length ws → slice_get (sorted_layers moves kind i ws) k ≡ Some (sorted_layer moves kind (i + k) (get_or ws k []))
   layer_at i k [] l = absurd (omega arith)
-  layer_at i zero (w ∷ ws) l = ap (λ n. Some (layer_of moves kind n w)) (let e : i ≡ i + 0 = omega arith in e)
-  layer_at i (suc k) (w ∷ ws) l = layer_at (i + 1) k ws (omega arith) ∙ ap (λ n. Some (layer_of moves kind n (get_or ws k []))) (let e : i + 1 + k ≡ i + suc k = omega arith in e)
+  layer_at i zero (w ∷ ws) l = ap (λ n. Some (sorted_layer moves kind n w)) (let e : i ≡ i + 0 = omega arith in e)
+  layer_at i (suc k) (w ∷ ws) l = layer_at (i + 1) k ws (omega arith) ∙ ap (λ n. Some (sorted_layer moves kind n (get_or ws k []))) (let e : i + 1 + k ≡ i + suc k = omega arith in e)
 
   layers_long : (i : ℕ) (ws : List (List ℤ)) → length (sorted_layers moves kind i ws) ≡ length ws
   layers_long i [] = refl
   layers_long i (w ∷ ws) = let e = layers_long (i + 1) ws in omega arith
 
-  lists_move : (i : ℕ) (ws : List (List ℤ)) (number : ℕ) (t : Move) → slice_get moves number ≡ Some t → i ≤ kind t → kind t < i + length ws → Contains (listed (sorted_layers moves kind i ws)) number
+  lists_move : (i : ℕ) (ws : List (List ℤ)) (number : ℕ) (t : Move) → slice_get moves number ≡ Some t → i ≤ kind t → kind t < i + length ws → Contains (moves_of_layers (sorted_layers moves kind i ws)) number
   lists_move i [] number t h l m = absurd (omega arith)
   lists_move i (w ∷ ws) number t h l m = go (cases_lt i (kind t)) (λ k. lists_move (i + 1) ws number t h k (omega arith))
     where
-      go : (i < kind t) ⊎ (kind t ≤ i) → (i + 1 ≤ kind t → Contains (listed (sorted_layers moves kind (i + 1) ws)) number) → Contains (listed (sorted_layers moves kind i (w ∷ ws))) number
-      go (inl k) rest = Contains-append_right (places_from 0 (λ t. kind t == i) moves) (listed (sorted_layers moves kind (i + 1) ws)) number (rest (omega arith))
+      go : (i < kind t) ⊎ (kind t ≤ i) → (i + 1 ≤ kind t → Contains (moves_of_layers (sorted_layers moves kind (i + 1) ws)) number) → Contains (moves_of_layers (sorted_layers moves kind i (w ∷ ws))) number
+      go (inl k) rest = Contains-append_right (places_from 0 (λ t. kind t == i) moves) (moves_of_layers (sorted_layers moves kind (i + 1) ws)) number (rest (omega arith))
       go (inr k) rest =
-          Contains-append_left (places_from 0 (λ t. kind t == i) moves) (listed (sorted_layers moves kind (i + 1) ws)) number
+          Contains-append_left (places_from 0 (λ t. kind t == i) moves) (moves_of_layers (sorted_layers moves kind (i + 1) ws)) number
           (subst (Contains (places_from 0 (λ t. kind t == i) moves)) (zero-add number) (places-have 0 (λ t. kind t == i) moves number t h (eq-eqb _ _ (omega arith))))
 
   weights_all : (P : List ℤ → Type 0) (i : ℕ) (ws : List (List ℤ)) → All P ws → All (λ layer. P layer.weights) (sorted_layers moves kind i ws)
   weights_all P i [] all = All-nil (λ layer. P layer.weights)
   weights_all P i (w ∷ ws) all =
-      All-cons (λ layer. P layer.weights) (layer_of moves kind i w) (sorted_layers moves kind (i + 1) ws) (all 0 w (omega arith)) (weights_all P (i + 1) ws (λ k d l. all (suc k) d (omega arith)))
+      All-cons (λ layer. P layer.weights) (sorted_layer moves kind i w) (sorted_layers moves kind (i + 1) ws) (all 0 w (omega arith)) (weights_all P (i + 1) ws (λ k d l. all (suc k) d (omega arith)))
 
 -- what the kinds have to do
 pub record AreKinds (leaf : LeafModel) (kind : Move → ℕ) (ws : List (List ℤ)) : Type 0 where
@@ -131,7 +131,7 @@ module _ (leaf : LeafModel) (kind : Move → ℕ) (ws : List (List ℤ)) (are : 
   in_layer : (i : ℕ) (t : Move) (at : IsInLayer leaf layers i t) → (kind t ≡ i) × (at.layer.weights ≡ get_or ws i [])
   in_layer i t at =
       let within : i < length ws = omega (arith, slice_get_within layers i at.layer at.layer_is, layers_long leaf.moves kind 0 ws) in
-      let layer_same : at.layer ≡ layer_of leaf.moves kind i (get_or ws i []) = some_same (sym at.layer_is ∙ layer_at leaf.moves kind 0 i ws within ∙ ap (λ n. Some (layer_of leaf.moves kind n (get_or ws i []))) (zero-add i)) in
+      let layer_same : at.layer ≡ sorted_layer leaf.moves kind i (get_or ws i []) = some_same (sym at.layer_is ∙ layer_at leaf.moves kind 0 i ws within ∙ ap (λ n. Some (sorted_layer leaf.moves kind n (get_or ws i []))) (zero-add i)) in
       let lists : Contains (places_from 0 (λ t. kind t == i) leaf.moves) at.number = subst (λ (layer : Layer). Contains layer.moves at.number) layer_same at.lists in
       let of = All-contains (IsOfKind leaf.moves kind i) (places_from 0 (λ t. kind t == i) leaf.moves) at.number (of_kind leaf.moves kind i) lists in
       let same : t ≡ of.taken = move_same (sym at.move_is ∙ of.move_is) in
@@ -148,9 +148,9 @@ module _ (leaf : LeafModel) (kind : Move → ℕ) (ws : List (List ℤ)) (are : 
       let within = All-contains (λ t. kind t < length ws) leaf.moves u are.kinds c in
       let got : slice_get leaf.moves c.0 ≡ Some u = slice_get-get_or leaf.moves c.0 u c.1 ∙ ap Some c.2 in
       record {
-        layer = layer_of leaf.moves kind (kind u) (get_or ws (kind u) []);
+        layer = sorted_layer leaf.moves kind (kind u) (get_or ws (kind u) []);
         number = c.0;
-        layer_is = layer_at leaf.moves kind 0 (kind u) ws within ∙ ap (λ n. Some (layer_of leaf.moves kind n (get_or ws (kind u) []))) (zero-add (kind u));
+        layer_is = layer_at leaf.moves kind 0 (kind u) ws within ∙ ap (λ n. Some (sorted_layer leaf.moves kind n (get_or ws (kind u) []))) (zero-add (kind u));
         lists = subst (Contains (places_from 0 (λ t. kind t == kind u) leaf.moves)) (zero-add c.0) (places-have 0 (λ t. kind t == kind u) leaf.moves c.0 u got (eq-eqb _ _ refl));
         move_is = got;
         non_silent = loud;
@@ -159,7 +159,7 @@ module _ (leaf : LeafModel) (kind : Move → ℕ) (ws : List (List ℤ)) (are : 
   pub sorted_layers-valid : ValidLayers leaf layers
   sorted_layers-valid = record {
     weights = weights_all leaf.moves kind (λ w. length w ≡ length leaf.states) 0 ws are.long;
-    in_range = all_of leaf.moves kind (IsFromKind leaf.moves kind 0) (λ number. number < length leaf.moves) (λ number is. slice_get_within leaf.moves number is.of.taken is.of.move_is) (listed layers) (from_kind leaf.moves kind 0 ws);
+    in_range = all_of leaf.moves kind (IsFromKind leaf.moves kind 0) (λ number. number < length leaf.moves) (λ number is. slice_get_within leaf.moves number is.of.taken is.of.move_is) (moves_of_layers layers) (from_kind leaf.moves kind 0 ws);
     once = once leaf.moves kind 0 ws;
     all = λ number t h loud. lists_move leaf.moves kind 0 ws number t h (omega arith) (let within = All-contains (λ t. kind t < length ws) leaf.moves t are.kinds (got_contains number t h) in omega arith);
     lower = λ i t at. (

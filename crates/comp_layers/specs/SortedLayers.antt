@@ -8,13 +8,13 @@ use Rattle.cert_base.specs.declared.layer.Layer.{Layer}
 use Rattle.cert_base.specs.FactsAndCases.{places_from}
 
 -- the layer of the moves of kind i
-abbrev pub layer_of : List Move → (Move → ℕ) → ℕ → List ℤ → Layer
-layer_of moves kind i weights = record { moves = places_from 0 (λ t. kind t == i) moves; weights = weights }
+abbrev pub sorted_layer : List Move → (Move → ℕ) → ℕ → List ℤ → Layer
+sorted_layer moves kind i weights = record { moves = places_from 0 (λ t. kind t == i) moves; weights = weights }
 
 -- one layer for each list of weights, for the kinds from i on
 abbrev pub sorted_layers : List Move → (Move → ℕ) → ℕ → List (List ℤ) → List Layer
 sorted_layers moves kind i [] = []
-sorted_layers moves kind i (weights ∷ rest) = layer_of moves kind i weights ∷ sorted_layers moves kind (i + 1) rest
+sorted_layers moves kind i (weights ∷ rest) = sorted_layer moves kind i weights ∷ sorted_layers moves kind (i + 1) rest
 
 -- with n leaders: 0 where it changes a leader or its follower's value, 1 where it turns a follower to a higher one, 2 elsewhere
 abbrev pub leader_kind : ℕ → Move → ℕ

@@ -1,7 +1,7 @@
 //! The layers by the kinds of moves.
 
 ghost use Rattle.std.specs.Prelude.{◌≡◌, ◌++◌, ◌∷◌, [], ◌==◌, if◌then◌else◌, IfOk, OnOk};
-ghost use Rattle.comp_layers.specs.SortedLayers.{leader_kind, layer_of};
+ghost use Rattle.comp_layers.specs.SortedLayers.{leader_kind, sorted_layer};
 
 use cert_base::Layer;
 use pop_io::{List, NoMemory};
@@ -29,7 +29,7 @@ pub fn layer(
     kind: u32,
     weights: Vec<i64>,
 ) -> Result<Layer, NoMemory>
-    ensures { IfOk result (λ layer. layer ≡ layer_of leaf.now.moves (leader_kind leaders) kind weights.items) }
+    ensures { IfOk result (λ layer. layer ≡ sorted_layer leaf.now.moves (leader_kind leaders) kind weights.items) }
 {
     let mut moves = Vec::new(alloc);
     for t in 0..leaf.move_count() {

@@ -10,12 +10,12 @@ use Rattle.pres_ast.specs.PredModel.{PredModel}
 use Rattle.cert_base.specs.declared.proof.LeafProof.{LeafProof}
 use Rattle.cert_base.specs.ValidProof.{ValidLeafProof}
 use Rattle.cert_base.specs.ProofLimits.{IsLeafProofWithin}
-use Rattle.comp_threshold_leaf.specs.ThresholdLeaf.{threshold_width, place_of_value, threshold_leaf}
+use Rattle.comp_threshold_leaf.specs.ThresholdLeaf.{threshold_width, place_of_value, threshold_leaf_of}
 use Rattle.comp_threshold.specs.Built.{IsThreshold}
-use Rattle.comp_remainder_leaf.specs.RemainderLeaf.{residue, remainder_leaf_of}
+use Rattle.comp_remainder_leaf.specs.RemainderLeaf.{residue_of, remainder_leaf_of}
 use Rattle.comp_remainder.specs.RemainderProof.{remainder_part}
-use Rattle.comp_flock_leaf.specs.FlockLeaf.{start_of, flock_leaf_of, bound_of}
-use Rattle.comp_flock.specs.FlockProof.{flock_pred}
+use Rattle.comp_flock_leaf.specs.FlockLeaf.{flock_start, flock_leaf_of, flock_bound}
+use Rattle.comp_flock.specs.FlockProof.{flock_pred_of}
 use Rattle.comp_net.specs.declared.choice.LeafChoice.{LeafChoice}
 use Rattle.comp_net.specs.Atoms.{atoms, postfix, flock_of_atom}
 use Rattle.comp_net.specs.declared.building.Built.{Built}
@@ -23,7 +23,7 @@ use Rattle.comp_net.specs.BuiltNet.{less_leaf, leaf_of}
 use Rattle.comp_net.specs.Building.{IsAtomProof, AreAtomProofs, AddProofs, AddsLeaf, AddsTree}
 
 -- the leaf of a threshold, or of a flock, is that of the atom
-pub threshold_is : (choice : LeafChoice) (coefs : List ℤ) (bound : ℤ) (leaf : LeafModel) → flock_of_atom choice coefs bound ≡ None → leaf ≡ threshold_leaf coefs bound
+pub threshold_is : (choice : LeafChoice) (coefs : List ℤ) (bound : ℤ) (leaf : LeafModel) → flock_of_atom choice coefs bound ≡ None → leaf ≡ threshold_leaf_of coefs bound
     → leaf ≡ leaf_of choice (LessThan coefs bound)
 threshold_is choice coefs bound leaf none is = is ∙ ap (less_leaf coefs bound) (sym none)
 
@@ -40,9 +40,9 @@ less_proof choice coefs bound leaf part none is =
       within = subst (λ n. IsLeafProofWithin n part) long is.within;
     }
 
-pub flock_proof : (choice : LeafChoice) (coefs : List ℤ) (bound : ℤ) (k : ℕ) (leaf : LeafModel) (part : LeafProof) → flock_of_atom choice coefs bound ≡ Some k → bound ≡ bound_of k → leaf ≡ flock_leaf_of coefs k → part.pred ≡ flock_pred coefs k → ValidLeafProof leaf part → IsLeafProofWithin (length coefs) part → IsAtomProof choice (LessThan coefs bound) part
+pub flock_proof : (choice : LeafChoice) (coefs : List ℤ) (bound : ℤ) (k : ℕ) (leaf : LeafModel) (part : LeafProof) → flock_of_atom choice coefs bound ≡ Some k → bound ≡ flock_bound k → leaf ≡ flock_leaf_of coefs k → part.pred ≡ flock_pred_of coefs k → ValidLeafProof leaf part → IsLeafProofWithin (length coefs) part → IsAtomProof choice (LessThan coefs bound) part
 flock_proof choice coefs bound k leaf part some same el ep valid within =
-    let long : length coefs ≡ length (less_leaf coefs bound (flock_of_atom choice coefs bound)).inputs = sym (length-map coefs start_of) ∙ ap (λ o. length (less_leaf coefs bound o).inputs) (sym some) in
+    let long : length coefs ≡ length (less_leaf coefs bound (flock_of_atom choice coefs bound)).inputs = sym (length-map coefs flock_start) ∙ ap (λ o. length (less_leaf coefs bound o).inputs) (sym some) in
     record {
       tree_is = ap (λ (p : PredModel). p.tree) ep ∙ ap (LessThan coefs) (sym same);
       valid = subst (λ l. ValidLeafProof l part) (flock_is choice coefs bound k leaf some el) valid;
@@ -53,7 +53,7 @@ pub rest_proof : (choice : LeafChoice) (coefs : List ℤ) (m rest : ℕ) (leaf :
 rest_proof choice coefs m rest leaf part el ep valid within = record {
   tree_is = ap (λ (p : LeafProof). p.pred.tree) ep;
   valid = subst (λ l. ValidLeafProof l part) el valid;
-  within = subst (λ n. IsLeafProofWithin n part) (sym (length-map coefs (residue m))) within;
+  within = subst (λ n. IsLeafProofWithin n part) (sym (length-map coefs (residue_of m))) within;
 }
 
 more_proofs : (choice : LeafChoice) (xs : List PredTree) (parts : List LeafProof) (a : PredTree) (part : LeafProof) → AreAtomProofs choice xs parts → IsAtomProof choice a part → AreAtomProofs choice (xs ++ a ∷ []) (parts ++ part ∷ [])

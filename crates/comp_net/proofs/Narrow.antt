@@ -14,14 +14,14 @@ use Rattle.comp_net.specs.declared.limits.TheConstants.{NARROW_WIDTH_LIMIT}
 use Rattle.comp_net.specs.declared.fault.CompileFault.TheVariants as fault
 use Rattle.comp_net.specs.declared.choice.LeafChoice.{LeafChoice}
 use Rattle.comp_net.specs.Atoms.{atoms, atom_width, AreBuildable}
-use Rattle.comp_net.specs.CompileFaults.{widths, first_over, first_wide, fault_by, fault_with}
+use Rattle.comp_net.specs.CompileFaults.{widths_of, first_width_over, first_wide_width, fault_of_widths, fault_with}
 
 twice : (b : Bool) → not (not b) ≡ b
 twice true = refl
 twice false = refl
 
 -- no width is over the limit
-none_over : (limit : ℕ) (ws : List ℕ) → NoneIff (first_over limit ws) (All (λ w. w ≤ limit) ws)
+none_over : (limit : ℕ) (ws : List ℕ) → NoneIff (first_width_over limit ws) (All (λ w. w ≤ limit) ws)
 none_over limit ws = (λ e. all.0 (same ∙ e), λ h. sym same ∙ all.1 h)
   where
     all : NoneIff (position (λ w. not (not (nat_lt limit w))) ws) (All (λ w. w ≤ limit) ws)
@@ -30,10 +30,10 @@ none_over limit ws = (λ e. all.0 (same ∙ e), λ h. sym same ∙ all.1 h)
     same : position (λ w. not (not (nat_lt limit w))) ws ≡ position (λ w. nat_lt limit w) ws
     same = ap (λ p. position p ws) (λ i w. twice (nat_lt limit w) i)
 
-none_wide : (ws : List ℕ) → NoneIff (first_wide ws) (WIDE_LEAF_LIMIT < length ws → All (λ w. w ≤ NARROW_WIDTH_LIMIT) ws)
+none_wide : (ws : List ℕ) → NoneIff (first_wide_width ws) (WIDE_LEAF_LIMIT < length ws → All (λ w. w ≤ NARROW_WIDTH_LIMIT) ws)
 none_wide ws = go (nat_lt WIDE_LEAF_LIMIT (length ws)) refl
   where
-    go : (many : Bool) → nat_lt WIDE_LEAF_LIMIT (length ws) ≡ many → NoneIff (if many then first_over NARROW_WIDTH_LIMIT ws else None) (WIDE_LEAF_LIMIT < length ws → All (λ w. w ≤ NARROW_WIDTH_LIMIT) ws)
+    go : (many : Bool) → nat_lt WIDE_LEAF_LIMIT (length ws) ≡ many → NoneIff (if many then first_width_over NARROW_WIDTH_LIMIT ws else None) (WIDE_LEAF_LIMIT < length ws → All (λ w. w ≤ NARROW_WIDTH_LIMIT) ws)
     go true e = (λ none many. (none_over NARROW_WIDTH_LIMIT ws).0 none, λ h. (none_over NARROW_WIDTH_LIMIT ws).1 (h (ltb-true WIDE_LEAF_LIMIT (length ws) e)))
     go false e = (λ _ many. absurd (let few = ltb-false WIDE_LEAF_LIMIT (length ws) e in omega (arith, few, many)), λ _. refl)
 
@@ -41,7 +41,7 @@ abbrev KeepsLimits : List ℕ → Type 0
 KeepsLimits ws =
     (length ws ≤ LEAF_LIMIT) × (All (λ w. w ≤ WIDTH_LIMIT) ws × ((WIDE_LEAF_LIMIT < length ws → All (λ w. w ≤ NARROW_WIDTH_LIMIT) ws) × Unit {0}))
 
-limits_of : (ws : List ℕ) → NoneIff (fault_by ws) (KeepsLimits ws)
+limits_of : (ws : List ℕ) → NoneIff (fault_of_widths ws) (KeepsLimits ws)
 limits_of ws =
     first_of-cons _ _ (none_unless _ _ (Decides-le (length ws) LEAF_LIMIT))
     (first_of-cons _ _ (none_map _ _ (none_over WIDTH_LIMIT ws))
@@ -59,7 +59,7 @@ pub record KeepsWidths (choice : LeafChoice) (tree : PredTree) : Type 0 where
 
 pub keeps_widths : (choice : LeafChoice) (tree : PredTree) → fault_with choice tree ≡ None → KeepsWidths choice tree
 keeps_widths choice tree e =
-    let keeps = (limits_of (widths choice tree)).0 e in
+    let keeps = (limits_of (widths_of choice tree)).0 e in
     let long = length-map (atoms tree) (atom_width choice) in
     record {
       few = (let l = keeps.0 in omega (arith, long, l));

@@ -10,22 +10,22 @@ use Rattle.pop_io.specs.Names.{AreNames, variable_name}
 use Rattle.pop_net.specs.declared.limits.TheConstants.{NARROW_STATE_LIMIT, WIDE_LEAF_LIMIT, DEPTH_LIMIT}
 use Rattle.pop_net.specs.declared.net.Item.{Item}
 use Rattle.pop_net.specs.LeafModel.{LeafModel, IsLeaf}
-use Rattle.pop_net.specs.NetModel.{NetModel, IsNet, depth_operators, helper_count, helpers_of, is_wide_leaf, is_wide}
+use Rattle.pop_net.specs.NetModel.{NetModel, IsNet, depth_operators, number_of_helpers, helpers_of, is_wide_leaf, is_wide}
 use Rattle.pop_net.specs.Reaction.{Differ, IsSingle}
 use Rattle.pres_ast.specs.PredTree.{PredTree, LessThan, Congruent, Negation, Conjunction, Disjunction}
 use Rattle.pres_ast.specs.PredModel.{HasAtoms, IsPred}
-use Rattle.cert_base.specs.FactsAndCases.{over}
+use Rattle.cert_base.specs.FactsAndCases.{over_count}
 use Rattle.cert_base.specs.declared.proof.LeafProof.{LeafProof}
 use Rattle.cert_base.specs.ValidProof.{trees, ValidLeafProof, ValidProof}
 use Rattle.cert_base.specs.ProofLimits.{IsLeafProofWithin, IsProofWithin}
-use Rattle.comp_threshold_leaf.specs.ThresholdLeaf.{threshold_width, place_of_value, state_count, name_of}
+use Rattle.comp_threshold_leaf.specs.ThresholdLeaf.{threshold_width, place_of_value, threshold_state_count, threshold_state_name}
 use Rattle.comp_threshold_leaf.proofs.Formed.{threshold-formed}
 use Rattle.comp_threshold_leaf.proofs.Single.{moves-single as threshold_single}
-use Rattle.comp_remainder_leaf.specs.RemainderLeaf.{name_of as remainder_name}
+use Rattle.comp_remainder_leaf.specs.RemainderLeaf.{remainder_state_name}
 use Rattle.comp_remainder_leaf.proofs.Formed.{remainder-formed}
 use Rattle.comp_remainder_leaf.proofs.SingleMoves.{moves-single as remainder_single}
 use Rattle.comp_threshold_leaf.specs.declared.limits.TheConstants.{WIDTH_LIMIT}
-use Rattle.comp_flock_leaf.specs.FlockLeaf.{start_of, name_of as flock_name}
+use Rattle.comp_flock_leaf.specs.FlockLeaf.{flock_start, flock_state_name}
 use Rattle.comp_flock_leaf.proofs.Formed.{flock-formed}
 use Rattle.comp_flock_leaf.proofs.SingleMoves.{moves-single as flock_single}
 use Rattle.comp_flock_leaf.proofs.PowerFound.{IsPower, power_is}
@@ -62,16 +62,16 @@ less_built choice coefs bound None e sum few = record {
   formed = threshold-formed coefs bound sum.0 sum.1 few;
   inputs = length-map coefs (place_of_value (threshold_width coefs bound));
   helpers = refl;
-  narrow = λ l. le-ltb NARROW_STATE_LIMIT _ (omega (arith, length-map-range_with_len (name_of (threshold_width coefs bound)) 0 (state_count (threshold_width coefs bound)), l));
+  narrow = λ l. le-ltb NARROW_STATE_LIMIT _ (omega (arith, length-map-range_with_len (threshold_state_name (threshold_width coefs bound)) 0 (threshold_state_count (threshold_width coefs bound)), l));
   single = threshold_single (threshold_width coefs bound) (place_of_value (threshold_width coefs bound) bound);
 }
 less_built choice coefs bound (Some k) e sum few =
     let is = flock_found choice coefs bound k e in
     record {
       formed = flock-formed coefs k sum.0 sum.1 is.low is.high;
-      inputs = length-map coefs start_of;
+      inputs = length-map coefs flock_start;
       helpers = refl;
-      narrow = λ l. le-ltb NARROW_STATE_LIMIT _ (let high = is.high in omega (arith, length-map-range_with_len flock_name 0 (k + 2), high));
+      narrow = λ l. le-ltb NARROW_STATE_LIMIT _ (let high = is.high in omega (arith, length-map-range_with_len flock_state_name 0 (k + 2), high));
       single = flock_single k;
     }
 
@@ -89,7 +89,7 @@ all_built choice n (Congruent coefs m rest) has can =
       formed = remainder-formed coefs m rest can.0.0 can.0.1 (let low = can.1 in omega arith) can.2;
       inputs = length-map coefs _;
       helpers = refl;
-      narrow = λ l. le-ltb NARROW_STATE_LIMIT _ (let high = can.2 in omega (arith, length-map-range_with_len (remainder_name m) 0 (m + 2), high));
+      narrow = λ l. le-ltb NARROW_STATE_LIMIT _ (let high = can.2 in omega (arith, length-map-range_with_len (remainder_state_name m) 0 (m + 2), high));
       single = remainder_single m rest;
     }))
     (All-nil (IsBuilt choice n))
@@ -135,7 +135,7 @@ parts-within choice n (a ∷ xs) [] h built = absurd h
 parts-within choice n (a ∷ xs) (part ∷ parts) h built =
     All-cons (IsLeafProofWithin n) part parts (subst (λ k. IsLeafProofWithin k part) (built 0 a (omega arith)).inputs h.0.within) (parts-within choice n xs parts h.1 (All-tail (IsBuilt choice n) a xs built))
 
-pub proof-valid : (choice : LeafChoice) (names : List (List ℕ)) (n : ℕ) (tree : PredTree) (parts : List LeafProof) → AreAtomProofs choice (atoms tree) parts → ValidProof (net_with choice names tree) (over n tree) (record { leaves = parts })
+pub proof-valid : (choice : LeafChoice) (names : List (List ℕ)) (n : ℕ) (tree : PredTree) (parts : List LeafProof) → AreAtomProofs choice (atoms tree) parts → ValidProof (net_with choice names tree) (over_count n tree) (record { leaves = parts })
 proof-valid choice names n tree parts h = record {
   one_each = parts-long choice (atoms tree) parts h ∙ sym (length-map (atoms tree) (leaf_of choice));
   leaves = parts-valid choice (atoms tree) parts h;
@@ -186,7 +186,7 @@ net-formed choice names tree formed is none =
       items = (let e = items-most 0 tree in let w = is.weight in let few = keeps.few in omega (arith, e, w, few));
       leaf_numbers = names-below 0 (length (map (leaf_of choice) (atoms tree))) tree (omega (arith, long));
       depth = subst (λ o. IsSomeAnd o (λ d. d ≤ DEPTH_LIMIT)) (sym (combined-postfix depth_operators tree)) (let e = depth-most 0 tree in let w = is.weight in omega (arith, e, w));
-      helpers = All-map (λ leaf. length leaf.helpers ≡ helper_count (net_with choice names tree)) (leaf_of choice) (atoms tree) (All-weaker (IsBuilt choice n) (λ a. length (leaf_of choice a).helpers ≡ helper_count (net_with choice names tree)) (λ a b. ap length b.helpers ∙ sym (no_helpers choice n (atoms tree) built)) (atoms tree) built);
+      helpers = All-map (λ leaf. length leaf.helpers ≡ number_of_helpers (net_with choice names tree)) (leaf_of choice) (atoms tree) (All-weaker (IsBuilt choice n) (λ a. length (leaf_of choice a).helpers ≡ number_of_helpers (net_with choice names tree)) (λ a b. ap length b.helpers ∙ sym (no_helpers choice n (atoms tree) built)) (atoms tree) built);
       wide = λ w. (let few = not-wide choice tree n built keeps w in omega (arith, long, few));
     }
 

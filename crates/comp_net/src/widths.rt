@@ -5,8 +5,8 @@ ghost use Rattle.pres_ast.specs.PredModel.{IsPred};
 ghost use Rattle.pres_ast.specs.TreeOf.{tree_of};
 ghost use Rattle.pres_ast.specs.PredTree.{LessThan};
 ghost use Rattle.comp_net.specs.Atoms.{atom_width};
-ghost use Rattle.comp_net.specs.CompileFaults.{fault_by as fault_in, fault_with, widths as widths_of};
-ghost use Rattle.comp_net.specs.CompileFaults.{first_over as first_width, first_wide as first_wide_width};
+ghost use Rattle.comp_net.specs.CompileFaults.{fault_of_widths, fault_with, widths_of};
+ghost use Rattle.comp_net.specs.CompileFaults.{first_width_over, first_wide_width};
 
 use crate::choice::{LeafChoice, flock_in};
 use crate::fault::CompileFault;
@@ -63,7 +63,7 @@ fn push_widths(widths: &mut Vec<u64>, choice: LeafChoice, tree: &Tree) -> Result
 /// What is wrong with atoms of these widths.
 fn fault_by(widths: &[u64]) -> Option<CompileFault>
     requires { length widths.now ≤ 4294967295 }
-    ensures { result ≡ fault_in widths.now }
+    ensures { result ≡ fault_of_widths widths.now }
 {
     if LEAF_LIMIT < widths.len() {
         return Some(CompileFault::ManyAtoms(widths.len() as u32));
@@ -80,7 +80,7 @@ fn fault_by(widths: &[u64]) -> Option<CompileFault>
 
 /// The first width over a limit.
 fn first_over(widths: &[u64], limit: u64) -> Option<usize>
-    ensures first { result ≡ first_width limit widths.now }
+    ensures first { result ≡ first_width_over limit widths.now }
     ensures bound { IfSome result (λ i. i < length widths.now) }
 {
     widths.iter().position(|s| limit < *s)

@@ -13,18 +13,18 @@ use Rattle.cert_base.specs.ValidLayers.{weight_at, IsLower, ValidLayers}
 use Rattle.comp_layers.specs.SortedLayers.{leader_kind, IsLeaderProtocol}
 use Rattle.comp_layers.proofs.SortedLayers.{AreKinds, sorted_layers-valid}
 use Rattle.comp_layers.proofs.LeaderLayers.{kind-pair, kind-below, kind-up, kind-down, leader_wakes}
-use Rattle.comp_remainder_leaf.specs.RemainderLeaf.{follower, meeting, turn, moves_of, name_of, remainder_leaf_of}
-use Rattle.comp_remainder.specs.RemainderLayers.{weights_by, all_weights, remainder_layers}
+use Rattle.comp_remainder_leaf.specs.RemainderLeaf.{remainder_follower, leader_meeting, follower_turn, remainder_moves, remainder_state_name, remainder_leaf_of}
+use Rattle.comp_remainder.specs.RemainderLayers.{indicator_weights, all_weights, remainder_layers}
 use Rattle.comp_remainder_leaf.proofs.MoveLists.{all_moves, has_pair, follower-above, follower-below, followers-apart, pair-loud, turn-loud}
 
-weight-is : (m : ℕ) (test : ℕ → Bool) (q : ℕ) (b : Bool) → q < m + 2 → test q ≡ b → weight_at (weights_by m test) q ≡ indicator b
+weight-is : (m : ℕ) (test : ℕ → Bool) (q : ℕ) (b : Bool) → q < m + 2 → test q ≡ b → weight_at (indicator_weights m test) q ≡ indicator b
 weight-is m test q b l e = get_or-map-range_with_len (λ q. indicator (test q)) 0 (m + 2) q q (pos 0) l (zero-add q) ∙ ap indicator e
 
 lower_of : (m : ℕ) (t : Move) (k : ℕ) (weights : List ℤ) → leader_kind m t ≡ k → get_or (all_weights m) k [] ≡ weights → IsLower weights t → IsLower (get_or (all_weights m) (leader_kind m t) []) t
 lower_of m t k weights e f h = subst (λ w. IsLower w t) (sym (ap (λ i. get_or (all_weights m) i []) e ∙ f)) h
 
 -- two leaders are more than a leader and a follower
-lower-pair : (m rest p q : ℕ) → p < m → q < m → IsLower (get_or (all_weights m) (leader_kind m (meeting m rest p q)) []) (meeting m rest p q)
+lower-pair : (m rest p q : ℕ) → p < m → q < m → IsLower (get_or (all_weights m) (leader_kind m (leader_meeting m rest p q)) []) (leader_meeting m rest p q)
 lower-pair m rest p q l k =
     let test : ℕ → Bool = λ q. nat_lt q m in
     let bit = ((p + q) % m) == rest in
@@ -32,32 +32,32 @@ lower-pair m rest p q l k =
     let p_is = weight-is m test p true (omega arith) (lt-ltb p m l) in
     let q_is = weight-is m test q true (omega arith) (lt-ltb q m k) in
     let r_is = weight-is m test ((p + q) % m) true (omega arith) (lt-ltb ((p + q) % m) m r_below) in
-    let s_is = weight-is m test (follower m bit) false (follower-below m bit) (le-ltb (follower m bit) m (follower-above m bit)) in
-    lower_of m (meeting m rest p q) 0 (weights_by m test) (kind-pair m (meeting m rest p q) k) refl (omega (arith, ints, p_is, q_is, r_is, s_is))
+    let s_is = weight-is m test (remainder_follower m bit) false (follower-below m bit) (le-ltb (remainder_follower m bit) m (follower-above m bit)) in
+    lower_of m (leader_meeting m rest p q) 0 (indicator_weights m test) (kind-pair m (leader_meeting m rest p q) k) refl (omega (arith, ints, p_is, q_is, r_is, s_is))
 
 -- a turn
 a_turn : ℕ → ℕ → Bool → Move
-a_turn m p bit = record { p = p; q = follower m (not bit); r = p; s = follower m bit }
+a_turn m p bit = record { p = p; q = remainder_follower m (not bit); r = p; s = remainder_follower m bit }
 
-lower-turn : (m p : ℕ) (bit : Bool) → p < m → IsLower (get_or (all_weights m) (leader_kind m (record { p = p; q = follower m (not bit); r = p; s = follower m bit })) []) (record { p = p; q = follower m (not bit); r = p; s = follower m bit })
+lower-turn : (m p : ℕ) (bit : Bool) → p < m → IsLower (get_or (all_weights m) (leader_kind m (record { p = p; q = remainder_follower m (not bit); r = p; s = remainder_follower m bit })) []) (record { p = p; q = remainder_follower m (not bit); r = p; s = remainder_follower m bit })
 lower-turn m p true l =
     let test : ℕ → Bool = λ q. q == m in
     let p_is = weight-is m test p false (omega arith) (ne_eqb p m (λ e. omega arith)) in
     let q_is = weight-is m test m true (omega arith) (eq-eqb m m refl) in
     let s_is = weight-is m test (m + 1) false (omega arith) (ne_eqb (m + 1) m (λ e. omega arith)) in
-    lower_of m (record { p = p; q = m; r = p; s = m + 1 }) 1 (weights_by m test) (kind-up m (record { p = p; q = m; r = p; s = m + 1 }) (omega arith) refl (omega arith)) refl (omega (arith, ints, p_is, q_is, s_is))
+    lower_of m (record { p = p; q = m; r = p; s = m + 1 }) 1 (indicator_weights m test) (kind-up m (record { p = p; q = m; r = p; s = m + 1 }) (omega arith) refl (omega arith)) refl (omega (arith, ints, p_is, q_is, s_is))
 lower-turn m p false l =
     let test : ℕ → Bool = λ q. q == m + 1 in
     let p_is = weight-is m test p false (omega arith) (ne_eqb p (m + 1) (λ e. omega arith)) in
     let q_is = weight-is m test (m + 1) true (omega arith) (eq-eqb (m + 1) (m + 1) refl) in
     let s_is = weight-is m test m false (omega arith) (ne_eqb m (m + 1) (λ e. omega arith)) in
-    lower_of m (record { p = p; q = m + 1; r = p; s = m }) 2 (weights_by m test) (kind-down m (record { p = p; q = m + 1; r = p; s = m }) (omega arith) refl (omega arith)) refl (omega (arith, ints, p_is, q_is, s_is))
+    lower_of m (record { p = p; q = m + 1; r = p; s = m }) 2 (indicator_weights m test) (kind-down m (record { p = p; q = m + 1; r = p; s = m }) (omega arith) refl (omega arith)) refl (omega (arith, ints, p_is, q_is, s_is))
 
 -- a move that makes a follower of this bit, and a move with a follower second
 pub record IsSettled (m rest : ℕ) (t : Move) : Type 0 where
-  pub turns : m ≤ t.q → (t.q ≡ follower m (not (t.p == rest))) × (t.s ≡ follower m (t.p == rest))
+  pub turns : m ≤ t.q → (t.q ≡ remainder_follower m (not (t.p == rest))) × (t.s ≡ remainder_follower m (t.p == rest))
 
-all_settled : (m rest : ℕ) → All (IsSettled m rest) (moves_of m rest)
+all_settled : (m rest : ℕ) → All (IsSettled m rest) (remainder_moves m rest)
 all_settled m rest =
     all_moves m rest (IsSettled m rest) (λ p q l k. record { turns = λ h. absurd (omega arith) }) (λ p l. record { turns = λ h. (refl, refl) })
 
@@ -70,7 +70,7 @@ module _ (coefs : List ℤ) (m rest : ℕ) where
       let x = (All-contains (IsSettled m rest) leaf.moves t (all_settled m rest) ct).turns above in
       let late : m ≤ u.q = subst (λ z. m ≤ z) (sym (f ∙ x.1)) (follower-above m (t.p == rest)) in
       let y = (All-contains (IsSettled m rest) leaf.moves u (all_settled m rest) cu).turns late in
-      followers-apart m (t.p == rest) (ap (λ p. follower m (not (p == rest))) (sym g) ∙ sym y.0 ∙ f ∙ x.1)
+      followers-apart m (t.p == rest) (ap (λ p. remainder_follower m (not (p == rest))) (sym g) ∙ sym y.0 ∙ f ∙ x.1)
 
   is_protocol : IsLeaderProtocol leaf m
   is_protocol = record {
@@ -78,21 +78,21 @@ module _ (coefs : List ℤ) (m rest : ℕ) where
     leads = all_moves m rest (λ t. t.p < m) (λ p q l k. l) (λ p l. l);
     follows = all_moves m rest (λ t. m ≤ t.s) (λ p q l k. follower-above m (((p + q) % m) == rest)) (λ p l. follower-above m (p == rest));
     meet = λ p q l k ne. elim (cases_lt p q) [
-      | inl h ↦ (meeting m rest p q, has_pair m rest p q (omega arith) k, k, inl (refl, refl))
-      | inr h ↦ (meeting m rest q p, has_pair m rest q p h l, l, inr (refl, refl))
+      | inl h ↦ (leader_meeting m rest p q, has_pair m rest p q (omega arith) k, k, inl (refl, refl))
+      | inr h ↦ (leader_meeting m rest q p, has_pair m rest q p h l, l, inr (refl, refl))
     ];
     settled = settled;
   }
 
-  long : (test : ℕ → Bool) → length (weights_by m test) ≡ length leaf.states
-  long test = length-map-range_with_len (λ q. indicator (test q)) 0 (m + 2) ∙ sym (length-map-range_with_len (name_of m) 0 (m + 2))
+  long : (test : ℕ → Bool) → length (indicator_weights m test) ≡ length leaf.states
+  long test = length-map-range_with_len (λ q. indicator (test q)) 0 (m + 2) ∙ sym (length-map-range_with_len (remainder_state_name m) 0 (m + 2))
 
   are_kinds : AreKinds leaf (leader_kind m) (all_weights m)
   are_kinds = record {
-    long = All-cons (λ w. length w ≡ length leaf.states) (weights_by m (λ q. nat_lt q m)) (weights_by m (λ q. q == m) ∷ weights_by m (λ q. q == m + 1) ∷ []) (long (λ q. nat_lt q m))
-        (All-cons (λ w. length w ≡ length leaf.states) (weights_by m (λ q. q == m)) (weights_by m (λ q. q == m + 1) ∷ []) (long (λ q. q == m))
-        (All-cons (λ w. length w ≡ length leaf.states) (weights_by m (λ q. q == m + 1)) [] (long (λ q. q == m + 1)) (All-nil (λ w. length w ≡ length leaf.states))));
-    kinds = all_moves m rest (λ t. leader_kind m t < length (all_weights m)) (λ p q l k. let h = kind-below m (meeting m rest p q) in omega arith) (λ p l. let h = kind-below m (turn m rest p) in omega arith);
+    long = All-cons (λ w. length w ≡ length leaf.states) (indicator_weights m (λ q. nat_lt q m)) (indicator_weights m (λ q. q == m) ∷ indicator_weights m (λ q. q == m + 1) ∷ []) (long (λ q. nat_lt q m))
+        (All-cons (λ w. length w ≡ length leaf.states) (indicator_weights m (λ q. q == m)) (indicator_weights m (λ q. q == m + 1) ∷ []) (long (λ q. q == m))
+        (All-cons (λ w. length w ≡ length leaf.states) (indicator_weights m (λ q. q == m + 1)) [] (long (λ q. q == m + 1)) (All-nil (λ w. length w ≡ length leaf.states))));
+    kinds = all_moves m rest (λ t. leader_kind m t < length (all_weights m)) (λ p q l k. let h = kind-below m (leader_meeting m rest p q) in omega arith) (λ p l. let h = kind-below m (follower_turn m rest p) in omega arith);
     lower = all_moves m rest (λ t. IsLower (get_or (all_weights m) (leader_kind m t) []) t) (λ p q l k. lower-pair m rest p q l k) (λ p l. lower-turn m p (p == rest) l);
     wakes = leader_wakes leaf m is_protocol;
   }

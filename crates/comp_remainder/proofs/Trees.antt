@@ -11,19 +11,19 @@ use Rattle.pop_net.specs.declared.leaf.Move.{Move}
 use Rattle.pop_net.specs.LeafModel.{LeafModel, IsLeaf}
 use Rattle.pres_ast.specs.PredTree.{Congruent}
 use Rattle.pres_ast.specs.PredModel.{PredModel}
-use Rattle.pres_ast.specs.PredicateValue.{divides}
+use Rattle.pres_ast.specs.PredicateValue.{is_multiple}
 use Rattle.cert_base.specs.declared.fact.Fact.{Fact}
 use Rattle.cert_base.specs.declared.fact.Fact.TheVariants.{Cong, NotCong}
 use Rattle.cert_base.specs.Rows.{input_row, terms_from}
 use Rattle.cert_base.specs.ClosingTests.{closes_by_sum, closes_by_residue}
 use Rattle.cert_base.specs.Closes.{refutes, Closes}
-use Rattle.cert_base.specs.FactsAndCases.{base_list, differs, can_meet}
+use Rattle.cert_base.specs.FactsAndCases.{base_list, differs, can_meet_in}
 use Rattle.comp_trees.specs.LeaderTree.{IsLed, facts_of_trap, facts_of_leader, company_of, mix_of_leader, value_mix, wrong_mix}
 use Rattle.comp_trees.proofs.LeaderEnds.{is_wrong, rules_out, wrong_closes, IsOpened}
 use Rattle.comp_trees.proofs.ValueNodes.{AreEven, residue_closes-true, residue_closes-false}
 use Rattle.comp_trees.proofs.LeaderClosing.{leader_tree-closes}
-use Rattle.comp_remainder_leaf.specs.RemainderLeaf.{residue, follower, meeting, turn, name_of, output_of, remainder_leaf_of}
-use Rattle.comp_remainder.specs.RemainderProof.{value_of, leader_node, remainder_tree}
+use Rattle.comp_remainder_leaf.specs.RemainderLeaf.{residue_of, remainder_follower, leader_meeting, follower_turn, remainder_state_name, remainder_output, remainder_leaf_of}
+use Rattle.comp_remainder.specs.RemainderProof.{remainder_value, remainder_leader_node, remainder_tree}
 use Rattle.comp_remainder_leaf.proofs.MoveLists.{all_moves, follower-above}
 use Rattle.comp_remainder_leaf.proofs.Formed.{moves-few}
 use Rattle.comp_remainder_leaf.proofs.StateKinds.{Kind, a_leader, a_follower, kind_of}
@@ -31,16 +31,16 @@ use Rattle.comp_remainder_leaf.proofs.Remainders.{residue-below}
 use Rattle.comp_remainder.proofs.Meetings.{leaders-meet, turned-meet}
 use Rattle.comp_remainder.proofs.Multiples.{divides-zero, residue-even, sum-even, differ-odd}
 
-value-leader : (m q : ℕ) → q < m → value_of m q ≡ pos q
+value-leader : (m q : ℕ) → q < m → remainder_value m q ≡ pos q
 value-leader m q l = rw (lt-ltb q m l) refl
 
-value-follower : (m : ℕ) (bit : Bool) → value_of m (follower m bit) ≡ pos 0
-value-follower m bit = let a = follower-above m bit in ap (λ (b : Bool). if b then pos (follower m bit) else pos 0) (le-ltb (follower m bit) m a)
+value-follower : (m : ℕ) (bit : Bool) → remainder_value m (remainder_follower m bit) ≡ pos 0
+value-follower m bit = let a = follower-above m bit in ap (λ (b : Bool). if b then pos (remainder_follower m bit) else pos 0) (le-ltb (remainder_follower m bit) m a)
 
-output-leader : (m rest p : ℕ) → p < m → output_of m rest p ≡ (p == rest)
+output-leader : (m rest p : ℕ) → p < m → remainder_output m rest p ≡ (p == rest)
 output-leader m rest p l = rw (lt-ltb p m l) refl
 
-output-follower : (m rest : ℕ) (bit : Bool) → output_of m rest (follower m bit) ≡ bit
+output-follower : (m rest : ℕ) (bit : Bool) → remainder_output m rest (remainder_follower m bit) ≡ bit
 output-follower m rest true = rw (le-ltb (m + 1) m (omega arith), eq-eqb (m + 1) (m + 1) refl) refl
 output-follower m rest false = rw (le-ltb m m (omega arith), ne_eqb m (m + 1) (λ e. omega arith)) refl
 
@@ -52,27 +52,27 @@ module _ (coefs : List ℤ) (m rest : ℕ) (two : 2 ≤ m) (high : m ≤ 200) (r
   pred = record { variables = length coefs; tree = Congruent coefs m rest }
 
   states_long : length leaf.states ≡ m + 2
-  states_long = length-map-range_with_len (name_of m) 0 (m + 2)
+  states_long = length-map-range_with_len (remainder_state_name m) 0 (m + 2)
 
   inputs_long : length leaf.inputs ≡ length coefs
-  inputs_long = length-map coefs (residue m)
+  inputs_long = length-map coefs (residue_of m)
 
   pub is_led : IsLed leaf m
   is_led = record {
     helpers = refl;
     leaders = omega (arith, states_long);
-    inputs = All-map (λ q. q < m) (residue m) coefs (All-from_get_or (λ a. residue m a < m) coefs (pos 0) (λ i l. residue-below m (get_or coefs i (pos 0)) (omega arith)));
+    inputs = All-map (λ q. q < m) (residue_of m) coefs (All-from_get_or (λ a. residue_of m a < m) coefs (pos 0) (λ i l. residue-below m (get_or coefs i (pos 0)) (omega arith)));
     moves = all_moves m rest (λ t. t.r < m) (λ p q l k. mod-lt (p + q) (omega arith)) (λ p l. l);
     twins = λ p l. leaders-meet coefs m rest p p l l;
     few = (let moves = moves-few m rest high in let inputs = formed.input_count in omega (arith, states_long, moves, inputs));
   }
 
-  output-at : (z : ℕ) → z < length leaf.states → slice_index_or leaf.outputs z false ≡ output_of m rest z
-  output-at z l = get_or-map-range_with_len (output_of m rest) 0 (m + 2) z z false (omega (arith, states_long)) (zero-add z)
+  output-at : (z : ℕ) → z < length leaf.states → slice_index_or leaf.outputs z false ≡ remainder_output m rest z
+  output-at z l = get_or-map-range_with_len (remainder_output m rest) 0 (m + 2) z z false (omega (arith, states_long)) (zero-add z)
 
   -- the follower that a leader leaves has the leader's output
-  left_follower : (p : ℕ) (bit : Bool) → p < m → can_meet leaf p (follower m bit) ≡ false → bit ≡ (p == rest)
-  left_follower p bit l e = go bit (p == rest) (λ h. let f : true ≡ false = sym (turned-meet coefs m rest p l) ∙ ap (λ (b : Bool). can_meet leaf p (follower m b)) (sym h) ∙ e in cc)
+  left_follower : (p : ℕ) (bit : Bool) → p < m → can_meet_in leaf p (remainder_follower m bit) ≡ false → bit ≡ (p == rest)
+  left_follower p bit l e = go bit (p == rest) (λ h. let f : true ≡ false = sym (turned-meet coefs m rest p l) ∙ ap (λ (b : Bool). can_meet_in leaf p (remainder_follower m b)) (sym h) ∙ e in cc)
     where
       go : (a b : Bool) → (a ≡ not b → ⊥) → a ≡ b
       go true true h = refl
@@ -80,59 +80,59 @@ module _ (coefs : List ℤ) (m rest : ℕ) (two : 2 ≤ m) (high : m ≤ 200) (r
       go false true h = absurd (h refl)
       go false false h = refl
 
-  wrong-node : (b : Bool) (opened : Fact) (p : ℕ) → p < m → differs b (output_of m rest p) ≡ false → closes_by_sum (facts_of_leader leaf (facts_of_trap leaf (base_list leaf pred b) opened m) p) (terms_from 0 (mix_of_leader leaf (company_of leaf p) (wrong_mix leaf b) p)) ≡ true
+  wrong-node : (b : Bool) (opened : Fact) (p : ℕ) → p < m → differs b (remainder_output m rest p) ≡ false → closes_by_sum (facts_of_leader leaf (facts_of_trap leaf (base_list leaf pred b) opened m) p) (terms_from 0 (mix_of_leader leaf (company_of leaf p) (wrong_mix leaf b) p)) ≡ true
   wrong-node b opened p l right = wrong_closes leaf pred b opened m p (leaders-meet coefs m rest p p l l) all
     where
-      out : (z : ℕ) → Kind m z → differs b (output_of m rest z) ≡ true → can_meet leaf p z ≡ true
+      out : (z : ℕ) → Kind m z → differs b (remainder_output m rest z) ≡ true → can_meet_in leaf p z ≡ true
       out _ (a_leader q k) wrong = leaders-meet coefs m rest p q l k
-      out _ (a_follower bit) wrong = go (can_meet leaf p (follower m bit)) refl
+      out _ (a_follower bit) wrong = go (can_meet_in leaf p (remainder_follower m bit)) refl
         where
-          go : (c : Bool) → can_meet leaf p (follower m bit) ≡ c → c ≡ true
+          go : (c : Bool) → can_meet_in leaf p (remainder_follower m bit) ≡ c → c ≡ true
           go true e = refl
           go false e =
-              let same : output_of m rest p ≡ output_of m rest (follower m bit) = output-leader m rest p l ∙ sym (left_follower p bit l e) ∙ sym (output-follower m rest bit) in
+              let same : remainder_output m rest p ≡ remainder_output m rest (remainder_follower m bit) = output-leader m rest p l ∙ sym (left_follower p bit l e) ∙ sym (output-follower m rest bit) in
               absurd (let g : true ≡ false = sym wrong ∙ ap (differs b) (sym same) ∙ right in cc)
 
       all : (z : ℕ) → z < length leaf.states → is_wrong leaf b z ≡ true → rules_out leaf p z ≡ true
       all z k wrong =
-          let wrong_out : differs b (output_of m rest z) ≡ true = ap (differs b) (sym (output-at z k)) ∙ wrong in
-          let apart : (z == p) ≡ false = ne_eqb z p (λ e. let g : true ≡ false = sym wrong_out ∙ ap (λ q. differs b (output_of m rest q)) e ∙ right in cc) in
+          let wrong_out : differs b (remainder_output m rest z) ≡ true = ap (differs b) (sym (output-at z k)) ∙ wrong in
+          let apart : (z == p) ≡ false = ne_eqb z p (λ e. let g : true ≡ false = sym wrong_out ∙ ap (λ q. differs b (remainder_output m rest q)) e ∙ right in cc) in
           let meets = out z (kind_of m z (omega (arith, states_long))) wrong_out in
           rw (apart, meets) refl
 
   -- ---- the nodes by values
 
-  input-even : (i : ℕ) → i < length leaf.inputs → divides m (value_of m (get_or leaf.inputs i 0) -ℤ get_or coefs i (pos 0)) ≡ true
+  input-even : (i : ℕ) → i < length leaf.inputs → is_multiple m (remainder_value m (get_or leaf.inputs i 0) -ℤ get_or coefs i (pos 0)) ≡ true
   input-even i l =
       let k : i < length coefs = omega (arith, inputs_long) in
       let a = get_or coefs i (pos 0) in
-      ap (λ z. divides m (z -ℤ a)) (ap (value_of m) (get_or-map (residue m) coefs i (pos 0) 0 k) ∙ value-leader m (residue m a) (residue-below m a (omega arith)))
+      ap (λ z. is_multiple m (z -ℤ a)) (ap (remainder_value m) (get_or-map (residue_of m) coefs i (pos 0) 0 k) ∙ value-leader m (residue_of m a) (residue-below m a (omega arith)))
       ∙ residue-even m a (omega arith)
 
   abbrev change : Move → ℤ
-  change t = (value_of m t.r +ℤ value_of m t.s) -ℤ (value_of m t.p +ℤ value_of m t.q)
+  change t = (remainder_value m t.r +ℤ remainder_value m t.s) -ℤ (remainder_value m t.p +ℤ remainder_value m t.q)
 
-  moves-even : All (λ t. divides m (change t) ≡ true) leaf.moves
-  moves-even = all_moves m rest (λ t. divides m (change t) ≡ true)
+  moves-even : All (λ t. is_multiple m (change t) ≡ true) leaf.moves
+  moves-even = all_moves m rest (λ t. is_multiple m (change t) ≡ true)
       (λ p q l k. (
       let r_is = value-leader m ((p + q) % m) (mod-lt (p + q) (omega arith)) in
       let s_is = value-follower m (((p + q) % m) == rest) in
       let p_is = value-leader m p l in
       let q_is = value-leader m q k in
-      let whole : change (meeting m rest p q) ≡ ((pos ((p + q) % m) +ℤ pos 0) -ℤ (pos p +ℤ pos q)) = omega (arith, ints, r_is, s_is, p_is, q_is) in
-      ap (divides m) whole ∙ sum-even m p q))
+      let whole : change (leader_meeting m rest p q) ≡ ((pos ((p + q) % m) +ℤ pos 0) -ℤ (pos p +ℤ pos q)) = omega (arith, ints, r_is, s_is, p_is, q_is) in
+      ap (is_multiple m) whole ∙ sum-even m p q))
       (λ p l. (
       let s_is = value-follower m (p == rest) in
       let q_is = value-follower m (not (p == rest)) in
-      let whole : change (turn m rest p) ≡ pos 0 = omega (arith, ints, s_is, q_is) in
-      ap (divides m) whole ∙ divides-zero m))
+      let whole : change (follower_turn m rest p) ≡ pos 0 = omega (arith, ints, s_is, q_is) in
+      ap (is_multiple m) whole ∙ divides-zero m))
 
-  states-even : (p z : ℕ) → p < m → z < length leaf.states → can_meet leaf p z ≡ false → divides m (neg_ℤ (value_of m z)) ≡ true
+  states-even : (p z : ℕ) → p < m → z < length leaf.states → can_meet_in leaf p z ≡ false → is_multiple m (neg_ℤ (remainder_value m z)) ≡ true
   states-even p z l k e = go z (kind_of m z (omega (arith, states_long))) e
     where
-      go : (z : ℕ) → Kind m z → can_meet leaf p z ≡ false → divides m (neg_ℤ (value_of m z)) ≡ true
+      go : (z : ℕ) → Kind m z → can_meet_in leaf p z ≡ false → is_multiple m (neg_ℤ (remainder_value m z)) ≡ true
       go _ (a_leader q k) e = absurd (let h : true ≡ false = sym (leaders-meet coefs m rest p q l k) ∙ e in cc)
-      go _ (a_follower bit) e = ap (λ v. divides m (neg_ℤ v)) (value-follower m bit) ∙ divides-zero m
+      go _ (a_follower bit) e = ap (λ v. is_multiple m (neg_ℤ v)) (value-follower m bit) ∙ divides-zero m
 
   abbrev opened_fact : Bool → Fact
   opened_fact b = if b then Cong (input_row coefs (neg_ℤ (pos rest))) m else NotCong (input_row coefs (neg_ℤ (pos rest))) m
@@ -141,45 +141,45 @@ module _ (coefs : List ℤ) (m rest : ℕ) (two : 2 ≤ m) (high : m ≤ 200) (r
   is_opened true p l = record { long = sym inputs_long; row = refl }
   is_opened false p l = record { long = sym inputs_long; row = refl }
 
-  even : (b : Bool) (p : ℕ) (l : p < m) → AreEven leaf pred b (opened_fact b) m p (leaders-meet coefs m rest p p l l) (omega (arith, states_long)) formed.inputs formed.moves refl coefs (neg_ℤ (pos rest)) (is_opened b p l) m (value_of m)
+  even : (b : Bool) (p : ℕ) (l : p < m) → AreEven leaf pred b (opened_fact b) m p (leaders-meet coefs m rest p p l l) (omega (arith, states_long)) formed.inputs formed.moves refl coefs (neg_ℤ (pos rest)) (is_opened b p l) m (remainder_value m)
   even b p l = record {
     of_inputs = input-even;
     of_moves = moves-even;
     of_states = λ z k ne e. states-even p z l k e;
   }
 
-  value-true : (p : ℕ) → p < m → (p == rest) ≡ false → closes_by_residue (facts_of_leader leaf (facts_of_trap leaf (base_list leaf pred true) (Cong (input_row coefs (neg_ℤ (pos rest))) m) m) p) m (terms_from 0 (mix_of_leader leaf (company_of leaf p) (value_mix (value_of m) (negsuc 0) p) p)) ≡ true
+  value-true : (p : ℕ) → p < m → (p == rest) ≡ false → closes_by_residue (facts_of_leader leaf (facts_of_trap leaf (base_list leaf pred true) (Cong (input_row coefs (neg_ℤ (pos rest))) m) m) p) m (terms_from 0 (mix_of_leader leaf (company_of leaf p) (value_mix (remainder_value m) (negsuc 0) p) p)) ≡ true
   value-true p l other =
       let ne : rest ≢ p = λ e. eqb-false p rest other (sym e) in
       let v = value-leader m p l in
-      let same : (neg_ℤ (neg_ℤ (pos rest)) -ℤ value_of m p) ≡ (pos rest -ℤ pos p) = omega (arith, ints, v) in
-      residue_closes-true leaf pred true (Cong (input_row coefs (neg_ℤ (pos rest))) m) m p (leaders-meet coefs m rest p p l l) (omega (arith, states_long)) formed.inputs formed.moves refl coefs (neg_ℤ (pos rest)) (is_opened true p l) m (value_of m)
-      (divides-zero m) (eq-eqb m m refl) (even true p l) (ap (divides m) same ∙ differ-odd m rest p rest_below l ne)
+      let same : (neg_ℤ (neg_ℤ (pos rest)) -ℤ remainder_value m p) ≡ (pos rest -ℤ pos p) = omega (arith, ints, v) in
+      residue_closes-true leaf pred true (Cong (input_row coefs (neg_ℤ (pos rest))) m) m p (leaders-meet coefs m rest p p l l) (omega (arith, states_long)) formed.inputs formed.moves refl coefs (neg_ℤ (pos rest)) (is_opened true p l) m (remainder_value m)
+      (divides-zero m) (eq-eqb m m refl) (even true p l) (ap (is_multiple m) same ∙ differ-odd m rest p rest_below l ne)
 
-  value-false : (p : ℕ) → p < m → (p == rest) ≡ true → closes_by_residue (facts_of_leader leaf (facts_of_trap leaf (base_list leaf pred false) (NotCong (input_row coefs (neg_ℤ (pos rest))) m) m) p) m (terms_from 0 (mix_of_leader leaf (company_of leaf p) (value_mix (value_of m) (pos 0) p) p)) ≡ true
+  value-false : (p : ℕ) → p < m → (p == rest) ≡ true → closes_by_residue (facts_of_leader leaf (facts_of_trap leaf (base_list leaf pred false) (NotCong (input_row coefs (neg_ℤ (pos rest))) m) m) p) m (terms_from 0 (mix_of_leader leaf (company_of leaf p) (value_mix (remainder_value m) (pos 0) p) p)) ≡ true
   value-false p l same =
       let e = eqb-true p rest same in
       let v = value-leader m p l in
-      let none : (neg_ℤ (value_of m p) -ℤ neg_ℤ (pos rest)) ≡ pos 0 = omega (arith, ints, v, ap pos e) in
-      residue_closes-false leaf pred false (NotCong (input_row coefs (neg_ℤ (pos rest))) m) m p (leaders-meet coefs m rest p p l l) (omega (arith, states_long)) formed.inputs formed.moves refl coefs (neg_ℤ (pos rest)) (is_opened false p l) m (value_of m)
-      (divides-zero m) refl (even false p l) (ap (divides m) none ∙ divides-zero m)
+      let none : (neg_ℤ (remainder_value m p) -ℤ neg_ℤ (pos rest)) ≡ pos 0 = omega (arith, ints, v, ap pos e) in
+      residue_closes-false leaf pred false (NotCong (input_row coefs (neg_ℤ (pos rest))) m) m p (leaders-meet coefs m rest p p l l) (omega (arith, states_long)) formed.inputs formed.moves refl coefs (neg_ℤ (pos rest)) (is_opened false p l) m (remainder_value m)
+      (divides-zero m) refl (even false p l) (ap (is_multiple m) none ∙ divides-zero m)
 
-  on_true : (p : ℕ) → p < m → refutes (facts_of_leader leaf (facts_of_trap leaf (base_list leaf pred true) (Cong (input_row coefs (neg_ℤ (pos rest))) m) m) p) (leader_node leaf m rest true p) ≡ true
-  on_true p l = go (output_of m rest p) refl
+  on_true : (p : ℕ) → p < m → refutes (facts_of_leader leaf (facts_of_trap leaf (base_list leaf pred true) (Cong (input_row coefs (neg_ℤ (pos rest))) m) m) p) (remainder_leader_node leaf m rest true p) ≡ true
+  on_true p l = go (remainder_output m rest p) refl
     where
-      go : (c : Bool) → output_of m rest p ≡ c → refutes (facts_of_leader leaf (facts_of_trap leaf (base_list leaf pred true) (Cong (input_row coefs (neg_ℤ (pos rest))) m) m) p) (leader_node leaf m rest true p) ≡ true
+      go : (c : Bool) → remainder_output m rest p ≡ c → refutes (facts_of_leader leaf (facts_of_trap leaf (base_list leaf pred true) (Cong (input_row coefs (neg_ℤ (pos rest))) m) m) p) (remainder_leader_node leaf m rest true p) ≡ true
       go true e = rw e (wrong-node true (Cong (input_row coefs (neg_ℤ (pos rest))) m) p l (ap (differs true) e))
       go false e = rw e (value-true p l (sym (output-leader m rest p l) ∙ e))
 
-  on_false : (p : ℕ) → p < m → refutes (facts_of_leader leaf (facts_of_trap leaf (base_list leaf pred false) (NotCong (input_row coefs (neg_ℤ (pos rest))) m) m) p) (leader_node leaf m rest false p) ≡ true
-  on_false p l = go (output_of m rest p) refl
+  on_false : (p : ℕ) → p < m → refutes (facts_of_leader leaf (facts_of_trap leaf (base_list leaf pred false) (NotCong (input_row coefs (neg_ℤ (pos rest))) m) m) p) (remainder_leader_node leaf m rest false p) ≡ true
+  on_false p l = go (remainder_output m rest p) refl
     where
-      go : (c : Bool) → output_of m rest p ≡ c → refutes (facts_of_leader leaf (facts_of_trap leaf (base_list leaf pred false) (NotCong (input_row coefs (neg_ℤ (pos rest))) m) m) p) (leader_node leaf m rest false p) ≡ true
+      go : (c : Bool) → remainder_output m rest p ≡ c → refutes (facts_of_leader leaf (facts_of_trap leaf (base_list leaf pred false) (NotCong (input_row coefs (neg_ℤ (pos rest))) m) m) p) (remainder_leader_node leaf m rest false p) ≡ true
       go true e = rw e (value-false p l (sym (output-leader m rest p l) ∙ e))
       go false e = rw e (wrong-node false (NotCong (input_row coefs (neg_ℤ (pos rest))) m) p l (ap (differs false) e))
 
   pub tree-true : Closes leaf (base_list leaf pred true) (remainder_tree leaf m rest true) []
-  tree-true = leader_tree-closes leaf pred true (Cong (input_row coefs (neg_ℤ (pos rest))) m) m is_led formed refl (leader_node leaf m rest true) on_true
+  tree-true = leader_tree-closes leaf pred true (Cong (input_row coefs (neg_ℤ (pos rest))) m) m is_led formed refl (remainder_leader_node leaf m rest true) on_true
 
   pub tree-false : Closes leaf (base_list leaf pred false) (remainder_tree leaf m rest false) []
-  tree-false = leader_tree-closes leaf pred false (NotCong (input_row coefs (neg_ℤ (pos rest))) m) m is_led formed refl (leader_node leaf m rest false) on_false
+  tree-false = leader_tree-closes leaf pred false (NotCong (input_row coefs (neg_ℤ (pos rest))) m) m is_led formed refl (remainder_leader_node leaf m rest false) on_false

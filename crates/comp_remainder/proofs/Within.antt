@@ -11,20 +11,20 @@ use Rattle.cert_base.specs.declared.node.Node.TheVariants.{Residue}
 use Rattle.cert_base.specs.Rows.{terms_from}
 use Rattle.cert_base.specs.FactsAndCases.{differs, indicator}
 use Rattle.cert_base.specs.ProofLimits.{IsSmall, IsNodeWithin, IsLayerWithin, AreNodesWithin}
-use Rattle.comp_trees.specs.LeaderTree.{company_of, mix_of_leader, value_mix, wrong_mix, weighed}
-use Rattle.comp_layers.specs.SortedLayers.{leader_kind, layer_of}
+use Rattle.comp_trees.specs.LeaderTree.{company_of, mix_of_leader, value_mix, wrong_mix, weighed_node}
+use Rattle.comp_layers.specs.SortedLayers.{leader_kind, sorted_layer}
 use Rattle.comp_layers.proofs.Members.{all_range}
 use Rattle.comp_trees.proofs.Limits.{mix-small, leader-within, leader-within_terms, tree-within}
 use Rattle.comp_layers.proofs.LayerLimits.{layer-within}
-use Rattle.comp_remainder_leaf.specs.RemainderLeaf.{output_of, name_of, remainder_leaf_of}
+use Rattle.comp_remainder_leaf.specs.RemainderLeaf.{remainder_output, remainder_state_name, remainder_leaf_of}
 use Rattle.comp_remainder.proofs.Trees.{is_led}
-use Rattle.comp_remainder.specs.RemainderProof.{value_of, opened_by, leader_node, remainder_tree}
-use Rattle.comp_remainder.specs.RemainderLayers.{weights_by, remainder_layers}
+use Rattle.comp_remainder.specs.RemainderProof.{remainder_value, opened_by, remainder_leader_node, remainder_tree}
+use Rattle.comp_remainder.specs.RemainderLayers.{indicator_weights, remainder_layers}
 
-value-small : (m q : ℕ) → m ≤ 200 → IsSmall (value_of m q)
+value-small : (m q : ℕ) → m ≤ 200 → IsSmall (remainder_value m q)
 value-small m q few = go (cases_lt q m)
   where
-    go : (q < m) ⊎ (m ≤ q) → IsSmall (value_of m q)
+    go : (q < m) ⊎ (m ≤ q) → IsSmall (remainder_value m q)
     go (inl l) = let e = lt-ltb q m l in rw e (omega arith)
     go (inr l) = let e = le-ltb q m l in rw e (omega arith)
 
@@ -45,30 +45,30 @@ module _ (coefs : List ℤ) (m rest : ℕ) (low : 2 ≤ m) (high : m ≤ 200) (b
   leaf = remainder_leaf_of coefs m rest
 
   states_long : length leaf.states ≡ m + 2
-  states_long = length-map-range_with_len (name_of m) 0 (m + 2)
+  states_long = length-map-range_with_len (remainder_state_name m) 0 (m + 2)
 
   abbrev one : ℕ → (ℕ → Bool) → Layer
-  one i test = layer_of leaf.moves (leader_kind m) i (weights_by m test)
+  one i test = sorted_layer leaf.moves (leader_kind m) i (indicator_weights m test)
 
   within : (i : ℕ) (test : ℕ → Bool) → IsLayerWithin (one i test)
   within i test =
-      layer-within leaf.moves (leader_kind m) i (weights_by m test) formed.move_count (omega (arith, length-map-range_with_len (λ q. indicator (test q)) 0 (m + 2)))
+      layer-within leaf.moves (leader_kind m) i (indicator_weights m test) formed.move_count (omega (arith, length-map-range_with_len (λ q. indicator (test q)) 0 (m + 2)))
       (All-map IsSmall (λ q. indicator (test q)) (range_with_len 0 (m + 2)) (all_range (λ q. IsSmall (indicator (test q))) 0 (m + 2) (λ q l k. bit-small (test q))))
 
-  value-node : (b : Bool) (p : ℕ) → p < m → IsNodeWithin (Residue m (terms_from 0 (mix_of_leader leaf (company_of leaf p) (value_mix (value_of m) (opened_by b) p) p)))
+  value-node : (b : Bool) (p : ℕ) → p < m → IsNodeWithin (Residue m (terms_from 0 (mix_of_leader leaf (company_of leaf p) (value_mix (remainder_value m) (opened_by b) p) p)))
   value-node b p l =
-      let mix = value_mix (value_of m) (opened_by b) p in
+      let mix = value_mix (remainder_value m) (opened_by b) p in
       (low, high, leader-within_terms leaf p mix formed (omega (arith, states_long)) (mix-small leaf p mix (λ q k. value-small m q high) (omega arith) (opened-small b) (λ q k. value-small m q high) (value-small m p high)))
 
-  wrong-node : (b : Bool) (p : ℕ) → p < m → IsNodeWithin (weighed (mix_of_leader leaf (company_of leaf p) (wrong_mix leaf b) p))
+  wrong-node : (b : Bool) (p : ℕ) → p < m → IsNodeWithin (weighed_node (mix_of_leader leaf (company_of leaf p) (wrong_mix leaf b) p))
   wrong-node b p l =
       let mix = wrong_mix leaf b in
       leader-within leaf p mix formed (omega (arith, states_long)) (mix-small leaf p mix (λ q k. omega arith) (omega arith) (omega arith) (λ q k. sign-small (differs b (slice_index_or leaf.outputs q false))) (omega arith))
 
-  node : (b : Bool) (p : ℕ) → p < m → IsNodeWithin (leader_node leaf m rest b p)
-  node b p l = go (differs b (output_of m rest p)) (value-node b p l) (wrong-node b p l)
+  node : (b : Bool) (p : ℕ) → p < m → IsNodeWithin (remainder_leader_node leaf m rest b p)
+  node b p l = go (differs b (remainder_output m rest p)) (value-node b p l) (wrong-node b p l)
     where
-      go : (c : Bool) → IsNodeWithin (Residue m (terms_from 0 (mix_of_leader leaf (company_of leaf p) (value_mix (value_of m) (opened_by b) p) p))) → IsNodeWithin (weighed (mix_of_leader leaf (company_of leaf p) (wrong_mix leaf b) p)) → IsNodeWithin (if c then Residue m (terms_from 0 (mix_of_leader leaf (company_of leaf p) (value_mix (value_of m) (opened_by b) p) p)) else weighed (mix_of_leader leaf (company_of leaf p) (wrong_mix leaf b) p))
+      go : (c : Bool) → IsNodeWithin (Residue m (terms_from 0 (mix_of_leader leaf (company_of leaf p) (value_mix (remainder_value m) (opened_by b) p) p))) → IsNodeWithin (weighed_node (mix_of_leader leaf (company_of leaf p) (wrong_mix leaf b) p)) → IsNodeWithin (if c then Residue m (terms_from 0 (mix_of_leader leaf (company_of leaf p) (value_mix (remainder_value m) (opened_by b) p) p)) else weighed_node (mix_of_leader leaf (company_of leaf p) (wrong_mix leaf b) p))
       go true v w = v
       go false v w = w
 
@@ -79,4 +79,4 @@ module _ (coefs : List ℤ) (m rest : ℕ) (low : 2 ≤ m) (high : m ≤ 200) (b
       (All-cons IsLayerWithin (one 2 (λ q. q == m + 1)) [] (within 2 (λ q. q == m + 1)) (All-nil IsLayerWithin)))
 
   pub nodes-within : (b : Bool) → AreNodesWithin (remainder_tree leaf m rest b)
-  nodes-within b = tree-within leaf m (leader_node leaf m rest b) formed (is_led coefs m rest low high below formed) (node b)
+  nodes-within b = tree-within leaf m (remainder_leader_node leaf m rest b) formed (is_led coefs m rest low high below formed) (node b)

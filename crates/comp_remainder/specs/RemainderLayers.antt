@@ -5,16 +5,16 @@ use Rattle.pop_net.specs.LeafModel.{LeafModel}
 use Rattle.cert_base.specs.declared.layer.Layer.{Layer}
 use Rattle.cert_base.specs.FactsAndCases.{indicator}
 use Rattle.comp_layers.specs.SortedLayers.{sorted_layers, leader_kind}
-use Rattle.comp_remainder_leaf.specs.RemainderLeaf.{state_count}
+use Rattle.comp_remainder_leaf.specs.RemainderLeaf.{remainder_state_count}
 
 -- 1 for each state that passes the test
-abbrev pub weights_by : ℕ → (ℕ → Bool) → List ℤ
-weights_by m test = map (λ q. indicator (test q)) (range_with_len 0 (state_count m))
+abbrev pub indicator_weights : ℕ → (ℕ → Bool) → List ℤ
+indicator_weights m test = map (λ q. indicator (test q)) (range_with_len 0 (remainder_state_count m))
 
 -- first the meetings of leaders, then the turns from false to true, then those from true to false
 abbrev pub all_weights : ℕ → List (List ℤ)
 all_weights m =
-    weights_by m (λ q. nat_lt q m) ∷ weights_by m (λ q. q == m) ∷ weights_by m (λ q. q == m + 1) ∷ []
+    indicator_weights m (λ q. nat_lt q m) ∷ indicator_weights m (λ q. q == m) ∷ indicator_weights m (λ q. q == m + 1) ∷ []
 
 abbrev pub remainder_layers : LeafModel → ℕ → List Layer
 remainder_layers leaf m = sorted_layers leaf.moves (leader_kind m) 0 (all_weights m)

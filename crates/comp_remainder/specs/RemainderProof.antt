@@ -8,31 +8,31 @@ use Rattle.cert_base.specs.declared.node.Node.TheVariants.{Residue}
 use Rattle.cert_base.specs.declared.proof.LeafProof.{LeafProof}
 use Rattle.cert_base.specs.Rows.{terms_from}
 use Rattle.cert_base.specs.FactsAndCases.{differs}
-use Rattle.comp_trees.specs.LeaderTree.{company_of, mix_of_leader, wrong_mix, value_mix, weighed, leader_tree}
-use Rattle.comp_remainder_leaf.specs.RemainderLeaf.{output_of, remainder_leaf_of}
+use Rattle.comp_trees.specs.LeaderTree.{company_of, mix_of_leader, wrong_mix, value_mix, weighed_node, leader_tree}
+use Rattle.comp_remainder_leaf.specs.RemainderLeaf.{remainder_output, remainder_leaf_of}
 use Rattle.comp_remainder.specs.RemainderLayers.{remainder_layers}
 
 -- a leader's remainder, and 0 for a follower
-abbrev pub value_of : ℕ → ℕ → ℤ
-value_of m q = if nat_lt q m then pos q else pos 0
+abbrev pub remainder_value : ℕ → ℕ → ℤ
+remainder_value m q = if nat_lt q m then pos q else pos 0
 
 -- how often the opened predicate is added: less once where it is a congruence, and not at all where it denies one
 abbrev pub opened_by : Bool → ℤ
 opened_by b = if b then negsuc 0 else pos 0
 
 -- the node of the leader p in the tree for b: its remainder doesn't agree with the opened predicate, or no state with another output is left
-abbrev pub value_node : LeafModel → ℕ → Bool → ℕ → Node
-value_node leaf m b p =
-    Residue m (terms_from 0 (mix_of_leader leaf (company_of leaf p) (value_mix (value_of m) (opened_by b) p) p))
+abbrev pub remainder_value_node : LeafModel → ℕ → Bool → ℕ → Node
+remainder_value_node leaf m b p =
+    Residue m (terms_from 0 (mix_of_leader leaf (company_of leaf p) (value_mix (remainder_value m) (opened_by b) p) p))
 
-abbrev pub wrong_node : LeafModel → Bool → ℕ → Node
-wrong_node leaf b p = weighed (mix_of_leader leaf (company_of leaf p) (wrong_mix leaf b) p)
+abbrev pub remainder_wrong_node : LeafModel → Bool → ℕ → Node
+remainder_wrong_node leaf b p = weighed_node (mix_of_leader leaf (company_of leaf p) (wrong_mix leaf b) p)
 
-abbrev pub leader_node : LeafModel → (m rest : ℕ) → Bool → ℕ → Node
-leader_node leaf m rest b p = if differs b (output_of m rest p) then value_node leaf m b p else wrong_node leaf b p
+abbrev pub remainder_leader_node : LeafModel → (m rest : ℕ) → Bool → ℕ → Node
+remainder_leader_node leaf m rest b p = if differs b (remainder_output m rest p) then remainder_value_node leaf m b p else remainder_wrong_node leaf b p
 
 abbrev pub remainder_tree : LeafModel → (m rest : ℕ) → Bool → List Node
-remainder_tree leaf m rest b = leader_tree leaf m (leader_node leaf m rest b)
+remainder_tree leaf m rest b = leader_tree leaf m (remainder_leader_node leaf m rest b)
 
 -- ---- the whole proof of the leaf
 

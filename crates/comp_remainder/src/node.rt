@@ -4,10 +4,9 @@ ghost use Rattle.std.specs.Prelude.{◌≡◌, ◌<◌, ◌≤◌, map, neg_ℤ,
 ghost use Rattle.std.specs.List.{range_with_len};
 ghost use Rattle.pres_ast.specs.declared.limits.TheConstants.{MODULUS_LIMIT};
 ghost use Rattle.cert_base.specs.FactsAndCases.{states_of, indicator, differs};
-ghost use Rattle.comp_remainder_leaf.specs.RemainderLeaf.{state_count};
-ghost use Rattle.comp_remainder.specs.RemainderProof.{value_of, opened_by, value_node as value_node_of};
-ghost use Rattle.comp_remainder.specs.RemainderProof.{wrong_node as wrong_node_of, leader_node as node_of};
-ghost use Rattle.comp_remainder.specs.RemainderProof.{remainder_tree};
+ghost use Rattle.comp_remainder_leaf.specs.RemainderLeaf.{remainder_state_count};
+ghost use Rattle.comp_remainder.specs.RemainderProof.{remainder_value, opened_by, remainder_value_node};
+ghost use Rattle.comp_remainder.specs.RemainderProof.{remainder_wrong_node, remainder_leader_node, remainder_tree};
 
 use cert_base::Node;
 use comp_remainder_leaf::output;
@@ -18,14 +17,15 @@ use std::alloc::Global;
 
 /// What a state counts for.
 fn value(modulus: u16, q: u16) -> i64
-    ensures { result ≡ value_of modulus q }
+    ensures { result ≡ remainder_value modulus q }
 {
     if q < modulus { i64::from(q) } else { 0 }
 }
 
 fn values(alloc: Global, modulus: u16) -> Result<Vec<i64>, NoMemory>
     requires { modulus ≤ MODULUS_LIMIT }
-    ensures { IfOk result (λ values. values.items ≡ map (value_of modulus) (range_with_len 0 (state_count modulus))) }
+    ensures { IfOk result (λ values.
+        values.items ≡ map (remainder_value modulus) (range_with_len 0 (remainder_state_count modulus))) }
 {
     let values = (0..modulus + 2).map(|q| value(modulus, q)).collect(alloc)?;
     Ok(values)
@@ -67,8 +67,8 @@ fn value_node(
 ) -> Result<Node, NoMemory>
     requires few { modulus ≤ MODULUS_LIMIT }
     requires leader { p < modulus }
-    requires states { length leaf.now.states ≡ state_count modulus }
-    ensures { IfOk result (λ node. node ≡ value_node_of leaf.now modulus answer p) }
+    requires states { length leaf.now.states ≡ remainder_state_count modulus }
+    ensures { IfOk result (λ node. node ≡ remainder_value_node leaf.now modulus answer p) }
 {
     let values = values(alloc, modulus)?;
     let added = opened(answer);
@@ -89,7 +89,7 @@ fn value_node(
 /// No state with another output is left.
 fn wrong_node(alloc: Global, leaf: &Leaf, answer: bool, p: u16) -> Result<Node, NoMemory>
     requires { p < length leaf.now.states }
-    ensures { IfOk result (λ node. node ≡ wrong_node_of leaf.now answer p) }
+    ensures { IfOk result (λ node. node ≡ remainder_wrong_node leaf.now answer p) }
 {
     let none = vec![in alloc; 0i64; usize::from(leaf.state_count())]?;
     let signs = signs(alloc, leaf, answer)?;
@@ -107,8 +107,8 @@ fn leader_node(
 ) -> Result<Node, NoMemory>
     requires few { modulus ≤ MODULUS_LIMIT }
     requires leader { p < modulus }
-    requires states { length leaf.now.states ≡ state_count modulus }
-    ensures { IfOk result (λ node. node ≡ node_of leaf.now modulus rest answer p) }
+    requires states { length leaf.now.states ≡ remainder_state_count modulus }
+    ensures { IfOk result (λ node. node ≡ remainder_leader_node leaf.now modulus rest answer p) }
 {
     if output(modulus, rest, p) == answer {
         wrong_node(alloc, leaf, answer, p)
@@ -126,9 +126,9 @@ fn ends(
     answer: bool,
 ) -> Result<Vec<Node>, NoMemory>
     requires few { modulus ≤ MODULUS_LIMIT }
-    requires states { length leaf.now.states ≡ state_count modulus }
+    requires states { length leaf.now.states ≡ remainder_state_count modulus }
     ensures { IfOk result
-        (λ nodes. nodes.items ≡ map (node_of leaf.now modulus rest answer) (range_with_len 0 modulus)) }
+        (λ nodes. nodes.items ≡ map (remainder_leader_node leaf.now modulus rest answer) (range_with_len 0 modulus)) }
 {
     let mut nodes = Vec::new(alloc);
     for p in 0..modulus {
@@ -146,7 +146,7 @@ pub(crate) fn leaf_tree(
     answer: bool,
 ) -> Result<List<Node>, NoMemory>
     requires few { modulus ≤ MODULUS_LIMIT }
-    requires states { length leaf.now.states ≡ state_count modulus }
+    requires states { length leaf.now.states ≡ remainder_state_count modulus }
     ensures { IfOk result (λ nodes. nodes ≡ remainder_tree leaf.now modulus rest answer) }
 {
     let nodes = ends(alloc, leaf, modulus, rest, answer)?;

@@ -3,7 +3,7 @@
 ghost use Rattle.std.specs.Prelude.{◌≡◌, ◌≤◌, ◌+◌, ◌==◌, nat_lt, length, IfOk};
 ghost use Rattle.pres_ast.specs.declared.limits.TheConstants.{MODULUS_LIMIT};
 ghost use Rattle.cert_base.specs.FactsAndCases.{indicator};
-ghost use Rattle.comp_remainder.specs.RemainderLayers.{weights_by, remainder_layers};
+ghost use Rattle.comp_remainder.specs.RemainderLayers.{indicator_weights, remainder_layers};
 
 use cert_base::Layer;
 use comp_layers::layer;
@@ -20,7 +20,7 @@ fn weight(passes: bool) -> i64
 
 fn leader_weights(alloc: Global, modulus: u16) -> Result<Vec<i64>, NoMemory>
     requires { modulus ≤ MODULUS_LIMIT }
-    ensures { IfOk result (λ weights. weights.items ≡ weights_by modulus (λ q. nat_lt q modulus)) }
+    ensures { IfOk result (λ weights. weights.items ≡ indicator_weights modulus (λ q. nat_lt q modulus)) }
 {
     let weights = (0..modulus + 2)
         .map(|q| weight(q < modulus))
@@ -30,7 +30,7 @@ fn leader_weights(alloc: Global, modulus: u16) -> Result<Vec<i64>, NoMemory>
 
 fn false_weights(alloc: Global, modulus: u16) -> Result<Vec<i64>, NoMemory>
     requires { modulus ≤ MODULUS_LIMIT }
-    ensures { IfOk result (λ weights. weights.items ≡ weights_by modulus (λ q. q == modulus)) }
+    ensures { IfOk result (λ weights. weights.items ≡ indicator_weights modulus (λ q. q == modulus)) }
 {
     let weights = (0..modulus + 2)
         .map(|q| weight(q == modulus))
@@ -40,7 +40,7 @@ fn false_weights(alloc: Global, modulus: u16) -> Result<Vec<i64>, NoMemory>
 
 fn true_weights(alloc: Global, modulus: u16) -> Result<Vec<i64>, NoMemory>
     requires { modulus ≤ MODULUS_LIMIT }
-    ensures { IfOk result (λ weights. weights.items ≡ weights_by modulus (λ q. q == modulus + 1)) }
+    ensures { IfOk result (λ weights. weights.items ≡ indicator_weights modulus (λ q. q == modulus + 1)) }
 {
     let weights = (0..modulus + 2)
         .map(|q| weight(q == modulus + 1))

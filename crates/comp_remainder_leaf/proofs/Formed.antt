@@ -8,7 +8,7 @@ use Rattle.std.proofs.lemmas.List.Elements.{All-nil, All-map, All-from_get_or}
 use Rattle.std.proofs.lemmas.List.FromFn.{length-range_with_len, length-map-range_with_len}
 use Rattle.pop_net.specs.declared.leaf.Move.{Move}
 use Rattle.pop_net.specs.LeafModel.{LeafModel, IsLeaf, IsMoveBelow}
-use Rattle.comp_remainder_leaf.specs.RemainderLeaf.{residue, meeting, turn, pairs_of, moves_of, name_of, output_of, remainder_leaf_of}
+use Rattle.comp_remainder_leaf.specs.RemainderLeaf.{residue_of, leader_meeting, follower_turn, remainder_pairs, remainder_moves, remainder_state_name, remainder_output, remainder_leaf_of}
 use Rattle.comp_remainder_leaf.proofs.MoveLists.{all_moves, follower-below}
 use Rattle.comp_remainder_leaf.proofs.Remainders.{residue-below}
 use Rattle.comp_remainder_leaf.proofs.StateNames.{names-formed}
@@ -26,43 +26,43 @@ triangle-le (suc n) (suc k) l = let e = triangle-le n k (omega arith) in omega (
 triangle-most : triangle 200 ≡ 20100
 triangle-most = refl
 
-pairs-few : (m rest a n : ℕ) → a + n ≡ m → length (flat_map (pairs_of m rest) (range_with_len a n)) ≤ triangle n
+pairs-few : (m rest a n : ℕ) → a + n ≡ m → length (flat_map (remainder_pairs m rest) (range_with_len a n)) ≤ triangle n
 pairs-few m rest a zero e = omega arith
 pairs-few m rest a (suc n) e =
     let more = pairs-few m rest (a + 1) n (omega arith) in
-    omega (arith, length-append (pairs_of m rest a) (flat_map (pairs_of m rest) (range_with_len (a + 1) n)), length-map (range_with_len a (m - a)) (meeting m rest a), length-range_with_len a (m - a), more)
+    omega (arith, length-append (remainder_pairs m rest a) (flat_map (remainder_pairs m rest) (range_with_len (a + 1) n)), length-map (range_with_len a (m - a)) (leader_meeting m rest a), length-range_with_len a (m - a), more)
 
-pub moves-few : (m rest : ℕ) → m ≤ 200 → length (moves_of m rest) ≤ 20300
+pub moves-few : (m rest : ℕ) → m ≤ 200 → length (remainder_moves m rest) ≤ 20300
 moves-few m rest l =
     let first = pairs-few m rest 0 m (zero-add m) in
     let second = triangle-le m 200 l in
-    omega (arith, length-append (flat_map (pairs_of m rest) (range_with_len 0 m)) (map (turn m rest) (range_with_len 0 m)), length-map (range_with_len 0 m) (turn m rest), length-range_with_len 0 m, first, second, triangle-most)
+    omega (arith, length-append (flat_map (remainder_pairs m rest) (range_with_len 0 m)) (map (follower_turn m rest) (range_with_len 0 m)), length-map (range_with_len 0 m) (follower_turn m rest), length-range_with_len 0 m, first, second, triangle-most)
 
 pub remainder-formed : (coefs : List ℤ) (m rest : ℕ) → 1 ≤ length coefs → length coefs ≤ 16 → 1 ≤ m → m ≤ 200 → IsLeaf (remainder_leaf_of coefs m rest)
 remainder-formed coefs m rest some few low high =
-    let states_long = length-map-range_with_len (name_of m) 0 (m + 2) in
-    let inputs_long = length-map coefs (residue m) in
+    let states_long = length-map-range_with_len (remainder_state_name m) 0 (m + 2) in
+    let inputs_long = length-map coefs (residue_of m) in
     record {
       names = names-formed m high;
       some_state = omega arith;
       states = omega arith;
       move_count = (let moves = moves-few m rest high in omega arith);
-      moves = subst (λ n. All (IsMoveBelow n) (moves_of m rest)) (sym states_long) (all_moves m rest (IsMoveBelow (m + 2)) (λ p q l k. (let r = mod-lt (p + q) (let z : 0 < m = omega arith in z) in (omega arith, omega arith, omega arith, follower-below m (((p + q) % m) == rest)))) (λ p l. (omega arith, follower-below m (not (p == rest)), omega arith, follower-below m (p == rest))));
+      moves = subst (λ n. All (IsMoveBelow n) (remainder_moves m rest)) (sym states_long) (all_moves m rest (IsMoveBelow (m + 2)) (λ p q l k. (let r = mod-lt (p + q) (let z : 0 < m = omega arith in z) in (omega arith, omega arith, omega arith, follower-below m (((p + q) % m) == rest)))) (λ p l. (omega arith, follower-below m (not (p == rest)), omega arith, follower-below m (p == rest))));
       some_input = omega arith;
       input_count = omega arith;
-      inputs = subst (λ n. All (λ q. q < n) (map (residue m) coefs)) (sym states_long) (All-map (λ q. q < m + 2) (residue m) coefs (All-from_get_or (λ a. residue m a < m + 2) coefs (pos 0) (λ i l. let k = residue-below m (get_or coefs i (pos 0)) (omega arith) in omega arith)));
-      outputs = length-map-range_with_len (output_of m rest) 0 (m + 2) ∙ sym states_long;
+      inputs = subst (λ n. All (λ q. q < n) (map (residue_of m) coefs)) (sym states_long) (All-map (λ q. q < m + 2) (residue_of m) coefs (All-from_get_or (λ a. residue_of m a < m + 2) coefs (pos 0) (λ i l. let k = residue-below m (get_or coefs i (pos 0)) (omega arith) in omega arith)));
+      outputs = length-map-range_with_len (remainder_output m rest) 0 (m + 2) ∙ sym states_long;
       helper_count = omega arith;
-      helpers = All-nil (λ q. q < length (map (name_of m) (range_with_len 0 (m + 2))));
+      helpers = All-nil (λ q. q < length (map (remainder_state_name m) (range_with_len 0 (m + 2))));
     }
 
 -- the leaf as the code puts it together
-pub formed-as : (coefs : List ℤ) (m rest : ℕ) (states : List (List ℕ)) (moves : List Move) (inputs : List ℕ) (outputs : List Bool) (helpers : List ℕ) → states ≡ map (name_of m) (range_with_len 0 (m + 2)) → moves ≡ moves_of m rest → inputs ≡ map (residue m) coefs → outputs ≡ map (output_of m rest) (range_with_len 0 (m + 2)) → helpers ≡ [] → 1 ≤ length coefs → length coefs ≤ 16 → 1 ≤ m → m ≤ 200 → IsLeaf (record { states = states; moves = moves; inputs = inputs; outputs = outputs; helpers = helpers })
+pub formed-as : (coefs : List ℤ) (m rest : ℕ) (states : List (List ℕ)) (moves : List Move) (inputs : List ℕ) (outputs : List Bool) (helpers : List ℕ) → states ≡ map (remainder_state_name m) (range_with_len 0 (m + 2)) → moves ≡ remainder_moves m rest → inputs ≡ map (residue_of m) coefs → outputs ≡ map (remainder_output m rest) (range_with_len 0 (m + 2)) → helpers ≡ [] → 1 ≤ length coefs → length coefs ≤ 16 → 1 ≤ m → m ≤ 200 → IsLeaf (record { states = states; moves = moves; inputs = inputs; outputs = outputs; helpers = helpers })
 formed-as coefs m rest states moves inputs outputs helpers es em ei eo eh some few low high =
     let leaf : List (List ℕ) → List Move → List ℕ → List Bool → List ℕ → LeafModel = λ a b c d e. record { states = a; moves = b; inputs = c; outputs = d; helpers = e } in
     subst (λ a. IsLeaf (leaf a moves inputs outputs helpers)) (sym es)
-    (subst (λ b. IsLeaf (leaf (map (name_of m) (range_with_len 0 (m + 2))) b inputs outputs helpers)) (sym em)
-    (subst (λ c. IsLeaf (leaf (map (name_of m) (range_with_len 0 (m + 2))) (moves_of m rest) c outputs helpers)) (sym ei)
-    (subst (λ d. IsLeaf (leaf (map (name_of m) (range_with_len 0 (m + 2))) (moves_of m rest) (map (residue m) coefs) d helpers)) (sym eo)
-    (subst (λ e. IsLeaf (leaf (map (name_of m) (range_with_len 0 (m + 2))) (moves_of m rest) (map (residue m) coefs) (map (output_of m rest) (range_with_len 0 (m + 2))) e)) (sym eh)
+    (subst (λ b. IsLeaf (leaf (map (remainder_state_name m) (range_with_len 0 (m + 2))) b inputs outputs helpers)) (sym em)
+    (subst (λ c. IsLeaf (leaf (map (remainder_state_name m) (range_with_len 0 (m + 2))) (remainder_moves m rest) c outputs helpers)) (sym ei)
+    (subst (λ d. IsLeaf (leaf (map (remainder_state_name m) (range_with_len 0 (m + 2))) (remainder_moves m rest) (map (residue_of m) coefs) d helpers)) (sym eo)
+    (subst (λ e. IsLeaf (leaf (map (remainder_state_name m) (range_with_len 0 (m + 2))) (remainder_moves m rest) (map (residue_of m) coefs) (map (remainder_output m rest) (range_with_len 0 (m + 2))) e)) (sym eh)
     (remainder-formed coefs m rest some few low high)))))

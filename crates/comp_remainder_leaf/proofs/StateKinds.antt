@@ -1,12 +1,12 @@
 -- The states of a built leaf of `Rest`.
 use Rattle.std.proofs.Common.{◌≡◌, ◌⊎◌, inl, inr, subst, ℕ, ◌+◌, ◌<◌, ◌≤◌, Bool, true, false, arith}
 use Rattle.std.proofs.lemmas.Bool.{cases_lt}
-use Rattle.comp_remainder_leaf.specs.RemainderLeaf.{follower}
+use Rattle.comp_remainder_leaf.specs.RemainderLeaf.{remainder_follower}
 
 -- a state is a leader or a follower
 pub data Kind (m : ℕ) : ℕ → Type 0 where
   a_leader : (q : ℕ) → q < m → Kind m q
-  a_follower : (bit : Bool) → Kind m (follower m bit)
+  a_follower : (bit : Bool) → Kind m (remainder_follower m bit)
 
 pub kind_of : (m q : ℕ) → q < m + 2 → Kind m q
 kind_of m q l = first (cases_lt q m)

@@ -7,7 +7,7 @@ use Rattle.std.proofs.lemmas.Fmt.{decimal_injective, length-decimal-le}
 use Rattle.std.proofs.lemmas.Bool.{lt-ltb, le-ltb, le-leb, ne_eqb, eq-eqb}
 use Rattle.pop_io.specs.Names.{state_name, AreNames}
 use Rattle.comp_layers.proofs.StateNames.{decimal-printed, named-apart}
-use Rattle.comp_remainder_leaf.specs.RemainderLeaf.{follower, name_of}
+use Rattle.comp_remainder_leaf.specs.RemainderLeaf.{remainder_follower, remainder_state_name}
 use Rattle.comp_remainder_leaf.proofs.StateKinds.{Kind, a_leader, a_follower, kind_of}
 
 -- the name of a leader
@@ -26,14 +26,14 @@ number-name q l =
     and_all e f g = rw (e, f, g) refl
 
 -- a name begins with N, f or t, by the kind of its state
-name-leader : (m q : ℕ) → q < m → name_of m q ≡ 78 ∷ decimal q
+name-leader : (m q : ℕ) → q < m → remainder_state_name m q ≡ 78 ∷ decimal q
 name-leader m q l = rw (lt-ltb q m l) refl
 
-name-follower : (m : ℕ) (bit : Bool) → name_of m (follower m bit) ≡ (if bit then 116 else 102) ∷ []
+name-follower : (m : ℕ) (bit : Bool) → remainder_state_name m (remainder_follower m bit) ≡ (if bit then 116 else 102) ∷ []
 name-follower m true = rw (le-ltb (m + 1) m (omega arith), ne_eqb (m + 1) m (λ e. omega arith)) refl
 name-follower m false = rw (le-ltb m m (omega arith), eq-eqb m m refl) refl
 
-name-form : (m q : ℕ) → m ≤ 200 → Kind m q → IsTrue (state_name (name_of m q))
+name-form : (m q : ℕ) → m ≤ 200 → Kind m q → IsTrue (state_name (remainder_state_name m q))
 name-form m _ few (a_leader q l) = subst (λ name. IsTrue (state_name name)) (sym (name-leader m q l)) (number-name q (omega arith))
 name-form m _ few (a_follower true) = subst (λ name. IsTrue (state_name name)) (sym (name-follower m true)) refl
 name-form m _ few (a_follower false) = subst (λ name. IsTrue (state_name name)) (sym (name-follower m false)) refl
@@ -41,7 +41,7 @@ name-form m _ few (a_follower false) = subst (λ name. IsTrue (state_name name))
 heads : (x y : ℕ) (xs ys : List ℕ) → x ∷ xs ≡ y ∷ ys → x ≡ y
 heads x y xs ys e = cc
 
-name-injective : (m p q : ℕ) → m ≤ 200 → Kind m p → Kind m q → name_of m p ≡ name_of m q → p ≡ q
+name-injective : (m p q : ℕ) → m ≤ 200 → Kind m p → Kind m q → remainder_state_name m p ≡ remainder_state_name m q → p ≡ q
 name-injective m _ _ few (a_leader p l) (a_leader q k) e =
     let f : 78 ∷ decimal p ≡ 78 ∷ decimal q = sym (name-leader m p l) ∙ e ∙ name-leader m q k in
     let g : decimal p ≡ decimal q = cc in
@@ -55,6 +55,6 @@ name-injective m _ _ few (a_follower false) (a_follower false) e = refl
 name-injective m _ _ few (a_follower true) (a_follower false) e = let f : 116 ∷ [] ≡ 102 ∷ [] = sym (name-follower m true) ∙ e ∙ name-follower m false in absurd (omega (arith, heads 116 102 _ _ f))
 name-injective m _ _ few (a_follower false) (a_follower true) e = let f : 102 ∷ [] ≡ 116 ∷ [] = sym (name-follower m false) ∙ e ∙ name-follower m true in absurd (omega (arith, heads 102 116 _ _ f))
 
-pub names-formed : (m : ℕ) → m ≤ 200 → AreNames state_name (map (name_of m) (range_with_len 0 (m + 2)))
+pub names-formed : (m : ℕ) → m ≤ 200 → AreNames state_name (map (remainder_state_name m) (range_with_len 0 (m + 2)))
 names-formed m few =
-    named-apart (name_of m) (m + 2) (λ i l. name-form m i few (kind_of m i l)) (λ i j l k e. name-injective m i j few (kind_of m i l) (kind_of m j k) e)
+    named-apart (remainder_state_name m) (m + 2) (λ i l. name-form m i few (kind_of m i l)) (λ i j l k e. name-injective m i j few (kind_of m i l) (kind_of m j k) e)

@@ -5,7 +5,7 @@ ghost use Rattle.std.specs.List.{range_with_len};
 ghost use Rattle.pop_io.specs.declared.names.TheConstants.{VARIABLE_LIMIT};
 ghost use Rattle.pres_ast.specs.declared.limits.TheConstants.{MODULUS_LIMIT};
 ghost use Rattle.pop_net.specs.Reaction.{Differ};
-ghost use Rattle.comp_remainder_leaf.specs.RemainderLeaf.{residue as residue_of, state_count, output_of as output_in};
+ghost use Rattle.comp_remainder_leaf.specs.RemainderLeaf.{residue_of, remainder_state_count, remainder_output};
 ghost use Rattle.comp_remainder_leaf.specs.RemainderLeaf.{remainder_leaf_of};
 
 use crate::listing::moves;
@@ -17,7 +17,7 @@ use std::alloc::Global;
 /// What an agent in a state answers.
 pub fn output(modulus: u16, rest: u16, q: u16) -> bool
     requires { modulus ≤ MODULUS_LIMIT }
-    ensures { result ≡ output_in modulus rest q }
+    ensures { result ≡ remainder_output modulus rest q }
 {
     if q < modulus {
         q == rest
@@ -29,7 +29,8 @@ pub fn output(modulus: u16, rest: u16, q: u16) -> bool
 fn outputs(alloc: Global, modulus: u16, rest: u16) -> Result<Vec<bool>, NoMemory>
     requires { modulus ≤ MODULUS_LIMIT }
     ensures { IfOk result
-        (λ outputs. outputs.items ≡ map (output_in modulus rest) (range_with_len 0 (state_count modulus))) }
+        (λ outputs.
+        outputs.items ≡ map (remainder_output modulus rest) (range_with_len 0 (remainder_state_count modulus))) }
 {
     let outputs = (0..modulus + 2)
         .map(|q| output(modulus, rest, q))

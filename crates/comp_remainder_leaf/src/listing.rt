@@ -3,9 +3,8 @@
 ghost use Rattle.std.specs.Prelude.{◌≡◌, ◌<◌, ◌≤◌, IfOk, map};
 ghost use Rattle.std.specs.List.{range_with_len};
 ghost use Rattle.pres_ast.specs.declared.limits.TheConstants.{MODULUS_LIMIT};
-ghost use Rattle.comp_remainder_leaf.specs.RemainderLeaf.{follower as follower_in, meeting as meeting_in};
-ghost use Rattle.comp_remainder_leaf.specs.RemainderLeaf.{turn as turn_in};
-ghost use Rattle.comp_remainder_leaf.specs.RemainderLeaf.{pairs_of as pair_list, moves_of as move_list};
+ghost use Rattle.comp_remainder_leaf.specs.RemainderLeaf.{remainder_follower, leader_meeting, follower_turn};
+ghost use Rattle.comp_remainder_leaf.specs.RemainderLeaf.{remainder_pairs, remainder_moves};
 
 use pop_io::NoMemory;
 use pop_net::Move;
@@ -14,7 +13,7 @@ use std::alloc::Global;
 /// The follower with an answer.
 pub(crate) fn follower(modulus: u16, answer: bool) -> u16
     requires { modulus ≤ MODULUS_LIMIT }
-    ensures { result ≡ follower_in modulus answer }
+    ensures { result ≡ remainder_follower modulus answer }
 {
     if answer { modulus + 1 } else { modulus }
 }
@@ -24,7 +23,7 @@ fn meeting(modulus: u16, rest: u16, p: u16, q: u16) -> Move
     requires few { modulus ≤ MODULUS_LIMIT }
     requires first { p < modulus }
     requires second { q < modulus }
-    ensures { result ≡ meeting_in modulus rest p q }
+    ensures { result ≡ leader_meeting modulus rest p q }
 {
     let sum = (p + q) % modulus;
     Move {
@@ -38,7 +37,7 @@ fn meeting(modulus: u16, rest: u16, p: u16, q: u16) -> Move
 /// How a leader turns a follower.
 fn turn(modulus: u16, rest: u16, p: u16) -> Move
     requires { modulus ≤ MODULUS_LIMIT }
-    ensures { result ≡ turn_in modulus rest p }
+    ensures { result ≡ follower_turn modulus rest p }
 {
     let answer = p == rest;
     Move {
@@ -53,7 +52,7 @@ fn turn(modulus: u16, rest: u16, p: u16) -> Move
 fn pairs_of(alloc: Global, modulus: u16, rest: u16, p: u16) -> Result<Vec<Move>, NoMemory>
     requires few { modulus ≤ MODULUS_LIMIT }
     requires leader { p < modulus }
-    ensures { IfOk result (λ moves. moves.items ≡ pair_list modulus rest p) }
+    ensures { IfOk result (λ moves. moves.items ≡ remainder_pairs modulus rest p) }
 {
     let moves = (p..modulus)
         .map(|q| meeting(modulus, rest, p, q))
@@ -64,7 +63,7 @@ fn pairs_of(alloc: Global, modulus: u16, rest: u16, p: u16) -> Result<Vec<Move>,
 /// Each leader turns a follower.
 fn turns(alloc: Global, modulus: u16, rest: u16) -> Result<Vec<Move>, NoMemory>
     requires { modulus ≤ MODULUS_LIMIT }
-    ensures { IfOk result (λ moves. moves.items ≡ map (turn_in modulus rest) (range_with_len 0 modulus)) }
+    ensures { IfOk result (λ moves. moves.items ≡ map (follower_turn modulus rest) (range_with_len 0 modulus)) }
 {
     let moves = (0..modulus).map(|p| turn(modulus, rest, p)).collect(alloc)?;
     Ok(moves)
@@ -73,7 +72,7 @@ fn turns(alloc: Global, modulus: u16, rest: u16) -> Result<Vec<Move>, NoMemory>
 /// Each leader meets each leader from itself on; then each leader turns a follower.
 pub(crate) fn moves(alloc: Global, modulus: u16, rest: u16) -> Result<Vec<Move>, NoMemory>
     requires { modulus ≤ MODULUS_LIMIT }
-    ensures { IfOk result (λ moves. moves.items ≡ move_list modulus rest) }
+    ensures { IfOk result (λ moves. moves.items ≡ remainder_moves modulus rest) }
 {
     let mut moves = Vec::new(alloc);
     for p in 0..modulus {

@@ -3,14 +3,14 @@
 ghost use Rattle.std.specs.Prelude.{◌≡◌, ◌≤◌, map, IfOk};
 ghost use Rattle.std.specs.List.{range_with_len};
 ghost use Rattle.pres_ast.specs.declared.limits.TheConstants.{MODULUS_LIMIT};
-ghost use Rattle.comp_remainder_leaf.specs.RemainderLeaf.{state_count, name_of as name_bytes};
+ghost use Rattle.comp_remainder_leaf.specs.RemainderLeaf.{remainder_state_count, remainder_state_name};
 
 use pop_io::{List, NoMemory, Text};
 use std::alloc::Global;
 
 /// `N` and the number for a leader, `f` or `t` for a follower.
 fn name_of(alloc: Global, modulus: u16, q: u16) -> Result<Text, NoMemory>
-    ensures { IfOk result (λ name. name ≡ name_bytes modulus q) }
+    ensures { IfOk result (λ name. name ≡ remainder_state_name modulus q) }
 {
     let text = if q < modulus {
         format!(in alloc; "N{q}")?
@@ -25,7 +25,8 @@ fn name_of(alloc: Global, modulus: u16, q: u16) -> Result<Text, NoMemory>
 /// The names of all states.
 pub(crate) fn names(alloc: Global, modulus: u16) -> Result<List<Text>, NoMemory>
     requires { modulus ≤ MODULUS_LIMIT }
-    ensures { IfOk result (λ names. names ≡ map (name_bytes modulus) (range_with_len 0 (state_count modulus))) }
+    ensures { IfOk result (λ names.
+        names ≡ map (remainder_state_name modulus) (range_with_len 0 (remainder_state_count modulus))) }
 {
     let mut names = Vec::new(alloc);
     for q in 0..modulus + 2 {

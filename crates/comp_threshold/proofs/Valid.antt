@@ -12,7 +12,7 @@ use Rattle.std.proofs.lemmas.List.FromFn.{length-map-range_with_len}
 use Rattle.pop_net.specs.Reaction.{Differ}
 use Rattle.cert_base.specs.ProofLimits.{IsLeafProofWithin}
 use Rattle.cert_base.specs.ValidProof.{ValidLeafProof}
-use Rattle.comp_threshold_leaf.specs.ThresholdLeaf.{threshold_width, place_of_value, state_count, name_of, output_of, threshold_leaf}
+use Rattle.comp_threshold_leaf.specs.ThresholdLeaf.{threshold_width, place_of_value, threshold_state_count, threshold_state_name, threshold_output, threshold_leaf_of}
 use Rattle.comp_threshold.specs.ThresholdProof.{threshold_part, threshold_layers, threshold_tree}
 use Rattle.comp_threshold.specs.Built.{IsThreshold}
 use Rattle.comp_threshold.proofs.Trees.{tree-true, tree-false}
@@ -22,7 +22,7 @@ use Rattle.comp_threshold.proofs.Within.{threshold-within}
 use Rattle.pop_io.specs.declared.names.TheConstants.{VARIABLE_LIMIT}
 use Rattle.comp_threshold_leaf.specs.declared.limits.TheConstants.{WIDTH_LIMIT}
 
-pub threshold-valid : (coefs : List ℤ) (bound : ℤ) → 1 ≤ length coefs → length coefs ≤ VARIABLE_LIMIT → threshold_width coefs bound ≤ WIDTH_LIMIT → ValidLeafProof (threshold_leaf coefs bound) (threshold_part coefs bound)
+pub threshold-valid : (coefs : List ℤ) (bound : ℤ) → 1 ≤ length coefs → length coefs ≤ VARIABLE_LIMIT → threshold_width coefs bound ≤ WIDTH_LIMIT → ValidLeafProof (threshold_leaf_of coefs bound) (threshold_part coefs bound)
 threshold-valid coefs bound some few narrow =
     let formed = threshold-formed coefs bound some few narrow in
     let facts = threshold-few coefs bound few narrow in
@@ -33,26 +33,26 @@ threshold-valid coefs bound some few narrow =
     }
 
 -- the outputs as the code sees them
-pub outputs-are : (coefs : List ℤ) (bound : ℤ) (s t : ℕ) (leaf : LeafModel) → s ≡ threshold_width coefs bound → t ≡ place_of_value s bound → leaf ≡ threshold_leaf coefs bound → leaf.outputs ≡ map (output_of s t) (range_with_len 0 (state_count s))
+pub outputs-are : (coefs : List ℤ) (bound : ℤ) (s t : ℕ) (leaf : LeafModel) → s ≡ threshold_width coefs bound → t ≡ place_of_value s bound → leaf ≡ threshold_leaf_of coefs bound → leaf.outputs ≡ map (threshold_output s t) (range_with_len 0 (threshold_state_count s))
 outputs-are coefs bound s t leaf es et el = ap (λ (l : LeafModel). l.outputs) (el ∙ sym (built-is coefs bound s t es et))
 
-pub states-are : (coefs : List ℤ) (bound : ℤ) (s : ℕ) (leaf : LeafModel) → s ≡ threshold_width coefs bound → leaf ≡ threshold_leaf coefs bound → length leaf.states ≡ state_count s
+pub states-are : (coefs : List ℤ) (bound : ℤ) (s : ℕ) (leaf : LeafModel) → s ≡ threshold_width coefs bound → leaf ≡ threshold_leaf_of coefs bound → length leaf.states ≡ threshold_state_count s
 states-are coefs bound s leaf es el =
-    ap (λ (l : LeafModel). length l.states) el ∙ length-map-range_with_len (name_of (threshold_width coefs bound)) 0 (state_count (threshold_width coefs bound)) ∙ ap state_count (sym es)
+    ap (λ (l : LeafModel). length l.states) el ∙ length-map-range_with_len (threshold_state_name (threshold_width coefs bound)) 0 (threshold_state_count (threshold_width coefs bound)) ∙ ap threshold_state_count (sym es)
 
 -- the leaf and the proof as the code puts them together
-pub whole-valid : (coefs : List ℤ) (bound : ℤ) (s t : ℕ) (leaf : LeafModel) (pred : PredModel) (layers : List Layer) (on_true on_false : List Node) → s ≡ threshold_width coefs bound → t ≡ place_of_value s bound → leaf ≡ threshold_leaf coefs bound → AllPairs Differ leaf.moves → pred ≡ record { variables = length coefs; tree = LessThan coefs bound } → layers ≡ threshold_layers leaf s → on_true ≡ threshold_tree leaf s t true → on_false ≡ threshold_tree leaf s t false → 1 ≤ length coefs → length coefs ≤ VARIABLE_LIMIT → s ≤ WIDTH_LIMIT → IsThreshold coefs bound leaf (record { pred = pred; layers = layers; on_true = on_true; on_false = on_false })
+pub whole-valid : (coefs : List ℤ) (bound : ℤ) (s t : ℕ) (leaf : LeafModel) (pred : PredModel) (layers : List Layer) (on_true on_false : List Node) → s ≡ threshold_width coefs bound → t ≡ place_of_value s bound → leaf ≡ threshold_leaf_of coefs bound → AllPairs Differ leaf.moves → pred ≡ record { variables = length coefs; tree = LessThan coefs bound } → layers ≡ threshold_layers leaf s → on_true ≡ threshold_tree leaf s t true → on_false ≡ threshold_tree leaf s t false → 1 ≤ length coefs → length coefs ≤ VARIABLE_LIMIT → s ≤ WIDTH_LIMIT → IsThreshold coefs bound leaf (record { pred = pred; layers = layers; on_true = on_true; on_false = on_false })
 whole-valid coefs bound s t leaf pred layers on_true on_false es et el single ep ey ea eb some few narrow =
     let place_is : t ≡ place_of_value (threshold_width coefs bound) bound = et ∙ ap (λ k. place_of_value k bound) es in
-    let layers_is : layers ≡ threshold_layers (threshold_leaf coefs bound) (threshold_width coefs bound) = ey ∙ ap (λ l. threshold_layers l s) el ∙ ap (threshold_layers (threshold_leaf coefs bound)) es in
-    let tree_is : (b : Bool) → threshold_tree leaf s t b ≡ threshold_tree (threshold_leaf coefs bound) (threshold_width coefs bound) (place_of_value (threshold_width coefs bound) bound) b = λ b. ap (λ l. threshold_tree l s t b) el ∙ ap (λ k. threshold_tree (threshold_leaf coefs bound) k t b) es ∙ ap (λ k. threshold_tree (threshold_leaf coefs bound) (threshold_width coefs bound) k b) place_is in
+    let layers_is : layers ≡ threshold_layers (threshold_leaf_of coefs bound) (threshold_width coefs bound) = ey ∙ ap (λ l. threshold_layers l s) el ∙ ap (threshold_layers (threshold_leaf_of coefs bound)) es in
+    let tree_is : (b : Bool) → threshold_tree leaf s t b ≡ threshold_tree (threshold_leaf_of coefs bound) (threshold_width coefs bound) (place_of_value (threshold_width coefs bound) bound) b = λ b. ap (λ l. threshold_tree l s t b) el ∙ ap (λ k. threshold_tree (threshold_leaf_of coefs bound) k t b) es ∙ ap (λ k. threshold_tree (threshold_leaf_of coefs bound) (threshold_width coefs bound) k b) place_is in
     let part : PredModel → List Layer → List Node → List Node → LeafProof = λ p y a b. record { pred = p; layers = y; on_true = a; on_false = b } in
-    let part_is : part pred layers on_true on_false ≡ threshold_part coefs bound = ap (λ p. part p layers on_true on_false) ep ∙ ap (λ y. part (record { variables = length coefs; tree = LessThan coefs bound }) y on_true on_false) layers_is ∙ ap (λ a. part (record { variables = length coefs; tree = LessThan coefs bound }) (threshold_layers (threshold_leaf coefs bound) (threshold_width coefs bound)) a on_false) (ea ∙ tree_is true) ∙ ap (λ b. part (record { variables = length coefs; tree = LessThan coefs bound }) (threshold_layers (threshold_leaf coefs bound) (threshold_width coefs bound)) (threshold_tree (threshold_leaf coefs bound) (threshold_width coefs bound) (place_of_value (threshold_width coefs bound) bound) true) b) (eb ∙ tree_is false) in
+    let part_is : part pred layers on_true on_false ≡ threshold_part coefs bound = ap (λ p. part p layers on_true on_false) ep ∙ ap (λ y. part (record { variables = length coefs; tree = LessThan coefs bound }) y on_true on_false) layers_is ∙ ap (λ a. part (record { variables = length coefs; tree = LessThan coefs bound }) (threshold_layers (threshold_leaf_of coefs bound) (threshold_width coefs bound)) a on_false) (ea ∙ tree_is true) ∙ ap (λ b. part (record { variables = length coefs; tree = LessThan coefs bound }) (threshold_layers (threshold_leaf_of coefs bound) (threshold_width coefs bound)) (threshold_tree (threshold_leaf_of coefs bound) (threshold_width coefs bound) (place_of_value (threshold_width coefs bound) bound) true) b) (eb ∙ tree_is false) in
     let w : threshold_width coefs bound ≤ WIDTH_LIMIT = subst (λ k. k ≤ WIDTH_LIMIT) es narrow in
     record {
       leaf_is = el;
       pred_is = ep;
-      valid = subst (λ l. ValidLeafProof l (part pred layers on_true on_false)) (sym el) (subst (ValidLeafProof (threshold_leaf coefs bound)) (sym part_is) (threshold-valid coefs bound some few w));
+      valid = subst (λ l. ValidLeafProof l (part pred layers on_true on_false)) (sym el) (subst (ValidLeafProof (threshold_leaf_of coefs bound)) (sym part_is) (threshold-valid coefs bound some few w));
       within = subst (IsLeafProofWithin (length coefs)) (sym part_is) (threshold-within coefs bound some few w);
       single = single;
     }

@@ -6,14 +6,14 @@ use Rattle.pres_ast.specs.PredTree.{LessThan}
 use Rattle.cert_base.specs.declared.proof.LeafProof.{LeafProof}
 use Rattle.cert_base.specs.ValidProof.{ValidLeafProof}
 use Rattle.cert_base.specs.ProofLimits.{IsLeafProofWithin}
-use Rattle.comp_threshold_leaf.specs.ThresholdLeaf.{threshold_width, threshold_leaf}
+use Rattle.comp_threshold_leaf.specs.ThresholdLeaf.{threshold_width, threshold_leaf_of}
 use Rattle.comp_threshold_leaf.specs.declared.limits.TheConstants.{WIDTH_LIMIT}
 use Rattle.comp_threshold.specs.declared.fault.ThresholdFault.{ThresholdFault}
 use Rattle.comp_threshold.specs.declared.fault.ThresholdFault.TheVariants.{TooWide, NoMemory}
 
 -- a leaf and its proof are those of `Less`
 pub record IsThreshold (coefs : List ℤ) (bound : ℤ) (leaf : LeafModel) (part : LeafProof) : Type 0 where
-  pub leaf_is : leaf ≡ threshold_leaf coefs bound
+  pub leaf_is : leaf ≡ threshold_leaf_of coefs bound
   pub pred_is : part.pred ≡ record { variables = length coefs; tree = LessThan coefs bound }
   pub valid : ValidLeafProof leaf part
   pub within : IsLeafProofWithin (length coefs) part

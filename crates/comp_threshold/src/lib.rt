@@ -1,6 +1,6 @@
 //! A leaf that computes a threshold, and its proof.
 //! It stands on `comp_threshold_leaf`, `comp_trees` and `comp_layers`.
-//! The layer above uses: `threshold` gives exactly the built leaf, and a proof that is valid for it and within the limits.
+//! The layer above uses: `threshold` gives exactly the built leaf, and a proof valid for it and within the limits.
 //!
 //! *It ends.* First leaders meet, and leaders take from followers: one leader fewer, or the follower comes closer to
 //! 0. Then leaders turn followers to true, then to false; a turned follower wakes no earlier layer, for another

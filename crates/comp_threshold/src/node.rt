@@ -3,11 +3,10 @@
 ghost use Rattle.std.specs.Prelude.{◌≡◌, ◌<◌, ◌≤◌, ℕ, List, map, neg_ℤ, pos, length, IfOk};
 ghost use Rattle.std.specs.List.{range_with_len};
 ghost use Rattle.cert_base.specs.FactsAndCases.{states_of, indicator, differs};
-ghost use Rattle.comp_threshold_leaf.specs.ThresholdLeaf.{span_of, state_count, output_of, built};
+ghost use Rattle.comp_threshold_leaf.specs.ThresholdLeaf.{span_of, threshold_state_count, threshold_output, built};
 ghost use Rattle.comp_threshold_leaf.specs.declared.limits.TheConstants.{WIDTH_LIMIT};
-ghost use Rattle.comp_threshold.specs.ThresholdProof.{signed_value, leader_node as node_of, wrong_sign};
-ghost use Rattle.comp_threshold.specs.ThresholdProof.{value_node as value_node_of, wrong_node as wrong_node_of};
-ghost use Rattle.comp_threshold.specs.ThresholdProof.{threshold_tree};
+ghost use Rattle.comp_threshold.specs.ThresholdProof.{signed_value, threshold_leader_node, wrong_sign};
+ghost use Rattle.comp_threshold.specs.ThresholdProof.{threshold_value_node, threshold_wrong_node, threshold_tree};
 
 use cert_base::Node;
 use comp_threshold_leaf::{output, place_in, span};
@@ -28,7 +27,8 @@ fn signed(s: u16, b: bool, q: u16) -> i64
 /// The values of all states.
 fn values(alloc: Global, s: u16, b: bool) -> Result<Vec<i64>, NoMemory>
     requires { s ≤ WIDTH_LIMIT }
-    ensures { IfOk result (λ values. values.items ≡ map (signed_value b s) (range_with_len 0 (state_count s))) }
+    ensures { IfOk result (λ values.
+        values.items ≡ map (signed_value b s) (range_with_len 0 (threshold_state_count s))) }
 {
     let values = (0..3 * span(s)).map(|q| signed(s, b, q)).collect(alloc)?;
     Ok(values)
@@ -44,7 +44,7 @@ fn sign(s: u16, t: u16, b: bool, q: u16) -> i64
 
 fn signs(alloc: Global, s: u16, t: u16, b: bool) -> Result<Vec<i64>, NoMemory>
     requires { s ≤ WIDTH_LIMIT }
-    ensures { IfOk result (λ signs. signs.items ≡ map (wrong_sign s t b) (range_with_len 0 (state_count s))) }
+    ensures { IfOk result (λ signs. signs.items ≡ map (wrong_sign s t b) (range_with_len 0 (threshold_state_count s))) }
 {
     let signs = (0..3 * span(s)).map(|q| sign(s, t, b, q)).collect(alloc)?;
     Ok(signs)
@@ -54,8 +54,8 @@ fn signs(alloc: Global, s: u16, t: u16, b: bool) -> Result<Vec<i64>, NoMemory>
 fn value_node(alloc: Global, leaf: &Leaf, s: u16, b: bool, p: u16) -> Result<Node, NoMemory>
     requires narrow { s ≤ WIDTH_LIMIT }
     requires leader { p < span_of s }
-    requires states { length leaf.now.states ≡ state_count s }
-    ensures { IfOk result (λ node. node ≡ value_node_of leaf.now s b p) }
+    requires states { length leaf.now.states ≡ threshold_state_count s }
+    ensures { IfOk result (λ node. node ≡ threshold_value_node leaf.now s b p) }
 {
     let values = values(alloc, s, b)?;
     let alone = signed(s, b, p);
@@ -76,9 +76,9 @@ fn value_node(alloc: Global, leaf: &Leaf, s: u16, b: bool, p: u16) -> Result<Nod
 fn wrong_node(alloc: Global, leaf: &Leaf, s: u16, t: u16, b: bool, p: u16) -> Result<Node, NoMemory>
     requires narrow { s ≤ WIDTH_LIMIT }
     requires leader { p < span_of s }
-    requires states { length leaf.now.states ≡ state_count s }
-    requires outputs { leaf.now.outputs ≡ map (output_of s t) (range_with_len 0 (state_count s)) }
-    ensures { IfOk result (λ node. node ≡ wrong_node_of leaf.now b p) }
+    requires states { length leaf.now.states ≡ threshold_state_count s }
+    requires outputs { leaf.now.outputs ≡ map (threshold_output s t) (range_with_len 0 (threshold_state_count s)) }
+    ensures { IfOk result (λ node. node ≡ threshold_wrong_node leaf.now b p) }
 {
     let none = vec![in alloc; 0i64; usize::from(3 * span(s))]?;
     let signs = signs(alloc, s, t, b)?;
@@ -96,9 +96,9 @@ fn leader_node(
 ) -> Result<Node, NoMemory>
     requires narrow { s ≤ WIDTH_LIMIT }
     requires leader { p < span_of s }
-    requires states { length leaf.now.states ≡ state_count s }
-    requires outputs { leaf.now.outputs ≡ map (output_of s t) (range_with_len 0 (state_count s)) }
-    ensures { IfOk result (λ node. node ≡ node_of leaf.now s t b p) }
+    requires states { length leaf.now.states ≡ threshold_state_count s }
+    requires outputs { leaf.now.outputs ≡ map (threshold_output s t) (range_with_len 0 (threshold_state_count s)) }
+    ensures { IfOk result (λ node. node ≡ threshold_leader_node leaf.now s t b p) }
 {
     if output(s, t, p) == b {
         wrong_node(alloc, leaf, s, t, b, p)
@@ -110,9 +110,10 @@ fn leader_node(
 /// The nodes of all leaders, in order.
 fn ends(alloc: Global, leaf: &Leaf, s: u16, t: u16, b: bool) -> Result<Vec<Node>, NoMemory>
     requires narrow { s ≤ WIDTH_LIMIT }
-    requires states { length leaf.now.states ≡ state_count s }
-    requires outputs { leaf.now.outputs ≡ map (output_of s t) (range_with_len 0 (state_count s)) }
-    ensures { IfOk result (λ nodes. nodes.items ≡ map (node_of leaf.now s t b) (range_with_len 0 (span_of s))) }
+    requires states { length leaf.now.states ≡ threshold_state_count s }
+    requires outputs { leaf.now.outputs ≡ map (threshold_output s t) (range_with_len 0 (threshold_state_count s)) }
+    ensures { IfOk result (λ nodes.
+        nodes.items ≡ map (threshold_leader_node leaf.now s t b) (range_with_len 0 (span_of s))) }
 {
     let mut nodes = Vec::new(alloc);
     for p in 0..span(s) {
@@ -130,8 +131,8 @@ pub(crate) fn leaf_tree(
     b: bool,
 ) -> Result<List<Node>, NoMemory>
     requires narrow { s ≤ WIDTH_LIMIT }
-    requires states { length leaf.now.states ≡ state_count s }
-    requires outputs { leaf.now.outputs ≡ map (output_of s t) (range_with_len 0 (state_count s)) }
+    requires states { length leaf.now.states ≡ threshold_state_count s }
+    requires outputs { leaf.now.outputs ≡ map (threshold_output s t) (range_with_len 0 (threshold_state_count s)) }
     ensures { IfOk result (λ nodes. nodes ≡ threshold_tree leaf.now s t b) }
 {
     let nodes = ends(alloc, leaf, s, t, b)?;

@@ -2,10 +2,10 @@
 
 ghost use Rattle.std.specs.Prelude.{◌≡◌, ◌≤◌, map, length, IfOk};
 ghost use Rattle.std.specs.List.{range_with_len};
-ghost use Rattle.comp_threshold_leaf.specs.ThresholdLeaf.{state_count};
+ghost use Rattle.comp_threshold_leaf.specs.ThresholdLeaf.{threshold_state_count};
 ghost use Rattle.comp_threshold_leaf.specs.declared.limits.TheConstants.{WIDTH_LIMIT};
-ghost use Rattle.comp_threshold.specs.ThresholdProof.{distance as distance_of, first_weight as first_of};
-ghost use Rattle.comp_threshold.specs.ThresholdProof.{false_weight as false_of, true_weight as true_of, weights_by};
+ghost use Rattle.comp_threshold.specs.ThresholdProof.{threshold_distance, threshold_first_weight};
+ghost use Rattle.comp_threshold.specs.ThresholdProof.{threshold_false_weight, threshold_true_weight, threshold_weights};
 ghost use Rattle.comp_threshold.specs.ThresholdProof.{threshold_layers};
 
 use cert_base::Layer;
@@ -16,14 +16,14 @@ use pop_net::Leaf;
 use std::alloc::Global;
 
 fn distance(a: u16, b: u16) -> u16
-    ensures { result ≡ distance_of a b }
+    ensures { result ≡ threshold_distance a b }
 {
     if a < b { b - a } else { a - b }
 }
 
 fn first_weight(s: u16, q: u16) -> i64
     requires { s ≤ WIDTH_LIMIT }
-    ensures { result ≡ first_of s q }
+    ensures { result ≡ threshold_first_weight s q }
 {
     if q < span(s) {
         i64::from(s) + 1
@@ -34,7 +34,7 @@ fn first_weight(s: u16, q: u16) -> i64
 
 fn false_weight(s: u16, q: u16) -> i64
     requires { s ≤ WIDTH_LIMIT }
-    ensures { result ≡ false_of s q }
+    ensures { result ≡ threshold_false_weight s q }
 {
     let n = span(s);
     if q < n {
@@ -48,7 +48,7 @@ fn false_weight(s: u16, q: u16) -> i64
 
 fn true_weight(s: u16, q: u16) -> i64
     requires { s ≤ WIDTH_LIMIT }
-    ensures { result ≡ true_of s q }
+    ensures { result ≡ threshold_true_weight s q }
 {
     let n = span(s);
     if q < n + n { 0 } else { 1 }
@@ -56,7 +56,7 @@ fn true_weight(s: u16, q: u16) -> i64
 
 fn first_weights(alloc: Global, s: u16) -> Result<Vec<i64>, NoMemory>
     requires { s ≤ WIDTH_LIMIT }
-    ensures { IfOk result (λ weights. weights.items ≡ weights_by s (first_of s)) }
+    ensures { IfOk result (λ weights. weights.items ≡ threshold_weights s (threshold_first_weight s)) }
 {
     let weights = (0..3 * span(s)).map(|q| first_weight(s, q)).collect(alloc)?;
     Ok(weights)
@@ -64,7 +64,7 @@ fn first_weights(alloc: Global, s: u16) -> Result<Vec<i64>, NoMemory>
 
 fn false_weights(alloc: Global, s: u16) -> Result<Vec<i64>, NoMemory>
     requires { s ≤ WIDTH_LIMIT }
-    ensures { IfOk result (λ weights. weights.items ≡ weights_by s (false_of s)) }
+    ensures { IfOk result (λ weights. weights.items ≡ threshold_weights s (threshold_false_weight s)) }
 {
     let weights = (0..3 * span(s)).map(|q| false_weight(s, q)).collect(alloc)?;
     Ok(weights)
@@ -72,7 +72,7 @@ fn false_weights(alloc: Global, s: u16) -> Result<Vec<i64>, NoMemory>
 
 fn true_weights(alloc: Global, s: u16) -> Result<Vec<i64>, NoMemory>
     requires { s ≤ WIDTH_LIMIT }
-    ensures { IfOk result (λ weights. weights.items ≡ weights_by s (true_of s)) }
+    ensures { IfOk result (λ weights. weights.items ≡ threshold_weights s (threshold_true_weight s)) }
 {
     let weights = (0..3 * span(s)).map(|q| true_weight(s, q)).collect(alloc)?;
     Ok(weights)

@@ -3,7 +3,7 @@ use Rattle.std.proofs.Common.{◌≡◌, ◌⊎◌, inl, inr, subst, ℕ, zero, 
 use Rattle.std.specs.Prelude.{ℤ, pos, negsuc, ◌+ℤ◌, ◌≤ℤ◌, nat_lt, nat_abs, fold}
 use Rattle.std.proofs.lemmas.Int.{ints}
 use Rattle.std.proofs.lemmas.Bool.{lt-ltb, le-ltb, cases_lt}
-use Rattle.comp_threshold_leaf.specs.ThresholdLeaf.{greater, smaller, threshold_width, span_of, place_of_value, place_in, follower, joined_value, leftover, output_of, value_of}
+use Rattle.comp_threshold_leaf.specs.ThresholdLeaf.{greater, smaller, threshold_width, span_of, place_of_value, threshold_place, threshold_follower, joined_value, leftover, threshold_output, threshold_value}
 
 -- ---- the smaller one
 
@@ -40,37 +40,37 @@ cut s u v l m = go (joined_value s u v) (smaller_is (s + s) (u + v - s))
 
 -- ---- states and places
 
-pub place-leader : (s q : ℕ) → q < span_of s → place_in s q ≡ q
+pub place-leader : (s q : ℕ) → q < span_of s → threshold_place s q ≡ q
 place-leader s q l = rw (lt-ltb q (span_of s) l) refl
 
-pub place-false : (s v : ℕ) → v < span_of s → place_in s (span_of s + v) ≡ v
+pub place-false : (s v : ℕ) → v < span_of s → threshold_place s (span_of s + v) ≡ v
 place-false s v l =
     let first = le-ltb (span_of s + v) (span_of s) (omega arith) in
     let second = lt-ltb (span_of s + v) (span_of s + span_of s) (omega arith) in
     rw (first, second) (omega arith)
 
-pub place-true : (s v : ℕ) → place_in s (span_of s + span_of s + v) ≡ v
+pub place-true : (s v : ℕ) → threshold_place s (span_of s + span_of s + v) ≡ v
 place-true s v =
     let first = le-ltb (span_of s + span_of s + v) (span_of s) (omega arith) in
     let second = le-ltb (span_of s + span_of s + v) (span_of s + span_of s) (omega arith) in
     rw (first, second) (omega arith)
 
-pub place-follower : (s v : ℕ) (bit : Bool) → v < span_of s → place_in s (follower s bit v) ≡ v
+pub place-follower : (s v : ℕ) (bit : Bool) → v < span_of s → threshold_place s (threshold_follower s bit v) ≡ v
 place-follower s v true l = place-true s v
 place-follower s v false l = place-false s v l
 
-pub follower-above : (s v : ℕ) (bit : Bool) → span_of s ≤ follower s bit v
+pub follower-above : (s v : ℕ) (bit : Bool) → span_of s ≤ threshold_follower s bit v
 follower-above s v true = omega arith
 follower-above s v false = omega arith
 
-pub follower-below : (s v : ℕ) (bit : Bool) → v < span_of s → follower s bit v < span_of s + span_of s + span_of s
+pub follower-below : (s v : ℕ) (bit : Bool) → v < span_of s → threshold_follower s bit v < span_of s + span_of s + span_of s
 follower-below s v true l = omega arith
 follower-below s v false l = omega arith
 
 -- a state is a leader or a follower
 pub data Kind (s : ℕ) : ℕ → Type 0 where
   a_leader : (q : ℕ) → q < span_of s → Kind s q
-  a_follower : (bit : Bool) (v : ℕ) → v < span_of s → Kind s (follower s bit v)
+  a_follower : (bit : Bool) (v : ℕ) → v < span_of s → Kind s (threshold_follower s bit v)
 
 pub kind_of : (s q : ℕ) → q < span_of s + span_of s + span_of s → Kind s q
 kind_of s q l = first (cases_lt q (span_of s))
@@ -83,14 +83,14 @@ kind_of s q l = first (cases_lt q (span_of s))
     first (inl m) = a_leader q m
     first (inr m) = second (cases_lt q (span_of s + span_of s)) m
 
-pub place-below : (s q : ℕ) → Kind s q → place_in s q < span_of s
+pub place-below : (s q : ℕ) → Kind s q → threshold_place s q < span_of s
 place-below s _ (a_leader q l) = rw (place-leader s q l) l
 place-below s _ (a_follower bit v l) = rw (place-follower s v bit l) l
 
-pub output-leader : (s t p : ℕ) → p < span_of s → output_of s t p ≡ nat_lt p t
+pub output-leader : (s t p : ℕ) → p < span_of s → threshold_output s t p ≡ nat_lt p t
 output-leader s t p l = rw (lt-ltb p (span_of s) l) refl
 
-pub output-follower : (s t v : ℕ) (bit : Bool) → v < span_of s → output_of s t (follower s bit v) ≡ bit
+pub output-follower : (s t v : ℕ) (bit : Bool) → v < span_of s → threshold_output s t (threshold_follower s bit v) ≡ bit
 output-follower s t v true l =
     let first = le-ltb (span_of s + span_of s + v) (span_of s) (omega arith) in
     let second = le-ltb (span_of s + span_of s + v) (span_of s + span_of s) (omega arith) in
@@ -114,7 +114,7 @@ pub place-most : (s : ℕ) (u : ℤ) → nat_abs u ≤ s → place_of_value s u 
 place-most s (pos u) l = let e = place-within s (pos u) l in omega (arith, ints, e)
 place-most s (negsuc u) l = let e = place-within s (negsuc u) l in omega (arith, ints, e)
 
-pub value-place : (s : ℕ) (u : ℤ) → nat_abs u ≤ s → value_of s (place_of_value s u) ≡ u
+pub value-place : (s : ℕ) (u : ℤ) → nat_abs u ≤ s → threshold_value s (place_of_value s u) ≡ u
 value-place s u l =
     let e = place-within s u l in
     let f = place-leader s (place_of_value s u) (place-most s u l) in

@@ -27,16 +27,16 @@ abbrev pub place_of_value : ℕ → ℤ → ℕ
 place_of_value s u = nat_abs (u +ℤ pos s)
 
 -- the place of a state's value
-abbrev pub place_in : ℕ → ℕ → ℕ
-place_in s q = if nat_lt q (span_of s) then q else (if nat_lt q (span_of s + span_of s) then q - span_of s else q - (span_of s + span_of s))
+abbrev pub threshold_place : ℕ → ℕ → ℕ
+threshold_place s q = if nat_lt q (span_of s) then q else (if nat_lt q (span_of s + span_of s) then q - span_of s else q - (span_of s + span_of s))
 
 -- the value of a state
-abbrev pub value_of : ℕ → ℕ → ℤ
-value_of s q = pos (place_in s q) -ℤ pos s
+abbrev pub threshold_value : ℕ → ℕ → ℤ
+threshold_value s q = pos (threshold_place s q) -ℤ pos s
 
 -- the state F(bit,v), for the place of v
-abbrev pub follower : ℕ → Bool → ℕ → ℕ
-follower s bit v = if bit then span_of s + span_of s + v else span_of s + v
+abbrev pub threshold_follower : ℕ → Bool → ℕ → ℕ
+threshold_follower s bit v = if bit then span_of s + span_of s + v else span_of s + v
 
 -- the sum of two values, cut to the range, and what is left of it, as places
 abbrev pub joined_value : ℕ → ℕ → ℕ → ℕ
@@ -46,52 +46,52 @@ abbrev pub leftover : ℕ → ℕ → ℕ → ℕ
 leftover s u v = u + v - joined_value s u v
 
 -- what a leader makes of a state; the bound stands at place t
-abbrev pub leader_move : (s t p q : ℕ) → Move
-leader_move s t p q =
+abbrev pub threshold_leader_move : (s t p q : ℕ) → Move
+threshold_leader_move s t p q =
     record {
       p = p;
       q = q;
-      r = joined_value s p (place_in s q);
-      s = follower s (nat_lt (joined_value s p (place_in s q)) t) (leftover s p (place_in s q));
+      r = joined_value s p (threshold_place s q);
+      s = threshold_follower s (nat_lt (joined_value s p (threshold_place s q)) t) (leftover s p (threshold_place s q));
     }
 
 -- whether a state changes
-abbrev pub alters : Move → Bool
-alters m = not ((m.r == m.p) && (m.s == m.q))
+abbrev pub alters_states : Move → Bool
+alters_states m = not ((m.r == m.p) && (m.s == m.q))
 
-abbrev pub pairs_of : (s t p : ℕ) → List Move
-pairs_of s t p = map (leader_move s t p) (range_with_len p (span_of s - p))
+abbrev pub threshold_pairs : (s t p : ℕ) → List Move
+threshold_pairs s t p = map (threshold_leader_move s t p) (range_with_len p (span_of s - p))
 
-abbrev pub turns_of : (s t p : ℕ) → List Move
-turns_of s t p = filter alters (map (leader_move s t p) (range_with_len (span_of s) (span_of s + span_of s)))
+abbrev pub threshold_turns : (s t p : ℕ) → List Move
+threshold_turns s t p = filter alters_states (map (threshold_leader_move s t p) (range_with_len (span_of s) (span_of s + span_of s)))
 
-abbrev pub moves_of : (s t : ℕ) → List Move
-moves_of s t =
-    flat_map (pairs_of s t) (range_with_len 0 (span_of s)) ++ flat_map (turns_of s t) (range_with_len 0 (span_of s))
+abbrev pub threshold_moves : (s t : ℕ) → List Move
+threshold_moves s t =
+    flat_map (threshold_pairs s t) (range_with_len 0 (span_of s)) ++ flat_map (threshold_turns s t) (range_with_len 0 (span_of s))
 
-abbrev pub state_count : ℕ → ℕ
-state_count s = span_of s + span_of s + span_of s
+abbrev pub threshold_state_count : ℕ → ℕ
+threshold_state_count s = span_of s + span_of s + span_of s
 
 -- `L`, `f` or `t`, and the value
 abbrev pub letter : ℕ → ℕ → ℕ
 letter s q = if nat_lt q (span_of s) then 76 else (if nat_lt q (span_of s + span_of s) then 102 else 116)
 
-abbrev pub name_of : ℕ → ℕ → List ℕ
-name_of s q = letter s q ∷ signed_decimal (value_of s q)
+abbrev pub threshold_state_name : ℕ → ℕ → List ℕ
+threshold_state_name s q = letter s q ∷ signed_decimal (threshold_value s q)
 
-abbrev pub output_of : (s t q : ℕ) → Bool
-output_of s t q = if nat_lt q (span_of s) then nat_lt q t else not (nat_lt q (span_of s + span_of s))
+abbrev pub threshold_output : (s t q : ℕ) → Bool
+threshold_output s t q = if nat_lt q (span_of s) then nat_lt q t else not (nat_lt q (span_of s + span_of s))
 
 abbrev pub built : (s t : ℕ) → List ℕ → LeafModel
 built s t inputs =
     record {
-      states = map (name_of s) (range_with_len 0 (state_count s));
-      moves = moves_of s t;
+      states = map (threshold_state_name s) (range_with_len 0 (threshold_state_count s));
+      moves = threshold_moves s t;
       inputs = inputs;
-      outputs = map (output_of s t) (range_with_len 0 (state_count s));
+      outputs = map (threshold_output s t) (range_with_len 0 (threshold_state_count s));
       helpers = [];
     }
 
-abbrev pub threshold_leaf : List ℤ → ℤ → LeafModel
-threshold_leaf coefs bound =
+abbrev pub threshold_leaf_of : List ℤ → ℤ → LeafModel
+threshold_leaf_of coefs bound =
     built (threshold_width coefs bound) (place_of_value (threshold_width coefs bound) bound) (map (place_of_value (threshold_width coefs bound)) coefs)

@@ -5,8 +5,8 @@ ghost use Rattle.std.specs.List.{range_with_len};
 ghost use Rattle.pop_io.specs.declared.names.TheConstants.{VARIABLE_LIMIT};
 ghost use Rattle.pop_net.specs.LeafModel.{IsLeaf};
 ghost use Rattle.pop_net.specs.Reaction.{Differ};
-ghost use Rattle.comp_threshold_leaf.specs.ThresholdLeaf.{threshold_width, place_of_value, output_of};
-ghost use Rattle.comp_threshold_leaf.specs.ThresholdLeaf.{state_count, built, threshold_leaf as leaf_of};
+ghost use Rattle.comp_threshold_leaf.specs.ThresholdLeaf.{threshold_width, place_of_value, threshold_output};
+ghost use Rattle.comp_threshold_leaf.specs.ThresholdLeaf.{threshold_state_count, built, threshold_leaf_of};
 ghost use Rattle.comp_threshold_leaf.specs.declared.limits.TheConstants.{WIDTH_LIMIT};
 
 use crate::listing::moves;
@@ -19,7 +19,7 @@ use std::alloc::Global;
 /// A state's output, where the bound stands at place t. Allocates nothing.
 pub fn output(s: u16, t: u16, q: u16) -> bool
     requires { s ≤ WIDTH_LIMIT }
-    ensures { result ≡ output_of s t q }
+    ensures { result ≡ threshold_output s t q }
 {
     let n = span(s);
     if q < n { q < t } else { !(q < n + n) }
@@ -27,7 +27,8 @@ pub fn output(s: u16, t: u16, q: u16) -> bool
 
 fn outputs(alloc: Global, s: u16, t: u16) -> Result<Vec<bool>, NoMemory>
     requires { s ≤ WIDTH_LIMIT }
-    ensures { IfOk result (λ outputs. outputs.items ≡ map (output_of s t) (range_with_len 0 (state_count s))) }
+    ensures { IfOk result (λ outputs.
+        outputs.items ≡ map (threshold_output s t) (range_with_len 0 (threshold_state_count s))) }
 {
     let outputs = (0..3 * span(s)).map(|q| output(s, t, q)).collect(alloc)?;
     Ok(outputs)
@@ -66,7 +67,7 @@ pub fn threshold_leaf(alloc: Global, coefs: &[i64], bound: i64, s: u16) -> Resul
     requires narrow { s ≤ WIDTH_LIMIT }
     requires some { 1 ≤ length coefs.now }
     requires few { length coefs.now ≤ VARIABLE_LIMIT }
-    ensures leaf { IfOk result (λ leaf. leaf ≡ leaf_of coefs.now bound) }
+    ensures leaf { IfOk result (λ leaf. leaf ≡ threshold_leaf_of coefs.now bound) }
     // No two of its moves take the same states.
     ensures single { IfOk result (λ leaf. AllPairs Differ leaf.moves) }
 {

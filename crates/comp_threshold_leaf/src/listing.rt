@@ -2,10 +2,9 @@
 
 ghost use Rattle.std.specs.Prelude.{◌≡◌, ◌<◌, ◌≤◌, IfOk, flat_map};
 ghost use Rattle.std.specs.List.{range_with_len};
-ghost use Rattle.comp_threshold_leaf.specs.ThresholdLeaf.{span_of, state_count, leader_move as move_in_leaf};
-ghost use Rattle.comp_threshold_leaf.specs.ThresholdLeaf.{alters as alters_state, pairs_of as pair_list};
-ghost use Rattle.comp_threshold_leaf.specs.ThresholdLeaf.{turns_of as turn_list};
-ghost use Rattle.comp_threshold_leaf.specs.ThresholdLeaf.{moves_of};
+ghost use Rattle.comp_threshold_leaf.specs.ThresholdLeaf.{span_of, threshold_state_count, threshold_leader_move};
+ghost use Rattle.comp_threshold_leaf.specs.ThresholdLeaf.{alters_states, threshold_pairs, threshold_turns};
+ghost use Rattle.comp_threshold_leaf.specs.ThresholdLeaf.{threshold_moves};
 ghost use Rattle.comp_threshold_leaf.specs.declared.limits.TheConstants.{WIDTH_LIMIT};
 
 use crate::values::{follower, place_in, span};
@@ -17,8 +16,8 @@ use std::alloc::Global;
 fn leader_move(s: u16, t: u16, p: u16, q: u16) -> Move
     requires narrow { s ≤ WIDTH_LIMIT }
     requires leader { p < span_of s }
-    requires state { q < state_count s }
-    ensures { result ≡ move_in_leaf s t p q }
+    requires state { q < threshold_state_count s }
+    ensures { result ≡ threshold_leader_move s t p q }
 {
     let v = place_in(s, q);
     let sum = (p + v).saturating_sub(s);
@@ -34,7 +33,7 @@ fn leader_move(s: u16, t: u16, p: u16, q: u16) -> Move
 
 /// Whether a state changes.
 fn alters(m: &Move) -> bool
-    ensures { result ≡ alters_state m.now }
+    ensures { result ≡ alters_states m.now }
 {
     !(m.r == m.p && m.s == m.q)
 }
@@ -42,7 +41,7 @@ fn alters(m: &Move) -> bool
 fn pairs_of(alloc: Global, s: u16, t: u16, p: u16) -> Result<Vec<Move>, NoMemory>
     requires narrow { s ≤ WIDTH_LIMIT }
     requires leader { p < span_of s }
-    ensures { IfOk result (λ moves. moves.items ≡ pair_list s t p) }
+    ensures { IfOk result (λ moves. moves.items ≡ threshold_pairs s t p) }
 {
     let moves = (p..span(s))
         .map(|q| leader_move(s, t, p, q))
@@ -53,7 +52,7 @@ fn pairs_of(alloc: Global, s: u16, t: u16, p: u16) -> Result<Vec<Move>, NoMemory
 fn turns_of(alloc: Global, s: u16, t: u16, p: u16) -> Result<Vec<Move>, NoMemory>
     requires narrow { s ≤ WIDTH_LIMIT }
     requires leader { p < span_of s }
-    ensures { IfOk result (λ moves. moves.items ≡ turn_list s t p) }
+    ensures { IfOk result (λ moves. moves.items ≡ threshold_turns s t p) }
 {
     let n = span(s);
     let moves = (n..3 * n)
@@ -66,7 +65,7 @@ fn turns_of(alloc: Global, s: u16, t: u16, p: u16) -> Result<Vec<Move>, NoMemory
 /// Each leader meets each leader from itself on; then each leader meets each follower, where a state changes.
 pub(crate) fn moves(alloc: Global, s: u16, t: u16) -> Result<Vec<Move>, NoMemory>
     requires { s ≤ WIDTH_LIMIT }
-    ensures { IfOk result (λ moves. moves.items ≡ moves_of s t) }
+    ensures { IfOk result (λ moves. moves.items ≡ threshold_moves s t) }
 {
     let mut moves = Vec::new(alloc);
     for p in 0..span(s) {

@@ -2,7 +2,7 @@
 
 ghost use Rattle.std.specs.Prelude.{◌≡◌, ◌≤◌, map, IfOk};
 ghost use Rattle.std.specs.List.{range_with_len};
-ghost use Rattle.comp_threshold_leaf.specs.ThresholdLeaf.{state_count, name_of as name_bytes};
+ghost use Rattle.comp_threshold_leaf.specs.ThresholdLeaf.{threshold_state_count, threshold_state_name};
 ghost use Rattle.comp_threshold_leaf.specs.declared.limits.TheConstants.{WIDTH_LIMIT};
 
 use crate::values::{place_in, span};
@@ -12,7 +12,7 @@ use std::alloc::Global;
 /// `L`, `f` or `t`, and the value.
 fn name_of(alloc: Global, s: u16, q: u16) -> Result<Text, NoMemory>
     requires { s ≤ WIDTH_LIMIT }
-    ensures { IfOk result (λ name. name ≡ name_bytes s q) }
+    ensures { IfOk result (λ name. name ≡ threshold_state_name s q) }
 {
     let n = span(s);
     let value = i64::from(place_in(s, q)) - i64::from(s);
@@ -29,7 +29,7 @@ fn name_of(alloc: Global, s: u16, q: u16) -> Result<Text, NoMemory>
 /// The names of all states.
 pub(crate) fn names(alloc: Global, s: u16) -> Result<List<Text>, NoMemory>
     requires { s ≤ WIDTH_LIMIT }
-    ensures { IfOk result (λ names. names ≡ map (name_bytes s) (range_with_len 0 (state_count s))) }
+    ensures { IfOk result (λ names. names ≡ map (threshold_state_name s) (range_with_len 0 (threshold_state_count s))) }
 {
     let mut names = Vec::new(alloc);
     for q in 0..3 * span(s) {

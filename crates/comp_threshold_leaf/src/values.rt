@@ -1,8 +1,7 @@
 //! States, values and their places.
 
 ghost use Rattle.std.specs.Prelude.{◌≡◌, ◌<◌, ◌≤◌, nat_abs};
-ghost use Rattle.comp_threshold_leaf.specs.ThresholdLeaf.{span_of, place_of_value};
-ghost use Rattle.comp_threshold_leaf.specs.ThresholdLeaf.{place_in as place_in_leaf, follower as follower_in_leaf};
+ghost use Rattle.comp_threshold_leaf.specs.ThresholdLeaf.{span_of, place_of_value, threshold_place, threshold_follower};
 ghost use Rattle.comp_threshold_leaf.specs.declared.limits.TheConstants.{WIDTH_LIMIT};
 
 /// How many values a state has. Allocates nothing.
@@ -25,7 +24,7 @@ pub fn place(s: u16, value: i64) -> u16
 /// The place of a state's value. Allocates nothing.
 pub fn place_in(s: u16, q: u16) -> u16
     requires { s ≤ WIDTH_LIMIT }
-    ensures { result ≡ place_in_leaf s q }
+    ensures { result ≡ threshold_place s q }
 {
     let n = span(s);
     if q < n {
@@ -41,7 +40,7 @@ pub fn place_in(s: u16, q: u16) -> u16
 pub(crate) fn follower(s: u16, bit: bool, v: u16) -> u16
     requires narrow { s ≤ WIDTH_LIMIT }
     requires place { v < span_of s }
-    ensures { result ≡ follower_in_leaf s bit v }
+    ensures { result ≡ threshold_follower s bit v }
 {
     let n = span(s);
     if bit { n + n + v } else { n + v }

@@ -12,15 +12,15 @@ use Rattle.cert_base.specs.declared.fact.Fact.{Fact}
 use Rattle.cert_base.specs.declared.fact.Fact.TheVariants.{Ge, Eq, Holds}
 use Rattle.cert_base.specs.declared.node.Node.{Node}
 use Rattle.cert_base.specs.declared.node.Node.TheVariants.{Present, Trap, Open}
-use Rattle.cert_base.specs.FactsAndCases.{states_of, flow, base_list, two_agents, wrong_output, absent, occurs, alone, can_meet, present_cases, trap_cases, open_cases, some_taken, no_moves, none_started, count_row, takes_from, puts_into, is_in, none_helps}
+use Rattle.cert_base.specs.FactsAndCases.{states_of, flow, base_list, two_agents_fact, wrong_output_fact, absent_fact, occurs_fact, alone_fact, can_meet_in, cases_of_present, cases_of_trap, cases_of_open, some_taken_fact, no_moves, no_start_facts, count_row, takes_from, puts_into, is_in, no_helper_facts}
 use Rattle.cert_base.specs.Rows.{constant_row}
 use Rattle.cert_base.specs.Closes.{refutes, cases_of, ClosesUnder, refuted, by_cases, no_case, next_case, Closes}
-use Rattle.comp_trees.specs.LeaderTree.{leaders, company_of, facts_of_trap, facts_without, facts_of_leader, leader_nodes, leader_tree, weighed, no_leader_by, no_leak_by, no_start_by, IsLed}
+use Rattle.comp_trees.specs.LeaderTree.{leaders, company_of, facts_of_trap, facts_without, facts_of_leader, leader_nodes, leader_tree, weighed_node, no_leader_mix, no_leak_mix, no_start_mix, IsLed}
 use Rattle.comp_trees.proofs.TrapNodes.{no_leak_closes, no_start_closes, no_leader_closes, length_opened, length_taken, length_started}
 
 -- the second case of a leader
 abbrev present_case : LeafModel → ℕ → List Fact
-present_case leaf p = (occurs leaf p ∷ map (absent leaf) (company_of leaf p)) ++ (if can_meet leaf p p then (alone leaf p ∷ []) else [])
+present_case leaf p = (occurs_fact leaf p ∷ map (absent_fact leaf) (company_of leaf p)) ++ (if can_meet_in leaf p p then (alone_fact leaf p ∷ []) else [])
 
 all_below : (a n m : ℕ) → a + n ≤ m → list_all (λ q. nat_lt q m) (range_with_len a n) ≡ true
 all_below a zero m l = refl
@@ -35,11 +35,11 @@ at_end (x ∷ xs) ys zero k e = absurd (omega arith)
 at_end (x ∷ xs) ys (suc n) k e = ap (slice_get (x ∷ (xs ++ ys))) (let f : suc n + k ≡ suc (n + k) = omega arith in f) ∙ at_end xs ys n k (omega arith)
 
 -- no helper is in a set
-no_helps : (leaf : LeafModel) (set : List ℕ) → leaf.helpers ≡ [] → none_helps leaf set ≡ []
+no_helps : (leaf : LeafModel) (set : List ℕ) → leaf.helpers ≡ [] → no_helper_facts leaf set ≡ []
 no_helps leaf set e =
     ap (λ (hs : List ℕ). if count_by (is_in set) hs == 0 then [] else (Eq (constant_row (pos (count_by (is_in set) hs))) ∷ [])) e
 
-module _ (leaf : LeafModel) (pred : PredModel) (b : Bool) (opened : Fact) (n : ℕ) (is : IsLed leaf n) (formed : IsLeaf leaf) (opens : open_cases pred b ≡ (opened ∷ []) ∷ []) (ends : ℕ → Node) where
+module _ (leaf : LeafModel) (pred : PredModel) (b : Bool) (opened : Fact) (n : ℕ) (is : IsLed leaf n) (formed : IsLeaf leaf) (opens : cases_of_open pred b ≡ (opened ∷ []) ∷ []) (ends : ℕ → Node) where
   abbrev base : List Fact
   base = base_list leaf pred b
 
@@ -47,36 +47,36 @@ module _ (leaf : LeafModel) (pred : PredModel) (b : Bool) (opened : Fact) (n : �
   trap_facts = facts_of_trap leaf base opened n
 
   abbrev last : Node
-  last = weighed (no_leader_by leaf n)
+  last = weighed_node (no_leader_mix leaf n)
 
   length_trap : length trap_facts ≡ length leaf.states + 5
   length_trap = omega (arith, length-append (base ++ opened ∷ []) (Ge (count_row leaf (leaders n) (negsuc 0)) ∷ []), length_opened leaf pred b opened n is)
 
   length_without : (p : ℕ) → length (facts_without leaf trap_facts p) ≡ length leaf.states + 5 + p
-  length_without p = omega (arith, length-append trap_facts (map (absent leaf) (range_with_len 0 p)), length_trap, length-map-range_with_len (absent leaf) 0 p)
+  length_without p = omega (arith, length-append trap_facts (map (absent_fact leaf) (range_with_len 0 p)), length_trap, length-map-range_with_len (absent_fact leaf) 0 p)
 
-  one_more : (p : ℕ) → facts_without leaf trap_facts p ++ absent leaf p ∷ [] ≡ facts_without leaf trap_facts (p + 1)
+  one_more : (p : ℕ) → facts_without leaf trap_facts p ++ absent_fact leaf p ∷ [] ≡ facts_without leaf trap_facts (p + 1)
   one_more p =
-      append_assoc trap_facts (map (absent leaf) (range_with_len 0 p)) (absent leaf p ∷ [])
-      ∙ ap (λ fs. trap_facts ++ fs) (sym (map-range_with_len_more (absent leaf) 0 p p (zero-add p)))
+      append_assoc trap_facts (map (absent_fact leaf) (range_with_len 0 p)) (absent_fact leaf p ∷ [])
+      ∙ ap (λ fs. trap_facts ++ fs) (sym (map-range_with_len_more (absent_fact leaf) 0 p p (zero-add p)))
 
   length_partners : (p : ℕ) → length (company_of leaf p) ≤ length leaf.states
   length_partners p =
-      let few = count_by-le-length (λ q. not (q == p) && can_meet leaf p q) (states_of leaf) in
-      omega (arith, length-filter (λ q. not (q == p) && can_meet leaf p q) (states_of leaf), few, length-range_with_len 0 (length leaf.states))
+      let few = count_by-le-length (λ q. not (q == p) && can_meet_in leaf p q) (states_of leaf) in
+      omega (arith, length-filter (λ q. not (q == p) && can_meet_in leaf p q) (states_of leaf), few, length-range_with_len 0 (length leaf.states))
 
   length_leader : (p : ℕ) → length (facts_of_leader leaf trap_facts p) ≤ length leaf.states + 5 + p + length leaf.states + 2
   length_leader p =
-      let own = (occurs leaf p ∷ map (absent leaf) (company_of leaf p)) in
+      let own = (occurs_fact leaf p ∷ map (absent_fact leaf) (company_of leaf p)) in
       let few = length_partners p in
-      let tail = short (can_meet leaf p p) in
-      omega (arith, length-append (facts_without leaf trap_facts p) (own ++ (if can_meet leaf p p then (alone leaf p ∷ []) else [])), length-append own (if can_meet leaf p p then (alone leaf p ∷ []) else []), length_without p, length-map (company_of leaf p) (absent leaf), few, tail)
+      let tail = short (can_meet_in leaf p p) in
+      omega (arith, length-append (facts_without leaf trap_facts p) (own ++ (if can_meet_in leaf p p then (alone_fact leaf p ∷ []) else [])), length-append own (if can_meet_in leaf p p then (alone_fact leaf p ∷ []) else []), length_without p, length-map (company_of leaf p) (absent_fact leaf), few, tail)
     where
-      short : (c : Bool) → length (if c then (alone leaf p ∷ []) else []) ≤ 1
+      short : (c : Bool) → length (if c then (alone_fact leaf p ∷ []) else []) ≤ 1
       short true = omega arith
       short false = omega arith
 
-  in_range : (p : ℕ) → p < length leaf.states → cases_of leaf (facts_without leaf trap_facts p) (Present p) ≡ Some (present_cases leaf p)
+  in_range : (p : ℕ) → p < length leaf.states → cases_of leaf (facts_without leaf trap_facts p) (Present p) ≡ Some (cases_of_present leaf p)
   in_range p l = let here : nat_lt p (length leaf.states) ≡ true = lt-ltb p (length leaf.states) l in rw here refl
 
   -- the nodes for the leaders from p on
@@ -94,7 +94,7 @@ module _ (leaf : LeafModel) (pred : PredModel) (b : Bool) (opened : Fact) (n : �
       let nodes = leader_nodes ends last (p + 1) k in
       let more = close_leaders each k (p + 1) (ends p ∷ rest) (omega arith) in
       let above : p + 1 + 2 ≡ p + 2 + 1 = omega arith in
-      let first : ClosesUnder leaf (p + 2 + 1) (facts_without leaf trap_facts p ++ absent leaf p ∷ []) ((nodes ++ ends p ∷ []) ++ rest) (ends p ∷ rest) =
+      let first : ClosesUnder leaf (p + 2 + 1) (facts_without leaf trap_facts p ++ absent_fact leaf p ∷ []) ((nodes ++ ends p ∷ []) ++ rest) (ends p ∷ rest) =
       subst (λ fs. ClosesUnder leaf (p + 2 + 1) fs ((nodes ++ ends p ∷ []) ++ rest) (ends p ∷ rest)) (sym (one_more p))
       (subst (λ ns. ClosesUnder leaf (p + 2 + 1) (facts_without leaf trap_facts (p + 1)) ns (ends p ∷ rest)) (sym (append_assoc nodes (ends p ∷ []) rest))
       (subst (λ a. ClosesUnder leaf a (facts_without leaf trap_facts (p + 1)) (nodes ++ (ends p ∷ rest)) (ends p ∷ rest)) above more)) in
@@ -102,10 +102,10 @@ module _ (leaf : LeafModel) (pred : PredModel) (b : Bool) (opened : Fact) (n : �
       refuted (p + 2 + 1) (facts_of_leader leaf trap_facts p) (ends p) rest
       (record { depth = omega arith; fact_count = omega (arith, length_leader p) })
       (each p (omega arith)) in
-      by_cases (p + 2) (facts_without leaf trap_facts p) (Present p) ((nodes ++ ends p ∷ []) ++ rest) rest (present_cases leaf p)
+      by_cases (p + 2) (facts_without leaf trap_facts p) (Present p) ((nodes ++ ends p ∷ []) ++ rest) rest (cases_of_present leaf p)
       (record { depth = omega arith; fact_count = omega (arith, length_without p) })
       (in_range p (omega arith))
-      (next_case (p + 2 + 1) (facts_without leaf trap_facts p) (absent leaf p ∷ []) (present_case leaf p ∷ []) ((nodes ++ ends p ∷ []) ++ rest) (ends p ∷ rest) rest first
+      (next_case (p + 2 + 1) (facts_without leaf trap_facts p) (absent_fact leaf p ∷ []) (present_case leaf p ∷ []) ((nodes ++ ends p ∷ []) ++ rest) (ends p ∷ rest) rest first
       (next_case (p + 2 + 1) (facts_without leaf trap_facts p) (present_case leaf p) [] (ends p ∷ rest) rest rest second
       (no_case (p + 2 + 1) (facts_without leaf trap_facts p) rest)))
 
@@ -117,23 +117,23 @@ module _ (leaf : LeafModel) (pred : PredModel) (b : Bool) (opened : Fact) (n : �
       let all = is.leaders in
       let facts = base ++ opened ∷ [] in
       let own = leader_nodes ends last 0 n in
-      let leak = some_taken leaf (λ t. takes_from (leaders n) t && not (puts_into (leaders n) t)) in
-      let start = (no_moves leaf (puts_into (leaders n)) ++ none_started leaf (leaders n)) ++ Eq (count_row leaf (leaders n) (pos 0)) ∷ [] in
+      let leak = some_taken_fact leaf (λ t. takes_from (leaders n) t && not (puts_into (leaders n) t)) in
+      let start = (no_moves leaf (puts_into (leaders n)) ++ no_start_facts leaf (leaders n)) ++ Eq (count_row leaf (leaders n) (pos 0)) ∷ [] in
       let trap = Ge (count_row leaf (leaders n) (negsuc 0)) in
       let length_facts = length_opened leaf pred b opened n is in
       let length_base : length base ≡ length leaf.states + 3 = omega (arith, length-append base (opened ∷ []), length_facts) in
       let length_start : length (facts ++ start) ≡ length leaf.states + length leaf.moves + length leaf.inputs + 5 =
-      omega (arith, length-append facts start, length_facts, length-append (no_moves leaf (puts_into (leaders n)) ++ none_started leaf (leaders n)) (Eq (count_row leaf (leaders n) (pos 0)) ∷ []), length-append (no_moves leaf (puts_into (leaders n))) (none_started leaf (leaders n)), length_taken leaf pred b opened n is, length_started leaf pred b opened n is) in
+      omega (arith, length-append facts start, length_facts, length-append (no_moves leaf (puts_into (leaders n)) ++ no_start_facts leaf (leaders n)) (Eq (count_row leaf (leaders n) (pos 0)) ∷ []), length-append (no_moves leaf (puts_into (leaders n))) (no_start_facts leaf (leaders n)), length_taken leaf pred b opened n is, length_started leaf pred b opened n is) in
       let length_leak : length (facts ++ leak ∷ []) ≡ length leaf.states + 5 = omega (arith, length-append facts (leak ∷ []), length_facts) in
-      let first : ClosesUnder leaf 2 (facts ++ leak ∷ []) (weighed (no_leak_by leaf) ∷ weighed (no_start_by leaf) ∷ own) (weighed (no_start_by leaf) ∷ own) =
-      refuted 2 (facts ++ leak ∷ []) (weighed (no_leak_by leaf)) (weighed (no_start_by leaf) ∷ own) (record { depth = omega arith; fact_count = omega arith }) (no_leak_closes leaf pred b opened n is) in
-      let second : ClosesUnder leaf 2 (facts ++ start) (weighed (no_start_by leaf) ∷ own) own =
-      refuted 2 (facts ++ start) (weighed (no_start_by leaf)) own (record { depth = omega arith; fact_count = omega arith }) (no_start_closes leaf pred b opened n is) in
+      let first : ClosesUnder leaf 2 (facts ++ leak ∷ []) (weighed_node (no_leak_mix leaf) ∷ weighed_node (no_start_mix leaf) ∷ own) (weighed_node (no_start_mix leaf) ∷ own) =
+      refuted 2 (facts ++ leak ∷ []) (weighed_node (no_leak_mix leaf)) (weighed_node (no_start_mix leaf) ∷ own) (record { depth = omega arith; fact_count = omega arith }) (no_leak_closes leaf pred b opened n is) in
+      let second : ClosesUnder leaf 2 (facts ++ start) (weighed_node (no_start_mix leaf) ∷ own) own =
+      refuted 2 (facts ++ start) (weighed_node (no_start_mix leaf)) own (record { depth = omega arith; fact_count = omega arith }) (no_start_closes leaf pred b opened n is) in
       let third : ClosesUnder leaf 2 (facts ++ trap ∷ []) own [] =
       subst (λ ns. ClosesUnder leaf 2 trap_facts ns []) (append-nil own)
       (subst (λ fs. ClosesUnder leaf 2 fs (own ++ []) []) (append-nil trap_facts) (close_leaders each n 0 [] (zero-add n))) in
-      let cases : ClosesUnder leaf 1 facts (Trap (leaders n) ∷ weighed (no_leak_by leaf) ∷ weighed (no_start_by leaf) ∷ own) [] =
-      by_cases 1 facts (Trap (leaders n)) (weighed (no_leak_by leaf) ∷ weighed (no_start_by leaf) ∷ own) [] ((leak ∷ []) ∷ start ∷ (trap ∷ []) ∷ [])
+      let cases : ClosesUnder leaf 1 facts (Trap (leaders n) ∷ weighed_node (no_leak_mix leaf) ∷ weighed_node (no_start_mix leaf) ∷ own) [] =
+      by_cases 1 facts (Trap (leaders n)) (weighed_node (no_leak_mix leaf) ∷ weighed_node (no_start_mix leaf) ∷ own) [] ((leak ∷ []) ∷ start ∷ (trap ∷ []) ∷ [])
       (record { depth = omega arith; fact_count = omega arith })
       ((let here = all_below 0 n (length leaf.states) (omega arith) in rw here refl) ∙ ap Some trap_is)
       (next_case 2 facts (leak ∷ []) (start ∷ (trap ∷ []) ∷ []) _ _ [] first
@@ -144,11 +144,11 @@ module _ (leaf : LeafModel) (pred : PredModel) (b : Bool) (opened : Fact) (n : �
       (open_is ∙ ap Some opens)
       (next_case 1 base (opened ∷ []) [] _ [] [] cases (no_case 1 base []))
     where
-      open_is : cases_of leaf base (Open (length leaf.states + 1)) ≡ Some (open_cases pred b)
+      open_is : cases_of leaf base (Open (length leaf.states + 1)) ≡ Some (cases_of_open pred b)
       open_is =
-          let at = at_end (map (flow leaf) (states_of leaf)) (two_agents leaf ∷ Holds pred b ∷ wrong_output leaf b ∷ []) (length leaf.states) 1 (length-map-range_with_len (flow leaf) 0 (length leaf.states)) in
+          let at = at_end (map (flow leaf) (states_of leaf)) (two_agents_fact leaf ∷ Holds pred b ∷ wrong_output_fact leaf b ∷ []) (length leaf.states) 1 (length-map-range_with_len (flow leaf) 0 (length leaf.states)) in
           rw at refl
 
-      trap_is : trap_cases leaf (leaders n) ≡ (some_taken leaf (λ t. takes_from (leaders n) t && not (puts_into (leaders n) t)) ∷ []) ∷ ((no_moves leaf (puts_into (leaders n)) ++ none_started leaf (leaders n)) ++ Eq (count_row leaf (leaders n) (pos 0)) ∷ []) ∷ (Ge (count_row leaf (leaders n) (negsuc 0)) ∷ []) ∷ []
+      trap_is : cases_of_trap leaf (leaders n) ≡ (some_taken_fact leaf (λ t. takes_from (leaders n) t && not (puts_into (leaders n) t)) ∷ []) ∷ ((no_moves leaf (puts_into (leaders n)) ++ no_start_facts leaf (leaders n)) ++ Eq (count_row leaf (leaders n) (pos 0)) ∷ []) ∷ (Ge (count_row leaf (leaders n) (negsuc 0)) ∷ []) ∷ []
       trap_is =
-          ap (λ fs. (some_taken leaf (λ t. takes_from (leaders n) t && not (puts_into (leaders n) t)) ∷ []) ∷ ((no_moves leaf (puts_into (leaders n)) ++ none_started leaf (leaders n)) ++ Eq (count_row leaf (leaders n) (pos 0)) ∷ fs) ∷ (Ge (count_row leaf (leaders n) (negsuc 0)) ∷ []) ∷ []) (no_helps leaf (leaders n) is.helpers)
+          ap (λ fs. (some_taken_fact leaf (λ t. takes_from (leaders n) t && not (puts_into (leaders n) t)) ∷ []) ∷ ((no_moves leaf (puts_into (leaders n)) ++ no_start_facts leaf (leaders n)) ++ Eq (count_row leaf (leaders n) (pos 0)) ∷ fs) ∷ (Ge (count_row leaf (leaders n) (negsuc 0)) ∷ []) ∷ []) (no_helps leaf (leaders n) is.helpers)

@@ -17,8 +17,8 @@ use Rattle.cert_base.specs.declared.fact.Fact.{Fact}
 use Rattle.cert_base.specs.declared.fact.Fact.TheVariants.{Ge, Eq, Holds}
 use Rattle.cert_base.specs.Rows.{terms_from, zeros, input_row}
 use Rattle.cert_base.specs.ClosingTests.{coefficient_in, row_of, closes_by_sum, may_add}
-use Rattle.cert_base.specs.FactsAndCases.{indicator, states_of, flow, base_list, two_agents, wrong_output, differs, absent, occurs, alone, can_meet, count_row}
-use Rattle.cert_base.specs.WeightedSums.{weighted_sum, coefficient, constant_of, may_weigh}
+use Rattle.cert_base.specs.FactsAndCases.{indicator, states_of, flow, base_list, two_agents_fact, wrong_output_fact, differs, absent_fact, occurs_fact, alone_fact, can_meet_in, count_row}
+use Rattle.cert_base.specs.WeightedSums.{sum_of_facts, coefficient, constant_of, may_weigh}
 use Rattle.cert_base.specs.WeightedSums.{total}
 use Rattle.comp_trees.specs.LeaderTree.{leaders, company_of, facts_of_trap, facts_without, facts_of_leader, LeaderMix, mix_of_trap, mix_of_leader, wrong_mix, value_mix}
 use Rattle.cert_base.proofs.WeightedSums.{may_weigh-append, may_weigh-zeros, linear_closes-weighted}
@@ -38,14 +38,14 @@ total-filter {A} f test (x ∷ xs) = go (test x) (total-filter f test xs)
 -- ---- the coefficients of the other facts
 
 -- of the fact that a state is absent
-pub absent-at : (leaf : LeafModel) (q x : ℕ) → coefficient x (absent leaf q) ≡ indicator ((length leaf.inputs + q) == x)
+pub absent-at : (leaf : LeafModel) (q x : ℕ) → coefficient x (absent_fact leaf q) ≡ indicator ((length leaf.inputs + q) == x)
 absent-at leaf q x = go ((length leaf.inputs + q) == x)
   where
     go : (b : Bool) → ((if b then pos 1 else pos 0) +ℤ pos 0) ≡ (if b then pos 1 else pos 0)
     go true = refl
     go false = refl
 
-alone-at : (leaf : LeafModel) (q x : ℕ) → coefficient x (alone leaf q) ≡ indicator ((length leaf.inputs + q) == x)
+alone-at : (leaf : LeafModel) (q x : ℕ) → coefficient x (alone_fact leaf q) ≡ indicator ((length leaf.inputs + q) == x)
 alone-at leaf q x = absent-at leaf q x
 
 pub shifted : (n q z : ℕ) → ((n + q) == (n + z)) ≡ (z == q)
@@ -59,7 +59,7 @@ shifted n q z = go (eqb_tells z q)
 abbrev pub is_wrong : LeafModel → Bool → ℕ → Bool
 is_wrong leaf b q = differs b (slice_index_or leaf.outputs q false)
 
-wrong-state : (leaf : LeafModel) (b : Bool) (z : ℕ) → z < length leaf.states → coefficient (length leaf.inputs + z) (wrong_output leaf b) ≡ indicator (is_wrong leaf b z)
+wrong-state : (leaf : LeafModel) (b : Bool) (z : ℕ) → z < length leaf.states → coefficient (length leaf.inputs + z) (wrong_output_fact leaf b) ≡ indicator (is_wrong leaf b z)
 wrong-state leaf b z l =
     let states = map (λ q. indicator (is_wrong leaf b q)) (states_of leaf) in
     coefficient-dense (zeros (length leaf.inputs) ++ states) (length leaf.inputs + z)
@@ -67,14 +67,14 @@ wrong-state leaf b z l =
     ∙ get_or-append-add (zeros (length leaf.inputs)) states z (pos 0)
     ∙ get_or-map-range_with_len (λ q. indicator (is_wrong leaf b q)) 0 (length leaf.states) z z (pos 0) l (zero-add z)
 
-wrong-input : (leaf : LeafModel) (b : Bool) (i : ℕ) → i < length leaf.inputs → coefficient i (wrong_output leaf b) ≡ pos 0
+wrong-input : (leaf : LeafModel) (b : Bool) (i : ℕ) → i < length leaf.inputs → coefficient i (wrong_output_fact leaf b) ≡ pos 0
 wrong-input leaf b i l =
     let states = map (λ q. indicator (is_wrong leaf b q)) (states_of leaf) in
     coefficient-dense (zeros (length leaf.inputs) ++ states) i
     ∙ get_or-append (zeros (length leaf.inputs)) states (pos 0) i (omega (arith, length-replicate (length leaf.inputs) (pos 0)))
     ∙ get_or-replicate (length leaf.inputs) i (pos 0) (pos 0) l
 
-wrong-past : (leaf : LeafModel) (b : Bool) (j : ℕ) → coefficient (length leaf.inputs + length leaf.states + j) (wrong_output leaf b) ≡ pos 0
+wrong-past : (leaf : LeafModel) (b : Bool) (j : ℕ) → coefficient (length leaf.inputs + length leaf.states + j) (wrong_output_fact leaf b) ≡ pos 0
 wrong-past leaf b j =
     let states = map (λ q. indicator (is_wrong leaf b q)) (states_of leaf) in
     coefficient-dense (zeros (length leaf.inputs) ++ states) (length leaf.inputs + length leaf.states + j)
@@ -84,28 +84,28 @@ wrong-past leaf b j =
 
 -- whether a leader's presence rules out a state
 abbrev pub rules_out : LeafModel → ℕ → ℕ → Bool
-rules_out leaf p q = not (q == p) && can_meet leaf p q
+rules_out leaf p q = not (q == p) && can_meet_in leaf p q
 
 abbrev out_total : LeafModel → ℕ → (ℕ → ℤ) → ℕ → ℤ
-out_total leaf p f x = total (λ q. f q *ℤ coefficient x (absent leaf q)) (company_of leaf p)
+out_total leaf p f x = total (λ q. f q *ℤ coefficient x (absent_fact leaf q)) (company_of leaf p)
 
 none_out : (leaf : LeafModel) (p : ℕ) (f : ℕ → ℤ) (x : ℕ) → ((q : ℕ) → q < length leaf.states → (length leaf.inputs + q) ≢ x) → out_total leaf p f x ≡ pos 0
 none_out leaf p f x ne =
-    total-filter (λ q. f q *ℤ coefficient x (absent leaf q)) (rules_out leaf p) (states_of leaf)
-    ∙ total-none_range (λ q. if rules_out leaf p q then (f q *ℤ coefficient x (absent leaf q)) else pos 0) 0 (length leaf.states) (λ q l. each q (rules_out leaf p q) (ne q (omega arith)))
+    total-filter (λ q. f q *ℤ coefficient x (absent_fact leaf q)) (rules_out leaf p) (states_of leaf)
+    ∙ total-none_range (λ q. if rules_out leaf p q then (f q *ℤ coefficient x (absent_fact leaf q)) else pos 0) 0 (length leaf.states) (λ q l. each q (rules_out leaf p q) (ne q (omega arith)))
   where
-    each : (q : ℕ) (b : Bool) → (length leaf.inputs + q) ≢ x → (if b then (f q *ℤ coefficient x (absent leaf q)) else pos 0) ≡ pos 0
+    each : (q : ℕ) (b : Bool) → (length leaf.inputs + q) ≢ x → (if b then (f q *ℤ coefficient x (absent_fact leaf q)) else pos 0) ≡ pos 0
     each q true n = ap (λ c. f q *ℤ c) (absent-at leaf q x ∙ ap indicator (unlike (length leaf.inputs + q) x n)) ∙ *ℤ-zero (f q)
     each q false n = refl
 
 out-state : (leaf : LeafModel) (p : ℕ) (f : ℕ → ℤ) (z : ℕ) → z < length leaf.states → out_total leaf p f (length leaf.inputs + z) ≡ (if rules_out leaf p z then f z else pos 0)
 out-state leaf p f z l =
     let w : ℕ → ℤ = λ q. if rules_out leaf p q then f q else pos 0 in
-    total-filter (λ q. f q *ℤ coefficient (length leaf.inputs + z) (absent leaf q)) (rules_out leaf p) (states_of leaf)
-    ∙ total-same (λ q. if rules_out leaf p q then (f q *ℤ coefficient (length leaf.inputs + z) (absent leaf q)) else pos 0) (λ q. w q *ℤ indicator (z == q)) (states_of leaf) (λ q. each q (rules_out leaf p q))
+    total-filter (λ q. f q *ℤ coefficient (length leaf.inputs + z) (absent_fact leaf q)) (rules_out leaf p) (states_of leaf)
+    ∙ total-same (λ q. if rules_out leaf p q then (f q *ℤ coefficient (length leaf.inputs + z) (absent_fact leaf q)) else pos 0) (λ q. w q *ℤ indicator (z == q)) (states_of leaf) (λ q. each q (rules_out leaf p q))
     ∙ total-one w (length leaf.states) z l
   where
-    each : (q : ℕ) (b : Bool) → (if b then (f q *ℤ coefficient (length leaf.inputs + z) (absent leaf q)) else pos 0) ≡ ((if b then f q else pos 0) *ℤ indicator (z == q))
+    each : (q : ℕ) (b : Bool) → (if b then (f q *ℤ coefficient (length leaf.inputs + z) (absent_fact leaf q)) else pos 0) ≡ ((if b then f q else pos 0) *ℤ indicator (z == q))
     each q true = ap (λ c. f q *ℤ c) (absent-at leaf q (length leaf.inputs + z) ∙ ap indicator (shifted (length leaf.inputs) q z))
     each q false = sym (zero-*ℤ (indicator (z == q)))
 
@@ -122,38 +122,38 @@ may_weigh-eqs may eqs row by (x ∷ xs) =
     or_yes true h = refl
     or_yes false h = h
 
-pub may_leader : (may : ℤ → Fact → Bool) → ((a : ℤ) (row : Row) → may a (Eq row) ≡ true) → (leaf : LeafModel) (pred : PredModel) (b : Bool) (opened : Fact) (n p : ℕ) (mix : LeaderMix) → can_meet leaf p p ≡ true → (int_eq mix.wrong (pos 0) || may mix.wrong (wrong_output leaf b)) ≡ true → (int_eq mix.opened (pos 0) || may mix.opened opened) ≡ true → may_weigh may (facts_of_leader leaf (facts_of_trap leaf (base_list leaf pred b) opened n) p) (mix_of_leader leaf (company_of leaf p) mix p) ≡ true
+pub may_leader : (may : ℤ → Fact → Bool) → ((a : ℤ) (row : Row) → may a (Eq row) ≡ true) → (leaf : LeafModel) (pred : PredModel) (b : Bool) (opened : Fact) (n p : ℕ) (mix : LeaderMix) → can_meet_in leaf p p ≡ true → (int_eq mix.wrong (pos 0) || may mix.wrong (wrong_output_fact leaf b)) ≡ true → (int_eq mix.opened (pos 0) || may mix.opened opened) ≡ true → may_weigh may (facts_of_leader leaf (facts_of_trap leaf (base_list leaf pred b) opened n) p) (mix_of_leader leaf (company_of leaf p) mix p) ≡ true
 may_leader may eqs leaf pred b opened n p mix twin wrong_may opened_may =
     let flows = map (flow leaf) (states_of leaf) in
     let base = base_list leaf pred b in
     let trap = Ge (count_row leaf (leaders n) (negsuc 0)) in
     let mf = map mix.flows (states_of leaf) in
     let mb = mf ++ pos 0 ∷ pos 0 ∷ mix.wrong ∷ [] in
-    let absents = map (absent leaf) (range_with_len 0 p) in
-    let out = map (absent leaf) (company_of leaf p) in
+    let absents = map (absent_fact leaf) (range_with_len 0 p) in
+    let out = map (absent_fact leaf) (company_of leaf p) in
     let facts = facts_of_trap leaf base opened n in
     let len_flows : length flows ≡ length mf = length-map (states_of leaf) (flow leaf) ∙ sym (length-map (states_of leaf) mix.flows) in
-    let len_base : length base ≡ length mb = omega (arith, length-append flows (two_agents leaf ∷ Holds pred b ∷ wrong_output leaf b ∷ []), length-append mf (pos 0 ∷ pos 0 ∷ mix.wrong ∷ []), len_flows) in
+    let len_base : length base ≡ length mb = omega (arith, length-append flows (two_agents_fact leaf ∷ Holds pred b ∷ wrong_output_fact leaf b ∷ []), length-append mf (pos 0 ∷ pos 0 ∷ mix.wrong ∷ []), len_flows) in
     let len_open : length (base ++ opened ∷ []) ≡ length (mb ++ mix.opened ∷ []) = omega (arith, length-append base (opened ∷ []), length-append mb (mix.opened ∷ []), len_base) in
     let len_trap : length facts ≡ length (mix_of_trap leaf mix) = omega (arith, length-append (base ++ opened ∷ []) (trap ∷ []), length-append (mb ++ mix.opened ∷ []) (pos 0 ∷ []), len_open) in
-    let len_without : length (facts_without leaf facts p) ≡ length (mix_of_trap leaf mix ++ zeros p) = omega (arith, length-append facts absents, length-append (mix_of_trap leaf mix) (zeros p), len_trap, length-map-range_with_len (absent leaf) 0 p, length-replicate p (pos 0)) in
-    let len_out : length (occurs leaf p ∷ out) ≡ length (pos 0 ∷ map mix.ruled_out (company_of leaf p)) = omega (arith, length-map (company_of leaf p) (absent leaf), length-map (company_of leaf p) mix.ruled_out) in
+    let len_without : length (facts_without leaf facts p) ≡ length (mix_of_trap leaf mix ++ zeros p) = omega (arith, length-append facts absents, length-append (mix_of_trap leaf mix) (zeros p), len_trap, length-map-range_with_len (absent_fact leaf) 0 p, length-replicate p (pos 0)) in
+    let len_out : length (occurs_fact leaf p ∷ out) ≡ length (pos 0 ∷ map mix.ruled_out (company_of leaf p)) = omega (arith, length-map (company_of leaf p) (absent_fact leaf), length-map (company_of leaf p) mix.ruled_out) in
     let m1 = may_weigh-eqs may eqs (λ q. row_of (flow leaf q)) mix.flows (states_of leaf) in
-    let w2 : may_weigh may (two_agents leaf ∷ Holds pred b ∷ wrong_output leaf b ∷ []) (pos 0 ∷ pos 0 ∷ mix.wrong ∷ []) ≡ true = rw wrong_may refl in
-    let m2 = may_weigh-append may flows (two_agents leaf ∷ Holds pred b ∷ wrong_output leaf b ∷ []) mf (pos 0 ∷ pos 0 ∷ mix.wrong ∷ []) len_flows m1 w2 in
+    let w2 : may_weigh may (two_agents_fact leaf ∷ Holds pred b ∷ wrong_output_fact leaf b ∷ []) (pos 0 ∷ pos 0 ∷ mix.wrong ∷ []) ≡ true = rw wrong_may refl in
+    let m2 = may_weigh-append may flows (two_agents_fact leaf ∷ Holds pred b ∷ wrong_output_fact leaf b ∷ []) mf (pos 0 ∷ pos 0 ∷ mix.wrong ∷ []) len_flows m1 w2 in
     let w3 : may_weigh may (opened ∷ []) (mix.opened ∷ []) ≡ true = rw opened_may refl in
     let m3 = may_weigh-append may base (opened ∷ []) mb (mix.opened ∷ []) len_base m2 w3 in
     let m4 = may_weigh-append may (base ++ opened ∷ []) (trap ∷ []) (mb ++ mix.opened ∷ []) (pos 0 ∷ []) len_open m3 refl in
-    let m5 = may_weigh-append may facts absents (mix_of_trap leaf mix) (zeros p) len_trap m4 (may_weigh-zeros may absents p (omega (arith, length-map-range_with_len (absent leaf) 0 p))) in
-    let m6 = may_weigh-eqs may eqs (λ q. row_of (absent leaf q)) mix.ruled_out (company_of leaf p) in
-    let m7 = may_weigh-eqs may eqs (λ q. row_of (alone leaf q)) (λ q. mix.alone) (p ∷ []) in
-    let m8 = may_weigh-append may (occurs leaf p ∷ out) (alone leaf p ∷ []) (pos 0 ∷ map mix.ruled_out (company_of leaf p)) (mix.alone ∷ []) len_out m6 m7 in
-    rw twin (may_weigh-append may (facts_without leaf facts p) ((occurs leaf p ∷ out) ++ alone leaf p ∷ []) (mix_of_trap leaf mix ++ zeros p) ((pos 0 ∷ map mix.ruled_out (company_of leaf p)) ++ mix.alone ∷ []) len_without m5 m8)
+    let m5 = may_weigh-append may facts absents (mix_of_trap leaf mix) (zeros p) len_trap m4 (may_weigh-zeros may absents p (omega (arith, length-map-range_with_len (absent_fact leaf) 0 p))) in
+    let m6 = may_weigh-eqs may eqs (λ q. row_of (absent_fact leaf q)) mix.ruled_out (company_of leaf p) in
+    let m7 = may_weigh-eqs may eqs (λ q. row_of (alone_fact leaf q)) (λ q. mix.alone) (p ∷ []) in
+    let m8 = may_weigh-append may (occurs_fact leaf p ∷ out) (alone_fact leaf p ∷ []) (pos 0 ∷ map mix.ruled_out (company_of leaf p)) (mix.alone ∷ []) len_out m6 m7 in
+    rw twin (may_weigh-append may (facts_without leaf facts p) ((occurs_fact leaf p ∷ out) ++ alone_fact leaf p ∷ []) (mix_of_trap leaf mix ++ zeros p) ((pos 0 ∷ map mix.ruled_out (company_of leaf p)) ++ mix.alone ∷ []) len_without m5 m8)
 
 -- ---- the node by a wrong output
 
 -- a state is given no value
-valued-none : (value : Fact → ℤ) (leaf : LeafModel) → weighted_sum value (map (flow leaf) (states_of leaf)) (map (λ q. pos 0) (states_of leaf)) ≡ pos 0
+valued-none : (value : Fact → ℤ) (leaf : LeafModel) → sum_of_facts value (map (flow leaf) (states_of leaf)) (map (λ q. pos 0) (states_of leaf)) ≡ pos 0
 valued-none value leaf =
     weighted_sum-map value (flow leaf) (λ q. pos 0) (states_of leaf)
     ∙ total-none (λ q. pos 0 *ℤ value (flow leaf q)) (states_of leaf) (λ q. zero-*ℤ (value (flow leaf q)))
@@ -163,7 +163,7 @@ flow-constant : (leaf : LeafModel) (q : ℕ) → leaf.helpers ≡ [] → constan
 flow-constant leaf q e = ap (λ (hs : List ℕ). pos (count_by (λ z. z == q) hs)) e
 
 -- the alone fact of another variable
-alone-none : (leaf : LeafModel) (p x : ℕ) (a : ℤ) → (length leaf.inputs + p) ≢ x → (a *ℤ coefficient x (alone leaf p)) ≡ pos 0
+alone-none : (leaf : LeafModel) (p x : ℕ) (a : ℤ) → (length leaf.inputs + p) ≢ x → (a *ℤ coefficient x (alone_fact leaf p)) ≡ pos 0
 alone-none leaf p x a ne =
     ap (λ c. a *ℤ c) (alone-at leaf p x ∙ ap indicator (unlike (length leaf.inputs + p) x ne)) ∙ *ℤ-zero a
 
@@ -173,7 +173,7 @@ apart n q i l e = omega arith
 pub apart_past : (n m q j : ℕ) → q < m → (n + q) ≢ (n + m + j)
 apart_past n m q j l e = omega arith
 
-module _ (leaf : LeafModel) (pred : PredModel) (b : Bool) (opened : Fact) (n p : ℕ) (twin : can_meet leaf p p ≡ true) where
+module _ (leaf : LeafModel) (pred : PredModel) (b : Bool) (opened : Fact) (n p : ℕ) (twin : can_meet_in leaf p p ≡ true) where
   abbrev pub all_facts : List Fact
   all_facts = facts_of_leader leaf (facts_of_trap leaf (base_list leaf pred b) opened n) p
 
@@ -183,13 +183,13 @@ module _ (leaf : LeafModel) (pred : PredModel) (b : Bool) (opened : Fact) (n p :
   abbrev minus_wrong : ℕ → ℤ
   minus_wrong q = neg_ℤ (indicator (is_wrong leaf b q))
 
-  wrong_sum : (x : ℕ) (a c : ℤ) → coefficient x (wrong_output leaf b) ≡ a → out_total leaf p minus_wrong x ≡ c → weighted_sum (coefficient x) all_facts wrong_terms ≡ (a +ℤ c)
+  wrong_sum : (x : ℕ) (a c : ℤ) → coefficient x (wrong_output_fact leaf b) ≡ a → out_total leaf p minus_wrong x ≡ c → sum_of_facts (coefficient x) all_facts wrong_terms ≡ (a +ℤ c)
   wrong_sum x a c e f =
       let sum = leader_sum (coefficient x) leaf pred b opened n p (wrong_mix leaf b) twin in
       let first = valued-none (coefficient x) leaf in
-      let second : (pos 1 *ℤ coefficient x (wrong_output leaf b)) ≡ a = *ℤ_comm (pos 1) (coefficient x (wrong_output leaf b)) ∙ times-one (coefficient x (wrong_output leaf b)) ∙ e in
+      let second : (pos 1 *ℤ coefficient x (wrong_output_fact leaf b)) ≡ a = *ℤ_comm (pos 1) (coefficient x (wrong_output_fact leaf b)) ∙ times-one (coefficient x (wrong_output_fact leaf b)) ∙ e in
       let third = zero-*ℤ (coefficient x opened) in
-      let fifth = zero-*ℤ (coefficient x (alone leaf p)) in
+      let fifth = zero-*ℤ (coefficient x (alone_fact leaf p)) in
       omega (arith, ints, sum, first, second, third, f, fifth)
 
   -- the node closes where all wrong states are ruled out
@@ -197,23 +197,23 @@ module _ (leaf : LeafModel) (pred : PredModel) (b : Bool) (opened : Fact) (n p :
   wrong_closes all =
       linear_closes-weighted all_facts wrong_terms
       (may_leader may_add (λ a row. refl) leaf pred b opened n p (wrong_mix leaf b) twin refl refl)
-      (each_variable leaf (λ x. weighted_sum (coefficient x) all_facts wrong_terms ≤ℤ pos 0) at_input at_state at_move at_past)
+      (each_variable leaf (λ x. sum_of_facts (coefficient x) all_facts wrong_terms ≤ℤ pos 0) at_input at_state at_move at_past)
       constant
     where
-      at_input : (i : ℕ) → i < length leaf.inputs → weighted_sum (coefficient i) all_facts wrong_terms ≤ℤ pos 0
+      at_input : (i : ℕ) → i < length leaf.inputs → sum_of_facts (coefficient i) all_facts wrong_terms ≤ℤ pos 0
       at_input i l =
           let e = wrong_sum i (pos 0) (pos 0) (wrong-input leaf b i l) (none_out leaf p minus_wrong i (λ q m. apart (length leaf.inputs) q i l)) in
           omega (arith, ints, e)
 
-      at_late : (j : ℕ) → weighted_sum (coefficient (length leaf.inputs + length leaf.states + j)) all_facts wrong_terms ≤ℤ pos 0
+      at_late : (j : ℕ) → sum_of_facts (coefficient (length leaf.inputs + length leaf.states + j)) all_facts wrong_terms ≤ℤ pos 0
       at_late j =
           let e = wrong_sum (length leaf.inputs + length leaf.states + j) (pos 0) (pos 0) (wrong-past leaf b j) (none_out leaf p minus_wrong (length leaf.inputs + length leaf.states + j) (λ q m. apart_past (length leaf.inputs) (length leaf.states) q j m)) in
           omega (arith, ints, e)
 
-      at_move : (t : ℕ) → t < length leaf.moves → weighted_sum (coefficient (length leaf.inputs + length leaf.states + t)) all_facts wrong_terms ≤ℤ pos 0
+      at_move : (t : ℕ) → t < length leaf.moves → sum_of_facts (coefficient (length leaf.inputs + length leaf.states + t)) all_facts wrong_terms ≤ℤ pos 0
       at_move t l = at_late t
 
-      at_past : (j : ℕ) → weighted_sum (coefficient (length leaf.inputs + length leaf.states + (length leaf.moves + j))) all_facts wrong_terms ≤ℤ pos 0
+      at_past : (j : ℕ) → sum_of_facts (coefficient (length leaf.inputs + length leaf.states + (length leaf.moves + j))) all_facts wrong_terms ≤ℤ pos 0
       at_past j = at_late (length leaf.moves + j)
 
       both : (w r : Bool) → (w ≡ true → r ≡ true) → (indicator w +ℤ (if r then neg_ℤ (indicator w) else pos 0)) ≡ pos 0
@@ -221,13 +221,13 @@ module _ (leaf : LeafModel) (pred : PredModel) (b : Bool) (opened : Fact) (n p :
       both false true h = refl
       both false false h = refl
 
-      at_state : (z : ℕ) → z < length leaf.states → weighted_sum (coefficient (length leaf.inputs + z)) all_facts wrong_terms ≤ℤ pos 0
+      at_state : (z : ℕ) → z < length leaf.states → sum_of_facts (coefficient (length leaf.inputs + z)) all_facts wrong_terms ≤ℤ pos 0
       at_state z l =
           let e = wrong_sum (length leaf.inputs + z) (indicator (is_wrong leaf b z)) (if rules_out leaf p z then minus_wrong z else pos 0) (wrong-state leaf b z l) (out-state leaf p minus_wrong z l) in
           let f = both (is_wrong leaf b z) (rules_out leaf p z) (all z l) in
           omega (arith, ints, e, f)
 
-      constant : weighted_sum constant_of all_facts wrong_terms ≤ℤ negsuc 0
+      constant : sum_of_facts constant_of all_facts wrong_terms ≤ℤ negsuc 0
       constant =
           let sum = leader_sum constant_of leaf pred b opened n p (wrong_mix leaf b) twin in
           let first = valued-none constant_of leaf in
@@ -240,10 +240,10 @@ module _ (leaf : LeafModel) (pred : PredModel) (b : Bool) (opened : Fact) (n p :
   abbrev pub value_terms : (ℕ → ℤ) → ℤ → List ℤ
   value_terms w m = mix_of_leader leaf (company_of leaf p) (value_mix w m p) p
 
-  value_sum : (w : ℕ → ℤ) (m : ℤ) (x : ℕ) (a c d e : ℤ) → valued leaf w x ≡ a → (m *ℤ coefficient x opened) ≡ c → out_total leaf p w x ≡ d → (w p *ℤ coefficient x (alone leaf p)) ≡ e → weighted_sum (coefficient x) all_facts (value_terms w m) ≡ (a +ℤ c +ℤ d +ℤ e)
+  value_sum : (w : ℕ → ℤ) (m : ℤ) (x : ℕ) (a c d e : ℤ) → valued leaf w x ≡ a → (m *ℤ coefficient x opened) ≡ c → out_total leaf p w x ≡ d → (w p *ℤ coefficient x (alone_fact leaf p)) ≡ e → sum_of_facts (coefficient x) all_facts (value_terms w m) ≡ (a +ℤ c +ℤ d +ℤ e)
   value_sum w m x a c d e ha hc hd he =
       let sum = leader_sum (coefficient x) leaf pred b opened n p (value_mix w m p) twin in
-      let second = zero-*ℤ (coefficient x (wrong_output leaf b)) in
+      let second = zero-*ℤ (coefficient x (wrong_output_fact leaf b)) in
       omega (arith, ints, sum, ha, hc, hd, he, second)
 
   -- the opened fact is a row over the inputs
@@ -259,19 +259,19 @@ module _ (leaf : LeafModel) (pred : PredModel) (b : Bool) (opened : Fact) (n p :
       ap (λ c. m *ℤ c) (opened-at coefs constant x is ∙ get_or_past coefs x (pos 0) (omega (arith, is.long))) ∙ *ℤ-zero m
 
   -- what the value node adds up to, variable by variable
-  pub value-input : (w : ℕ → ℤ) (m : ℤ) (coefs : List ℤ) (constant : ℤ) (i : ℕ) → IsOpened coefs constant → i < length leaf.inputs → get_or leaf.inputs i 0 < length leaf.states → weighted_sum (coefficient i) all_facts (value_terms w m) ≡ (w (get_or leaf.inputs i 0) +ℤ (m *ℤ get_or coefs i (pos 0)))
+  pub value-input : (w : ℕ → ℤ) (m : ℤ) (coefs : List ℤ) (constant : ℤ) (i : ℕ) → IsOpened coefs constant → i < length leaf.inputs → get_or leaf.inputs i 0 < length leaf.states → sum_of_facts (coefficient i) all_facts (value_terms w m) ≡ (w (get_or leaf.inputs i 0) +ℤ (m *ℤ get_or coefs i (pos 0)))
   value-input w m coefs constant i is l below =
       let e = value_sum w m i (w (get_or leaf.inputs i 0)) (m *ℤ get_or coefs i (pos 0)) (pos 0) (pos 0) (law-input leaf w i l below) (ap (λ c. m *ℤ c) (opened-at coefs constant i is)) (none_out leaf p w i (λ q k. apart (length leaf.inputs) q i l)) (alone-none leaf p i (w p) (apart (length leaf.inputs) p i l)) in
       omega (arith, ints, e)
 
-  pub value-move : (w : ℕ → ℤ) (m : ℤ) (coefs : List ℤ) (constant : ℤ) (t : ℕ) (d : Move) → IsOpened coefs constant → p < length leaf.states → t < length leaf.moves → IsMoveBelow (length leaf.states) (get_or leaf.moves t d) → weighted_sum (coefficient (length leaf.inputs + length leaf.states + t)) all_facts (value_terms w m) ≡ ((w (get_or leaf.moves t d).r +ℤ w (get_or leaf.moves t d).s) -ℤ (w (get_or leaf.moves t d).p +ℤ w (get_or leaf.moves t d).q))
+  pub value-move : (w : ℕ → ℤ) (m : ℤ) (coefs : List ℤ) (constant : ℤ) (t : ℕ) (d : Move) → IsOpened coefs constant → p < length leaf.states → t < length leaf.moves → IsMoveBelow (length leaf.states) (get_or leaf.moves t d) → sum_of_facts (coefficient (length leaf.inputs + length leaf.states + t)) all_facts (value_terms w m) ≡ ((w (get_or leaf.moves t d).r +ℤ w (get_or leaf.moves t d).s) -ℤ (w (get_or leaf.moves t d).p +ℤ w (get_or leaf.moves t d).q))
   value-move w m coefs constant t d is lp l below =
       let x = length leaf.inputs + length leaf.states + t in
       let e = value_sum w m x (valued leaf w x) (pos 0) (pos 0) (pos 0) refl (opened-past coefs constant m x is (omega arith)) (none_out leaf p w x (λ q k. apart_past (length leaf.inputs) (length leaf.states) q t k)) (alone-none leaf p x (w p) (apart_past (length leaf.inputs) (length leaf.states) p t lp)) in
       let f = law-move leaf w t d l below in
       omega (arith, ints, e, f)
 
-  pub value-past : (w : ℕ → ℤ) (m : ℤ) (coefs : List ℤ) (constant : ℤ) (j : ℕ) → IsOpened coefs constant → p < length leaf.states → weighted_sum (coefficient (length leaf.inputs + length leaf.states + (length leaf.moves + j))) all_facts (value_terms w m) ≡ pos 0
+  pub value-past : (w : ℕ → ℤ) (m : ℤ) (coefs : List ℤ) (constant : ℤ) (j : ℕ) → IsOpened coefs constant → p < length leaf.states → sum_of_facts (coefficient (length leaf.inputs + length leaf.states + (length leaf.moves + j))) all_facts (value_terms w m) ≡ pos 0
   value-past w m coefs constant j is lp =
       let x = length leaf.inputs + length leaf.states + (length leaf.moves + j) in
       let e = value_sum w m x (valued leaf w x) (pos 0) (pos 0) (pos 0) refl (opened-past coefs constant m x is (omega arith)) (none_out leaf p w x (λ q k. apart_past (length leaf.inputs) (length leaf.states) q (length leaf.moves + j) k)) (alone-none leaf p x (w p) (apart_past (length leaf.inputs) (length leaf.states) p (length leaf.moves + j) lp)) in
@@ -279,37 +279,37 @@ module _ (leaf : LeafModel) (pred : PredModel) (b : Bool) (opened : Fact) (n p :
       omega (arith, ints, e, f)
 
   -- a state that is the leader or is ruled out has the coefficient 0, another one the opposite of its value
-  pub value-state : (w : ℕ → ℤ) (m : ℤ) (coefs : List ℤ) (constant : ℤ) (z : ℕ) → IsOpened coefs constant → z < length leaf.states → weighted_sum (coefficient (length leaf.inputs + z)) all_facts (value_terms w m) ≡ (if z == p then pos 0 else (if can_meet leaf p z then pos 0 else neg_ℤ (w z)))
+  pub value-state : (w : ℕ → ℤ) (m : ℤ) (coefs : List ℤ) (constant : ℤ) (z : ℕ) → IsOpened coefs constant → z < length leaf.states → sum_of_facts (coefficient (length leaf.inputs + z)) all_facts (value_terms w m) ≡ (if z == p then pos 0 else (if can_meet_in leaf p z then pos 0 else neg_ℤ (w z)))
   value-state w m coefs constant z is l = go (eqb_tells z p)
     where
       x : ℕ
       x = length leaf.inputs + z
 
-      out_of : (s c : Bool) → (z == p) ≡ s → can_meet leaf p z ≡ c → out_total leaf p w (length leaf.inputs + z) ≡ (if not s && c then w z else pos 0)
-      out_of s c e f = out-state leaf p w z l ∙ ap (λ (k : Bool). if k then w z else pos 0) (ap (λ (k : Bool). not k && can_meet leaf p z) e ∙ ap (λ (k : Bool). not s && k) f)
+      out_of : (s c : Bool) → (z == p) ≡ s → can_meet_in leaf p z ≡ c → out_total leaf p w (length leaf.inputs + z) ≡ (if not s && c then w z else pos 0)
+      out_of s c e f = out-state leaf p w z l ∙ ap (λ (k : Bool). if k then w z else pos 0) (ap (λ (k : Bool). not k && can_meet_in leaf p z) e ∙ ap (λ (k : Bool). not s && k) f)
 
-      alone_of : (s : Bool) → (z == p) ≡ s → (w p *ℤ coefficient (length leaf.inputs + z) (alone leaf p)) ≡ (w p *ℤ indicator s)
+      alone_of : (s : Bool) → (z == p) ≡ s → (w p *ℤ coefficient (length leaf.inputs + z) (alone_fact leaf p)) ≡ (w p *ℤ indicator s)
       alone_of s e = ap (λ c. w p *ℤ c) (alone-at leaf p (length leaf.inputs + z) ∙ ap indicator (shifted (length leaf.inputs) p z ∙ e))
 
-      met : (c : Bool) → can_meet leaf p z ≡ c → (z == p) ≡ false → weighted_sum (coefficient (length leaf.inputs + z)) all_facts (value_terms w m) ≡ (if c then pos 0 else neg_ℤ (w z))
+      met : (c : Bool) → can_meet_in leaf p z ≡ c → (z == p) ≡ false → sum_of_facts (coefficient (length leaf.inputs + z)) all_facts (value_terms w m) ≡ (if c then pos 0 else neg_ℤ (w z))
       met c f e =
           let h = value_sum w m (length leaf.inputs + z) (neg_ℤ (w z)) (pos 0) (if c then w z else pos 0) (w p *ℤ pos 0) (law-state leaf w z l) (opened-past coefs constant m (length leaf.inputs + z) is (omega arith)) (out_of false c e f) (alone_of false e) in
           let none = *ℤ-zero (w p) in
           last c (h ∙ ap (λ k. neg_ℤ (w z) +ℤ pos 0 +ℤ (if c then w z else pos 0) +ℤ k) none)
         where
-          last : (c : Bool) → weighted_sum (coefficient (length leaf.inputs + z)) all_facts (value_terms w m) ≡ (neg_ℤ (w z) +ℤ pos 0 +ℤ (if c then w z else pos 0) +ℤ pos 0) → weighted_sum (coefficient (length leaf.inputs + z)) all_facts (value_terms w m) ≡ (if c then pos 0 else neg_ℤ (w z))
+          last : (c : Bool) → sum_of_facts (coefficient (length leaf.inputs + z)) all_facts (value_terms w m) ≡ (neg_ℤ (w z) +ℤ pos 0 +ℤ (if c then w z else pos 0) +ℤ pos 0) → sum_of_facts (coefficient (length leaf.inputs + z)) all_facts (value_terms w m) ≡ (if c then pos 0 else neg_ℤ (w z))
           last true k = omega (arith, ints, k)
           last false k = omega (arith, ints, k)
 
-      go : ((z == p) ≡ true) × (z ≡ p) ⊎ ((z == p) ≡ false) × (z ≢ p) → weighted_sum (coefficient (length leaf.inputs + z)) all_facts (value_terms w m) ≡ (if z == p then pos 0 else (if can_meet leaf p z then pos 0 else neg_ℤ (w z)))
+      go : ((z == p) ≡ true) × (z ≡ p) ⊎ ((z == p) ≡ false) × (z ≢ p) → sum_of_facts (coefficient (length leaf.inputs + z)) all_facts (value_terms w m) ≡ (if z == p then pos 0 else (if can_meet_in leaf p z then pos 0 else neg_ℤ (w z)))
       go (inl h) =
-          let e = value_sum w m (length leaf.inputs + z) (neg_ℤ (w z)) (pos 0) (pos 0) (w p *ℤ pos 1) (law-state leaf w z l) (opened-past coefs constant m (length leaf.inputs + z) is (omega arith)) (out_of true (can_meet leaf p z) h.0 refl) (alone_of true h.0) in
+          let e = value_sum w m (length leaf.inputs + z) (neg_ℤ (w z)) (pos 0) (pos 0) (w p *ℤ pos 1) (law-state leaf w z l) (opened-past coefs constant m (length leaf.inputs + z) is (omega arith)) (out_of true (can_meet_in leaf p z) h.0 refl) (alone_of true h.0) in
           let one = times-one (w p) in
           let same = ap w h.1 in
           rw h.0 (omega (arith, ints, e, one, same))
-      go (inr h) = rw h.0 (met (can_meet leaf p z) refl h.0)
+      go (inr h) = rw h.0 (met (can_meet_in leaf p z) refl h.0)
 
-  pub value-constant : (w : ℕ → ℤ) (m : ℤ) (coefs : List ℤ) (constant : ℤ) → leaf.helpers ≡ [] → IsOpened coefs constant → weighted_sum constant_of all_facts (value_terms w m) ≡ ((m *ℤ constant) -ℤ w p)
+  pub value-constant : (w : ℕ → ℤ) (m : ℤ) (coefs : List ℤ) (constant : ℤ) → leaf.helpers ≡ [] → IsOpened coefs constant → sum_of_facts constant_of all_facts (value_terms w m) ≡ ((m *ℤ constant) -ℤ w p)
   value-constant w m coefs constant no_helpers is =
       let sum = leader_sum constant_of leaf pred b opened n p (value_mix w m p) twin in
       let first = weighted_sum-map constant_of (flow leaf) w (states_of leaf) ∙ total-none (λ q. w q *ℤ constant_of (flow leaf q)) (states_of leaf) (λ q. ap (λ c. w q *ℤ c) (flow-constant leaf q no_helpers) ∙ *ℤ-zero (w q)) in

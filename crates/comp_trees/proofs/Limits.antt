@@ -12,8 +12,8 @@ use Rattle.cert_base.specs.declared.node.Node.TheVariants.{Present, Trap, Open}
 use Rattle.cert_base.specs.declared.limits.TheConstants.{TERM_LIMIT}
 use Rattle.cert_base.specs.Rows.{terms_from, zeros}
 use Rattle.cert_base.specs.ProofLimits.{IsSmall, IsAscending, IsTermWithin, AreTermsWithin, IsSetWithin, IsNodeWithin, AreNodesWithin}
-use Rattle.cert_base.specs.FactsAndCases.{states_of, can_meet}
-use Rattle.comp_trees.specs.LeaderTree.{leaders, company_of, LeaderMix, mix_of_trap, mix_of_leader, leader_nodes, leader_tree, weighed, no_leader_by, no_leak_by, no_start_by, IsLed}
+use Rattle.cert_base.specs.FactsAndCases.{states_of, can_meet_in}
+use Rattle.comp_trees.specs.LeaderTree.{leaders, company_of, LeaderMix, mix_of_trap, mix_of_leader, leader_nodes, leader_tree, weighed_node, no_leader_mix, no_leak_mix, no_start_mix, IsLed}
 use Rattle.comp_trees.proofs.SameMix.{mix_short}
 use Rattle.comp_layers.proofs.Members.{all_range}
 
@@ -33,7 +33,7 @@ terms-within k (m ∷ ms) l all = go (int_eq m (pos 0)) (terms-within (k + 1) ms
     go true rest = rest
     go false rest = All-cons IsTermWithin (record { at = k; by = m }) (terms_from (k + 1) ms) (omega arith, All-head IsSmall m ms all) rest
 
-pub weighed-within : (ms : List ℤ) → length ms ≤ TERM_LIMIT → All IsSmall ms → IsNodeWithin (weighed ms)
+pub weighed-within : (ms : List ℤ) → length ms ≤ TERM_LIMIT → All IsSmall ms → IsNodeWithin (weighed_node ms)
 weighed-within ms l all = (let long = terms-long 0 ms in omega arith, terms-within 0 ms (omega arith) all)
 
 pub all-zeros : (n : ℕ) → All IsSmall (zeros n)
@@ -46,7 +46,7 @@ one a h = All-cons IsSmall a [] h (All-nil IsSmall)
 pub mix-small : (leaf : LeafModel) (p : ℕ) (mix : LeaderMix) → ((q : ℕ) → q < length leaf.states → IsSmall (mix.flows q)) → IsSmall mix.wrong → IsSmall mix.opened → ((q : ℕ) → q < length leaf.states → IsSmall (mix.ruled_out q)) → IsSmall mix.alone → All IsSmall (mix_of_leader leaf (company_of leaf p) mix p)
 mix-small leaf p mix flows wrong opened out alone =
     let states = All-map IsSmall mix.flows (states_of leaf) (all_range (λ q. IsSmall (mix.flows q)) 0 (length leaf.states) (λ q l m. flows q (omega arith))) in
-    let kept = All-map IsSmall mix.ruled_out (company_of leaf p) (All-filter (λ q. not (q == p) && can_meet leaf p q) (λ q. IsSmall (mix.ruled_out q)) (states_of leaf) (all_range (λ q. IsSmall (mix.ruled_out q)) 0 (length leaf.states) (λ q l m. out q (omega arith)))) in
+    let kept = All-map IsSmall mix.ruled_out (company_of leaf p) (All-filter (λ q. not (q == p) && can_meet_in leaf p q) (λ q. IsSmall (mix.ruled_out q)) (states_of leaf) (all_range (λ q. IsSmall (mix.ruled_out q)) 0 (length leaf.states) (λ q l m. out q (omega arith)))) in
     let base = All-append IsSmall (map mix.flows (states_of leaf)) (pos 0 ∷ pos 0 ∷ mix.wrong ∷ []) states (All-cons IsSmall (pos 0) (pos 0 ∷ mix.wrong ∷ []) (omega arith) (All-cons IsSmall (pos 0) (mix.wrong ∷ []) (omega arith) (one mix.wrong wrong))) in
     let opens = All-append IsSmall (map mix.flows (states_of leaf) ++ pos 0 ∷ pos 0 ∷ mix.wrong ∷ []) (mix.opened ∷ []) base (one mix.opened opened) in
     let trap = All-append IsSmall ((map mix.flows (states_of leaf) ++ pos 0 ∷ pos 0 ∷ mix.wrong ∷ []) ++ mix.opened ∷ []) (pos 0 ∷ []) opens (one (pos 0) (omega arith)) in
@@ -76,26 +76,26 @@ tree-within leaf n ends formed is each =
     let longest = is.few in
     let ones : (m : ℕ) → All IsSmall (replicate m (negsuc 0)) = λ m. All-replicate IsSmall m (negsuc 0) (omega arith) in
     let leak_list = All-append IsSmall (zeros (length leaf.states + 4)) (pos 1 ∷ []) (all-zeros (length leaf.states + 4)) (one (pos 1) (omega arith)) in
-    let leak_long : length (no_leak_by leaf) ≡ length leaf.states + 5 = omega (arith, length-append (zeros (length leaf.states + 4)) (pos 1 ∷ []), length-replicate (length leaf.states + 4) (pos 0)) in
-    let leak = weighed-within (no_leak_by leaf) (omega arith) leak_list in
-    let last = weighed-within (no_leader_by leaf n) (omega (arith, length-append (no_leak_by leaf) (replicate n (negsuc 0)), leak_long, length-replicate n (negsuc 0))) (All-append IsSmall (no_leak_by leaf) (replicate n (negsuc 0)) leak_list (ones n)) in
+    let leak_long : length (no_leak_mix leaf) ≡ length leaf.states + 5 = omega (arith, length-append (zeros (length leaf.states + 4)) (pos 1 ∷ []), length-replicate (length leaf.states + 4) (pos 0)) in
+    let leak = weighed-within (no_leak_mix leaf) (omega arith) leak_list in
+    let last = weighed-within (no_leader_mix leaf n) (omega (arith, length-append (no_leak_mix leaf) (replicate n (negsuc 0)), leak_long, length-replicate n (negsuc 0))) (All-append IsSmall (no_leak_mix leaf) (replicate n (negsuc 0)) leak_list (ones n)) in
     let first_list = zeros (length leaf.states) ++ pos 1 ∷ pos 0 ∷ pos 0 ∷ [] in
     let own_list = zeros (length leaf.moves) ++ replicate (length leaf.inputs) (negsuc 0) in
     let start_all = All-append IsSmall (first_list ++ pos 0 ∷ []) (own_list ++ pos 0 ∷ [])
     (All-append IsSmall first_list (pos 0 ∷ []) (All-append IsSmall (zeros (length leaf.states)) (pos 1 ∷ pos 0 ∷ pos 0 ∷ []) (all-zeros (length leaf.states)) (All-cons IsSmall (pos 1) (pos 0 ∷ pos 0 ∷ []) (omega arith) (All-cons IsSmall (pos 0) (pos 0 ∷ []) (omega arith) (one (pos 0) (omega arith))))) (one (pos 0) (omega arith)))
     (All-append IsSmall own_list (pos 0 ∷ []) (All-append IsSmall (zeros (length leaf.moves)) (replicate (length leaf.inputs) (negsuc 0)) (all-zeros (length leaf.moves)) (ones (length leaf.inputs))) (one (pos 0) (omega arith))) in
-    let start = weighed-within (no_start_by leaf) (omega (arith, length-append (first_list ++ pos 0 ∷ []) (own_list ++ pos 0 ∷ []), length-append first_list (pos 0 ∷ []), length-append (zeros (length leaf.states)) (pos 1 ∷ pos 0 ∷ pos 0 ∷ []), length-replicate (length leaf.states) (pos 0), length-append own_list (pos 0 ∷ []), length-append (zeros (length leaf.moves)) (replicate (length leaf.inputs) (negsuc 0)), length-replicate (length leaf.moves) (pos 0), length-replicate (length leaf.inputs) (negsuc 0))) start_all in
-    let nodes = leader_nodes ends (weighed (no_leader_by leaf n)) 0 n in
+    let start = weighed-within (no_start_mix leaf) (omega (arith, length-append (first_list ++ pos 0 ∷ []) (own_list ++ pos 0 ∷ []), length-append first_list (pos 0 ∷ []), length-append (zeros (length leaf.states)) (pos 1 ∷ pos 0 ∷ pos 0 ∷ []), length-replicate (length leaf.states) (pos 0), length-append own_list (pos 0 ∷ []), length-append (zeros (length leaf.moves)) (replicate (length leaf.inputs) (negsuc 0)), length-replicate (length leaf.moves) (pos 0), length-replicate (length leaf.inputs) (negsuc 0))) start_all in
+    let nodes = leader_nodes ends (weighed_node (no_leader_mix leaf n)) 0 n in
     let set : IsSetWithin (leaders n) = ((omega (arith, length-range_with_len 0 n)), all_range (λ q. q < 2 ^ 16) 0 n (λ q l m. omega arith), ascending 0 n) in (
-      (omega (arith, nodes-long ends (weighed (no_leader_by leaf n)) 0 n)),
-      All-cons IsNodeWithin (Open (length leaf.states + 1)) (Trap (leaders n) ∷ weighed (no_leak_by leaf) ∷ weighed (no_start_by leaf) ∷ nodes) (omega arith)
-          (All-cons IsNodeWithin (Trap (leaders n)) (weighed (no_leak_by leaf) ∷ weighed (no_start_by leaf) ∷ nodes) set
-          (All-cons IsNodeWithin (weighed (no_leak_by leaf)) (weighed (no_start_by leaf) ∷ nodes) leak
-          (All-cons IsNodeWithin (weighed (no_start_by leaf)) nodes start (nodes-within ends (weighed (no_leader_by leaf n)) n 0 n (omega arith) (omega arith) last each)))),
+      (omega (arith, nodes-long ends (weighed_node (no_leader_mix leaf n)) 0 n)),
+      All-cons IsNodeWithin (Open (length leaf.states + 1)) (Trap (leaders n) ∷ weighed_node (no_leak_mix leaf) ∷ weighed_node (no_start_mix leaf) ∷ nodes) (omega arith)
+          (All-cons IsNodeWithin (Trap (leaders n)) (weighed_node (no_leak_mix leaf) ∷ weighed_node (no_start_mix leaf) ∷ nodes) set
+          (All-cons IsNodeWithin (weighed_node (no_leak_mix leaf)) (weighed_node (no_start_mix leaf) ∷ nodes) leak
+          (All-cons IsNodeWithin (weighed_node (no_start_mix leaf)) nodes start (nodes-within ends (weighed_node (no_leader_mix leaf n)) n 0 n (omega arith) (omega arith) last each)))),
     )
 
 -- a leader's node
-pub leader-within : (leaf : LeafModel) (p : ℕ) (mix : LeaderMix) → IsLeaf leaf → p < length leaf.states → All IsSmall (mix_of_leader leaf (company_of leaf p) mix p) → IsNodeWithin (weighed (mix_of_leader leaf (company_of leaf p) mix p))
+pub leader-within : (leaf : LeafModel) (p : ℕ) (mix : LeaderMix) → IsLeaf leaf → p < length leaf.states → All IsSmall (mix_of_leader leaf (company_of leaf p) mix p) → IsNodeWithin (weighed_node (mix_of_leader leaf (company_of leaf p) mix p))
 leader-within leaf p mix formed l all =
     weighed-within (mix_of_leader leaf (company_of leaf p) mix p) (mix_short leaf p mix l (let few = formed.states in omega arith)) all
 

@@ -9,7 +9,7 @@ use Rattle.pop_net.specs.LeafModel.{LeafModel}
 use Rattle.pop_net.specs.declared.limits.TheConstants.{STATE_LIMIT}
 use Rattle.cert_base.specs.declared.limits.TheConstants.{TERM_LIMIT}
 use Rattle.cert_base.specs.Rows.{zeros}
-use Rattle.cert_base.specs.FactsAndCases.{states_of, can_meet}
+use Rattle.cert_base.specs.FactsAndCases.{states_of, can_meet_in}
 use Rattle.comp_trees.specs.LeaderTree.{company_of, LeaderMix, mix_of_trap, mix_of_leader, mix_by}
 use Rattle.comp_layers.proofs.Members.{all_range}
 
@@ -31,7 +31,7 @@ pub same_mix : (leaf : LeafModel) (p : ℕ) (a b : LeaderMix) → AreSame leaf a
 same_mix leaf p a b same =
     let states = all_range (λ q. a.flows q ≡ b.flows q) 0 (length leaf.states) (λ q l m. same.flows q (omega arith)) in
     let flows = map-same a.flows b.flows (states_of leaf) states in
-    let kept = All-filter (λ q. not (q == p) && can_meet leaf p q) (λ q. a.ruled_out q ≡ b.ruled_out q) (states_of leaf) (all_range (λ q. a.ruled_out q ≡ b.ruled_out q) 0 (length leaf.states) (λ q l m. same.ruled_out q (omega arith))) in
+    let kept = All-filter (λ q. not (q == p) && can_meet_in leaf p q) (λ q. a.ruled_out q ≡ b.ruled_out q) (states_of leaf) (all_range (λ q. a.ruled_out q ≡ b.ruled_out q) 0 (length leaf.states) (λ q l m. same.ruled_out q (omega arith))) in
     let out = map-same a.ruled_out b.ruled_out (company_of leaf p) kept in
     let wrong = same.wrong in
     let opened = same.opened in
@@ -62,5 +62,5 @@ mix_short leaf p mix l few =
     let flows = map mix.flows (states_of leaf) in
     let base = flows ++ pos 0 ∷ pos 0 ∷ mix.wrong ∷ [] in
     let own = pos 0 ∷ map mix.ruled_out (company_of leaf p) in
-    let kept = count_by-le-length (λ q. not (q == p) && can_meet leaf p q) (states_of leaf) in
-    omega (arith, length-append (mix_of_trap leaf mix ++ zeros p) (own ++ mix.alone ∷ []), length-append (mix_of_trap leaf mix) (zeros p), length-append (base ++ mix.opened ∷ []) (pos 0 ∷ []), length-append base (mix.opened ∷ []), length-append flows (pos 0 ∷ pos 0 ∷ mix.wrong ∷ []), length-map-range_with_len mix.flows 0 (length leaf.states), length-replicate p (pos 0), length-append own (mix.alone ∷ []), length-map (company_of leaf p) mix.ruled_out, length-filter (λ q. not (q == p) && can_meet leaf p q) (states_of leaf), kept, length-range_with_len 0 (length leaf.states))
+    let kept = count_by-le-length (λ q. not (q == p) && can_meet_in leaf p q) (states_of leaf) in
+    omega (arith, length-append (mix_of_trap leaf mix ++ zeros p) (own ++ mix.alone ∷ []), length-append (mix_of_trap leaf mix) (zeros p), length-append (base ++ mix.opened ∷ []) (pos 0 ∷ []), length-append base (mix.opened ∷ []), length-append flows (pos 0 ∷ pos 0 ∷ mix.wrong ∷ []), length-map-range_with_len mix.flows 0 (length leaf.states), length-replicate p (pos 0), length-append own (mix.alone ∷ []), length-map (company_of leaf p) mix.ruled_out, length-filter (λ q. not (q == p) && can_meet_in leaf p q) (states_of leaf), kept, length-range_with_len 0 (length leaf.states))

@@ -17,11 +17,11 @@ use Rattle.cert_base.specs.declared.fact.Fact.{Fact}
 use Rattle.cert_base.specs.declared.fact.Fact.TheVariants.{Ge, Eq, Holds}
 use Rattle.cert_base.specs.Rows.{terms_from, zeros, single_row, input_variable}
 use Rattle.cert_base.specs.ClosingTests.{coefficient_in, row_of, closes_by_sum, may_add}
-use Rattle.cert_base.specs.FactsAndCases.{indicator, states_of, flow, base_list, two_agents, wrong_output, absent, count_row, is_in, takes_from, puts_into, places_from, some_taken, no_moves, none_started}
+use Rattle.cert_base.specs.FactsAndCases.{indicator, states_of, flow, base_list, two_agents_fact, wrong_output_fact, absent_fact, count_row, is_in, takes_from, puts_into, places_from, some_taken_fact, no_moves, no_start_facts}
 use Rattle.cert_base.proofs.TermLists.{terms_from-zeros}
-use Rattle.cert_base.specs.WeightedSums.{weighted_sum, coefficient, constant_of, may_weigh}
+use Rattle.cert_base.specs.WeightedSums.{sum_of_facts, coefficient, constant_of, may_weigh}
 use Rattle.cert_base.specs.WeightedSums.{total}
-use Rattle.comp_trees.specs.LeaderTree.{leaders, facts_of_trap, facts_without, IsLed, no_leader_by, no_leak_by, no_start_by}
+use Rattle.comp_trees.specs.LeaderTree.{leaders, facts_of_trap, facts_without, IsLed, no_leader_mix, no_leak_mix, no_start_mix}
 use Rattle.cert_base.proofs.WeightedSums.{weighted_sum-append, weighted_sum-zeros, may_weigh-append, may_weigh-zeros, linear_closes-weighted}
 use Rattle.cert_base.proofs.FlowSums.{coefficient-dense, total-same, total-none, total-none_range, total-one, weighted_sum-map, each_variable, unlike, like, times-one}
 use Rattle.comp_trees.proofs.LeaderEnds.{absent-at, shifted, may_weigh-eqs, apart, apart_past}
@@ -112,7 +112,7 @@ module _ (leaf : LeafModel) (pred : PredModel) (b : Bool) (opened : Fact) (n : �
   base = base_list leaf pred b
 
   length_base : length base ≡ length leaf.states + 3
-  length_base = omega (arith, length-append (map (flow leaf) (states_of leaf)) (two_agents leaf ∷ Holds pred b ∷ wrong_output leaf b ∷ []), length-map-range_with_len (flow leaf) 0 (length leaf.states))
+  length_base = omega (arith, length-append (map (flow leaf) (states_of leaf)) (two_agents_fact leaf ∷ Holds pred b ∷ wrong_output_fact leaf b ∷ []), length-map-range_with_len (flow leaf) 0 (length leaf.states))
 
   pub length_opened : length (base ++ opened ∷ []) ≡ length leaf.states + 4
   length_opened = omega (arith, length-append base (opened ∷ []), length_base)
@@ -135,31 +135,31 @@ module _ (leaf : LeafModel) (pred : PredModel) (b : Bool) (opened : Fact) (n : �
       and_no true = refl
       and_no false = refl
 
-  leak_row : (x : ℕ) → coefficient x (some_taken leaf leaks) ≡ pos 0
+  leak_row : (x : ℕ) → coefficient x (some_taken_fact leaf leaks) ≡ pos 0
   leak_row x =
       ap (λ ts. coefficient_in ts x) (ap (λ cs. terms_from 0 (zeros (length leaf.inputs + length leaf.states) ++ cs)) (map-constant (λ t. indicator (leaks t)) (pos 0) leaf.moves none_leaks) ∙ ap (terms_from 0) (zeros-append (length leaf.inputs + length leaf.states) (length leaf.moves)) ∙ no_terms (length leaf.inputs + length leaf.states + length leaf.moves))
 
-  pub no_leak_closes : closes_by_sum ((base ++ opened ∷ []) ++ some_taken leaf leaks ∷ []) (terms_from 0 (no_leak_by leaf)) ≡ true
+  pub no_leak_closes : closes_by_sum ((base ++ opened ∷ []) ++ some_taken_fact leaf leaks ∷ []) (terms_from 0 (no_leak_mix leaf)) ≡ true
   no_leak_closes =
-      linear_closes-weighted facts (no_leak_by leaf)
+      linear_closes-weighted facts (no_leak_mix leaf)
       (may_weigh-append may_add (base ++ opened ∷ []) (leak ∷ []) (zeros (length leaf.states + 4)) (pos 1 ∷ []) len (may_weigh-zeros may_add (base ++ opened ∷ []) (length leaf.states + 4) (omega (arith, length_opened))) refl)
       (λ x. let e = sum (coefficient x) in let f = leak_row x in omega (arith, ints, e, f))
       (let e = sum constant_of in omega (arith, ints, e))
     where
       leak : Fact
-      leak = some_taken leaf leaks
+      leak = some_taken_fact leaf leaks
 
       facts : List Fact
-      facts = (base ++ opened ∷ []) ++ some_taken leaf leaks ∷ []
+      facts = (base ++ opened ∷ []) ++ some_taken_fact leaf leaks ∷ []
 
       len : length (base ++ opened ∷ []) ≡ length (zeros (length leaf.states + 4))
       len = length_opened ∙ sym (length-replicate (length leaf.states + 4) (pos 0))
 
-      sum : (value : Fact → ℤ) → weighted_sum value ((base ++ opened ∷ []) ++ some_taken leaf leaks ∷ []) (no_leak_by leaf) ≡ value (some_taken leaf leaks)
+      sum : (value : Fact → ℤ) → sum_of_facts value ((base ++ opened ∷ []) ++ some_taken_fact leaf leaks ∷ []) (no_leak_mix leaf) ≡ value (some_taken_fact leaf leaks)
       sum value =
-          let e = weighted_sum-append value (base ++ opened ∷ []) (some_taken leaf leaks ∷ []) (zeros (length leaf.states + 4)) (pos 1 ∷ []) len in
+          let e = weighted_sum-append value (base ++ opened ∷ []) (some_taken_fact leaf leaks ∷ []) (zeros (length leaf.states + 4)) (pos 1 ∷ []) len in
           let f = weighted_sum-zeros value (base ++ opened ∷ []) (length leaf.states + 4) in
-          let g = *ℤ_comm (pos 1) (value (some_taken leaf leaks)) ∙ times-one (value (some_taken leaf leaks)) in
+          let g = *ℤ_comm (pos 1) (value (some_taken_fact leaf leaks)) ∙ times-one (value (some_taken_fact leaf leaks)) in
           omega (arith, ints, e, f, g)
 
   -- ---- some input starts there
@@ -168,7 +168,7 @@ module _ (leaf : LeafModel) (pred : PredModel) (b : Bool) (opened : Fact) (n : �
   not_taken = no_moves leaf (puts_into (leaders n))
 
   abbrev not_started : List Fact
-  not_started = none_started leaf (leaders n)
+  not_started = no_start_facts leaf (leaders n)
 
   abbrev no_count : Fact
   no_count = Eq (count_row leaf (leaders n) (pos 0))
@@ -218,26 +218,26 @@ module _ (leaf : LeafModel) (pred : PredModel) (b : Bool) (opened : Fact) (n : �
   length_fourth : length (not_taken ++ not_started) ≡ length (zeros (length leaf.moves) ++ minus_ones)
   length_fourth = omega (arith, length-append not_taken not_started, length-append (zeros (length leaf.moves)) minus_ones, length_third, length_started, length-replicate (length leaf.inputs) (negsuc 0))
 
-  start_sum : (value : Fact → ℤ) → weighted_sum value start_facts (no_start_by leaf) ≡ (value (two_agents leaf) +ℤ total (λ i. negsuc 0 *ℤ value (started i)) (range_with_len 0 (length leaf.inputs)))
+  start_sum : (value : Fact → ℤ) → sum_of_facts value start_facts (no_start_mix leaf) ≡ (value (two_agents_fact leaf) +ℤ total (λ i. negsuc 0 *ℤ value (started i)) (range_with_len 0 (length leaf.inputs)))
   start_sum value =
       let e1 = weighted_sum-append value (base ++ opened ∷ []) ((not_taken ++ not_started) ++ no_count ∷ []) (first_by ++ pos 0 ∷ []) ((zeros (length leaf.moves) ++ minus_ones) ++ pos 0 ∷ []) length_second in
       let e2 = weighted_sum-append value base (opened ∷ []) first_by (pos 0 ∷ []) length_first in
-      let e3 = weighted_sum-append value flows (two_agents leaf ∷ Holds pred b ∷ wrong_output leaf b ∷ []) (zeros (length leaf.states)) (pos 1 ∷ pos 0 ∷ pos 0 ∷ []) length_flows in
+      let e3 = weighted_sum-append value flows (two_agents_fact leaf ∷ Holds pred b ∷ wrong_output_fact leaf b ∷ []) (zeros (length leaf.states)) (pos 1 ∷ pos 0 ∷ pos 0 ∷ []) length_flows in
       let e4 = weighted_sum-append value (not_taken ++ not_started) (no_count ∷ []) (zeros (length leaf.moves) ++ minus_ones) (pos 0 ∷ []) length_fourth in
       let e5 = weighted_sum-append value not_taken not_started (zeros (length leaf.moves)) minus_ones length_third in
       let z1 = weighted_sum-zeros value flows (length leaf.states) in
       let z2 = weighted_sum-zeros value not_taken (length leaf.moves) in
       let z3 = zero-*ℤ (value opened) in
       let z4 = zero-*ℤ (value (Holds pred b)) in
-      let z5 = zero-*ℤ (value (wrong_output leaf b)) in
+      let z5 = zero-*ℤ (value (wrong_output_fact leaf b)) in
       let z6 = zero-*ℤ (value no_count) in
-      let one = *ℤ_comm (pos 1) (value (two_agents leaf)) ∙ times-one (value (two_agents leaf)) in
-      let last : weighted_sum value not_started minus_ones ≡ total (λ i. negsuc 0 *ℤ value (started i)) (range_with_len 0 (length leaf.inputs)) = ap (λ fs. weighted_sum value fs minus_ones) not_started_is ∙ ap (weighted_sum value (map started (range_with_len 0 (length leaf.inputs)))) (sym (range-constant (negsuc 0) 0 (length leaf.inputs))) ∙ weighted_sum-map value started (λ i. negsuc 0) (range_with_len 0 (length leaf.inputs)) in
+      let one = *ℤ_comm (pos 1) (value (two_agents_fact leaf)) ∙ times-one (value (two_agents_fact leaf)) in
+      let last : sum_of_facts value not_started minus_ones ≡ total (λ i. negsuc 0 *ℤ value (started i)) (range_with_len 0 (length leaf.inputs)) = ap (λ fs. sum_of_facts value fs minus_ones) not_started_is ∙ ap (sum_of_facts value (map started (range_with_len 0 (length leaf.inputs)))) (sym (range-constant (negsuc 0) 0 (length leaf.inputs))) ∙ weighted_sum-map value started (λ i. negsuc 0) (range_with_len 0 (length leaf.inputs)) in
       omega (arith, ints, e1, e2, e3, e4, e5, z1, z2, z3, z4, z5, z6, one, last)
 
-  start_may : may_weigh may_add start_facts (no_start_by leaf) ≡ true
+  start_may : may_weigh may_add start_facts (no_start_mix leaf) ≡ true
   start_may =
-      let m1 = may_weigh-append may_add flows (two_agents leaf ∷ Holds pred b ∷ wrong_output leaf b ∷ []) (zeros (length leaf.states)) (pos 1 ∷ pos 0 ∷ pos 0 ∷ []) length_flows (may_weigh-zeros may_add flows (length leaf.states) (omega (arith, length-map-range_with_len (flow leaf) 0 (length leaf.states)))) refl in
+      let m1 = may_weigh-append may_add flows (two_agents_fact leaf ∷ Holds pred b ∷ wrong_output_fact leaf b ∷ []) (zeros (length leaf.states)) (pos 1 ∷ pos 0 ∷ pos 0 ∷ []) length_flows (may_weigh-zeros may_add flows (length leaf.states) (omega (arith, length-map-range_with_len (flow leaf) 0 (length leaf.states)))) refl in
       let m2 = may_weigh-append may_add base (opened ∷ []) first_by (pos 0 ∷ []) length_first m1 refl in
       let m3 = may_weigh-zeros may_add not_taken (length leaf.moves) (omega (arith, length_taken)) in
       let m4 : may_weigh may_add not_started minus_ones ≡ true = rw not_started_is (subst (λ ms. may_weigh may_add (map started (range_with_len 0 (length leaf.inputs))) ms ≡ true) (range-constant (negsuc 0) 0 (length leaf.inputs)) (may_weigh-eqs may_add (λ a row. refl) (λ i. single_row (input_variable leaf i) (pos 1) (pos 0)) (λ i. negsuc 0) (range_with_len 0 (length leaf.inputs)))) in
@@ -245,7 +245,7 @@ module _ (leaf : LeafModel) (pred : PredModel) (b : Bool) (opened : Fact) (n : �
       let m6 = may_weigh-append may_add (not_taken ++ not_started) (no_count ∷ []) (zeros (length leaf.moves) ++ minus_ones) (pos 0 ∷ []) length_fourth m5 refl in
       may_weigh-append may_add (base ++ opened ∷ []) ((not_taken ++ not_started) ++ no_count ∷ []) (first_by ++ pos 0 ∷ []) ((zeros (length leaf.moves) ++ minus_ones) ++ pos 0 ∷ []) length_second m2 m6
 
-  two-at : (x : ℕ) → coefficient x (two_agents leaf) ≡ get_or (replicate (length leaf.inputs) (pos 1)) x (pos 0)
+  two-at : (x : ℕ) → coefficient x (two_agents_fact leaf) ≡ get_or (replicate (length leaf.inputs) (pos 1)) x (pos 0)
   two-at x = coefficient-dense (replicate (length leaf.inputs) (pos 1)) x
 
   started-at : (i x : ℕ) → coefficient x (started i) ≡ indicator (i == x)
@@ -274,7 +274,7 @@ module _ (leaf : LeafModel) (pred : PredModel) (b : Bool) (opened : Fact) (n : �
   started_out x l =
       total-none_range (λ j. negsuc 0 *ℤ coefficient x (started j)) 0 (length leaf.inputs) (λ j m. ap (λ c. negsuc 0 *ℤ c) (started-at j x ∙ ap indicator (unlike j x (apart_high (length leaf.inputs) j x (omega arith) l))))
 
-  start_low : (x : ℕ) → (x < length leaf.inputs) ⊎ (length leaf.inputs ≤ x) → weighted_sum (coefficient x) start_facts (no_start_by leaf) ≤ℤ pos 0
+  start_low : (x : ℕ) → (x < length leaf.inputs) ⊎ (length leaf.inputs ≤ x) → sum_of_facts (coefficient x) start_facts (no_start_mix leaf) ≤ℤ pos 0
   start_low x (inl l) =
       let e = start_sum (coefficient x) in
       let f = two-at x ∙ get_or-replicate (length leaf.inputs) x (pos 1) (pos 0) l in
@@ -286,9 +286,9 @@ module _ (leaf : LeafModel) (pred : PredModel) (b : Bool) (opened : Fact) (n : �
       let g = started_out x l in
       omega (arith, ints, e, f, g)
 
-  pub no_start_closes : closes_by_sum start_facts (terms_from 0 (no_start_by leaf)) ≡ true
+  pub no_start_closes : closes_by_sum start_facts (terms_from 0 (no_start_mix leaf)) ≡ true
   no_start_closes =
-      linear_closes-weighted start_facts (no_start_by leaf) start_may
+      linear_closes-weighted start_facts (no_start_mix leaf) start_may
       (λ x. start_low x (cases_lt x (length leaf.inputs)))
       (let e = start_sum constant_of in let f = total-none (λ (i : ℕ). negsuc 0 *ℤ pos 0) (range_with_len 0 (length leaf.inputs)) (λ i. refl) in let h = ap length is.helpers in omega (arith, ints, e, f, h))
 
@@ -312,44 +312,44 @@ module _ (leaf : LeafModel) (pred : PredModel) (b : Bool) (opened : Fact) (n : �
   length_trap : length trap_facts ≡ length zeros_one
   length_trap = omega (arith, length-append (base ++ opened ∷ []) (trap ∷ []), length-append (zeros (length leaf.states + 4)) (pos 1 ∷ []), length_zeros)
 
-  leader_total : (value : Fact → ℤ) → weighted_sum value (facts_without leaf trap_facts n) (no_leader_by leaf n) ≡ (value trap +ℤ total (λ q. negsuc 0 *ℤ value (absent leaf q)) (leaders n))
+  leader_total : (value : Fact → ℤ) → sum_of_facts value (facts_without leaf trap_facts n) (no_leader_mix leaf n) ≡ (value trap +ℤ total (λ q. negsuc 0 *ℤ value (absent_fact leaf q)) (leaders n))
   leader_total value =
-      let e1 = weighted_sum-append value trap_facts (map (absent leaf) (leaders n)) zeros_one (replicate n (negsuc 0)) length_trap in
+      let e1 = weighted_sum-append value trap_facts (map (absent_fact leaf) (leaders n)) zeros_one (replicate n (negsuc 0)) length_trap in
       let e2 = weighted_sum-append value (base ++ opened ∷ []) (trap ∷ []) (zeros (length leaf.states + 4)) (pos 1 ∷ []) length_zeros in
       let z = weighted_sum-zeros value (base ++ opened ∷ []) (length leaf.states + 4) in
       let one = *ℤ_comm (pos 1) (value trap) ∙ times-one (value trap) in
-      let last : weighted_sum value (map (absent leaf) (leaders n)) (replicate n (negsuc 0)) ≡ total (λ q. negsuc 0 *ℤ value (absent leaf q)) (leaders n) = ap (weighted_sum value (map (absent leaf) (leaders n))) (sym (range-constant (negsuc 0) 0 n)) ∙ weighted_sum-map value (absent leaf) (λ q. negsuc 0) (leaders n) in
+      let last : sum_of_facts value (map (absent_fact leaf) (leaders n)) (replicate n (negsuc 0)) ≡ total (λ q. negsuc 0 *ℤ value (absent_fact leaf q)) (leaders n) = ap (sum_of_facts value (map (absent_fact leaf) (leaders n))) (sym (range-constant (negsuc 0) 0 n)) ∙ weighted_sum-map value (absent_fact leaf) (λ q. negsuc 0) (leaders n) in
       omega (arith, ints, e1, e2, z, one, last)
 
-  leader_may : may_weigh may_add (facts_without leaf trap_facts n) (no_leader_by leaf n) ≡ true
+  leader_may : may_weigh may_add (facts_without leaf trap_facts n) (no_leader_mix leaf n) ≡ true
   leader_may =
       let m1 = may_weigh-append may_add (base ++ opened ∷ []) (trap ∷ []) (zeros (length leaf.states + 4)) (pos 1 ∷ []) length_zeros (may_weigh-zeros may_add (base ++ opened ∷ []) (length leaf.states + 4) (omega (arith, length_opened))) refl in
-      let m2 : may_weigh may_add (map (absent leaf) (leaders n)) (replicate n (negsuc 0)) ≡ true = subst (λ ms. may_weigh may_add (map (absent leaf) (leaders n)) ms ≡ true) (range-constant (negsuc 0) 0 n) (may_weigh-eqs may_add (λ a row. refl) (λ q. row_of (absent leaf q)) (λ q. negsuc 0) (leaders n)) in
-      may_weigh-append may_add trap_facts (map (absent leaf) (leaders n)) zeros_one (replicate n (negsuc 0)) length_trap m1 m2
+      let m2 : may_weigh may_add (map (absent_fact leaf) (leaders n)) (replicate n (negsuc 0)) ≡ true = subst (λ ms. may_weigh may_add (map (absent_fact leaf) (leaders n)) ms ≡ true) (range-constant (negsuc 0) 0 n) (may_weigh-eqs may_add (λ a row. refl) (λ q. row_of (absent_fact leaf q)) (λ q. negsuc 0) (leaders n)) in
+      may_weigh-append may_add trap_facts (map (absent_fact leaf) (leaders n)) zeros_one (replicate n (negsuc 0)) length_trap m1 m2
 
-  absents_none : (x : ℕ) → ((q : ℕ) → q < n → (length leaf.inputs + q) ≢ x) → total (λ q. negsuc 0 *ℤ coefficient x (absent leaf q)) (leaders n) ≡ pos 0
+  absents_none : (x : ℕ) → ((q : ℕ) → q < n → (length leaf.inputs + q) ≢ x) → total (λ q. negsuc 0 *ℤ coefficient x (absent_fact leaf q)) (leaders n) ≡ pos 0
   absents_none x ne =
-      total-none_range (λ q. negsuc 0 *ℤ coefficient x (absent leaf q)) 0 n (λ q l. ap (λ c. negsuc 0 *ℤ c) (absent-at leaf q x ∙ ap indicator (unlike (length leaf.inputs + q) x (ne q (omega arith)))))
+      total-none_range (λ q. negsuc 0 *ℤ coefficient x (absent_fact leaf q)) 0 n (λ q l. ap (λ c. negsuc 0 *ℤ c) (absent-at leaf q x ∙ ap indicator (unlike (length leaf.inputs + q) x (ne q (omega arith)))))
 
-  absents_one : (z : ℕ) → z < n → total (λ q. negsuc 0 *ℤ coefficient (length leaf.inputs + z) (absent leaf q)) (leaders n) ≡ negsuc 0
+  absents_one : (z : ℕ) → z < n → total (λ q. negsuc 0 *ℤ coefficient (length leaf.inputs + z) (absent_fact leaf q)) (leaders n) ≡ negsuc 0
   absents_one z l =
-      total-same (λ q. negsuc 0 *ℤ coefficient (length leaf.inputs + z) (absent leaf q)) (λ q. negsuc 0 *ℤ indicator (z == q)) (leaders n) (λ q. ap (λ c. negsuc 0 *ℤ c) (absent-at leaf q (length leaf.inputs + z) ∙ ap indicator (shifted (length leaf.inputs) q z)))
+      total-same (λ q. negsuc 0 *ℤ coefficient (length leaf.inputs + z) (absent_fact leaf q)) (λ q. negsuc 0 *ℤ indicator (z == q)) (leaders n) (λ q. ap (λ c. negsuc 0 *ℤ c) (absent-at leaf q (length leaf.inputs + z) ∙ ap indicator (shifted (length leaf.inputs) q z)))
       ∙ total-one (λ q. negsuc 0) n z l
 
   other_state : (v q z : ℕ) → q < n → n ≤ z → (v + q) ≢ (v + z)
   other_state v q z l m e = omega arith
 
-  leader_low : (x : ℕ) → weighted_sum (coefficient x) (facts_without leaf trap_facts n) (no_leader_by leaf n) ≤ℤ pos 0
-  leader_low = each_variable leaf (λ x. weighted_sum (coefficient x) (facts_without leaf trap_facts n) (no_leader_by leaf n) ≤ℤ pos 0) at_input at_state (λ t l. at_late t) (λ j. at_late (length leaf.moves + j))
+  leader_low : (x : ℕ) → sum_of_facts (coefficient x) (facts_without leaf trap_facts n) (no_leader_mix leaf n) ≤ℤ pos 0
+  leader_low = each_variable leaf (λ x. sum_of_facts (coefficient x) (facts_without leaf trap_facts n) (no_leader_mix leaf n) ≤ℤ pos 0) at_input at_state (λ t l. at_late t) (λ j. at_late (length leaf.moves + j))
     where
-      at_input : (i : ℕ) → i < length leaf.inputs → weighted_sum (coefficient i) (facts_without leaf trap_facts n) (no_leader_by leaf n) ≤ℤ pos 0
+      at_input : (i : ℕ) → i < length leaf.inputs → sum_of_facts (coefficient i) (facts_without leaf trap_facts n) (no_leader_mix leaf n) ≤ℤ pos 0
       at_input i l =
           let e = leader_total (coefficient i) in
           let f = states-input leaf in_trap i l in
           let g = absents_none i (λ q m. apart (length leaf.inputs) q i l) in
           omega (arith, ints, e, f, g)
 
-      at_late : (j : ℕ) → weighted_sum (coefficient (length leaf.inputs + length leaf.states + j)) (facts_without leaf trap_facts n) (no_leader_by leaf n) ≤ℤ pos 0
+      at_late : (j : ℕ) → sum_of_facts (coefficient (length leaf.inputs + length leaf.states + j)) (facts_without leaf trap_facts n) (no_leader_mix leaf n) ≤ℤ pos 0
       at_late j =
           let x = length leaf.inputs + length leaf.states + j in
           let e = leader_total (coefficient x) in
@@ -357,7 +357,7 @@ module _ (leaf : LeafModel) (pred : PredModel) (b : Bool) (opened : Fact) (n : �
           let g = absents_none x (λ q m. apart_past (length leaf.inputs) (length leaf.states) q j (let few = is.leaders in omega arith)) in
           omega (arith, ints, e, f, g)
 
-      leader_or_not : (z : ℕ) → z < length leaf.states → (z < n) ⊎ (n ≤ z) → weighted_sum (coefficient (length leaf.inputs + z)) (facts_without leaf trap_facts n) (no_leader_by leaf n) ≤ℤ pos 0
+      leader_or_not : (z : ℕ) → z < length leaf.states → (z < n) ⊎ (n ≤ z) → sum_of_facts (coefficient (length leaf.inputs + z)) (facts_without leaf trap_facts n) (no_leader_mix leaf n) ≤ℤ pos 0
       leader_or_not z l (inl m) =
           let e = leader_total (coefficient (length leaf.inputs + z)) in
           let f = states-state leaf in_trap z l ∙ ap indicator (is_in-yes n z m) in
@@ -369,10 +369,10 @@ module _ (leaf : LeafModel) (pred : PredModel) (b : Bool) (opened : Fact) (n : �
           let g = absents_none (length leaf.inputs + z) (λ q k. other_state (length leaf.inputs) q z k m) in
           omega (arith, ints, e, f, g)
 
-      at_state : (z : ℕ) → z < length leaf.states → weighted_sum (coefficient (length leaf.inputs + z)) (facts_without leaf trap_facts n) (no_leader_by leaf n) ≤ℤ pos 0
+      at_state : (z : ℕ) → z < length leaf.states → sum_of_facts (coefficient (length leaf.inputs + z)) (facts_without leaf trap_facts n) (no_leader_mix leaf n) ≤ℤ pos 0
       at_state z l = leader_or_not z l (cases_lt z n)
 
-  pub no_leader_closes : closes_by_sum (facts_without leaf trap_facts n) (terms_from 0 (no_leader_by leaf n)) ≡ true
+  pub no_leader_closes : closes_by_sum (facts_without leaf trap_facts n) (terms_from 0 (no_leader_mix leaf n)) ≡ true
   no_leader_closes =
-      linear_closes-weighted (facts_without leaf trap_facts n) (no_leader_by leaf n) leader_may leader_low
+      linear_closes-weighted (facts_without leaf trap_facts n) (no_leader_mix leaf n) leader_may leader_low
       (let e = leader_total constant_of in let f = total-none (λ (q : ℕ). negsuc 0 *ℤ pos 0) (leaders n) (λ q. refl) in omega (arith, ints, e, f))

@@ -7,7 +7,7 @@ use Rattle.std.proofs.lemmas.List.FromFn.{length-map-range_with_len}
 use Rattle.pop_net.specs.LeafModel.{LeafModel}
 use Rattle.cert_base.specs.declared.node.Node.{Node}
 use Rattle.cert_base.specs.declared.node.Node.TheVariants.{Present}
-use Rattle.comp_trees.specs.LeaderTree.{leader_nodes, leader_tree, tree_of_ends, top_nodes, weighed, no_leader_by}
+use Rattle.comp_trees.specs.LeaderTree.{leader_nodes, leader_tree, tree_of_ends, top_nodes, weighed_node, no_leader_mix}
 
 reverse-cons : {A : Type 0} (x : A) (xs : List A) → reverse (x ∷ xs) ≡ reverse xs ++ x ∷ []
 reverse-cons x xs = reverse-append (x ∷ []) xs
@@ -23,5 +23,5 @@ nodes-flat ends last p (suc k) =
 pub tree-flat : (leaf : LeafModel) (n : ℕ) (ends : ℕ → Node) → tree_of_ends leaf (map ends (range_with_len 0 n)) ≡ leader_tree leaf n ends
 tree-flat leaf n ends =
     let nodes = map ends (range_with_len 0 n) in
-    ap (λ k. ((top_nodes leaf k ++ map Present (range_with_len 0 k)) ++ weighed (no_leader_by leaf k) ∷ []) ++ reverse nodes) (length-map-range_with_len ends 0 n)
-    ∙ ap (λ ns. top_nodes leaf n ++ ns) (sym (nodes-flat ends (weighed (no_leader_by leaf n)) 0 n))
+    ap (λ k. ((top_nodes leaf k ++ map Present (range_with_len 0 k)) ++ weighed_node (no_leader_mix leaf k) ∷ []) ++ reverse nodes) (length-map-range_with_len ends 0 n)
+    ∙ ap (λ ns. top_nodes leaf n ++ ns) (sym (nodes-flat ends (weighed_node (no_leader_mix leaf n)) 0 n))

@@ -10,7 +10,7 @@ use Rattle.cert_base.specs.declared.fact.Fact.TheVariants.{Ge}
 use Rattle.cert_base.specs.declared.node.Node.{Node}
 use Rattle.cert_base.specs.declared.node.Node.TheVariants.{Linear, Present, Trap, Open}
 use Rattle.cert_base.specs.Rows.{terms_from, zeros}
-use Rattle.cert_base.specs.FactsAndCases.{indicator, differs, states_of, can_meet, absent, occurs, alone, count_row}
+use Rattle.cert_base.specs.FactsAndCases.{indicator, differs, states_of, can_meet_in, absent_fact, occurs_fact, alone_fact, count_row}
 
 -- the leaders
 abbrev pub leaders : ℕ → List ℕ
@@ -18,19 +18,19 @@ leaders n = range_with_len 0 n
 
 -- the states that a leader's presence rules out
 abbrev pub company_of : LeafModel → ℕ → List ℕ
-company_of leaf p = filter (λ q. not (q == p) && can_meet leaf p q) (states_of leaf)
+company_of leaf p = filter (λ q. not (q == p) && can_meet_in leaf p q) (states_of leaf)
 
 -- the facts above the leaders' nodes, and those above the node of a leader that is present
 abbrev pub facts_of_trap : LeafModel → List Fact → Fact → ℕ → List Fact
 facts_of_trap leaf base opened n = (base ++ opened ∷ []) ++ Ge (count_row leaf (leaders n) (negsuc 0)) ∷ []
 
 abbrev pub facts_without : LeafModel → List Fact → ℕ → List Fact
-facts_without leaf facts p = facts ++ map (absent leaf) (range_with_len 0 p)
+facts_without leaf facts p = facts ++ map (absent_fact leaf) (range_with_len 0 p)
 
 abbrev pub facts_of_leader : LeafModel → List Fact → ℕ → List Fact
 facts_of_leader leaf facts p =
     facts_without leaf facts p
-    ++ ((occurs leaf p ∷ map (absent leaf) (company_of leaf p)) ++ (if can_meet leaf p p then (alone leaf p ∷ []) else []))
+    ++ ((occurs_fact leaf p ∷ map (absent_fact leaf) (company_of leaf p)) ++ (if can_meet_in leaf p p then (alone_fact leaf p ∷ []) else []))
 
 -- the multipliers of a leader's node
 pub record LeaderMix : Type 0 where
@@ -55,26 +55,26 @@ leader_nodes ends last p zero = last ∷ []
 leader_nodes ends last p (suc k) = Present p ∷ (leader_nodes ends last (p + 1) k ++ ends p ∷ [])
 
 -- with n leaders: the trap's fact, less the facts that each leader is absent
-abbrev pub no_leader_by : LeafModel → ℕ → List ℤ
-no_leader_by leaf n = (zeros (length leaf.states + 4) ++ pos 1 ∷ []) ++ replicate n (negsuc 0)
+abbrev pub no_leader_mix : LeafModel → ℕ → List ℤ
+no_leader_mix leaf n = (zeros (length leaf.states + 4) ++ pos 1 ∷ []) ++ replicate n (negsuc 0)
 
 -- no move takes from the leaders and puts none among them
-abbrev pub no_leak_by : LeafModel → List ℤ
-no_leak_by leaf = zeros (length leaf.states + 4) ++ pos 1 ∷ []
+abbrev pub no_leak_mix : LeafModel → List ℤ
+no_leak_mix leaf = zeros (length leaf.states + 4) ++ pos 1 ∷ []
 
 -- there are two agents at least, and no input starts among the leaders
-abbrev pub no_start_by : LeafModel → List ℤ
-no_start_by leaf =
+abbrev pub no_start_mix : LeafModel → List ℤ
+no_start_mix leaf =
     ((zeros (length leaf.states) ++ pos 1 ∷ pos 0 ∷ pos 0 ∷ []) ++ pos 0 ∷ [])
     ++ ((zeros (length leaf.moves) ++ replicate (length leaf.inputs) (negsuc 0)) ++ pos 0 ∷ [])
 
-abbrev pub weighed : List ℤ → Node
-weighed multipliers = Linear (terms_from 0 multipliers)
+abbrev pub weighed_node : List ℤ → Node
+weighed_node multipliers = Linear (terms_from 0 multipliers)
 
 abbrev pub leader_tree : LeafModel → ℕ → (ℕ → Node) → List Node
 leader_tree leaf n ends =
-    Open (length leaf.states + 1) ∷ Trap (leaders n) ∷ weighed (no_leak_by leaf) ∷ weighed (no_start_by leaf)
-    ∷ leader_nodes ends (weighed (no_leader_by leaf n)) 0 n
+    Open (length leaf.states + 1) ∷ Trap (leaders n) ∷ weighed_node (no_leak_mix leaf) ∷ weighed_node (no_start_mix leaf)
+    ∷ leader_nodes ends (weighed_node (no_leader_mix leaf n)) 0 n
 
 -- ---- the two kinds of nodes of a leader
 
@@ -106,7 +106,7 @@ pub record IsLed (leaf : LeafModel) (n : ℕ) : Type 0 where
   pub leaders : n ≤ length leaf.states
   pub inputs : All (λ q. q < n) leaf.inputs
   pub moves : All (λ t. t.r < n) leaf.moves
-  pub twins : (p : ℕ) → p < n → can_meet leaf p p ≡ true
+  pub twins : (p : ℕ) → p < n → can_meet_in leaf p p ≡ true
   -- the longest case is that the leaders were never marked
   pub few : length leaf.states + length leaf.moves + length leaf.inputs + 5 ≤ FACT_LIMIT
 
@@ -126,14 +126,14 @@ mix_by flows wrong opened ruled_out alone =
 -- the nodes above the leaders'
 abbrev pub top_nodes : LeafModel → ℕ → List Node
 top_nodes leaf n =
-    Open (length leaf.states + 1) ∷ Trap (leaders n) ∷ weighed (no_leak_by leaf) ∷ weighed (no_start_by leaf) ∷ []
+    Open (length leaf.states + 1) ∷ Trap (leaders n) ∷ weighed_node (no_leak_mix leaf) ∷ weighed_node (no_start_mix leaf) ∷ []
 
 -- the tree whose leaders' nodes are these, the first leader's node first
 abbrev pub tree_of_ends : LeafModel → List Node → List Node
 tree_of_ends leaf ends =
-    ((top_nodes leaf (length ends) ++ map Present (range_with_len 0 (length ends))) ++ weighed (no_leader_by leaf (length ends)) ∷ []) ++ reverse ends
+    ((top_nodes leaf (length ends) ++ map Present (range_with_len 0 (length ends))) ++ weighed_node (no_leader_mix leaf (length ends)) ∷ []) ++ reverse ends
 
 -- the multipliers before those of the leader's own facts
-abbrev pub above : List ℤ → ℤ → ℤ → ℕ → List ℤ
-above flows wrong opened leader =
+abbrev pub mix_above : List ℤ → ℤ → ℤ → ℕ → List ℤ
+mix_above flows wrong opened leader =
     (((flows ++ pos 0 ∷ pos 0 ∷ wrong ∷ []) ++ opened ∷ []) ++ pos 0 ∷ []) ++ zeros leader

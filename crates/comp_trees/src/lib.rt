@@ -1,6 +1,6 @@
 //! Trees of cases for a leaf in which leaders turn the others.
 //! It stands on `cert_base`, and on the lists of `comp_layers`.
-//! The layer above uses: `tree` and `multipliers` are the defined ones; `leader_tree-closes` says when such a tree closes.
+//! The layer above uses: `tree` and `multipliers` are the defined ones; `leader_tree-closes` says when one closes.
 //!
 //! Agents start as leaders, and each move leaves a leader. So the leaders are a trap that is marked at the start, and
 //! one is left at the end. Any two leaders can meet, so at a terminal end there is no other. Each leader in turn is

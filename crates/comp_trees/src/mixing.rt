@@ -2,8 +2,7 @@
 
 ghost use Rattle.std.specs.Prelude.{◌≡◌, ◌∷◌, ◌++◌, [], pos, map, All, slice_index_or, ◌<◌, ◌≤◌, ◌^◌, length, IfOk};
 ghost use Rattle.cert_base.specs.Rows.{terms_from};
-ghost use Rattle.comp_trees.specs.LeaderTree.{weighed as weighed_by, mix_by, mix_of_leader, company_of};
-ghost use Rattle.comp_trees.specs.LeaderTree.{above as above_list};
+ghost use Rattle.comp_trees.specs.LeaderTree.{weighed_node, mix_by, mix_of_leader, company_of, mix_above};
 
 use crate::others::company;
 use cert_base::{Node, Row, Term};
@@ -23,7 +22,7 @@ pub fn terms(alloc: Global, multipliers: &[i64]) -> Result<List<Term>, NoMemory>
 /// The node that these multipliers close.
 pub fn weighed(alloc: Global, multipliers: &[i64]) -> Result<Node, NoMemory>
     requires { length multipliers.now ≤ 2 ^ 32 }
-    ensures { IfOk result (λ node. node ≡ weighed_by multipliers.now) }
+    ensures { IfOk result (λ node. node ≡ weighed_node multipliers.now) }
 {
     Ok(Node::Linear(terms(alloc, multipliers)?))
 }
@@ -94,7 +93,7 @@ fn above(
     wrong: i64,
     opened: i64,
 ) -> Result<Vec<i64>, NoMemory>
-    ensures { IfOk result (λ multipliers. multipliers.items ≡ above_list flows.now wrong opened leader) }
+    ensures { IfOk result (λ multipliers. multipliers.items ≡ mix_above flows.now wrong opened leader) }
 {
     let mut multipliers = Vec::from_slice(alloc, flows)?;
     multipliers.extend_from_slice(&[0, 0, wrong])?;

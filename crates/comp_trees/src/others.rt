@@ -1,7 +1,7 @@
 //! The states that one state's presence rules out.
 
 ghost use Rattle.std.specs.Prelude.{◌≡◌, ◌<◌, ◌++◌, ◌∷◌, ◌==◌, ◌&&◌, not, [], length, All, if◌then◌else◌, IfOk, OnOk};
-ghost use Rattle.cert_base.specs.FactsAndCases.{can_meet as can_meet_in};
+ghost use Rattle.cert_base.specs.FactsAndCases.{can_meet_in};
 ghost use Rattle.comp_trees.specs.LeaderTree.{company_of};
 
 use cert_base::can_meet;

@@ -3,8 +3,8 @@
 ghost use Rattle.std.specs.Prelude.{◌≡◌, ◌++◌, ◌≤◌, ◌+◌, ◌^◌, map, reverse, length, IfOk, OnOk};
 ghost use Rattle.std.specs.List.{range_with_len};
 ghost use Rattle.cert_base.specs.declared.node.Node.TheVariants.{Present as present_node};
-ghost use Rattle.comp_trees.specs.LeaderTree.{tree_of_ends, no_leak_by as leak_list, no_start_by as start_list};
-ghost use Rattle.comp_trees.specs.LeaderTree.{no_leader_by as leader_list, top_nodes, weighed as weighed_list};
+ghost use Rattle.comp_trees.specs.LeaderTree.{tree_of_ends, no_leak_mix, no_start_mix};
+ghost use Rattle.comp_trees.specs.LeaderTree.{no_leader_mix, top_nodes, weighed_node};
 
 use crate::mixing::weighed;
 use cert_base::Node;
@@ -58,7 +58,7 @@ fn top(alloc: Global, leaf: &Leaf, leaders: u16) -> Result<Vec<Node>, NoMemory>
 }
 
 fn no_leak(alloc: Global, leaf: &Leaf) -> Result<Node, NoMemory>
-    ensures { IfOk result (λ node. node ≡ weighed_list (leak_list leaf.now)) }
+    ensures { IfOk result (λ node. node ≡ weighed_node (no_leak_mix leaf.now)) }
 {
     let _states = leaf.state_count();
     let multipliers = no_leak_by(alloc, leaf)?;
@@ -66,7 +66,7 @@ fn no_leak(alloc: Global, leaf: &Leaf) -> Result<Node, NoMemory>
 }
 
 fn no_start(alloc: Global, leaf: &Leaf) -> Result<Node, NoMemory>
-    ensures { IfOk result (λ node. node ≡ weighed_list (start_list leaf.now)) }
+    ensures { IfOk result (λ node. node ≡ weighed_node (no_start_mix leaf.now)) }
 {
     let multipliers = no_start_by(alloc, leaf)?;
     weighed(alloc, multipliers.as_slice())
@@ -84,7 +84,7 @@ fn leader_set(alloc: Global, leaders: u16) -> Result<List<u16>, NoMemory>
 
 /// The trap's fact.
 fn no_leak_by(alloc: Global, leaf: &Leaf) -> Result<Vec<i64>, NoMemory>
-    ensures list { IfOk result (λ multipliers. multipliers.items ≡ leak_list leaf.now) }
+    ensures list { IfOk result (λ multipliers. multipliers.items ≡ no_leak_mix leaf.now) }
     ensures size { IfOk result (λ multipliers. length multipliers.items ≡ length leaf.now.states + 5) }
 {
     let mut multipliers = vec![in alloc; 0i64; usize::from(leaf.state_count()) + 4]?;
@@ -93,7 +93,7 @@ fn no_leak_by(alloc: Global, leaf: &Leaf) -> Result<Vec<i64>, NoMemory>
 }
 
 fn no_start_by(alloc: Global, leaf: &Leaf) -> Result<Vec<i64>, NoMemory>
-    ensures list { IfOk result (λ multipliers. multipliers.items ≡ start_list leaf.now) }
+    ensures list { IfOk result (λ multipliers. multipliers.items ≡ no_start_mix leaf.now) }
     ensures short { IfOk result (λ multipliers. length multipliers.items ≤ 2 ^ 32) }
 {
     let mut multipliers = vec![in alloc; 0i64; usize::from(leaf.state_count())]?;
@@ -109,7 +109,7 @@ fn no_start_by(alloc: Global, leaf: &Leaf) -> Result<Vec<i64>, NoMemory>
 
 /// The trap's fact, less that each leader is absent.
 fn no_leader(alloc: Global, leaf: &Leaf, leaders: u16) -> Result<Node, NoMemory>
-    ensures { IfOk result (λ node. node ≡ weighed_list (leader_list leaf.now leaders)) }
+    ensures { IfOk result (λ node. node ≡ weighed_node (no_leader_mix leaf.now leaders)) }
 {
     let _states = leaf.state_count();
     let mut multipliers = no_leak_by(alloc, leaf)?;

@@ -7,7 +7,7 @@ use Rattle.serde_json.specs.View.{view}
 use Rattle.serde_json.specs.declared.value.Value.{Value}
 use Rattle.json_shape.specs.declared.fault.FormatFault.{FormatFault}
 use Rattle.json_shape.specs.declared.fault.FormatFault.TheVariants.{Broken, NoMemory}
-use Rattle.json_shape.specs.Faults.{Fault, ◌>>=◌, Fails}
+use Rattle.json_shape.specs.Faults.{Fault, ◌>>=◌, FailsRead}
 use Rattle.json_shape.specs.Shapes.{each}
 
 drop_next : (vs : List Value) (i : ℕ) (v : Value) → i < length vs → v ≡ get_or vs i v → drop i (map view vs) ≡ view v ∷ drop (suc i) (map view vs)
@@ -22,8 +22,8 @@ module _ {A : Type 0} (at : List A → ℕ → Data → Result A Fault) (found :
   next : (v : Value) → i < length vs → v ≡ get_or vs i v → each at found i (drop i (map view vs)) ≡ (at found i (view v) >>= λ x. each at (found ++ x ∷ []) (i + 1) (drop (i + 1) (map view vs)))
   next v lt is = rw (next_drop vs i v lt is) refl
 
-  pub each-fails : (e : FormatFault) (v : Value) (total : Result (List A) Fault) → i < length vs → v ≡ get_or vs i v → Fails e (at found i (view v))
-      → each at found i (drop i (map view vs)) ≡ total → Fails e total
+  pub each-fails : (e : FormatFault) (v : Value) (total : Result (List A) Fault) → i < length vs → v ≡ get_or vs i v → FailsRead e (at found i (view v))
+      → each at found i (drop i (map view vs)) ≡ total → FailsRead e total
   each-fails NoMemory v total lt is failed so_far = tt
   each-fails (Broken p w) v total lt is failed so_far = sym so_far ∙ next v lt is ∙ rw failed refl
 

@@ -3,8 +3,8 @@ use Rattle.std.proofs.Common.{◌≡◌, ℕ, List, Result}
 use Rattle.json_shape.specs.declared.fault.Why.{Why}
 use Rattle.json_shape.specs.declared.fault.FormatFault.{FormatFault}
 use Rattle.json_shape.specs.declared.fault.FormatFault.TheVariants.{Broken, NoMemory}
-use Rattle.json_shape.specs.Faults.{Fault, broken, Says, Fails}
+use Rattle.json_shape.specs.Faults.{Fault, broken, Says, FailsRead}
 
-pub Fails-said : {Y : Type 0} (e : FormatFault) (path : List ℕ) (why : Why) (read : Result Y Fault) → Says e path why → read ≡ broken path why → Fails e read
+pub Fails-said : {Y : Type 0} (e : FormatFault) (path : List ℕ) (why : Why) (read : Result Y Fault) → Says e path why → read ≡ broken path why → FailsRead e read
 Fails-said NoMemory path why read said is = tt
 Fails-said (Broken p w) path why read said is = rw (said.0, said.1) is

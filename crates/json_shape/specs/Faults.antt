@@ -24,9 +24,9 @@ Says NoMemory path why = Unit {0}
 Says (Broken p w) path why = (p ≡ path) × (w ≡ why)
 
 -- the fault is what reading gives, unless out of memory
-abbrev pub Fails : {Y : Type 0} → FormatFault → Result Y Fault → Type 0
-Fails e read = FailsBy fault_of e read
+abbrev pub FailsRead : {Y : Type 0} → FormatFault → Result Y Fault → Type 0
+FailsRead e read = FailsBy fault_of e read
 
 -- what a function returned, seen by `view`, is what reading gives, unless out of memory
-abbrev pub Gives : {X Y : Type 0} → (X → Y) → Result X FormatFault → Result Y Fault → Type 0
-Gives view result read = GivesBy fault_of view result read
+abbrev pub GivesRead : {X Y : Type 0} → (X → Y) → Result X FormatFault → Result Y Fault → Type 0
+GivesRead view result read = GivesBy fault_of view result read

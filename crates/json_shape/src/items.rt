@@ -2,7 +2,7 @@
 
 ghost use Rattle.std.specs.Prelude.{◌≡◌, ◌≤◌, [], length, IfOk};
 ghost use Rattle.serde_json.specs.View.{view};
-ghost use Rattle.json_shape.specs.Faults.{Gives};
+ghost use Rattle.json_shape.specs.Faults.{GivesRead};
 ghost use Rattle.json_shape.specs.Paths.{path_text};
 ghost use Rattle.json_shape.specs.Shapes.{each_at};
 
@@ -37,7 +37,7 @@ pub trait ReadItem {
         value: &Value,
     ) -> Result<Self::Item, FormatFault>
         requires { can_read self.now }
-        ensures { Gives (λ x. x) result (item_at self.now (path_text path.now) found.now (view value.now)) };
+        ensures { GivesRead (λ x. x) result (item_at self.now (path_text path.now) found.now (view value.now)) };
 }
 
 /// The items of a list of `least` to `most`, one after the other.
@@ -51,7 +51,7 @@ pub fn each_of<R: ReadItem>(
     value: &Value,
 ) -> Result<List<R::Item>, FormatFault>
     requires { R.can_read reader.now }
-    ensures items { Gives (λ xs. xs) result
+    ensures items { GivesRead (λ xs. xs) result
         (each_at (R.item_at reader.now) (path_text path.now) least most (view value.now)) }
     ensures count { IfOk result (λ xs. (least ≤ length xs) × (length xs ≤ most)) }
 {

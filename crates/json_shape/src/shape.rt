@@ -2,7 +2,7 @@
 
 ghost use Rattle.std.specs.Prelude.{◌≡◌, ◌≤◌, length, map, nat_abs, IfOk};
 ghost use Rattle.serde_json.specs.View.{view};
-ghost use Rattle.json_shape.specs.Faults.{Gives};
+ghost use Rattle.json_shape.specs.Faults.{GivesRead};
 ghost use Rattle.json_shape.specs.Paths.{path_text};
 ghost use Rattle.json_shape.specs.Shapes.{object_at, member_at, list_at, number_at, integer_at, ascending_at};
 ghost use Rattle.json_shape.specs.Shapes.{comes_after, text_at, truth_at};
@@ -15,7 +15,7 @@ use std::alloc::Global;
 /// That the value is an object.
 #[tactic(auto, unfolding(crate::specs::Shapes::object_at))]
 pub fn object_of(alloc: Global, path: &Path<'_>, value: &Value) -> Result<(), FormatFault>
-    ensures { Gives (λ u. u) result (object_at (path_text path.now) (view value.now)) }
+    ensures { GivesRead (λ u. u) result (object_at (path_text path.now) (view value.now)) }
 {
     if !value.is_object() {
         return Err(broken(alloc, path, Why::Kind));
@@ -30,7 +30,7 @@ pub fn member_of<'v>(
     name: &str,
     value: &'v Value,
 ) -> Result<&'v Value, FormatFault>
-    ensures { Gives (λ v. view v.now) result (member_at (path_text path.now) name.now (view value.now)) }
+    ensures { GivesRead (λ v. view v.now) result (member_at (path_text path.now) name.now (view value.now)) }
 {
     match value.get(name) {
         Some(member) => Ok(member),
@@ -47,7 +47,7 @@ pub fn list_of<'v>(
     most: usize,
     value: &'v Value,
 ) -> Result<&'v Vec<Value>, FormatFault>
-    ensures list { Gives (λ v. map view v.now.items) result
+    ensures list { GivesRead (λ v. map view v.now.items) result
         (list_at (path_text path.now) least most (view value.now)) }
     ensures count { IfOk result (λ v. (least ≤ length v.now.items) × (length v.now.items ≤ most)) }
 {
@@ -69,7 +69,7 @@ pub fn number_of(
     most: u32,
     value: &Value,
 ) -> Result<u32, FormatFault>
-    ensures number { Gives (λ n. n) result (number_at (path_text path.now) least most (view value.now)) }
+    ensures number { GivesRead (λ n. n) result (number_at (path_text path.now) least most (view value.now)) }
     ensures within { IfOk result (λ n. (least ≤ n) × (n ≤ most)) }
 {
     let Some(number) = value.as_i64() else {
@@ -89,7 +89,7 @@ pub fn integer_of(
     most: u64,
     value: &Value,
 ) -> Result<i64, FormatFault>
-    ensures number { Gives (λ z. z) result (integer_at (path_text path.now) most (view value.now)) }
+    ensures number { GivesRead (λ z. z) result (integer_at (path_text path.now) most (view value.now)) }
     ensures size { IfOk result (λ z. nat_abs z ≤ most) }
 {
     let Some(number) = value.as_i64() else {
@@ -119,7 +119,7 @@ pub fn ascending_of(
     before: Option<u32>,
     value: &Value,
 ) -> Result<u32, FormatFault>
-    ensures number { Gives (λ n. n) result (ascending_at (path_text path.now) most before (view value.now)) }
+    ensures number { GivesRead (λ n. n) result (ascending_at (path_text path.now) most before (view value.now)) }
     ensures within { IfOk result (λ n. n ≤ most) }
 {
     let number = number_of(alloc, path, 0, most, value)?;
@@ -132,7 +132,7 @@ pub fn ascending_of(
 /// A text.
 #[tactic(auto, unfolding(crate::specs::Shapes::text_at))]
 pub fn text_of<'v>(alloc: Global, path: &Path<'_>, value: &'v Value) -> Result<&'v str, FormatFault>
-    ensures { Gives (λ s. s.now) result (text_at (path_text path.now) (view value.now)) }
+    ensures { GivesRead (λ s. s.now) result (text_at (path_text path.now) (view value.now)) }
 {
     match value.as_str() {
         Some(text) => Ok(text),
@@ -143,7 +143,7 @@ pub fn text_of<'v>(alloc: Global, path: &Path<'_>, value: &'v Value) -> Result<&
 /// `true` or `false`.
 #[tactic(auto, unfolding(crate::specs::Shapes::truth_at))]
 pub fn truth_of(alloc: Global, path: &Path<'_>, value: &Value) -> Result<bool, FormatFault>
-    ensures { Gives (λ b. b) result (truth_at (path_text path.now) (view value.now)) }
+    ensures { GivesRead (λ b. b) result (truth_at (path_text path.now) (view value.now)) }
 {
     match value.as_bool() {
         Some(truth) => Ok(truth),

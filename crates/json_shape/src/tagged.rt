@@ -2,7 +2,7 @@
 
 ghost use Rattle.std.specs.Prelude.{◌≡◌, map};
 ghost use Rattle.serde_json.specs.View.{view};
-ghost use Rattle.json_shape.specs.Faults.{Gives};
+ghost use Rattle.json_shape.specs.Faults.{GivesRead};
 ghost use Rattle.json_shape.specs.Paths.{path_text};
 ghost use Rattle.json_shape.specs.Shapes.{items_at, pair_at, word_at, one_after, two_after};
 
@@ -19,7 +19,7 @@ pub fn items_of<'v>(
     path: &Path<'_>,
     value: &'v Value,
 ) -> Result<&'v [Value], FormatFault>
-    ensures { Gives (λ vs. map view vs.now) result (items_at (path_text path.now) (view value.now)) }
+    ensures { GivesRead (λ vs. map view vs.now) result (items_at (path_text path.now) (view value.now)) }
 {
     match value.as_array() {
         Some(list) => Ok(list.as_slice()),
@@ -34,7 +34,7 @@ pub fn pair_of<'v>(
     path: &Path<'_>,
     value: &'v Value,
 ) -> Result<(&'v Value, &'v Value), FormatFault>
-    ensures { Gives (λ p. (view p.0.now, view p.1.now)) result (pair_at (path_text path.now) (view value.now)) }
+    ensures { GivesRead (λ p. (view p.0.now, view p.1.now)) result (pair_at (path_text path.now) (view value.now)) }
 {
     let items = items_of(alloc, path, value)?;
     let [first, second] = items else {
@@ -50,7 +50,7 @@ pub fn word_of<'v>(
     path: &Path<'_>,
     items: &'v [Value],
 ) -> Result<&'v str, FormatFault>
-    ensures { Gives (λ s. s.now) result (word_at (path_text path.now) (map view items.now)) }
+    ensures { GivesRead (λ s. s.now) result (word_at (path_text path.now) (map view items.now)) }
 {
     match items {
         [] => Err(broken(alloc, path, Why::Kind)),
@@ -65,7 +65,7 @@ pub fn only_item<'v>(
     path: &Path<'_>,
     items: &'v [Value],
 ) -> Result<&'v Value, FormatFault>
-    ensures { Gives (λ v. view v.now) result (one_after (path_text path.now) (map view items.now)) }
+    ensures { GivesRead (λ v. view v.now) result (one_after (path_text path.now) (map view items.now)) }
 {
     let [_, item] = items else {
         return Err(broken(alloc, path, Why::Kind));
@@ -80,7 +80,8 @@ pub fn both_items<'v>(
     path: &Path<'_>,
     items: &'v [Value],
 ) -> Result<(&'v Value, &'v Value), FormatFault>
-    ensures { Gives (λ p. (view p.0.now, view p.1.now)) result (two_after (path_text path.now) (map view items.now)) }
+    ensures { GivesRead
+        (λ p. (view p.0.now, view p.1.now)) result (two_after (path_text path.now) (map view items.now)) }
 {
     let [_, first, second] = items else {
         return Err(broken(alloc, path, Why::Kind));

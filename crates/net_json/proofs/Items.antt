@@ -6,7 +6,7 @@ use Rattle.serde_json.specs.Find.{as_str}
 use Rattle.json_shape.specs.declared.fault.Why.TheVariants.{Shape}
 use Rattle.json_shape.specs.declared.fault.FormatFault.{FormatFault}
 use Rattle.json_shape.specs.declared.fault.FormatFault.TheVariants.{Broken, NoMemory}
-use Rattle.json_shape.specs.Faults.{Fault, ◌>>=◌, Says, Fails}
+use Rattle.json_shape.specs.Faults.{Fault, ◌>>=◌, Says, FailsRead}
 use Rattle.json_shape.specs.Paths.{item_path}
 use Rattle.json_shape.proofs.FaultLemmas.{Fails-said}
 use Rattle.pop_net.specs.declared.net.Item.{Item}
@@ -46,16 +46,16 @@ after_item-length Or [] after e = absurd cc
 after_item-length Or (d ∷ []) after e = absurd cc
 after_item-length Or (d ∷ c ∷ ds) after e = let is = ap length_of e in omega (arith, is)
 
-fails_on : {A B : Type 0} (e : FormatFault) (read : Result A Fault) (f : A → Result B Fault) → Fails e read → Fails e (read >>= f)
+fails_on : {A B : Type 0} (e : FormatFault) (read : Result A Fault) (f : A → Result B Fault) → FailsRead e read → FailsRead e (read >>= f)
 fails_on NoMemory read f failed = tt
 fails_on (Broken p w) read f failed = rw failed refl
 
 module _ (path : List ℕ) (leaves : ℕ) (found : List Item) (i : ℕ) (d : Data) where
-  pub operand-fails : (e : FormatFault) → Fails e (operand_at (item_path path i) leaves d (as_str d)) → Fails e (combine_item path leaves found i d)
+  pub operand-fails : (e : FormatFault) → FailsRead e (operand_at (item_path path i) leaves d (as_str d)) → FailsRead e (combine_item path leaves found i d)
   unfolding item_at
   operand-fails e failed = fails_on e (operand_at (item_path path i) leaves d (as_str d)) _ failed
 
-  pub shape-fails : (e : FormatFault) (item : Item) (trees : List ℕ) → operand_at (item_path path i) leaves d (as_str d) ≡ Ok item → open_depths found ≡ Some trees → are_low (after_item depth_operators item trees) ≡ false → Says e (item_path path i) Shape → Fails e (combine_item path leaves found i d)
+  pub shape-fails : (e : FormatFault) (item : Item) (trees : List ℕ) → operand_at (item_path path i) leaves d (as_str d) ≡ Ok item → open_depths found ≡ Some trees → are_low (after_item depth_operators item trees) ≡ false → Says e (item_path path i) Shape → FailsRead e (combine_item path leaves found i d)
   unfolding item_at
   shape-fails e item trees read is high said =
       Fails-said e (item_path path i) Shape (combine_item path leaves found i d) said (rw (read, open_next found trees item is, high) refl)

@@ -21,7 +21,7 @@ use Rattle.pop_io.specs.declared.names.TheConstants.{VARIABLE_LIMIT}
 use Rattle.pop_net.specs.declared.limits.TheConstants.{STATE_LIMIT, MOVE_LIMIT, HELPER_LIMIT}
 use Rattle.net_json.specs.declared.format.TheConstants.{PLAIN_FORMAT, HELPER_FORMAT}
 use Rattle.net_json.specs.NetFile.{IsMove, AreHelpers, IsLeafFile}
-use Rattle.net_json.specs.Examined.{name_at, names_at, four_at, move_at, move_item, moves_at, state_item, states_at, inputs_at, truth_item, outputs_at, helper_range, helpers_at, leaf_at}
+use Rattle.net_json.specs.Examined.{name_at, names_at, four_at, move_at, move_item, leaf_moves_at, leaf_state_item, leaf_states_at, inputs_at, truth_item, outputs_at, helpers_allowed, helpers_at, leaf_at}
 
 abbrev IsNewName : (List ℕ → Bool) → List (List ℕ) → List ℕ → Type 0
 IsNewName is_name found s = IsTrue (is_name s) × Fresh.IsFresh found s
@@ -125,27 +125,27 @@ module _ (states : ℕ) (some_state : 1 ≤ states) where
   unfolding move_at
   move_again path found i d t is below = rw is.1 (four_again (item_path path i) (listed is.0) t is.2 below)
 
-  pub moves_at-takes : (path : List ℕ) (d : Data) (ts : List Move) → moves_at states path d ≡ Ok ts → IsList IsMove ts d × All (IsMoveBelow states) ts × (length ts ≤ MOVE_LIMIT)
+  pub moves_at-takes : (path : List ℕ) (d : Data) (ts : List Move) → leaf_moves_at states path d ≡ Ok ts → IsList IsMove ts d × All (IsMoveBelow states) ts × (length ts ≤ MOVE_LIMIT)
   unfolding each_at
   moves_at-takes path d ts e =
       let r = Readers.list-takes (item_by (move_item states) path) IsMove (λ _ t. IsMoveBelow states t) (move_takes path) path 0 MOVE_LIMIT d ts e in
       (r.0, Fresh.EachFrom-All (IsMoveBelow states) [] ts r.1, r.3)
 
-  pub moves_at-again : (path : List ℕ) (d : Data) (ts : List Move) → IsList IsMove ts d → All (IsMoveBelow states) ts → length ts ≤ MOVE_LIMIT → moves_at states path d ≡ Ok ts
+  pub moves_at-again : (path : List ℕ) (d : Data) (ts : List Move) → IsList IsMove ts d → All (IsMoveBelow states) ts → length ts ≤ MOVE_LIMIT → leaf_moves_at states path d ≡ Ok ts
   unfolding each_at
   moves_at-again path d ts is below hi =
       Readers.list-again (item_by (move_item states) path) IsMove (λ _ t. IsMoveBelow states t) (move_again path) path 0 MOVE_LIMIT d ts is (Fresh.All-EachFrom (IsMoveBelow states) [] ts below) (omega arith) hi
 
-  pub states_at-takes : (least most : ℕ) (path : List ℕ) (d : Data) (qs : List ℕ) → states_at least most states path d ≡ Ok qs → IsList IsNumber qs d × All (λ q. q < states) qs × (least ≤ length qs) × (length qs ≤ most)
+  pub states_at-takes : (least most : ℕ) (path : List ℕ) (d : Data) (qs : List ℕ) → leaf_states_at least most states path d ≡ Ok qs → IsList IsNumber qs d × All (λ q. q < states) qs × (least ≤ length qs) × (length qs ≤ most)
   unfolding each_at
   states_at-takes least most path d qs e =
-      let r = Readers.list-takes (item_by (state_item states) path) IsNumber (λ _ q. q < states) (λ found i d q e. state_takes (item_path path i) d q e) path least most d qs e in
+      let r = Readers.list-takes (item_by (leaf_state_item states) path) IsNumber (λ _ q. q < states) (λ found i d q e. state_takes (item_path path i) d q e) path least most d qs e in
       (r.0, Fresh.EachFrom-All (λ q. q < states) [] qs r.1, r.2, r.3)
 
-  pub states_at-again : (least most : ℕ) (path : List ℕ) (d : Data) (qs : List ℕ) → IsList IsNumber qs d → All (λ q. q < states) qs → least ≤ length qs → length qs ≤ most → states_at least most states path d ≡ Ok qs
+  pub states_at-again : (least most : ℕ) (path : List ℕ) (d : Data) (qs : List ℕ) → IsList IsNumber qs d → All (λ q. q < states) qs → least ≤ length qs → length qs ≤ most → leaf_states_at least most states path d ≡ Ok qs
   unfolding each_at
   states_at-again least most path d qs is below lo hi =
-      Readers.list-again (item_by (state_item states) path) IsNumber (λ _ q. q < states) (λ found i d q is below. state_again (item_path path i) d q is below) path least most d qs is (Fresh.All-EachFrom (λ q. q < states) [] qs below) lo hi
+      Readers.list-again (item_by (leaf_state_item states) path) IsNumber (λ _ q. q < states) (λ found i d q is below. state_again (item_path path i) d q is below) path least most d qs is (Fresh.All-EachFrom (λ q. q < states) [] qs below) lo hi
 
   any_truth : (found bs : List Bool) → Readers.EachFrom (λ _ _. Unit {0}) found bs
   any_truth found [] = tt
@@ -177,7 +177,7 @@ helpers_at-takes None states some path d hs e =
     let none : hs ≡ [] = cc in
     (none, subst (All (λ q. q < states)) (sym none) (All-nil (λ q. q < states)), tt)
 helpers_at-takes (Some range) states some path d hs e =
-    let h = bind_ok (member_at path (codes "helpers") d) (λ e. states_at range.0 range.1 states (member_path path (codes "helpers")) e) hs e in
+    let h = bind_ok (member_at path (codes "helpers") d) (λ e. leaf_states_at range.0 range.1 states (member_path path (codes "helpers")) e) hs e in
     let t = states_at-takes states some range.0 range.1 (member_path path (codes "helpers")) h.0 hs h.2 in
     ((h.0, Readers.member_at-takes path (codes "helpers") d h.0 h.1, t.0), t.1, (t.2, t.3))
 
@@ -188,24 +188,24 @@ helpers_at-again (Some range) states some path d hs told below fits =
 
 module _ (format variables : ℕ) (known : (format ≡ PLAIN_FORMAT) ⊎ (format ≡ HELPER_FORMAT)) (some_variable : 1 ≤ variables) (few_variables : variables ≤ VARIABLE_LIMIT) where
   -- what a file says of helpers, by its format
-  of_format : (found : List LeafModel) (hs : List ℕ) (d : Data) → TellsHelpers (helper_range format found) hs d → AreHelpers format hs d
+  of_format : (found : List LeafModel) (hs : List ℕ) (d : Data) → TellsHelpers (helpers_allowed format found) hs d → AreHelpers format hs d
   of_format found hs d = by_format known
     where
-      by_format : (format ≡ PLAIN_FORMAT) ⊎ (format ≡ HELPER_FORMAT) → TellsHelpers (helper_range format found) hs d → AreHelpers format hs d
-      by_format (inl plain) told = inl (plain, subst (λ (f : ℕ). TellsHelpers (helper_range f found) hs d) plain told)
-      by_format (inr helped) told = inr (helped, subst (λ (f : ℕ). TellsHelpers (helper_range f found) hs d) helped told)
+      by_format : (format ≡ PLAIN_FORMAT) ⊎ (format ≡ HELPER_FORMAT) → TellsHelpers (helpers_allowed format found) hs d → AreHelpers format hs d
+      by_format (inl plain) told = inl (plain, subst (λ (f : ℕ). TellsHelpers (helpers_allowed f found) hs d) plain told)
+      by_format (inr helped) told = inr (helped, subst (λ (f : ℕ). TellsHelpers (helpers_allowed f found) hs d) helped told)
 
   -- the leaf of the lists that were read
   leaf_of : (range : Option (ℕ × ℕ)) (path : List ℕ) (d : Data) (ss : List (List ℕ)) (ts : List Move) (qs : List ℕ) (bs : List Bool) (hs : List ℕ)
       → member_by path (codes "states") (names_at state_name STATE_LIMIT) d ≡ Ok ss
-      → member_by path (codes "moves") (moves_at (length ss)) d ≡ Ok ts
+      → member_by path (codes "moves") (leaf_moves_at (length ss)) d ≡ Ok ts
       → member_by path (codes "input") (inputs_at variables (length ss)) d ≡ Ok qs
       → member_by path (codes "output") (outputs_at (length ss)) d ≡ Ok bs
       → helpers_at range (length ss) path d ≡ Ok hs
       → (let leaf : LeafModel = record { states = ss; moves = ts; inputs = qs; outputs = bs; helpers = hs } in ((TellsHelpers range hs d → AreHelpers format hs d) → IsLeafFile format leaf d) × (IfSome range (λ r. r.1 ≤ HELPER_LIMIT) → IsLeaf leaf) × (length leaf.inputs ≡ variables) × TellsHelpers range hs d × Allows range hs)
   leaf_of range path d ss ts qs bs hs s m q o h =
       let s' = bind_ok (member_at path (codes "states") d) (λ e. names_at state_name STATE_LIMIT (member_path path (codes "states")) e) ss s in
-      let m' = bind_ok (member_at path (codes "moves") d) (λ e. moves_at (length ss) (member_path path (codes "moves")) e) ts m in
+      let m' = bind_ok (member_at path (codes "moves") d) (λ e. leaf_moves_at (length ss) (member_path path (codes "moves")) e) ts m in
       let q' = bind_ok (member_at path (codes "input") d) (λ e. inputs_at variables (length ss) (member_path path (codes "input")) e) qs q in
       let o' = bind_ok (member_at path (codes "output") d) (λ e. outputs_at (length ss) (member_path path (codes "output")) e) bs o in
       let st = names_at-takes state_name STATE_LIMIT (member_path path (codes "states")) s'.0 ss s'.2 in
@@ -247,7 +247,7 @@ module _ (format variables : ℕ) (known : (format ≡ PLAIN_FORMAT) ⊎ (format
   pub leaf_read : (range : Option (ℕ × ℕ)) (path : List ℕ) (d e f g h : Data) (n : ℕ) (ss : List (List ℕ)) (ts : List Move) (qs : List ℕ) (bs : List Bool) (hs : List ℕ) → n ≡ length ss
       → IfSome range (λ r. r.1 ≤ HELPER_LIMIT)
       → member_at path (codes "states") d ≡ Ok e → names_at state_name STATE_LIMIT (member_path path (codes "states")) e ≡ Ok ss
-      → member_at path (codes "moves") d ≡ Ok f → moves_at n (member_path path (codes "moves")) f ≡ Ok ts
+      → member_at path (codes "moves") d ≡ Ok f → leaf_moves_at n (member_path path (codes "moves")) f ≡ Ok ts
       → member_at path (codes "input") d ≡ Ok g → inputs_at variables n (member_path path (codes "input")) g ≡ Ok qs
       → member_at path (codes "output") d ≡ Ok h → outputs_at n (member_path path (codes "output")) h ≡ Ok bs
       → helpers_at range n path d ≡ Ok hs
@@ -255,7 +255,7 @@ module _ (format variables : ℕ) (known : (format ≡ PLAIN_FORMAT) ⊎ (format
   leaf_read range path d e f g h n ss ts qs bs hs long most s s' m m' q q' o o' hs' =
       (leaf_of range path d ss ts qs bs hs
       (rw s s')
-      (rw m (subst (λ (k : ℕ). moves_at k (member_path path (codes "moves")) f ≡ Ok ts) long m'))
+      (rw m (subst (λ (k : ℕ). leaf_moves_at k (member_path path (codes "moves")) f ≡ Ok ts) long m'))
       (rw q (subst (λ (k : ℕ). inputs_at variables k (member_path path (codes "input")) g ≡ Ok qs) long q'))
       (rw o (subst (λ (k : ℕ). outputs_at k (member_path path (codes "output")) h ≡ Ok bs) long o'))
       (subst (λ (k : ℕ). helpers_at range k path d ≡ Ok hs) long hs')).1 most
@@ -263,15 +263,15 @@ module _ (format variables : ℕ) (known : (format ≡ PLAIN_FORMAT) ⊎ (format
   -- what is known of a leaf that stands behind others
   abbrev pub Follows : List LeafModel → LeafModel → Type 0
   Follows found leaf =
-      (IfSome (helper_range format found) (λ r. r.1 ≤ HELPER_LIMIT) → IsLeaf leaf) × (length leaf.inputs ≡ variables) × Allows (helper_range format found) leaf.helpers × (format ≡ PLAIN_FORMAT → leaf.helpers ≡ [])
+      (IfSome (helpers_allowed format found) (λ r. r.1 ≤ HELPER_LIMIT) → IsLeaf leaf) × (length leaf.inputs ≡ variables) × Allows (helpers_allowed format found) leaf.helpers × (format ≡ PLAIN_FORMAT → leaf.helpers ≡ [])
 
-  pub leaf_at-takes : (found : List LeafModel) (path : List ℕ) (d : Data) (leaf : LeafModel) → leaf_at (helper_range format found) variables path d ≡ Ok leaf → IsLeafFile format leaf d × Follows found leaf
+  pub leaf_at-takes : (found : List LeafModel) (path : List ℕ) (d : Data) (leaf : LeafModel) → leaf_at (helpers_allowed format found) variables path d ≡ Ok leaf → IsLeafFile format leaf d × Follows found leaf
   unfolding leaf_at
   leaf_at-takes found path d leaf e =
-      let range = helper_range format found in
+      let range = helpers_allowed format found in
       let made = λ (ss : List (List ℕ)) (ts : List Move) (qs : List ℕ) (bs : List Bool) (hs : List ℕ). (let o : Result LeafModel Fault = Ok (record { states = ss; moves = ts; inputs = qs; outputs = bs; helpers = hs }) in o) in
       let names = member_by path (codes "states") (names_at state_name STATE_LIMIT) d in
-      let moves = λ (ss : List (List ℕ)). member_by path (codes "moves") (moves_at (length ss)) d in
+      let moves = λ (ss : List (List ℕ)). member_by path (codes "moves") (leaf_moves_at (length ss)) d in
       let input = λ (ss : List (List ℕ)). member_by path (codes "input") (inputs_at variables (length ss)) d in
       let output = λ (ss : List (List ℕ)). member_by path (codes "output") (outputs_at (length ss)) d in
       let helpers = λ (ss : List (List ℕ)). helpers_at range (length ss) path d in
@@ -283,7 +283,7 @@ module _ (format variables : ℕ) (known : (format ≡ PLAIN_FORMAT) ⊎ (format
       let h = bind_ok (helpers s.0) (λ hs. made s.0 m.0 q.0 o.0 hs) leaf o.2 in
       let r = leaf_of range path d s.0 m.0 q.0 o.0 h.0 s.1 m.1 q.1 o.1 h.1 in
       subst (λ (l : LeafModel). IsLeafFile format l d × Follows found l) (same_ok (record { states = s.0; moves = m.0; inputs = q.0; outputs = o.0; helpers = h.0 }) leaf h.2)
-      (r.0 (of_format found h.0 d), (r.1, r.2, r.4, λ plain. subst (λ (f : ℕ). TellsHelpers (helper_range f found) h.0 d) plain r.3))
+      (r.0 (of_format found h.0 d), (r.1, r.2, r.4, λ plain. subst (λ (f : ℕ). TellsHelpers (helpers_allowed f found) h.0 d) plain r.3))
 
 pub leaf_at-again : (range : Option (ℕ × ℕ)) (format variables : ℕ) (path : List ℕ) (d : Data) (leaf : LeafModel) → IsLeafFile format leaf d → TellsHelpers range leaf.helpers d → Allows range leaf.helpers → IsLeaf leaf → length leaf.inputs ≡ variables → leaf_at range variables path d ≡ Ok leaf
 unfolding leaf_at

@@ -11,7 +11,7 @@ use Rattle.pop_io.specs.Names.{variable_name}
 use Rattle.json_shape.specs.declared.fault.Why.TheVariants.{Name, Shape}
 use Rattle.json_shape.specs.declared.fault.FormatFault.{FormatFault}
 use Rattle.json_shape.specs.declared.fault.FormatFault.TheVariants.{Broken, NoMemory}
-use Rattle.json_shape.specs.Faults.{Fault, ◌>>=◌, broken, Gives}
+use Rattle.json_shape.specs.Faults.{Fault, ◌>>=◌, broken, GivesRead}
 use Rattle.json_shape.specs.Paths.{member_path, item_path}
 use Rattle.json_shape.specs.Shapes.{listed, object_at, member_at, member_by, number_at, item_by, each_at}
 use Rattle.json_shape.specs.Parts.{IsNumber, AreItems, IsList}
@@ -22,14 +22,14 @@ use Rattle.pop_net.specs.declared.net.Item.{Item}
 use Rattle.pop_net.specs.declared.net.Item.TheVariants.{Leaf, Not, And, Or}
 use Rattle.pop_net.specs.LeafModel.{LeafModel, IsLeaf}
 use Rattle.pop_net.specs.NetModel.{NetModel, IsNet, NamesBelow, combined, depth_operators, helpers_of}
-use Rattle.pop_net.specs.NetFaults.{are_low, wide_leaf}
+use Rattle.pop_net.specs.NetFaults.{are_low, first_wide_leaf}
 use Rattle.pop_io.specs.declared.names.TheConstants.{VARIABLE_LIMIT}
 use Rattle.pop_net.specs.declared.limits.TheConstants.{HELPER_LIMIT, LEAF_LIMIT, ITEM_LIMIT, DEPTH_LIMIT}
 use Rattle.pop_net.proofs.NetFaults.{none_wide}
 use Rattle.net_json.specs.declared.format.TheConstants.{PLAIN_FORMAT, HELPER_FORMAT}
 use Rattle.net_json.specs.NetFile.{IsItem, AreHelpers, IsLeafFile, IsNetFile}
 use Rattle.net_json.specs.Kept.{IsBroken}
-use Rattle.net_json.specs.Examined.{names_at, range_after, helper_range, leaf_item, leaves_at, fitting, operand_at, open_depths, item_at, combine_item, items_at, combine_at, net_at}
+use Rattle.net_json.specs.Examined.{names_at, range_after, helpers_allowed, leaf_item, leaves_at, fitting_net, operand_at, open_depths, item_at, combine_item, items_at, combine_at, net_at}
 use Rattle.net_json.proofs.LeafLaws.{names_at-takes, names_at-again, Allows, TellsHelpers, Follows, leaf_at-takes, leaf_at-again}
 use Rattle.net_json.proofs.Postfix.{IsPlaced, placed-takes, placed-again, one_tree, some_item}
 
@@ -125,12 +125,12 @@ module _ (format variables : ℕ) (known : (format ≡ PLAIN_FORMAT) ⊎ (format
       by_format : (format ≡ PLAIN_FORMAT) ⊎ (format ≡ HELPER_FORMAT) → length leaf.helpers ≡ length first.helpers
       by_format (inl plain) = ap length (h.3 plain) ∙ sym (ap length (none plain))
       by_format (inr helped) =
-          let a : Allows (helper_range HELPER_FORMAT (first ∷ found)) leaf.helpers = subst (λ (f : ℕ). Allows (helper_range f (first ∷ found)) leaf.helpers) helped h.2 in
+          let a : Allows (helpers_allowed HELPER_FORMAT (first ∷ found)) leaf.helpers = subst (λ (f : ℕ). Allows (helpers_allowed f (first ∷ found)) leaf.helpers) helped h.2 in
           let x = a.0 in
           let y = a.1 in
           omega (arith, x, y)
 
-  in_limit : (first : LeafModel) (found : List LeafModel) → IsLeaf first → IfSome (helper_range format (first ∷ found)) (λ r. r.1 ≤ HELPER_LIMIT)
+  in_limit : (first : LeafModel) (found : List LeafModel) → IsLeaf first → IfSome (helpers_allowed format (first ∷ found)) (λ r. r.1 ≤ HELPER_LIMIT)
   in_limit first found is = go (format == PLAIN_FORMAT)
     where
       go : (b : Bool) → IfSome (if b then None else Some (range_after (first ∷ found))) (λ (r : ℕ × ℕ). r.1 ≤ HELPER_LIMIT)
@@ -145,7 +145,7 @@ module _ (format variables : ℕ) (known : (format ≡ PLAIN_FORMAT) ⊎ (format
       ((each.0.0 (in_limit first found is), each.0.1), one_number first leaf found none each.0)
       (later_leaves first (found ++ leaf ∷ []) leaves is none each.1)
 
-  first_in_limit : IfSome (helper_range format []) (λ r. r.1 ≤ HELPER_LIMIT)
+  first_in_limit : IfSome (helpers_allowed format []) (λ r. r.1 ≤ HELPER_LIMIT)
   first_in_limit = go (format == PLAIN_FORMAT)
     where
       go : (b : Bool) → IfSome (if b then None else Some (range_after [])) (λ (r : ℕ × ℕ). r.1 ≤ HELPER_LIMIT)
@@ -168,10 +168,10 @@ module _ (format variables : ℕ) (known : (format ≡ PLAIN_FORMAT) ⊎ (format
 
 -- what is asked of a leaf behind others, to be read
 abbrev Fitting : ℕ → ℕ → List LeafModel → LeafModel → Type 0
-Fitting format variables found leaf = IsLeafOf variables leaf × Allows (helper_range format found) leaf.helpers
+Fitting format variables found leaf = IsLeafOf variables leaf × Allows (helpers_allowed format found) leaf.helpers
 
 module _ (format variables : ℕ) where
-  allowed : (found : List LeafModel) (hs : List ℕ) → (range_after found).0 ≤ length hs → length hs ≤ (range_after found).1 → Allows (helper_range format found) hs
+  allowed : (found : List LeafModel) (hs : List ℕ) → (range_after found).0 ≤ length hs → length hs ≤ (range_after found).1 → Allows (helpers_allowed format found) hs
   allowed found hs least most = go (format == PLAIN_FORMAT)
     where
       go : (b : Bool) → Allows (if b then None else Some (range_after found)) hs
@@ -197,19 +197,19 @@ module _ (format variables : ℕ) where
       )
 
   -- what a file of a format says of helpers
-  told : (found : List LeafModel) (hs : List ℕ) (d : Data) → AreHelpers format hs d → TellsHelpers (helper_range format found) hs d
-  told found hs d (inl h) = subst (λ (f : ℕ). TellsHelpers (helper_range f found) hs d) (sym h.0) h.1
-  told found hs d (inr h) = subst (λ (f : ℕ). TellsHelpers (helper_range f found) hs d) (sym h.0) h.1
+  told : (found : List LeafModel) (hs : List ℕ) (d : Data) → AreHelpers format hs d → TellsHelpers (helpers_allowed format found) hs d
+  told found hs d (inl h) = subst (λ (f : ℕ). TellsHelpers (helpers_allowed f found) hs d) (sym h.0) h.1
+  told found hs d (inr h) = subst (λ (f : ℕ). TellsHelpers (helpers_allowed f found) hs d) (sym h.0) h.1
 
   leaves_at-again : (path : List ℕ) (d : Data) (leaves : List LeafModel) → IsList (IsLeafFile format) leaves d → All (λ leaf. IsLeafOf variables leaf × (length leaf.helpers ≡ helpers_of leaves)) leaves → 1 ≤ length leaves → length leaves ≤ LEAF_LIMIT → leaves_at format variables path d ≡ Ok leaves
   unfolding each_at
   leaves_at-again path d leaves is all lo hi =
       Readers.list-again (item_by (leaf_item format variables) path) (IsLeafFile format) (Fitting format variables)
-      (λ found i x leaf file fits. leaf_at-again (helper_range format found) format variables (item_path path i) x leaf file (told found leaf.helpers x file.helpers) fits.1 fits.0.0 fits.0.1)
+      (λ found i x leaf file fits. leaf_at-again (helpers_allowed format found) format variables (item_path path i) x leaf file (told found leaf.helpers x file.helpers) fits.1 fits.0.0 fits.0.1)
       path 1 LEAF_LIMIT d leaves is (fitting_each leaves all) lo hi
 
 -- no leaf is too wide for the others exactly when a wide net has few leaves
-fitting-takes : (path : List ℕ) (found : Option ℕ) (made net : NetModel) → fitting path found made ≡ Ok net → (found ≡ None) × (made ≡ net)
+fitting-takes : (path : List ℕ) (found : Option ℕ) (made net : NetModel) → fitting_net path found made ≡ Ok net → (found ≡ None) × (made ≡ net)
 fitting-takes path None made net e = (refl, same_ok made net e)
 fitting-takes path (Some i) made net e = absurd cc
 
@@ -226,7 +226,7 @@ net_of : (path : List ℕ) (d : Data) (format : ℕ) (vars : List (List ℕ)) (l
     → member_by path (codes "vars") (names_at variable_name VARIABLE_LIMIT) d ≡ Ok vars
     → member_by path (codes "leaves") (leaves_at format (length vars)) d ≡ Ok leaves
     → member_by path (codes "combine") (combine_at (length leaves)) d ≡ Ok items
-    → wide_leaf leaves ≡ None
+    → first_wide_leaf leaves ≡ None
     → IsNetFile (record { variables = vars; leaves = leaves; combine = items }) d
 net_of path d format vars leaves items f v l c narrow =
     let f' = bind_ok (member_at path (codes "format") d) (λ e. number_at (member_path path (codes "format")) PLAIN_FORMAT HELPER_FORMAT e) format f in
@@ -265,7 +265,7 @@ pub net_read : (path : List ℕ) (d e f g h : Data) (format m n : ℕ) (vars : L
     → member_at path (codes "vars") d ≡ Ok f → names_at variable_name VARIABLE_LIMIT (member_path path (codes "vars")) f ≡ Ok vars
     → member_at path (codes "leaves") d ≡ Ok g → leaves_at format m (member_path path (codes "leaves")) g ≡ Ok leaves
     → member_at path (codes "combine") d ≡ Ok h → combine_at n (member_path path (codes "combine")) h ≡ Ok items
-    → wide_leaf leaves ≡ None
+    → first_wide_leaf leaves ≡ None
     → IsNet (record { variables = vars; leaves = leaves; combine = items })
 net_read path d e f g h format m n vars leaves items long wide o o' v v' l l' c c' narrow =
     (net_of path d format vars leaves items
@@ -278,7 +278,7 @@ net_read path d e f g h format m n vars leaves items long wide o o' v v' l l' c 
 pub net_at-takes : (path : List ℕ) (d : Data) (net : NetModel) → net_at path d ≡ Ok net → IsNetFile net d
 unfolding net_at
 net_at-takes path d net e =
-    let made = λ (vars : List (List ℕ)) (leaves : List LeafModel) (items : List Item). fitting path (wide_leaf leaves) (record { variables = vars; leaves = leaves; combine = items }) in
+    let made = λ (vars : List (List ℕ)) (leaves : List LeafModel) (items : List Item). fitting_net path (first_wide_leaf leaves) (record { variables = vars; leaves = leaves; combine = items }) in
     let format = member_by path (codes "format") (λ p. number_at p PLAIN_FORMAT HELPER_FORMAT) d in
     let names = member_by path (codes "vars") (names_at variable_name VARIABLE_LIMIT) d in
     let leaves = λ (format : ℕ) (vars : List (List ℕ)). member_by path (codes "leaves") (leaves_at format (length vars)) d in
@@ -288,7 +288,7 @@ net_at-takes path d net e =
     let v = bind_ok names (λ vs. leaves f.0 vs >>= λ ls. combine ls >>= λ cs. made vs ls cs) net f.2 in
     let l = bind_ok (leaves f.0 v.0) (λ ls. combine ls >>= λ cs. made v.0 ls cs) net v.2 in
     let c = bind_ok (combine l.0) (λ cs. made v.0 l.0 cs) net l.2 in
-    let w = fitting-takes path (wide_leaf l.0) (record { variables = v.0; leaves = l.0; combine = c.0 }) net c.2 in
+    let w = fitting-takes path (first_wide_leaf l.0) (record { variables = v.0; leaves = l.0; combine = c.0 }) net c.2 in
     subst (λ (n : NetModel). IsNetFile n d) w.1 (net_of path d f.0 v.0 l.0 c.0 f.1 v.1 l.1 c.1 w.0)
 
 -- the format that a file of a net names
@@ -327,11 +327,11 @@ net_at-again path d net file =
       (none_wide net.leaves).1 is.wide,
     ) refl
 
-pub read-file : (d : Data) (r : Result NetModel FormatFault) → Gives (λ net. net) r (net_at [] d) → IfOk r (λ net. IsNetFile net d)
+pub read-file : (d : Data) (r : Result NetModel FormatFault) → GivesRead (λ net. net) r (net_at [] d) → IfOk r (λ net. IsNetFile net d)
 read-file d (Ok net) given = net_at-takes [] d net given
 read-file d (Err e) given = tt
 
-pub broken-no_file : (d : Data) (r : Result NetModel FormatFault) → Gives (λ net. net) r (net_at [] d) → IfErr r (λ fault. IsBroken fault → (net : NetModel) → IsNetFile net d → ⊥)
+pub broken-no_file : (d : Data) (r : Result NetModel FormatFault) → GivesRead (λ net. net) r (net_at [] d) → IfErr r (λ fault. IsBroken fault → (net : NetModel) → IsNetFile net d → ⊥)
 broken-no_file d (Ok net) given = tt
 broken-no_file d (Err (Broken p w)) given = λ is net file. absurd (cc (given, net_at-again [] d net file))
 broken-no_file d (Err NoMemory) given = λ is net file. is

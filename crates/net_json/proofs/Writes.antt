@@ -13,7 +13,7 @@ use Rattle.pop_net.specs.declared.leaf.Move.{Move}
 use Rattle.pop_net.specs.declared.net.Item.{Item}
 use Rattle.pop_net.specs.declared.net.Item.TheVariants.{Leaf, Not, And, Or}
 use Rattle.pop_net.specs.LeafModel.{LeafModel, IsLeaf, IsMoveBelow}
-use Rattle.pop_net.specs.NetModel.{NetModel, IsNet, NamesBelow, helper_count}
+use Rattle.pop_net.specs.NetModel.{NetModel, IsNet, NamesBelow, number_of_helpers}
 use Rattle.pop_net.specs.declared.limits.TheConstants.{STATE_LIMIT, LEAF_LIMIT}
 use Rattle.net_json.specs.NetFile.{IsMove, IsItem, IsLeafFile, IsNetFile}
 use Rattle.net_json.specs.Written.{number_data, list_data, texts_data, numbers_data, truths_data, move_data, item_data, leaf_members, helped_members, leaf_data, net_members, is_helped, format_of, net_data}
@@ -113,7 +113,7 @@ net_file net is =
       number = format_of helped;
       format = (number_data (format_of helped), refl, format_is helped);
       vars = (texts_data net.variables, refl, texts_are net.variables);
-      leaves = (list_data (map (leaf_data helped) net.leaves), refl, written_list (λ (leaf : LeafModel). IsLeaf leaf × (length leaf.helpers ≡ helper_count net)) (IsLeafFile (format_of helped)) (leaf_data helped) (λ leaf h. leaf_file helped leaf h.0 (λ none. empty leaf.helpers (helper_count net) h.1 none)) net.leaves (λ k leaf within. (is.leaves k leaf within, is.helpers k leaf within)));
+      leaves = (list_data (map (leaf_data helped) net.leaves), refl, written_list (λ (leaf : LeafModel). IsLeaf leaf × (length leaf.helpers ≡ number_of_helpers net)) (IsLeafFile (format_of helped)) (leaf_data helped) (λ leaf h. leaf_file helped leaf h.0 (λ none. empty leaf.helpers (number_of_helpers net) h.1 none)) net.leaves (λ k leaf within. (is.leaves k leaf within, is.helpers k leaf within)));
       combine = (list_data (map item_data net.combine), refl, written_list (NamesBelow (length net.leaves)) IsItem item_data (item_is (length net.leaves) is.leaf_count) net.combine is.leaf_numbers);
       fits = is;
     }

@@ -15,7 +15,7 @@ use Rattle.pop_net.specs.declared.net.Item.{Item}
 use Rattle.pop_net.specs.declared.net.Item.TheVariants.{Leaf, Not, And, Or}
 use Rattle.pop_net.specs.LeafModel.{LeafModel}
 use Rattle.pop_net.specs.NetModel.{NetModel, after_items, combined, depth_operators}
-use Rattle.pop_net.specs.NetFaults.{are_low, wide_leaf}
+use Rattle.pop_net.specs.NetFaults.{are_low, first_wide_leaf}
 use Rattle.pop_io.specs.declared.names.TheConstants.{VARIABLE_LIMIT}
 use Rattle.pop_net.specs.declared.limits.TheConstants.{STATE_LIMIT, MOVE_LIMIT, HELPER_LIMIT, LEAF_LIMIT, ITEM_LIMIT}
 use Rattle.net_json.specs.declared.format.TheConstants.{PLAIN_FORMAT, HELPER_FORMAT}
@@ -48,31 +48,31 @@ move_at path states d = do
 abbrev pub move_item : ℕ → List ℕ → List Move → Data → Result Move Fault
 move_item states path found d = move_at path states d
 
-abbrev pub moves_at : ℕ → List ℕ → Data → Result (List Move) Fault
-moves_at states path d = each_at (move_item states) path 0 MOVE_LIMIT d
+abbrev pub leaf_moves_at : ℕ → List ℕ → Data → Result (List Move) Fault
+leaf_moves_at states path d = each_at (move_item states) path 0 MOVE_LIMIT d
 
-abbrev pub state_item : ℕ → List ℕ → List ℕ → Data → Result ℕ Fault
-state_item states path found d = number_at path 0 (states - 1) d
+abbrev pub leaf_state_item : ℕ → List ℕ → List ℕ → Data → Result ℕ Fault
+leaf_state_item states path found d = number_at path 0 (states - 1) d
 
 -- so many numbers of states
-abbrev pub states_at : ℕ → ℕ → ℕ → List ℕ → Data → Result (List ℕ) Fault
-states_at least most states path d = each_at (state_item states) path least most d
+abbrev pub leaf_states_at : ℕ → ℕ → ℕ → List ℕ → Data → Result (List ℕ) Fault
+leaf_states_at least most states path d = each_at (leaf_state_item states) path least most d
 
 -- a number of a state for each variable
 abbrev pub inputs_at : ℕ → ℕ → List ℕ → Data → Result (List ℕ) Fault
-inputs_at variables states path d = states_at variables variables states path d
+inputs_at variables states path d = leaf_states_at variables variables states path d
 
 -- how many helpers a leaf may have: none in format 1; in format 2 as many as leaf 0
 abbrev pub range_after : List LeafModel → ℕ × ℕ
 range_after [] = (0, HELPER_LIMIT)
 range_after (leaf ∷ found) = (length leaf.helpers, length leaf.helpers)
 
-abbrev pub helper_range : ℕ → List LeafModel → Option (ℕ × ℕ)
-helper_range format found = if format == PLAIN_FORMAT then None else Some (range_after found)
+abbrev pub helpers_allowed : ℕ → List LeafModel → Option (ℕ × ℕ)
+helpers_allowed format found = if format == PLAIN_FORMAT then None else Some (range_after found)
 
 abbrev pub helpers_at : Option (ℕ × ℕ) → ℕ → List ℕ → Data → Result (List ℕ) Fault
 helpers_at None states path d = Ok []
-helpers_at (Some range) states path d = member_by path (codes "helpers") (states_at range.0 range.1 states) d
+helpers_at (Some range) states path d = member_by path (codes "helpers") (leaf_states_at range.0 range.1 states) d
 
 abbrev pub truth_item : List ℕ → List Bool → Data → Result Bool Fault
 truth_item path found d = truth_at path d
@@ -85,14 +85,14 @@ unfoldable pub leaf_at : Option (ℕ × ℕ) → ℕ → List ℕ → Data → R
 leaf_at range variables path d = do
   o ← object_at path d
   ss ← member_by path (codes "states") (names_at state_name STATE_LIMIT) d
-  ts ← member_by path (codes "moves") (moves_at (length ss)) d
+  ts ← member_by path (codes "moves") (leaf_moves_at (length ss)) d
   qs ← member_by path (codes "input") (inputs_at variables (length ss)) d
   bs ← member_by path (codes "output") (outputs_at (length ss)) d
   hs ← helpers_at range (length ss) path d
   Ok (record { states = ss; moves = ts; inputs = qs; outputs = bs; helpers = hs })
 
 abbrev pub leaf_item : ℕ → ℕ → List ℕ → List LeafModel → Data → Result LeafModel Fault
-leaf_item format variables path found d = leaf_at (helper_range format found) variables path d
+leaf_item format variables path found d = leaf_at (helpers_allowed format found) variables path d
 
 abbrev pub leaves_at : ℕ → ℕ → List ℕ → Data → Result (List LeafModel) Fault
 leaves_at format variables path d = each_at (leaf_item format variables) path 1 LEAF_LIMIT d
@@ -132,9 +132,9 @@ combine_at leaves path d = do
   if is_some (combined depth_operators items) then Ok items else broken path Shape
 
 -- the net, unless this one of its leaves is wide and too many stand beside it
-abbrev pub fitting : List ℕ → Option ℕ → NetModel → Result NetModel Fault
-fitting path None net = Ok net
-fitting path (Some i) net = broken (item_path (member_path path (codes "leaves")) i) Shape
+abbrev pub fitting_net : List ℕ → Option ℕ → NetModel → Result NetModel Fault
+fitting_net path None net = Ok net
+fitting_net path (Some i) net = broken (item_path (member_path path (codes "leaves")) i) Shape
 
 unfoldable pub net_at : List ℕ → Data → Result NetModel Fault
 net_at path d = do
@@ -143,4 +143,4 @@ net_at path d = do
   vars ← member_by path (codes "vars") (names_at variable_name VARIABLE_LIMIT) d
   leaves ← member_by path (codes "leaves") (leaves_at format (length vars)) d
   items ← member_by path (codes "combine") (combine_at (length leaves)) d
-  fitting path (wide_leaf leaves) (record { variables = vars; leaves = leaves; combine = items })
+  fitting_net path (first_wide_leaf leaves) (record { variables = vars; leaves = leaves; combine = items })

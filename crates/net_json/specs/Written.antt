@@ -6,7 +6,7 @@ use Rattle.pop_net.specs.declared.leaf.Move.{Move}
 use Rattle.pop_net.specs.declared.net.Item.{Item}
 use Rattle.pop_net.specs.declared.net.Item.TheVariants.{Leaf, Not, And, Or}
 use Rattle.pop_net.specs.LeafModel.{LeafModel}
-use Rattle.pop_net.specs.NetModel.{NetModel, helper_count}
+use Rattle.pop_net.specs.NetModel.{NetModel, number_of_helpers}
 use Rattle.net_json.specs.declared.format.TheConstants.{PLAIN_FORMAT, HELPER_FORMAT}
 
 abbrev pub number_data : ℕ → Data
@@ -57,7 +57,7 @@ net_members combine format leaves vars =
 
 -- a net has helpers when its leaves have some
 abbrev pub is_helped : NetModel → Bool
-is_helped net = nat_lt 0 (helper_count net)
+is_helped net = nat_lt 0 (number_of_helpers net)
 
 abbrev pub format_of : Bool → ℕ
 format_of helped = if helped then HELPER_FORMAT else PLAIN_FORMAT

@@ -3,7 +3,7 @@
 ghost use Rattle.std.specs.Prelude.{◌≡◌, ◌≤◌, length, true, Some, IfOk, is_some};
 ghost use Rattle.serde_json.specs.Find.{as_str};
 ghost use Rattle.serde_json.specs.View.{view};
-ghost use Rattle.json_shape.specs.Faults.{Gives};
+ghost use Rattle.json_shape.specs.Faults.{GivesRead};
 ghost use Rattle.json_shape.specs.Paths.{path_text};
 ghost use Rattle.pop_net.specs.NetFaults.{names_below, operands_left};
 ghost use Rattle.net_json.specs.Examined.{operand_at, items_at, combine_at};
@@ -22,7 +22,7 @@ fn operand_of(
     value: &Value,
 ) -> Result<Item, FormatFault>
     requires { 1 ≤ leaves }
-    ensures operand { Gives (λ x. x) result
+    ensures operand { GivesRead (λ x. x) result
         (operand_at (path_text path.now) leaves (view value.now) (as_str (view value.now))) }
     ensures below { IfOk result (λ item. names_below leaves item ≡ true) }
 {
@@ -47,7 +47,7 @@ fn items_of(
     value: &Value,
 ) -> Result<(List<Item>, usize), FormatFault>
     requires { 1 ≤ leaves }
-    ensures items { Gives (λ r. r.0) result (items_at leaves (path_text path.now) (view value.now)) }
+    ensures items { GivesRead (λ r. r.0) result (items_at leaves (path_text path.now) (view value.now)) }
     ensures open { IfOk result (λ r. r.1 ≡ operands_left r.0) }
 {
     let list = list_of(alloc, path, 1, ITEM_LIMIT, value)?;
@@ -72,7 +72,7 @@ pub(crate) fn combine_of(
     value: &Value,
 ) -> Result<List<Item>, FormatFault>
     requires { 1 ≤ leaves }
-    ensures { Gives (λ xs. xs) result (combine_at leaves (path_text path.now) (view value.now)) }
+    ensures { GivesRead (λ xs. xs) result (combine_at leaves (path_text path.now) (view value.now)) }
 {
     let (items, open) = items_of(alloc, path, leaves, value)?;
     if open != 1 {

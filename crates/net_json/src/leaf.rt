@@ -2,10 +2,10 @@
 
 ghost use Rattle.std.specs.Prelude.{◌≡◌, ◌-◌, ◌<◌, ◌≤◌, ◌^◌, length, IfOk};
 ghost use Rattle.serde_json.specs.View.{view};
-ghost use Rattle.json_shape.specs.Faults.{Gives};
+ghost use Rattle.json_shape.specs.Faults.{GivesRead};
 ghost use Rattle.json_shape.specs.Paths.{path_text};
 ghost use Rattle.json_shape.specs.Shapes.{number_at};
-ghost use Rattle.net_json.specs.Examined.{move_at, moves_at, states_at, outputs_at};
+ghost use Rattle.net_json.specs.Examined.{move_at, leaf_moves_at, leaf_states_at, outputs_at};
 
 use json_shape::{FormatFault, Path, ReadItem, Why, broken, each_of, number_of, truth_of};
 use pop_io::List;
@@ -21,7 +21,7 @@ fn state_of(
     value: &Value,
 ) -> Result<u16, FormatFault>
     requires { (1 ≤ states) × (states ≤ STATE_LIMIT) }
-    ensures { Gives (λ q. q) result (number_at (path_text path.now) 0 (states - 1) (view value.now)) }
+    ensures { GivesRead (λ q. q) result (number_at (path_text path.now) 0 (states - 1) (view value.now)) }
 {
     let number = number_of(alloc, path, 0, states as u32 - 1, value)?;
     Ok(number as u16)
@@ -35,7 +35,7 @@ fn move_of(
     value: &Value,
 ) -> Result<Move, FormatFault>
     requires { (1 ≤ states) × (states ≤ STATE_LIMIT) }
-    ensures { Gives (λ t. t) result (move_at (path_text path.now) states (view value.now)) }
+    ensures { GivesRead (λ t. t) result (move_at (path_text path.now) states (view value.now)) }
 {
     let Some(list) = value.as_array() else {
         return Err(broken(alloc, path, Why::Kind));
@@ -86,7 +86,7 @@ pub(crate) fn moves_of(
     value: &Value,
 ) -> Result<List<Move>, FormatFault>
     requires { (1 ≤ states) × (states ≤ STATE_LIMIT) }
-    ensures { Gives (λ ts. ts) result (moves_at states (path_text path.now) (view value.now)) }
+    ensures { GivesRead (λ ts. ts) result (leaf_moves_at states (path_text path.now) (view value.now)) }
 {
     each_of(alloc, path, 0, MOVE_LIMIT, &Moves { states }, value)
 }
@@ -100,7 +100,7 @@ struct States {
 impl ReadItem for States {
     ghost use Rattle.std.specs.Prelude.{◌≤◌};
     ghost use Rattle.pop_net.specs.declared.limits.TheConstants.{STATE_LIMIT};
-    ghost use Rattle.net_json.specs.Examined.{state_item};
+    ghost use Rattle.net_json.specs.Examined.{leaf_state_item};
 
     type Item = u16;
 
@@ -129,7 +129,7 @@ pub(crate) fn states_of(
     value: &Value,
 ) -> Result<List<u16>, FormatFault>
     requires { (1 ≤ states) × (states ≤ STATE_LIMIT) }
-    ensures { Gives (λ qs. qs) result (states_at least most states (path_text path.now) (view value.now)) }
+    ensures { GivesRead (λ qs. qs) result (leaf_states_at least most states (path_text path.now) (view value.now)) }
 {
     each_of(alloc, path, least, most, &States { states }, value)
 }
@@ -166,7 +166,7 @@ pub(crate) fn outputs_of(
     states: usize,
     value: &Value,
 ) -> Result<List<bool>, FormatFault>
-    ensures { Gives (λ bs. bs) result (outputs_at states (path_text path.now) (view value.now)) }
+    ensures { GivesRead (λ bs. bs) result (outputs_at states (path_text path.now) (view value.now)) }
 {
     each_of(alloc, path, states, states, &Outputs, value)
 }

@@ -2,9 +2,9 @@
 
 ghost use Rattle.std.specs.Prelude.{◌≡◌, ◌≤◌, length, IfOk};
 ghost use Rattle.serde_json.specs.View.{view};
-ghost use Rattle.json_shape.specs.Faults.{Gives};
+ghost use Rattle.json_shape.specs.Faults.{GivesRead};
 ghost use Rattle.json_shape.specs.Paths.{path_text};
-ghost use Rattle.net_json.specs.Examined.{helper_range as helpers_allowed, helpers_at, leaf_at, leaves_at};
+ghost use Rattle.net_json.specs.Examined.{helpers_allowed, helpers_at, leaf_at, leaves_at};
 ghost use Rattle.net_json.specs.HelperRange.{IsHelperRange};
 
 use crate::format::PLAIN_FORMAT;
@@ -43,7 +43,7 @@ fn helpers_of(
     value: &Value,
 ) -> Result<List<u16>, FormatFault>
     requires { (1 ≤ states) × (states ≤ STATE_LIMIT) }
-    ensures { Gives (λ qs. qs) result (helpers_at range states (path_text path.now) (view value.now)) }
+    ensures { GivesRead (λ qs. qs) result (helpers_at range states (path_text path.now) (view value.now)) }
 {
     match range {
         None => Ok(List::from_vec(Vec::new(alloc))),
@@ -65,7 +65,7 @@ fn leaf_of(
 ) -> Result<Leaf, FormatFault>
     requires variables { (1 ≤ variables) × (variables ≤ VARIABLE_LIMIT) }
     requires range { IsHelperRange range }
-    ensures { Gives (λ leaf. leaf) result (leaf_at range variables (path_text path.now) (view value.now)) }
+    ensures { GivesRead (λ leaf. leaf) result (leaf_at range variables (path_text path.now) (view value.now)) }
 {
     object_of(alloc, path, value)?;
     let states = member_of(alloc, path, "states", value)?;
@@ -123,7 +123,7 @@ pub(crate) fn leaves_of(
     value: &Value,
 ) -> Result<List<Leaf>, FormatFault>
     requires { (1 ≤ variables) × (variables ≤ VARIABLE_LIMIT) }
-    ensures leaves { Gives (λ ls. ls) result (leaves_at format variables (path_text path.now) (view value.now)) }
+    ensures leaves { GivesRead (λ ls. ls) result (leaves_at format variables (path_text path.now) (view value.now)) }
     ensures count { IfOk result (λ ls. (1 ≤ length ls) × (length ls ≤ LEAF_LIMIT)) }
 {
     each_of(

@@ -1,6 +1,6 @@
 //! Net files: the JSON text of a net, both ways.
 //! It stands on pop_net, json_shape and serde_json.
-//! The layer above uses: `read_net` gives the net of the file or the first broken rule, and reads what `write_net` gives to an equal net.
+//! The layer above uses: `read_net` gives the file's net or the first broken rule, and reads what `write_net` gives.
 #![tactic(auto)]
 
 mod combine;

@@ -2,7 +2,7 @@
 
 ghost use Rattle.std.specs.Prelude.{◌≡◌, ◌≤◌, length, IfOk};
 ghost use Rattle.serde_json.specs.View.{view};
-ghost use Rattle.json_shape.specs.Faults.{Gives};
+ghost use Rattle.json_shape.specs.Faults.{GivesRead};
 ghost use Rattle.json_shape.specs.Paths.{path_text};
 ghost use Rattle.net_json.specs.NameForms.{form_of};
 ghost use Rattle.net_json.specs.Examined.{names_at};
@@ -68,7 +68,7 @@ pub(crate) fn names_of(
     most: usize,
     value: &Value,
 ) -> Result<List<Text>, FormatFault>
-    ensures names { Gives (λ ts. ts) result
+    ensures names { GivesRead (λ ts. ts) result
         (names_at (form_of form) most (path_text path.now) (view value.now)) }
     ensures count { IfOk result (λ ts. (1 ≤ length ts) × (length ts ≤ most)) }
 {

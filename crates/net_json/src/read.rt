@@ -2,7 +2,7 @@
 
 ghost use Rattle.std.specs.Prelude.{◌≡◌, [], IfErr, IfOk};
 ghost use Rattle.serde_json.specs.View.{view};
-ghost use Rattle.json_shape.specs.Faults.{Gives};
+ghost use Rattle.json_shape.specs.Faults.{GivesRead};
 ghost use Rattle.json_shape.specs.Paths.{path_text};
 ghost use Rattle.pop_net.specs.NetModel.{NetModel};
 ghost use Rattle.net_json.specs.Examined.{net_at};
@@ -22,7 +22,7 @@ use std::alloc::Global;
 /// `read_net` for a file that stands inside another value: paths begin with this one.
 #[tactic(auto, unfolding(crate::specs::Examined::net_at))]
 pub fn read_net_at(alloc: Global, path: &Path<'_>, value: &Value) -> Result<Net, FormatFault>
-    ensures { Gives (λ net. net) result (net_at (path_text path.now) (view value.now)) }
+    ensures { GivesRead (λ net. net) result (net_at (path_text path.now) (view value.now)) }
 {
     object_of(alloc, path, value)?;
     let format = member_of(alloc, path, "format", value)?;
@@ -55,7 +55,7 @@ pub fn read_net_at(alloc: Global, path: &Path<'_>, value: &Value) -> Result<Net,
 /// `output`, and in format 2 `helpers`. Each is examined whole before the next is looked for. Other members are
 /// ignored. Last it is examined whether there are too many leaves for a wide one.
 pub fn read_net(alloc: Global, value: &Value) -> Result<Net, FormatFault>
-    ensures exact { Gives (λ net. net) result (net_at [] (view value.now)) }
+    ensures exact { GivesRead (λ net. net) result (net_at [] (view value.now)) }
 
     // Just the files of nets are read, and each to its net.
     ensures file { IfOk result (λ net. IsNetFile net (view value.now)) }

@@ -15,7 +15,7 @@ use Rattle.agent_field.proofs.Histories.{length-replay}
 use Rattle.pair_workers.specs.declared.work.Worker.{Worker}
 use Rattle.pair_workers.specs.Run.{meetings_of, pairs}
 use Rattle.pair_workers.specs.Turns.{HasPicked, ArePlayed}
-use Rattle.pair_workers.specs.Work.{HasWorked, IsReady, IsDone, AreReady, AreDone, HasAll, agents_of, pairs_of}
+use Rattle.pair_workers.specs.Work.{HasWorked, IsReady, IsDone, AreReady, AreDone, HasAll, agents_of_field, pairs_of}
 
 -- a whole slice that was lent and written
 pub whole_written : {A : Type 0} (n : ℕ) (new old : List A) → length new ≡ length old → n ≡ length old → take n (new ++ drop (length new) old) ≡ new
@@ -28,7 +28,7 @@ is_done : (f : Field) (turns number : ℕ) (picker : List ℕ) (before after : W
 is_done f turns number picker before after ready worked = record {
   ours = worked.ours;
   numbered = worked.kept.0 ∙ ready.numbered;
-  picked = subst (λ (p : List ℕ). HasPicked (agents_of f) turns p after.picker (pairs_of (log_of after.seat))) ready.picker_is worked.picked;
+  picked = subst (λ (p : List ℕ). HasPicked (agents_of_field f) turns p after.picker (pairs_of (log_of after.seat))) ready.picker_is worked.picked;
 }
 
 pub are_done : (f : Field) (turns : ℕ) (pickers : List (List ℕ)) (before after : List Worker) → AreReady f turns pickers before → length after ≡ length before
@@ -47,14 +47,14 @@ pairs_called w t (m ∷ ms) = pairs_if (eqb m.worker w) m t (calls_from w (t + 1
 
 module _ (f : Field) (turns : ℕ) (pickers moved : List (List ℕ)) (done : List Worker) (first : Worker) (s : FieldSeat) (meetings : List Meeting) where
   -- each worker's meetings are its next picks
-  pub all_picked : ((d : List ℕ) → HasPicked (agents_of f) turns (get_or pickers 0 d) first.picker (pairs_of (log_of first.seat))) → AreDone f turns pickers done → HasAll f done first.seat s
+  pub all_picked : ((d : List ℕ) → HasPicked (agents_of_field f) turns (get_or pickers 0 d) first.picker (pairs_of (log_of first.seat))) → AreDone f turns pickers done → HasAll f done first.seat s
       → length moved ≡ length pickers → ((i : ℕ) (d : Worker) (e : List ℕ) → i < length done → get_or moved (i + 1) e ≡ (get_or done i d).picker)
       → calls 0 meetings ≡ log_of s → ((w : ℕ) (l : List Logged) → get_or (taken_of s) w None ≡ Some l → calls w meetings ≡ l)
-      → (w : ℕ) (d : List ℕ) → w < length pickers → HasPicked (agents_of f) turns (get_or pickers w d) (get_or (set moved 0 first.picker) w d) (pairs (meetings_of w meetings))
+      → (w : ℕ) (d : List ℕ) → w < length pickers → HasPicked (agents_of_field f) turns (get_or pickers w d) (get_or (set moved 0 first.picker) w d) (pairs (meetings_of w meetings))
   all_picked mine others all long moves own taken zero d h =
       let made : pairs_of (log_of first.seat) ≡ pairs (meetings_of 0 meetings) = ap pairs_of (sym all.own ∙ sym own) ∙ sym (pairs_called 0 0 meetings) in
       let stands : first.picker ≡ get_or (set moved 0 first.picker) 0 d = sym (get_or-set_same moved 0 first.picker d (omega (arith, long, h))) in
-      subst (λ (t : List ℕ × List (ℕ × ℕ)). HasPicked (agents_of f) turns (get_or pickers 0 d) t.0 t.1) (λ i. (stands i, made i)) (mine d)
+      subst (λ (t : List ℕ × List (ℕ × ℕ)). HasPicked (agents_of_field f) turns (get_or pickers 0 d) t.0 t.1) (λ i. (stands i, made i)) (mine d)
   all_picked mine others all long moves own taken (suc i) d h =
       let within : i < length done = omega (arith, others.0, h) in
       let is = others.1 i first d within in
@@ -62,7 +62,7 @@ module _ (f : Field) (turns : ℕ) (pickers moved : List (List ℕ)) (done : Lis
       let apart : suc i ≡ 0 → ⊥ = (λ e. omega (arith, e)) in
       let stands : (get_or done i first).picker ≡ get_or (set moved 0 first.picker) (suc i) d = sym (get_or-set_other moved 0 (suc i) first.picker d apart ∙ ap (λ (k : ℕ). get_or moved k d) (let e : suc i ≡ i + 1 = omega arith in e) ∙ moves i first d within) in
       let place : get_or pickers (i + 1) d ≡ get_or pickers (suc i) d = ap (λ (k : ℕ). get_or pickers k d) (let e : i + 1 ≡ suc i = omega arith in e) in
-      subst (λ (t : List ℕ × List ℕ × List (ℕ × ℕ)). HasPicked (agents_of f) turns t.0 t.1 t.2) (λ j. (place j, stands j, made j)) is.picked
+      subst (λ (t : List ℕ × List ℕ × List (ℕ × ℕ)). HasPicked (agents_of_field f) turns t.0 t.1 t.2) (λ j. (place j, stands j, made j)) is.picked
 
 pub are_played : (net : NetModel) (opening words : List Word) (workers turns : ℕ) (before after : List (List ℕ)) (meetings : List Meeting) → crowd_of net words ≡ replay net meetings (crowd_of net opening)
     → IsHistory net workers opening meetings → ((w : ℕ) (d : List ℕ) → w < workers → HasPicked (length opening) turns (get_or before w d) (get_or after w d) (pairs (meetings_of w meetings)))

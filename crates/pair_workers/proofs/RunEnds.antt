@@ -1,5 +1,5 @@
 -- Why a run ends.
-use Rattle.std.proofs.Common.{◌≡◌, ◌⊎◌, inl, inr, ℕ, zero, suc, ◌*◌, ◌≤◌, Bool, true, false, List, length, refl, arith}
+use Rattle.std.proofs.Common.{◌≡◌, ◌⊎◌, inl, inr, ℕ, zero, suc, ◌*◌, ◌≤◌, Bool, true, false, List, length, sym, subst, refl, arith}
 use Rattle.std.specs.Prelude.{◌↔◌}
 use Rattle.pop_net.specs.declared.net.Word.{Word}
 use Rattle.pop_net.specs.NetModel.{NetModel, CrowdModel}
@@ -27,13 +27,17 @@ ends_by net crowd spec rounds (Open a b) is (inl terminal) = absurd (is.1 termin
 ends_by net crowd spec rounds (Open a b) is (inr spent) = (is.0, spent, is.1)
 
 -- rounds after which no further one is made are a run
-pub run_ended : (net : NetModel) (first last : List Word) (spec : RunSpec) (rounds : List (List Meeting)) (pickers : List (List ℕ)) (left : ℕ) (more : Bool) (end : End) → AreOnTheRun net (crowd_of net first) spec rounds (crowd_of net last) pickers left
-    → AreValid net last → length last ≡ length first → more ≡ false → (more ≡ true) ↔ RunGoesOn net (crowd_of net last) left → IsEndOf net (crowd_of net last) end → IsRunFrom net first spec (record { rounds = rounds; crowd = last; end = end })
-run_ended net first last spec rounds pickers left more end on valid agents none goes is =
-    let run : IsRun net (crowd_of net first) spec rounds (crowd_of net last) = all_run_over net _ spec rounds _ _ left on (over_by net (crowd_of net last) left more none goes end is) in
-    record {
+-- with the table's net for the net, and the list that was made of the rounds for the rounds
+pub run_ended : (net looked : NetModel) (first last : List Word) (spec : RunSpec) (rounds kept : List (List Meeting)) (pickers : List (List ℕ)) (left : ℕ) (more : Bool) (end : End) → AreOnTheRun net (crowd_of net first) spec rounds (crowd_of net last) pickers left
+    → AreValid net last → length last ≡ length first → more ≡ false → looked ≡ net → (more ≡ true) ↔ RunGoesOn looked (crowd_of looked last) left → IsEndOf looked (crowd_of looked last) end → kept ≡ rounds → IsRunFrom net first spec (record { rounds = kept; crowd = last; end = end })
+run_ended net looked first last spec rounds kept pickers left more end on valid agents none same goes is list =
+    let going = subst (λ (n : NetModel). (more ≡ true) ↔ RunGoesOn n (crowd_of n last) left) same goes in
+    let ended = subst (λ (n : NetModel). IsEndOf n (crowd_of n last) end) same is in
+    let run : IsRun net (crowd_of net first) spec rounds (crowd_of net last) = all_run_over net _ spec rounds _ _ left on (over_by net (crowd_of net last) left more none going end ended) in
+    subst (λ (all : List (List Meeting)). IsRunFrom net first spec (record { rounds = all; crowd = last; end = end })) (sym list)
+    (record {
       run = run;
-      ends = ends_by net (crowd_of net last) spec (length rounds) end is run.over;
+      ends = ends_by net (crowd_of net last) spec (length rounds) end ended run.over;
       valid = valid;
       agents = agents;
-    }
+    })

@@ -14,8 +14,8 @@ pub record PickExamples : Type 0 where
   pub of_two : picks 0 0 2 2 ≡ (1, 0) ∷ (1, 0) ∷ []
   pub of_three : picks 0 0 3 2 ≡ (2, 1) ∷ (1, 2) ∷ []
 
-abbrev pub meeting : ℕ → ℕ → Meeting
-meeting a b = record { worker = 0; a = a; b = b; changed = true }
+abbrev pub example_meeting : ℕ → ℕ → Meeting
+example_meeting a b = record { worker = 0; a = a; b = b; changed = true }
 
 -- one worker of two turns, with seed 0
 abbrev pub two_turns : RunSpec
@@ -23,8 +23,9 @@ two_turns = record { workers = 1; shards = 16; turns = 2; seed = 0 }
 
 pub record RunExamples : Type 0 where
   -- A and B become b and a, and then b and b
-  pub run : IsRun majority (input_crowd majority (1 ∷ 1 ∷ [])) two_turns ((meeting 1 0 ∷ meeting 1 0 ∷ []) ∷ []) ((3 ∷ []) ∷ (3 ∷ []) ∷ [])
+  pub run : IsRun majority (input_crowd majority (1 ∷ 1 ∷ [])) two_turns ((example_meeting 1 0 ∷ example_meeting 1 0 ∷ []) ∷ []) ((3 ∷ []) ∷ (3 ∷ []) ∷ [])
   -- no meeting, while there are turns
   pub empty : IsRun majority (input_crowd majority (1 ∷ 1 ∷ [])) two_turns [] (input_crowd majority (1 ∷ 1 ∷ [])) → ⊥
   -- meetings that are no picks
-  pub not_picked : IsRun majority (input_crowd majority (1 ∷ 1 ∷ [])) two_turns ((meeting 0 1 ∷ meeting 0 1 ∷ []) ∷ []) ((3 ∷ []) ∷ (3 ∷ []) ∷ []) → ⊥
+  pub not_picked :
+      IsRun majority (input_crowd majority (1 ∷ 1 ∷ [])) two_turns ((example_meeting 0 1 ∷ example_meeting 0 1 ∷ []) ∷ []) ((3 ∷ []) ∷ (3 ∷ []) ∷ []) → ⊥

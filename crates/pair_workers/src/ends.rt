@@ -2,7 +2,7 @@
 
 ghost use Rattle.std.specs.Prelude.{◌≡◌, ◌↔◌, true, IfOk};
 ghost use Rattle.pop_net.specs.Lanes.{crowd_of, AreValid};
-ghost use Rattle.terminal_test.specs.TableNet.{net_of};
+ghost use Rattle.terminal_test.specs.TableNet.{table_net};
 ghost use Rattle.pair_workers.specs.Ends.{RunGoesOn, IsEndOf};
 
 use crate::alone::End;
@@ -20,9 +20,9 @@ pub fn goes_on(
     left: u64,
     last: &mut Option<(u32, u32)>,
 ) -> Result<bool, NoMemory>
-    requires { AreValid (net_of table.now) crowd.now }
+    requires { AreValid (table_net table.now) crowd.now }
     ensures { IfOk result
-        (λ more. (more ≡ true) ↔ RunGoesOn (net_of table.now) (crowd_of (net_of table.now) crowd.now) left) }
+        (λ more. (more ≡ true) ↔ RunGoesOn (table_net table.now) (crowd_of (table_net table.now) crowd.now) left) }
 {
     if left == 0 {
         return Ok(false);
@@ -33,8 +33,8 @@ pub fn goes_on(
 
 /// Why a run ends in a crowd.
 pub fn end_of(alloc: Global, table: &PairTable, crowd: &Crowd) -> Result<End, NoMemory>
-    requires { AreValid (net_of table.now) crowd.now }
-    ensures { IfOk result (IsEndOf (net_of table.now) (crowd_of (net_of table.now) crowd.now)) }
+    requires { AreValid (table_net table.now) crowd.now }
+    ensures { IfOk result (IsEndOf (table_net table.now) (crowd_of (table_net table.now) crowd.now)) }
 {
     match table.enabled_pair(alloc, crowd)? {
         Some((a, b)) => Ok(End::Open(a, b)),

@@ -4,7 +4,7 @@ ghost use Rattle.std.specs.Prelude.{◌≡◌, ◌≤◌, length, All, IfOk, Mat
 ghost use Rattle.pop_words.specs.Options.{IsWithinLimits};
 ghost use Rattle.pair_workers.specs.CrowdSize.{IsCrowdSize};
 ghost use Rattle.pair_workers.specs.Turns.{CanMakeRound, IsRoundFrom};
-ghost use Rattle.pair_workers.specs.Work.{MayWork, HasWorked, HaveWorked, HasAll, agents_of};
+ghost use Rattle.pair_workers.specs.Work.{MayWork, HasWorked, HaveWorked, HasAll, agents_of_field};
 ghost use Rattle.pair_workers.specs.Work.{IsFirstSeat, HasSeated, HasDealt, AreTakenBack};
 
 use crate::alone::{ROUND_TURNS, play_round};
@@ -87,18 +87,18 @@ fn work_beside<R: Threads + Wait + Sync, G: Gate>(
     turns: u64,
     gate: &G,
 )
-    requires agents { IsCrowdSize (agents_of field.now) }
+    requires agents { IsCrowdSize (agents_of_field field.now) }
     requires may { MayWork field.now turns first.old × All (MayWork field.now turns) others.old }
     ensures { HasWorked field.now turns first.old first.new × HaveWorked field.now turns others.old others.new }
 {
     join_mut(
         rt,
         &mut ||
-            requires { IsCrowdSize (agents_of field.now) × MayWork field.now turns first.now }
+            requires { IsCrowdSize (agents_of_field field.now) × MayWork field.now turns first.now }
             ensures { HasWorked field.entry.now turns first.entry.now first.exit.now }
         { work(rt, field, first, turns, gate) },
         &mut ||
-            requires { IsCrowdSize (agents_of field.now) × All (MayWork field.now turns) others.now }
+            requires { IsCrowdSize (agents_of_field field.now) × All (MayWork field.now turns) others.now }
             ensures { HaveWorked field.entry.now turns others.entry.now others.exit.now }
         { work_all(rt, field, others, turns, gate) },
     );

@@ -2,7 +2,7 @@
 
 ghost use Rattle.std.specs.Prelude.{All};
 ghost use Rattle.pair_workers.specs.CrowdSize.{IsCrowdSize};
-ghost use Rattle.pair_workers.specs.Work.{MayWork, HasWorked, HaveWorked, agents_of};
+ghost use Rattle.pair_workers.specs.Work.{MayWork, HasWorked, HaveWorked, agents_of_field};
 
 use crate::picker::Picker;
 use agent_field::{Field, FieldSeat};
@@ -26,7 +26,7 @@ pub(crate) fn work<R: Wait, G: Gate>(
     turns: u64,
     gate: &G,
 )
-    requires agents { IsCrowdSize (agents_of field.now) }
+    requires agents { IsCrowdSize (agents_of_field field.now) }
     requires may { MayWork field.now turns worker.old }
     ensures { HasWorked field.now turns worker.old worker.new }
 {
@@ -45,7 +45,7 @@ pub(crate) fn work_all<R: Threads + Wait + Sync, G: Gate>(
     turns: u64,
     gate: &G,
 )
-    requires agents { IsCrowdSize (agents_of field.now) }
+    requires agents { IsCrowdSize (agents_of_field field.now) }
     requires may { All (MayWork field.now turns) workers.old }
     ensures { HaveWorked field.now turns workers.old workers.new }
 {
@@ -55,7 +55,7 @@ pub(crate) fn work_all<R: Threads + Wait + Sync, G: Gate>(
         workers,
         threads,
         &|_i: usize, worker: &mut Worker|
-            requires { IsCrowdSize (agents_of field.now) × MayWork field.now turns worker.now }
+            requires { IsCrowdSize (agents_of_field field.now) × MayWork field.now turns worker.now }
             ensures { HasWorked field.entry.now turns worker.entry.now worker.exit.now }
         { work(rt, field, worker, turns, gate) },
     );

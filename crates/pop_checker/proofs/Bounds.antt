@@ -6,11 +6,11 @@ use Rattle.std.proofs.lemmas.List.Elements.{All-head, All-tail}
 use Rattle.std.proofs.lemmas.List.Sums.{sum_by-cons}
 use Rattle.cert_base.specs.declared.layer.Layer.{Layer}
 use Rattle.cert_base.specs.declared.proof.LeafProof.{LeafProof}
-use Rattle.cert_base.specs.ProofBound.{spread, layers_bound}
+use Rattle.cert_base.specs.ProofBound.{weights_spread, layers_bound}
 use Rattle.cert_base.specs.ProofLimits.{IsSmall, IsLayerWithin}
 use Rattle.cert_layers.proofs.Small.{spread-small}
 
-spread_at : (weights : List ℤ) → All IsSmall weights → spread weights ≤ 2 ^ 41
+spread_at : (weights : List ℤ) → All IsSmall weights → weights_spread weights ≤ 2 ^ 41
 spread_at [] small = omega arith
 spread_at (w ∷ weights) small = spread-small w weights (All-head IsSmall w weights small) (All-tail IsSmall w weights small)
 
@@ -19,7 +19,7 @@ layers_at_most [] within = omega arith
 layers_at_most (layer ∷ layers) within =
     let first = spread_at layer.weights (All-head IsLayerWithin layer layers within).weights in
     let rest = layers_at_most layers (All-tail IsLayerWithin layer layers within) in
-    let sum = sum_by-cons (λ (l : Layer). spread l.weights) layer layers in
+    let sum = sum_by-cons (λ (l : Layer). weights_spread l.weights) layer layers in
     omega (arith, first, rest, sum)
 
 pub bound_fits : (layers : List Layer) (bound : ℕ) → bound ≡ layers_bound layers → length layers ≤ 256 → All IsLayerWithin layers → bound ≤ 2 ^ 49

@@ -10,7 +10,7 @@ use Rattle.pop_net.specs.LeafModel.{LeafModel, silent_move, same_pair}
 use Rattle.pop_net.specs.NetModel.{NetModel, CrowdModel, IsTuple, state_of}
 use Rattle.pop_net.specs.Step.{Follows, LeafChange, LeafStep}
 use Rattle.pop_net.specs.Reachable.{Leads}
-use Rattle.pop_net.specs.Reaction.{takes, by_move, leaf_reaction, reactions, reaction, Differ, after_meeting}
+use Rattle.pop_net.specs.Reaction.{takes_states, by_move, leaf_reaction, reactions, reaction, Differ, after_meeting}
 use Rattle.pop_net.proofs.Found.{find_some}
 use Rattle.pop_net.proofs.Reactions.{and_left, and_right, not_true, get-reactions, state_of-map}
 use Rattle.pop_net.proofs.Silent.{same_pair_cases}
@@ -38,7 +38,7 @@ turned x y u v e = go (same_pair_cases x y u v e)
     go (inl h) = rw (← h.0, ← h.1) (pair_itself x y)
     go (inr h) = rw (eq-eqb u y (sym h.1), eq-eqb v x (sym h.0)) (or_true _)
 
-takes_own : (t : Move) → silent_move t ≡ false → takes t.p t.q t ≡ true
+takes_own : (t : Move) → silent_move t ≡ false → takes_states t.p t.q t ≡ true
 takes_own t e = rw (e, pair_itself t.p t.q) refl
 
 finds_none : (p : Move → Bool) (moves : List Move) (n : ℕ) (t : Move) → slice_get moves n ≡ Some t → p t ≡ true → find p moves ≡ None → ⊥
@@ -59,7 +59,7 @@ module _ (moves : List Move) (single : AllPairs Differ moves) where
       rw (← get_or_from_slice_get moves i t t ht, ← get_or_from_slice_get moves j u t hu) (single i j t l (slice_get_within moves j u hu))
 
   -- a non-silent move is the only one that takes its own states
-  the_only : (n k : ℕ) (t u : Move) → slice_get moves n ≡ Some t → slice_get moves k ≡ Some u → silent_move t ≡ false → takes t.p t.q u ≡ true → u ≡ t
+  the_only : (n k : ℕ) (t u : Move) → slice_get moves n ≡ Some t → slice_get moves k ≡ Some u → silent_move t ≡ false → takes_states t.p t.q u ≡ true → u ≡ t
   the_only n k t u ht hu e f = go (cases_lt k n) (cases_lt n k)
     where
       loud : silent_move u ≡ false
@@ -73,15 +73,15 @@ module _ (moves : List Move) (single : AllPairs Differ moves) where
       go (inr l) (inl m) = let d = apart n k t u m ht hu e loud in absurd (let f : true ≡ false = sym same ∙ d in cc)
       go (inr l) (inr m) = let at : k ≡ n = omega arith in let hu' : slice_get moves n ≡ Some u = rw at at hu in cc
 
-  found_by : (n : ℕ) (t : Move) → slice_get moves n ≡ Some t → silent_move t ≡ false → (found : Option Move) → find (takes t.p t.q) moves ≡ found → found ≡ Some t
-  found_by n t h e None f = absurd (finds_none (takes t.p t.q) moves n t h (takes_own t e) f)
+  found_by : (n : ℕ) (t : Move) → slice_get moves n ≡ Some t → silent_move t ≡ false → (found : Option Move) → find (takes_states t.p t.q) moves ≡ found → found ≡ Some t
+  found_by n t h e None f = absurd (finds_none (takes_states t.p t.q) moves n t h (takes_own t e) f)
   found_by n t h e (Some u) f =
-      let s = find_some (takes t.p t.q) moves u f in ap Some (the_only n s.0 t u h s.1 e s.2)
+      let s = find_some (takes_states t.p t.q) moves u f in ap Some (the_only n s.0 t u h s.1 e s.2)
 
 -- so the reaction of its states is the move
 single_reaction : (leaf : LeafModel) → IsSingleLeaf leaf → (n : ℕ) (t : Move) → slice_get leaf.moves n ≡ Some t → silent_move t ≡ false → leaf_reaction leaf t.p t.q ≡ (t.r, t.s)
 single_reaction leaf single n t h e =
-    ap (by_move t.p t.q) (found_by leaf.moves single n t h e (find (takes t.p t.q) leaf.moves) refl)
+    ap (by_move t.p t.q) (found_by leaf.moves single n t h e (find (takes_states t.p t.q) leaf.moves) refl)
     ∙ (let first : by_move t.p t.q (Some t) ≡ (t.r, t.s) = rw (eq-eqb t.p t.p refl, eq-eqb t.q t.q refl) refl in first)
 
 -- agents a and b take a move, a as its first

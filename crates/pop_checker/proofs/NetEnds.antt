@@ -7,7 +7,7 @@ use Rattle.std.proofs.lemmas.List.{length-append, length-map}
 use Rattle.std.proofs.lemmas.List.Sums.{sum_by-cons}
 use Rattle.std.proofs.lemmas.Option.{slice_get_within}
 use Rattle.pop_net.specs.LeafModel.{LeafModel, IsLeaf}
-use Rattle.pop_net.specs.NetModel.{NetModel, CrowdModel, IsTuple, IsNet, state_of, helper_count}
+use Rattle.pop_net.specs.NetModel.{NetModel, CrowdModel, IsTuple, IsNet, state_of, number_of_helpers}
 use Rattle.pop_net.specs.InputCrowd.{IsInput, input_crowd}
 use Rattle.pop_net.specs.Step.{TupleChange, Step, LeafStep}
 use Rattle.pop_net.specs.Reachable.{Leads, ReachedWithin, Reachable}
@@ -121,13 +121,13 @@ pub reachable_in_ranges : (net : NetModel) (counts : List ℕ) (crowd : CrowdMod
 reachable_in_ranges net counts crowd is long r j leaf h =
     let is_leaf = All-slice_get IsLeaf net.leaves j leaf is.leaves h in
     let inputs = All-slice_get (λ (l : LeafModel). length l.inputs ≡ length net.variables) net.leaves j leaf is.inputs h in
-    let helpers = All-slice_get (λ (l : LeafModel). length l.helpers ≡ helper_count net) net.leaves j leaf is.helpers h in
+    let helpers = All-slice_get (λ (l : LeafModel). length l.helpers ≡ number_of_helpers net) net.leaves j leaf is.helpers h in
     let first : InRange leaf (component j (input_crowd net counts)) = rw (input_component net j leaf counts h helpers) (input_in_range leaf is_leaf counts (long ∙ sym inputs)) in
     let way = reachable_component net j leaf (input_crowd net counts) crowd h r in
     leads_in_range leaf is_leaf (component j (input_crowd net counts)) way.0 (component j crowd) way.1 first
 
 -- where a proof is valid, a terminal crowd is reached from every crowd on the way, within the proof's bound for each agent
-pub valid_ends : (net : NetModel) (p : PredModel) (proof : Proof) → IsNet net → ValidProof net p proof → (counts : List ℕ) (crowd : CrowdModel) → IsInput (length net.variables) (helper_count net) counts → Reachable (Step net) (input_crowd net counts) crowd → (end : CrowdModel) × IsTerminal (Step net) end × ReachedWithin (Step net) (proof_bound proof * length crowd) crowd end
+pub valid_ends : (net : NetModel) (p : PredModel) (proof : Proof) → IsNet net → ValidProof net p proof → (counts : List ℕ) (crowd : CrowdModel) → IsInput (length net.variables) (number_of_helpers net) counts → Reachable (Step net) (input_crowd net counts) crowd → (end : CrowdModel) × IsTerminal (Step net) end × ReachedWithin (Step net) (proof_bound proof * length crowd) crowd end
 valid_ends net p proof is v counts crowd input r =
     net_ends net proof.leaves v.one_each
     (λ j leaf part h k. (All-slice_get IsLeaf net.leaves j leaf is.leaves h, (v.leaves j leaf part h k).layers))

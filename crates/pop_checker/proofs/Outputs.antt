@@ -9,7 +9,7 @@ use Rattle.pres_ast.specs.PredicateValue.{predicate_value}
 use Rattle.pop_net.specs.declared.net.Item.{Item}
 use Rattle.pop_net.specs.declared.net.Item.TheVariants.{Leaf, Not, And, Or}
 use Rattle.pop_net.specs.LeafModel.{LeafModel}
-use Rattle.pop_net.specs.NetModel.{NetModel, Tuple, CrowdModel, IsTuple, IsNet, state_of, after_item, after_items, only_one, combined, leaf_outputs, truth, output_of, NamesBelow, helper_count}
+use Rattle.pop_net.specs.NetModel.{NetModel, Tuple, CrowdModel, IsTuple, IsNet, state_of, after_item, after_items, only_one, combined, leaf_outputs, truth, output_of, NamesBelow, number_of_helpers}
 use Rattle.pop_net.specs.InputCrowd.{IsInput, input_crowd, leaf_input_crowd}
 use Rattle.pop_net.specs.Step.{Step, LeafStep}
 use Rattle.pop_net.specs.Reachable.{Reachable}
@@ -114,7 +114,7 @@ right_for : (leaf : LeafModel) (part : LeafProof) → IsRightPart leaf part → 
 right_for leaf part right true = right.on_true
 right_for leaf part right false = right.on_false
 
-module _ (net : NetModel) (proof : Proof) (is : IsNet net) (one_each : length proof.leaves ≡ length net.leaves) (right : AreRightBefore net proof.leaves (length net.leaves)) (counts : List ℕ) (crowd : CrowdModel) (input : IsInput (length net.variables) (helper_count net) counts) (reached : Reachable (Step net) (input_crowd net counts) crowd) (terminal : IsTerminal (Step net) crowd) where
+module _ (net : NetModel) (proof : Proof) (is : IsNet net) (one_each : length proof.leaves ≡ length net.leaves) (right : AreRightBefore net proof.leaves (length net.leaves)) (counts : List ℕ) (crowd : CrowdModel) (input : IsInput (length net.variables) (number_of_helpers net) counts) (reached : Reachable (Step net) (input_crowd net counts) crowd) (terminal : IsTerminal (Step net) crowd) where
   are_tuples : All (IsTuple net) crowd
   are_tuples = reachable_tuples net (input_crowd net counts) crowd (input_tuples net counts) reached
 
@@ -122,7 +122,7 @@ module _ (net : NetModel) (proof : Proof) (is : IsNet net) (one_each : length pr
   leaf_right : (i : ℕ) (leaf : LeafModel) (part : LeafProof) → slice_get net.leaves i ≡ Some leaf → slice_get proof.leaves i ≡ Some part → All (λ q. slice_index_or leaf.outputs q false ≡ predicate_value part.pred.tree counts) (component i crowd)
   leaf_right i leaf part h k =
       let inputs = All-slice_get (λ (l : LeafModel). length l.inputs ≡ length net.variables) net.leaves i leaf is.inputs h in
-      let helpers = All-slice_get (λ (l : LeafModel). length l.helpers ≡ helper_count net) net.leaves i leaf is.helpers h in
+      let helpers = All-slice_get (λ (l : LeafModel). length l.helpers ≡ number_of_helpers net) net.leaves i leaf is.helpers h in
       let at : IsInput (length leaf.inputs) (length leaf.helpers) counts = record { one_each = input.one_each ∙ sym inputs; two_agents = omega (arith, input.two_agents, helpers) } in
       let way : Reachable (LeafStep leaf) (leaf_input_crowd leaf counts) (component i crowd) = subst (λ (c : List ℕ). Reachable (LeafStep leaf) c (component i crowd)) (input_component net i leaf counts h helpers) (reachable_component net i leaf (input_crowd net counts) crowd h reached) in
       let end = terminal_component net i leaf crowd h are_tuples terminal in

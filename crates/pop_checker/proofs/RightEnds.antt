@@ -17,7 +17,7 @@ use Rattle.cert_base.specs.declared.node.Node.TheVariants.{Linear, Residue, Spli
 use Rattle.cert_base.specs.declared.proof.Proof.{Proof}
 use Rattle.cert_base.specs.Rows.{single_row, input_variable, move_variable, variable_count, constant_row}
 use Rattle.cert_base.specs.Valuation.{Valuation, MeetsFact}
-use Rattle.cert_base.specs.FactsAndCases.{states_of, flow, two_agents, wrong_output, base_list, can_meet, absent, alone, not_twice, present_cases, is_in, takes_from, puts_into, places_from, no_moves, none_started, count_row, trap_cases, siphon_cases, split_cases, open_tree, open_cases, helpers_among, none_helps}
+use Rattle.cert_base.specs.FactsAndCases.{states_of, flow, two_agents_fact, wrong_output_fact, base_list, can_meet_in, absent_fact, alone_fact, not_twice, cases_of_present, is_in, takes_from, puts_into, places_from, no_moves, no_start_facts, count_row, cases_of_trap, cases_of_siphon, cases_of_split, open_tree, cases_of_open, helpers_among, no_helper_facts}
 use Rattle.cert_base.specs.Closes.{name_below, refutes, where_in_range, opened, only_case, cases_of, ClosesUnder, refuted, by_cases, ClosesEach, no_case, next_case, Closes}
 use Rattle.cert_base.specs.Ends.{IsEnd, MeetsAll, MeetsOne, EndsRight}
 use Rattle.cert_base.specs.ValidProof.{ValidProof}
@@ -67,35 +67,35 @@ formed_at (first ∷ facts) (suc i) f h e = formed_at facts i f h.1 e
 
 base_formed : (leaf : LeafModel) (p : PredModel) (value : Bool) → HasAtoms p.variables p.tree → AreFormed (base_list leaf p value)
 base_formed leaf p value has =
-    append_formed (map (flow leaf) (states_of leaf)) (two_agents leaf ∷ Holds p value ∷ wrong_output leaf value ∷ []) (map_formed (flow leaf) (states_of leaf) (λ q. tt)) (tt, (has, (tt, tt)))
+    append_formed (map (flow leaf) (states_of leaf)) (two_agents_fact leaf ∷ Holds p value ∷ wrong_output_fact leaf value ∷ []) (map_formed (flow leaf) (states_of leaf) (λ q. tt)) (tt, (has, (tt, tt)))
 
-alone_formed : (leaf : LeafModel) (p : ℕ) (twice : Bool) → AreFormed (if twice then (alone leaf p ∷ []) else [])
+alone_formed : (leaf : LeafModel) (p : ℕ) (twice : Bool) → AreFormed (if twice then (alone_fact leaf p ∷ []) else [])
 alone_formed leaf p true = (tt, tt)
 alone_formed leaf p false = tt
 
-present_formed : (leaf : LeafModel) (p : ℕ) → AreCasesFormed (present_cases leaf p)
+present_formed : (leaf : LeafModel) (p : ℕ) → AreCasesFormed (cases_of_present leaf p)
 present_formed leaf p =
-    let others = filter (λ q. not (q == p) && can_meet leaf p q) (states_of leaf) in
-    let twice : List Fact = if can_meet leaf p p then (alone leaf p ∷ []) else [] in
-    let later : AreFormed (map (absent leaf) others ++ twice) = append_formed (map (absent leaf) others) twice (map_formed (absent leaf) others (λ q. tt)) (alone_formed leaf p (can_meet leaf p p)) in
+    let others = filter (λ q. not (q == p) && can_meet_in leaf p q) (states_of leaf) in
+    let twice : List Fact = if can_meet_in leaf p p then (alone_fact leaf p ∷ []) else [] in
+    let later : AreFormed (map (absent_fact leaf) others ++ twice) = append_formed (map (absent_fact leaf) others) twice (map_formed (absent_fact leaf) others (λ q. tt)) (alone_formed leaf p (can_meet_in leaf p p)) in
     ((tt, tt), ((tt, later), tt))
 
 taken_formed : (leaf : LeafModel) (test : Move → Bool) → AreFormed (no_moves leaf test)
 taken_formed leaf test = map_formed (λ t. Eq (single_row (move_variable leaf t) (pos 1) (pos 0))) (places_from 0 test leaf.moves) (λ t. tt)
 
-started_formed : (leaf : LeafModel) (set : List ℕ) → AreFormed (none_started leaf set)
+started_formed : (leaf : LeafModel) (set : List ℕ) → AreFormed (no_start_facts leaf set)
 started_formed leaf set = map_formed (λ i. Eq (single_row (input_variable leaf i) (pos 1) (pos 0))) (places_from 0 (is_in set) leaf.inputs) (λ i. tt)
 
 none_helps_formed : (leaf : LeafModel) (set : List ℕ) (b : Bool) → AreFormed (if b then [] else (Eq (constant_row (pos (helpers_among leaf set))) ∷ []))
 none_helps_formed leaf set true = tt
 none_helps_formed leaf set false = (tt, tt)
 
-trap_formed : (leaf : LeafModel) (set : List ℕ) → AreCasesFormed (trap_cases leaf set)
+trap_formed : (leaf : LeafModel) (set : List ℕ) → AreCasesFormed (cases_of_trap leaf set)
 trap_formed leaf set =
-    let unmarked = append_formed (no_moves leaf (puts_into set)) (none_started leaf set) (taken_formed leaf (puts_into set)) (started_formed leaf set) in
-    ((tt, tt), (append_formed (no_moves leaf (puts_into set) ++ none_started leaf set) (Eq (count_row leaf set (pos 0)) ∷ none_helps leaf set) unmarked (tt, none_helps_formed leaf set (helpers_among leaf set == 0)), ((tt, tt), tt)))
+    let unmarked = append_formed (no_moves leaf (puts_into set)) (no_start_facts leaf set) (taken_formed leaf (puts_into set)) (started_formed leaf set) in
+    ((tt, tt), (append_formed (no_moves leaf (puts_into set) ++ no_start_facts leaf set) (Eq (count_row leaf set (pos 0)) ∷ no_helper_facts leaf set) unmarked (tt, none_helps_formed leaf set (helpers_among leaf set == 0)), ((tt, tt), tt)))
 
-siphon_formed : (leaf : LeafModel) (set : List ℕ) → AreCasesFormed (siphon_cases leaf set)
+siphon_formed : (leaf : LeafModel) (set : List ℕ) → AreCasesFormed (cases_of_siphon leaf set)
 siphon_formed leaf set =
     ((tt, tt), ((tt, tt), (append_formed (no_moves leaf (takes_from set)) (Eq (count_row leaf set (pos 0)) ∷ []) (taken_formed leaf (takes_from set)) (tt, tt), tt)))
 
@@ -132,7 +132,7 @@ opened_cover leaf facts i (Some (Eq row)) cases formed h e = cc
 opened_cover leaf facts i (Some (Cong row m)) cases formed h e = cc
 opened_cover leaf facts i (Some (NotCong row m)) cases formed h e = cc
 opened_cover leaf facts i (Some (Holds p b)) cases formed h e =
-    let is : open_cases p b ≡ cases = cc in
+    let is : cases_of_open p b ≡ cases = cc in
     let has : HasAtoms p.variables p.tree = formed_at facts i (Holds p b) formed h in
     subst (λ (cs : List (List Fact)). IsCover leaf facts cs) is
     (open_formed p.variables p.tree b has, λ count end meets. open_cases-cover p b has count (All-slice_get (MeetsFact count) facts i (Holds p b) meets h))
@@ -141,25 +141,25 @@ node_cover : (leaf : LeafModel) (facts : List Fact) (node : Node) (cases : List 
 node_cover leaf facts (Linear terms) cases is formed e = cc
 node_cover leaf facts (Residue m terms) cases is formed e = cc
 node_cover leaf facts (Split row) cases is formed e =
-    let given = in_range_is (name_below (variable_count leaf) row.terms) (split_cases row) cases e in
+    let given = in_range_is (name_below (variable_count leaf) row.terms) (cases_of_split row) cases e in
     subst (λ (cs : List (List Fact)). IsCover leaf facts cs) given.1
     (((tt, tt), ((tt, tt), ((tt, tt), tt))), λ count end meets. split_cases-cover row count)
 node_cover leaf facts (Present p) cases is formed e =
-    let given = in_range_is (nat_lt p (length leaf.states)) (present_cases leaf p) cases e in
+    let given = in_range_is (nat_lt p (length leaf.states)) (cases_of_present leaf p) cases e in
     let l = ltb-true p (length leaf.states) given.0 in
     subst (λ (cs : List (List Fact)). IsCover leaf facts cs) given.1
     (present_formed leaf p, λ count end meets. present-cover leaf p l count end)
 node_cover leaf facts (Twin p) cases is formed e =
-    let given = twin_is leaf p (nat_lt p (length leaf.states)) (can_meet leaf p p) cases e in
+    let given = twin_is leaf p (nat_lt p (length leaf.states)) (can_meet_in leaf p p) cases e in
     let l = ltb-true p (length leaf.states) given.0 in
     subst (λ (cs : List (List Fact)). IsCover leaf facts cs) given.2
     (((tt, tt), tt), λ count end meets. twin_met leaf count end.end end.execution.states end.terminal p l given.1)
 node_cover leaf facts (Trap set) cases is formed e =
-    let given = in_range_is (list_all (λ q. nat_lt q (length leaf.states)) set) (trap_cases leaf set) cases e in
+    let given = in_range_is (list_all (λ q. nat_lt q (length leaf.states)) set) (cases_of_trap leaf set) cases e in
     subst (λ (cs : List (List Fact)). IsCover leaf facts cs) given.1
     (trap_formed leaf set, λ count end meets. trap-cover leaf set is count end)
 node_cover leaf facts (Siphon set) cases is formed e =
-    let given = in_range_is (list_all (λ q. nat_lt q (length leaf.states)) set) (siphon_cases leaf set) cases e in
+    let given = in_range_is (list_all (λ q. nat_lt q (length leaf.states)) set) (cases_of_siphon leaf set) cases e in
     subst (λ (cs : List (List Fact)). IsCover leaf facts cs) given.1
     (siphon_formed leaf set, λ count end meets. siphon-cover leaf set count end)
 node_cover leaf facts (Open f) cases is formed e = opened_cover leaf facts f (slice_get facts f) cases formed refl e

@@ -5,7 +5,7 @@ use Rattle.std.proofs.lemmas.List.Elements.{All-head}
 use Rattle.pres_ast.specs.PredModel.{PredModel}
 use Rattle.pres_ast.specs.PredicateValue.{predicate_value}
 use Rattle.pop_net.specs.declared.net.Word.{Word}
-use Rattle.pop_net.specs.NetModel.{NetModel, Tuple, IsNet, helper_count, output_of}
+use Rattle.pop_net.specs.NetModel.{NetModel, Tuple, IsNet, number_of_helpers, output_of}
 use Rattle.pop_net.specs.InputCrowd.{IsInput, input_crowd}
 use Rattle.pop_net.specs.Lanes.{tuple_of, crowd_of}
 use Rattle.pop_net.specs.Step.{Step}
@@ -36,7 +36,7 @@ checked_by net p proof bound is variables valid right e =
     })
 
 -- all agents output the predicate's value
-pub all_right : (checked : CheckedModel) (counts : List ℕ) (words : List Word) → IsChecked checked → IsInput (length checked.net.variables) (helper_count checked.net) counts → Reachable (Step checked.net) (input_crowd checked.net counts) (crowd_of checked.net words) → IsTerminal (Step checked.net) (crowd_of checked.net words) → All (λ tuple. output_of checked.net tuple ≡ predicate_value checked.pred.tree counts) (crowd_of checked.net words)
+pub all_right : (checked : CheckedModel) (counts : List ℕ) (words : List Word) → IsChecked checked → IsInput (length checked.net.variables) (number_of_helpers checked.net) counts → Reachable (Step checked.net) (input_crowd checked.net counts) (crowd_of checked.net words) → IsTerminal (Step checked.net) (crowd_of checked.net words) → All (λ tuple. output_of checked.net tuple ≡ predicate_value checked.pred.tree counts) (crowd_of checked.net words)
 all_right checked counts words is input reached terminal =
     (is.computes counts (crowd_of checked.net words) input reached).right terminal
 

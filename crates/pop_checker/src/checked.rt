@@ -31,7 +31,7 @@ impl Model for Checked {
 
 impl Checked {
     ghost use Rattle.pres_ast.specs.PredicateValue.{predicate_value};
-    ghost use Rattle.pop_net.specs.NetModel.{helper_count, output_of};
+    ghost use Rattle.pop_net.specs.NetModel.{number_of_helpers, output_of};
     ghost use Rattle.pop_net.specs.InputCrowd.{IsInput, input_crowd};
     ghost use Rattle.pop_net.specs.Lanes.{crowd_of, AreValid};
     ghost use Rattle.pop_net.specs.Step.{Step};
@@ -73,7 +73,7 @@ impl Checked {
 
     /// What the agents of a terminal crowd answer that the counts, with the helpers, led to. Allocates nothing.
     pub fn verdict(&self, counts: &[u64], crowd: &Crowd) -> bool
-        requires input { IsInput (length self.now.net.variables) (helper_count self.now.net) counts.now }
+        requires input { IsInput (length self.now.net.variables) (number_of_helpers self.now.net) counts.now }
         requires valid { AreValid self.now.net crowd.now }
         requires reached { Reachable (Step self.now.net)
             (input_crowd self.now.net counts.now) (crowd_of self.now.net crowd.now) }

@@ -5,7 +5,7 @@ use Rattle.std.proofs.lemmas.List.Elements.{All-append, All-replicate}
 use Rattle.pop_net.specs.declared.net.Word.{Word}
 use Rattle.std.specs.List.{range_with_len}
 use Rattle.std.proofs.lemmas.List.FromFn.{length-map-range_with_len, map-range_with_len_more}
-use Rattle.pop_net.specs.NetModel.{NetModel, helper_count}
+use Rattle.pop_net.specs.NetModel.{NetModel, number_of_helpers}
 use Rattle.pop_net.specs.InputCrowd.{starts_from, start_of, helper_of, input_crowd}
 use Rattle.pop_net.specs.Lanes.{tuple_of, crowd_of, IsValid, AreValid}
 use Rattle.pop_crowd.specs.Crowds.{input_size}
@@ -53,12 +53,12 @@ helper_more net j start old new word e is before =
     ∙ ap (λ xs. crowd_of net start ++ xs) (sym (map-range_with_len_more (helper_of net) 0 j j (omega arith)))
 
 -- the input crowd is the starts, then the helpers
-pub joined : (net : NetModel) (counts : List ℕ) (starts words : List Word) → crowd_of net starts ≡ starts_from (start_of net) 0 counts → crowd_of net words ≡ crowd_of net starts ++ map (helper_of net) (range_with_len 0 (helper_count net)) → crowd_of net words ≡ input_crowd net counts
-joined net counts starts words e h = h ∙ ap (λ xs. xs ++ map (helper_of net) (range_with_len 0 (helper_count net))) e
+pub joined : (net : NetModel) (counts : List ℕ) (starts words : List Word) → crowd_of net starts ≡ starts_from (start_of net) 0 counts → crowd_of net words ≡ crowd_of net starts ++ map (helper_of net) (range_with_len 0 (number_of_helpers net)) → crowd_of net words ≡ input_crowd net counts
+joined net counts starts words e h = h ∙ ap (λ xs. xs ++ map (helper_of net) (range_with_len 0 (number_of_helpers net))) e
 
 pub agents_started : (net : NetModel) (counts : List ℕ) (words : List Word) → crowd_of net words ≡ input_crowd net counts → length words ≡ input_size net counts
 agents_started net counts words e =
     sym (length-map words (tuple_of net)) ∙ ap length e
-    ∙ length-append (starts_from (start_of net) 0 counts) (map (helper_of net) (range_with_len 0 (helper_count net)))
-    ∙ ap (λ n. n + length (map (helper_of net) (range_with_len 0 (helper_count net)))) (length-starts_from (start_of net) 0 counts)
-    ∙ ap (λ n. sum counts + n) (length-map-range_with_len (helper_of net) 0 (helper_count net))
+    ∙ length-append (starts_from (start_of net) 0 counts) (map (helper_of net) (range_with_len 0 (number_of_helpers net)))
+    ∙ ap (λ n. n + length (map (helper_of net) (range_with_len 0 (number_of_helpers net)))) (length-starts_from (start_of net) 0 counts)
+    ∙ ap (λ n. sum counts + n) (length-map-range_with_len (helper_of net) 0 (number_of_helpers net))

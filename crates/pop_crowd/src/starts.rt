@@ -2,7 +2,7 @@
 
 ghost use Rattle.std.specs.Prelude.{◌≡◌, ◌*◌, ◌^◌, ◌≤◌, ◌++◌, length, map, IfOk, OnOk, sum, replicate};
 ghost use Rattle.std.specs.List.{range_with_len};
-ghost use Rattle.pop_net.specs.NetModel.{helper_count};
+ghost use Rattle.pop_net.specs.NetModel.{number_of_helpers};
 ghost use Rattle.pop_net.specs.InputCrowd.{starts_from, start_of, helper_of, input_crowd};
 ghost use Rattle.pop_net.specs.Lanes.{crowd_of, AreValid};
 ghost use Rattle.pop_crowd.specs.Crowds.{input_size};
@@ -71,7 +71,7 @@ fn push_words(words: &mut Vec<Word>, word: Word, count: u64) -> Result<(), NoMem
 fn push_helpers(words: &mut Vec<Word>, net: &Net) -> Result<(), NoMemory>
     requires { AreValid net.now words.old.items }
     ensures helpers { OnOk result (crowd_of net.now words.new.items
-        ≡ crowd_of net.now words.old.items ++ map (helper_of net.now) (range_with_len 0 (helper_count net.now))) }
+        ≡ crowd_of net.now words.old.items ++ map (helper_of net.now) (range_with_len 0 (number_of_helpers net.now))) }
     ensures valid { OnOk result (AreValid net.now words.new.items) }
 {
     for helper in 0..net.helper_count() {

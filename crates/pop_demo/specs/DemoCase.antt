@@ -4,15 +4,15 @@ use Rattle.pres_ast.specs.PredTree.{PredTree, LessThan, Congruent, Negation, Con
 use Rattle.pres_ast.specs.PredModel.{PredModel}
 use Rattle.pop_words.specs.declared.spec.RunSpec.{RunSpec}
 
-abbrev pub names : List (List ℕ)
-names = codes "x" ∷ codes "y" ∷ []
+abbrev pub names_of_demo : List (List ℕ)
+names_of_demo = codes "x" ∷ codes "y" ∷ []
 
 -- x - y < c, for c from -20 to 20
 abbrev pub bound : ℕ → ℤ
 bound index = pos (index % 41) -ℤ pos 20
 
-abbrev pub threshold : ℕ → PredTree
-threshold index = LessThan (pos 1 ∷ negsuc 0 ∷ []) (bound index)
+abbrev pub demo_threshold : ℕ → PredTree
+demo_threshold index = LessThan (pos 1 ∷ negsuc 0 ∷ []) (bound index)
 
 -- x + 2*y = r mod m, for m from 2 to 20
 abbrev pub modulus : ℕ → ℕ
@@ -21,8 +21,8 @@ modulus index = 2 + index % 19
 abbrev pub rest : ℕ → ℕ
 rest index = index % modulus index
 
-abbrev pub remainder : ℕ → PredTree
-remainder index = Congruent (pos 1 ∷ pos 2 ∷ []) (modulus index) (rest index)
+abbrev pub demo_remainder : ℕ → PredTree
+demo_remainder index = Congruent (pos 1 ∷ pos 2 ∷ []) (modulus index) (rest index)
 
 -- the first, the second, both, or not the first or the second
 abbrev pub of_form : ℕ → PredTree → PredTree → PredTree
@@ -30,7 +30,7 @@ of_form form p q =
     if form == 0 then p else (if form == 1 then q else (if form == 2 then Conjunction p q else Disjunction (Negation p) q))
 
 abbrev pub demo_tree : ℕ → PredTree
-demo_tree number = of_form (number % 4) (threshold (number / 4)) (remainder (number / 4))
+demo_tree number = of_form (number % 4) (demo_threshold (number / 4)) (demo_remainder (number / 4))
 
 abbrev pub demo_pred : ℕ → PredModel
 demo_pred number = record { variables = 2; tree = demo_tree number }

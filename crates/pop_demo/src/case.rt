@@ -3,7 +3,8 @@
 ghost use Rattle.std.specs.Prelude.{◌≡◌, ◌∷◌, [], IfOk};
 ghost use Rattle.pres_ast.specs.PredTree.{Negation, Conjunction, Disjunction};
 ghost use Rattle.pres_ast.specs.TreeOf.{tree_of};
-ghost use Rattle.pop_demo.specs.DemoCase.{names as name_list, threshold, remainder, demo_tree, demo_pred, demo_counts};
+ghost use Rattle.pop_demo.specs.DemoCase.{names_of_demo, demo_threshold, demo_remainder, demo_tree, demo_pred};
+ghost use Rattle.pop_demo.specs.DemoCase.{demo_counts};
 
 use pop_io::{List, NoMemory, Text};
 use pres_ast::{Pred, Tree};
@@ -24,7 +25,7 @@ pub fn demo_case(alloc: Global, number: u32) -> Result<(Pred, List<u64>), NoMemo
 
 /// The names of the variables: `x` and `y`.
 pub fn demo_names(alloc: Global) -> Result<List<Text>, NoMemory>
-    ensures { IfOk result (λ list. list ≡ name_list) }
+    ensures { IfOk result (λ list. list ≡ names_of_demo) }
 {
     let x = Text::from_string(String::from_str(alloc, "x")?);
     let y = Text::from_string(String::from_str(alloc, "y")?);
@@ -47,7 +48,7 @@ fn tree(alloc: Global, number: u32) -> Result<Tree, NoMemory>
 }
 
 fn less(alloc: Global, index: u32) -> Result<Tree, NoMemory>
-    ensures { IfOk result (λ tree. tree_of tree ≡ threshold index) }
+    ensures { IfOk result (λ tree. tree_of tree ≡ demo_threshold index) }
 {
     let coefs = coefs(alloc, 1, -1)?;
     let bound = i64::from(index % 41) - 20;
@@ -55,7 +56,7 @@ fn less(alloc: Global, index: u32) -> Result<Tree, NoMemory>
 }
 
 fn congruent(alloc: Global, index: u32) -> Result<Tree, NoMemory>
-    ensures { IfOk result (λ tree. tree_of tree ≡ remainder index) }
+    ensures { IfOk result (λ tree. tree_of tree ≡ demo_remainder index) }
 {
     let coefs = coefs(alloc, 1, 2)?;
     let modulus = 2 + index % 19;
@@ -68,7 +69,7 @@ fn congruent(alloc: Global, index: u32) -> Result<Tree, NoMemory>
 }
 
 fn both(alloc: Global, index: u32) -> Result<Tree, NoMemory>
-    ensures { IfOk result (λ tree. tree_of tree ≡ Conjunction (threshold index) (remainder index)) }
+    ensures { IfOk result (λ tree. tree_of tree ≡ Conjunction (demo_threshold index) (demo_remainder index)) }
 {
     let left = Box::new(alloc, less(alloc, index)?)?;
     let right = Box::new(alloc, congruent(alloc, index)?)?;
@@ -76,7 +77,8 @@ fn both(alloc: Global, index: u32) -> Result<Tree, NoMemory>
 }
 
 fn either(alloc: Global, index: u32) -> Result<Tree, NoMemory>
-    ensures { IfOk result (λ tree. tree_of tree ≡ Disjunction (Negation (threshold index)) (remainder index)) }
+    ensures { IfOk result (λ tree.
+        tree_of tree ≡ Disjunction (Negation (demo_threshold index)) (demo_remainder index)) }
 {
     let inner = Box::new(alloc, less(alloc, index)?)?;
     let left = Box::new(alloc, Tree::Not(inner))?;

@@ -1,6 +1,6 @@
 //! Lists, texts and names; sources, sinks and gates: all that the program has of the outside.
 //! It stands on std alone.
-//! The layer above uses: `read_all` gives all bytes, `write_all` appends all or a prefix, and a fault comes only when a count has risen.
+//! The layer above uses: `read_all` gives all bytes, `write_all` appends all or a prefix; a fault has its cause.
 #![tactic(auto)]
 
 mod fault;

@@ -3,8 +3,7 @@
 ghost use Rattle.std.specs.Prelude.{◌≡◌, position};
 ghost use Rattle.std.specs.List.{list_all, list_any};
 ghost use Rattle.std.specs.Str.{bytes_eq};
-ghost use Rattle.pop_io.specs.Names.{variable_name, state_name, starts_name};
-ghost use Rattle.pop_io.specs.Names.{is_name_start, is_name_byte, is_printed};
+ghost use Rattle.pop_io.specs.Names.{variable_name, state_name, starts_name, is_name_start, is_name_byte, is_printed};
 
 use crate::text::Text;
 

@@ -10,14 +10,14 @@ use Rattle.pop_crowd.specs.Replay.{replay}
 use Rattle.pop_words.specs.declared.spec.RunSpec.{RunSpec}
 use Rattle.pair_workers.specs.Run.{joined}
 use Rattle.pop_journal.specs.Journal.{meeting_line}
-use Rattle.pop_journal.specs.Ending.{is_terminal, least_pair, common_output, ending_for, ending_of, is_undecided}
+use Rattle.pop_journal.specs.Ending.{is_terminal, least_pair, common_output, ending_for, ending_of, last_is_undecided}
 use Rattle.pop_journal.specs.declared.fault.VerifyFault.{VerifyFault}
-use Rattle.pop_journal.specs.Expected.{Compared, both, next_meeting, line_at_end, rounds_compared, tail_compared, tail_text, first_difference}
+use Rattle.pop_journal.specs.Expected.{Compared, both, next_meeting, line_at_end, rounds_compared, tail_compared, whole_tail, first_difference}
 use Rattle.pop_journal.specs.Standing.{IsForEnd, Passes, lacking_behind}
 use Rattle.pop_journal.proofs.Spelled.{meeting_no_end}
 use Rattle.pop_journal.proofs.Walk.{carried}
 
-undecided : (pair : Option (ℕ × ℕ)) (output : Option Bool) → is_undecided (ending_for pair output) ≡ true → is_none pair ≡ false
+undecided : (pair : Option (ℕ × ℕ)) (output : Option Bool) → last_is_undecided (ending_for pair output) ≡ true → is_none pair ≡ false
 undecided None None e = absurd (false≢true e)
 undecided None (Some v) e = absurd (false≢true e)
 undecided (Some p) output e = refl
@@ -27,7 +27,7 @@ module _ (net : NetModel) (start : CrowdModel) (spec : RunSpec) (before : List M
   last = replay net before start
 
   -- a worker that lacks a meeting
-  pub meeting_due : (w : ℕ) (m : Meeting) → is_undecided (ending_of net last) ≡ true → m ≡ next_meeting net start spec before w → IsForEnd (line_at_end net start spec before k (Some w)) (Some (meeting_line m))
+  pub meeting_due : (w : ℕ) (m : Meeting) → last_is_undecided (ending_of net last) ≡ true → m ≡ next_meeting net start spec before w → IsForEnd (line_at_end net start spec before k (Some w)) (Some (meeting_line m))
   meeting_due w m e is =
       let expected : line_at_end net start spec before k (Some w) ≡ meeting_line (next_meeting net start spec before w) =
       cond-false (is_terminal net last) (codes "end") (meeting_line (next_meeting net start spec before w)) (undecided (least_pair net last) (common_output net last) e) in
@@ -40,7 +40,7 @@ module _ (net : NetModel) (start : CrowdModel) (spec : RunSpec) (rounds : List (
   before = joined (take k rounds)
 
   abbrev tail_after : List (List ℕ) → List Meeting → List Compared
-  tail_after kept meetings = tail_compared kept (lines_of (tail_text net (replay net meetings start)))
+  tail_after kept meetings = tail_compared kept (lines_of (whole_tail net (replay net meetings start)))
 
   abbrev told : List Compared
   told = both (codes "end") (line_at_end net start spec before (length shown + 1) worker) ∷ tail_after kept before

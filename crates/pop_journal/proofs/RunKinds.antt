@@ -8,7 +8,7 @@ use Rattle.pop_crowd.specs.Replay.{IsMeeting, AreMeetings}
 use Rattle.pop_words.specs.declared.spec.RunSpec.{RunSpec}
 use Rattle.pop_words.specs.declared.kind.RunKind.{RunKind}
 use Rattle.pop_words.specs.declared.kind.RunKind.TheVariants.{Whole, Watched}
-use Rattle.pop_words.specs.Kinds.{most_workers}
+use Rattle.pop_words.specs.Kinds.{most_workers_of}
 use Rattle.pair_workers.specs.Picks.{words_from, first_state}
 use Rattle.pair_workers.specs.Run.{IsRun, joined, meetings_of}
 use Rattle.pair_workers.specs.WatchedRun.{IsWatchedRound, IsWatchedRun, IsRunOf}
@@ -16,11 +16,11 @@ use Rattle.pair_workers.proofs.Meets.{picked_meet}
 use Rattle.pair_workers.proofs.Rounds.{joined_all}
 use Rattle.pair_workers.proofs.SpentTurns.{over_by_rounds}
 use Rattle.pair_workers.proofs.WholeWatched.{watched_round, whole_is_watched}
-use Rattle.pop_journal.specs.Expected.{words_after, next_meeting}
+use Rattle.pop_journal.specs.Expected.{stream_after, next_meeting}
 use Rattle.pop_journal.specs.Rounds.{AreRounds, AreWatchedRounds, AreRoundsOf}
 use Rattle.pop_journal.proofs.Due.{AreDue, picked_due}
 
-pub few_workers : (kind : RunKind) (n : ℕ) → n ≤ most_workers kind → n ≤ 64
+pub few_workers : (kind : RunKind) (n : ℕ) → n ≤ most_workers_of kind → n ≤ 64
 few_workers Whole n l = omega (arith, l)
 few_workers Watched n l = omega (arith, l)
 
@@ -78,7 +78,7 @@ module _ (net : NetModel) (start : CrowdModel) (spec : RunSpec) (rounds : List (
     due_meets before [] h = All-nil InRange
     due_meets before (m ∷ ms) h =
         let next = next_meeting net start spec before m.worker in
-        let meets = picked_meet (words_after (words_from (first_state spec.seed m.worker)) (length (meetings_of m.worker before))) (length start) (next ∷ []) two refl in
+        let meets = picked_meet (stream_after (words_from (first_state spec.seed m.worker)) (length (meetings_of m.worker before))) (length start) (next ∷ []) two refl in
         All-cons InRange m ms (subst InRange (sym h.0) (All-head InRange next [] meets)) (due_meets (before ++ m ∷ []) ms h.1)
 
     run_meets : IsWatchedRun net start spec rounds end → AreMeetings (length start) (joined rounds)

@@ -8,13 +8,13 @@ use Rattle.std.proofs.lemmas.Slice.Eq.{bytes_eq-Decides}
 use Rattle.std.proofs.lemmas.List.Splits.{join_with_byte-slice_split, slice_split_at, slice_split_none}
 use Rattle.pop_io.specs.declared.gate.TheConstants.{SHARD_LIMIT}
 use Rattle.pop_lines.specs.Lines.{pieces}
-use Rattle.pop_lines.specs.Numbers.{has_no_leading_zero, number_of, number_within, printed_within}
+use Rattle.pop_lines.specs.Numbers.{has_no_leading_zero, number_of, number_of_within, printed_number_of_within}
 use Rattle.pop_lines.proofs.Printed.{printed-number_of, printed_number_of-decimal}
 use Rattle.pop_words.specs.declared.spec.TheConstants.{TURN_LIMIT, MEETING_LIMIT, SEED_LIMIT}
 use Rattle.pop_words.specs.declared.spec.RunSpec.{RunSpec}
 use Rattle.pop_words.specs.declared.kind.RunKind.{RunKind}
 use Rattle.pop_words.specs.declared.kind.RunKind.TheVariants.{Whole, Watched}
-use Rattle.pop_words.specs.Kinds.{kind_word, most_workers}
+use Rattle.pop_words.specs.Kinds.{kind_word, most_workers_of}
 use Rattle.pop_words.specs.Options.{IsWithinLimits}
 use Rattle.pop_journal.specs.Journal.{run_line}
 use Rattle.pop_journal.specs.Form.{number_named, at_the_end, spec_words, spec_in}
@@ -63,9 +63,9 @@ bounded least most (Some v) n e =
     let parts = and_parts (nat_le least v) (nat_le v most) both.0 in
     (both.1, subst (Between least most) same (leb-true least v parts.0, leb-true v most parts.1))
 
-printed_is : (least most : ℕ) (digits : List ℕ) (n : ℕ) → most < 2 ^ 64 → printed_within least most digits ≡ Some n → (digits ≡ decimal n) × Between least most n
+printed_is : (least most : ℕ) (digits : List ℕ) (n : ℕ) → most < 2 ^ 64 → printed_number_of_within least most digits ≡ Some n → (digits ≡ decimal n) × Between least most n
 printed_is least most digits n small e =
-    let form = test (has_no_leading_zero digits) (number_within least most digits) n e in
+    let form = test (has_no_leading_zero digits) (number_of_within least most digits) n e in
     let value = bounded least most (number_of digits) n form.1 in
     (printed-number_of digits n form.0 value.0 (omega (arith, value.1.1, small)), value.1)
 
@@ -81,8 +81,8 @@ named_is : (name : List ℕ) (least most : ℕ) (words : List (List ℕ)) (n : �
 named_is name least most [] n more small e = absurd cc
 named_is name least most (word ∷ []) n more small e = absurd cc
 named_is name least most (word ∷ digits ∷ rest) n more small e =
-    let both = test (bytes_eq word name) (option_map (λ (m : ℕ). let t : Named = (m, rest) in t) (printed_within least most digits)) (n, more) e in
-    let found = mapped (printed_within least most digits) rest n more both.1 in
+    let both = test (bytes_eq word name) (option_map (λ (m : ℕ). let t : Named = (m, rest) in t) (printed_number_of_within least most digits)) (n, more) e in
+    let found = mapped (printed_number_of_within least most digits) rest n more both.1 in
     let printed = printed_is least most digits n small found.0 in
     let first = (bytes_eq-Decides word name).0 both.0 in (
       ap (λ (w : List ℕ). w ∷ digits ∷ rest) first ∙ ap (λ (d : List ℕ). name ∷ d ∷ rest) printed.0 ∙ ap (λ (ws : List (List ℕ)). name ∷ decimal n ∷ ws) found.1,
@@ -95,19 +95,19 @@ end_is spec spec' [] e =
 end_is spec spec' (word ∷ words) e = absurd cc
 
 -- the words of a line that was read
-words_are : (kind : RunKind) (words : List (List ℕ)) (spec : RunSpec) → spec_words kind words ≡ Some spec → (words ≡ words_of kind spec) × IsWithinLimits spec × (spec.workers ≤ most_workers kind)
+words_are : (kind : RunKind) (words : List (List ℕ)) (spec : RunSpec) → spec_words kind words ≡ Some spec → (words ≡ words_of kind spec) × IsWithinLimits spec × (spec.workers ≤ most_workers_of kind)
 words_are kind [] spec e = absurd cc
 words_are kind (first ∷ words) spec e =
     let run = test (bytes_eq first (kind_word kind)) _ spec e in
     let few = few_workers kind in
-    let most : most_workers kind ≤ 64 = few (most_workers kind) (omega arith) in
+    let most : most_workers_of kind ≤ 64 = few (most_workers_of kind) (omega arith) in
     let w = then_some _ _ spec run.1 in
     let s = then_some _ _ spec w.2 in
     let t = then_some _ _ spec s.2 in
     let n = then_some _ _ spec t.2 in
     let read : RunSpec = record { workers = w.0.0; shards = s.0.0; turns = t.0.0; seed = n.0.0 } in
     let done = end_is read spec n.0.1 n.2 in
-    let workers = named_is (codes "workers") 1 (most_workers kind) words w.0.0 w.0.1 (omega (arith, most)) w.1 in
+    let workers = named_is (codes "workers") 1 (most_workers_of kind) words w.0.0 w.0.1 (omega (arith, most)) w.1 in
     let shards = named_is (codes "shards") 1 SHARD_LIMIT w.0.1 s.0.0 s.0.1 (omega arith) s.1 in
     let turns = named_is (codes "turns") 0 TURN_LIMIT s.0.1 t.0.0 t.0.1 (omega arith) t.1 in
     let seed = named_is (codes "seed") 0 SEED_LIMIT t.0.1 n.0.0 n.0.1 (omega arith) n.1 in
@@ -119,10 +119,10 @@ words_are kind (first ∷ words) spec e =
     (shards.0 ∙ ap (λ (ws : List (List ℕ)). codes "shards" ∷ decimal s.0.0 ∷ ws)
     (turns.0 ∙ ap (λ (ws : List (List ℕ)). codes "turns" ∷ decimal t.0.0 ∷ ws)
     (seed.0 ∙ ap (λ (ws : List (List ℕ)). codes "seed" ∷ decimal n.0.0 ∷ ws) done.0)))) in
-    (all ∙ ap (words_of kind) done.1, subst IsWithinLimits done.1 limits, subst (λ (s : RunSpec). s.workers ≤ most_workers kind) done.1 workers.1.1)
+    (all ∙ ap (words_of kind) done.1, subst IsWithinLimits done.1 limits, subst (λ (s : RunSpec). s.workers ≤ most_workers_of kind) done.1 workers.1.1)
 
 -- a line that is read is the line of its run
-pub spec_spelled : (kind : RunKind) (line : List ℕ) (spec : RunSpec) → spec_in kind line ≡ Some spec → (line ≡ run_line kind spec) × IsWithinLimits spec × (spec.workers ≤ most_workers kind)
+pub spec_spelled : (kind : RunKind) (line : List ℕ) (spec : RunSpec) → spec_in kind line ≡ Some spec → (line ≡ run_line kind spec) × IsWithinLimits spec × (spec.workers ≤ most_workers_of kind)
 unfolding spec_in
 spec_spelled kind line spec e =
     let are = words_are kind (pieces 32 line) spec e in
@@ -146,29 +146,29 @@ words_cut : (kind : RunKind) (spec : RunSpec) → IsWithinLimits spec → pieces
 words_cut Whole spec limits = ap (pieces 32) (run_right Whole spec) ∙ ap (λ (ws : List (List ℕ)). codes "run" ∷ codes "workers" ∷ ws) (numbers_cut spec limits)
 words_cut Watched spec limits = ap (pieces 32) (run_right Watched spec) ∙ ap (λ (ws : List (List ℕ)). codes "watch" ∷ codes "workers" ∷ ws) (numbers_cut spec limits)
 
-printed_back : (least most n : ℕ) → least ≤ n → n ≤ most → n < 2 ^ 64 → printed_within least most (decimal n) ≡ Some n
+printed_back : (least most n : ℕ) → least ≤ n → n ≤ most → n < 2 ^ 64 → printed_number_of_within least most (decimal n) ≡ Some n
 printed_back least most n low high small =
     let form = test (has_no_leading_zero (decimal n)) (number_of (decimal n)) n (printed_number_of-decimal n small) in
-    cond-true (has_no_leading_zero (decimal n)) (number_within least most (decimal n)) None form.0
+    cond-true (has_no_leading_zero (decimal n)) (number_of_within least most (decimal n)) None form.0
     ∙ ap (option_and_then (λ (m : ℕ). if nat_le least m && nat_le m most then Some m else None)) form.1
     ∙ cond-true (nat_le least n && nat_le n most) (Some n) None (and_from (nat_le least n) (nat_le n most) (le-leb least n low) (le-leb n most high))
 
 named_back : (name : List ℕ) (least most n : ℕ) (more : List (List ℕ)) → least ≤ n → n ≤ most → n < 2 ^ 64 → number_named name least most (name ∷ decimal n ∷ more) ≡ Some (n, more)
 named_back name least most n more low high small =
-    cond-true (bytes_eq name name) (option_map (λ (m : ℕ). let t : Named = (m, more) in t) (printed_within least most (decimal n))) None ((bytes_eq-Decides name name).1 refl)
+    cond-true (bytes_eq name name) (option_map (λ (m : ℕ). let t : Named = (m, more) in t) (printed_number_of_within least most (decimal n))) None ((bytes_eq-Decides name name).1 refl)
     ∙ ap (option_map (λ (m : ℕ). let t : Named = (m, more) in t)) (printed_back least most n low high small)
 
 same_bytes : (text : List ℕ) → bytes_eq text text ≡ true
 same_bytes text = (bytes_eq-Decides text text).1 refl
 
 -- the line of a run is read
-pub spec_back : (kind : RunKind) (spec : RunSpec) → IsWithinLimits spec → spec.workers ≤ most_workers kind → spec.workers * spec.turns ≤ MEETING_LIMIT → spec_in kind (run_line kind spec) ≡ Some spec
+pub spec_back : (kind : RunKind) (spec : RunSpec) → IsWithinLimits spec → spec.workers ≤ most_workers_of kind → spec.workers * spec.turns ≤ MEETING_LIMIT → spec_in kind (run_line kind spec) ≡ Some spec
 unfolding spec_in
 spec_back kind spec limits hands few =
     ap (spec_words kind) (words_cut kind spec limits)
     ∙ rw (
       same_bytes (kind_word kind),
-      named_back (codes "workers") 1 (most_workers kind) spec.workers _ limits.workers.0 hands (omega (arith, limits.workers.1)),
+      named_back (codes "workers") 1 (most_workers_of kind) spec.workers _ limits.workers.0 hands (omega (arith, limits.workers.1)),
       named_back (codes "shards") 1 SHARD_LIMIT spec.shards _ limits.shards.0 limits.shards.1 (omega (arith, limits.shards.1)),
       named_back (codes "turns") 0 TURN_LIMIT spec.turns _ limits.turns.0 limits.turns.1 (omega (arith, limits.turns.1)),
       named_back (codes "seed") 0 SEED_LIMIT spec.seed _ limits.seed.0 limits.seed.1 (omega (arith, limits.seed.1)),

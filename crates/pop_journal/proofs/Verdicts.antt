@@ -17,7 +17,7 @@ use Rattle.pop_journal.specs.declared.fault.VerifyFault.{VerifyFault}
 use Rattle.pop_journal.specs.declared.fault.VerifyFault.TheVariants.{Differs, NoMemory}
 use Rattle.pop_journal.specs.declared.journal.Journal.{Journal}
 use Rattle.pop_journal.specs.Rounds.{AreRoundsOf}
-use Rattle.pop_journal.specs.Expected.{Difference, first_difference, journal_compared, tail_text, Holds}
+use Rattle.pop_journal.specs.Expected.{Difference, first_difference, journal_compared, whole_tail, Holds}
 use Rattle.pop_journal.specs.Standing.{Passes}
 use Rattle.pop_journal.proofs.Holds.{run_of_none, none_of_run}
 use Rattle.pop_journal.proofs.RunKinds.{are_watched, is_watched, is_of_kind}
@@ -36,7 +36,7 @@ module _ (net : NetModel) (start : CrowdModel) (journal : Journal) (two : AGENT_
       let watched = are_watched journal.spec (length start) journal.rounds journal.kind form in
       let run : IsWatchedRun net start journal.spec journal.rounds holds.0 = is_watched net start journal.spec journal.rounds holds.0 journal.kind holds.1 in
       none_of_run net start journal.spec two few workers.1 tuples journal.rounds watched (journal.first + 1) journal.tail holds.0 workers.0 run
-      (holds.2 ∙ ap (λ (c : CrowdModel). lines_of (tail_text net c)) (sym run.replays))
+      (holds.2 ∙ ap (λ (c : CrowdModel). lines_of (whole_tail net c)) (sym run.replays))
 
 module _ (net : NetModel) (words : List Word) (journal : Journal) (r : Result ℕ VerifyFault) (limits : IsWithinLimits journal.spec) (form : AreRoundsOf journal.kind journal.spec (length words) journal.rounds) (two : AGENT_LEAST ≤ length words) (few : length words ≤ AGENT_LIMIT) where
   abbrev start : CrowdModel

@@ -13,7 +13,7 @@ use Rattle.pop_crowd.specs.Tally.{crowd_lines}
 use Rattle.pop_words.specs.declared.spec.TheConstants.{MEETING_LIMIT}
 use Rattle.pop_words.specs.declared.spec.RunSpec.{RunSpec}
 use Rattle.pop_words.specs.declared.kind.RunKind.{RunKind}
-use Rattle.pop_words.specs.Kinds.{most_workers}
+use Rattle.pop_words.specs.Kinds.{most_workers_of}
 use Rattle.pop_words.specs.Options.{IsWithinLimits}
 use Rattle.pair_workers.specs.Run.{joined}
 use Rattle.pair_workers.specs.WatchedRun.{IsWatchedRound, IsWatchedRun, IsRunOf}
@@ -21,7 +21,7 @@ use Rattle.pop_journal.specs.declared.journal.Journal.{Journal}
 use Rattle.pop_journal.specs.Journal.{run_line, round_lines, run_lines, last_line, text_of, journal_text}
 use Rattle.pop_journal.specs.Rounds.{AreRounds, AreWatchedRounds, AreRoundsOf}
 use Rattle.pop_journal.specs.Ending.{ending_of}
-use Rattle.pop_journal.specs.Expected.{tail_text}
+use Rattle.pop_journal.specs.Expected.{whole_tail}
 use Rattle.pop_journal.specs.Form.{spec_in, Reading, Parts, Out, lines_read, under, with_spec, journal_in}
 use Rattle.pop_journal.specs.declared.fault.JournalFault.{JournalFault}
 use Rattle.pop_journal.specs.ReadLines.{ReadsJournal}
@@ -117,7 +117,7 @@ few_meetings kind spec agents rounds limits form =
 
 module _ (kind : RunKind) (net : NetModel) (start : CrowdModel) (spec : RunSpec) (rounds : List (List Meeting)) (end : CrowdModel) (two : 2 ≤ length start) (few : length start ≤ AGENT_LIMIT) (limits : IsWithinLimits spec) (run : IsRunOf kind net start spec rounds end) where
   abbrev tail : List (List ℕ)
-  tail = lines_of (tail_text net end)
+  tail = lines_of (whole_tail net end)
 
   form : AreRoundsOf kind spec (length start) rounds
   form = run_form net start spec rounds end two kind run
@@ -135,10 +135,10 @@ module _ (kind : RunKind) (net : NetModel) (start : CrowdModel) (spec : RunSpec)
   cut : lines_of (journal_text kind net spec rounds end (ending_of net end)) ≡ run_line kind spec ∷ (round_lines 1 rounds ++ codes "end" ∷ tail)
   cut =
       ap lines_of (append_assoc (text_of (run_lines kind spec rounds)) (crowd_lines net end) (ended (last_line (ending_of net end))))
-      ∙ lines_text (run_lines kind spec rounds) (tail_text net end) (lines_unbroken kind spec rounds limits not_many all_small)
+      ∙ lines_text (run_lines kind spec rounds) (whole_tail net end) (lines_unbroken kind spec rounds limits not_many all_small)
       ∙ append_assoc (run_line kind spec ∷ round_lines 1 rounds) (codes "end" ∷ []) tail
 
-  pub read_back : (first : ℕ) → spec.workers ≤ most_workers kind → spec.workers * spec.turns ≤ MEETING_LIMIT → IsReadBack kind net start spec rounds end first
+  pub read_back : (first : ℕ) → spec.workers ≤ most_workers_of kind → spec.workers * spec.turns ≤ MEETING_LIMIT → IsReadBack kind net start spec rounds end first
   read_back first hands spent =
       ap (journal_in kind (length start) first) cut
       ∙ ap (with_spec kind (length start) first (round_lines 1 rounds ++ codes "end" ∷ tail)) (spec_back kind spec limits hands spent)

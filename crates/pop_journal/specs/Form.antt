@@ -3,12 +3,12 @@ use Rattle.std.specs.Prelude.{◌≡◌, ℕ, ◌+◌, ◌*◌, ◌==◌, ◌&&�
 use Rattle.std.specs.Prelude.{Option, Some, None, option_map, option_and_then, Result, Ok, Err}
 use Rattle.std.specs.Str.{bytes_eq}
 use Rattle.pop_lines.specs.Lines.{pieces}
-use Rattle.pop_lines.specs.Numbers.{printed_number_of, printed_within}
+use Rattle.pop_lines.specs.Numbers.{printed_number_of, printed_number_of_within}
 use Rattle.pop_crowd.specs.declared.crowd.Meeting.{Meeting}
 use Rattle.pop_io.specs.declared.gate.TheConstants.{SHARD_LIMIT}
 use Rattle.pop_words.specs.declared.kind.RunKind.{RunKind}
 use Rattle.pop_words.specs.declared.kind.RunKind.TheVariants.{Whole, Watched}
-use Rattle.pop_words.specs.Kinds.{kind_word, most_workers}
+use Rattle.pop_words.specs.Kinds.{kind_word, most_workers_of}
 use Rattle.pop_words.specs.declared.spec.TheConstants.{TURN_LIMIT, MEETING_LIMIT, SEED_LIMIT}
 use Rattle.pop_words.specs.declared.spec.RunSpec.{RunSpec}
 use Rattle.pair_workers.specs.Run.{made_by, turns_in}
@@ -18,7 +18,8 @@ use Rattle.pop_journal.specs.declared.fault.JournalWhy.TheVariants.{Missing, For
 
 -- a name, and behind it a number in its printed form and within these limits, with the words behind both
 abbrev pub number_named : List ℕ → ℕ → ℕ → List (List ℕ) → Option (ℕ × List (List ℕ))
-number_named name least most (word ∷ number ∷ more) = if bytes_eq word name then option_map (λ n. (n, more)) (printed_within least most number) else None
+number_named name least most (word ∷ number ∷ more) =
+    if bytes_eq word name then option_map (λ n. (n, more)) (printed_number_of_within least most number) else None
 number_named name least most _ = None
 
 abbrev pub at_the_end : RunSpec → List (List ℕ) → Option RunSpec
@@ -38,7 +39,7 @@ spec_words kind (first ∷ words) =
     (number_named (codes "seed") 0 SEED_LIMIT t.1))
     (number_named (codes "turns") 0 TURN_LIMIT s.1))
     (number_named (codes "shards") 1 SHARD_LIMIT w.1))
-    (number_named (codes "workers") 1 (most_workers kind) words)
+    (number_named (codes "workers") 1 (most_workers_of kind) words)
     else None
 
 unfoldable pub spec_in : RunKind → List ℕ → Option RunSpec

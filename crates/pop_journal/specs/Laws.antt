@@ -8,14 +8,14 @@ use Rattle.pop_crowd.specs.Replay.{replay}
 use Rattle.pop_words.specs.declared.spec.TheConstants.{MEETING_LIMIT}
 use Rattle.pop_words.specs.declared.kind.RunKind.{RunKind}
 use Rattle.pop_words.specs.declared.spec.RunSpec.{RunSpec}
-use Rattle.pop_words.specs.Kinds.{most_workers}
+use Rattle.pop_words.specs.Kinds.{most_workers_of}
 use Rattle.pop_words.specs.Options.{IsWithinLimits}
 use Rattle.pair_workers.specs.Run.{joined}
 use Rattle.pair_workers.specs.WatchedRun.{IsRunOf}
 use Rattle.pop_journal.specs.declared.journal.Journal.{Journal}
 use Rattle.pop_journal.specs.Journal.{journal_text}
 use Rattle.pop_journal.specs.Ending.{ending_of}
-use Rattle.pop_journal.specs.Expected.{tail_text, Holds}
+use Rattle.pop_journal.specs.Expected.{whole_tail, Holds}
 use Rattle.pop_journal.specs.Form.{journal_in}
 use Rattle.pop_journal.specs.ReadLines.{ReadsJournal}
 
@@ -36,14 +36,14 @@ IsOneSpelling =
 -- the text that is written of a run is read back
 abbrev pub IsReadBack : RunKind → NetModel → CrowdModel → RunSpec → List (List Meeting) → CrowdModel → ℕ → Type 0
 IsReadBack kind net start spec rounds end first =
-    journal_in kind (length start) first (lines_of (text_ended kind net spec rounds end)) ≡ Ok (spec, (rounds, lines_of (tail_text net end)))
+    journal_in kind (length start) first (lines_of (text_ended kind net spec rounds end)) ≡ Ok (spec, (rounds, lines_of (whole_tail net end)))
 
 -- The text that is written of a run is read back to a journal that holds.
 abbrev pub IsWrittenHeld : Type 0
 IsWrittenHeld =
     (kind : RunKind) (net : NetModel) (start : CrowdModel) (spec : RunSpec) (rounds : List (List Meeting)) (end : CrowdModel) (first : ℕ)
     → AGENT_LEAST ≤ length start → length start ≤ AGENT_LIMIT → IsWithinLimits spec
-    → spec.workers ≤ most_workers kind → spec.workers * spec.turns ≤ MEETING_LIMIT
+    → spec.workers ≤ most_workers_of kind → spec.workers * spec.turns ≤ MEETING_LIMIT
     → IsRunOf kind net start spec rounds end
     → IsReadBack kind net start spec rounds end first
-    × Holds net start (record { kind = kind; spec = spec; rounds = rounds; tail = lines_of (tail_text net end); first = first })
+    × Holds net start (record { kind = kind; spec = spec; rounds = rounds; tail = lines_of (whole_tail net end); first = first })

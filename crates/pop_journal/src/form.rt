@@ -7,8 +7,8 @@ ghost use Rattle.pair_workers.specs.Run.{meetings_of, turns_in};
 ghost use Rattle.pop_journal.specs.ReadLines.{first_ends};
 ghost use Rattle.pop_journal.specs.Form.{Tells, told_in, three_numbers, meeting_told, onward, number_named, spec_in};
 ghost use Rattle.pop_journal.specs.Form.{at_the_end};
-ghost use Rattle.pop_words.specs.Walk.{words_after};
-ghost use Rattle.pop_words.specs.Kinds.{most_workers};
+ghost use Rattle.pop_words.specs.Walk.{words_behind};
+ghost use Rattle.pop_words.specs.Kinds.{most_workers_of};
 ghost use Rattle.pop_words.specs.Options.{IsWithinLimits};
 ghost use Rattle.std.specs.Option.{option_copied};
 
@@ -131,9 +131,9 @@ fn number_behind<'t>(
     most: u64,
 ) -> Option<(u64, Option<&'t [u8]>)>
     ensures read { MatchOption result
-        (number_named name.now least most (words_after (option_copied words.entry)) ≡ None)
-        (λ found. number_named name.now least most (words_after (option_copied words.entry))
-        ≡ Some (found.0, words_after (option_copied found.1))) }
+        (number_named name.now least most (words_behind (option_copied words.entry)) ≡ None)
+        (λ found. number_named name.now least most (words_behind (option_copied words.entry))
+        ≡ Some (found.0, words_behind (option_copied found.1))) }
     ensures within { IfSome result (λ found. (least ≤ found.0) × (found.0 ≤ most)) }
 {
     let (word, rest) = cut(words?, b' ');
@@ -149,7 +149,7 @@ fn number_behind<'t>(
 #[tactic(auto, unfolding(crate::specs::Form::spec_in))]
 pub(crate) fn spec_of(kind: RunKind, line: &[u8]) -> Option<RunSpec>
     ensures spec { result ≡ spec_in kind line.now }
-    ensures limits { IfSome result (λ spec. IsWithinLimits spec × (spec.workers ≤ most_workers kind)) }
+    ensures limits { IfSome result (λ spec. IsWithinLimits spec × (spec.workers ≤ most_workers_of kind)) }
 {
     let (first, rest) = cut(line, b' ');
     if first != kind.word().as_bytes() {
@@ -173,7 +173,7 @@ pub(crate) fn spec_of(kind: RunKind, line: &[u8]) -> Option<RunSpec>
 #[tactic(auto, using(crate::proofs::FormLaws::no_end_before))]
 fn at_end(spec: RunSpec, rest: Option<&[u8]>) -> Option<RunSpec>
     requires { IsWithinLimits spec }
-    ensures spec { result ≡ at_the_end spec (words_after (option_copied rest.entry)) }
+    ensures spec { result ≡ at_the_end spec (words_behind (option_copied rest.entry)) }
     ensures same { IfSome result (λ read. read ≡ spec) }
 {
     match rest {

@@ -6,7 +6,7 @@ ghost use Rattle.std.specs.Str.{bytes_eq};
 ghost use Rattle.pop_journal.specs.Journal.{run_line, round_line, round_lines};
 ghost use Rattle.pop_journal.specs.Rounds.{AreRoundsOf};
 ghost use Rattle.pop_lines.specs.Lines.{lines_of};
-ghost use Rattle.pop_words.specs.Kinds.{most_workers};
+ghost use Rattle.pop_words.specs.Kinds.{most_workers_of};
 ghost use Rattle.pop_words.specs.Options.{IsWithinLimits};
 ghost use Rattle.pair_workers.specs.Run.{turns_in};
 ghost use Rattle.pop_journal.specs.declared.fault.JournalFault.TheVariants.{NoMemory as OutOfMemory};
@@ -176,7 +176,8 @@ fn read_lines(
     ensures read { ReadsJournal kind agents first (lines_of text.now) result }
     ensures kind { IfOk result (λ journal. journal.kind ≡ kind) }
     ensures first { IfOk result (λ journal. journal.first ≡ first) }
-    ensures limits { IfOk result (λ journal. IsWithinLimits journal.spec × (journal.spec.workers ≤ most_workers kind)) }
+    ensures limits { IfOk result (λ journal.
+        IsWithinLimits journal.spec × (journal.spec.workers ≤ most_workers_of kind)) }
 {
     let Some((line, rest)) = next_line(text) else {
         return Err(JournalFault::Out {
@@ -214,7 +215,8 @@ pub fn read_journal(
     ensures read { ReadsJournal kind agents first (lines_of text.now) result }
     ensures kind { IfOk result (λ journal. journal.kind ≡ kind) }
     ensures first { IfOk result (λ journal. journal.first ≡ first) }
-    ensures limits { IfOk result (λ journal. IsWithinLimits journal.spec × (journal.spec.workers ≤ most_workers kind)) }
+    ensures limits { IfOk result (λ journal.
+        IsWithinLimits journal.spec × (journal.spec.workers ≤ most_workers_of kind)) }
     // The rounds are what `verify` asks for.
     ensures rounds { IfOk result (λ journal. AreRoundsOf kind journal.spec agents journal.rounds) }
     // The lines of the text are those of the journal.

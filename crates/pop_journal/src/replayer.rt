@@ -9,11 +9,11 @@ ghost use Rattle.pair_workers.specs.Picks.{first_state, words_from};
 ghost use Rattle.pop_lines.specs.Lines.{lines_of, ended};
 ghost use Rattle.pop_crowd.specs.Tally.{crowd_lines};
 ghost use Rattle.pop_journal.specs.Journal.{meeting_line, round_line, last_line};
-ghost use Rattle.pop_journal.specs.Ending.{is_terminal, ending_of, ending_for, is_undecided as last_is_undecided};
+ghost use Rattle.pop_journal.specs.Ending.{is_terminal, ending_of, ending_for, last_is_undecided};
 ghost use Rattle.pop_journal.specs.Expected.{next_meeting, meetings_compared, tail_compared};
 ghost use Rattle.pop_journal.specs.Standing.{IsReplaying, Passes};
 ghost use Rattle.pop_journal.specs.declared.fault.VerifyFault.TheVariants.{Differs};
-ghost use Rattle.terminal_test.specs.TableNet.{net_of};
+ghost use Rattle.terminal_test.specs.TableNet.{table_net};
 
 use crate::fault::VerifyFault;
 use crate::last::Last;
@@ -86,9 +86,9 @@ impl Replayer {
     ghost use Rattle.pop_lines.specs.Lines.{lines_of};
     ghost use Rattle.pop_crowd.specs.Replay.{replay};
     ghost use Rattle.pop_journal.specs.Expected.{next_meeting, meetings_compared, tail_compared, both, line_between};
-    ghost use Rattle.pop_journal.specs.Expected.{line_at_end, tail_text as whole_tail};
+    ghost use Rattle.pop_journal.specs.Expected.{line_at_end, whole_tail};
     ghost use Rattle.pop_journal.specs.Standing.{IsReplaying, IsForEnd, Passes};
-    ghost use Rattle.terminal_test.specs.TableNet.{net_of};
+    ghost use Rattle.terminal_test.specs.TableNet.{table_net};
 
     /// The next meeting of a worker.
     fn meet_next(&mut self, net: &Net, worker: u16) -> Meeting
@@ -152,7 +152,7 @@ impl Replayer {
         meetings: &[Meeting],
         line: u64,
     ) -> Result<(), VerifyFault>
-        requires table { net_of table.now ≡ net.now }
+        requires table { table_net table.now ≡ net.now }
         requires valid { AreValid net.now self.old.crowd }
         requires meetings { AreMeetings (length self.old.crowd) meetings.now }
         requires workers { All (λ m. m.worker < length self.old.pickers.items) meetings.now }
@@ -218,7 +218,7 @@ impl Replayer {
         tail: &[List<u8>],
         line: u64,
     ) -> Result<(), VerifyFault>
-        requires table { net_of table.now ≡ net.now }
+        requires table { table_net table.now ≡ net.now }
         requires valid { AreValid net.now self.old.crowd }
         requires round { (1 ≤ round) × (round ≤ ROUND_LIMIT + 1) }
         requires worker { IfSome lacking (λ worker. worker < length self.old.pickers.items) }
@@ -268,15 +268,16 @@ fn is_quiet(
     crowd: &Crowd,
     last: &mut Option<(u32, u32)>,
 ) -> Result<bool, NoMemory>
-    requires { AreValid (net_of table.now) crowd.now }
-    ensures { IfOk result (λ quiet. quiet ≡ is_terminal (net_of table.now) (crowd_of (net_of table.now) crowd.now)) }
+    requires { AreValid (table_net table.now) crowd.now }
+    ensures { IfOk result (λ quiet.
+        quiet ≡ is_terminal (table_net table.now) (crowd_of (table_net table.now) crowd.now)) }
 {
     table.is_terminal(alloc, crowd, last)
 }
 
 /// The last line for a crowd.
 fn ending(alloc: Global, net: &Net, table: &PairTable, crowd: &Crowd) -> Result<Last, NoMemory>
-    requires table { net_of table.now ≡ net.now }
+    requires table { table_net table.now ≡ net.now }
     requires valid { AreValid net.now crowd.now }
     ensures { IfOk result (λ last. last ≡ ending_of net.now (crowd_of net.now crowd.now)) }
 {

@@ -6,7 +6,7 @@ use Rattle.std.proofs.lemmas.Bool.{eqb-false, leb-true, le-leb, and_parts, and_f
 use Rattle.std.proofs.lemmas.Str.Parse.{IsNumeralModel, numerals_by_value, tells_all_ascii_digits}
 use Rattle.std.proofs.lemmas.Fmt.{decimal-digits_value, digits_decimal, digits_value-decimal, decimal_nonempty, length-decimal-le, decimal_digit, first_decimal}
 use Rattle.pop_lines.specs.declared.numbers.TheConstants.{DIGIT_LIMIT}
-use Rattle.pop_lines.specs.Numbers.{number_of, number_within, has_no_leading_zero, printed_number_of}
+use Rattle.pop_lines.specs.Numbers.{number_of, number_of_within, has_no_leading_zero, printed_number_of}
 
 own : IsNumeralModel (λ ds. all_ascii_digits ds ≡ true) (digits_value 10)
 own = numerals_by_value (λ ds. all_ascii_digits ds ≡ true) tells_all_ascii_digits
@@ -57,7 +57,7 @@ pub printed_number_of-decimal : (n : ℕ) → n < 2 ^ 64 → printed_number_of (
 printed_number_of-decimal n small = cond-true (has_no_leading_zero (decimal n)) (number_of (decimal n)) None (form-decimal n small) ∙ number_of-decimal n small
 
 -- a value in a range
-pub number_within-Some : (least most : ℕ) (text : List ℕ) (found : Option ℕ) (n : ℕ) → number_of text ≡ found → number_within least most text ≡ Some n → (number_of text ≡ Some n) × (n ≤ most)
+pub number_within-Some : (least most : ℕ) (text : List ℕ) (found : Option ℕ) (n : ℕ) → number_of text ≡ found → number_of_within least most text ≡ Some n → (number_of text ≡ Some n) × (n ≤ most)
 number_within-Some least most text None n read is = absurd (let none : None ≡ Some n = rw read at is in cc)
 number_within-Some least most text (Some v) n read is =
     let value = chosen (nat_le least v && nat_le v most) v n (rw read at is) in

@@ -14,8 +14,8 @@ abbrev pub small_number_of : List ℕ → Option ℕ
 small_number_of text = option_and_then (λ n. if nat_lt n (2 ^ 64) then Some n else None) (number_of text)
 
 -- the same with a value from `least` to `most`
-abbrev pub number_within : ℕ → ℕ → List ℕ → Option ℕ
-number_within least most text = option_and_then (λ n. if nat_le least n && nat_le n most then Some n else None) (number_of text)
+abbrev pub number_of_within : ℕ → ℕ → List ℕ → Option ℕ
+number_of_within least most text = option_and_then (λ n. if nat_le least n && nat_le n most then Some n else None) (number_of text)
 
 -- there is a first digit, and no zero stands before another digit
 abbrev pub has_no_leading_zero : List ℕ → Bool
@@ -28,5 +28,5 @@ abbrev pub printed_number_of : List ℕ → Option ℕ
 printed_number_of text = if has_no_leading_zero text then number_of text else None
 
 -- the same with a value from `least` to `most`
-abbrev pub printed_within : ℕ → ℕ → List ℕ → Option ℕ
-printed_within least most text = if has_no_leading_zero text then number_within least most text else None
+abbrev pub printed_number_of_within : ℕ → ℕ → List ℕ → Option ℕ
+printed_number_of_within least most text = if has_no_leading_zero text then number_of_within least most text else None

@@ -1,6 +1,6 @@
 //! Lines and the pieces of a line, and numbers in decimal digits.
 //! It stands on `itoa` alone.
-//! The layer above uses: `next_line` and its kin give exactly the lines of a text, `cut` its pieces; what is printed is read back.
+//! The layer above uses: `next_line` and its kin give exactly the lines of a text, and `cut` its pieces.
 #![tactic(auto)]
 
 mod cuts;

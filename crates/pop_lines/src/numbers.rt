@@ -1,9 +1,8 @@
 //! Numbers read from decimal digits.
 
 ghost use Rattle.std.specs.Prelude.{◌≡◌, ◌^◌, ◌<◌, decimal, IfSome};
-ghost use Rattle.pop_lines.specs.Numbers.{number_of, small_number_of, number_within as value_within};
-ghost use Rattle.pop_lines.specs.Numbers.{printed_number_of, printed_within as printed_value_within};
-ghost use Rattle.pop_lines.specs.Numbers.{has_no_leading_zero};
+ghost use Rattle.pop_lines.specs.Numbers.{number_of, small_number_of, number_of_within};
+ghost use Rattle.pop_lines.specs.Numbers.{printed_number_of, printed_number_of_within, has_no_leading_zero};
 
 /// The greatest number of digits that are read.
 pub const DIGIT_LIMIT: usize = 20;
@@ -40,7 +39,7 @@ pub fn small_number(text: &[u8]) -> Option<u64>
 
 /// The number, if it is from `least` to `most`.
 pub fn number_within(text: &[u8], least: u64, most: u64) -> Option<u64>
-    ensures { result ≡ value_within least most text.now }
+    ensures { result ≡ number_of_within least most text.now }
 {
     let value = number(text)?;
     if u128::from(least) <= value && value <= u128::from(most) {
@@ -60,7 +59,7 @@ pub fn printed_number(text: &[u8]) -> Option<u128>
 
 /// The number in its printed form, if it is from `least` to `most`.
 pub fn printed_within(text: &[u8], least: u64, most: u64) -> Option<u64>
-    ensures value { result ≡ printed_value_within least most text.now }
+    ensures value { result ≡ printed_number_of_within least most text.now }
     ensures printed { IfSome result (λ n. text.now ≡ decimal n) }
 {
     if is_printed(text) {

@@ -11,8 +11,8 @@ use Rattle.pop_net.specs.declared.fault.NetFault.TheVariants as fault
 use Rattle.pop_net.specs.LeafModel.{LeafModel, IsLeaf}
 use Rattle.pop_io.specs.declared.names.TheConstants.{VARIABLE_LIMIT}
 use Rattle.pop_net.specs.declared.limits.TheConstants.{LEAF_LIMIT, ITEM_LIMIT, WIDE_LEAF_LIMIT, DEPTH_LIMIT}
-use Rattle.pop_net.specs.NetModel.{NetModel, IsNet, combined, depth_operators, helper_count, is_wide_leaf, is_wide}
-use Rattle.pop_net.specs.NetFaults.{fault_of_net, net_fault, wide_leaf, IsTree, RefusesNet}
+use Rattle.pop_net.specs.NetModel.{NetModel, IsNet, combined, depth_operators, number_of_helpers, is_wide_leaf, is_wide}
+use Rattle.pop_net.specs.NetFaults.{fault_of_net, net_fault, first_wide_leaf, IsTree, RefusesNet}
 use Rattle.pop_net.proofs.FirstFault.{NoneIff, first_of-nil, first_of-cons, none_unless, none_map, none_position, none_bad}
 use Rattle.pop_net.proofs.LeafFaults.{within}
 use Rattle.pop_net.proofs.Whole.{none_broken}
@@ -37,7 +37,7 @@ first_wide leaves = (there, back)
     back : is_wide leaves ≡ false → position is_wide_leaf leaves ≡ None
     back e = sym same ∙ all.1 (λ k d l. false_from_ne_true _ (λ t. false≢true (sym e ∙ list_any_at is_wide_leaf leaves k d l t)))
 
-pub none_wide : (leaves : List LeafModel) → NoneIff (wide_leaf leaves) (is_wide leaves ≡ true → length leaves ≤ WIDE_LEAF_LIMIT)
+pub none_wide : (leaves : List LeafModel) → NoneIff (first_wide_leaf leaves) (is_wide leaves ≡ true → length leaves ≤ WIDE_LEAF_LIMIT)
 none_wide leaves = go (nat_lt WIDE_LEAF_LIMIT (length leaves)) refl
   where
     go : (many : Bool) → nat_lt WIDE_LEAF_LIMIT (length leaves) ≡ many → NoneIff (if many then position is_wide_leaf leaves else None) (is_wide leaves ≡ true → length leaves ≤ WIDE_LEAF_LIMIT)
@@ -51,7 +51,7 @@ abbrev KeepsRules : NetModel → Type 0
 KeepsRules net =
     ((1 ≤ length net.variables) × (length net.variables ≤ VARIABLE_LIMIT)) × (AreNames variable_name net.variables × (((1 ≤ length net.leaves) × (length net.leaves ≤ LEAF_LIMIT))
     × (All (λ (leaf : LeafModel). length leaf.inputs ≡ length net.variables) net.leaves × (((1 ≤ length net.combine) × (length net.combine ≤ ITEM_LIMIT)) × (IsTree (length net.leaves) net.combine
-    × (All (λ (leaf : LeafModel). length leaf.helpers ≡ helper_count net) net.leaves × ((is_wide net.leaves ≡ true → length net.leaves ≤ WIDE_LEAF_LIMIT) × Unit {0})))))))
+    × (All (λ (leaf : LeafModel). length leaf.helpers ≡ number_of_helpers net) net.leaves × ((is_wide net.leaves ≡ true → length net.leaves ≤ WIDE_LEAF_LIMIT) × Unit {0})))))))
 
 rules_of : (net : NetModel) → NoneIff (fault_of_net net) (KeepsRules net)
 rules_of net =
@@ -61,7 +61,7 @@ rules_of net =
     (first_of-cons _ _ (none_map fault.LeafInputs _ (none_position (λ (leaf : LeafModel). length leaf.inputs == length net.variables) (λ (leaf : LeafModel). length leaf.inputs ≡ length net.variables) (λ leaf. Decides-eqb (length leaf.inputs) (length net.variables)) net.leaves))
     (first_of-cons _ _ (none_unless _ _ (within 1 ITEM_LIMIT (length net.combine)))
     (first_of-cons _ _ (none_map net_fault _ (none_broken (length net.leaves) net.combine))
-    (first_of-cons _ _ (none_map fault.LeafHelpers _ (none_position (λ (leaf : LeafModel). length leaf.helpers == helper_count net) (λ (leaf : LeafModel). length leaf.helpers ≡ helper_count net) (λ leaf. Decides-eqb (length leaf.helpers) (helper_count net)) net.leaves))
+    (first_of-cons _ _ (none_map fault.LeafHelpers _ (none_position (λ (leaf : LeafModel). length leaf.helpers == number_of_helpers net) (λ (leaf : LeafModel). length leaf.helpers ≡ number_of_helpers net) (λ leaf. Decides-eqb (length leaf.helpers) (number_of_helpers net)) net.leaves))
     (first_of-cons _ _ (none_map fault.Wide _ (none_wide net.leaves)) first_of-nil)))))))
 
 -- a net of right leaves that breaks no rule

@@ -9,9 +9,9 @@ use Rattle.std.proofs.Math.Seq.{get_or-append_seam, take-append_seam}
 use Rattle.std.proofs.lemmas.Option.{slice_get-get_or, same_Some}
 use Rattle.pop_net.specs.declared.leaf.Move.{Move}
 use Rattle.pop_net.specs.LeafModel.{silent_move, same_pair, IsMoveBelow}
-use Rattle.pop_net.specs.Reaction.{takes, after_move, by_move}
+use Rattle.pop_net.specs.Reaction.{takes_states, after_move, by_move}
 use Rattle.pop_net.proofs.Quiet.{All-slice_get}
-use Rattle.pop_net.specs.ReactionTable.{IsTable, entered}
+use Rattle.pop_net.specs.ReactionTable.{IsTable, with_reaction}
 
 -- the place of a pair names the pair
 row_of : (n x y : ℕ) → y < n → (x * n + y) / n ≡ x
@@ -87,15 +87,15 @@ module _ (n : ℕ) (t : Move) (rest : List Move) (table : List (ℕ × ℕ)) (be
   module _ (x y : ℕ) where
     abbrev pub by_choice : Bool → Bool → ℕ × ℕ
     by_choice true first = after_move first t
-    by_choice false first = by_move x y (find (takes x y) rest)
+    by_choice false first = by_move x y (find (takes_states x y) rest)
 
-    chosen : (b : Bool) → by_move x y (cond b (Some t) (find (takes x y) rest)) ≡ by_choice b ((x == t.p) && (y == t.q))
+    chosen : (b : Bool) → by_move x y (cond b (Some t) (find (takes_states x y) rest)) ≡ by_choice b ((x == t.p) && (y == t.q))
     chosen true = refl
     chosen false = refl
 
-    pub after : (s a b c d : Bool) → silent_move t ≡ s → (x == t.p) ≡ a → (y == t.q) ≡ b → (x == t.q) ≡ c → (y == t.p) ≡ d → by_move x y (find (takes x y) (t ∷ rest)) ≡ by_choice (not s && (a && b || c && d)) (a && b)
+    pub after : (s a b c d : Bool) → silent_move t ≡ s → (x == t.p) ≡ a → (y == t.q) ≡ b → (x == t.q) ≡ c → (y == t.p) ≡ d → by_move x y (find (takes_states x y) (t ∷ rest)) ≡ by_choice (not s && (a && b || c && d)) (a && b)
     after s a b c d es ea eb ec ed =
-        chosen (takes x y t)
+        chosen (takes_states x y t)
         ∙ ap (λ s. by_choice (not s && same_pair x y t.p t.q) ((x == t.p) && (y == t.q))) es
         ∙ ap (λ a. by_choice (not s && (a && (y == t.q) || (x == t.q) && (y == t.p))) (a && (y == t.q))) ea
         ∙ ap (λ b. by_choice (not s && (a && b || (x == t.q) && (y == t.p))) (a && b)) eb
@@ -116,7 +116,7 @@ module _ (n : ℕ) (t : Move) (rest : List Move) (table : List (ℕ × ℕ)) (be
 
   module _ (e : silent_move t ≡ false) (x y : ℕ) (lx : x < n) (ly : y < n) where
     abbrev Entry : Type 0
-    Entry = slice_get whole (x * n + y) ≡ Some (by_move x y (find (takes x y) (t ∷ rest)))
+    Entry = slice_get whole (x * n + y) ≡ Some (by_move x y (find (takes_states x y) (t ∷ rest)))
 
     in_half : x * n + y < length half
     in_half = let l = place_in n x y lx ly in omega (arith, l, half_size)
@@ -172,7 +172,7 @@ module _ (n : ℕ) (t : Move) (rest : List Move) (table : List (ℕ × ℕ)) (be
   by_test true e = still e
   by_test false e = loud e
 
-  pub entered-table : IsTable n (t ∷ rest) (entered n t table)
+  pub entered-table : IsTable n (t ∷ rest) (with_reaction n t table)
   entered-table = by_test (silent_move t) refl
 
 drop-slice_get : {A : Type 0} (xs : List A) (k : ℕ) (x : A) → slice_get xs k ≡ Some x → drop k xs ≡ x ∷ drop (suc k) xs
@@ -185,7 +185,7 @@ pub all_written : {A : Type 0} (new old : List A) (n : ℕ) → n ≡ length new
 all_written new old n e = ap (λ k. take k (new ++ drop (length new) old)) e ∙ take-append_seam new (drop (length new) old)
 
 -- one more move, from the last to the first
-pub one_earlier : (n i : ℕ) (moves : List Move) (t : Move) (table : List (ℕ × ℕ)) → All (IsMoveBelow n) moves → i < length moves → slice_get moves (length moves - 1 - i) ≡ Some t → IsTable n (drop (length moves - i) moves) table → IsTable n (drop (length moves - (i + 1)) moves) (entered n t table)
+pub one_earlier : (n i : ℕ) (moves : List Move) (t : Move) (table : List (ℕ × ℕ)) → All (IsMoveBelow n) moves → i < length moves → slice_get moves (length moves - 1 - i) ≡ Some t → IsTable n (drop (length moves - i) moves) table → IsTable n (drop (length moves - (i + 1)) moves) (with_reaction n t table)
 one_earlier n i moves t table below l is h =
     let k = length moves - 1 - i in
     let next : length moves - i ≡ k + 1 = omega arith in
@@ -193,24 +193,24 @@ one_earlier n i moves t table below l is h =
     let before : IsTable n (drop (k + 1) moves) table = subst (λ (m : ℕ). IsTable n (drop m moves) table) next h in
     let cut : drop k moves ≡ t ∷ drop (k + 1) moves =
     drop-slice_get moves k t is ∙ ap (λ m. t ∷ drop m moves) (let s : suc k ≡ k + 1 = omega arith in s) in
-    subst (λ (m : ℕ). IsTable n (drop m moves) (entered n t table)) (sym here)
-    (subst (λ (ms : List Move). IsTable n ms (entered n t table)) (sym cut)
+    subst (λ (m : ℕ). IsTable n (drop m moves) (with_reaction n t table)) (sym here)
+    (subst (λ (ms : List Move). IsTable n ms (with_reaction n t table)) (sym cut)
     (entered-table n t (drop (k + 1) moves) table (All-slice_get (IsMoveBelow n) moves k t below is) before))
 
 -- a move that was entered into the slice of a table
-pub entered_slice : (n i : ℕ) (moves : List Move) (d : Move) (old slice new : List (ℕ × ℕ)) (len : ℕ) → All (IsMoveBelow n) moves → i < length moves → new ≡ entered n (get_or moves (length moves - 1 - i) d) slice → slice ≡ old → len ≡ length old → IsTable n (drop (length moves - i) moves) old → IsTable n (drop (length moves - (i + 1)) moves) (take len (new ++ drop (length new) old))
+pub entered_slice : (n i : ℕ) (moves : List Move) (d : Move) (old slice new : List (ℕ × ℕ)) (len : ℕ) → All (IsMoveBelow n) moves → i < length moves → new ≡ with_reaction n (get_or moves (length moves - 1 - i) d) slice → slice ≡ old → len ≡ length old → IsTable n (drop (length moves - i) moves) old → IsTable n (drop (length moves - (i + 1)) moves) (take len (new ++ drop (length new) old))
 entered_slice n i moves d old slice new len below l made value long h =
     let k = length moves - 1 - i in
     let t = get_or moves k d in
     let here : slice_get moves k ≡ Some t = slice_get-get_or moves k d (omega arith) in
-    let e : new ≡ entered n t old = made ∙ ap (entered n t) value in
+    let e : new ≡ with_reaction n t old = made ∙ ap (with_reaction n t) value in
     let next : IsTable n (drop (length moves - (i + 1)) moves) new =
     subst (IsTable n (drop (length moves - (i + 1)) moves)) (sym e) (one_earlier n i moves t old below l here h) in
     let size : len ≡ length new = long ∙ h.size ∙ sym next.size in
     subst (IsTable n (drop (length moves - (i + 1)) moves)) (sym (all_written new old len size)) next
 
 -- a reaction is what the table has
-pub entry_read : (n x y : ℕ) (moves : List Move) (table : List (ℕ × ℕ)) (d : ℕ × ℕ) (len : ℕ) → IsTable n moves table → x < n → y < n → len ≡ n → get_or table (x * len + y) d ≡ by_move x y (find (takes x y) moves)
+pub entry_read : (n x y : ℕ) (moves : List Move) (table : List (ℕ × ℕ)) (d : ℕ × ℕ) (len : ℕ) → IsTable n moves table → x < n → y < n → len ≡ n → get_or table (x * len + y) d ≡ by_move x y (find (takes_states x y) moves)
 entry_read n x y moves table d len h lx ly e =
     let s = h.size in
     let place : x * len + y ≡ x * n + y = ap (λ m. x * m + y) e in

@@ -4,7 +4,7 @@ use Rattle.std.specs.Prelude.{Option, Some, None, All, find, ◌==◌, ◌&&◌}
 use Rattle.pop_net.specs.declared.leaf.Move.{Move}
 use Rattle.pop_net.specs.LeafModel.{LeafModel, IsLeaf, IsMoveBelow}
 use Rattle.pop_net.specs.NetModel.{NetModel, Tuple, IsTuple, HasStates, state_of}
-use Rattle.pop_net.specs.Reaction.{takes, after_move, by_move, leaf_reaction, reactions, reaction}
+use Rattle.pop_net.specs.Reaction.{takes_states, after_move, by_move, leaf_reaction, reactions, reaction}
 use Rattle.pop_net.proofs.Found.{find_some}
 use Rattle.pop_net.proofs.Quiet.{All-slice_get}
 use Rattle.pop_net.proofs.Reactions.{get-reactions, state_of-map}
@@ -13,14 +13,14 @@ after_within : (n : ℕ) (t : Move) (b : Bool) → IsMoveBelow n t → ((after_m
 after_within n t true h = (h.2, h.3)
 after_within n t false h = (h.3, h.2)
 
-by_move_within : (n x y : ℕ) (moves : List Move) (found : Option Move) → find (takes x y) moves ≡ found → All (IsMoveBelow n) moves → x < n → y < n → ((by_move x y found).0 < n) × ((by_move x y found).1 < n)
+by_move_within : (n x y : ℕ) (moves : List Move) (found : Option Move) → find (takes_states x y) moves ≡ found → All (IsMoveBelow n) moves → x < n → y < n → ((by_move x y found).0 < n) × ((by_move x y found).1 < n)
 by_move_within n x y moves None e h hx hy = (hx, hy)
 by_move_within n x y moves (Some t) e h hx hy =
-    let s = find_some (takes x y) moves t e in
+    let s = find_some (takes_states x y) moves t e in
     after_within n t ((x == t.p) && (y == t.q)) (All-slice_get (IsMoveBelow n) moves s.0 t h s.1)
 
 pub reaction_within : (leaf : LeafModel) (x y : ℕ) → IsLeaf leaf → x < length leaf.states → y < length leaf.states → ((leaf_reaction leaf x y).0 < length leaf.states) × ((leaf_reaction leaf x y).1 < length leaf.states)
-reaction_within leaf x y h hx hy = by_move_within (length leaf.states) x y leaf.moves (find (takes x y) leaf.moves) refl h.moves hx hy
+reaction_within leaf x y h hx hy = by_move_within (length leaf.states) x y leaf.moves (find (takes_states x y) leaf.moves) refl h.moves hx hy
 
 -- a reaction of tuples with states of the leaves
 pub reaction_states : (net : NetModel) (x y : Tuple) → All IsLeaf net.leaves → IsTuple net x → IsTuple net y → HasStates net x → HasStates net y → HasStates net (reaction net x y).0 × HasStates net (reaction net x y).1

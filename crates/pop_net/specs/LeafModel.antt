@@ -22,15 +22,15 @@ abbrev pub one_at : ℕ → ℕ → ℕ
 one_at x z = if x == z then 1 else 0
 
 -- how often state z stands in the pair x, y
-abbrev pub times_in : ℕ → ℕ → ℕ → ℕ
-times_in x y z = one_at x z + one_at y z
+abbrev pub times_in_pair : ℕ → ℕ → ℕ → ℕ
+times_in_pair x y z = one_at x z + one_at y z
 
 -- the multisets of a move's states before and after it
 abbrev pub pre : Move → ℕ → ℕ
-pre t z = times_in t.p t.q z
+pre t z = times_in_pair t.p t.q z
 
 abbrev pub post : Move → ℕ → ℕ
-post t z = times_in t.r t.s z
+post t z = times_in_pair t.r t.s z
 
 -- whether x, y and u, v are the same pair, in one order or the other
 abbrev pub same_pair : ℕ → ℕ → ℕ → ℕ → Bool

@@ -13,7 +13,7 @@ use Rattle.pop_net.specs.declared.fault.NetFault.TheVariants as fault
 use Rattle.pop_io.specs.declared.names.TheConstants.{VARIABLE_LIMIT}
 use Rattle.pop_net.specs.declared.limits.TheConstants.{LEAF_LIMIT, ITEM_LIMIT, WIDE_LEAF_LIMIT, DEPTH_LIMIT}
 use Rattle.pop_net.specs.LeafModel.{LeafModel}
-use Rattle.pop_net.specs.NetModel.{NetModel, NamesBelow, helper_count, is_wide_leaf, after_items, combined, depth_operators}
+use Rattle.pop_net.specs.NetModel.{NetModel, NamesBelow, number_of_helpers, is_wide_leaf, after_items, combined, depth_operators}
 use Rattle.pop_net.specs.FirstFault.{unless, first_of, first_below, first_bad_name}
 
 -- whether an item names one of n leaves, where it names one
@@ -56,8 +56,8 @@ net_fault (combination.Item k) = fault.Item k
 net_fault (combination.Open n) = fault.Open n
 
 -- the first wide leaf among too many leaves for it
-abbrev pub wide_leaf : List LeafModel → Option ℕ
-wide_leaf leaves = if nat_lt WIDE_LEAF_LIMIT (length leaves) then position is_wide_leaf leaves else None
+abbrev pub first_wide_leaf : List LeafModel → Option ℕ
+first_wide_leaf leaves = if nat_lt WIDE_LEAF_LIMIT (length leaves) then position is_wide_leaf leaves else None
 
 abbrev pub fault_of_net : NetModel → Option NetFault
 fault_of_net net =
@@ -71,8 +71,8 @@ fault_of_net net =
     ∷ option_map fault.LeafInputs (position (λ leaf. not (length leaf.inputs == variables)) net.leaves)
     ∷ unless (nat_le 1 items && nat_le items ITEM_LIMIT) (fault.Items items)
     ∷ option_map net_fault (fault_of_combination leaves net.combine)
-    ∷ option_map fault.LeafHelpers (position (λ leaf. not (length leaf.helpers == helper_count net)) net.leaves)
-    ∷ option_map fault.Wide (wide_leaf net.leaves)
+    ∷ option_map fault.LeafHelpers (position (λ leaf. not (length leaf.helpers == number_of_helpers net)) net.leaves)
+    ∷ option_map fault.Wide (first_wide_leaf net.leaves)
     ∷ [])
 
 -- the fault is the first rule that the net breaks, unless memory ran out

@@ -21,8 +21,8 @@ abbrev pub helpers_of : List LeafModel → ℕ
 helpers_of [] = 0
 helpers_of (leaf ∷ leaves) = length leaf.helpers
 
-abbrev pub helper_count : NetModel → ℕ
-helper_count net = helpers_of net.leaves
+abbrev pub number_of_helpers : NetModel → ℕ
+number_of_helpers net = helpers_of net.leaves
 
 abbrev pub is_wide_leaf : LeafModel → Bool
 is_wide_leaf leaf = nat_lt NARROW_STATE_LIMIT (length leaf.states)
@@ -125,5 +125,5 @@ pub record IsNet (net : NetModel) : Type 0 where
   pub items : length net.combine ≤ ITEM_LIMIT
   pub leaf_numbers : All (NamesBelow (length net.leaves)) net.combine
   pub depth : IsSomeAnd (combined depth_operators net.combine) (λ d. d ≤ DEPTH_LIMIT)
-  pub helpers : All (λ leaf. length leaf.helpers ≡ helper_count net) net.leaves
+  pub helpers : All (λ leaf. length leaf.helpers ≡ number_of_helpers net) net.leaves
   pub wide : is_wide net.leaves ≡ true → length net.leaves ≤ WIDE_LEAF_LIMIT

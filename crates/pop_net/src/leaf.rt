@@ -1,4 +1,4 @@
-//! A population protocol: states, moves, start states, outputs and helpers (Angluin, Aspnes, Diamadi, Fischer, Peralta 2006).
+//! A population protocol: states, moves, start states, outputs and helpers (Angluin et al. 2006).
 
 ghost use Rattle.std.specs.Prelude.{◌≡◌, ◌<◌, [], length, Some, IfOk, IfErr, IfSome, slice_get};
 ghost use Rattle.pop_net.specs.LeafFaults.{is_move_below};
@@ -23,7 +23,7 @@ pub struct Move {
 
 impl Move {
     ghost use Rattle.pop_net.specs.LeafModel.{silent_move};
-    ghost use Rattle.pop_net.specs.Reaction.{takes as takes_states};
+    ghost use Rattle.pop_net.specs.Reaction.{takes_states};
 
     /// Whether it leaves the pair of its states as it is.
     pub fn is_silent(&self) -> bool
@@ -73,7 +73,13 @@ impl Model for Leaf {
         record { states = l.states; moves = l.moves; inputs = l.inputs; outputs = l.outputs; helpers = l.helpers } };
 
     ghost invariant = { λ l.
-        IsLeaf (record { states = l.states; moves = l.moves; inputs = l.inputs; outputs = l.outputs; helpers = l.helpers })
+        IsLeaf (record {
+          states = l.states;
+          moves = l.moves;
+          inputs = l.inputs;
+          outputs = l.outputs;
+          helpers = l.helpers;
+        })
         × IsTable (length l.states) l.moves l.table.items };
 }
 

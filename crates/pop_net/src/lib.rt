@@ -1,6 +1,6 @@
 //! Population protocols, and nets of them.
 //! It stands on `pop_io`.
-//! The layer above uses: `react`, `output` and `start` are the model's, and a reaction of valid words gives valid words.
+//! The layer above uses: `react`, `output` and `start` are the model's, and valid words give valid words.
 #![tactic(auto)]
 
 mod combination;

@@ -2,7 +2,7 @@
 
 ghost use Rattle.std.specs.Prelude.{◌≡◌, ◌*◌, ◌≤◌, [], length, All, IfOk};
 ghost use Rattle.pop_net.specs.LeafModel.{IsMoveBelow};
-ghost use Rattle.pop_net.specs.ReactionTable.{IsTable, entered};
+ghost use Rattle.pop_net.specs.ReactionTable.{IsTable, with_reaction};
 
 use crate::leaf::Move;
 use crate::limits::STATE_LIMIT;
@@ -45,7 +45,7 @@ fn enter(table: &mut [(u16, u16)], states: usize, taken: Move)
     requires few { states ≤ STATE_LIMIT }
     requires below { IsMoveBelow states taken }
     requires size { length table.old ≡ states * states }
-    ensures { table.new ≡ entered states taken table.old }
+    ensures { table.new ≡ with_reaction states taken table.old }
 {
     if taken.is_silent() {
         return;

@@ -62,7 +62,7 @@ impl Model for Net {
 }
 
 impl Net {
-    ghost use Rattle.pop_net.specs.NetModel.{IsNet, state_of, output_of, helper_count as helpers};
+    ghost use Rattle.pop_net.specs.NetModel.{IsNet, state_of, output_of, number_of_helpers};
     ghost use Rattle.pop_net.specs.InputCrowd.{start_of, helper_of};
     ghost use Rattle.pop_net.specs.Reaction.{reaction};
     ghost use Rattle.pop_net.specs.Step.{TupleChange};
@@ -220,7 +220,7 @@ impl Net {
 
     /// How many helpers stand in every input.
     pub fn helper_count(&self) -> u32
-        ensures { result ≡ helpers self.now }
+        ensures { result ≡ number_of_helpers self.now }
     {
         match self.leaves.as_slice() {
             [] => 0,
@@ -230,7 +230,7 @@ impl Net {
 
     /// The word in which a helper starts.
     pub fn helper(&self, helper: u32) -> Word
-        requires { helper < helpers self.now }
+        requires { helper < number_of_helpers self.now }
         ensures start { tuple_of self.now result ≡ helper_of self.now helper }
         ensures valid { IsValid self.now result }
     {

@@ -8,7 +8,7 @@ ghost use Rattle.pop_net.specs.FirstFault.{is_bad_name, first_bad_name};
 ghost use Rattle.pop_net.specs.LeafModel.{IsLeaf};
 ghost use Rattle.pop_net.specs.LeafFaults.{fault_of_leaf, is_move_below};
 ghost use Rattle.pop_net.specs.NetModel.{helpers_of, is_wide_leaf};
-ghost use Rattle.pop_net.specs.NetFaults.{fault_of_net, wide_leaf as wide_leaf_of};
+ghost use Rattle.pop_net.specs.NetFaults.{fault_of_net, first_wide_leaf};
 
 use crate::combination::combination_fault;
 use crate::fault::{LeafFault, NetFault};
@@ -28,7 +28,13 @@ pub(crate) fn leaf_fault(
 ) -> Option<LeafFault>
     ensures { result
         ≡ fault_of_leaf
-        (record { states = states.now; moves = moves.now; inputs = inputs.now; outputs = outputs.now; helpers = helpers.now }) }
+        (record {
+          states = states.now;
+          moves = moves.now;
+          inputs = inputs.now;
+          outputs = outputs.now;
+          helpers = helpers.now;
+        }) }
 {
     let count = states.len();
     if count < 1 || STATE_LIMIT < count {
@@ -132,7 +138,7 @@ fn other_helpers(leaves: &[Leaf]) -> Option<usize>
 
 /// The first wide leaf, when there are too many leaves for it. It allocates nothing.
 pub fn wide_leaf(leaves: &[Leaf]) -> Option<usize>
-    ensures first { result ≡ wide_leaf_of leaves.now }
+    ensures first { result ≡ first_wide_leaf leaves.now }
     ensures bound { IfSome result (λ i. i < length leaves.now) }
 {
     if WIDE_LEAF_LIMIT < leaves.len() {

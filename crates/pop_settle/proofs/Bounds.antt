@@ -5,11 +5,11 @@ use Rattle.std.proofs.lemmas.List.Elements.{All-head, All-tail}
 use Rattle.std.proofs.lemmas.List.Sums.{sum_by-cons, sum_by-drop_more}
 use Rattle.cert_base.specs.declared.layer.Layer.{Layer}
 use Rattle.cert_base.specs.declared.proof.LeafProof.{LeafProof}
-use Rattle.cert_base.specs.ProofBound.{spread, layers_bound}
+use Rattle.cert_base.specs.ProofBound.{weights_spread, layers_bound}
 use Rattle.cert_layers.specs.LayerFaults.{IsWeight}
 use Rattle.cert_layers.proofs.Small.{spread-small}
 
-spread_at : (weights : List ℤ) → All IsWeight weights → spread weights ≤ 2 ^ 41
+spread_at : (weights : List ℤ) → All IsWeight weights → weights_spread weights ≤ 2 ^ 41
 spread_at [] small = omega arith
 spread_at (w ∷ weights) small = spread-small w weights (All-head IsWeight w weights small) (All-tail IsWeight w weights small)
 
@@ -18,7 +18,7 @@ layers_at_most [] within = omega arith
 layers_at_most (layer ∷ layers) within =
     let first = spread_at layer.weights (All-head (λ (l : Layer). All IsWeight l.weights) layer layers within) in
     let rest = layers_at_most layers (All-tail (λ (l : Layer). All IsWeight l.weights) layer layers within) in
-    let sum = sum_by-cons (λ (l : Layer). spread l.weights) layer layers in
+    let sum = sum_by-cons (λ (l : Layer). weights_spread l.weights) layer layers in
     omega (arith, first, rest, sum)
 
 -- one more leaf

@@ -3,7 +3,7 @@ use Rattle.std.proofs.Common.{◌≡◌, ℕ, ◌*◌, ◌<◌, ◌≤◌, List,
 use Rattle.std.specs.Prelude.{ℤ, pos, negsuc, ◌+ℤ◌, ◌-ℤ◌, ◌*ℤ◌, ◌<ℤ◌, ◌≤ℤ◌, nat_abs, All}
 use Rattle.std.proofs.Math.IntN.{pos-*ℤ-pos}
 use Rattle.std.proofs.lemmas.Int.{ints}
-use Rattle.cert_base.specs.ProofBound.{spread}
+use Rattle.cert_base.specs.ProofBound.{weights_spread}
 use Rattle.cert_base.proofs.Integers.{add-mul}
 use Rattle.cert_base.proofs.Spread.{within, total-above, total-below}
 use Rattle.cert_base.proofs.Weights.{total}
@@ -30,11 +30,11 @@ fuel_falls w before after lighter size range =
     abs_falls (total w after -ℤ (low *ℤ pos (length after))) (total w before -ℤ (low *ℤ pos (length before))) (omega (arith, ints, least)) (omega (arith, ints, lighter, same))
 
 -- it is at most the spread for each agent
-pub fuel_most : (w : List ℤ) (states : List ℕ) → All (λ q. q < length w) states → fuel w states ≤ spread w * length states
+pub fuel_most : (w : List ℤ) (states : List ℕ) → All (λ q. q < length w) states → fuel w states ≤ weights_spread w * length states
 fuel_most w states range =
     let i = within w in
     let n = length states in
     let least = total-above w i.low states i.above range in
     let most = total-below w i.high states i.below range in
-    let product : (i.high *ℤ pos n) ≡ ((i.low *ℤ pos n) +ℤ pos (spread w * n)) = ap (λ z. z *ℤ pos n) i.apart ∙ add-mul i.low (pos (spread w)) (pos n) ∙ ap (λ z. (i.low *ℤ pos n) +ℤ z) (pos-*ℤ-pos (spread w) n) in
-    abs_most (total w states -ℤ (i.low *ℤ pos n)) (spread w * n) (omega (arith, ints, least)) (omega (arith, ints, most, product))
+    let product : (i.high *ℤ pos n) ≡ ((i.low *ℤ pos n) +ℤ pos (weights_spread w * n)) = ap (λ z. z *ℤ pos n) i.apart ∙ add-mul i.low (pos (weights_spread w)) (pos n) ∙ ap (λ z. (i.low *ℤ pos n) +ℤ z) (pos-*ℤ-pos (weights_spread w) n) in
+    abs_most (total w states -ℤ (i.low *ℤ pos n)) (weights_spread w * n) (omega (arith, ints, least)) (omega (arith, ints, most, product))

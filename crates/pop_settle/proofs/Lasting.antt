@@ -16,7 +16,7 @@ use Rattle.pop_net.specs.Step.{TupleChange}
 use Rattle.cert_base.specs.declared.layer.Layer.{Layer}
 use Rattle.cert_base.specs.declared.proof.Proof.{Proof}
 use Rattle.cert_base.specs.declared.proof.LeafProof.{LeafProof}
-use Rattle.cert_base.specs.ProofBound.{spread, layers_bound, proof_bound}
+use Rattle.cert_base.specs.ProofBound.{weights_spread, layers_bound, proof_bound}
 use Rattle.cert_base.specs.ValidLayers.{IsLower, ValidLayers}
 use Rattle.cert_base.proofs.Agents.{InRange, move_change, move_in_range}
 use Rattle.cert_base.proofs.Weights.{total_falls}
@@ -116,13 +116,13 @@ module _ (net : NetModel) (proof : Proof) (crowd : CrowdModel) where
   behind take n = layers_bound (drop (n.layer + 1) n.can.part.layers) + parts_bound (drop (take.leaf + 1) proof.leaves)
 
   -- with its own layer and those behind it, no more than the layers behind an earlier one
-  behind_layer : (take : Take) (n : IsNext net proof crowd take) (j : ℕ) → j ≤ n.layer → spread n.can.list.weights + behind take n ≤ layers_bound (drop j n.can.part.layers) + parts_bound (drop (take.leaf + 1) proof.leaves)
+  behind_layer : (take : Take) (n : IsNext net proof crowd take) (j : ℕ) → j ≤ n.layer → weights_spread n.can.list.weights + behind take n ≤ layers_bound (drop j n.can.part.layers) + parts_bound (drop (take.leaf + 1) proof.leaves)
   behind_layer take n j l =
-      let own = sum_from (λ (y : Layer). spread y.weights) n.can.part.layers n.layer n.can.list n.can.layer_is in
-      let fewer = sum_drop (λ (y : Layer). spread y.weights) n.can.part.layers j n.layer l in
+      let own = sum_from (λ (y : Layer). weights_spread y.weights) n.can.part.layers n.layer n.can.list n.can.layer_is in
+      let fewer = sum_drop (λ (y : Layer). weights_spread y.weights) n.can.part.layers j n.layer l in
       omega (arith, own, fewer)
 
-  behind_leaf : (take : Take) (n : IsNext net proof crowd take) (i : ℕ) → i ≤ take.leaf → spread n.can.list.weights + behind take n ≤ parts_bound (drop i proof.leaves)
+  behind_leaf : (take : Take) (n : IsNext net proof crowd take) (i : ℕ) → i ≤ take.leaf → weights_spread n.can.list.weights + behind take n ≤ parts_bound (drop i proof.leaves)
   behind_leaf take n i l =
       let layers = behind_layer take n 0 (omega arith) in
       let own = sum_from (λ (p : LeafProof). layers_bound p.layers) proof.leaves take.leaf n.can.part n.can.part_is in
@@ -134,13 +134,13 @@ abbrev left : (net : NetModel) (proof : Proof) (crowd : CrowdModel) (take : Take
 left net proof crowd take n = fuel n.can.list.weights (states_in take.leaf crowd) + behind net proof crowd take n * length crowd
 
 -- at most the bound of its own layer and those behind it
-left_most : (net : NetModel) (proof : Proof) (crowd : CrowdModel) (take : Take) (n : IsNext net proof crowd take) (most : ℕ) → InRanges net crowd → ValidLayers n.can.leaf n.can.part.layers → spread n.can.list.weights + behind net proof crowd take n ≤ most → left net proof crowd take n ≤ most * length crowd
+left_most : (net : NetModel) (proof : Proof) (crowd : CrowdModel) (take : Take) (n : IsNext net proof crowd take) (most : ℕ) → InRanges net crowd → ValidLayers n.can.leaf n.can.part.layers → weights_spread n.can.list.weights + behind net proof crowd take n ≤ most → left net proof crowd take n ≤ most * length crowd
 left_most net proof crowd take n most in_ranges v l =
     let w = n.can.list.weights in
     let long : length w ≡ length n.can.leaf.states = All-slice_get (λ (y : Layer). length y.weights ≡ length n.can.leaf.states) n.can.part.layers n.layer n.can.list v.weights n.can.layer_is in
     let few = fuel_most w (states_in take.leaf crowd) (rw long (in_ranges.ranges take.leaf n.can.leaf n.can.leaf_is)) in
-    let size : spread w * length (states_in take.leaf crowd) ≡ spread w * length crowd = ap (λ k. spread w * k) (length-states take.leaf crowd) in
-    let sum = nat.add-mul (spread w) (behind net proof crowd take n) (length crowd) in
+    let size : weights_spread w * length (states_in take.leaf crowd) ≡ weights_spread w * length crowd = ap (λ k. weights_spread w * k) (length-states take.leaf crowd) in
+    let sum = nat.add-mul (weights_spread w) (behind net proof crowd take n) (length crowd) in
     let product = mul-le-mul_right (length crowd) l in
     omega (arith, few, size, sum, product)
 
@@ -170,7 +170,7 @@ module _ (net : NetModel) (proof : Proof) (are : All IsLeaf net.leaves) (valid :
       quiet : IsQuietBefore net proof (crowd_after_take t.leaf n.can.move t.a t.b crowd) t.leaf n.layer
       quiet = stays_quiet net proof crowd in_ranges.tuples n.layer n.place t n.can v (least_quiet net proof crowd t n)
 
-      later : (most : ℕ) → spread m.can.list.weights + behind net proof (crowd_after_take t.leaf n.can.move t.a t.b crowd) u m ≤ most → most ≤ behind net proof crowd t n → left net proof (crowd_after_take t.leaf n.can.move t.a t.b crowd) u m < left net proof crowd t n
+      later : (most : ℕ) → weights_spread m.can.list.weights + behind net proof (crowd_after_take t.leaf n.can.move t.a t.b crowd) u m ≤ most → most ≤ behind net proof crowd t n → left net proof (crowd_after_take t.leaf n.can.move t.a t.b crowd) u m < left net proof crowd t n
       later most l k =
           let few = left_most net proof (crowd_after_take t.leaf n.can.move t.a t.b crowd) u m most ranges' v' l in
           let same : most * length (crowd_after_take t.leaf n.can.move t.a t.b crowd) ≡ most * length crowd = ap (λ j. most * j) size in

@@ -9,7 +9,7 @@ use Rattle.pop_net.specs.NetModel.{NetModel, CrowdModel}
 use Rattle.cert_base.specs.declared.layer.Layer.{Layer}
 use Rattle.cert_base.specs.declared.proof.Proof.{Proof}
 use Rattle.cert_base.specs.declared.proof.LeafProof.{LeafProof}
-use Rattle.cert_base.specs.ValidLayers.{ValidLayers, listed}
+use Rattle.cert_base.specs.ValidLayers.{ValidLayers, moves_of_layers}
 use Rattle.pop_settle.specs.declared.take.Take.{Take}
 use Rattle.pop_settle.specs.Settlement.{states_in, CanTake, IsNext, crowd_after_take}
 use Rattle.pop_settle.specs.Settling.{AreLayersValid}
@@ -51,12 +51,12 @@ all_back P [] ys all = all
 all_back P (x ∷ xs) ys all = all_back P xs ys (All-tail P x (xs ++ ys) all)
 
 -- what all listed moves have, those of each layer have
-pub all_listed : (P : ℕ → Type 0) (layers : List Layer) (j : ℕ) (layer : Layer) → slice_get layers j ≡ Some layer → All P (listed layers) → All P layer.moves
+pub all_listed : (P : ℕ → Type 0) (layers : List Layer) (j : ℕ) (layer : Layer) → slice_get layers j ≡ Some layer → All P (moves_of_layers layers) → All P layer.moves
 all_listed P [] j layer h all = cc
 all_listed P (y ∷ layers) zero layer h all =
     let same : y ≡ layer = cc in
-    subst (λ (l : Layer). All P l.moves) same (all_front P y.moves (listed layers) all)
-all_listed P (y ∷ layers) (suc j) layer h all = all_listed P layers j layer h (all_back P y.moves (listed layers) all)
+    subst (λ (l : Layer). All P l.moves) same (all_front P y.moves (moves_of_layers layers) all)
+all_listed P (y ∷ layers) (suc j) layer h all = all_listed P layers j layer h (all_back P y.moves (moves_of_layers layers) all)
 
 pub moves_in : (net : NetModel) (proof : Proof) (i j : ℕ) (layer : Layer) (leaf : LeafModel) → AtLayer net proof j layer leaf i → All (λ step. step < length leaf.moves) layer.moves
 moves_in net proof i j layer leaf at = all_listed (λ step. step < length leaf.moves) at.part.layers j layer at.layer_is at.valid.in_range

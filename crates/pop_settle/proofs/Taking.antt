@@ -12,7 +12,7 @@ use Rattle.pop_net.proofs.Tuples.{step_tuples}
 use Rattle.cert_base.specs.declared.proof.Proof.{Proof}
 use Rattle.cert_base.proofs.Agents.{move_change, move_step}
 use Rattle.pop_settle.specs.declared.take.Take.{Take}
-use Rattle.pop_settle.specs.Settlement.{states_in, CanTake, with_state, crowd_after_take}
+use Rattle.pop_settle.specs.Settlement.{states_in, CanTake, tuple_with_state, crowd_after_take}
 
 -- an option has one value
 pub same_value : {A : Type 0} (o : Option A) (x y : A) → o ≡ Some x → o ≡ Some y → x ≡ y
@@ -83,8 +83,8 @@ module _ (net : NetModel) (proof : Proof) (crowd : CrowdModel) (layer place : �
           different = c.made.different;
           x = tuple_at crowd take.a;
           y = tuple_at crowd take.b;
-          x' = with_state take.leaf take.a c.move.r crowd;
-          y' = with_state take.leaf take.b c.move.s crowd;
+          x' = tuple_with_state take.leaf take.a c.move.r crowd;
+          y' = tuple_with_state take.leaf take.b c.move.s crowd;
           a_had = ha;
           b_had = hb;
           change = lift_change net take.leaf c.leaf (tuple_at crowd take.a) (tuple_at crowd take.b) c.move.r c.move.s c.leaf_is (All-slice_get (IsTuple net) crowd take.a (tuple_at crowd take.a) tuples ha) (All-slice_get (IsTuple net) crowd take.b (tuple_at crowd take.b) tuples hb) change;

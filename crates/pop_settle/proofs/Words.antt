@@ -7,14 +7,14 @@ use Rattle.std.proofs.lemmas.Option.{slice_get-map, get_or_from_slice_get}
 use Rattle.pop_net.specs.declared.net.Word.{Word}
 use Rattle.pop_net.specs.NetModel.{NetModel, state_of}
 use Rattle.pop_net.specs.Lanes.{tuple_of, crowd_of}
-use Rattle.pop_settle.specs.Settlement.{states_in, with_state}
+use Rattle.pop_settle.specs.Settlement.{states_in, tuple_with_state}
 
 -- the tuple of an agent's word
 pub tuple_at_word : (net : NetModel) (words : List Word) (a : ℕ) (word : Word) → slice_get words a ≡ Some word → slice_index_or (crowd_of net words) a [] ≡ tuple_of net word
 tuple_at_word net words a word h =
     get_or_from_slice_get (crowd_of net words) a (tuple_of net word) [] (slice_get-map (tuple_of net) words a ∙ ap (option_map (tuple_of net)) h)
 
-pub word_set : (net : NetModel) (words : List Word) (a : ℕ) (word next : Word) (i q : ℕ) → slice_get words a ≡ Some word → tuple_of net next ≡ slice_set (tuple_of net word) i q → crowd_of net (slice_set words a next) ≡ slice_set (crowd_of net words) a (with_state i a q (crowd_of net words))
+pub word_set : (net : NetModel) (words : List Word) (a : ℕ) (word next : Word) (i q : ℕ) → slice_get words a ≡ Some word → tuple_of net next ≡ slice_set (tuple_of net word) i q → crowd_of net (slice_set words a next) ≡ slice_set (crowd_of net words) a (tuple_with_state i a q (crowd_of net words))
 word_set net words a word next i q h e =
     map-set (tuple_of net) words a next
     ∙ ap (λ t. slice_set (crowd_of net words) a t) (e ∙ ap (λ t. slice_set t i q) (sym (tuple_at_word net words a word h)))

@@ -33,12 +33,12 @@ pub record CanTake (net : NetModel) (proof : Proof) (crowd : CrowdModel) (layer 
   pub made : CanMake (states_in take.leaf crowd) move take.a take.b
 
 -- the tuple of an agent, with another state in leaf i
-abbrev pub with_state : ℕ → ℕ → ℕ → CrowdModel → Tuple
-with_state i agent state crowd = slice_set (slice_index_or crowd agent []) i state
+abbrev pub tuple_with_state : ℕ → ℕ → ℕ → CrowdModel → Tuple
+tuple_with_state i agent state crowd = slice_set (slice_index_or crowd agent []) i state
 
 -- a gets the state r and b the state s in leaf i, and nothing else changes
 abbrev pub crowd_after_take : ℕ → Move → ℕ → ℕ → CrowdModel → CrowdModel
-crowd_after_take i t a b crowd = slice_set (slice_set crowd a (with_state i a t.r crowd)) b (with_state i b t.s crowd)
+crowd_after_take i t a b crowd = slice_set (slice_set crowd a (tuple_with_state i a t.r crowd)) b (tuple_with_state i b t.s crowd)
 
 -- m comes before n; where they are the same, what is compared next decides
 abbrev pub Then : ℕ → ℕ → Type 0 → Type 0

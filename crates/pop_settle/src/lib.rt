@@ -1,6 +1,6 @@
 //! Settling: the moves of a proof's layers, one after the other, until the crowd is terminal.
 //! It stands on `cert_base`, `cert_layers` and `pop_crowd`.
-//! The layer above uses: `settle` gives the only settlement, within the proof's bound for each agent, and its last crowd is terminal.
+//! The layer above uses: `settle` gives the only settlement, within the proof's bound, and ends in a terminal crowd.
 #![tactic(auto)]
 
 mod bound;

@@ -3,7 +3,7 @@
 ghost use Rattle.std.specs.Prelude.{◌≡◌, ◌≢◌, ◌<◌, [], ◌∷◌, ◌++◌, length, IfOk, IfSome, OnOk, slice_get, slice_set};
 ghost use Rattle.pop_net.specs.NetModel.{IsNet};
 ghost use Rattle.pop_net.specs.Lanes.{crowd_of, AreValid};
-ghost use Rattle.pop_settle.specs.Settlement.{with_state as changed};
+ghost use Rattle.pop_settle.specs.Settlement.{tuple_with_state};
 ghost use Rattle.pop_settle.specs.Walks.{TakesTo};
 
 use crate::take::Take;
@@ -63,7 +63,7 @@ impl Walk {
         requires agent_in { agent < length self.old.words.items }
         ensures changed { crowd_of net.now self.new.words.items
             ≡ slice_set (crowd_of net.now self.old.words.items) agent
-            (changed leaf agent state (crowd_of net.now self.old.words.items)) }
+            (tuple_with_state leaf agent state (crowd_of net.now self.old.words.items)) }
         ensures takes { self.new.takes ≡ self.old.takes }
         ensures valid { AreValid net.now self.new.words.items }
         ensures agents { length self.new.words.items ≡ length self.old.words.items }

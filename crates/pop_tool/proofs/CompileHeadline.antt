@@ -12,7 +12,7 @@ use Rattle.tool_texts.specs.declared.status.Status.TheVariants.{Done}
 use Rattle.tool_texts.specs.Statuses.{status_of}
 use Rattle.tool_texts.specs.Steps.{After}
 use Rattle.tool_texts.specs.Refusals.{output_for}
-use Rattle.tool_commands.specs.Compile.{asked, fits_its_leaves, OfFitting, OfAsked, CompileGives}
+use Rattle.tool_commands.specs.Compile.{asked_by, fits_its_leaves, OfFitting, OfAsked, CompileGives}
 use Rattle.pop_tool.specs.Headline.{CompileSays}
 
 abbrev IsDone : Result Output Refusal → Type 0
@@ -22,7 +22,7 @@ refused : (refusal : Refusal) (given : Result Output Refusal) → given ≡ Err 
 refused refusal given is done = let e = subst IsDone is done in cc e
 
 module _ (choice : LeafChoice) (input : List ℕ) (given : Result Output Refusal) (done : IsDone given) where
-  fitting_says : (names : List (List ℕ)) (pred : PredModel) → asked (lines_of input) ≡ Ok (names, pred) → (fits : Result (Unit {0}) Refusal) → After fits (OfFitting choice names pred) given → CompileSays choice input (output_for given).text
+  fitting_says : (names : List (List ℕ)) (pred : PredModel) → asked_by (lines_of input) ≡ Ok (names, pred) → (fits : Result (Unit {0}) Refusal) → After fits (OfFitting choice names pred) given → CompileSays choice input (output_for given).text
   fitting_says names pred tells (Err refusal) is = absurd (refused refusal given is done)
   fitting_says names pred tells (Ok u) is =
       record {
@@ -34,13 +34,13 @@ module _ (choice : LeafChoice) (input : List ℕ) (given : Result Output Refusal
         printed = ap (λ (g : Result Output Refusal). (output_for g).text) is.2;
       }
 
-  asked_says : (found : Result (List (List ℕ) × PredModel) Refusal) → asked (lines_of input) ≡ found → After found (OfAsked choice) given → CompileSays choice input (output_for given).text
+  asked_says : (found : Result (List (List ℕ) × PredModel) Refusal) → asked_by (lines_of input) ≡ found → After found (OfAsked choice) given → CompileSays choice input (output_for given).text
   asked_says (Err refusal) tells is = absurd (refused refusal given is done)
   asked_says (Ok (names, pred)) tells is = fitting_says names pred tells (fits_its_leaves choice pred.tree) is
 
   by_length : (long : Bool) → MatchBool long (given ≡ Err TooLong) (CompileGives choice (lines_of input) given) → CompileSays choice input (output_for given).text
   by_length true is = absurd (refused TooLong given is done)
-  by_length false is = asked_says (asked (lines_of input)) refl is
+  by_length false is = asked_says (asked_by (lines_of input)) refl is
 
 pub compile_says : (choice : LeafChoice) (input : List ℕ) (given : Result Output Refusal) → MatchBool (nat_lt INPUT_LIMIT (length input)) (given ≡ Err TooLong) (CompileGives choice (lines_of input) given) → IsDone given → CompileSays choice input (output_for given).text
 compile_says choice input given is done = by_length choice input given done (nat_lt INPUT_LIMIT (length input)) is

@@ -22,7 +22,7 @@ use Rattle.pop_words.specs.declared.command.Usage.{Usage}
 use Rattle.pop_words.specs.declared.spec.RunSpec.{RunSpec}
 use Rattle.pop_words.specs.declared.spec.TheConstants.{MEETING_LIMIT}
 use Rattle.pop_words.specs.Options.{IsWithinLimits}
-use Rattle.pop_words.specs.Kinds.{most_workers}
+use Rattle.pop_words.specs.Kinds.{most_workers_of}
 use Rattle.pop_words.specs.Words.{meaning_of, run_command, replay_command}
 use Rattle.pop_words.proofs.Limits.{run_bounded}
 use Rattle.pair_workers.specs.Run.{joined}
@@ -30,7 +30,7 @@ use Rattle.pop_journal.specs.declared.journal.Journal.{Journal}
 use Rattle.pop_journal.specs.declared.last.Last.{Last}
 use Rattle.pop_journal.specs.Journal.{journal_text}
 use Rattle.pop_journal.specs.Ending.{common_output, ending_for, ending_of}
-use Rattle.pop_journal.specs.Expected.{tail_text, Holds}
+use Rattle.pop_journal.specs.Expected.{whole_tail, Holds}
 use Rattle.pop_journal.specs.Laws.{IsReadBack}
 use Rattle.pop_journal.proofs.Looks.{least_some, least_of_terminal, common_some}
 use Rattle.pop_journal.proofs.Feeds.{IsUnbroken, lines_text}
@@ -74,7 +74,7 @@ length_replay net [] crowd = refl
 length_replay net (m ∷ meetings) crowd = length_replay net meetings (after_meeting net m.a m.b crowd) ∙ length-after_meeting net m.a m.b crowd
 
 module _ (kind : RunKind) (spec : RunSpec) (input : List ℕ) (output : Output) (made : IsMade kind spec input output)
-    (bounded : IsWithinLimits spec × (spec.workers ≤ most_workers kind) × (spec.workers * spec.turns ≤ MEETING_LIMIT)) where
+    (bounded : IsWithinLimits spec × (spec.workers ≤ most_workers_of kind) × (spec.workers * spec.turns ≤ MEETING_LIMIT)) where
   abbrev net : NetModel
   net = made.bundle.net
 
@@ -123,7 +123,7 @@ module _ (kind : RunKind) (spec : RunSpec) (input : List ℕ) (output : Output) 
   last_is (Some (a, b)) is = sym (ap (λ (o : Option (ℕ × ℕ)). ending_for o (common_output net end)) (least_some net end a b is))
 
   abbrev journal : Journal
-  journal = record { kind = kind; spec = spec; rounds = made.is.rounds; tail = lines_of (tail_text net end); first = JOURNAL_LINE }
+  journal = record { kind = kind; spec = spec; rounds = made.is.rounds; tail = lines_of (whole_tail net end); first = JOURNAL_LINE }
 
   written : IsReadBack kind net start spec made.is.rounds end JOURNAL_LINE × Holds net start journal
   written = written_is_held kind net start spec made.is.rounds end JOURNAL_LINE two few bounded.0 bounded.1 bounded.2 made.is.run

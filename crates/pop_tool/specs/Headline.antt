@@ -41,7 +41,7 @@ use Rattle.tool_commands.specs.Replay.{holds_text, journal_read}
 use Rattle.comp_net.specs.declared.choice.LeafChoice.{LeafChoice}
 use Rattle.comp_net.specs.declared.choice.LeafChoice.TheVariants as leaves
 use Rattle.tool_commands.specs.Settle.{settle_text}
-use Rattle.tool_commands.specs.Compile.{asked, bundle_line, IsCompiled}
+use Rattle.tool_commands.specs.Compile.{asked_by, bundle_line, IsCompiled}
 use Rattle.pop_tool.specs.Outcome.{IsAnswered}
 
 -- the input, within its limit, is one line, which is the file of this bundle
@@ -136,7 +136,7 @@ SaysHolds meetings text status = (text ≡ ended (holds_text meetings)) × (stat
 pub record CompileSays (choice : LeafChoice) (input text : List ℕ) : Type 0 where
   pub names : List (List ℕ)
   pub pred : PredModel
-  pub tells : asked (lines_of input) ≡ Ok (names, pred)
+  pub tells : asked_by (lines_of input) ≡ Ok (names, pred)
   pub bundle : Bundle
   pub compiled : IsCompiled choice names pred bundle
   pub printed : text ≡ bundle_line bundle

@@ -14,16 +14,16 @@ use Rattle.agent_field.specs.History.{IsHistory, calls}
 use Rattle.agent_field.specs.Seats.{log_of, taken_of}
 use Rattle.pair_workers.specs.Turns.{HasPicked}
 use Rattle.pair_workers.specs.Run.{meetings_of, pairs, made_by}
-use Rattle.pair_workers.specs.Work.{agents_of, pairs_of}
+use Rattle.pair_workers.specs.Work.{agents_of_field, pairs_of}
 use Rattle.pop_watch.specs.declared.work.Worker.{Worker}
-use Rattle.pop_watch.specs.Work.{HaveStopped, HasAll}
+use Rattle.pop_watch.specs.Work.{HaveStopped, HasAllWatched}
 use Rattle.pop_watch.specs.Playing.{ArePlaying, of_worker}
 use Rattle.pop_watch.proofs.Renumbered.{IsOfWorker, pairs_called, pairs_of_worker, replay_of_workers, marked_of_workers, numbers_of_workers}
 
 pair : Meeting → ℕ × ℕ
 pair m = (m.a, m.b)
 
-module _ (f : Field) (turns : ℕ) (pickers : List (List ℕ)) (done : List Worker) (first s : FieldSeat) (meetings : List Meeting) (others : HaveStopped f turns pickers done) (all : HasAll f done first s)
+module _ (f : Field) (turns : ℕ) (pickers : List (List ℕ)) (done : List Worker) (first s : FieldSeat) (meetings : List Meeting) (others : HaveStopped f turns pickers done) (all : HasAllWatched f done first s)
     (taken : (w : ℕ) (l : List Logged) → get_or (taken_of s) w None ≡ Some l → calls w meetings ≡ l) (some : All IsOfWorker meetings) where
   pairs_made : (w : ℕ) (d : Worker) → w < length done → pairs_of (log_of (get_or done w d).seat) ≡ pairs (meetings_of w (map of_worker meetings))
   pairs_made w d h =
@@ -48,10 +48,10 @@ module _ (f : Field) (turns : ℕ) (pickers : List (List ℕ)) (done : List Work
 
   -- each worker's meetings are its next picks
   pub all_picked : (after : List (List ℕ)) → after ≡ map (λ (v : Worker). v.picker) done → (w : ℕ) (d : List ℕ) (x : Worker) → w < length done
-      → HasPicked (agents_of f) (made_by w (map of_worker meetings)) (get_or pickers w d) (get_or after w d) (pairs (meetings_of w (map of_worker meetings)))
+      → HasPicked (agents_of_field f) (made_by w (map of_worker meetings)) (get_or pickers w d) (get_or after w d) (pairs (meetings_of w (map of_worker meetings)))
   all_picked after is w d x h =
       let stands : (get_or done w x).picker ≡ get_or after w d = sym (ap (λ (l : List (List ℕ)). get_or l w d) is ∙ get_or-map (λ (v : Worker). v.picker) done w x d h) in
-      subst (λ (t : ℕ × List ℕ × List (ℕ × ℕ)). HasPicked (agents_of f) t.0 (get_or pickers w d) t.1 t.2) (λ i. (many_made w x h i, stands i, pairs_made w x h i)) (others.1 w x d h).made.picked
+      subst (λ (t : ℕ × List ℕ × List (ℕ × ℕ)). HasPicked (agents_of_field f) t.0 (get_or pickers w d) t.1 t.2) (λ i. (many_made w x h i, stands i, pairs_made w x h i)) (others.1 w x d h).made.picked
 
 pub are_playing : (net : NetModel) (opening words : List Word) (workers seats : ℕ) (before after : List (List ℕ)) (meetings : List Meeting) → crowd_of net words ≡ replay net meetings (crowd_of net opening)
     → IsHistory net seats opening meetings → seats ≡ workers + 1 → All IsOfWorker meetings

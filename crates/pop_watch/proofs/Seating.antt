@@ -5,17 +5,17 @@ use Rattle.agent_field.specs.declared.field.Field.{Field}
 use Rattle.agent_field.specs.declared.view.Logged.{Logged}
 use Rattle.agent_field.specs.Seats.{log_of}
 use Rattle.pair_workers.specs.Turns.{HasPicked}
-use Rattle.pair_workers.specs.Work.{agents_of, pairs_of}
+use Rattle.pair_workers.specs.Work.{agents_of_field, pairs_of}
 use Rattle.pop_watch.specs.declared.work.Worker.{Worker}
 use Rattle.pop_watch.specs.Work.{HasMade, HasPlayed, IsSeated, HasStopped, AreSeated, HaveStopped}
 
 -- so many turns were made
-pub has_made : (f : Field) (turns made : ℕ) (before after : List ℕ) (log : List Logged) → made ≤ turns → HasPicked (agents_of f) made before after (pairs_of log) → HasMade f turns before after log
+pub has_made : (f : Field) (turns made : ℕ) (before after : List ℕ) (log : List Logged) → made ≤ turns → HasPicked (agents_of_field f) made before after (pairs_of log) → HasMade f turns before after log
 has_made f turns made before after log few picked =
     let long : made ≡ length log = sym picked.long ∙ length-map log (λ (e : Logged). (e.a, e.b)) in
     record {
       few = subst (λ (n : ℕ). n ≤ turns) long few;
-      picked = subst (λ (n : ℕ). HasPicked (agents_of f) n before after (pairs_of log)) long picked;
+      picked = subst (λ (n : ℕ). HasPicked (agents_of_field f) n before after (pairs_of log)) long picked;
     }
 
 is_done : (f : Field) (turns number : ℕ) (picker : List ℕ) (before after : Worker) → IsSeated f turns number picker before → HasPlayed f turns before after → HasStopped f turns number picker after

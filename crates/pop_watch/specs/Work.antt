@@ -3,9 +3,9 @@ use Rattle.std.specs.Prelude.{◌≡◌, ◌≤◌, ◌<◌, ◌+◌, ℕ, List,
 use Rattle.agent_field.specs.declared.field.Field.{Field}
 use Rattle.agent_field.specs.declared.field.FieldSeat.{FieldSeat}
 use Rattle.agent_field.specs.declared.view.Logged.{Logged}
-use Rattle.agent_field.specs.Seats.{IsSeatOf, IsWhole, KeepsRest, number_of, log_of, next_of, spare_of, spare_looks_of, taken_of}
+use Rattle.agent_field.specs.Seats.{IsSeatOf, IsWhole, KeepsRest, seat_number, log_of, next_of, spare_of, spare_looks_of, taken_of}
 use Rattle.pair_workers.specs.Turns.{HasPicked}
-use Rattle.pair_workers.specs.Work.{pairs_of, agents_of}
+use Rattle.pair_workers.specs.Work.{pairs_of, agents_of_field}
 use Rattle.pop_watch.specs.declared.work.Worker.{Worker}
 
 -- the worker has made nothing, and has room for so many meetings
@@ -13,12 +13,12 @@ pub record MayPlay (f : Field) (turns : ℕ) (w : Worker) : Type 0 where
   pub ours : IsSeatOf f w.seat
   pub room : turns ≤ spare_of w.seat
   pub log : log_of w.seat ≡ []
-  pub numbered : 1 ≤ number_of w.seat
+  pub numbered : 1 ≤ seat_number w.seat
 
 -- the meetings of the log are the next picks, as many as the turns at most
 pub record HasMade (f : Field) (turns : ℕ) (before after : List ℕ) (log : List Logged) : Type 0 where
   pub few : length log ≤ turns
-  pub picked : HasPicked (agents_of f) (length log) before after (pairs_of log)
+  pub picked : HasPicked (agents_of_field f) (length log) before after (pairs_of log)
 
 -- the worker has made its next picks, as many as the turns at most
 pub record HasPlayed (f : Field) (turns : ℕ) (before after : Worker) : Type 0 where
@@ -29,13 +29,13 @@ pub record HasPlayed (f : Field) (turns : ℕ) (before after : Worker) : Type 0 
 -- a worker with this number and this picker
 pub record IsSeated (f : Field) (turns number : ℕ) (picker : List ℕ) (w : Worker) : Type 0 where
   pub may : MayPlay f turns w
-  pub numbered : number_of w.seat ≡ number
+  pub numbered : seat_number w.seat ≡ number
   pub picker_is : w.picker ≡ picker
 
 -- the worker with this number has made its turns, or some of them, from this picker on
 pub record HasStopped (f : Field) (turns number : ℕ) (picker : List ℕ) (w : Worker) : Type 0 where
   pub ours : IsSeatOf f w.seat
-  pub numbered : number_of w.seat ≡ number
+  pub numbered : seat_number w.seat ≡ number
   pub made : HasMade f turns picker w.picker (log_of w.seat)
 
 -- the workers are ready, one for each picker
@@ -52,13 +52,13 @@ HaveStopped f turns pickers workers =
 -- the observer's seat: it has made no meeting, has room for so many looks, and has dealt a seat to each worker
 pub record MayWatch (f : Field) (looks workers : ℕ) (s : FieldSeat) : Type 0 where
   pub ours : IsSeatOf f s
-  pub first : number_of s ≡ 0
+  pub first : seat_number s ≡ 0
   pub log : log_of s ≡ []
   pub dealt : next_of s ≡ workers + 1
   pub room : looks ≤ spare_looks_of s
 
 -- number 0 has the logs of all these workers, each under its number, and keeps its own
-pub record HasAll (f : Field) (workers : List Worker) (before after : FieldSeat) : Type 0 where
+pub record HasAllWatched (f : Field) (workers : List Worker) (before after : FieldSeat) : Type 0 where
   pub ours : IsSeatOf f after
   pub whole : IsWhole after
   pub own : log_of after ≡ log_of before

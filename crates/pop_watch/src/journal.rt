@@ -3,7 +3,7 @@
 ghost use Rattle.std.specs.Prelude.{◌≡◌, ◌+◌, ◌≤◌, ◌∷◌, ◌++◌, length, codes, IfOk, IfErr};
 ghost use Rattle.pop_net.specs.Lanes.{crowd_of, AreValid};
 ghost use Rattle.pop_lines.specs.Lines.{lines_of};
-ghost use Rattle.pop_words.specs.Kinds.{most_workers};
+ghost use Rattle.pop_words.specs.Kinds.{most_workers_of};
 ghost use Rattle.pop_words.specs.Options.{IsWithinLimits};
 ghost use Rattle.pop_words.specs.declared.kind.RunKind.TheVariants.{Watched};
 ghost use Rattle.pair_workers.specs.Run.{joined};
@@ -58,7 +58,7 @@ pub fn read_watched(
     ensures kind { IfOk result (λ journal. journal.kind ≡ Watched) }
     ensures first { IfOk result (λ journal. journal.first ≡ first) }
     ensures limits { IfOk result
-        (λ journal. IsWithinLimits journal.spec × (journal.spec.workers ≤ most_workers Watched)) }
+        (λ journal. IsWithinLimits journal.spec × (journal.spec.workers ≤ most_workers_of Watched)) }
     // The rounds are what `verify_watched` asks for.
     ensures rounds { IfOk result (λ journal. AreRoundsOf Watched journal.spec agents journal.rounds) }
     // The lines of the text are those of the journal.

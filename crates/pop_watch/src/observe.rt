@@ -2,8 +2,8 @@
 
 ghost use Rattle.std.specs.Prelude.{◌≡◌, ◌+◌, ◌≤◌, length, IfOk};
 ghost use Rattle.pop_net.specs.Lanes.{AreValid};
-ghost use Rattle.agent_field.specs.Seats.{IsSeatOf, KeepsLogs, number_of, opening_of, spare_looks_of, net_of};
-ghost use Rattle.terminal_test.specs.TableNet.{net_of as table_net};
+ghost use Rattle.agent_field.specs.Seats.{IsSeatOf, KeepsLogs, seat_number, opening_of, spare_looks_of, net_of};
+ghost use Rattle.terminal_test.specs.TableNet.{table_net};
 ghost use Rattle.pair_workers.specs.CrowdSize.{IsCrowdSize};
 
 use crate::limits::LOOKS_A_ROUND;
@@ -28,7 +28,7 @@ fn seen_crowd<R: Wait>(
     requires net { net_of field.now ≡ net.now }
     requires agents { IsCrowdSize (length (opening_of field.now)) }
     requires ours { IsSeatOf field.now seat.old }
-    requires first { number_of seat.old ≡ 0 }
+    requires first { seat_number seat.old ≡ 0 }
     requires room { 1 ≤ spare_looks_of seat.old }
     ensures valid { IfOk result (AreValid net.now) }
     ensures ours { IsSeatOf field.now seat.new }
@@ -58,7 +58,7 @@ fn look_on<R: Wait, G: Gate>(
     requires net { net_of field.now ≡ net.now }
     requires agents { IsCrowdSize (length (opening_of field.now)) }
     requires ours { IsSeatOf field.now seat.old }
-    requires first { number_of seat.old ≡ 0 }
+    requires first { seat_number seat.old ≡ 0 }
     requires room { LOOKS_A_ROUND ≤ spare_looks_of seat.old }
     requires turns { turns ≤ ROUND_TURNS }
     ensures few { IfOk result (λ looks. looks ≤ LOOKS_A_ROUND) }
@@ -98,7 +98,7 @@ pub(crate) fn observe<R: Wait, G: Gate>(
     requires net { net_of field.now ≡ net.now }
     requires agents { IsCrowdSize (length (opening_of field.now)) }
     requires ours { IsSeatOf field.now seat.old }
-    requires first { number_of seat.old ≡ 0 }
+    requires first { seat_number seat.old ≡ 0 }
     requires room { LOOKS_A_ROUND ≤ spare_looks_of seat.old }
     requires turns { turns ≤ ROUND_TURNS }
     ensures ours { IsSeatOf field.now seat.new }

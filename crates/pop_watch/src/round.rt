@@ -3,12 +3,12 @@
 ghost use Rattle.std.specs.Prelude.{◌≡◌, ℕ, ◌+◌, ◌<◌, ◌≤◌, ◌-◌, length, map, All, IfOk, IsTrue, ◌↔◌, slice_index_or};
 ghost use Rattle.pop_net.specs.Lanes.{AreValid};
 ghost use Rattle.pop_crowd.specs.declared.crowd.Meeting.{Meeting as MeetingModel};
-ghost use Rattle.agent_field.specs.Seats.{IsOpened, IsSeatOf, KeepsLogs, number_of, spare_looks_of, net_of};
-ghost use Rattle.terminal_test.specs.TableNet.{net_of as table_net};
+ghost use Rattle.agent_field.specs.Seats.{IsOpened, IsSeatOf, KeepsLogs, seat_number, spare_looks_of, net_of};
+ghost use Rattle.terminal_test.specs.TableNet.{table_net};
 ghost use Rattle.pop_words.specs.Options.{IsWithinLimits};
 ghost use Rattle.pair_workers.specs.CrowdSize.{IsCrowdSize};
 ghost use Rattle.pair_workers.specs.Turns.{CanMakeRound};
-ghost use Rattle.pair_workers.specs.Work.{agents_of};
+ghost use Rattle.pair_workers.specs.Work.{agents_of_field};
 ghost use Rattle.pair_workers.specs.Run.{made_by};
 ghost use Rattle.pop_watch.specs.Work.{MayWatch, MayPlay, AreSeated, HasPlayed};
 ghost use Rattle.pop_watch.specs.Playing.{IsPartOfRound, IsWatchedRoundFrom, of_worker};
@@ -63,9 +63,10 @@ fn watch_beside<R: Threads + Wait + Sync, G: Gate>(
 ) -> Result<(), NoMemory>
     requires table { table_net table.now ≡ net.now }
     requires net { net_of field.now ≡ net.now }
-    requires agents { IsCrowdSize (agents_of field.now) }
+    requires agents { IsCrowdSize (agents_of_field field.now) }
     requires turns { turns ≤ ROUND_TURNS }
-    requires seat { IsSeatOf field.now seat.old × (number_of seat.old ≡ 0) × (LOOKS_A_ROUND ≤ spare_looks_of seat.old) }
+    requires seat { IsSeatOf field.now seat.old × (seat_number seat.old ≡ 0)
+        × (LOOKS_A_ROUND ≤ spare_looks_of seat.old) }
     requires workers { All (MayPlay field.now turns) workers.old }
     ensures seat { IsSeatOf field.now seat.new × KeepsLogs seat.old seat.new }
     ensures workers { (i : ℕ) (d : Worker) → i < length workers.old
@@ -77,8 +78,8 @@ fn watch_beside<R: Threads + Wait + Sync, G: Gate>(
         rt,
         &mut || -> Result<(), NoMemory>
             requires { (table_net table.now ≡ net.now) × (net_of field.now ≡ net.now)
-                × IsCrowdSize (agents_of field.now) × (turns ≤ ROUND_TURNS)
-                × IsSeatOf field.now seat.now × (number_of seat.now ≡ 0) × (LOOKS_A_ROUND ≤ spare_looks_of seat.now) }
+                × IsCrowdSize (agents_of_field field.now) × (turns ≤ ROUND_TURNS)
+                × IsSeatOf field.now seat.now × (seat_number seat.now ≡ 0) × (LOOKS_A_ROUND ≤ spare_looks_of seat.now) }
             ensures { IsSeatOf field.entry.now seat.exit.now × KeepsLogs seat.entry.now seat.exit.now }
         {
             observe(
@@ -86,7 +87,7 @@ fn watch_beside<R: Threads + Wait + Sync, G: Gate>(
             )
         },
         &mut ||
-            requires { IsCrowdSize (agents_of field.now) × All (MayPlay field.now turns) workers.now }
+            requires { IsCrowdSize (agents_of_field field.now) × All (MayPlay field.now turns) workers.now }
             ensures { (i : ℕ) (d : Worker) → i < length workers.entry.now
                 → HasPlayed field.entry.now turns
                 (slice_index_or workers.entry.now i d) (slice_index_or workers.exit.now i d) }

@@ -1,8 +1,9 @@
 //! How seats are dealt to the workers of a round, and taken in.
 
 ghost use Rattle.std.specs.Prelude.{◌≡◌, ℕ, ◌+◌, ◌<◌, ◌≤◌, length, map, IfOk, slice_index_or};
-ghost use Rattle.agent_field.specs.Seats.{IsSeatOf, KeepsOwn, log_of, number_of, next_of, left_of, seats_of, taken_of};
-ghost use Rattle.pop_watch.specs.Work.{AreSeated, HasAll};
+ghost use Rattle.agent_field.specs.Seats.{IsSeatOf, KeepsOwn, log_of, seat_number, next_of, left_of, seats_of};
+ghost use Rattle.agent_field.specs.Seats.{taken_of};
+ghost use Rattle.pop_watch.specs.Work.{AreSeated, HasAllWatched};
 
 use crate::work::Worker;
 use agent_field::{Field, FieldSeat};
@@ -19,7 +20,8 @@ pub(crate) fn seat_workers(
     turns: u64,
 ) -> Result<Vec<Worker>, NoMemory>
     requires ours { IsSeatOf field.now first.old }
-    requires fresh { (number_of first.old ≡ 0) × (next_of first.old ≡ 1) × (left_of first.old ≡ length pickers.items) }
+    requires fresh { (seat_number first.old ≡ 0) × (next_of first.old ≡ 1)
+        × (left_of first.old ≡ length pickers.items) }
     requires turns { turns ≤ ROUND_TURNS }
     ensures ours { IsSeatOf field.now first.new }
     ensures own { KeepsOwn first.old first.new × (taken_of first.new ≡ taken_of first.old) }
@@ -55,12 +57,12 @@ pub(crate) fn take_in(
     workers: Vec<Worker>,
 ) -> Result<(FieldSeat, Vec<Picker>), NoMemory>
     requires ours { IsSeatOf field.now first }
-    requires first { (number_of first ≡ 0) × (next_of first ≡ length workers.items + 1)
+    requires first { (seat_number first ≡ 0) × (next_of first ≡ length workers.items + 1)
         × (next_of first ≤ seats_of field.now) }
     requires workers { (i : ℕ) (d : Worker) → i < length workers.items
         → IsSeatOf field.now (slice_index_or workers.items i d).seat
-        × (number_of (slice_index_or workers.items i d).seat ≡ i + 1) }
-    ensures all { IfOk result (λ r. HasAll field.now workers.items first r.0) }
+        × (seat_number (slice_index_or workers.items i d).seat ≡ i + 1) }
+    ensures all { IfOk result (λ r. HasAllWatched field.now workers.items first r.0) }
     ensures pickers { IfOk result (λ r. r.1.items ≡ map (λ w. w.picker) workers.items) }
 {
     let mut first = first;

@@ -2,7 +2,7 @@
 
 ghost use Rattle.std.specs.Prelude.{◌≡◌, ℕ, ◌<◌, ◌≤◌, length, All, slice_index_or};
 ghost use Rattle.pair_workers.specs.CrowdSize.{IsCrowdSize};
-ghost use Rattle.pair_workers.specs.Work.{agents_of};
+ghost use Rattle.pair_workers.specs.Work.{agents_of_field};
 ghost use Rattle.pop_watch.specs.Work.{MayPlay, HasPlayed};
 
 use crate::signals::Signals;
@@ -29,7 +29,7 @@ pub(crate) fn work<R: Wait, G: Gate>(
     signals: &Signals,
     gate: &G,
 )
-    requires agents { IsCrowdSize (agents_of field.now) }
+    requires agents { IsCrowdSize (agents_of_field field.now) }
     requires may { MayPlay field.now turns worker.old }
     ensures { HasPlayed field.now turns worker.old worker.new }
 {
@@ -55,7 +55,7 @@ pub(crate) fn work_all<R: Threads + Wait + Sync, G: Gate>(
     signals: &Signals,
     gate: &G,
 )
-    requires agents { IsCrowdSize (agents_of field.now) }
+    requires agents { IsCrowdSize (agents_of_field field.now) }
     requires may { All (MayPlay field.now turns) workers.old }
     ensures { (i : ℕ) (d : Worker) → i < length workers.old
         → HasPlayed field.now turns (slice_index_or workers.old i d) (slice_index_or workers.new i d) }
@@ -66,7 +66,7 @@ pub(crate) fn work_all<R: Threads + Wait + Sync, G: Gate>(
         workers,
         threads,
         &|_i: usize, worker: &mut Worker|
-            requires { IsCrowdSize (agents_of field.now) × MayPlay field.now turns worker.now }
+            requires { IsCrowdSize (agents_of_field field.now) × MayPlay field.now turns worker.now }
             ensures { HasPlayed field.entry.now turns worker.entry.now worker.exit.now }
         { work(rt, field, worker, turns, signals, gate) },
     );

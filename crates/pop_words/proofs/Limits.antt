@@ -3,8 +3,8 @@ use Rattle.std.proofs.Common.{◌≡◌, ℕ, ◌≤◌, ◌&&◌, Bool, true, f
 use Rattle.std.specs.Prelude.{◌%◌, ◌==◌, ◌+◌, ◌*◌, nat_lt, IfOk, IfSome, length, option_and_then, option_map, position, unwrap_or, slice_index_or, if◌then◌else◌, find, ◌∷◌, []}
 use Rattle.std.specs.Str.{bytes_eq}
 use Rattle.std.proofs.lemmas.Bool.{and_parts, leb-true, ltb-false}
-use Rattle.pop_lines.specs.Numbers.{number_of, number_within}
-use Rattle.pop_words.specs.Kinds.{most_workers}
+use Rattle.pop_lines.specs.Numbers.{number_of, number_of_within}
+use Rattle.pop_words.specs.Kinds.{most_workers_of}
 use Rattle.pop_words.specs.declared.kind.RunKind.{RunKind}
 use Rattle.pop_words.specs.declared.kind.RunKind.TheVariants.{Whole, Watched}
 use Rattle.pop_words.specs.declared.spec.TheConstants.{MEETING_LIMIT, DEMO_LIMIT}
@@ -20,8 +20,8 @@ use Rattle.pop_words.specs.declared.words.Flag.{Flag}
 use Rattle.pop_words.specs.declared.words.Flag.TheVariants.{OfCompile, OfReplay}
 use Rattle.pop_words.specs.declared.words.Form.{Form}
 use Rattle.pop_words.specs.declared.words.Form.TheVariants.{Alone, WithOptions, WithNumber, WithFlag}
-use Rattle.pop_words.specs.Options.{least_of, most_of, default_of, name_of, number_behind, value_of, spec_of, bad_at, run_with, or_fault, first_fault, options_meaning, IsWithin, IsWithinLimits}
-use Rattle.pop_words.specs.Words.{form_named, commands, no_more, run_command, to_run, demo_with, demo_meaning, flag_name, flagged, behind_flag, flag_meaning, meaning_behind, meaning_of, HasLimits}
+use Rattle.pop_words.specs.Options.{least_of, most_of, default_of, name_of, number_behind, option_value, spec_of, bad_at, run_with, or_fault, first_fault, options_meaning, IsWithin, IsWithinLimits}
+use Rattle.pop_words.specs.Words.{form_named, commands, no_more, run_command, to_run, demo_with, demo_meaning, flag_name, flagged_command, behind_flag, flag_meaning, meaning_behind, meaning_of, HasLimits}
 
 pub default_within : (kind : RunKind) (option : RunOption) → IsWithin kind option (default_of option)
 default_within Whole Workers = (omega arith, omega arith)
@@ -55,7 +55,7 @@ behind : (kind : RunKind) (option : RunOption) (words : List (List ℕ)) (place 
 behind kind option words None = tt
 behind kind option words (Some i) = within (least_of option) (most_of kind option) (number_of (slice_index_or words (i + 1) []))
 
-value_within : (kind : RunKind) (words : List (List ℕ)) (option : RunOption) → IsWithin kind option (value_of kind words option)
+value_within : (kind : RunKind) (words : List (List ℕ)) (option : RunOption) → IsWithin kind option (option_value kind words option)
 value_within kind words option =
     or_default kind option (option_and_then (λ i. number_behind kind option (slice_index_or words (i + 1) [])) (position (λ word. bytes_eq word (name_of option)) words))
     (behind kind option words (position (λ word. bytes_eq word (name_of option)) words))
@@ -65,7 +65,7 @@ IsSpent spec = spec.workers * spec.turns ≤ MEETING_LIMIT
 
 -- all that is known of a run of this kind
 abbrev IsBounded : RunKind → RunSpec → Type 0
-IsBounded kind spec = IsWithinLimits spec × (spec.workers ≤ most_workers kind) × IsSpent spec
+IsBounded kind spec = IsWithinLimits spec × (spec.workers ≤ most_workers_of kind) × IsSpent spec
 
 -- the same of a command: its numbers are within their limits, and those of a run together
 abbrev AreBounded : Command → Type 0
@@ -94,13 +94,13 @@ bounded_limits Compile is = tt
 bounded_limits Flocks is = tt
 bounded_limits (Demo number) is = is
 
-spec_within : (kind : RunKind) (words : List (List ℕ)) → IsWithinLimits (spec_of kind words) × ((spec_of kind words).workers ≤ most_workers kind)
+spec_within : (kind : RunKind) (words : List (List ℕ)) → IsWithinLimits (spec_of kind words) × ((spec_of kind words).workers ≤ most_workers_of kind)
 spec_within kind words = (
   record {
-    workers = within_whole kind Workers (value_of kind words Workers) (value_within kind words Workers);
-    shards = within_whole kind Shards (value_of kind words Shards) (value_within kind words Shards);
-    turns = within_whole kind Turns (value_of kind words Turns) (value_within kind words Turns);
-    seed = within_whole kind Seed (value_of kind words Seed) (value_within kind words Seed);
+    workers = within_whole kind Workers (option_value kind words Workers) (value_within kind words Workers);
+    shards = within_whole kind Shards (option_value kind words Shards) (value_within kind words Shards);
+    turns = within_whole kind Turns (option_value kind words Turns) (value_within kind words Turns);
+    seed = within_whole kind Seed (option_value kind words Seed) (value_within kind words Seed);
   },
   (value_within kind words Workers).1,
 )
@@ -151,15 +151,15 @@ demo_within (Some number) (word ∷ rest) is = tt
 
 number_limits : (words : List (List ℕ)) → IfOk (demo_meaning words) AreBounded
 number_limits [] = tt
-number_limits (number ∷ rest) = demo_within (number_within 0 DEMO_LIMIT number) rest (within 0 DEMO_LIMIT (number_of number))
+number_limits (number ∷ rest) = demo_within (number_of_within 0 DEMO_LIMIT number) rest (within 0 DEMO_LIMIT (number_of number))
 
-flagged_within : (flag : Flag) (rest : List (List ℕ)) → IfOk (behind_flag (flagged flag) rest) AreBounded
+flagged_within : (flag : Flag) (rest : List (List ℕ)) → IfOk (behind_flag (flagged_command flag) rest) AreBounded
 flagged_within OfCompile [] = tt
 flagged_within OfReplay [] = tt
 flagged_within OfCompile (word ∷ rest) = tt
 flagged_within OfReplay (word ∷ rest) = tt
 
-flag_or_not : (flag : Flag) (rest : List (List ℕ)) (b : Bool) → IfOk (if b then behind_flag (flagged flag) rest else bad_at 1 Unknown) AreBounded
+flag_or_not : (flag : Flag) (rest : List (List ℕ)) (b : Bool) → IfOk (if b then behind_flag (flagged_command flag) rest else bad_at 1 Unknown) AreBounded
 flag_or_not flag rest true = flagged_within flag rest
 flag_or_not flag rest false = tt
 
@@ -197,5 +197,5 @@ of_kind Watched spec is = is
 
 -- a run that words ask for, of any kind, is within all its limits
 pub run_bounded : (words : List (List ℕ)) (kind : RunKind) (spec : RunSpec) → meaning_of words ≡ Ok (run_command kind spec)
-    → IsWithinLimits spec × (spec.workers ≤ most_workers kind) × (spec.workers * spec.turns ≤ MEETING_LIMIT)
+    → IsWithinLimits spec × (spec.workers ≤ most_workers_of kind) × (spec.workers * spec.turns ≤ MEETING_LIMIT)
 run_bounded words kind spec is = of_kind kind spec (subst (λ (r : Result Command Usage). IfOk r AreBounded) is (meaning_bounded words))

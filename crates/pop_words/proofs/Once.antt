@@ -5,7 +5,7 @@ use Rattle.std.proofs.lemmas.Bool.{eq-eqb}
 use Rattle.std.proofs.lemmas.List.Splits.{slice_split-cons_yes, slice_split-cons_no, length-slice_split}
 use Rattle.pop_lines.specs.Lines.{pieces, IsCut}
 use Rattle.pop_words.specs.Counts.{split_once, with_word, with_words}
-use Rattle.pop_words.specs.Walk.{words_after, without_count}
+use Rattle.pop_words.specs.Walk.{words_behind, without_count}
 use Rattle.std.specs.Prelude.{is_none, slice_set, map, if◌then◌else◌}
 use Rattle.std.proofs.lemmas.List.Sums.{sum_by-set, sum_by-cons}
 use Rattle.pop_words.proofs.Cuts.{words-cut}
@@ -46,9 +46,9 @@ module _ (c : ℕ) where
   ]
 
 pub goes_on : (names : List (List ℕ)) (found more : List (Option ℕ)) (at : ℕ) (bytes word : List ℕ) (rest : Option (List ℕ)) (total : Result (List (Option ℕ)) ℕ) → IsCut 32 bytes word rest → with_word names found word ≡ Some more
-    → with_words names found at (pieces 32 bytes) ≡ total → with_words names more (at + 1) (words_after rest) ≡ total
+    → with_words names found at (pieces 32 bytes) ≡ total → with_words names more (at + 1) (words_behind rest) ≡ total
 goes_on names found more at bytes word rest total cut is so_far =
-    let one : with_words names found at (pieces 32 bytes) ≡ with_words names more (at + 1) (words_after rest) = rw (words-cut bytes word rest cut, is) refl in
+    let one : with_words names found at (pieces 32 bytes) ≡ with_words names more (at + 1) (words_behind rest) = rw (words-cut bytes word rest cut, is) refl in
     sym one ∙ so_far
 
 -- a first count for a variable

@@ -11,6 +11,6 @@ kind_word Whole = codes "run"
 kind_word Watched = codes "watch"
 
 -- the greatest number of workers
-abbrev pub most_workers : RunKind → ℕ
-most_workers Whole = WORKER_LIMIT
-most_workers Watched = WATCHED_WORKERS
+abbrev pub most_workers_of : RunKind → ℕ
+most_workers_of Whole = WORKER_LIMIT
+most_workers_of Watched = WATCHED_WORKERS

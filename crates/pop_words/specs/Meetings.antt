@@ -12,10 +12,10 @@ pair_of (first ∷ second ∷ []) = option_and_then (λ a. option_map (λ b. (a,
 pair_of _ = None
 
 -- two different agents
-abbrev pub agents_of : ℕ → Option (ℕ × ℕ) → Result (ℕ × ℕ) MeetingFault
-agents_of agents None = Err Form
-agents_of agents (Some pair) = if not (pair.0 == pair.1) && (nat_lt pair.0 agents && nat_lt pair.1 agents) then Ok pair else Err Agents
+abbrev pub two_agents_of : ℕ → Option (ℕ × ℕ) → Result (ℕ × ℕ) MeetingFault
+two_agents_of agents None = Err Form
+two_agents_of agents (Some pair) = if not (pair.0 == pair.1) && (nat_lt pair.0 agents && nat_lt pair.1 agents) then Ok pair else Err Agents
 
 -- a meeting line: two numbers with one space between them, and they are two different agents
 unfoldable pub meeting_of : ℕ → List ℕ → Result (ℕ × ℕ) MeetingFault
-meeting_of agents line = agents_of agents (pair_of (pieces 32 line))
+meeting_of agents line = two_agents_of agents (pair_of (pieces 32 line))

@@ -3,13 +3,13 @@ use Rattle.std.specs.Prelude.{ℕ, ◌+◌, ◌*◌, ◌-◌, ◌≤◌, ◌%◌
 use Rattle.std.specs.Prelude.{option_map, option_and_then, unwrap_or, find, position, slice_index_or, if◌then◌else◌, Result, Ok, Err}
 use Rattle.std.specs.List.{list_any, range_with_len}
 use Rattle.std.specs.Str.{bytes_eq}
-use Rattle.pop_lines.specs.Numbers.{number_within}
+use Rattle.pop_lines.specs.Numbers.{number_of_within}
 use Rattle.pop_words.specs.declared.options.RunOption.{RunOption}
 use Rattle.pop_words.specs.declared.options.RunOption.TheVariants.{Workers, Shards, Turns, Seed}
 use Rattle.pop_io.specs.declared.gate.TheConstants.{SHARD_LIMIT}
 use Rattle.pop_words.specs.declared.kind.RunKind.{RunKind}
 use Rattle.pop_words.specs.declared.kind.RunKind.TheVariants.{Whole}
-use Rattle.pop_words.specs.Kinds.{most_workers}
+use Rattle.pop_words.specs.Kinds.{most_workers_of}
 use Rattle.pop_words.specs.declared.spec.TheConstants.{TURN_LIMIT, MEETING_LIMIT, SEED_LIMIT}
 use Rattle.pop_words.specs.declared.spec.RunSpec.{RunSpec}
 use Rattle.pop_words.specs.declared.command.UsageWhy.{UsageWhy}
@@ -30,7 +30,7 @@ least_of Turns = 0
 least_of Seed = 0
 
 abbrev pub most_of : RunKind → RunOption → ℕ
-most_of kind Workers = most_workers kind
+most_of kind Workers = most_workers_of kind
 most_of kind Shards = SHARD_LIMIT
 most_of kind Turns = TURN_LIMIT
 most_of kind Seed = SEED_LIMIT
@@ -46,7 +46,7 @@ option_named word = find (λ option. bytes_eq word (name_of option)) (Workers �
 
 -- a number within the option's limits
 abbrev pub number_behind : RunKind → RunOption → List ℕ → Option ℕ
-number_behind kind option word = number_within (least_of option) (most_of kind option) word
+number_behind kind option word = number_of_within (least_of option) (most_of kind option) word
 
 -- an option that no word before it names
 abbrev pub name_fault : List (List ℕ) → List ℕ → Option UsageWhy
@@ -77,8 +77,8 @@ abbrev pub first_fault : RunKind → List (List ℕ) → Option (ℕ × UsageWhy
 first_fault kind words = first_given (fault_with_place kind words) (range_with_len 0 (length words))
 
 -- the number of an option: the one behind its name, or its default
-abbrev pub value_of : RunKind → List (List ℕ) → RunOption → ℕ
-value_of kind words option =
+abbrev pub option_value : RunKind → List (List ℕ) → RunOption → ℕ
+option_value kind words option =
     unwrap_or
     (option_and_then (λ i. number_behind kind option (slice_index_or words (i + 1) [])) (position (λ word. bytes_eq word (name_of option)) words))
     (default_of option)
@@ -86,10 +86,10 @@ value_of kind words option =
 abbrev pub spec_of : RunKind → List (List ℕ) → RunSpec
 spec_of kind words =
     record {
-      workers = value_of kind words Workers;
-      shards = value_of kind words Shards;
-      turns = value_of kind words Turns;
-      seed = value_of kind words Seed;
+      workers = option_value kind words Workers;
+      shards = option_value kind words Shards;
+      turns = option_value kind words Turns;
+      seed = option_value kind words Seed;
     }
 
 -- the word with this number is the first bad one

@@ -11,14 +11,14 @@ use Rattle.pop_words.specs.declared.vars.VarsFault.{VarsFault}
 use Rattle.pop_words.specs.declared.vars.VarsFault.TheVariants.{Form, NoMemory}
 
 -- the words behind a space, if there is one
-abbrev pub words_after : Option (List ℕ) → List (List ℕ)
-words_after None = []
-words_after (Some rest) = pieces 32 rest
+abbrev pub words_behind : Option (List ℕ) → List (List ℕ)
+words_behind None = []
+words_behind (Some rest) = pieces 32 rest
 
 -- how many bytes stand behind the last word that was read, its space among them
-abbrev pub left_of : Option (List ℕ) → ℕ
-left_of None = 0
-left_of (Some rest) = length rest + 1
+abbrev pub bytes_left : Option (List ℕ) → ℕ
+bytes_left None = 0
+bytes_left (Some rest) = length rest + 1
 
 -- how many variables have no count yet
 abbrev pub without_count : List (Option ℕ) → ℕ

@@ -9,7 +9,7 @@ use Rattle.pop_words.specs.declared.words.Form.{Form}
 use Rattle.pop_words.specs.declared.words.Flag.{Flag}
 use Rattle.pop_words.specs.declared.words.Flag.TheVariants.{OfCompile, OfReplay}
 use Rattle.pop_words.specs.declared.words.Form.TheVariants.{Alone, WithOptions, WithNumber, WithFlag}
-use Rattle.pop_lines.specs.Numbers.{number_within}
+use Rattle.pop_lines.specs.Numbers.{number_of_within}
 use Rattle.pop_words.specs.declared.spec.TheConstants.{DEMO_LIMIT, WATCHED_WORKERS}
 use Rattle.pop_words.specs.declared.kind.RunKind.{RunKind}
 use Rattle.pop_words.specs.declared.kind.RunKind.TheVariants.{Whole, Watched}
@@ -61,7 +61,7 @@ demo_with (Some number) (word ∷ rest) = bad_at 2 Unknown
 -- one number of a demo case stands behind `demo`
 abbrev pub demo_meaning : List (List ℕ) → Result Command Usage
 demo_meaning [] = bad_at 1 Missing
-demo_meaning (number ∷ rest) = demo_with (number_within 0 DEMO_LIMIT number) rest
+demo_meaning (number ∷ rest) = demo_with (number_of_within 0 DEMO_LIMIT number) rest
 
 abbrev pub flag_name : Flag → List ℕ
 flag_name OfCompile = codes "--flocks"
@@ -71,9 +71,9 @@ abbrev pub unflagged : Flag → Command
 unflagged OfCompile = Compile
 unflagged OfReplay = Replay
 
-abbrev pub flagged : Flag → Command
-flagged OfCompile = Flocks
-flagged OfReplay = ReplayWatched
+abbrev pub flagged_command : Flag → Command
+flagged_command OfCompile = Flocks
+flagged_command OfReplay = ReplayWatched
 
 abbrev pub behind_flag : Command → List (List ℕ) → Result Command Usage
 behind_flag command [] = Ok command
@@ -82,7 +82,7 @@ behind_flag command (word ∷ rest) = bad_at 2 Unknown
 -- no word stands behind the plain command's own, and just the flag behind that of the other one
 abbrev pub flag_meaning : Flag → List (List ℕ) → Result Command Usage
 flag_meaning flag [] = Ok (unflagged flag)
-flag_meaning flag (word ∷ rest) = if bytes_eq word (flag_name flag) then behind_flag (flagged flag) rest else bad_at 1 Unknown
+flag_meaning flag (word ∷ rest) = if bytes_eq word (flag_name flag) then behind_flag (flagged_command flag) rest else bad_at 1 Unknown
 
 -- what the words behind the command's own mean
 abbrev pub meaning_behind : Option Form → List (List ℕ) → Result Command Usage

@@ -6,7 +6,7 @@ ghost use Rattle.std.specs.Str.{bytes_eq};
 ghost use Rattle.std.specs.Option.{option_copied};
 ghost use Rattle.pop_words.specs.Vars.{AreVariables};
 ghost use Rattle.pop_words.specs.Counts.{split_once, entry_of, with_entry, with_word, with_words, counts_of, Counted};
-ghost use Rattle.pop_words.specs.Walk.{words_after, without_count};
+ghost use Rattle.pop_words.specs.Walk.{words_behind, without_count};
 
 use pop_io::{List, Text, VARIABLE_LIMIT, place_of};
 use pop_lines::{cut, small_number};
@@ -66,7 +66,7 @@ fn counts_behind(
 ) -> Result<List<Option<u64>>, CountFault>
     requires few { length names.now ≤ VARIABLE_LIMIT }
     ensures counts { Counted result
-        (with_words names.now (map (λ _. None) names.now) 1 (words_after (option_copied words.entry))) }
+        (with_words names.now (map (λ _. None) names.now) 1 (words_behind (option_copied words.entry))) }
     ensures len { IfOk result (λ found. length found ≡ length names.now) }
 {
     let mut found = none_of(alloc, names)?;

@@ -16,7 +16,7 @@ pub enum RunKind {
 
 impl RunKind {
     ghost use Rattle.std.specs.Prelude.{◌≡◌};
-    ghost use Rattle.pop_words.specs.Kinds.{kind_word, most_workers as most_of_kind};
+    ghost use Rattle.pop_words.specs.Kinds.{kind_word, most_workers_of};
 
     /// The word of the command, with which its journals begin.
     pub fn word(self) -> &'static str
@@ -30,7 +30,7 @@ impl RunKind {
 
     /// The greatest number of workers.
     pub fn most_workers(self) -> u16
-        ensures { result ≡ most_of_kind self }
+        ensures { result ≡ most_workers_of self }
     {
         match self {
             RunKind::Whole => WORKER_LIMIT,

@@ -1,6 +1,6 @@
 //! The words of the command line, the vars line, the crowd line and the meeting line.
 //! It stands on `pop_io` and `pop_lines`.
-//! The layer above uses: `read_words` is exactly `meaning_of`, and the readers of lines are exactly `meeting_of`, `vars_of` and `counts_of`.
+//! The layer above uses: `read_words` is `meaning_of`, and the readers of lines `meeting_of`, `vars_of`, `counts_of`.
 #![tactic(auto)]
 
 mod command;

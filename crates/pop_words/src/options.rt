@@ -5,8 +5,8 @@ ghost use Rattle.std.specs.List.{list_any};
 ghost use Rattle.std.specs.Str.{bytes_eq};
 ghost use Rattle.pop_io.specs.declared.gate.TheConstants.{WORKER_LIMIT};
 ghost use Rattle.pop_words.specs.declared.kind.RunKind.TheVariants.{Whole};
-ghost use Rattle.pop_words.specs.Kinds.{most_workers};
-ghost use Rattle.pop_words.specs.Options.{IsWithin, IsWithinLimits, name_of, value_of, spec_of, options_meaning};
+ghost use Rattle.pop_words.specs.Kinds.{most_workers_of};
+ghost use Rattle.pop_words.specs.Options.{IsWithin, IsWithinLimits, name_of, option_value, spec_of, options_meaning};
 ghost use Rattle.pop_words.specs.Options.{word_fault, name_fault, number_fault, first_fault};
 
 use crate::command::{Usage, UsageWhy};
@@ -78,7 +78,7 @@ pub(crate) fn read_options(kind: RunKind, words: &[&str]) -> Result<RunSpec, Usa
     requires { length words.now + 1 < 2 ^ 32 }
     ensures meaning { result ≡ options_meaning kind (map (λ w. w.now) words.now) }
     ensures limits { IfOk result IsWithinLimits }
-    ensures workers { IfOk result (λ spec. spec.workers ≤ most_workers kind) }
+    ensures workers { IfOk result (λ spec. spec.workers ≤ most_workers_of kind) }
 {
     if let Some((at, why)) = first_fault_of(kind, words) {
         return Err(behind(at, why));
@@ -167,7 +167,7 @@ fn fault_of_number(kind: RunKind, option: RunOption, word: &str) -> Option<Usage
 fn spec_in(kind: RunKind, words: &[&str]) -> RunSpec
     ensures spec { result ≡ spec_of kind (map (λ w. w.now) words.now) }
     ensures limits { IsWithinLimits result }
-    ensures workers { result.workers ≤ most_workers kind }
+    ensures workers { result.workers ≤ most_workers_of kind }
     ensures few { result.workers * result.turns ≤ WORKER_LIMIT * TURN_LIMIT }
 {
     RunSpec {
@@ -181,7 +181,7 @@ fn spec_in(kind: RunKind, words: &[&str]) -> RunSpec
 /// The number behind an option's name, or its default.
 #[tactic(auto, using(crate::proofs::Firsts::position_map, crate::proofs::Limits::default_within, crate::proofs::Limits::within_whole))]
 fn value_in(kind: RunKind, words: &[&str], option: RunOption) -> u64
-    ensures value { result ≡ value_of kind (map (λ w. w.now) words.now) option }
+    ensures value { result ≡ option_value kind (map (λ w. w.now) words.now) option }
     ensures within { IsWithin kind option result }
     ensures whole { IsWithin Whole option result }
 {

@@ -5,7 +5,7 @@ ghost use Rattle.std.specs.Prelude.{OnOk, Ok, Err, Option, MatchOption};
 ghost use Rattle.std.specs.Option.{option_copied};
 ghost use Rattle.pop_io.specs.Names.{variable_name};
 ghost use Rattle.pop_words.specs.Vars.{vars_of, Named, AreVariables};
-ghost use Rattle.pop_words.specs.Walk.{words_after, can_join, NamedBehind};
+ghost use Rattle.pop_words.specs.Walk.{words_behind, can_join, NamedBehind};
 
 use pop_io::{List, Text, VARIABLE_LIMIT, is_among, is_variable_name};
 use pop_lines::cut;
@@ -56,7 +56,7 @@ pub fn read_vars(alloc: Global, line: &[u8]) -> Result<List<Text>, VarsFault>
 
 /// The names, if all words are names and there is at least one.
 fn names_behind(alloc: Global, words: Option<&[u8]>) -> Result<List<Text>, VarsFault>
-    ensures { NamedBehind result (words_after (option_copied words.entry)) }
+    ensures { NamedBehind result (words_behind (option_copied words.entry)) }
 {
     let mut names: Vec<Text> = Vec::new(alloc);
     let mut rest = words;

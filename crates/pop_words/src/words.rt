@@ -1,7 +1,7 @@
 //! The words of the command line.
 
 ghost use Rattle.std.specs.Prelude.{◌≡◌, ◌<◌, ◌≤◌, ◌^◌, ◌+◌, length, map, Some, IfSome, IfOk};
-ghost use Rattle.pop_words.specs.Kinds.{most_workers};
+ghost use Rattle.pop_words.specs.Kinds.{most_workers_of};
 ghost use Rattle.pop_words.specs.Options.{IsWithinLimits};
 ghost use Rattle.pop_words.specs.Words.{meaning_of, meaning_behind, form_named, run_command, demo_meaning};
 ghost use Rattle.pop_words.specs.Words.{flag_meaning, HasLimits, FormHasLimits};
@@ -34,7 +34,7 @@ pub(crate) enum Flag {
 
 impl Flag {
     ghost use Rattle.std.specs.Prelude.{◌≡◌};
-    ghost use Rattle.pop_words.specs.Words.{flag_name, unflagged, flagged as flagged_command};
+    ghost use Rattle.pop_words.specs.Words.{flag_name, unflagged, flagged_command};
 
     fn name(self) -> &'static str
         ensures { result.now ≡ flag_name self }
@@ -118,7 +118,7 @@ fn read_behind(form: Form, words: &[&str]) -> Result<Command, Usage>
 /// The command that makes a run of this kind.
 fn command_of(kind: RunKind, spec: RunSpec) -> Command
     requires limits { IsWithinLimits spec }
-    requires workers { spec.workers ≤ most_workers kind }
+    requires workers { spec.workers ≤ most_workers_of kind }
     ensures command { result ≡ run_command kind spec }
     ensures limits { HasLimits result }
 {

@@ -2,7 +2,7 @@
 
 ghost use Rattle.std.specs.Prelude.{◌≡◌, ◌≤◌, ◌<◌, ◌^◌, ◌-ℤ◌, ◌*ℤ◌, pos, length, nat_abs};
 ghost use Rattle.pres_ast.specs.PredModel.{AreCoefs, HasAtoms};
-ghost use Rattle.pres_ast.specs.PredicateValue.{weighted_sum, divides, predicate_value};
+ghost use Rattle.pres_ast.specs.PredicateValue.{weighted_sum, is_multiple, predicate_value};
 ghost use Rattle.pres_ast.specs.TreeOf.{tree_of};
 
 use crate::limits::COEFFICIENT_LIMIT;
@@ -54,7 +54,7 @@ fn is_congruent(coefs: &[i64], counts: &[u64], modulus: u32, rest: u32) -> bool
     requires few { length counts.now ≤ VARIABLE_LIMIT }
     requires coefs { AreCoefs (length counts.now) coefs.now }
     requires modulus { 0 < modulus }
-    ensures { result ≡ divides modulus (weighted_sum coefs.now counts.now -ℤ pos rest) }
+    ensures { result ≡ is_multiple modulus (weighted_sum coefs.now counts.now -ℤ pos rest) }
 {
     (sum(coefs, counts) - i128::from(rest)).unsigned_abs() % u128::from(modulus) == 0
 }

@@ -14,9 +14,9 @@ use Rattle.pres_ast.specs.PredTree.{PredTree, LessThan, Congruent, Negation, Con
 use Rattle.pres_ast.specs.PredModel.{AreCoefs, HasAtoms, weight_of, IsPred}
 use Rattle.pres_tokens.specs.declared.token.Relation.TheVariants.{Less, Equal}
 use Rattle.pres_tokens.specs.Symbols.{Symbol, Number, Compare, And, Or, Open, Close, Mod}
-use Rattle.pres_read.specs.Numbers.{value_of}
-use Rattle.pres_read.specs.Atoms.{signed}
-use Rattle.pres_read.specs.Depth.{Depth, surface, charge_of, parentheses_after, deeper}
+use Rattle.pres_read.specs.Numbers.{value_of_digits}
+use Rattle.pres_read.specs.Atoms.{signed_number}
+use Rattle.pres_read.specs.Depth.{Depth, surface, symbol_charge, parentheses_after, deeper}
 use Rattle.pres_read.specs.Reading.{zero_coefs, pred_read}
 use Rattle.pres_read.specs.Grammar.{Term, bare, times, Sum, first, further, conj, unit, term_symbols, minus_if, plus_or_minus, sum_symbols, constant_symbols, symbols, term_name, term_number}
 use Rattle.pres_read.specs.Rules.{CoefFits, TermFits, SumFits, Fits, IsShallow}
@@ -58,9 +58,9 @@ term_fits all before names name o prefix a apart e same h filled =
     let placed = subst (λ (i : Option ℕ). CoefFits (prefix ++ pos 0 ∷ replicate (length names) (pos 0)) i a) (sym (place_found all before names name apart e)) last in
     let named = subst (λ (word : List ℕ). CoefFits (prefix ++ pos 0 ∷ replicate (length names) (pos 0)) (position (bytes_eq word) all) a) (sym (name-term_by (nat_abs a == 1) (nat_abs a) name)) placed in
     let valued = subst (λ (z : ℤ). CoefFits (prefix ++ pos 0 ∷ replicate (length names) (pos 0)) (position (bytes_eq (term_name (canonical_term (nat_abs a) name))) all) z)
-    (sym (ap (signed (is_negative a)) number ∙ signed-abs a)) named in (
+    (sym (ap (signed_number (is_negative a)) number ∙ signed-abs a)) named in (
       omega (arith, number, h),
-      subst (λ (coefs : List ℤ). CoefFits coefs (position (bytes_eq (term_name (canonical_term (nat_abs a) name))) all) (signed (is_negative a) (term_number (canonical_term (nat_abs a) name)))) (sym filled) valued,
+      subst (λ (coefs : List ℤ). CoefFits coefs (position (bytes_eq (term_name (canonical_term (nat_abs a) name))) all) (signed_number (is_negative a) (term_number (canonical_term (nat_abs a) name)))) (sym filled) valued,
     )
 
 fits_if : (names : List (List ℕ)) (c : Bool) (found later : Option Sum) → (c ≡ true → OptionFits names found) → (c ≡ false → OptionFits names later) → OptionFits names (if c then found else later)
@@ -104,14 +104,14 @@ sum_fits names coefs apart some h =
 tree_fits : (names : List (List ℕ)) (t : PredTree) → AllPairs ◌≢◌ names → 0 < length names → HasAtoms (length names) t → Fits names (canonical names t)
 tree_fits names (LessThan coefs bound) apart some h =
     let fits = h.1 in
-    let value : value_of (decimal (nat_abs bound)) ≡ nat_abs bound = (decimal_writes (nat_abs bound) (omega (arith, fits))).value in
+    let value : value_of_digits (decimal (nat_abs bound)) ≡ nat_abs bound = (decimal_writes (nat_abs bound) (omega (arith, fits))).value in
     (sum_fits names coefs apart some h.0, omega (arith, value, fits))
 tree_fits names (Congruent coefs modulus residue) apart some h =
     let least = h.1 in
     let most = h.2 in
     let below = h.3 in
-    let r : value_of (decimal residue) ≡ residue = (decimal_writes residue (omega (arith, most, below))).value in
-    let m : value_of (decimal modulus) ≡ modulus = (decimal_writes modulus (omega (arith, most))).value in
+    let r : value_of_digits (decimal residue) ≡ residue = (decimal_writes residue (omega (arith, most, below))).value in
+    let m : value_of_digits (decimal modulus) ≡ modulus = (decimal_writes modulus (omega (arith, most))).value in
     (sum_fits names coefs apart some h.0, omega (arith, r, most, below), omega (arith, m, least), omega (arith, m, most))
 tree_fits names (Negation p) apart some h = tree_fits names p apart some h
 tree_fits names (Conjunction p q) apart some h = (tree_fits names p apart some h.0, tree_fits names q apart some h.1)
@@ -125,7 +125,7 @@ at_depth c n = record { charge = c; parentheses = n }
 -- symbols that are not charged and open nothing
 abbrev Flat : List Symbol → Type 0
 Flat [] = Unit {0}
-Flat (s ∷ ss) = (charge_of s ≡ 0) × ((n : ℕ) → parentheses_after n s ≡ n) × Flat ss
+Flat (s ∷ ss) = (symbol_charge s ≡ 0) × ((n : ℕ) → parentheses_after n s ≡ n) × Flat ss
 
 Flat-append : (ss us : List Symbol) → Flat ss → Flat us → Flat (ss ++ us)
 Flat-append [] us f g = g
@@ -134,7 +134,7 @@ Flat-append (s ∷ ss) us f g = (f.0, f.1, Flat-append ss us f.2 g)
 flat_shallow : (ss rest : List Symbol) (c n : ℕ) → Flat ss → c ≤ WEIGHT_LIMIT → n ≤ PARENTHESIS_LIMIT → IsShallow (at_depth c n) rest → IsShallow (at_depth c n) (ss ++ rest)
 flat_shallow [] rest c n f h g d = d
 flat_shallow (s ∷ ss) rest c n f h g d =
-    let charge : c + charge_of s ≡ c = (let none = f.0 in omega (arith, none)) in
+    let charge : c + symbol_charge s ≡ c = (let none = f.0 in omega (arith, none)) in
     let opened : parentheses_after n s ≡ n = f.1 n in
     let same : deeper (at_depth c n) s ≡ at_depth c n = ap (λ k. at_depth k (parentheses_after n s)) charge ∙ ap (at_depth c) opened in
     (omega (arith, charge, h), omega (arith, opened, g), subst (λ (e : Depth). IsShallow e (ss ++ rest)) (sym same) (flat_shallow ss rest c n f.2 h g d))
@@ -161,7 +161,7 @@ flat_constant b digits = Flat-append (minus_if b) (Number digits ∷ []) (flat_m
 shallow_at : (rest : List Symbol) (c e n m : ℕ) → c ≡ e → n ≡ m → IsShallow (at_depth c n) rest → IsShallow (at_depth e m) rest
 shallow_at rest c e n m p q h = subst (λ k. IsShallow (at_depth e k) rest) q (subst (λ k. IsShallow (at_depth k n) rest) p h)
 
-pair_shallow : (names : List (List ℕ)) (sign : Symbol) (p q rest : List Symbol) (c n wp wq : ℕ) → charge_of sign ≡ 1 → ((k : ℕ) → parentheses_after k sign ≡ k)
+pair_shallow : (names : List (List ℕ)) (sign : Symbol) (p q rest : List Symbol) (c n wp wq : ℕ) → symbol_charge sign ≡ 1 → ((k : ℕ) → parentheses_after k sign ≡ k)
     → c + (wp + wq + 1) ≤ WEIGHT_LIMIT → n + (wp + wq + 1) ≤ PARENTHESIS_LIMIT → IsShallow (at_depth (c + (wp + wq + 1)) n) rest
     → ((us : List Symbol) (e k : ℕ) → e + wp ≤ WEIGHT_LIMIT → k + wp ≤ PARENTHESIS_LIMIT → IsShallow (at_depth (e + wp) k) us → IsShallow (at_depth e k) (p ++ us))
     → ((us : List Symbol) (e k : ℕ) → e + wq ≤ WEIGHT_LIMIT → k + wq ≤ PARENTHESIS_LIMIT → IsShallow (at_depth (e + wq) k) us → IsShallow (at_depth e k) (q ++ us))
@@ -172,7 +172,7 @@ pair_shallow names sign p q rest c n wp wq one stays h g d left right =
     (omega (arith, h), omega (arith, g), shallow_at rest (c + (wp + wq + 1)) (c + wp + 1 + wq + 0) n (n + 1 - 1) (omega arith) (omega arith) d) in
     let second : IsShallow (at_depth (c + wp + 1) (n + 1)) (q ++ (Close ∷ rest)) = right (Close ∷ rest) (c + wp + 1) (n + 1) (omega (arith, h)) (omega (arith, g)) closed in
     let signed_part : IsShallow (at_depth (c + wp) (n + 1)) (sign ∷ (q ++ (Close ∷ rest))) =
-    (omega (arith, one, h), omega (arith, opened, g), shallow_at (q ++ (Close ∷ rest)) (c + wp + 1) (c + wp + charge_of sign) (n + 1) (parentheses_after (n + 1) sign) (omega (arith, one)) (sym opened) second) in
+    (omega (arith, one, h), omega (arith, opened, g), shallow_at (q ++ (Close ∷ rest)) (c + wp + 1) (c + wp + symbol_charge sign) (n + 1) (parentheses_after (n + 1) sign) (omega (arith, one)) (sym opened) second) in
     let whole : IsShallow (at_depth c (n + 1)) (p ++ (sign ∷ (q ++ (Close ∷ rest)))) = left (sign ∷ (q ++ (Close ∷ rest))) c (n + 1) (omega (arith, h)) (omega (arith, g)) signed_part in
     (omega (arith, h), omega (arith, g), shallow_at (p ++ (sign ∷ (q ++ (Close ∷ rest)))) c (c + 0) (n + 1) (n + 1) (omega arith) refl whole)
 

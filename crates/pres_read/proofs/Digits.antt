@@ -5,12 +5,12 @@ use Rattle.std.proofs.lemmas.List.Folds.{list_all-append}
 use Rattle.std.proofs.lemmas.Bool.{le-leb}
 use Rattle.std.proofs.lemmas.Fmt.{decimal_by_steps}
 use Rattle.pres_tokens.specs.Tokens.{digit}
-use Rattle.pres_read.specs.Numbers.{value_after, value_of}
+use Rattle.pres_read.specs.Numbers.{value_after, value_of_digits}
 
 -- digits that write the number
 pub record Writes (n : ℕ) (ds : List ℕ) : Type 0 where
   pub digits : list_all digit ds ≡ true
-  pub value : value_of ds ≡ n
+  pub value : value_of_digits ds ≡ n
   pub some : 0 < length ds
 
 value_push : (m : ℕ) (ds : List ℕ) (c : ℕ) → value_after m (ds ++ c ∷ []) ≡ value_after m ds * 10 + (c - 48)

@@ -9,12 +9,12 @@ use Rattle.pres_ast.specs.PredModel.{HasAtoms, weight_of, IsPred}
 use Rattle.pres_ast.specs.TreeOf.{tree_of}
 use Rattle.pres_ast.specs.declared.tree.Tree.{Tree}
 use Rattle.pres_tokens.specs.Symbols.{Placed}
-use Rattle.pres_read.specs.Outcome.{Gives}
+use Rattle.pres_read.specs.Outcome.{GivesParsed}
 use Rattle.pres_read.specs.declared.fault.ReadPred.{ReadPred}
 use Rattle.pres_read.specs.TextFault.{TextFault, TooDeep}
 use Rattle.pres_read.specs.Atoms.{negation_if, equality_tree}
 use Rattle.pres_read.specs.Progress.{Span, Around, Next, AUnit, ATerm, AStar, AName, ARelation, AConstant, ANumber, AModulo, AModulus, ASign, Progress}
-use Rattle.pres_read.specs.Depth.{Depth, charge_of, deeper, sunk}
+use Rattle.pres_read.specs.Depth.{Depth, symbol_charge, deeper, sunk}
 use Rattle.pres_read.specs.Reading.{tree_up_to_unit, end_step, finish_by, finish, step}
 use Rattle.pres_read.specs.Sound.{option_weight, span_weight, spans_weight, next_weight, HasOption, HasSpan, HasSpans, HasNext, LeavesNoOperator, IsSoundProgress}
 use Rattle.pres_read.proofs.Limits.{weight-disjoined, HasAtoms-disjoined, HasAtoms-negated_if, HasAtoms-equality}
@@ -24,14 +24,14 @@ charge-within : (t : Placed) (d e : Depth) (b : Bool) → ◌≡◌ {A = Result 
 charge-within t d e true h = cc
 charge-within t d e false h = let same : d ≡ e = cc in ap (λ (x : Depth). x.charge) (sym same)
 
-pub charge-sunk : (d e : Depth) (t : Placed) → sunk d t ≡ Ok e → e.charge ≡ d.charge + charge_of t.symbol
+pub charge-sunk : (d e : Depth) (t : Placed) → sunk d t ≡ Ok e → e.charge ≡ d.charge + symbol_charge t.symbol
 charge-sunk d e t h = charge-within t (deeper d t.symbol) e (ltb WEIGHT_LIMIT (deeper d t.symbol).charge || ltb PARENTHESIS_LIMIT (deeper d t.symbol).parentheses) h
 
 pub sound_further : (names : List (List ℕ)) (p q : Progress) (d e : Depth) (t : Placed)
     → IsSoundProgress (length names) p d.charge → step names p t ≡ Ok q → sunk d t ≡ Ok e → IsSoundProgress (length names) q e.charge
 sound_further names p q d e t sound stepped deep =
     let goes = step_goes d.charge names p t sound in
-    let here : IsSoundProgress (length names) q (d.charge + charge_of t.symbol) = (rw stepped at goes) in
+    let here : IsSoundProgress (length names) q (d.charge + symbol_charge t.symbol) = (rw stepped at goes) in
     subst (λ c. IsSoundProgress (length names) q c) (sym (charge-sunk d e t deep)) here
 
 ended_fits : (n charge end : ℕ) (above : List Span) (ors : Option PredTree) (p : PredTree)
@@ -70,6 +70,6 @@ finish_fits n charge end p one most small sound =
     finish_by_fits n charge end p.around p.next one most small sound.above sound.span sound.next sound.settled sound.weight
 
 -- what a call gave is as far within the limits
-pub given_fits : (n : ℕ) (r : Result Tree ReadPred) (q : Result PredTree TextFault) → Gives tree_of r q → IfOk q (IsPred n) → IfOk r (λ tree. IsPred n (tree_of tree))
+pub given_fits : (n : ℕ) (r : Result Tree ReadPred) (q : Result PredTree TextFault) → GivesParsed tree_of r q → IfOk q (IsPred n) → IfOk r (λ tree. IsPred n (tree_of tree))
 given_fits n (Ok tree) q e h = rw e at h
 given_fits n (Err f) q e h = tt

@@ -12,10 +12,10 @@ use Rattle.pres_read.specs.declared.fault.ReadPred.{ReadPred}
 use Rattle.pres_read.specs.TextFault.{TextFault, Syntax, UnknownName, TooLarge, TooDeep, LongText}
 use Rattle.pres_read.specs.declared.read.TheConstants.{TEXT_LIMIT}
 use Rattle.pres_read.specs.declared.depth.TheConstants.{PARENTHESIS_LIMIT}
-use Rattle.pres_read.specs.Outcome.{◌>>=◌, fault_of, Gives}
+use Rattle.pres_read.specs.Outcome.{◌>>=◌, text_fault_of, GivesParsed}
 use Rattle.pres_read.specs.Progress.{AName, Progress, start}
 use Rattle.pres_read.specs.Depth.{Depth, surface, deeper, sunk}
-use Rattle.pres_read.specs.Reading.{step, finish, with_progress, run, over, pred_read}
+use Rattle.pres_read.specs.Reading.{step, finish, with_progress, run, over_names, pred_read}
 use Rattle.pres_read.specs.Grammar.{bare, times}
 use Rattle.pres_read.specs.Texts.{symbols_of, text_symbols, Begins, IsStuck, place_of}
 use Rattle.pres_read.specs.Rules.{IsKnown, AreKnown, IsShallow, NumbersFit, KeepsRules, last_is, is_star}
@@ -302,7 +302,7 @@ module _ (names : List (List ℕ)) (text : List ℕ) where
   ExplainsAll (Ok pred) = KeepsRules names (text_symbols text)
   ExplainsAll (Err e) = IsReadFault names text e
 
-  over_explains : (r : Result PredTree TextFault) → Explains r → ExplainsAll (over (length names) r)
+  over_explains : (r : Result PredTree TextFault) → Explains r → ExplainsAll (over_names (length names) r)
   over_explains (Ok tree) h = h
   over_explains (Err e) h = h
 
@@ -312,12 +312,12 @@ module _ (names : List (List ℕ)) (text : List ℕ) where
   read_explains : ExplainsAll (pred_read names text)
   read_explains = by_length (ltb TEXT_LIMIT (length text)) refl
     where
-      by_length : (b : Bool) → ltb TEXT_LIMIT (length text) ≡ b → ExplainsAll (over (length names) (if b then Err (LongText (length text)) else run names (length text) start surface (tokens_of text)))
+      by_length : (b : Bool) → ltb TEXT_LIMIT (length text) ≡ b → ExplainsAll (over_names (length names) (if b then Err (LongText (length text)) else run names (length text) start surface (tokens_of text)))
       by_length true e = (refl, ltb-true TEXT_LIMIT (length text) e)
       by_length false e = over_explains (run names (length text) start surface (tokens_of text)) (run_explains (tokens_of text) [] start begun surface refl start_stands)
 
   -- the same of what a call gave, which may be out of memory
-  pub given_rules : (r : Result PredModel ReadPred) → Gives (λ pred. pred) r (pred_read names text) → IfOk r (λ pred. KeepsRules names (text_symbols text))
+  pub given_rules : (r : Result PredModel ReadPred) → GivesParsed (λ pred. pred) r (pred_read names text) → IfOk r (λ pred. KeepsRules names (text_symbols text))
   given_rules (Ok pred) h = subst ExplainsAll h read_explains
   given_rules (Err e) h = tt
 
@@ -325,6 +325,6 @@ module _ (names : List (List ℕ)) (text : List ℕ) where
   by_fault None h = tt
   by_fault (Some fault) h = subst ExplainsAll h read_explains
 
-  pub given_fault : (r : Result PredModel ReadPred) → Gives (λ pred. pred) r (pred_read names text) → IfErr r (λ fault. IfSome (fault_of fault) (IsReadFault names text))
+  pub given_fault : (r : Result PredModel ReadPred) → GivesParsed (λ pred. pred) r (pred_read names text) → IfErr r (λ fault. IfSome (text_fault_of fault) (IsReadFault names text))
   given_fault (Ok pred) h = tt
-  given_fault (Err e) h = by_fault (fault_of e) h
+  given_fault (Err e) h = by_fault (text_fault_of e) h

@@ -5,7 +5,7 @@ use Rattle.pres_ast.specs.declared.limits.TheConstants.{MODULUS_LIMIT}
 use Rattle.pres_tokens.specs.declared.token.Relation.{Relation}
 use Rattle.pres_tokens.specs.declared.token.Relation.TheVariants.{Less, AtMost, Greater, AtLeast, Equal, Unequal}
 use Rattle.pres_tokens.specs.Symbols.{Symbol, Name, Number, Plus, Minus, Star, Compare, And, Or, Not, Open, Close, Mod, Stray}
-use Rattle.pres_read.specs.Numbers.{value_of}
+use Rattle.pres_read.specs.Numbers.{value_of_digits}
 use Rattle.pres_read.specs.Atoms.{limit_of}
 use Rattle.pres_read.specs.Grammar.{Term, bare, times, Sum, first, further, Atom, plain, modular, Part, APred, AConj, AUnit, Phrase, conj, either, unit, both, negate, group, atom, term_symbols, minus_if, plus_or_minus, sum_symbols, equal_or_not, constant_symbols, atom_symbols, symbols, coefs_of}
 use Rattle.pres_read.specs.Rules.{TermFits, SumFits, AtomFits, Fits}
@@ -23,11 +23,11 @@ RuleName names lead digits (Name word) = TermFits names (lead_coefs names lead) 
 RuleName names lead digits s = Unit {0}
 
 abbrev pub RuleConstant : Relation → Symbol → Type 0
-RuleConstant r (Number digits) = value_of digits ≤ limit_of r
+RuleConstant r (Number digits) = value_of_digits digits ≤ limit_of r
 RuleConstant r s = Unit {0}
 
 abbrev pub RuleModulus : Symbol → Type 0
-RuleModulus (Number digits) = (2 ≤ value_of digits) × (value_of digits ≤ MODULUS_LIMIT)
+RuleModulus (Number digits) = (2 ≤ value_of_digits digits) × (value_of_digits digits ≤ MODULUS_LIMIT)
 RuleModulus s = Unit {0}
 
 abbrev pub RuleInner : List (List ℕ) → Inner → Symbol → Type 0
@@ -84,7 +84,7 @@ sum_kept names above side (further sum negative term) rest f k =
     (sum_kept names above side sum (plus_or_minus negative ∷ (term_symbols term ++ rest)) f.0 (further_kept names above side sum negative term rest f.1 k))
 
 constant_kept : (names : List (List ℕ)) (above : List Side) (side : Side) (sum : Sum) (r : Relation) (negative : Bool) (digits : List ℕ) (rest : List Symbol)
-    → value_of digits ≤ limit_of r → Kept names (trace_compared above side sum r negative digits) rest
+    → value_of_digits digits ≤ limit_of r → Kept names (trace_compared above side sum r negative digits) rest
     → Kept names (Inside above side (IRelation sum)) (Compare r ∷ (constant_symbols negative digits ++ rest))
 constant_kept names above side sum r false digits rest f k = (tt, (f, k))
 constant_kept names above side sum r true digits rest f k = (tt, (tt, (f, k)))
@@ -116,7 +116,7 @@ compared_kept names above side sum Equal negative digits rest h k = modulo_kept 
 compared_kept names above side sum Unequal negative digits rest h k = modulo_kept names above side sum true negative digits rest h k
 
 modular_kept : (names : List (List ℕ)) (above : List Side) (side : Side) (sum : Sum) (unequal negative : Bool) (digits modulus : List ℕ) (rest : List Symbol)
-    → (2 ≤ value_of modulus) × (value_of modulus ≤ MODULUS_LIMIT) → Kept names (unit_done above side (atom (modular sum unequal negative digits modulus))) rest
+    → (2 ≤ value_of_digits modulus) × (value_of_digits modulus ≤ MODULUS_LIMIT) → Kept names (unit_done above side (atom (modular sum unequal negative digits modulus))) rest
     → Kept names (trace_compared above side sum (equal_or_not unequal) negative digits) (Mod ∷ Number modulus ∷ rest)
 modular_kept names above side sum false negative digits modulus rest f k = (tt, (f, k))
 modular_kept names above side sum true negative digits modulus rest f k = (tt, (f, k))

@@ -14,12 +14,12 @@ use Rattle.pres_tokens.specs.Tokens.{tokens_of}
 use Rattle.pres_read.specs.declared.fault.ReadPred.{ReadPred}
 use Rattle.pres_read.specs.declared.fault.ReadPred.TheVariants as reading
 use Rattle.pres_read.specs.TextFault.{TextFault, Syntax, UnknownName, TooLarge, TooDeep, LongText}
-use Rattle.pres_read.specs.Outcome.{◌>>=◌, Gives}
-use Rattle.pres_read.specs.Numbers.{value_of, value_within}
-use Rattle.pres_read.specs.Atoms.{signed, negation_if, equality_tree, limit_of, Factor, lone, with_coef, with_number, with_term, added}
+use Rattle.pres_read.specs.Outcome.{◌>>=◌, GivesParsed}
+use Rattle.pres_read.specs.Numbers.{value_of_digits, value_within}
+use Rattle.pres_read.specs.Atoms.{signed_number, negation_if, equality_tree, limit_of, Factor, lone, with_coef_at, with_number, with_term, added}
 use Rattle.pres_read.specs.Progress.{Span, Around, Next, AUnit, ATerm, AStar, AName, ARelation, AConstant, ANumber, AModulo, AModulus, ASign, Progress, start}
 use Rattle.pres_read.specs.Depth.{Depth, surface, deeper, within_depth, sunk}
-use Rattle.pres_read.specs.Reading.{after_sum, term_step, unit_step, star_step, name_step, relation_step, given_constant, number_step, constant_step, given_modulus, modulus_step, close_step, sign_step, tree_up_to_unit, modulo_step, by_next, step, end_step, finish_by, finish, with_progress, run, over, pred_read}
+use Rattle.pres_read.specs.Reading.{after_sum, term_step, unit_step, star_step, name_step, relation_step, given_constant, number_step, constant_step, given_modulus, modulus_step, close_step, sign_step, tree_up_to_unit, modulo_step, by_next, step, end_step, finish_by, finish, with_progress, run, over_names, pred_read}
 use Rattle.pres_read.specs.Grammar.{APred, Phrase, symbols, coefs_of, meaning}
 use Rattle.pres_read.specs.Texts.{symbols_of, text_symbols, IsReadTo}
 use Rattle.pres_read.specs.Rules.{CoefFits, Fits, IsShallow}
@@ -41,24 +41,24 @@ Fine (Err (TooLarge at)) = ⊥
 Fine (Err (TooDeep at)) = ⊥
 Fine (Err (LongText n)) = ⊥
 
-coef_went : (coefs : List ℤ) (i : ℕ) (z : ℤ) (place : ℕ) → nat_abs z ≤ COEFFICIENT_LIMIT → Went (with_coef coefs i z place)
+coef_went : (coefs : List ℤ) (i : ℕ) (z : ℤ) (place : ℕ) → nat_abs z ≤ COEFFICIENT_LIMIT → Went (with_coef_at coefs i z place)
 coef_went coefs i z place h = by_test (ltb COEFFICIENT_LIMIT (nat_abs z)) refl
   where
     by_test : (b : Bool) → ltb COEFFICIENT_LIMIT (nat_abs z) ≡ b → Went {X = List ℤ} (if b then Err (TooLarge place) else Ok (slice_set coefs i z))
     by_test true e = let past = ltb-true COEFFICIENT_LIMIT (nat_abs z) e in absurd (omega (arith, past, h))
     by_test false e = tt
 
-number_went : (coefs : List ℤ) (i : ℕ) (factor : Factor) (limit v : ℕ) → v ≤ limit → nat_abs (get_or coefs i (pos 0) +ℤ signed factor.negative v) ≤ COEFFICIENT_LIMIT
+number_went : (coefs : List ℤ) (i : ℕ) (factor : Factor) (limit v : ℕ) → v ≤ limit → nat_abs (get_or coefs i (pos 0) +ℤ signed_number factor.negative v) ≤ COEFFICIENT_LIMIT
     → Went (with_number coefs i factor (value_within limit v))
 number_went coefs i factor limit v h g = by_test (ltb limit v) refl
   where
     by_test : (b : Bool) → ltb limit v ≡ b → Went (with_number coefs i factor (if b then None else Some v))
     by_test true e = let past = ltb-true limit v e in absurd (omega (arith, past, h))
-    by_test false e = coef_went coefs i (get_or coefs i (pos 0) +ℤ signed factor.negative v) factor.place g
+    by_test false e = coef_went coefs i (get_or coefs i (pos 0) +ℤ signed_number factor.negative v) factor.place g
 
-term_went : (coefs : List ℤ) (o : Option ℕ) (factor : Factor) (place : ℕ) → value_of factor.digits ≤ COEFFICIENT_LIMIT → CoefFits coefs o (signed factor.negative (value_of factor.digits)) → Went (with_term coefs o factor place)
+term_went : (coefs : List ℤ) (o : Option ℕ) (factor : Factor) (place : ℕ) → value_of_digits factor.digits ≤ COEFFICIENT_LIMIT → CoefFits coefs o (signed_number factor.negative (value_of_digits factor.digits)) → Went (with_term coefs o factor place)
 term_went coefs None factor place h g = absurd g
-term_went coefs (Some i) factor place h g = number_went coefs i factor COEFFICIENT_LIMIT (value_of factor.digits) h g
+term_went coefs (Some i) factor place h g = number_went coefs i factor COEFFICIENT_LIMIT (value_of_digits factor.digits) h g
 
 sum_fine : (a : Around) (r : Result (List ℤ) TextFault) → Went r → Fine (after_sum a r)
 sum_fine a (Ok coefs) h = tt
@@ -95,10 +95,10 @@ relation_fine a coefs place (Compare r) = tt
 relation_fine a coefs place s = tt
 
 number_fine : (a : Around) (coefs : List ℤ) (r : Relation) (negative : Bool) (place : ℕ) (s : Symbol) → RuleConstant r s → Fine (number_step a coefs r negative place s)
-number_fine a coefs r negative place (Number digits) h = by_test (ltb (limit_of r) (value_of digits)) refl
+number_fine a coefs r negative place (Number digits) h = by_test (ltb (limit_of r) (value_of_digits digits)) refl
   where
-    by_test : (b : Bool) → ltb (limit_of r) (value_of digits) ≡ b → Fine (given_constant a coefs r negative place (if b then None else Some (value_of digits)))
-    by_test true e = let past = ltb-true (limit_of r) (value_of digits) e in absurd (omega (arith, past, h))
+    by_test : (b : Bool) → ltb (limit_of r) (value_of_digits digits) ≡ b → Fine (given_constant a coefs r negative place (if b then None else Some (value_of_digits digits)))
+    by_test true e = let past = ltb-true (limit_of r) (value_of_digits digits) e in absurd (omega (arith, past, h))
     by_test false e = tt
 number_fine a coefs r negative place s h = tt
 
@@ -121,11 +121,11 @@ modulo_fine a coefs unequal c place Mod = tt
 modulo_fine a coefs unequal c place s = sign_fine a.above a.span.ors (tree_up_to_unit a.span (negation_if unequal (equality_tree coefs c))) place s
 
 modulus_fine : (a : Around) (coefs : List ℤ) (unequal : Bool) (c : ℤ) (place : ℕ) (s : Symbol) → RuleModulus s → Fine (modulus_step a coefs unequal c place s)
-modulus_fine a coefs unequal c place (Number digits) h = by_test (ltb MODULUS_LIMIT (value_of digits)) refl (ltb (value_of digits) 2) refl
+modulus_fine a coefs unequal c place (Number digits) h = by_test (ltb MODULUS_LIMIT (value_of_digits digits)) refl (ltb (value_of_digits digits) 2) refl
   where
-    by_test : (b : Bool) → ltb MODULUS_LIMIT (value_of digits) ≡ b → (small : Bool) → ltb (value_of digits) 2 ≡ small → Fine (given_modulus a coefs unequal c place (if b then None else Some (value_of digits)))
-    by_test true e small f = let past = ltb-true MODULUS_LIMIT (value_of digits) e in let most = h.1 in absurd (omega (arith, past, most))
-    by_test false e true f = let past = ltb-true (value_of digits) 2 f in let least = h.0 in absurd (omega (arith, past, least))
+    by_test : (b : Bool) → ltb MODULUS_LIMIT (value_of_digits digits) ≡ b → (small : Bool) → ltb (value_of_digits digits) 2 ≡ small → Fine (given_modulus a coefs unequal c place (if b then None else Some (value_of_digits digits)))
+    by_test true e small f = let past = ltb-true MODULUS_LIMIT (value_of_digits digits) e in let most = h.1 in absurd (omega (arith, past, most))
+    by_test false e true f = let past = ltb-true (value_of_digits digits) 2 f in let least = h.0 in absurd (omega (arith, past, least))
     by_test false e false f = rw f tt
 modulus_fine a coefs unequal c place s h = tt
 
@@ -138,8 +138,8 @@ inner_fine names a (IName lead digits) at place s h = name_fine names a lead dig
 inner_fine names a (IRelation sum) at place s h = relation_fine a (coefs_of names sum) place s
 inner_fine names a (IConstant sum r) at place s h = constant_fine a (coefs_of names sum) r place s h
 inner_fine names a (INumber sum r) at place s h = number_fine a (coefs_of names sum) r true place s h
-inner_fine names a (IModulo sum unequal negative digits) at place s h = modulo_fine a (coefs_of names sum) unequal (signed negative (value_of digits)) place s
-inner_fine names a (IModulus sum unequal negative digits) at place s h = modulus_fine a (coefs_of names sum) unequal (signed negative (value_of digits)) place s h
+inner_fine names a (IModulo sum unequal negative digits) at place s h = modulo_fine a (coefs_of names sum) unequal (signed_number negative (value_of_digits digits)) place s
+inner_fine names a (IModulus sum unequal negative digits) at place s h = modulus_fine a (coefs_of names sum) unequal (signed_number negative (value_of_digits digits)) place s h
 
 shown_fine : (names : List (List ℕ)) (a : Trace) (at : ℕ) (t : Placed) → RuleAt names a t.symbol → Fine (step names (shown names at a) t)
 unfolding step
@@ -217,12 +217,12 @@ kept_read names text p e short fits shallow =
     by_length (ltb TEXT_LIMIT (length text)) refl read
   where
     by_length : (b : Bool) → ltb TEXT_LIMIT (length text) ≡ b → run names (length text) start surface (tokens_of text) ≡ Ok (meaning names p)
-        → over (length names) (if b then Err (LongText (length text)) else run names (length text) start surface (tokens_of text)) ≡ Ok (record { variables = length names; tree = meaning names p })
+        → over_names (length names) (if b then Err (LongText (length text)) else run names (length text) start surface (tokens_of text)) ≡ Ok (record { variables = length names; tree = meaning names p })
     by_length true x read = let past = ltb-true TEXT_LIMIT (length text) x in absurd (omega (arith, past, short))
-    by_length false x read = ap (over (length names)) read
+    by_length false x read = ap (over_names (length names)) read
 
 -- the same of what a call gave, which may be out of memory
-pub given_kept : (names : List (List ℕ)) (text : List ℕ) (tree : PredTree) (r : Result PredModel ReadPred) → Gives (λ pred. pred) r (pred_read names text)
+pub given_kept : (names : List (List ℕ)) (text : List ℕ) (tree : PredTree) (r : Result PredModel ReadPred) → GivesParsed (λ pred. pred) r (pred_read names text)
     → pred_read names text ≡ Ok (record { variables = length names; tree = tree }) → IsReadTo tree r
 given_kept names text tree (Ok pred) h e =
     let same : pred ≡ record { variables = length names; tree = tree } = cc in ap (λ (p : PredModel). p.tree) same

@@ -7,7 +7,7 @@ use Rattle.std.proofs.Math.Seq.{take-append_seam, drop-append_seam}
 use Rattle.std.proofs.lemmas.Bool.Decides.{nat_tests}
 use Rattle.pop_io.specs.Names.{is_name_start, is_name_byte, variable_name}
 use Rattle.pres_tokens.specs.Symbols.{Symbol, Name, Number, Minus, Star, Compare, Not, Open, Close, Mod, Placed}
-use Rattle.pres_tokens.specs.Tokens.{blank, digit, first_sign, first_symbol, tokens_from, word_symbol, sign_or}
+use Rattle.pres_tokens.specs.Tokens.{is_blank_byte, digit, first_sign, first_symbol, tokens_from, word_symbol, sign_or}
 use Rattle.pres_tokens.specs.declared.token.Relation.TheVariants.{Unequal}
 use Rattle.pres_read.specs.Texts.{symbols_of}
 
@@ -16,7 +16,7 @@ abbrev pub lex : ℕ → List ℕ → List Symbol
 lex skip [] = []
 lex (suc k) (b ∷ bytes) = lex k bytes
 lex zero (b ∷ bytes) =
-    if blank b then lex 0 bytes else ((first_symbol (b ∷ bytes)).0 ∷ lex ((first_symbol (b ∷ bytes)).1 - 1) bytes)
+    if is_blank_byte b then lex 0 bytes else ((first_symbol (b ∷ bytes)).0 ∷ lex ((first_symbol (b ∷ bytes)).1 - 1) bytes)
 
 if_symbols : (b : Bool) (t : Placed) (us vs : List Placed) (ss xs : List Symbol) → symbols_of us ≡ ss → t.symbol ∷ symbols_of vs ≡ xs
     → symbols_of (if b then us else (t ∷ vs)) ≡ (if b then ss else xs)
@@ -28,7 +28,7 @@ symbols-tokens_from zero place [] = refl
 symbols-tokens_from (suc k) place [] = refl
 symbols-tokens_from (suc k) place (b ∷ bytes) = symbols-tokens_from k (place + 1) bytes
 symbols-tokens_from zero place (b ∷ bytes) =
-    if_symbols (blank b) (record { place = place; symbol = (first_symbol (b ∷ bytes)).0 }) (tokens_from 0 (place + 1) bytes)
+    if_symbols (is_blank_byte b) (record { place = place; symbol = (first_symbol (b ∷ bytes)).0 }) (tokens_from 0 (place + 1) bytes)
     (tokens_from ((first_symbol (b ∷ bytes)).1 - 1) (place + 1) bytes) (lex 0 bytes) ((first_symbol (b ∷ bytes)).0 ∷ lex ((first_symbol (b ∷ bytes)).1 - 1) bytes)
     (symbols-tokens_from 0 (place + 1) bytes)
     (ap (λ ss. (first_symbol (b ∷ bytes)).0 ∷ ss) (symbols-tokens_from ((first_symbol (b ∷ bytes)).1 - 1) (place + 1) bytes))
@@ -64,9 +64,9 @@ if_false true x y e = cc
 if_false false x y e = refl
 
 -- the symbol at the prefix, with its length
-lex_first : (b : ℕ) (bytes : List ℕ) (s : Symbol) (m : ℕ) → blank b ≡ false → first_symbol (b ∷ bytes) ≡ (s, suc m) → lex 0 (b ∷ bytes) ≡ s ∷ lex 0 (drop m bytes)
+lex_first : (b : ℕ) (bytes : List ℕ) (s : Symbol) (m : ℕ) → is_blank_byte b ≡ false → first_symbol (b ∷ bytes) ≡ (s, suc m) → lex 0 (b ∷ bytes) ≡ s ∷ lex 0 (drop m bytes)
 lex_first b bytes s m solid e =
-    if_false (blank b) (lex 0 bytes) ((first_symbol (b ∷ bytes)).0 ∷ lex ((first_symbol (b ∷ bytes)).1 - 1) bytes) solid
+    if_false (is_blank_byte b) (lex 0 bytes) ((first_symbol (b ∷ bytes)).0 ∷ lex ((first_symbol (b ∷ bytes)).1 - 1) bytes) solid
     ∙ ap (λ (f : Symbol × ℕ). f.0 ∷ lex (f.1 - 1) bytes) e
     ∙ ap (λ k. s ∷ lex k bytes) (let same : suc m - 1 ≡ m = omega arith in same)
     ∙ ap (λ ss. s ∷ ss) (lex-skip m bytes)
@@ -75,7 +75,7 @@ none_stops : (p : ℕ → Bool) (rest : List ℕ) → ((b : ℕ) → is_name_byt
 none_stops p [] h e = refl
 none_stops p (b ∷ rest) h e = rw (h b e) refl
 
-start_solid : (b : ℕ) → is_name_start b ≡ true → blank b ≡ false
+start_solid : (b : ℕ) → is_name_start b ≡ true → is_blank_byte b ≡ false
 start_solid b h = grind (arith, nat_tests)
 
 -- where no word begins
@@ -93,7 +93,7 @@ first_word b bs rest start all stops =
 digit_no_start : (b : ℕ) → digit b ≡ true → is_name_start b ≡ false
 digit_no_start b h = grind (arith, nat_tests)
 
-digit_solid : (b : ℕ) → digit b ≡ true → blank b ≡ false
+digit_solid : (b : ℕ) → digit b ≡ true → is_blank_byte b ≡ false
 digit_solid b h = grind (arith, nat_tests)
 
 no_digit : (b : ℕ) → is_name_byte b ≡ false → digit b ≡ false

@@ -12,8 +12,8 @@ use Rattle.pres_ast.specs.declared.limits.TheConstants.{COEFFICIENT_LIMIT, BOUND
 use Rattle.pres_tokens.specs.declared.token.Relation.{Relation}
 use Rattle.pres_tokens.specs.declared.token.Relation.TheVariants.{Less, AtMost, Greater, AtLeast, Equal, Unequal}
 use Rattle.pres_read.specs.TextFault.{TextFault, TooLarge}
-use Rattle.pres_read.specs.Numbers.{value_within, value_of}
-use Rattle.pres_read.specs.Atoms.{signed, turned, negation_if, equality_tree, compared, remainder, congruent, limit_of, Factor, with_coef, with_number, with_term, added}
+use Rattle.pres_read.specs.Numbers.{value_within, value_of_digits}
+use Rattle.pres_read.specs.Atoms.{signed_number, turned, negation_if, equality_tree, compared_tree, remainder, congruent_tree, limit_of, Factor, with_coef_at, with_number, with_term, added}
 use Rattle.pres_read.specs.Reading.{negation, conjunction, disjunction, zero_coefs}
 use Rattle.pres_read.specs.Sound.{option_weight, HasOption, IsConstant}
 
@@ -41,7 +41,7 @@ pub HasAtoms-disjoined : (n : ℕ) (o : Option PredTree) (p : PredTree) → HasO
 HasAtoms-disjoined n None p g h = h
 HasAtoms-disjoined n (Some q) p g h = (g, h)
 
-pub abs-signed : (b : Bool) (n : ℕ) → nat_abs (signed b n) ≡ n
+pub abs-signed : (b : Bool) (n : ℕ) → nat_abs (signed_number b n) ≡ n
 abs-signed false n = refl
 abs-signed true zero = refl
 abs-signed true (suc n) = refl
@@ -88,7 +88,7 @@ within_limit limit v = by_test (ltb limit v) refl
     by_test true e = tt
     by_test false e = ltb-false limit v e
 
-with_coef_fits : (n : ℕ) (coefs : List ℤ) (i : ℕ) (z : ℤ) (place : ℕ) → AreCoefs n coefs → IfOk (with_coef coefs i z place) (AreCoefs n)
+with_coef_fits : (n : ℕ) (coefs : List ℤ) (i : ℕ) (z : ℤ) (place : ℕ) → AreCoefs n coefs → IfOk (with_coef_at coefs i z place) (AreCoefs n)
 with_coef_fits n coefs i z place h = by_test (ltb COEFFICIENT_LIMIT (nat_abs z)) refl
   where
     by_test : (b : Bool) → ltb COEFFICIENT_LIMIT (nat_abs z) ≡ b → IfOk {E = TextFault} (if b then Err (TooLarge place) else Ok (slice_set coefs i z)) (AreCoefs n)
@@ -98,22 +98,22 @@ with_coef_fits n coefs i z place h = by_test (ltb COEFFICIENT_LIMIT (nat_abs z))
 with_number_fits : (n : ℕ) (coefs : List ℤ) (i : ℕ) (factor : Factor) (o : Option ℕ) → AreCoefs n coefs → IfOk (with_number coefs i factor o) (AreCoefs n)
 with_number_fits n coefs i factor None h = tt
 with_number_fits n coefs i factor (Some v) h =
-    with_coef_fits n coefs i (get_or coefs i (pos 0) +ℤ signed factor.negative v) factor.place h
+    with_coef_fits n coefs i (get_or coefs i (pos 0) +ℤ signed_number factor.negative v) factor.place h
 
 with_term_fits : (n : ℕ) (coefs : List ℤ) (o : Option ℕ) (factor : Factor) (place : ℕ) → AreCoefs n coefs → IfOk (with_term coefs o factor place) (AreCoefs n)
 with_term_fits n coefs None factor place h = tt
-with_term_fits n coefs (Some i) factor place h = with_number_fits n coefs i factor (value_within COEFFICIENT_LIMIT (value_of factor.digits)) h
+with_term_fits n coefs (Some i) factor place h = with_number_fits n coefs i factor (value_within COEFFICIENT_LIMIT (value_of_digits factor.digits)) h
 
 pub added_fits : (n : ℕ) (names : List (List ℕ)) (coefs : List ℤ) (factor : Factor) (place : ℕ) (word : List ℕ)
     → AreCoefs n coefs → IfOk (added names coefs factor place word) (AreCoefs n)
 added_fits n names coefs factor place word h =
     with_term_fits n coefs (position (bytes_eq word) names) factor place h
 
-pub HasAtoms-congruent : (n : ℕ) (coefs : List ℤ) (b : Bool) (c : ℤ) (m : ℕ) → AreCoefs n coefs → 2 ≤ m → m ≤ MODULUS_LIMIT → HasAtoms n (congruent coefs b c m)
+pub HasAtoms-congruent : (n : ℕ) (coefs : List ℤ) (b : Bool) (c : ℤ) (m : ℕ) → AreCoefs n coefs → 2 ≤ m → m ≤ MODULUS_LIMIT → HasAtoms n (congruent_tree coefs b c m)
 HasAtoms-congruent n coefs b c m h least most =
     HasAtoms-negated_if n b (Congruent coefs m (remainder c m)) (h, least, most, remainder_below c m (omega arith))
 
-pub HasAtoms-compared : (n : ℕ) (coefs : List ℤ) (r : Relation) (c : ℤ) → AreCoefs n coefs → nat_abs c ≤ limit_of r → HasAtoms n (compared coefs r c)
+pub HasAtoms-compared : (n : ℕ) (coefs : List ℤ) (r : Relation) (c : ℤ) → AreCoefs n coefs → nat_abs c ≤ limit_of r → HasAtoms n (compared_tree coefs r c)
 HasAtoms-compared n coefs Less c h g = (h, g)
 HasAtoms-compared n coefs AtMost c h g = (h, abs_up c g)
 HasAtoms-compared n coefs Greater c h g = (AreCoefs-turned n coefs h, (let same = abs-neg c in omega (arith, same, g)))

@@ -12,10 +12,10 @@ use Rattle.pres_tokens.specs.Tokens.{tokens_of}
 use Rattle.pres_read.specs.declared.fault.ReadPred.{ReadPred}
 use Rattle.pres_read.specs.declared.fault.ReadPred.TheVariants as reading
 use Rattle.pres_read.specs.TextFault.{TextFault, Syntax, UnknownName, TooLarge, TooDeep, LongText}
-use Rattle.pres_read.specs.Outcome.{◌>>=◌, Gives}
+use Rattle.pres_read.specs.Outcome.{◌>>=◌, GivesParsed}
 use Rattle.pres_read.specs.Progress.{Progress, start}
 use Rattle.pres_read.specs.Depth.{Depth, surface, deeper, sunk}
-use Rattle.pres_read.specs.Reading.{step, finish, with_progress, run, over, pred_read}
+use Rattle.pres_read.specs.Reading.{step, finish, with_progress, run, over_names, pred_read}
 use Rattle.pres_read.specs.Grammar.{APred, Phrase, symbols, meaning, Derives}
 use Rattle.pres_read.specs.Texts.{symbols_of, text_symbols, IsStuck, place_of, IsReadAs}
 use Rattle.pres_read.proofs.Traces.{Trace, begun, trace_step, trace_run, trace_goes_by, trace_end, trace_then, trace_read, trace_read-run}
@@ -168,7 +168,7 @@ pub record Laws (names : List (List ℕ)) (text : List ℕ) (r : Result PredMode
   pub derived : IfOk r (λ pred. Derives names (text_symbols text) pred.tree)
   pub only : (tree : PredTree) → Derives names (text_symbols text) tree → MayGive tree r
 
-run_laws : (names : List (List ℕ)) (text : List ℕ) (r : Result PredTree TextFault) → Comes names begun (tokens_of text) (length text) r → Laws names text (over (length names) r)
+run_laws : (names : List (List ℕ)) (text : List ℕ) (r : Result PredTree TextFault) → Comes names begun (tokens_of text) (length text) r → Laws names text (over_names (length names) r)
 run_laws names text (Ok tree) h = record {
   derived = derived_law names (tokens_of text) tree h;
   only = λ other d. only_law names (tokens_of text) tree other h d;
@@ -185,7 +185,7 @@ run_laws names text (Err (LongText n)) h = absurd h
 read_laws : (names : List (List ℕ)) (text : List ℕ) → Laws names text (pred_read names text)
 read_laws names text = by_length (ltb TEXT_LIMIT (length text))
   where
-    by_length : (b : Bool) → Laws names text (over (length names) (if b then Err (LongText (length text)) else run names (length text) start surface (tokens_of text)))
+    by_length : (b : Bool) → Laws names text (over_names (length names) (if b then Err (LongText (length text)) else run names (length text) start surface (tokens_of text)))
     by_length true = record { derived = tt; only = λ tree d. tt }
     by_length false =
         run_laws names text (run names (length text) start surface (tokens_of text))
@@ -196,7 +196,7 @@ pub record GivenLaws (names : List (List ℕ)) (text : List ℕ) (r : Result Pre
   pub derived : IfOk r (λ pred. Derives names (text_symbols text) pred.tree)
   pub only : (tree : PredTree) → Derives names (text_symbols text) tree → IsReadAs tree r
 
-pub given_laws : (names : List (List ℕ)) (text : List ℕ) (r : Result PredModel ReadPred) → Gives (λ pred. pred) r (pred_read names text) → GivenLaws names text r
+pub given_laws : (names : List (List ℕ)) (text : List ℕ) (r : Result PredModel ReadPred) → GivesParsed (λ pred. pred) r (pred_read names text) → GivenLaws names text r
 given_laws names text (Ok pred) h = let laws = subst (Laws names text) h (read_laws names text) in record { derived = laws.derived; only = laws.only }
 given_laws names text (Err (reading.Syntax at)) h = record { derived = tt; only = (subst (Laws names text) h (read_laws names text)).only }
 given_laws names text (Err (reading.UnknownName at)) h = record { derived = tt; only = λ tree d. tt }

@@ -17,8 +17,8 @@ use Rattle.pres_ast.specs.PredTree.{PredTree, LessThan, Congruent, Negation, Con
 use Rattle.pres_ast.specs.PredModel.{HasAtoms}
 use Rattle.pres_tokens.specs.declared.token.Relation.TheVariants.{Less, Equal}
 use Rattle.pres_tokens.specs.Symbols.{Number, Minus, Compare, And, Or, Not, Open, Close, Mod}
-use Rattle.pres_read.specs.Numbers.{value_of}
-use Rattle.pres_read.specs.Atoms.{signed}
+use Rattle.pres_read.specs.Numbers.{value_of_digits}
+use Rattle.pres_read.specs.Atoms.{signed_number}
 use Rattle.pres_read.specs.Reading.{zero_coefs}
 use Rattle.pres_read.specs.Grammar.{Term, Sum, conj, unit, sum_symbols, constant_symbols, symbols, term_name, term_number, raised, with_a_term, coefs_of, meaning, Derives}
 use Rattle.pres_read.specs.Texts.{text_symbols}
@@ -118,7 +118,7 @@ pub name-term_by : (b : Bool) (k : ℕ) (name : List ℕ) → term_name (term_by
 name-term_by true k name = refl
 name-term_by false k name = refl
 
-pub signed-abs : (z : ℤ) → signed (is_negative z) (nat_abs z) ≡ z
+pub signed-abs : (z : ℤ) → signed_number (is_negative z) (nat_abs z) ≡ z
 signed-abs (pos n) = refl
 signed-abs (negsuc n) = refl
 
@@ -183,8 +183,8 @@ pub step_filled : (all before names : List (List ℕ)) (name : List ℕ) (o : Op
 step_filled all before names name o prefix a apart e same small h =
     coefs-extended all o (is_negative a) (canonical_term (nat_abs a) name)
     ∙ ap (λ coefs. with_a_term all coefs (is_negative a) (canonical_term (nat_abs a) name)) h
-    ∙ ap (λ word. raised (prefix ++ pos 0 ∷ replicate (length names) (pos 0)) (position (bytes_eq word) all) (signed (is_negative a) (term_number (canonical_term (nat_abs a) name)))) (name-term_by (nat_abs a == 1) (nat_abs a) name)
-    ∙ ap (λ k. raised (prefix ++ pos 0 ∷ replicate (length names) (pos 0)) (position (bytes_eq name) all) (signed (is_negative a) k)) (number-canonical (nat_abs a) name small)
+    ∙ ap (λ word. raised (prefix ++ pos 0 ∷ replicate (length names) (pos 0)) (position (bytes_eq word) all) (signed_number (is_negative a) (term_number (canonical_term (nat_abs a) name)))) (name-term_by (nat_abs a == 1) (nat_abs a) name)
+    ∙ ap (λ k. raised (prefix ++ pos 0 ∷ replicate (length names) (pos 0)) (position (bytes_eq name) all) (signed_number (is_negative a) k)) (number-canonical (nat_abs a) name small)
     ∙ ap (λ z. raised (prefix ++ pos 0 ∷ replicate (length names) (pos 0)) (position (bytes_eq name) all) z) (signed-abs a)
     ∙ ap (λ i. raised (prefix ++ pos 0 ∷ replicate (length names) (pos 0)) i a) (place_found all before names name apart e)
     ∙ raised_at prefix (replicate (length names) (pos 0)) (length before) a same
@@ -229,18 +229,18 @@ pub meaning-canonical : (names : List (List ℕ)) (t : PredTree) → AllPairs �
 meaning-canonical names (LessThan coefs bound) apart h =
     let fits = h.1 in
     let coefs_are = coefs-canonical names coefs apart (sym h.0.0) (Small-AreCoefs coefs h.0.1) in
-    let value : value_of (decimal (nat_abs bound)) ≡ nat_abs bound = (decimal_writes (nat_abs bound) (omega (arith, fits))).value in
-    ap (λ cs. LessThan cs (signed (is_negative bound) (value_of (decimal (nat_abs bound))))) coefs_are
-    ∙ ap (λ v. LessThan coefs (signed (is_negative bound) v)) value
+    let value : value_of_digits (decimal (nat_abs bound)) ≡ nat_abs bound = (decimal_writes (nat_abs bound) (omega (arith, fits))).value in
+    ap (λ cs. LessThan cs (signed_number (is_negative bound) (value_of_digits (decimal (nat_abs bound))))) coefs_are
+    ∙ ap (λ v. LessThan coefs (signed_number (is_negative bound) v)) value
     ∙ ap (LessThan coefs) (signed-abs bound)
 meaning-canonical names (Congruent coefs modulus residue) apart h =
     let most = h.2 in
     let below = h.3 in
     let coefs_are = coefs-canonical names coefs apart (sym h.0.0) (Small-AreCoefs coefs h.0.1) in
-    let r : value_of (decimal residue) ≡ residue = (decimal_writes residue (omega (arith, most, below))).value in
-    let m : value_of (decimal modulus) ≡ modulus = (decimal_writes modulus (omega (arith, most))).value in
-    ap (λ cs. Congruent cs (value_of (decimal modulus)) (value_of (decimal residue) % value_of (decimal modulus))) coefs_are
-    ∙ ap (λ v. Congruent coefs v (value_of (decimal residue) % v)) m
+    let r : value_of_digits (decimal residue) ≡ residue = (decimal_writes residue (omega (arith, most, below))).value in
+    let m : value_of_digits (decimal modulus) ≡ modulus = (decimal_writes modulus (omega (arith, most))).value in
+    ap (λ cs. Congruent cs (value_of_digits (decimal modulus)) (value_of_digits (decimal residue) % value_of_digits (decimal modulus))) coefs_are
+    ∙ ap (λ v. Congruent coefs v (value_of_digits (decimal residue) % v)) m
     ∙ ap (λ v. Congruent coefs modulus (v % modulus)) r
     ∙ ap (Congruent coefs modulus) (mod-eq_of_lt below)
 meaning-canonical names (Negation p) apart h = ap Negation (meaning-canonical names p apart h)

@@ -9,8 +9,8 @@ use Rattle.pres_tokens.specs.declared.token.Relation.{Relation}
 use Rattle.pres_tokens.specs.declared.token.Relation.TheVariants.{Less, AtMost, Greater, AtLeast, Equal, Unequal}
 use Rattle.pres_tokens.specs.Symbols.{Symbol, Name, Number, Plus, Minus, Star, Compare, And, Or, Not, Open, Close, Mod, Placed}
 use Rattle.pres_read.specs.TextFault.{TextFault, Syntax, UnknownName, TooLarge, TooDeep, LongText}
-use Rattle.pres_read.specs.Numbers.{value_of, value_within}
-use Rattle.pres_read.specs.Atoms.{signed, negation_if, equality_tree, congruent, limit_of, Factor, lone, with_coef, with_number, with_term, added}
+use Rattle.pres_read.specs.Numbers.{value_of_digits, value_within}
+use Rattle.pres_read.specs.Atoms.{signed_number, negation_if, equality_tree, congruent_tree, limit_of, Factor, lone, with_coef_at, with_number, with_term, added}
 use Rattle.pres_read.specs.Progress.{Span, Around, Next, AUnit, ATerm, AStar, AName, ARelation, AConstant, ANumber, AModulo, AModulus, ASign, Progress}
 use Rattle.pres_read.specs.Reading.{progress_after_unit, after_sum, term_step, unit_step, star_step, name_step, relation_step, progress_after_constant, given_constant, number_step, constant_step, given_modulus, modulus_step, close_step, sign_step, tree_up_to_unit, disjunction, modulo_step, by_next, step, zero_coefs}
 use Rattle.pres_read.specs.Grammar.{coefs_of, meaning}
@@ -28,25 +28,25 @@ Says rule known place first (Err (TooDeep at)) = ⊥
 Says rule known place first (Err e) = Unit {0}
 
 abbrev CoefRule : List ℤ → Option ℕ → Factor → Type 0
-CoefRule coefs o factor = (value_of factor.digits ≤ COEFFICIENT_LIMIT) × CoefFits coefs o (signed factor.negative (value_of factor.digits))
+CoefRule coefs o factor = (value_of_digits factor.digits ≤ COEFFICIENT_LIMIT) × CoefFits coefs o (signed_number factor.negative (value_of_digits factor.digits))
 
-coef_says : (coefs : List ℤ) (i : ℕ) (factor : Factor) (place : ℕ) → value_of factor.digits ≤ COEFFICIENT_LIMIT
-    → Says (CoefRule coefs (Some i) factor) (IsSome (Some i)) place factor.place (with_coef coefs i (get_or coefs i (pos 0) +ℤ signed factor.negative (value_of factor.digits)) factor.place)
-coef_says coefs i factor place small = by_test (ltb COEFFICIENT_LIMIT (nat_abs (get_or coefs i (pos 0) +ℤ signed factor.negative (value_of factor.digits)))) refl
+coef_says : (coefs : List ℤ) (i : ℕ) (factor : Factor) (place : ℕ) → value_of_digits factor.digits ≤ COEFFICIENT_LIMIT
+    → Says (CoefRule coefs (Some i) factor) (IsSome (Some i)) place factor.place (with_coef_at coefs i (get_or coefs i (pos 0) +ℤ signed_number factor.negative (value_of_digits factor.digits)) factor.place)
+coef_says coefs i factor place small = by_test (ltb COEFFICIENT_LIMIT (nat_abs (get_or coefs i (pos 0) +ℤ signed_number factor.negative (value_of_digits factor.digits)))) refl
   where
-    by_test : (b : Bool) → ltb COEFFICIENT_LIMIT (nat_abs (get_or coefs i (pos 0) +ℤ signed factor.negative (value_of factor.digits))) ≡ b
-        → Says (CoefRule coefs (Some i) factor) (IsSome (Some i)) place factor.place (if b then Err (TooLarge factor.place) else Ok (slice_set coefs i (get_or coefs i (pos 0) +ℤ signed factor.negative (value_of factor.digits))))
-    by_test true e = let past = ltb-true COEFFICIENT_LIMIT (nat_abs (get_or coefs i (pos 0) +ℤ signed factor.negative (value_of factor.digits))) e in (refl, (λ h. let most = h.1 in absurd (omega (arith, past, most))), refl)
-    by_test false e = (small, ltb-false COEFFICIENT_LIMIT (nat_abs (get_or coefs i (pos 0) +ℤ signed factor.negative (value_of factor.digits))) e)
+    by_test : (b : Bool) → ltb COEFFICIENT_LIMIT (nat_abs (get_or coefs i (pos 0) +ℤ signed_number factor.negative (value_of_digits factor.digits))) ≡ b
+        → Says (CoefRule coefs (Some i) factor) (IsSome (Some i)) place factor.place (if b then Err (TooLarge factor.place) else Ok (slice_set coefs i (get_or coefs i (pos 0) +ℤ signed_number factor.negative (value_of_digits factor.digits))))
+    by_test true e = let past = ltb-true COEFFICIENT_LIMIT (nat_abs (get_or coefs i (pos 0) +ℤ signed_number factor.negative (value_of_digits factor.digits))) e in (refl, (λ h. let most = h.1 in absurd (omega (arith, past, most))), refl)
+    by_test false e = (small, ltb-false COEFFICIENT_LIMIT (nat_abs (get_or coefs i (pos 0) +ℤ signed_number factor.negative (value_of_digits factor.digits))) e)
 
 term_says : (coefs : List ℤ) (o : Option ℕ) (factor : Factor) (place : ℕ) → Says (CoefRule coefs o factor) (IsSome o) place factor.place (with_term coefs o factor place)
 term_says coefs None factor place = (λ h. cc, refl)
-term_says coefs (Some i) factor place = by_test (ltb COEFFICIENT_LIMIT (value_of factor.digits)) refl
+term_says coefs (Some i) factor place = by_test (ltb COEFFICIENT_LIMIT (value_of_digits factor.digits)) refl
   where
-    by_test : (b : Bool) → ltb COEFFICIENT_LIMIT (value_of factor.digits) ≡ b
-        → Says (CoefRule coefs (Some i) factor) (IsSome (Some i)) place factor.place (with_number coefs i factor (if b then None else Some (value_of factor.digits)))
-    by_test true e = let past = ltb-true COEFFICIENT_LIMIT (value_of factor.digits) e in (refl, (λ h. let most = h.0 in absurd (omega (arith, past, most))), refl)
-    by_test false e = coef_says coefs i factor place (ltb-false COEFFICIENT_LIMIT (value_of factor.digits) e)
+    by_test : (b : Bool) → ltb COEFFICIENT_LIMIT (value_of_digits factor.digits) ≡ b
+        → Says (CoefRule coefs (Some i) factor) (IsSome (Some i)) place factor.place (with_number coefs i factor (if b then None else Some (value_of_digits factor.digits)))
+    by_test true e = let past = ltb-true COEFFICIENT_LIMIT (value_of_digits factor.digits) e in (refl, (λ h. let most = h.0 in absurd (omega (arith, past, most))), refl)
+    by_test false e = coef_says coefs i factor place (ltb-false COEFFICIENT_LIMIT (value_of_digits factor.digits) e)
 
 sum_says : (a : Around) (rule known : Type 0) (place first : ℕ) (r : Result (List ℤ) TextFault) → Says rule known place first r → Says rule known place first (after_sum a r)
 sum_says a rule known place first (Ok coefs) h = h
@@ -103,12 +103,12 @@ relation_plain a coefs place s = tt
 
 number_says : (names : List (List ℕ)) (a : Around) (coefs : List ℤ) (r : Relation) (negative : Bool) (place : ℕ) (s : Symbol)
     → Says (RuleConstant r s) (IsKnown names s) place place (number_step a coefs r negative place s)
-number_says names a coefs r negative place (Number digits) = by_test (ltb (limit_of r) (value_of digits)) refl
+number_says names a coefs r negative place (Number digits) = by_test (ltb (limit_of r) (value_of_digits digits)) refl
   where
-    by_test : (b : Bool) → ltb (limit_of r) (value_of digits) ≡ b
-        → Says (RuleConstant r (Number digits)) (IsKnown names (Number digits)) place place (given_constant a coefs r negative place (if b then None else Some (value_of digits)))
-    by_test true e = let past = ltb-true (limit_of r) (value_of digits) e in (tt, (λ most. absurd (omega (arith, past, most))), refl)
-    by_test false e = ltb-false (limit_of r) (value_of digits) e
+    by_test : (b : Bool) → ltb (limit_of r) (value_of_digits digits) ≡ b
+        → Says (RuleConstant r (Number digits)) (IsKnown names (Number digits)) place place (given_constant a coefs r negative place (if b then None else Some (value_of_digits digits)))
+    by_test true e = let past = ltb-true (limit_of r) (value_of_digits digits) e in (tt, (λ most. absurd (omega (arith, past, most))), refl)
+    by_test false e = ltb-false (limit_of r) (value_of_digits digits) e
 number_says names a coefs r negative place s = tt
 
 constant_says : (names : List (List ℕ)) (a : Around) (coefs : List ℤ) (r : Relation) (place : ℕ) (s : Symbol) → Says (RuleConstant r s) (IsKnown names s) place place (constant_step a coefs r place s)
@@ -130,13 +130,13 @@ modulo_plain a coefs unequal c place Mod = tt
 modulo_plain a coefs unequal c place s = sign_plain a.above a.span.ors (tree_up_to_unit a.span (negation_if unequal (equality_tree coefs c))) place s
 
 modulus_says : (names : List (List ℕ)) (a : Around) (coefs : List ℤ) (unequal : Bool) (c : ℤ) (place : ℕ) (s : Symbol) → Says (RuleModulus s) (IsKnown names s) place place (modulus_step a coefs unequal c place s)
-modulus_says names a coefs unequal c place (Number digits) = by_test (ltb MODULUS_LIMIT (value_of digits)) refl (ltb (value_of digits) 2) refl
+modulus_says names a coefs unequal c place (Number digits) = by_test (ltb MODULUS_LIMIT (value_of_digits digits)) refl (ltb (value_of_digits digits) 2) refl
   where
-    by_test : (b : Bool) → ltb MODULUS_LIMIT (value_of digits) ≡ b → (small : Bool) → ltb (value_of digits) 2 ≡ small
-        → Says (RuleModulus (Number digits)) (IsKnown names (Number digits)) place place (given_modulus a coefs unequal c place (if b then None else Some (value_of digits)))
-    by_test true e small f = let past = ltb-true MODULUS_LIMIT (value_of digits) e in (tt, (λ h. let most = h.1 in absurd (omega (arith, past, most))), refl)
-    by_test false e true f = let less = ltb-true (value_of digits) 2 f in rw f (tt, (λ h. let least = h.0 in absurd (omega (arith, less, least))), refl)
-    by_test false e false f = rw f (ltb-false (value_of digits) 2 f, ltb-false MODULUS_LIMIT (value_of digits) e)
+    by_test : (b : Bool) → ltb MODULUS_LIMIT (value_of_digits digits) ≡ b → (small : Bool) → ltb (value_of_digits digits) 2 ≡ small
+        → Says (RuleModulus (Number digits)) (IsKnown names (Number digits)) place place (given_modulus a coefs unequal c place (if b then None else Some (value_of_digits digits)))
+    by_test true e small f = let past = ltb-true MODULUS_LIMIT (value_of_digits digits) e in (tt, (λ h. let most = h.1 in absurd (omega (arith, past, most))), refl)
+    by_test false e true f = let less = ltb-true (value_of_digits digits) 2 f in rw f (tt, (λ h. let least = h.0 in absurd (omega (arith, less, least))), refl)
+    by_test false e false f = rw f (ltb-false (value_of_digits digits) 2 f, ltb-false MODULUS_LIMIT (value_of_digits digits) e)
 modulus_says names a coefs unequal c place s = tt
 
 -- where the term begins whose name comes next
@@ -159,9 +159,9 @@ shown_says names (Inside above side (IRelation sum)) first t =
 shown_says names (Inside above side (IConstant sum r)) first t = constant_says names (around_side names above side) (coefs_of names sum) r t.place t.symbol
 shown_says names (Inside above side (INumber sum r)) first t = number_says names (around_side names above side) (coefs_of names sum) r true t.place t.symbol
 shown_says names (Inside above side (IModulo sum unequal negative digits)) first t =
-    plain_says (IsKnown names t.symbol) t.place t.place (modulo_step (around_side names above side) (coefs_of names sum) unequal (signed negative (value_of digits)) t.place t.symbol)
-    (modulo_plain (around_side names above side) (coefs_of names sum) unequal (signed negative (value_of digits)) t.place t.symbol)
-shown_says names (Inside above side (IModulus sum unequal negative digits)) first t = modulus_says names (around_side names above side) (coefs_of names sum) unequal (signed negative (value_of digits)) t.place t.symbol
+    plain_says (IsKnown names t.symbol) t.place t.place (modulo_step (around_side names above side) (coefs_of names sum) unequal (signed_number negative (value_of_digits digits)) t.place t.symbol)
+    (modulo_plain (around_side names above side) (coefs_of names sum) unequal (signed_number negative (value_of_digits digits)) t.place t.symbol)
+shown_says names (Inside above side (IModulus sum unequal negative digits)) first t = modulus_says names (around_side names above side) (coefs_of names sum) unequal (signed_number negative (value_of_digits digits)) t.place t.symbol
 shown_says names (Done above ors c) first t =
     plain_says (IsKnown names t.symbol) t.place t.place (sign_step (side_spans names above) (option_map (meaning names) ors) (meaning names c) t.place t.symbol)
     (sign_plain (side_spans names above) (option_map (meaning names) ors) (meaning names c) t.place t.symbol)
@@ -223,10 +223,10 @@ compared_begun a coefs Unequal c before = tt
 
 constant_given : (a : Around) (coefs : List ℤ) (r : Relation) (negative : Bool) (place : ℕ) (o : Option ℕ) (before : List Placed) → BegunAfter (given_constant a coefs r negative place o) before
 constant_given a coefs r negative place None before = tt
-constant_given a coefs r negative place (Some n) before = compared_begun a coefs r (signed negative n) before
+constant_given a coefs r negative place (Some n) before = compared_begun a coefs r (signed_number negative n) before
 
 number_begun : (a : Around) (coefs : List ℤ) (r : Relation) (negative : Bool) (place : ℕ) (s : Symbol) (before : List Placed) → BegunAfter (number_step a coefs r negative place s) before
-number_begun a coefs r negative place (Number digits) before = constant_given a coefs r negative place (value_within (limit_of r) (value_of digits)) before
+number_begun a coefs r negative place (Number digits) before = constant_given a coefs r negative place (value_within (limit_of r) (value_of_digits digits)) before
 number_begun a coefs r negative place s before = tt
 
 constant_begun : (a : Around) (coefs : List ℤ) (r : Relation) (place : ℕ) (s : Symbol) (before : List Placed) → BegunAfter (constant_step a coefs r place s) before
@@ -251,12 +251,12 @@ modulus_given : (a : Around) (coefs : List ℤ) (unequal : Bool) (c : ℤ) (plac
 modulus_given a coefs unequal c place None before = tt
 modulus_given a coefs unequal c place (Some m) before = by_test (ltb m 2)
   where
-    by_test : (b : Bool) → BegunAfter (if b then Err (TooLarge place) else Ok (progress_after_unit a (congruent coefs unequal c m))) before
+    by_test : (b : Bool) → BegunAfter (if b then Err (TooLarge place) else Ok (progress_after_unit a (congruent_tree coefs unequal c m))) before
     by_test true = tt
     by_test false = tt
 
 modulus_begun : (a : Around) (coefs : List ℤ) (unequal : Bool) (c : ℤ) (place : ℕ) (s : Symbol) (before : List Placed) → BegunAfter (modulus_step a coefs unequal c place s) before
-modulus_begun a coefs unequal c place (Number digits) before = modulus_given a coefs unequal c place (value_within MODULUS_LIMIT (value_of digits)) before
+modulus_begun a coefs unequal c place (Number digits) before = modulus_given a coefs unequal c place (value_within MODULUS_LIMIT (value_of_digits digits)) before
 modulus_begun a coefs unequal c place s before = tt
 
 next_begun : (names : List (List ℕ)) (a : Around) (next : Next) (before : List Placed) (t : Placed) → TermBegun next before → BegunAfter (by_next names a next t.place t.symbol) (before ++ t ∷ [])

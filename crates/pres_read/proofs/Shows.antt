@@ -8,8 +8,8 @@ use Rattle.pres_tokens.specs.declared.token.Relation.{Relation}
 use Rattle.pres_tokens.specs.declared.token.Relation.TheVariants.{Less, AtMost, Greater, AtLeast, Equal, Unequal}
 use Rattle.pres_tokens.specs.Symbols.{Symbol, Name, Number, Plus, Minus, Star, Compare, And, Or, Not, Open, Close, Mod, Placed}
 use Rattle.pres_read.specs.TextFault.{TextFault, Syntax, UnknownName, TooLarge, TooDeep, LongText}
-use Rattle.pres_read.specs.Numbers.{value_of, value_within}
-use Rattle.pres_read.specs.Atoms.{signed, negation_if, equality_tree, compared, congruent, limit_of, Factor, with_coef, with_number, with_term, added}
+use Rattle.pres_read.specs.Numbers.{value_of_digits, value_within}
+use Rattle.pres_read.specs.Atoms.{signed_number, negation_if, equality_tree, compared_tree, congruent_tree, limit_of, Factor, with_coef_at, with_number, with_term, added}
 use Rattle.pres_read.specs.Progress.{Span, Around, Next, AUnit, ATerm, AStar, AName, ARelation, AConstant, ANumber, AModulo, AModulus, ASign, Progress, start}
 use Rattle.pres_read.specs.Reading.{negation, conjunction, disjunction, zero_coefs, progress_after_unit, going_on, after_sum, term_step, unit_step, star_step, name_step, relation_step, progress_after_constant, given_constant, number_step, constant_step, given_modulus, modulus_step, close_step, sign_step, tree_up_to_unit, equality_step, modulo_step, by_next, step, end_step, finish_by, finish}
 use Rattle.pres_read.specs.Grammar.{Term, bare, times, Sum, plain, modular, APred, AConj, AUnit, Phrase, group, atom, equal_or_not, raised, coefs_of, meaning}
@@ -45,8 +45,8 @@ inner_next names place (IName lead digits) = AName (lead_coefs names lead) (lead
 inner_next names place (IRelation sum) = ARelation (coefs_of names sum)
 inner_next names place (IConstant sum r) = AConstant (coefs_of names sum) r
 inner_next names place (INumber sum r) = ANumber (coefs_of names sum) r
-inner_next names place (IModulo sum unequal negative digits) = AModulo (coefs_of names sum) unequal (signed negative (value_of digits))
-inner_next names place (IModulus sum unequal negative digits) = AModulus (coefs_of names sum) unequal (signed negative (value_of digits))
+inner_next names place (IModulo sum unequal negative digits) = AModulo (coefs_of names sum) unequal (signed_number negative (value_of_digits digits))
+inner_next names place (IModulus sum unequal negative digits) = AModulus (coefs_of names sum) unequal (signed_number negative (value_of_digits digits))
 
 abbrev pub shown : List (List ℕ) → ℕ → Trace → Progress
 shown names place (Inside above side inner) = record { around = around_side names above side; next = inner_next names place inner }
@@ -103,7 +103,7 @@ abbrev IsAdded : Result (List ℤ) TextFault → List ℤ → Type 0
 IsAdded (Ok s) x = s ≡ x
 IsAdded (Err e) x = FaultAt e (Some x) 0
 
-coef_added : (coefs : List ℤ) (i : ℕ) (z : ℤ) (place : ℕ) → IsAdded (with_coef coefs i z place) (slice_set coefs i z)
+coef_added : (coefs : List ℤ) (i : ℕ) (z : ℤ) (place : ℕ) → IsAdded (with_coef_at coefs i z place) (slice_set coefs i z)
 coef_added coefs i z place = by_test (ltb COEFFICIENT_LIMIT (nat_abs z))
   where
     by_test : (b : Bool) → IsAdded (if b then Err (TooLarge place) else Ok (slice_set coefs i z)) (slice_set coefs i z)
@@ -111,17 +111,17 @@ coef_added coefs i z place = by_test (ltb COEFFICIENT_LIMIT (nat_abs z))
     by_test false = refl
 
 number_added : (coefs : List ℤ) (i : ℕ) (factor : Factor) (limit v : ℕ)
-    → IsAdded (with_number coefs i factor (value_within limit v)) (slice_set coefs i (get_or coefs i (pos 0) +ℤ signed factor.negative v))
+    → IsAdded (with_number coefs i factor (value_within limit v)) (slice_set coefs i (get_or coefs i (pos 0) +ℤ signed_number factor.negative v))
 number_added coefs i factor limit v = by_test (ltb limit v)
   where
-    by_test : (b : Bool) → IsAdded (with_number coefs i factor (if b then None else Some v)) (slice_set coefs i (get_or coefs i (pos 0) +ℤ signed factor.negative v))
+    by_test : (b : Bool) → IsAdded (with_number coefs i factor (if b then None else Some v)) (slice_set coefs i (get_or coefs i (pos 0) +ℤ signed_number factor.negative v))
     by_test true = refl
-    by_test false = coef_added coefs i (get_or coefs i (pos 0) +ℤ signed factor.negative v) factor.place
+    by_test false = coef_added coefs i (get_or coefs i (pos 0) +ℤ signed_number factor.negative v) factor.place
 
 term_added : (coefs : List ℤ) (o : Option ℕ) (factor : Factor) (place : ℕ)
-    → IsAdded (with_term coefs o factor place) (raised coefs o (signed factor.negative (value_of factor.digits)))
+    → IsAdded (with_term coefs o factor place) (raised coefs o (signed_number factor.negative (value_of_digits factor.digits)))
 term_added coefs None factor place = refl
-term_added coefs (Some i) factor place = number_added coefs i factor COEFFICIENT_LIMIT (value_of factor.digits)
+term_added coefs (Some i) factor place = number_added coefs i factor COEFFICIENT_LIMIT (value_of_digits factor.digits)
 
 sum_agrees : (names : List (List ℕ)) (above : List Side) (side : Side) (place : ℕ) (r : Result (List ℤ) TextFault) (x : List ℤ) (sum : Sum)
     → coefs_of names sum ≡ x → IsAdded r x → Agrees names (after_sum (around_side names above side) r) (Some (Inside above side (IRelation sum))) place
@@ -133,20 +133,20 @@ sum_agrees names above side place (Err (TooDeep at)) x sum e h = refl
 sum_agrees names above side place (Err (LongText at)) x sum e h = absurd h
 
 added_agrees : (names : List (List ℕ)) (above : List Side) (side : Side) (place at : ℕ) (lead : Lead) (digits word : List ℕ) (term : Term)
-    → coefs_of names (sum_with lead term) ≡ raised (lead_coefs names lead) (position (bytes_eq word) names) (signed (lead_negative lead) (value_of digits))
+    → coefs_of names (sum_with lead term) ≡ raised (lead_coefs names lead) (position (bytes_eq word) names) (signed_number (lead_negative lead) (value_of_digits digits))
     → Agrees names (after_sum (around_side names above side) (added names (lead_coefs names lead) (lead_factor lead digits at) place word)) (Some (Inside above side (IRelation (sum_with lead term)))) place
 added_agrees names above side place at lead digits word term e =
     sum_agrees names above side place (added names (lead_coefs names lead) (lead_factor lead digits at) place word)
-    (raised (lead_coefs names lead) (position (bytes_eq word) names) (signed (lead_negative lead) (value_of digits))) (sum_with lead term) e
+    (raised (lead_coefs names lead) (position (bytes_eq word) names) (signed_number (lead_negative lead) (value_of_digits digits))) (sum_with lead term) e
     (term_added (lead_coefs names lead) (position (bytes_eq word) names) (lead_factor lead digits at) place)
 
 coefs-bare : (names : List (List ℕ)) (lead : Lead) (word : List ℕ)
-    → coefs_of names (sum_with lead (bare word)) ≡ raised (lead_coefs names lead) (position (bytes_eq word) names) (signed (lead_negative lead) (value_of (codes "1")))
+    → coefs_of names (sum_with lead (bare word)) ≡ raised (lead_coefs names lead) (position (bytes_eq word) names) (signed_number (lead_negative lead) (value_of_digits (codes "1")))
 coefs-bare names (begin negative) word = refl
 coefs-bare names (after sum negative) word = refl
 
 coefs-times : (names : List (List ℕ)) (lead : Lead) (digits word : List ℕ)
-    → coefs_of names (sum_with lead (times digits word)) ≡ raised (lead_coefs names lead) (position (bytes_eq word) names) (signed (lead_negative lead) (value_of digits))
+    → coefs_of names (sum_with lead (times digits word)) ≡ raised (lead_coefs names lead) (position (bytes_eq word) names) (signed_number (lead_negative lead) (value_of_digits digits))
 coefs-times names (begin negative) digits word = refl
 coefs-times names (after sum negative) digits word = refl
 
@@ -183,19 +183,19 @@ relation_agrees names above side sum place (Compare r) = (place, refl)
 relation_agrees names above side sum place s = (refl, refl)
 
 compared_shown : (names : List (List ℕ)) (above : List Side) (side : Side) (sum : Sum) (r : Relation) (negative : Bool) (digits : List ℕ)
-    → IsShown names (progress_after_constant (around_side names above side) (coefs_of names sum) r (signed negative (value_of digits))) (trace_compared above side sum r negative digits)
-compared_shown names above side sum Less negative digits = unit_shown names above side (atom (plain sum Less negative digits)) (compared (coefs_of names sum) Less (signed negative (value_of digits))) refl
-compared_shown names above side sum AtMost negative digits = unit_shown names above side (atom (plain sum AtMost negative digits)) (compared (coefs_of names sum) AtMost (signed negative (value_of digits))) refl
-compared_shown names above side sum Greater negative digits = unit_shown names above side (atom (plain sum Greater negative digits)) (compared (coefs_of names sum) Greater (signed negative (value_of digits))) refl
-compared_shown names above side sum AtLeast negative digits = unit_shown names above side (atom (plain sum AtLeast negative digits)) (compared (coefs_of names sum) AtLeast (signed negative (value_of digits))) refl
+    → IsShown names (progress_after_constant (around_side names above side) (coefs_of names sum) r (signed_number negative (value_of_digits digits))) (trace_compared above side sum r negative digits)
+compared_shown names above side sum Less negative digits = unit_shown names above side (atom (plain sum Less negative digits)) (compared_tree (coefs_of names sum) Less (signed_number negative (value_of_digits digits))) refl
+compared_shown names above side sum AtMost negative digits = unit_shown names above side (atom (plain sum AtMost negative digits)) (compared_tree (coefs_of names sum) AtMost (signed_number negative (value_of_digits digits))) refl
+compared_shown names above side sum Greater negative digits = unit_shown names above side (atom (plain sum Greater negative digits)) (compared_tree (coefs_of names sum) Greater (signed_number negative (value_of_digits digits))) refl
+compared_shown names above side sum AtLeast negative digits = unit_shown names above side (atom (plain sum AtLeast negative digits)) (compared_tree (coefs_of names sum) AtLeast (signed_number negative (value_of_digits digits))) refl
 compared_shown names above side sum Equal negative digits = (0, refl)
 compared_shown names above side sum Unequal negative digits = (0, refl)
 
 constant_within : (names : List (List ℕ)) (above : List Side) (side : Side) (sum : Sum) (r : Relation) (negative : Bool) (digits : List ℕ) (place limit : ℕ)
-    → Agrees names (given_constant (around_side names above side) (coefs_of names sum) r negative place (value_within limit (value_of digits))) (Some (trace_compared above side sum r negative digits)) place
-constant_within names above side sum r negative digits place limit = by_test (ltb limit (value_of digits))
+    → Agrees names (given_constant (around_side names above side) (coefs_of names sum) r negative place (value_within limit (value_of_digits digits))) (Some (trace_compared above side sum r negative digits)) place
+constant_within names above side sum r negative digits place limit = by_test (ltb limit (value_of_digits digits))
   where
-    by_test : (b : Bool) → Agrees names (given_constant (around_side names above side) (coefs_of names sum) r negative place (if b then None else Some (value_of digits))) (Some (trace_compared above side sum r negative digits)) place
+    by_test : (b : Bool) → Agrees names (given_constant (around_side names above side) (coefs_of names sum) r negative place (if b then None else Some (value_of_digits digits))) (Some (trace_compared above side sum r negative digits)) place
     by_test true = refl
     by_test false = compared_shown names above side sum r negative digits
 
@@ -224,41 +224,41 @@ sign_agrees names above ors c place Close =
 sign_agrees names above ors c place s = (refl, refl)
 
 meaning-equality : (names : List (List ℕ)) (sum : Sum) (unequal negative : Bool) (digits : List ℕ)
-    → meaning names (atom (plain sum (equal_or_not unequal) negative digits)) ≡ negation_if unequal (equality_tree (coefs_of names sum) (signed negative (value_of digits)))
+    → meaning names (atom (plain sum (equal_or_not unequal) negative digits)) ≡ negation_if unequal (equality_tree (coefs_of names sum) (signed_number negative (value_of_digits digits)))
 meaning-equality names sum false negative digits = refl
 meaning-equality names sum true negative digits = refl
 
 meaning-equality_conj : (names : List (List ℕ)) (side : Side) (sum : Sum) (unequal negative : Bool) (digits : List ℕ)
-    → meaning names (equality_conj side sum unequal negative digits) ≡ tree_up_to_unit (side_span names side) (negation_if unequal (equality_tree (coefs_of names sum) (signed negative (value_of digits))))
+    → meaning names (equality_conj side sum unequal negative digits) ≡ tree_up_to_unit (side_span names side) (negation_if unequal (equality_tree (coefs_of names sum) (signed_number negative (value_of_digits digits))))
 meaning-equality_conj names side sum unequal negative digits =
     meaning-conj_of names side (atom (plain sum (equal_or_not unequal) negative digits)) ∙ ap (tree_up_to_unit (side_span names side)) (meaning-equality names sum unequal negative digits)
 
 equality_agrees : (names : List (List ℕ)) (above : List Side) (side : Side) (sum : Sum) (unequal negative : Bool) (digits : List ℕ) (place : ℕ) (s : Symbol)
-    → Agrees names (equality_step (around_side names above side) (coefs_of names sum) unequal (signed negative (value_of digits)) place s) (trace_sign above side.ors (equality_conj side sum unequal negative digits) s) place
+    → Agrees names (equality_step (around_side names above side) (coefs_of names sum) unequal (signed_number negative (value_of_digits digits)) place s) (trace_sign above side.ors (equality_conj side sum unequal negative digits) s) place
 equality_agrees names above side sum unequal negative digits place s =
     subst (λ (p : PredTree). Agrees names (sign_step (side_spans names above) (option_map (meaning names) side.ors) p place s) (trace_sign above side.ors (equality_conj side sum unequal negative digits) s) place)
     (meaning-equality_conj names side sum unequal negative digits) (sign_agrees names above side.ors (equality_conj side sum unequal negative digits) place s)
 
 modulo_agrees : (names : List (List ℕ)) (above : List Side) (side : Side) (sum : Sum) (unequal negative : Bool) (digits : List ℕ) (place : ℕ) (s : Symbol)
-    → Agrees names (modulo_step (around_side names above side) (coefs_of names sum) unequal (signed negative (value_of digits)) place s) (trace_modulo above side sum unequal negative digits s) place
+    → Agrees names (modulo_step (around_side names above side) (coefs_of names sum) unequal (signed_number negative (value_of_digits digits)) place s) (trace_modulo above side sum unequal negative digits s) place
 modulo_agrees names above side sum unequal negative digits place Mod = (place, refl)
 modulo_agrees names above side sum unequal negative digits place s = equality_agrees names above side sum unequal negative digits place s
 
 modulus_within : (names : List (List ℕ)) (above : List Side) (side : Side) (sum : Sum) (unequal negative : Bool) (digits modulus : List ℕ) (place : ℕ)
-    → Agrees names (given_modulus (around_side names above side) (coefs_of names sum) unequal (signed negative (value_of digits)) place (value_within MODULUS_LIMIT (value_of modulus)))
+    → Agrees names (given_modulus (around_side names above side) (coefs_of names sum) unequal (signed_number negative (value_of_digits digits)) place (value_within MODULUS_LIMIT (value_of_digits modulus)))
     (Some (unit_done above side (atom (modular sum unequal negative digits modulus)))) place
-modulus_within names above side sum unequal negative digits modulus place = by_test (ltb MODULUS_LIMIT (value_of modulus))
+modulus_within names above side sum unequal negative digits modulus place = by_test (ltb MODULUS_LIMIT (value_of_digits modulus))
   where
-    least : (b : Bool) → Agrees names (if b then Err (TooLarge place) else Ok (progress_after_unit (around_side names above side) (congruent (coefs_of names sum) unequal (signed negative (value_of digits)) (value_of modulus)))) (Some (unit_done above side (atom (modular sum unequal negative digits modulus)))) place
+    least : (b : Bool) → Agrees names (if b then Err (TooLarge place) else Ok (progress_after_unit (around_side names above side) (congruent_tree (coefs_of names sum) unequal (signed_number negative (value_of_digits digits)) (value_of_digits modulus)))) (Some (unit_done above side (atom (modular sum unequal negative digits modulus)))) place
     least true = refl
-    least false = unit_shown names above side (atom (modular sum unequal negative digits modulus)) (congruent (coefs_of names sum) unequal (signed negative (value_of digits)) (value_of modulus)) refl
+    least false = unit_shown names above side (atom (modular sum unequal negative digits modulus)) (congruent_tree (coefs_of names sum) unequal (signed_number negative (value_of_digits digits)) (value_of_digits modulus)) refl
 
-    by_test : (b : Bool) → Agrees names (given_modulus (around_side names above side) (coefs_of names sum) unequal (signed negative (value_of digits)) place (if b then None else Some (value_of modulus))) (Some (unit_done above side (atom (modular sum unequal negative digits modulus)))) place
+    by_test : (b : Bool) → Agrees names (given_modulus (around_side names above side) (coefs_of names sum) unequal (signed_number negative (value_of_digits digits)) place (if b then None else Some (value_of_digits modulus))) (Some (unit_done above side (atom (modular sum unequal negative digits modulus)))) place
     by_test true = refl
-    by_test false = least (ltb (value_of modulus) 2)
+    by_test false = least (ltb (value_of_digits modulus) 2)
 
 modulus_agrees : (names : List (List ℕ)) (above : List Side) (side : Side) (sum : Sum) (unequal negative : Bool) (digits : List ℕ) (place : ℕ) (s : Symbol)
-    → Agrees names (modulus_step (around_side names above side) (coefs_of names sum) unequal (signed negative (value_of digits)) place s) (trace_modulus above side sum unequal negative digits s) place
+    → Agrees names (modulus_step (around_side names above side) (coefs_of names sum) unequal (signed_number negative (value_of_digits digits)) place s) (trace_modulus above side sum unequal negative digits s) place
 modulus_agrees names above side sum unequal negative digits place (Number modulus) = modulus_within names above side sum unequal negative digits modulus place
 modulus_agrees names above side sum unequal negative digits place s = (refl, refl)
 

@@ -9,10 +9,10 @@ use Rattle.pres_tokens.specs.declared.token.Relation.{Relation}
 use Rattle.pres_tokens.specs.declared.token.Relation.TheVariants.{Less, AtMost, Greater, AtLeast, Equal, Unequal}
 use Rattle.pres_tokens.specs.Symbols.{Symbol, Name, Number, Plus, Minus, Star, Compare, And, Or, Not, Open, Close, Mod, Placed}
 use Rattle.pres_read.specs.TextFault.{TextFault, TooLarge}
-use Rattle.pres_read.specs.Numbers.{value_within, value_of}
-use Rattle.pres_read.specs.Atoms.{signed, negation_if, equality_tree, compared, congruent, limit_of, Factor, lone, added}
+use Rattle.pres_read.specs.Numbers.{value_within, value_of_digits}
+use Rattle.pres_read.specs.Atoms.{signed_number, negation_if, equality_tree, compared_tree, congruent_tree, limit_of, Factor, lone, added}
 use Rattle.pres_read.specs.Progress.{Span, Around, Next, AUnit, ATerm, AStar, AName, ARelation, AConstant, ANumber, AModulo, AModulus, ASign, Progress}
-use Rattle.pres_read.specs.Depth.{charge_of, relation_charge}
+use Rattle.pres_read.specs.Depth.{symbol_charge, charge_of_relation}
 use Rattle.pres_read.specs.Reading.{negation, disjunction, zero_coefs, progress_after_unit, going_on, after_sum, term_step, unit_step, star_step, name_step, relation_step, progress_after_constant, given_constant, number_step, constant_step, given_modulus, modulus_step, close_step, sign_step, tree_up_to_unit, equality_step, modulo_step, by_next, step}
 use Rattle.pres_read.specs.Sound.{option_weight, span_weight, spans_weight, equality_weight, next_weight, HasOption, HasSpan, HasSpans, IsConstant, HasNext, LeavesNoOperator, IsSoundProgress}
 use Rattle.pres_read.proofs.Limits.{weight-negated, weight-conjoined, weight-disjoined, HasAtoms-negated, HasAtoms-conjoined, HasAtoms-disjoined, HasAtoms-negated_if, HasAtoms-equality, HasAtoms-compared, HasAtoms-congruent, AreCoefs-zeros, abs-signed, within_limit, added_fits}
@@ -53,7 +53,7 @@ sound-going_on n charge more a next rests h settled e =
     record { above = rests.above; span = rests.span; next = h; settled = settled; weight = (let w = rests.weight in omega (arith, w, e)) }
 
 term_goes : (n charge : ℕ) (names : List (List ℕ)) (a : Around) (coefs : List ℤ) (negative : Bool) (place : ℕ) (s : Symbol)
-    → Rests n a charge → AreCoefs n coefs → Goes n (charge + charge_of s) (term_step names a coefs negative place s)
+    → Rests n a charge → AreCoefs n coefs → Goes n (charge + symbol_charge s) (term_step names a coefs negative place s)
 term_goes n charge names a coefs negative place (Name word) rests h =
     after_sum_goes n charge 0 a (added names coefs (lone negative place) place word) rests refl
     (added_fits n names coefs (lone negative place) place word h)
@@ -62,7 +62,7 @@ term_goes n charge names a coefs negative place (Number digits) rests h =
 term_goes n charge names a coefs negative place s rests h = tt
 
 unit_goes : (charge : ℕ) (names : List (List ℕ)) (a : Around) (place : ℕ) (s : Symbol)
-    → Rests (length names) a charge → Goes (length names) (charge + charge_of s) (unit_step names a place s)
+    → Rests (length names) a charge → Goes (length names) (charge + symbol_charge s) (unit_step names a place s)
 unit_goes charge names a place Not rests = record {
   above = rests.above;
   span = rests.span;
@@ -82,43 +82,43 @@ unit_goes charge names a place Minus rests =
 unit_goes charge names a place s rests = term_goes (length names) charge names a (zero_coefs names) false place s rests (AreCoefs-zeros names)
 
 star_goes : (n charge : ℕ) (a : Around) (coefs : List ℤ) (factor : Factor) (place : ℕ) (s : Symbol)
-    → Rests n a charge → AreCoefs n coefs → Goes n (charge + charge_of s) (star_step a coefs factor place s)
+    → Rests n a charge → AreCoefs n coefs → Goes n (charge + symbol_charge s) (star_step a coefs factor place s)
 star_goes n charge a coefs factor place Star rests h = sound-going_on n charge 0 a (AName coefs factor) rests h tt refl
 star_goes n charge a coefs factor place s rests h = tt
 
 name_goes : (n charge : ℕ) (names : List (List ℕ)) (a : Around) (coefs : List ℤ) (factor : Factor) (place : ℕ) (s : Symbol)
-    → Rests n a charge → AreCoefs n coefs → Goes n (charge + charge_of s) (name_step names a coefs factor place s)
+    → Rests n a charge → AreCoefs n coefs → Goes n (charge + symbol_charge s) (name_step names a coefs factor place s)
 name_goes n charge names a coefs factor place (Name word) rests h =
     after_sum_goes n charge 0 a (added names coefs factor place word) rests refl (added_fits n names coefs factor place word h)
 name_goes n charge names a coefs factor place s rests h = tt
 
 relation_goes : (n charge : ℕ) (a : Around) (coefs : List ℤ) (place : ℕ) (s : Symbol)
-    → Rests n a charge → AreCoefs n coefs → Goes n (charge + charge_of s) (relation_step a coefs place s)
+    → Rests n a charge → AreCoefs n coefs → Goes n (charge + symbol_charge s) (relation_step a coefs place s)
 relation_goes n charge a coefs place Plus rests h = sound-going_on n charge 0 a (ATerm coefs false) rests h tt refl
 relation_goes n charge a coefs place Minus rests h = sound-going_on n charge 0 a (ATerm coefs true) rests h tt refl
-relation_goes n charge a coefs place (Compare r) rests h = sound-going_on n charge (relation_charge r) a (AConstant coefs r) rests h tt refl
+relation_goes n charge a coefs place (Compare r) rests h = sound-going_on n charge (charge_of_relation r) a (AConstant coefs r) rests h tt refl
 relation_goes n charge a coefs place s rests h = tt
 
 after_constant_sound : (n charge : ℕ) (a : Around) (coefs : List ℤ) (r : Relation) (c : ℤ)
-    → Rests n a charge → AreCoefs n coefs → nat_abs c ≤ limit_of r → IsSoundProgress n (progress_after_constant a coefs r c) (charge + relation_charge r)
-after_constant_sound n charge a coefs Less c rests h g = sound-after_unit n charge 0 a (compared coefs Less c) rests (HasAtoms-compared n coefs Less c h g) refl
-after_constant_sound n charge a coefs AtMost c rests h g = sound-after_unit n charge 0 a (compared coefs AtMost c) rests (HasAtoms-compared n coefs AtMost c h g) refl
-after_constant_sound n charge a coefs Greater c rests h g = sound-after_unit n charge 0 a (compared coefs Greater c) rests (HasAtoms-compared n coefs Greater c h g) refl
-after_constant_sound n charge a coefs AtLeast c rests h g = sound-after_unit n charge 0 a (compared coefs AtLeast c) rests (HasAtoms-compared n coefs AtLeast c h g) refl
+    → Rests n a charge → AreCoefs n coefs → nat_abs c ≤ limit_of r → IsSoundProgress n (progress_after_constant a coefs r c) (charge + charge_of_relation r)
+after_constant_sound n charge a coefs Less c rests h g = sound-after_unit n charge 0 a (compared_tree coefs Less c) rests (HasAtoms-compared n coefs Less c h g) refl
+after_constant_sound n charge a coefs AtMost c rests h g = sound-after_unit n charge 0 a (compared_tree coefs AtMost c) rests (HasAtoms-compared n coefs AtMost c h g) refl
+after_constant_sound n charge a coefs Greater c rests h g = sound-after_unit n charge 0 a (compared_tree coefs Greater c) rests (HasAtoms-compared n coefs Greater c h g) refl
+after_constant_sound n charge a coefs AtLeast c rests h g = sound-after_unit n charge 0 a (compared_tree coefs AtLeast c) rests (HasAtoms-compared n coefs AtLeast c h g) refl
 after_constant_sound n charge a coefs Equal c rests h g = sound-going_on n charge 1 a (AModulo coefs false c) rests (h, g) tt refl
 after_constant_sound n charge a coefs Unequal c rests h g = sound-going_on n charge 2 a (AModulo coefs true c) rests (h, g) tt refl
 
 with_constant_goes : (n charge : ℕ) (a : Around) (coefs : List ℤ) (r : Relation) (negative : Bool) (place : ℕ) (o : Option ℕ)
-    → Rests n a charge → AreCoefs n coefs → IfSome o (λ v. v ≤ limit_of r) → Goes n (charge + relation_charge r) (given_constant a coefs r negative place o)
+    → Rests n a charge → AreCoefs n coefs → IfSome o (λ v. v ≤ limit_of r) → Goes n (charge + charge_of_relation r) (given_constant a coefs r negative place o)
 with_constant_goes n charge a coefs r negative place None rests h g = tt
 with_constant_goes n charge a coefs r negative place (Some v) rests h g =
-    after_constant_sound n charge a coefs r (signed negative v) rests h (let same = abs-signed negative v in omega (arith, same, g))
+    after_constant_sound n charge a coefs r (signed_number negative v) rests h (let same = abs-signed negative v in omega (arith, same, g))
 
 pub weight-unequal : (b : Bool) (coefs : List ℤ) (c : ℤ) → weight_of (negation_if b (equality_tree coefs c)) ≡ equality_weight b
 weight-unequal false coefs c = refl
 weight-unequal true coefs c = refl
 
-weight-congruent : (b : Bool) (coefs : List ℤ) (c : ℤ) (m : ℕ) → weight_of (congruent coefs b c m) ≡ equality_weight b
+weight-congruent : (b : Bool) (coefs : List ℤ) (c : ℤ) (m : ℕ) → weight_of (congruent_tree coefs b c m) ≡ equality_weight b
 weight-congruent false coefs c m = refl
 weight-congruent true coefs c m = refl
 
@@ -126,18 +126,18 @@ weighs : (n m k : ℕ) (r : Result Progress TextFault) → m ≡ k → Goes n m 
 weighs n m k r e h = subst (λ c. Goes n c r) e h
 
 number_goes : (n charge : ℕ) (a : Around) (coefs : List ℤ) (r : Relation) (negative : Bool) (place : ℕ) (s : Symbol)
-    → Rests n a charge → AreCoefs n coefs → Goes n (charge + relation_charge r + charge_of s) (number_step a coefs r negative place s)
+    → Rests n a charge → AreCoefs n coefs → Goes n (charge + charge_of_relation r + symbol_charge s) (number_step a coefs r negative place s)
 number_goes n charge a coefs r negative place (Number digits) rests h =
-    weighs n (charge + relation_charge r) (charge + relation_charge r + 0)
-    (given_constant a coefs r negative place (value_within (limit_of r) (value_of digits))) (omega arith)
-    (with_constant_goes n charge a coefs r negative place (value_within (limit_of r) (value_of digits)) rests h (within_limit (limit_of r) (value_of digits)))
+    weighs n (charge + charge_of_relation r) (charge + charge_of_relation r + 0)
+    (given_constant a coefs r negative place (value_within (limit_of r) (value_of_digits digits))) (omega arith)
+    (with_constant_goes n charge a coefs r negative place (value_within (limit_of r) (value_of_digits digits)) rests h (within_limit (limit_of r) (value_of_digits digits)))
 number_goes n charge a coefs r negative place s rests h = tt
 
 constant_goes : (n charge : ℕ) (a : Around) (coefs : List ℤ) (r : Relation) (place : ℕ) (s : Symbol)
-    → Rests n a charge → AreCoefs n coefs → Goes n (charge + relation_charge r + charge_of s) (constant_step a coefs r place s)
+    → Rests n a charge → AreCoefs n coefs → Goes n (charge + charge_of_relation r + symbol_charge s) (constant_step a coefs r place s)
 constant_goes n charge a coefs r place Minus rests h =
-    weighs n (charge + relation_charge r) (charge + relation_charge r + 0) (Ok (going_on a (ANumber coefs r))) (omega arith)
-    (sound-going_on n charge (relation_charge r) a (ANumber coefs r) rests h tt refl)
+    weighs n (charge + charge_of_relation r) (charge + charge_of_relation r + 0) (Ok (going_on a (ANumber coefs r))) (omega arith)
+    (sound-going_on n charge (charge_of_relation r) a (ANumber coefs r) rests h tt refl)
 constant_goes n charge a coefs r place s rests h = number_goes n charge a coefs r false place s rests h
 
 closed_goes : (n charge : ℕ) (above : List Span) (p : PredTree) (place : ℕ) → HasSpans n above → HasAtoms n p
@@ -150,7 +150,7 @@ closed_goes n charge (span ∷ above) p place h g w =
 
 sign_goes : (n charge : ℕ) (above : List Span) (ors : Option PredTree) (p : PredTree) (place : ℕ) (s : Symbol)
     → HasSpans n above → HasOption n ors → HasAtoms n p → spans_weight above + option_weight ors + weight_of p ≡ charge
-    → Goes n (charge + charge_of s) (sign_step above ors p place s)
+    → Goes n (charge + symbol_charge s) (sign_step above ors p place s)
 sign_goes n charge above ors p place And h o g w =
     record { above = h; span = (o, g); next = tt; settled = tt; weight = omega (arith, w) }
 sign_goes n charge above ors p place Or h o g w =
@@ -162,7 +162,7 @@ sign_goes n charge above ors p place s h o g w = tt
 
 equality_goes : (n charge : ℕ) (a : Around) (coefs : List ℤ) (unequal : Bool) (c : ℤ) (place : ℕ) (s : Symbol)
     → Rests n a charge → AreCoefs n coefs → IsConstant c
-    → Goes n (charge + equality_weight unequal + charge_of s) (equality_step a coefs unequal c place s)
+    → Goes n (charge + equality_weight unequal + symbol_charge s) (equality_step a coefs unequal c place s)
 equality_goes n charge a coefs unequal c place s rests h g =
     let atoms = HasAtoms-negated_if n unequal (equality_tree coefs c) (HasAtoms-equality n coefs c h g) in
     sign_goes n (charge + equality_weight unequal) a.above a.span.ors (tree_up_to_unit a.span (negation_if unequal (equality_tree coefs c))) place s
@@ -172,7 +172,7 @@ equality_goes n charge a coefs unequal c place s rests h g =
 
 modulo_goes : (n charge : ℕ) (a : Around) (coefs : List ℤ) (unequal : Bool) (c : ℤ) (place : ℕ) (s : Symbol)
     → Rests n a charge → AreCoefs n coefs → IsConstant c
-    → Goes n (charge + equality_weight unequal + charge_of s) (modulo_step a coefs unequal c place s)
+    → Goes n (charge + equality_weight unequal + symbol_charge s) (modulo_step a coefs unequal c place s)
 modulo_goes n charge a coefs unequal c place Mod rests h g =
     weighs n (charge + equality_weight unequal) (charge + equality_weight unequal + 0) (Ok (going_on a (AModulus coefs unequal c))) (omega arith)
     (sound-going_on n charge (equality_weight unequal) a (AModulus coefs unequal c) rests (h, g) tt refl)
@@ -184,35 +184,35 @@ with_modulus_goes n charge a coefs unequal c place None rests h g = tt
 with_modulus_goes n charge a coefs unequal c place (Some m) rests h g = by_test (ltb m 2) refl
   where
     by_test : (b : Bool) → ltb m 2 ≡ b
-        → Goes n (charge + equality_weight unequal) (if b then Err (TooLarge place) else Ok (progress_after_unit a (congruent coefs unequal c m)))
+        → Goes n (charge + equality_weight unequal) (if b then Err (TooLarge place) else Ok (progress_after_unit a (congruent_tree coefs unequal c m)))
     by_test true e = tt
     by_test false e =
-        sound-after_unit n charge (equality_weight unequal) a (congruent coefs unequal c m) rests
+        sound-after_unit n charge (equality_weight unequal) a (congruent_tree coefs unequal c m) rests
         (HasAtoms-congruent n coefs unequal c m h (ltb-false m 2 e) g) (weight-congruent unequal coefs c m)
 
 modulus_goes : (n charge : ℕ) (a : Around) (coefs : List ℤ) (unequal : Bool) (c : ℤ) (place : ℕ) (s : Symbol)
-    → Rests n a charge → AreCoefs n coefs → Goes n (charge + equality_weight unequal + charge_of s) (modulus_step a coefs unequal c place s)
+    → Rests n a charge → AreCoefs n coefs → Goes n (charge + equality_weight unequal + symbol_charge s) (modulus_step a coefs unequal c place s)
 modulus_goes n charge a coefs unequal c place (Number digits) rests h =
     weighs n (charge + equality_weight unequal) (charge + equality_weight unequal + 0)
-    (given_modulus a coefs unequal c place (value_within MODULUS_LIMIT (value_of digits))) (omega arith)
-    (with_modulus_goes n charge a coefs unequal c place (value_within MODULUS_LIMIT (value_of digits)) rests h (within_limit MODULUS_LIMIT (value_of digits)))
+    (given_modulus a coefs unequal c place (value_within MODULUS_LIMIT (value_of_digits digits))) (omega arith)
+    (with_modulus_goes n charge a coefs unequal c place (value_within MODULUS_LIMIT (value_of_digits digits)) rests h (within_limit MODULUS_LIMIT (value_of_digits digits)))
 modulus_goes n charge a coefs unequal c place s rests h = tt
 
 next_goes : (charge : ℕ) (names : List (List ℕ)) (a : Around) (next : Next) (place : ℕ) (s : Symbol)
-    → Rests (length names) a charge → HasNext (length names) next → LeavesNoOperator a.span next → Goes (length names) (charge + next_weight next + charge_of s) (by_next names a next place s)
+    → Rests (length names) a charge → HasNext (length names) next → LeavesNoOperator a.span next → Goes (length names) (charge + next_weight next + symbol_charge s) (by_next names a next place s)
 next_goes charge names a AUnit place s rests h settled =
-    weighs (length names) (charge + charge_of s) (charge + 0 + charge_of s) (unit_step names a place s) (omega arith) (unit_goes charge names a place s rests)
+    weighs (length names) (charge + symbol_charge s) (charge + 0 + symbol_charge s) (unit_step names a place s) (omega arith) (unit_goes charge names a place s rests)
 next_goes charge names a (ATerm coefs negative) place s rests h settled =
-    weighs (length names) (charge + charge_of s) (charge + 0 + charge_of s) (term_step names a coefs negative place s) (omega arith)
+    weighs (length names) (charge + symbol_charge s) (charge + 0 + symbol_charge s) (term_step names a coefs negative place s) (omega arith)
     (term_goes (length names) charge names a coefs negative place s rests h)
 next_goes charge names a (AStar coefs factor) place s rests h settled =
-    weighs (length names) (charge + charge_of s) (charge + 0 + charge_of s) (star_step a coefs factor place s) (omega arith)
+    weighs (length names) (charge + symbol_charge s) (charge + 0 + symbol_charge s) (star_step a coefs factor place s) (omega arith)
     (star_goes (length names) charge a coefs factor place s rests h)
 next_goes charge names a (AName coefs factor) place s rests h settled =
-    weighs (length names) (charge + charge_of s) (charge + 0 + charge_of s) (name_step names a coefs factor place s) (omega arith)
+    weighs (length names) (charge + symbol_charge s) (charge + 0 + symbol_charge s) (name_step names a coefs factor place s) (omega arith)
     (name_goes (length names) charge names a coefs factor place s rests h)
 next_goes charge names a (ARelation coefs) place s rests h settled =
-    weighs (length names) (charge + charge_of s) (charge + 0 + charge_of s) (relation_step a coefs place s) (omega arith)
+    weighs (length names) (charge + symbol_charge s) (charge + 0 + symbol_charge s) (relation_step a coefs place s) (omega arith)
     (relation_goes (length names) charge a coefs place s rests h)
 next_goes charge names a (AConstant coefs r) place s rests h settled = constant_goes (length names) charge a coefs r place s rests h
 next_goes charge names a (ANumber coefs r) place s rests h settled = number_goes (length names) charge a coefs r true place s rests h
@@ -223,10 +223,10 @@ next_goes charge names a (ASign p) place s rests h settled =
     (let w = rests.weight in let none = ap option_weight settled.0 in let nots = settled.1 in omega (arith, w, none, nots))
 
 pub step_goes : (charge : ℕ) (names : List (List ℕ)) (p : Progress) (t : Placed)
-    → IsSoundProgress (length names) p charge → Goes (length names) (charge + charge_of t.symbol) (step names p t)
+    → IsSoundProgress (length names) p charge → Goes (length names) (charge + symbol_charge t.symbol) (step names p t)
 unfolding step
 step_goes charge names p t h =
-    weighs (length names) (spans_weight p.around.above + span_weight p.around.span + next_weight p.next + charge_of t.symbol) (charge + charge_of t.symbol)
+    weighs (length names) (spans_weight p.around.above + span_weight p.around.span + next_weight p.next + symbol_charge t.symbol) (charge + symbol_charge t.symbol)
     (by_next names p.around p.next t.place t.symbol) (let w = h.weight in omega (arith, w))
     (next_goes (spans_weight p.around.above + span_weight p.around.span) names p.around p.next t.place t.symbol
     (record { above = h.above; span = h.span; weight = refl }) h.next h.settled)

@@ -3,7 +3,7 @@ use Rattle.std.proofs.Common.{◌≡◌, ◌≤◌, ℕ, Bool, true, false, List
 use Rattle.pres_ast.specs.declared.limits.TheConstants.{MODULUS_LIMIT}
 use Rattle.pres_tokens.specs.declared.token.Relation.{Relation}
 use Rattle.pres_tokens.specs.Symbols.{Symbol, Name, Number, Plus, Minus, Star, Compare, Close, Mod}
-use Rattle.pres_read.specs.Numbers.{value_of}
+use Rattle.pres_read.specs.Numbers.{value_of_digits}
 use Rattle.pres_read.specs.Atoms.{limit_of}
 use Rattle.pres_read.specs.Reading.{zero_coefs}
 use Rattle.pres_read.specs.Grammar.{Term, bare, times, Sum, first, further, APred, AConj, Phrase, term_symbols, minus_if, plus_or_minus, sum_symbols, constant_symbols, coefs_of}
@@ -184,7 +184,7 @@ sum_at names m sum rest u k = absurd u
 -- ---- constants and moduli
 
 constant_at : (names : List (List ℕ)) (m last : Trace) (r : Relation) (negative : Bool) (digits : List ℕ) (rest : List Symbol) → trace_run m (Compare r ∷ (constant_symbols negative digits ++ rest)) ≡ Some last
-    → Kept names m (Compare r ∷ (constant_symbols negative digits ++ rest)) → value_of digits ≤ limit_of r
+    → Kept names m (Compare r ∷ (constant_symbols negative digits ++ rest)) → value_of_digits digits ≤ limit_of r
 constant_at names (Inside above side (IRelation sum)) last r false digits rest e k = k.1.0
 constant_at names (Inside above side (IRelation sum)) last r true digits rest e k = k.1.1.0
 constant_at names (Inside above side IUnit) last r negative digits rest e k = absurd cc
@@ -198,7 +198,7 @@ constant_at names (Inside above side (IModulus sum u n ds)) last r negative digi
 constant_at names (Done above ors c) last r negative digits rest e k = absurd cc
 
 modulus_at : (names : List (List ℕ)) (m last : Trace) (digits : List ℕ) (rest : List Symbol) → trace_run m (Mod ∷ Number digits ∷ rest) ≡ Some last → Kept names m (Mod ∷ Number digits ∷ rest)
-    → (2 ≤ value_of digits) × (value_of digits ≤ MODULUS_LIMIT)
+    → (2 ≤ value_of_digits digits) × (value_of_digits digits ≤ MODULUS_LIMIT)
 modulus_at names (Inside above side (IModulo sum u n ds)) last digits rest e k = k.1.0
 modulus_at names (Inside above side IUnit) last digits rest e k = absurd cc
 modulus_at names (Inside above side (ITerm lead)) last digits rest e k = absurd cc

@@ -14,28 +14,28 @@ pub record Depth : Type 0 where
 abbrev pub surface : Depth
 surface = record { charge = 0; parentheses = 0 }
 
-abbrev pub relation_charge : Relation → ℕ
-relation_charge Less = 0
-relation_charge AtMost = 0
-relation_charge Greater = 0
-relation_charge AtLeast = 0
-relation_charge Equal = 1
-relation_charge Unequal = 2
+abbrev pub charge_of_relation : Relation → ℕ
+charge_of_relation Less = 0
+charge_of_relation AtMost = 0
+charge_of_relation Greater = 0
+charge_of_relation AtLeast = 0
+charge_of_relation Equal = 1
+charge_of_relation Unequal = 2
 
-abbrev pub charge_of : Symbol → ℕ
-charge_of (Name word) = 0
-charge_of (Number digits) = 0
-charge_of Plus = 0
-charge_of Minus = 0
-charge_of Star = 0
-charge_of (Compare r) = relation_charge r
-charge_of And = 1
-charge_of Or = 1
-charge_of Not = 1
-charge_of Open = 0
-charge_of Close = 0
-charge_of Mod = 0
-charge_of Stray = 0
+abbrev pub symbol_charge : Symbol → ℕ
+symbol_charge (Name word) = 0
+symbol_charge (Number digits) = 0
+symbol_charge Plus = 0
+symbol_charge Minus = 0
+symbol_charge Star = 0
+symbol_charge (Compare r) = charge_of_relation r
+symbol_charge And = 1
+symbol_charge Or = 1
+symbol_charge Not = 1
+symbol_charge Open = 0
+symbol_charge Close = 0
+symbol_charge Mod = 0
+symbol_charge Stray = 0
 
 -- the open parentheses after a symbol
 abbrev pub parentheses_after : ℕ → Symbol → ℕ
@@ -54,7 +54,7 @@ parentheses_after n Mod = n
 parentheses_after n Stray = n
 
 abbrev pub deeper : Depth → Symbol → Depth
-deeper d s = record { charge = d.charge + charge_of s; parentheses = parentheses_after d.parentheses s }
+deeper d s = record { charge = d.charge + symbol_charge s; parentheses = parentheses_after d.parentheses s }
 
 -- at most 64 of each
 abbrev pub within_depth : Placed → Depth → Result Depth TextFault

@@ -12,8 +12,8 @@ use Rattle.pres_ast.specs.PredTree.{PredTree, Negation, Conjunction, Disjunction
 use Rattle.pres_tokens.specs.declared.token.Relation.{Relation}
 use Rattle.pres_tokens.specs.declared.token.Relation.TheVariants.{Equal, Unequal}
 use Rattle.pres_tokens.specs.Symbols.{Symbol, Name, Number, Plus, Minus, Star, Compare, And, Or, Not, Open, Close, Mod}
-use Rattle.pres_read.specs.Numbers.{value_of}
-use Rattle.pres_read.specs.Atoms.{signed, compared, congruent}
+use Rattle.pres_read.specs.Numbers.{value_of_digits}
+use Rattle.pres_read.specs.Atoms.{signed_number, compared_tree, congruent_tree}
 use Rattle.pres_read.specs.Reading.{zero_coefs}
 
 pub data Term : Type 0 where
@@ -91,7 +91,7 @@ term_name (times digits name) = name
 -- a name alone counts once
 abbrev pub term_number : Term → ℕ
 term_number (bare name) = 1
-term_number (times digits name) = value_of digits
+term_number (times digits name) = value_of_digits digits
 
 abbrev pub raised : List ℤ → Option ℕ → ℤ → List ℤ
 raised coefs None z = coefs
@@ -100,16 +100,16 @@ raised coefs (Some i) z = slice_set coefs i (slice_index_or coefs i (pos 0) +ℤ
 -- the coefficients with a further term: those of equal names add up
 abbrev pub with_a_term : List (List ℕ) → List ℤ → Bool → Term → List ℤ
 with_a_term names coefs negative term =
-    raised coefs (position (bytes_eq (term_name term)) names) (signed negative (term_number term))
+    raised coefs (position (bytes_eq (term_name term)) names) (signed_number negative (term_number term))
 
 abbrev pub coefs_of : List (List ℕ) → Sum → List ℤ
 coefs_of names (first negative term) = with_a_term names (zero_coefs names) negative term
 coefs_of names (further sum negative term) = with_a_term names (coefs_of names sum) negative term
 
 abbrev pub atom_meaning : List (List ℕ) → Atom → PredTree
-atom_meaning names (plain sum relation negative digits) = compared (coefs_of names sum) relation (signed negative (value_of digits))
+atom_meaning names (plain sum relation negative digits) = compared_tree (coefs_of names sum) relation (signed_number negative (value_of_digits digits))
 atom_meaning names (modular sum unequal negative digits modulus) =
-    congruent (coefs_of names sum) unequal (signed negative (value_of digits)) (value_of modulus)
+    congruent_tree (coefs_of names sum) unequal (signed_number negative (value_of_digits digits)) (value_of_digits modulus)
 
 abbrev pub meaning : {part : Part} → List (List ℕ) → Phrase part → PredTree
 meaning names (conj p) = meaning names p

@@ -6,8 +6,8 @@ abbrev pub value_after : ℕ → List ℕ → ℕ
 value_after n [] = n
 value_after n (c ∷ cs) = value_after (n * 10 + (c - 48)) cs
 
-abbrev pub value_of : List ℕ → ℕ
-value_of digits = value_after 0 digits
+abbrev pub value_of_digits : List ℕ → ℕ
+value_of_digits digits = value_after 0 digits
 
 -- the value, where it is at most the limit
 abbrev pub value_within : ℕ → ℕ → Option ℕ

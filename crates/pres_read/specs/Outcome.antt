@@ -7,14 +7,14 @@ use Rattle.pres_read.specs.TextFault.{TextFault, Syntax, UnknownName, TooLarge, 
 pub use Rattle.pop_io.specs.Gives.{◌>>=◌}
 
 -- the fault, unless out of memory
-abbrev pub fault_of : ReadPred → Option TextFault
-fault_of reading.NoMemory = None
-fault_of (reading.Syntax at) = Some (Syntax at)
-fault_of (reading.UnknownName at) = Some (UnknownName at)
-fault_of (reading.TooLarge at) = Some (TooLarge at)
-fault_of (reading.TooDeep at) = Some (TooDeep at)
-fault_of (reading.LongText n) = Some (LongText n)
+abbrev pub text_fault_of : ReadPred → Option TextFault
+text_fault_of reading.NoMemory = None
+text_fault_of (reading.Syntax at) = Some (Syntax at)
+text_fault_of (reading.UnknownName at) = Some (UnknownName at)
+text_fault_of (reading.TooLarge at) = Some (TooLarge at)
+text_fault_of (reading.TooDeep at) = Some (TooDeep at)
+text_fault_of (reading.LongText n) = Some (LongText n)
 
 -- what a call gave, seen by `view`, is this, unless out of memory
-abbrev pub Gives : {X Y : Type 0} → (X → Y) → Result X ReadPred → Result Y TextFault → Type 0
-Gives view result wanted = GivesBy fault_of view result wanted
+abbrev pub GivesParsed : {X Y : Type 0} → (X → Y) → Result X ReadPred → Result Y TextFault → Type 0
+GivesParsed view result wanted = GivesBy text_fault_of view result wanted

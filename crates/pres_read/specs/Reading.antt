@@ -12,8 +12,8 @@ use Rattle.pres_tokens.specs.Symbols.{Symbol, Name, Number, Plus, Minus, Star, C
 use Rattle.pres_tokens.specs.Tokens.{tokens_of}
 use Rattle.pres_read.specs.TextFault.{TextFault, Syntax, TooLarge, LongText}
 use Rattle.pres_read.specs.Outcome.{◌>>=◌}
-use Rattle.pres_read.specs.Atoms.{signed, equality_tree, negation_if, compared, congruent, limit_of, Factor, lone, added}
-use Rattle.pres_read.specs.Numbers.{value_of, value_within}
+use Rattle.pres_read.specs.Atoms.{signed_number, equality_tree, negation_if, compared_tree, congruent_tree, limit_of, Factor, lone, added}
+use Rattle.pres_read.specs.Numbers.{value_of_digits, value_within}
 use Rattle.pres_read.specs.Progress.{Span, clear, Around, Next, AUnit, ATerm, AStar, AName, ARelation, AConstant, ANumber, AModulo}
 use Rattle.pres_read.specs.Progress.{AModulus, ASign, Progress, start}
 use Rattle.pres_read.specs.Depth.{Depth, surface, sunk}
@@ -77,20 +77,20 @@ relation_step a coefs place s = Err (Syntax place)
 
 -- a constant ends the atom, but for `mod` after `=` and `!=`
 abbrev pub progress_after_constant : Around → List ℤ → Relation → ℤ → Progress
-progress_after_constant a coefs Less c = progress_after_unit a (compared coefs Less c)
-progress_after_constant a coefs AtMost c = progress_after_unit a (compared coefs AtMost c)
-progress_after_constant a coefs Greater c = progress_after_unit a (compared coefs Greater c)
-progress_after_constant a coefs AtLeast c = progress_after_unit a (compared coefs AtLeast c)
+progress_after_constant a coefs Less c = progress_after_unit a (compared_tree coefs Less c)
+progress_after_constant a coefs AtMost c = progress_after_unit a (compared_tree coefs AtMost c)
+progress_after_constant a coefs Greater c = progress_after_unit a (compared_tree coefs Greater c)
+progress_after_constant a coefs AtLeast c = progress_after_unit a (compared_tree coefs AtLeast c)
 progress_after_constant a coefs Equal c = going_on a (AModulo coefs false c)
 progress_after_constant a coefs Unequal c = going_on a (AModulo coefs true c)
 
 abbrev pub given_constant : Around → List ℤ → Relation → Bool → ℕ → Option ℕ → Result Progress TextFault
 given_constant a coefs r negative place None = Err (TooLarge place)
-given_constant a coefs r negative place (Some n) = Ok (progress_after_constant a coefs r (signed negative n))
+given_constant a coefs r negative place (Some n) = Ok (progress_after_constant a coefs r (signed_number negative n))
 
 abbrev pub number_step : Around → List ℤ → Relation → Bool → ℕ → Symbol → Result Progress TextFault
 number_step a coefs r negative place (Number digits) =
-    given_constant a coefs r negative place (value_within (limit_of r) (value_of digits))
+    given_constant a coefs r negative place (value_within (limit_of r) (value_of_digits digits))
 number_step a coefs r negative place s = Err (Syntax place)
 
 abbrev pub constant_step : Around → List ℤ → Relation → ℕ → Symbol → Result Progress TextFault
@@ -100,11 +100,11 @@ constant_step a coefs r place s = number_step a coefs r false place s
 abbrev pub given_modulus : Around → List ℤ → Bool → ℤ → ℕ → Option ℕ → Result Progress TextFault
 given_modulus a coefs unequal c place None = Err (TooLarge place)
 given_modulus a coefs unequal c place (Some m) =
-    if nat_lt m 2 then Err (TooLarge place) else Ok (progress_after_unit a (congruent coefs unequal c m))
+    if nat_lt m 2 then Err (TooLarge place) else Ok (progress_after_unit a (congruent_tree coefs unequal c m))
 
 abbrev pub modulus_step : Around → List ℤ → Bool → ℤ → ℕ → Symbol → Result Progress TextFault
 modulus_step a coefs unequal c place (Number digits) =
-    given_modulus a coefs unequal c place (value_within MODULUS_LIMIT (value_of digits))
+    given_modulus a coefs unequal c place (value_within MODULUS_LIMIT (value_of_digits digits))
 modulus_step a coefs unequal c place s = Err (Syntax place)
 
 -- a `)` ends the innermost parenthesis, whose predicate is a unit
@@ -187,10 +187,10 @@ abbrev pub tree_read : List (List ℕ) → List ℕ → Result PredTree TextFaul
 tree_read names text =
     if nat_lt TEXT_LIMIT (length text) then Err (LongText (length text)) else run names (length text) start surface (tokens_of text)
 
-abbrev pub over : ℕ → Result PredTree TextFault → Result PredModel TextFault
-over n (Ok p) = Ok (record { variables = n; tree = p })
-over n (Err e) = Err e
+abbrev pub over_names : ℕ → Result PredTree TextFault → Result PredModel TextFault
+over_names n (Ok p) = Ok (record { variables = n; tree = p })
+over_names n (Err e) = Err e
 
 -- the predicate over these names, or the first fault
 abbrev pub pred_read : List (List ℕ) → List ℕ → Result PredModel TextFault
-pred_read names text = over (length names) (tree_read names text)
+pred_read names text = over_names (length names) (tree_read names text)

@@ -6,8 +6,8 @@ use Rattle.pres_ast.specs.declared.limits.TheConstants.{COEFFICIENT_LIMIT, MODUL
 use Rattle.pres_read.specs.declared.depth.TheConstants.{PARENTHESIS_LIMIT}
 use Rattle.pres_tokens.specs.declared.token.Relation.{Relation}
 use Rattle.pres_tokens.specs.Symbols.{Symbol, Name, Number, Plus, Minus, Star, Compare, And, Or, Not, Open, Close, Mod, Stray}
-use Rattle.pres_read.specs.Numbers.{value_of}
-use Rattle.pres_read.specs.Atoms.{signed, limit_of}
+use Rattle.pres_read.specs.Numbers.{value_of_digits}
+use Rattle.pres_read.specs.Atoms.{signed_number, limit_of}
 use Rattle.pres_read.specs.Depth.{Depth, surface, deeper}
 use Rattle.pres_read.specs.Reading.{zero_coefs}
 use Rattle.pres_read.specs.Grammar.{Term, Sum, first, further, Atom, plain, modular, Part, Phrase, conj, either, unit, both, negate, group}
@@ -20,16 +20,16 @@ CoefFits coefs (Some i) z = nat_abs (slice_index_or coefs i (pos 0) +ℤ z) ≤ 
 
 abbrev pub TermFits : List (List ℕ) → List ℤ → Bool → Term → Type 0
 TermFits names coefs negative term =
-    (term_number term ≤ COEFFICIENT_LIMIT) × CoefFits coefs (position (bytes_eq (term_name term)) names) (signed negative (term_number term))
+    (term_number term ≤ COEFFICIENT_LIMIT) × CoefFits coefs (position (bytes_eq (term_name term)) names) (signed_number negative (term_number term))
 
 abbrev pub SumFits : List (List ℕ) → Sum → Type 0
 SumFits names (first negative term) = TermFits names (zero_coefs names) negative term
 SumFits names (further sum negative term) = SumFits names sum × TermFits names (coefs_of names sum) negative term
 
 abbrev pub AtomFits : List (List ℕ) → Atom → Type 0
-AtomFits names (plain sum relation negative digits) = SumFits names sum × (value_of digits ≤ limit_of relation)
+AtomFits names (plain sum relation negative digits) = SumFits names sum × (value_of_digits digits ≤ limit_of relation)
 AtomFits names (modular sum unequal negative digits modulus) =
-    SumFits names sum × (value_of digits ≤ limit_of (equal_or_not unequal)) × (2 ≤ value_of modulus) × (value_of modulus ≤ MODULUS_LIMIT)
+    SumFits names sum × (value_of_digits digits ≤ limit_of (equal_or_not unequal)) × (2 ≤ value_of_digits modulus) × (value_of_digits modulus ≤ MODULUS_LIMIT)
 
 -- names are known, and numbers within their limits
 abbrev pub Fits : {part : Part} → List (List ℕ) → Phrase part → Type 0
@@ -89,9 +89,9 @@ pub record NumbersFit (names : List (List ℕ)) (ss : List Symbol) : Type 0 wher
   pub sums : (before later : List Symbol) (sum : Sum) → ss ≡ before ++ (sum_symbols sum ++ later) → last_is opens true before ≡ true → SumFits names sum
   pub constants : (before later : List Symbol) (relation : Relation) (negative : Bool) (digits : List ℕ)
       → ss ≡ before ++ Compare relation ∷ (constant_symbols negative digits ++ later)
-      → value_of digits ≤ limit_of relation
+      → value_of_digits digits ≤ limit_of relation
   pub moduli : (before later : List Symbol) (digits : List ℕ) → ss ≡ before ++ Mod ∷ Number digits ∷ later
-      → (2 ≤ value_of digits) × (value_of digits ≤ MODULUS_LIMIT)
+      → (2 ≤ value_of_digits digits) × (value_of_digits digits ≤ MODULUS_LIMIT)
 
 -- the symbols keep all rules on names, numbers and depth
 pub record KeepsRules (names : List (List ℕ)) (ss : List Symbol) : Type 0 where

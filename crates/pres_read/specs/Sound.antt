@@ -4,7 +4,7 @@ use Rattle.pres_ast.specs.declared.limits.TheConstants.{BOUND_LIMIT}
 use Rattle.pres_ast.specs.PredTree.{PredTree}
 use Rattle.pres_ast.specs.PredModel.{AreCoefs, HasAtoms, weight_of}
 use Rattle.pres_read.specs.Progress.{Span, Next, AUnit, ATerm, AStar, AName, ARelation, AConstant, ANumber, AModulo, AModulus, ASign, Progress}
-use Rattle.pres_read.specs.Depth.{relation_charge}
+use Rattle.pres_read.specs.Depth.{charge_of_relation}
 
 -- a part that waits for its right side, with its sign
 abbrev pub option_weight : Option PredTree → ℕ
@@ -28,8 +28,8 @@ next_weight (ATerm coefs negative) = 0
 next_weight (AStar coefs factor) = 0
 next_weight (AName coefs factor) = 0
 next_weight (ARelation coefs) = 0
-next_weight (AConstant coefs r) = relation_charge r
-next_weight (ANumber coefs r) = relation_charge r
+next_weight (AConstant coefs r) = charge_of_relation r
+next_weight (ANumber coefs r) = charge_of_relation r
 next_weight (AModulo coefs unequal c) = equality_weight unequal
 next_weight (AModulus coefs unequal c) = equality_weight unequal
 next_weight (ASign p) = weight_of p

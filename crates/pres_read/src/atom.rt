@@ -3,9 +3,7 @@
 ghost use Rattle.std.specs.Prelude.{◌≡◌, ◌≤◌, ◌^◌, ◌-◌, All, nat_abs, IfOk};
 ghost use Rattle.pres_ast.specs.PredTree.{LessThan};
 ghost use Rattle.pres_ast.specs.TreeOf.{tree_of};
-ghost use Rattle.pres_read.specs.Atoms.{negation_if, equality_tree};
-ghost use Rattle.pres_read.specs.Atoms.{compared as compared_tree, congruent as congruent_tree};
-ghost use Rattle.pres_read.specs.Atoms.{limit_of};
+ghost use Rattle.pres_read.specs.Atoms.{negation_if, equality_tree, compared_tree, congruent_tree, limit_of};
 
 use pop_io::{List, NoMemory};
 use pres_ast::{BOUND_LIMIT, COEFFICIENT_LIMIT, MODULUS_LIMIT, Tree, turned};

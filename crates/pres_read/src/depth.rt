@@ -2,9 +2,8 @@
 
 ghost use Rattle.std.specs.Prelude.{◌≡◌, ◌≤◌};
 ghost use Rattle.pres_tokens.specs.Symbols.{symbol_of, token_of};
-ghost use Rattle.pres_read.specs.Outcome.{Gives};
-ghost use Rattle.pres_read.specs.Depth.{charge_of as symbol_charge, relation_charge as charge_of_relation, sunk};
-ghost use Rattle.pres_read.specs.Depth.{surface};
+ghost use Rattle.pres_read.specs.Outcome.{GivesParsed};
+ghost use Rattle.pres_read.specs.Depth.{symbol_charge, charge_of_relation, sunk, surface};
 ghost use Rattle.pres_read.specs.Views.{depth_of};
 
 use crate::fault::ReadPred;
@@ -34,7 +33,7 @@ impl Depth {
     pub fn after(self, token: Token<'_>) -> Result<Depth, ReadPred>
         requires charge { self.charge ≤ WEIGHT_LIMIT }
         requires parentheses { self.parentheses ≤ PARENTHESIS_LIMIT }
-        ensures { Gives depth_of result (sunk (depth_of self) (token_of token.entry)) }
+        ensures { GivesParsed depth_of result (sunk (depth_of self) (token_of token.entry)) }
     {
         let charge = self.charge + charge_of(token.kind);
         let parentheses = match token.kind {

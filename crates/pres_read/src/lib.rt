@@ -1,6 +1,6 @@
 //! Predicate texts, read and printed.
 //! It stands on `pop_io`, `pres_ast` and `pres_tokens`.
-//! The layer above uses: `read_pred` gives the tree that the grammar relates to a text, or the first fault and its place.
+//! The layer above uses: `read_pred` gives the tree that the grammar relates to a text, or the first fault's place.
 #![tactic(auto)]
 
 mod atom;

@@ -4,21 +4,15 @@ ghost use Rattle.std.specs.Prelude.{◌≡◌, ◌≤◌, ◌<◌, ◌^◌, ◌-
 ghost use Rattle.pres_ast.specs.PredModel.{AreCoefs};
 ghost use Rattle.pres_ast.specs.TreeOf.{tree_of};
 ghost use Rattle.pres_tokens.specs.Symbols.{symbol_of, token_of};
-ghost use Rattle.pres_read.specs.Outcome.{Gives};
+ghost use Rattle.pres_read.specs.Outcome.{GivesParsed};
 ghost use Rattle.pres_read.specs.Progress.{start, clear, AUnit};
-ghost use Rattle.pres_read.specs.Reading.{zero_coefs, unit_step, term_step};
-ghost use Rattle.pres_read.specs.Reading.{star_step};
-ghost use Rattle.pres_read.specs.Reading.{name_step, relation_step};
-ghost use Rattle.pres_read.specs.Reading.{constant_step};
-ghost use Rattle.pres_read.specs.Reading.{number_step, given_constant};
-ghost use Rattle.pres_read.specs.Reading.{modulo_step};
-ghost use Rattle.pres_read.specs.Reading.{equality_step, modulus_step};
-ghost use Rattle.pres_read.specs.Reading.{given_modulus, step, finish, going_on};
+ghost use Rattle.pres_read.specs.Reading.{zero_coefs, unit_step, term_step, star_step, name_step, relation_step};
+ghost use Rattle.pres_read.specs.Reading.{constant_step, number_step, given_constant, modulo_step};
+ghost use Rattle.pres_read.specs.Reading.{equality_step, modulus_step, given_modulus, step, finish, going_on};
 ghost use Rattle.pres_read.specs.Reading.{progress_after_constant, tree_up_to_unit};
-ghost use Rattle.pres_read.specs.Atoms.{limit_of, negation_if};
-ghost use Rattle.pres_read.specs.Atoms.{equality_tree};
+ghost use Rattle.pres_read.specs.Atoms.{limit_of, negation_if, equality_tree};
 ghost use Rattle.pres_read.specs.Sound.{HasNext};
-ghost use Rattle.pres_read.specs.Views.{span_of, factor_of, around_of, progress_of, next_of};
+ghost use Rattle.pres_read.specs.Views.{span_of_level, factor_of, around_of, progress_of, next_expected};
 
 use crate::atom::{compared, congruent, constant_limit, equality, negated_if};
 use crate::fault::ReadPred;
@@ -44,7 +38,7 @@ fn at_unit<'a>(
     token: Token<'a>,
 ) -> Result<Parser<'a>, ReadPred>
     requires { around.level.nots < 2 ^ 31 }
-    ensures { Gives progress_of result
+    ensures { GivesParsed progress_of result
         (unit_step names.now (around_of around) token.entry.place (symbol_of token.entry.kind)) }
 {
     match token.kind {
@@ -100,7 +94,7 @@ fn at_term<'a>(
     token: Token<'a>,
 ) -> Result<Parser<'a>, ReadPred>
     requires { AreCoefs (length names.now) coefs.items }
-    ensures { Gives progress_of result
+    ensures { GivesParsed progress_of result
         (term_step names.now (around_of around) coefs.items negative token.entry.place (symbol_of token.entry.kind)) }
 {
     let place = token.place;
@@ -139,7 +133,7 @@ fn at_star<'a>(
     factor: Factor<'a>,
     token: Token<'a>,
 ) -> Result<Parser<'a>, ReadPred>
-    ensures { Gives progress_of result
+    ensures { GivesParsed progress_of result
         (star_step (around_of around) coefs.items (factor_of factor.entry) token.entry.place
         (symbol_of token.entry.kind)) }
 {
@@ -160,7 +154,7 @@ fn at_name<'a>(
     token: Token<'a>,
 ) -> Result<Parser<'a>, ReadPred>
     requires { AreCoefs (length names.now) coefs.items }
-    ensures { Gives progress_of result
+    ensures { GivesParsed progress_of result
         (name_step names.now (around_of around) coefs.items (factor_of factor.entry) token.entry.place
         (symbol_of token.entry.kind)) }
 {
@@ -179,7 +173,7 @@ fn at_relation<'a>(
     coefs: Vec<i64>,
     token: Token<'a>,
 ) -> Result<Parser<'a>, ReadPred>
-    ensures { Gives progress_of result
+    ensures { GivesParsed progress_of result
         (relation_step (around_of around) coefs.items token.entry.place (symbol_of token.entry.kind)) }
 {
     let expect = match token.kind {
@@ -205,7 +199,7 @@ fn at_constant<'a>(
     token: Token<'a>,
 ) -> Result<Parser<'a>, ReadPred>
     requires { All (λ a. nat_abs a ≤ COEFFICIENT_LIMIT) coefs.items }
-    ensures { Gives progress_of result
+    ensures { GivesParsed progress_of result
         (constant_step (around_of around) coefs.items relation token.entry.place (symbol_of token.entry.kind)) }
 {
     match token.kind {
@@ -226,7 +220,7 @@ fn at_number<'a>(
     token: Token<'a>,
 ) -> Result<Parser<'a>, ReadPred>
     requires { All (λ a. nat_abs a ≤ COEFFICIENT_LIMIT) coefs.items }
-    ensures { Gives progress_of result
+    ensures { GivesParsed progress_of result
         (number_step (around_of around) coefs.items relation negative token.entry.place (symbol_of token.entry.kind)) }
 {
     let Kind::Number(digits) = token.kind else {
@@ -276,7 +270,7 @@ fn at_modulo<'a>(
 ) -> Result<Parser<'a>, ReadPred>
     requires coefs { All (λ a. nat_abs a ≤ COEFFICIENT_LIMIT) coefs.items }
     requires constant { nat_abs constant ≤ BOUND_LIMIT - 1 }
-    ensures { Gives progress_of result
+    ensures { GivesParsed progress_of result
         (modulo_step (around_of around) coefs.items unequal constant token.entry.place (symbol_of token.entry.kind)) }
 {
     match token.kind {
@@ -302,7 +296,7 @@ fn after_equality<'a>(
 ) -> Result<Parser<'a>, ReadPred>
     requires coefs { All (λ a. nat_abs a ≤ COEFFICIENT_LIMIT) coefs.items }
     requires constant { nat_abs constant ≤ BOUND_LIMIT - 1 }
-    ensures { Gives progress_of result
+    ensures { GivesParsed progress_of result
         (equality_step (around_of around) coefs.items unequal constant token.entry.place (symbol_of token.entry.kind)) }
 {
     let Around { above, level } = around;
@@ -323,7 +317,7 @@ fn compared_up_to(
     ensures ors { IfOk result (λ found. option_map tree_of found.0 ≡ option_map tree_of level.ors) }
     ensures tree { IfOk result
         (λ found. tree_of found.1
-        ≡ tree_up_to_unit (span_of level) (negation_if unequal (equality_tree coefs.items constant))) }
+        ≡ tree_up_to_unit (span_of_level level) (negation_if unequal (equality_tree coefs.items constant))) }
 {
     let tree = equality(alloc, coefs, constant)?;
     up_to_unit(alloc, level, negated_if(alloc, unequal, tree)?)
@@ -337,7 +331,7 @@ fn at_modulus<'a>(
     constant: i64,
     token: Token<'a>,
 ) -> Result<Parser<'a>, ReadPred>
-    ensures { Gives progress_of result
+    ensures { GivesParsed progress_of result
         (modulus_step (around_of around) coefs.items unequal constant token.entry.place (symbol_of token.entry.kind)) }
 {
     let Kind::Number(digits) = token.kind else {
@@ -380,8 +374,8 @@ impl<'a> Parser<'a> {
         token: Token<'a>,
     ) -> Result<Parser<'a>, ReadPred>
         requires nots { self.around.level.nots < 2 ^ 31 }
-        requires next { HasNext (length names.now) (next_of self.expect) }
-        ensures { Gives progress_of result (step names.now (progress_of self.entry) (token_of token.entry)) }
+        requires next { HasNext (length names.now) (next_expected self.expect) }
+        ensures { GivesParsed progress_of result (step names.now (progress_of self.entry) (token_of token.entry)) }
     {
         let Parser { around, expect } = self;
         match expect {
@@ -416,8 +410,8 @@ impl<'a> Parser<'a> {
     /// The tree at the end of the text.
     #[tactic(auto, unfolding(crate::specs::Reading::finish))]
     pub fn finish(self, alloc: Global, names: &List<Text>, end: u32) -> Result<Tree, ReadPred>
-        requires next { HasNext (length names.now) (next_of self.expect) }
-        ensures { Gives tree_of result (finish (progress_of self.entry) end) }
+        requires next { HasNext (length names.now) (next_expected self.expect) }
+        ensures { GivesParsed tree_of result (finish (progress_of self.entry) end) }
     {
         let Parser { around, expect } = self;
         let Around { above, level } = around;

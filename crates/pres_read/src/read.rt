@@ -7,7 +7,7 @@ ghost use Rattle.pres_ast.specs.PredModel.{IsPred};
 ghost use Rattle.pres_ast.specs.TreeOf.{tree_of};
 ghost use Rattle.pres_tokens.specs.Tokens.{tokens_of};
 ghost use Rattle.pres_tokens.specs.Symbols.{token_of};
-ghost use Rattle.pres_read.specs.Outcome.{Gives, fault_of};
+ghost use Rattle.pres_read.specs.Outcome.{GivesParsed, text_fault_of};
 ghost use Rattle.pres_read.specs.Progress.{start};
 ghost use Rattle.pres_read.specs.Depth.{surface};
 ghost use Rattle.pres_read.specs.Reading.{run, read_on, pred_read};
@@ -35,7 +35,7 @@ pub fn read_pred(alloc: Global, text: &[u8], names: &List<Text>) -> Result<Pred,
     requires few { length names.now ≤ VARIABLE_LIMIT }
     requires names { AreNames variable_name names.now }
     // Token by token, each fault and its place.
-    ensures exact { Gives (λ pred. pred) result (pred_read names.now text.now) }
+    ensures exact { GivesParsed (λ pred. pred) result (pred_read names.now text.now) }
     // The grammar relates the text to the tree that is read.
     ensures derived { IfOk result (λ pred. Derives names.now (text_symbols text.now) pred.tree) }
     // Its names are the variables', and its numbers, signs and parentheses are within the limits.
@@ -49,7 +49,7 @@ pub fn read_pred(alloc: Global, text: &[u8], names: &List<Text>) -> Result<Pred,
         → IsReadTo (meaning names.now phrase) result }
     // The tokens before the place begin a text of the grammar and keep all rules, and this one breaks that of the
     // fault.
-    ensures faults { IfErr result (λ fault. IfSome (fault_of fault) (IsReadFault names.now text.now)) }
+    ensures faults { IfErr result (λ fault. IfSome (text_fault_of fault) (IsReadFault names.now text.now)) }
 {
     read_exactly(alloc, text, names)
 }
@@ -57,7 +57,7 @@ pub fn read_pred(alloc: Global, text: &[u8], names: &List<Text>) -> Result<Pred,
 fn read_exactly(alloc: Global, text: &[u8], names: &List<Text>) -> Result<Pred, ReadPred>
     requires some { 1 ≤ length names.now }
     requires few { length names.now ≤ VARIABLE_LIMIT }
-    ensures { Gives (λ pred. pred) result (pred_read names.now text.now) }
+    ensures { GivesParsed (λ pred. pred) result (pred_read names.now text.now) }
 {
     if text.len() > TEXT_LIMIT {
         return Err(ReadPred::LongText(text.len() as u64));
@@ -70,7 +70,7 @@ fn read_tree<'a>(alloc: Global, text: &'a [u8], names: &List<Text>) -> Result<Tr
     requires short { length text.now ≤ TEXT_LIMIT }
     requires some { 1 ≤ length names.now }
     requires few { length names.now ≤ VARIABLE_LIMIT }
-    ensures exact { Gives tree_of result (run names.now (length text.now) start surface (tokens_of text.now)) }
+    ensures exact { GivesParsed tree_of result (run names.now (length text.now) start surface (tokens_of text.now)) }
     ensures limits { IfOk result (λ tree. IsPred (length names.now) (tree_of tree)) }
 {
     let mut reader = Reader {
@@ -104,7 +104,7 @@ impl<'a> Reader<'a> {
         ensures sound { IfOk result (λ r. IsSoundProgress (length names.now) (progress_of r.parser) r.depth.charge) }
         ensures charge { IfOk result (λ r. r.depth.charge ≤ WEIGHT_LIMIT) }
         ensures parentheses { IfOk result (λ r. r.depth.parentheses ≤ PARENTHESIS_LIMIT) }
-        ensures exact { Gives (λ r. (progress_of r.parser, depth_of r.depth)) result
+        ensures exact { GivesParsed (λ r. (progress_of r.parser, depth_of r.depth)) result
             (read_on names.now (progress_of self.entry.parser) (depth_of self.entry.depth) (token_of token.entry)) }
     {
         let Reader { parser, depth } = self;

@@ -2,8 +2,8 @@
 
 ghost use Rattle.std.specs.Prelude.{◌≡◌, ◌≤◌, ◌<◌, ◌^◌, length, vec_len, All, nat_abs, pos, ◌+ℤ◌, slice_index_or};
 ghost use Rattle.pres_ast.specs.PredModel.{AreCoefs};
-ghost use Rattle.pres_read.specs.Outcome.{Gives};
-ghost use Rattle.pres_read.specs.Atoms.{added, with_coef as with_coef_at, signed as signed_number};
+ghost use Rattle.pres_read.specs.Outcome.{GivesParsed};
+ghost use Rattle.pres_read.specs.Atoms.{added, with_coef_at, signed_number};
 ghost use Rattle.pres_read.specs.Views.{factor_of};
 
 use crate::fault::ReadPred;
@@ -21,7 +21,8 @@ pub(crate) fn with_term(
     place: u32,
 ) -> Result<Vec<i64>, ReadPred>
     requires { AreCoefs (length names.now) coefs.items }
-    ensures { Gives (λ sum. sum.items) result (added names.now coefs.items (factor_of factor.entry) place word.now) }
+    ensures { GivesParsed
+        (λ sum. sum.items) result (added names.now coefs.items (factor_of factor.entry) place word.now) }
 {
     let Some(at) = place_of(names.as_slice(), word) else {
         return Err(ReadPred::UnknownName(place));
@@ -44,7 +45,7 @@ fn grown(coefs: &[i64], at: usize, amount: i64) -> i64
 
 fn with_coef(mut coefs: Vec<i64>, at: usize, coef: i64, place: u32) -> Result<Vec<i64>, ReadPred>
     requires { at < vec_len coefs }
-    ensures { Gives (λ sum. sum.items) result (with_coef_at coefs.items at coef place) }
+    ensures { GivesParsed (λ sum. sum.items) result (with_coef_at coefs.items at coef place) }
 {
     if coef.unsigned_abs() > COEFFICIENT_LIMIT {
         return Err(ReadPred::TooLarge(place));

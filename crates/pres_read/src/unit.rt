@@ -4,12 +4,10 @@ ghost use Rattle.std.specs.Prelude.{◌≡◌, IfOk, option_map};
 ghost use Rattle.pres_ast.specs.TreeOf.{tree_of};
 ghost use Rattle.pres_tokens.specs.Symbols.{symbol_of};
 ghost use Rattle.pres_read.specs.Progress.{AUnit};
-ghost use Rattle.pres_read.specs.Outcome.{Gives};
-ghost use Rattle.pres_read.specs.Reading.{negation, conjunction, disjunction};
-ghost use Rattle.pres_read.specs.Reading.{tree_up_to_unit, progress_after_unit};
-ghost use Rattle.pres_read.specs.Reading.{sign_step};
-ghost use Rattle.pres_read.specs.Reading.{end_step, close_step, going_on};
-ghost use Rattle.pres_read.specs.Views.{span_of, spans_of, around_of, progress_of};
+ghost use Rattle.pres_read.specs.Outcome.{GivesParsed};
+ghost use Rattle.pres_read.specs.Reading.{negation, conjunction, disjunction, tree_up_to_unit, progress_after_unit};
+ghost use Rattle.pres_read.specs.Reading.{sign_step, end_step, close_step, going_on};
+ghost use Rattle.pres_read.specs.Views.{span_of_level, spans_of, around_of, progress_of};
 
 use crate::fault::ReadPred;
 use crate::place::{Around, Expect, Level, Parser};
@@ -53,7 +51,7 @@ pub(crate) fn up_to_unit(
     tree: Tree,
 ) -> Result<(Option<Tree>, Tree), NoMemory>
     ensures ors { IfOk result (λ found. option_map tree_of found.0 ≡ option_map tree_of level.ors) }
-    ensures tree { IfOk result (λ found. tree_of found.1 ≡ tree_up_to_unit (span_of level) (tree_of tree)) }
+    ensures tree { IfOk result (λ found. tree_of found.1 ≡ tree_up_to_unit (span_of_level level) (tree_of tree)) }
 {
     let Level { ors, ands, nots } = level;
     let tree = negated(alloc, tree, nots)?;
@@ -89,7 +87,7 @@ pub(crate) fn at_sign<'a>(
     tree: Tree,
     token: Token<'a>,
 ) -> Result<Parser<'a>, ReadPred>
-    ensures { Gives progress_of result
+    ensures { GivesParsed progress_of result
         (sign_step (spans_of above) (option_map tree_of ors) (tree_of tree) token.entry.place
         (symbol_of token.entry.kind)) }
 {
@@ -122,7 +120,7 @@ pub(crate) fn at_sign<'a>(
 }
 
 fn before_unit<'a>(above: Vec<Level>, level: Level) -> Parser<'a>
-    ensures { progress_of result ≡ going_on (record { above = spans_of above; span = span_of level }) AUnit }
+    ensures { progress_of result ≡ going_on (record { above = spans_of above; span = span_of_level level }) AUnit }
 {
     Parser {
         around: Around { above, level },
@@ -136,7 +134,7 @@ fn closed<'a>(
     tree: Tree,
     place: u32,
 ) -> Result<Parser<'a>, ReadPred>
-    ensures { Gives progress_of result (close_step (spans_of above) (tree_of tree) place) }
+    ensures { GivesParsed progress_of result (close_step (spans_of above) (tree_of tree) place) }
 {
     let Some(level) = above.pop() else {
         return Err(ReadPred::Syntax(place));
@@ -152,7 +150,7 @@ pub(crate) fn ended(
     tree: Tree,
     end: u32,
 ) -> Result<Tree, ReadPred>
-    ensures { Gives tree_of result (end_step (spans_of above) (option_map tree_of ors) (tree_of tree) end) }
+    ensures { GivesParsed tree_of result (end_step (spans_of above) (option_map tree_of ors) (tree_of tree) end) }
 {
     if !above.is_empty() {
         return Err(ReadPred::Syntax(end));

@@ -1,7 +1,7 @@
 -- The list of tokens, one token or one blank further.
 use Rattle.std.proofs.Common.{◌≡◌, ℕ, zero, suc, ◌+◌, ◌-◌, ◌<◌, true, false, List, [], ◌∷◌, length, get_or, drop, refl, sym, ap, ◌∙◌, arith}
 use Rattle.std.proofs.lemmas.List.{drop_more, drop-drop}
-use Rattle.pres_tokens.specs.Tokens.{blank, first_symbol, tokens_from}
+use Rattle.pres_tokens.specs.Tokens.{is_blank_byte, first_symbol, tokens_from}
 
 pub tokens-skip : (k place : ℕ) (bytes : List ℕ) → tokens_from k place bytes ≡ tokens_from 0 (place + k) (drop k bytes)
 tokens-skip zero place bytes = ap (λ n. tokens_from 0 n bytes) (omega arith)
@@ -9,21 +9,21 @@ tokens-skip (suc k) place [] = refl
 tokens-skip (suc k) place (b ∷ bytes) =
     tokens-skip k (place + 1) bytes ∙ ap (λ n. tokens_from 0 n (drop k bytes)) (omega arith)
 
-past_blank : (b place : ℕ) (bytes : List ℕ) → blank b ≡ true → tokens_from 0 place (b ∷ bytes) ≡ tokens_from 0 (place + 1) bytes
+past_blank : (b place : ℕ) (bytes : List ℕ) → is_blank_byte b ≡ true → tokens_from 0 place (b ∷ bytes) ≡ tokens_from 0 (place + 1) bytes
 past_blank b place bytes e = rw e refl
 
 -- a blank is passed over
-pub tokens-blank : (text : List ℕ) (at : ℕ) → at < length text → blank (get_or text at 0) ≡ true
+pub tokens-blank : (text : List ℕ) (at : ℕ) → at < length text → is_blank_byte (get_or text at 0) ≡ true
     → tokens_from 0 at (drop at text) ≡ tokens_from 0 (at + 1) (drop (at + 1) text)
 tokens-blank text at h e =
     ap (tokens_from 0 at) (drop_more text at 0 h) ∙ past_blank (get_or text at 0) at (drop (at + 1) text) e
 
-token_first : (b place : ℕ) (bytes : List ℕ) → blank b ≡ false
+token_first : (b place : ℕ) (bytes : List ℕ) → is_blank_byte b ≡ false
     → tokens_from 0 place (b ∷ bytes) ≡ record { place = place; symbol = (first_symbol (b ∷ bytes)).0 } ∷ tokens_from ((first_symbol (b ∷ bytes)).1 - 1) (place + 1) bytes
 token_first b place bytes e = rw e refl
 
 -- any other byte begins the next token
-pub tokens-token : (text : List ℕ) (at : ℕ) (len : ℕ) → at < length text → blank (get_or text at 0) ≡ false
+pub tokens-token : (text : List ℕ) (at : ℕ) (len : ℕ) → at < length text → is_blank_byte (get_or text at 0) ≡ false
     → len ≡ (first_symbol (drop at text)).1 → 0 < len
     → tokens_from 0 at (drop at text) ≡ record { place = at; symbol = (first_symbol (drop at text)).0 } ∷ tokens_from 0 (at + len) (drop (at + len) text)
 tokens-token text at len h e f some =

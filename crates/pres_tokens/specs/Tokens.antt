@@ -8,8 +8,8 @@ use Rattle.pres_tokens.specs.declared.token.Relation.TheVariants.{Less, AtMost, 
 use Rattle.pres_tokens.specs.Symbols.{Symbol, Name, Number, Plus, Minus, Star, Compare, And, Or, Not, Open, Close, Mod, Stray, Placed}
 
 -- a space or a tab
-abbrev pub blank : ℕ → Bool
-blank b = b == 32 || b == 9
+abbrev pub is_blank_byte : ℕ → Bool
+is_blank_byte b = b == 32 || b == 9
 
 abbrev pub digit : ℕ → Bool
 digit b = nat_le 48 b && nat_le b 57
@@ -62,7 +62,7 @@ abbrev pub tokens_from : (skip place : ℕ) → List ℕ → List Placed
 tokens_from skip place [] = []
 tokens_from (suc k) place (b ∷ bytes) = tokens_from k (place + 1) bytes
 tokens_from zero place (b ∷ bytes) =
-    if blank b then tokens_from 0 (place + 1) bytes
+    if is_blank_byte b then tokens_from 0 (place + 1) bytes
     else (record { place = place; symbol = (first_symbol (b ∷ bytes)).0 } ∷ tokens_from ((first_symbol (b ∷ bytes)).1 - 1) (place + 1) bytes)
 
 abbrev pub tokens_of : List ℕ → List Placed

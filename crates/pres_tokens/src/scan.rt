@@ -2,15 +2,15 @@
 
 ghost use Rattle.std.specs.Prelude.{◌≡◌, ◌+◌, ◌<◌, ◌≤◌, ◌^◌, [], ◌∷◌, length, drop, MatchOption, option_map};
 ghost use Rattle.std.specs.List.{prefix_len};
-ghost use Rattle.pop_io.specs.Names.{is_name_start as starts_word, is_name_byte as word_byte};
+ghost use Rattle.pop_io.specs.Names.{is_name_start, is_name_byte};
 ghost use Rattle.pres_tokens.specs.Symbols.{symbol_of, token_of};
-ghost use Rattle.pres_tokens.specs.Tokens.{blank, digit, byte_symbol, pair_symbol, first_sign, word_symbol};
+ghost use Rattle.pres_tokens.specs.Tokens.{is_blank_byte, digit, byte_symbol, pair_symbol, first_sign, word_symbol};
 ghost use Rattle.pres_tokens.specs.Tokens.{first_symbol, tokens_from};
 
 use crate::token::{Kind, Relation, Token};
 
 fn is_blank(byte: u8) -> bool
-    ensures { result ≡ blank byte }
+    ensures { result ≡ is_blank_byte byte }
 {
     byte == b' ' || byte == b'\t'
 }
@@ -21,24 +21,27 @@ fn is_digit(byte: u8) -> bool
     b'0' <= byte && byte <= b'9'
 }
 
-fn is_name_start(byte: u8) -> bool
-    ensures { result ≡ starts_word byte }
+fn starts_name(byte: u8) -> bool
+    ensures { result ≡ is_name_start byte }
 {
     (b'A' <= byte && byte <= b'Z') || (b'a' <= byte && byte <= b'z') || byte == b'_'
 }
 
-fn is_name_byte(byte: u8) -> bool
-    ensures { result ≡ word_byte byte }
+fn continues_name(byte: u8) -> bool
+    ensures { result ≡ is_name_byte byte }
 {
-    is_name_start(byte) || is_digit(byte)
+    starts_name(byte) || is_digit(byte)
 }
 
 // How many letters, digits and `_` the bytes begin with.
 fn word_len(bytes: &[u8]) -> usize
-    ensures value { result ≡ prefix_len word_byte bytes.now }
+    ensures value { result ≡ prefix_len is_name_byte bytes.now }
     ensures within { result ≤ length bytes.now }
 {
-    bytes.iter().take_while(|byte| is_name_byte(**byte)).count()
+    bytes
+        .iter()
+        .take_while(|byte| continues_name(**byte))
+        .count()
 }
 
 fn digits_len(bytes: &[u8]) -> usize
@@ -96,7 +99,7 @@ fn first_kind(bytes: &[u8]) -> (Kind<'_>, usize)
     ensures within { result.1 ≤ length bytes.now }
 {
     let first = bytes[0];
-    if is_name_start(first) {
+    if starts_name(first) {
         let len = word_len(bytes);
         (word_kind(&bytes[..len]), len)
     } else if is_digit(first) {

@@ -8,7 +8,7 @@ use Rattle.std.proofs.lemmas.Slice.Eq.{slice_eq-Decides}
 use Rattle.pop_net.specs.declared.leaf.Move.{Move}
 use Rattle.pop_net.specs.LeafModel.{LeafModel, silent_move, same_pair}
 use Rattle.pop_net.specs.NetModel.{NetModel, Tuple}
-use Rattle.pop_net.specs.Reaction.{takes, after_move, by_move, leaf_reaction, reactions, reaction}
+use Rattle.pop_net.specs.Reaction.{takes_states, after_move, by_move, leaf_reaction, reactions, reaction}
 use Rattle.pop_net.proofs.Found.{find_some}
 use Rattle.pop_net.proofs.Quiet.{leaf_quiet, leaves_quiet}
 use Rattle.pop_crowd.specs.Replay.{reacts}
@@ -37,10 +37,10 @@ after_itself t x y false e s h k =
     let second : t.q ≡ t.s = sym (eqb-true x t.q parts.0) ∙ sym h in
     rw (eq-eqb t.p t.r first, eq-eqb t.q t.s second) refl
 
-quiet_leaf : (leaf : LeafModel) (x y : ℕ) (found : Option Move) → find (takes x y) leaf.moves ≡ found → (by_move x y found).0 ≡ x → (by_move x y found).1 ≡ y → is_none found ≡ true
+quiet_leaf : (leaf : LeafModel) (x y : ℕ) (found : Option Move) → find (takes_states x y) leaf.moves ≡ found → (by_move x y found).0 ≡ x → (by_move x y found).1 ≡ y → is_none found ≡ true
 quiet_leaf leaf x y None e h k = refl
 quiet_leaf leaf x y (Some t) e h k =
-    let s = find_some (takes x y) leaf.moves t e in
+    let s = find_some (takes_states x y) leaf.moves t e in
     let parts = and_parts (not (silent_move t)) (same_pair x y t.p t.q) s.2 in
     let silent = after_itself t x y ((x == t.p) && (y == t.q)) refl parts.1 h k in
     absurd (false≢true (sym (not-true _ parts.0) ∙ silent))
@@ -58,7 +58,7 @@ quiet_leaves (leaf ∷ leaves) [] y hx hy e f = refl
 quiet_leaves (leaf ∷ leaves) (p ∷ x) [] hx hy e f = refl
 quiet_leaves (leaf ∷ leaves) (p ∷ x) (q ∷ y) hx hy e f =
     and_from _ _
-    (quiet_leaf leaf p q (find (takes p q) leaf.moves) refl (heads (leaf_reaction leaf p q).0 p _ x e) (heads (leaf_reaction leaf p q).1 q _ y f))
+    (quiet_leaf leaf p q (find (takes_states p q) leaf.moves) refl (heads (leaf_reaction leaf p q).0 p _ x e) (heads (leaf_reaction leaf p q).1 q _ y f))
     (quiet_leaves leaves x y (ap pred hx) (ap pred hy) (tails (leaf_reaction leaf p q).0 p _ x e) (tails (leaf_reaction leaf p q).1 q _ y f))
 
 or_turned : (a b : Bool) → a || b ≡ b || a
@@ -73,7 +73,7 @@ and_turned true false = refl
 and_turned false true = refl
 and_turned false false = refl
 
-takes_turned : (x y : ℕ) (t : Move) → takes x y t ≡ takes y x t
+takes_turned : (x y : ℕ) (t : Move) → takes_states x y t ≡ takes_states y x t
 takes_turned x y t =
     ap (λ b. not (silent_move t) && b)
     (or_turned ((x == t.p) && (y == t.q)) ((x == t.q) && (y == t.p)) ∙ ap (λ b. b || (x == t.p) && (y == t.q)) (and_turned (x == t.q) (y == t.p)) ∙ ap (λ b. (y == t.p) && (x == t.q) || b) (and_turned (x == t.p) (y == t.q)))

@@ -10,13 +10,13 @@ use Rattle.std.proofs.lemmas.Option.{slice_get-get_or, slice_get_within, slice_g
 use Rattle.pop_net.specs.declared.leaf.Move.{Move}
 use Rattle.pop_net.specs.LeafModel.{LeafModel, IsLeaf, silent_move, same_pair}
 use Rattle.pop_net.specs.NetModel.{NetModel, Tuple, CrowdModel, IsTuple, state_of}
-use Rattle.pop_net.specs.Reaction.{takes, by_move, leaf_reaction, reactions}
+use Rattle.pop_net.specs.Reaction.{takes_states, by_move, leaf_reaction, reactions}
 use Rattle.pop_net.proofs.Found.{find_some}
 use Rattle.pop_net.proofs.Projection.{component, slice_get-component}
 use Rattle.pop_net.proofs.Quiet.{leaf_quiet, leaves_quiet, All-slice_get}
 use Rattle.pop_net.proofs.Silent.{same_pair_cases}
 use Rattle.pop_crowd.specs.Replay.{reacts, changes}
-use Rattle.terminal_test.specs.Loud.{pairs_of, ArePairsBelow}
+use Rattle.terminal_test.specs.Loud.{pairs_of_moves, ArePairsBelow}
 use Rattle.terminal_test.specs.Restless.{CountsTo, AreSeen, are_held_by, AreMarkedTo, AreMarkedByAll, IsMarked, AreRestlessTo, AreRestless, IsCalmTo, IsCalm}
 use Rattle.terminal_test.proofs.LoudPairs.{in_pairs, pairs_below}
 use Rattle.terminal_test.proofs.Pairwise.{moved}
@@ -142,16 +142,16 @@ are_held seen p q one other two = go (eqb_tells p q)
 
 -- what moves two states of a leaf
 mover : (leaf : LeafModel) (x y : ℕ) → leaf_quiet leaf x y ≡ false → (i : ℕ) × (t : Move) × (slice_get leaf.moves i ≡ Some t) × (silent_move t ≡ false) × (same_pair x y t.p t.q ≡ true)
-mover leaf x y loud = go (find (takes x y) leaf.moves) refl
+mover leaf x y loud = go (find (takes_states x y) leaf.moves) refl
   where
-    go : (found : Option Move) → find (takes x y) leaf.moves ≡ found → (i : ℕ) × (t : Move) × (slice_get leaf.moves i ≡ Some t) × (silent_move t ≡ false) × (same_pair x y t.p t.q ≡ true)
+    go : (found : Option Move) → find (takes_states x y) leaf.moves ≡ found → (i : ℕ) × (t : Move) × (slice_get leaf.moves i ≡ Some t) × (silent_move t ≡ false) × (same_pair x y t.p t.q ≡ true)
     go None e = absurd (false≢true (sym loud ∙ ap is_none e))
     go (Some t) e =
-        let s = find_some (takes x y) leaf.moves t e in
+        let s = find_some (takes_states x y) leaf.moves t e in
         let parts = and_parts (not (silent_move t)) (same_pair x y t.p t.q) s.2 in
         (s.0, t, s.1, not-true _ parts.0, parts.1)
 
-module _ (leaf : LeafModel) (states seen : List ℕ) (marks : List Bool) (n : ℕ) (agents : length states ≡ n) (counted : CountsTo states seen n) (marked : AreMarkedByAll (pairs_of leaf.moves) seen marks) where
+module _ (leaf : LeafModel) (states seen : List ℕ) (marks : List Bool) (n : ℕ) (agents : length states ≡ n) (counted : CountsTo states seen n) (marked : AreMarkedByAll (pairs_of_moves leaf.moves) seen marks) where
   there : (a x : ℕ) → slice_get states a ≡ Some x → 1 ≤ get_or seen x 0
   there a x ha = counted.once a x (let l = slice_get_within states a x ha in omega (arith, l, agents)) ha
 
@@ -168,13 +168,13 @@ module _ (leaf : LeafModel) (states seen : List ℕ) (marks : List Bool) (n : �
       let m = mover leaf x y loud in
       go m.1 (in_pairs leaf.moves m.0 m.1 m.2 m.3) (same_pair_cases x y m.1.p m.1.q m.4)
     where
-      go : (t : Move) → (j : ℕ) × (slice_get (pairs_of leaf.moves) j ≡ Some (t.p, t.q)) → ((x ≡ t.p) × (y ≡ t.q)) ⊎ ((x ≡ t.q) × (y ≡ t.p)) → slice_get marks x ≡ Some true
+      go : (t : Move) → (j : ℕ) × (slice_get (pairs_of_moves leaf.moves) j ≡ Some (t.p, t.q)) → ((x ≡ t.p) × (y ≡ t.q)) ⊎ ((x ≡ t.q) × (y ≡ t.p)) → slice_get marks x ≡ Some true
       go t at (inl e) =
           let met : are_held_by seen t.p t.q ≡ true = rw (← e.0, ← e.1) (are_held seen x y (there a x ha) (there b y hb) (λ same. both a b x ne ha (hb ∙ ap Some (sym same)))) in
-          ap (slice_get marks) e.0 ∙ marked.first at.0 t.p t.q (slice_get_within (pairs_of leaf.moves) at.0 (t.p, t.q) at.1) at.1 met
+          ap (slice_get marks) e.0 ∙ marked.first at.0 t.p t.q (slice_get_within (pairs_of_moves leaf.moves) at.0 (t.p, t.q) at.1) at.1 met
       go t at (inr e) =
           let met : are_held_by seen t.p t.q ≡ true = rw (← e.0, ← e.1) (are_held seen y x (there b y hb) (there a x ha) (λ same. both b a y (λ e. ne (sym e)) hb (ha ∙ ap Some (sym same)))) in
-          ap (slice_get marks) e.0 ∙ marked.second at.0 t.p t.q (slice_get_within (pairs_of leaf.moves) at.0 (t.p, t.q) at.1) at.1 met
+          ap (slice_get marks) e.0 ∙ marked.second at.0 t.p t.q (slice_get_within (pairs_of_moves leaf.moves) at.0 (t.p, t.q) at.1) at.1 met
 
 -- where no leaf has a move for two tuples, a reaction changes nothing
 reactions_quiet : (leaves : List LeafModel) (x y : Tuple) → length x ≡ length leaves → length y ≡ length leaves → leaves_quiet leaves x y ≡ true → (map (λ z. z.0) (reactions leaves x y) ≡ x) × (map (λ z. z.1) (reactions leaves x y) ≡ y)
@@ -185,7 +185,7 @@ reactions_quiet (leaf ∷ leaves) [] y hx hy q = cc
 reactions_quiet (leaf ∷ leaves) (p ∷ x) [] hx hy q = cc
 reactions_quiet (leaf ∷ leaves) (p ∷ x) (r ∷ y) hx hy q =
     let parts = and_parts (leaf_quiet leaf p r) (leaves_quiet leaves x y) q in
-    let here : leaf_reaction leaf p r ≡ (p, r) = unmoved (find (takes p r) leaf.moves) parts.0 in
+    let here : leaf_reaction leaf p r ≡ (p, r) = unmoved (find (takes_states p r) leaf.moves) parts.0 in
     let rest = reactions_quiet leaves x y (ap pred hx) (ap pred hy) parts.1 in (
       ap (λ (z : ℕ × ℕ). z.0 ∷ map (λ z. z.0) (reactions leaves x y)) here ∙ ap (λ zs. p ∷ zs) rest.0,
       ap (λ (z : ℕ × ℕ). z.1 ∷ map (λ z. z.1) (reactions leaves x y)) here ∙ ap (λ zs. r ∷ zs) rest.1,
@@ -268,20 +268,20 @@ calm_below net words marks a x ha restless calm d l m =
     (tuple_at net words a x ha) (tuple_at net words d (get_or words d x) hd) calm
 
 -- what stands in a mapped list
-pub pairs_here : (net : NetModel) (loud : List (List (ℕ × ℕ))) (i : ℕ) (r : List (ℕ × ℕ)) → loud ≡ map (λ (leaf : LeafModel). pairs_of leaf.moves) net.leaves → r ≡ get_or loud i r → (leaf : LeafModel) → slice_get net.leaves i ≡ Some leaf → r ≡ pairs_of leaf.moves
+pub pairs_here : (net : NetModel) (loud : List (List (ℕ × ℕ))) (i : ℕ) (r : List (ℕ × ℕ)) → loud ≡ map (λ (leaf : LeafModel). pairs_of_moves leaf.moves) net.leaves → r ≡ get_or loud i r → (leaf : LeafModel) → slice_get net.leaves i ≡ Some leaf → r ≡ pairs_of_moves leaf.moves
 pairs_here net loud i r e is leaf h =
     is ∙ ap (λ xs. get_or xs i r) e
-    ∙ get_or_from_slice_get (map (λ (leaf : LeafModel). pairs_of leaf.moves) net.leaves) i (pairs_of leaf.moves) r
-    (slice_get-map (λ (leaf : LeafModel). pairs_of leaf.moves) net.leaves i ∙ ap (option_map (λ (leaf : LeafModel). pairs_of leaf.moves)) h)
+    ∙ get_or_from_slice_get (map (λ (leaf : LeafModel). pairs_of_moves leaf.moves) net.leaves) i (pairs_of_moves leaf.moves) r
+    (slice_get-map (λ (leaf : LeafModel). pairs_of_moves leaf.moves) net.leaves i ∙ ap (option_map (λ (leaf : LeafModel). pairs_of_moves leaf.moves)) h)
 
 -- the pairs of a leaf name its states
-pub pairs_in_range : (leaf : LeafModel) (pairs : List (ℕ × ℕ)) (n : ℕ) → IsLeaf leaf → pairs ≡ pairs_of leaf.moves → n ≡ length leaf.states → ArePairsBelow n pairs
+pub pairs_in_range : (leaf : LeafModel) (pairs : List (ℕ × ℕ)) (n : ℕ) → IsLeaf leaf → pairs ≡ pairs_of_moves leaf.moves → n ≡ length leaf.states → ArePairsBelow n pairs
 pairs_in_range leaf pairs n formed e same =
     subst (λ (zs : List (ℕ × ℕ)). ArePairsBelow n zs) (sym e)
-    (subst (λ (m : ℕ). ArePairsBelow m (pairs_of leaf.moves)) (sym same) (pairs_below (length leaf.states) leaf.moves formed.moves))
+    (subst (λ (m : ℕ). ArePairsBelow m (pairs_of_moves leaf.moves)) (sym same) (pairs_below (length leaf.states) leaf.moves formed.moves))
 
 -- the marks of a leaf
-pub leaf_marked : (net : NetModel) (crowd : CrowdModel) (i : ℕ) (leaf : LeafModel) (pairs : List (ℕ × ℕ)) (seen : List ℕ) (marks : List Bool) → slice_get net.leaves i ≡ Some leaf → pairs ≡ pairs_of leaf.moves → AreSeen net i crowd seen → AreMarkedByAll pairs seen marks → IsMarked leaf (component i crowd) marks
+pub leaf_marked : (net : NetModel) (crowd : CrowdModel) (i : ℕ) (leaf : LeafModel) (pairs : List (ℕ × ℕ)) (seen : List ℕ) (marks : List Bool) → slice_get net.leaves i ≡ Some leaf → pairs ≡ pairs_of_moves leaf.moves → AreSeen net i crowd seen → AreMarkedByAll pairs seen marks → IsMarked leaf (component i crowd) marks
 leaf_marked net crowd i leaf pairs seen marks h e are marked =
     record {
       size = marked.size ∙ are.size leaf h;

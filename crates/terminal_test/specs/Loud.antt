@@ -4,9 +4,9 @@ use Rattle.pop_net.specs.declared.leaf.Move.{Move}
 use Rattle.pop_net.specs.LeafModel.{silent_move}
 
 -- the two states of each move that is not silent
-abbrev pub pairs_of : List Move → List (ℕ × ℕ)
-pairs_of [] = []
-pairs_of (t ∷ moves) = if silent_move t then pairs_of moves else (t.p, t.q) ∷ pairs_of moves
+abbrev pub pairs_of_moves : List Move → List (ℕ × ℕ)
+pairs_of_moves [] = []
+pairs_of_moves (t ∷ moves) = if silent_move t then pairs_of_moves moves else (t.p, t.q) ∷ pairs_of_moves moves
 
 -- states with numbers below n
 abbrev pub ArePairsBelow : ℕ → List (ℕ × ℕ) → Type 0

@@ -2,5 +2,5 @@
 use Rattle.pop_net.specs.NetModel.{NetModel}
 use Rattle.terminal_test.specs.declared.pair_table.PairTable.{PairTable}
 
-abbrev pub net_of : PairTable → NetModel
-net_of table = table.net.now
+abbrev pub table_net : PairTable → NetModel
+table_net table = table.net.now

@@ -1,7 +1,7 @@
 //! The pairs of states that react in a leaf.
 
 ghost use Rattle.std.specs.Prelude.{◌≡◌, [], ◌∷◌, ◌++◌, IfOk, OnOk};
-ghost use Rattle.terminal_test.specs.Loud.{pairs_of};
+ghost use Rattle.terminal_test.specs.Loud.{pairs_of_moves};
 
 use pop_io::{List, NoMemory};
 use pop_net::{Leaf, Move};
@@ -9,7 +9,7 @@ use std::alloc::Global;
 
 /// The two states of each move that is not silent.
 pub(crate) fn loud_pairs(alloc: Global, leaf: &Leaf) -> Result<List<(u16, u16)>, NoMemory>
-    ensures { IfOk result (λ pairs. pairs ≡ pairs_of leaf.now.moves) }
+    ensures { IfOk result (λ pairs. pairs ≡ pairs_of_moves leaf.now.moves) }
 {
     let mut pairs = Vec::new(alloc);
     for t in 0..leaf.move_count() {
@@ -20,7 +20,7 @@ pub(crate) fn loud_pairs(alloc: Global, leaf: &Leaf) -> Result<List<(u16, u16)>,
 
 /// Adds the states of a move, unless it is silent.
 fn push_loud(pairs: &mut Vec<(u16, u16)>, taken: Move) -> Result<(), NoMemory>
-    ensures { OnOk result (pairs.new.items ≡ pairs.old.items ++ pairs_of (taken ∷ [])) }
+    ensures { OnOk result (pairs.new.items ≡ pairs.old.items ++ pairs_of_moves (taken ∷ [])) }
 {
     if !taken.is_silent() {
         pairs.push((taken.p, taken.q))?;

@@ -4,7 +4,7 @@ ghost use Rattle.std.specs.Prelude.{◌≡◌, ◌<◌, ◌↔◌, length, map, 
 ghost use Rattle.pop_net.specs.Lanes.{crowd_of, AreValid};
 ghost use Rattle.pop_net.specs.Step.{Step};
 ghost use Rattle.pop_net.specs.Terminal.{IsTerminal};
-ghost use Rattle.terminal_test.specs.Loud.{pairs_of};
+ghost use Rattle.terminal_test.specs.Loud.{pairs_of_moves};
 ghost use Rattle.terminal_test.specs.Pairs.{IsEnabled, IsLeastPair, MovesOn};
 
 use crate::loud::loud_pairs;
@@ -25,11 +25,11 @@ pub struct PairTable<'n> {
 }
 
 impl<'n> PairTable<'n> {
-    ghost use Rattle.terminal_test.specs.TableNet.{net_of};
+    ghost use Rattle.terminal_test.specs.TableNet.{table_net};
 
     /// The pairs of states that react in each leaf of the net.
     pub fn new(alloc: Global, net: &'n Net) -> Result<PairTable<'n>, NoMemory>
-        ensures { IfOk result (λ table. net_of table ≡ net.now) }
+        ensures { IfOk result (λ table. table_net table ≡ net.now) }
     {
         let mut loud = Vec::new(alloc);
         for leaf in 0..net.leaf_count() {
@@ -41,15 +41,17 @@ impl<'n> PairTable<'n> {
     /// `None` exactly when the crowd is terminal, else the pair `(a, b)` with `a < b` whose meeting changes a
     /// word, the least by `a` and then by `b`.
     pub fn enabled_pair(&self, alloc: Global, crowd: &Crowd) -> Result<Option<(u32, u32)>, NoMemory>
-        requires { AreValid (net_of self.now) crowd.now }
+        requires { AreValid (table_net self.now) crowd.now }
         ensures none { IfOk result
-            (λ found. (found ≡ None) ↔ IsTerminal (Step (net_of self.now)) (crowd_of (net_of self.now) crowd.now)) }
+            (λ found. (found ≡ None)
+            ↔ IsTerminal (Step (table_net self.now)) (crowd_of (table_net self.now) crowd.now)) }
         ensures least { IfOk result
             (λ found.
-            IfSome found (λ pair. IsLeastPair (net_of self.now) (crowd_of (net_of self.now) crowd.now) pair.0 pair.1)) }
+            IfSome found (λ pair.
+            IsLeastPair (table_net self.now) (crowd_of (table_net self.now) crowd.now) pair.0 pair.1)) }
         // Where a pair is enabled, a step of the model leads to another crowd.
         ensures moves { IfOk result
-            (λ found. IfSome found (λ _. MovesOn (net_of self.now) (crowd_of (net_of self.now) crowd.now))) }
+            (λ found. IfSome found (λ _. MovesOn (table_net self.now) (crowd_of (table_net self.now) crowd.now))) }
     {
         let restless = restless_states(alloc, self.net, self.loud.as_slice(), crowd)?;
         for a in 0..crowd.len() {
@@ -70,14 +72,14 @@ impl<'n> PairTable<'n> {
         crowd: &Crowd,
         last: &mut Option<(u32, u32)>,
     ) -> Result<bool, NoMemory>
-        requires { AreValid (net_of self.now) crowd.now }
+        requires { AreValid (table_net self.now) crowd.now }
         ensures terminal { IfOk result
             (λ terminal. (terminal ≡ true)
-            ↔ IsTerminal (Step (net_of self.now)) (crowd_of (net_of self.now) crowd.now)) }
+            ↔ IsTerminal (Step (table_net self.now)) (crowd_of (table_net self.now) crowd.now)) }
         // The pair that is kept is enabled in this crowd.
         ensures kept { IfOk result
             (λ _. IfSome last.new
-            (λ pair. IsEnabled (net_of self.now) (crowd_of (net_of self.now) crowd.now) pair.0 pair.1)) }
+            (λ pair. IsEnabled (table_net self.now) (crowd_of (table_net self.now) crowd.now) pair.0 pair.1)) }
     {
         if let Some((a, b)) = *last {
             if are_enabled(self.net, crowd, a, b) {

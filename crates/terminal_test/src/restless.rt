@@ -3,7 +3,7 @@
 ghost use Rattle.std.specs.Prelude.{◌≡◌, ◌<◌, length, map, IfOk, false};
 ghost use Rattle.pop_net.specs.Lanes.{tuple_of, crowd_of, IsValid, AreValid};
 ghost use Rattle.pop_net.proofs.Projection.{component};
-ghost use Rattle.terminal_test.specs.Loud.{pairs_of, ArePairsBelow};
+ghost use Rattle.terminal_test.specs.Loud.{pairs_of_moves, ArePairsBelow};
 ghost use Rattle.terminal_test.specs.Restless.{AreSeen, are_held_by, AreMarkedByAll, IsMarked, IsLeafOf, AreRestless};
 ghost use Rattle.terminal_test.specs.Restless.{AreSizes, IsCalm};
 
@@ -24,7 +24,7 @@ pub(crate) fn restless_states(
     loud: &[List<(u16, u16)>],
     crowd: &Crowd,
 ) -> Result<Vec<List<bool>>, NoMemory>
-    requires pairs { loud.now ≡ map (λ leaf. pairs_of leaf.moves) net.now.leaves }
+    requires pairs { loud.now ≡ map (λ leaf. pairs_of_moves leaf.moves) net.now.leaves }
     requires valid { AreValid net.now crowd.now }
     ensures { IfOk result (λ restless. AreRestless net.now (crowd_of net.now crowd.now) restless.items) }
 {
@@ -44,7 +44,7 @@ fn leaf_marks(
     pairs: &[(u16, u16)],
 ) -> Result<List<bool>, NoMemory>
     requires leaf_in { leaf < length net.now.leaves }
-    requires pairs { IsLeafOf net.now leaf (λ here. pairs.now ≡ pairs_of here.moves) }
+    requires pairs { IsLeafOf net.now leaf (λ here. pairs.now ≡ pairs_of_moves here.moves) }
     requires valid { AreValid net.now crowd.now }
     ensures { IfOk result
         (λ marks. IsLeafOf net.now leaf (λ here. IsMarked here (component leaf (crowd_of net.now crowd.now)) marks)) }

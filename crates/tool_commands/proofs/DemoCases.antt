@@ -2,11 +2,11 @@
 use Rattle.std.proofs.Common.{◌≡◌, ℕ, ◌≤◌, Bool, true, false, refl, arith}
 use Rattle.std.specs.Prelude.{◌==◌, ◌%◌, ◌/◌, if◌then◌else◌}
 use Rattle.pres_ast.specs.PredTree.{PredTree, Negation, Conjunction, Disjunction}
-use Rattle.pop_net.specs.NetModel.{helper_count}
+use Rattle.pop_net.specs.NetModel.{number_of_helpers}
 use Rattle.pop_crowd.specs.Crowds.{input_size}
 use Rattle.pop_crowd.specs.declared.limits.TheConstants.{AGENT_LEAST, AGENT_LIMIT}
 use Rattle.comp_net.specs.BuiltNet.{built_net}
-use Rattle.pop_demo.specs.DemoCase.{names, threshold, remainder, of_form, demo_tree, demo_counts}
+use Rattle.pop_demo.specs.DemoCase.{names_of_demo, demo_threshold, demo_remainder, of_form, demo_tree, demo_counts}
 use Rattle.tool_commands.specs.Demo.{demo_net}
 
 -- what holds of the four forms holds of each case
@@ -19,13 +19,13 @@ each_form P p q first second both either form = go (form == 0) (form == 1) (form
     go false false true = both
     go false false false = either
 
-each_case : (P : PredTree → Type 0) → ((i : ℕ) → P (threshold i)) → ((i : ℕ) → P (remainder i)) → ((i : ℕ) → P (Conjunction (threshold i) (remainder i)))
-    → ((i : ℕ) → P (Disjunction (Negation (threshold i)) (remainder i))) → (number : ℕ) → P (demo_tree number)
+each_case : (P : PredTree → Type 0) → ((i : ℕ) → P (demo_threshold i)) → ((i : ℕ) → P (demo_remainder i)) → ((i : ℕ) → P (Conjunction (demo_threshold i) (demo_remainder i)))
+    → ((i : ℕ) → P (Disjunction (Negation (demo_threshold i)) (demo_remainder i))) → (number : ℕ) → P (demo_tree number)
 each_case P first second both either number =
-    let i = number / 4 in each_form P (threshold i) (remainder i) (first i) (second i) (both i) (either i) (number % 4)
+    let i = number / 4 in each_form P (demo_threshold i) (demo_remainder i) (first i) (second i) (both i) (either i) (number % 4)
 
-no_helpers : (number : ℕ) → helper_count (demo_net number) ≡ 0
-no_helpers = each_case (λ tree. helper_count (built_net names tree) ≡ 0) (λ i. refl) (λ i. refl) (λ i. refl) (λ i. refl)
+no_helpers : (number : ℕ) → number_of_helpers (demo_net number) ≡ 0
+no_helpers = each_case (λ tree. number_of_helpers (built_net names_of_demo tree) ≡ 0) (λ i. refl) (λ i. refl) (λ i. refl) (λ i. refl)
 
 pub some_agents : (number : ℕ) → AGENT_LEAST ≤ input_size (demo_net number) (demo_counts number)
 some_agents number = omega (arith, no_helpers number)

@@ -32,7 +32,7 @@ use Rattle.comp_net.specs.declared.choice.LeafChoice.TheVariants as leaves
 use Rattle.pop_settle.specs.declared.limits.TheConstants.{TAKE_LIMIT}
 use Rattle.tool_texts.specs.declared.refusal.Refusal.TheVariants.{Settle as Settled}
 use Rattle.tool_commands.specs.Settle.{takes_allowed, IsSettled, OfJudged as OfSettleJudged, OfBegun as OfSettleBegun, OfLines as OfSettleLines, SettleGives}
-use Rattle.tool_commands.specs.Compile.{asked, fits_its_leaves, OfFitting, OfAsked, CompileGives}
+use Rattle.tool_commands.specs.Compile.{asked_by, fits_its_leaves, OfFitting, OfAsked, CompileGives}
 use Rattle.tool_commands.specs.Demo.{DemoGives}
 use Rattle.tool_commands.specs.Commands.{CommandGives}
 
@@ -111,7 +111,7 @@ settle_other lines =
 
 compile_other : (choice : LeafChoice) (lines : List (List ℕ)) (given : Result Output Refusal) → CompileGives choice lines given → IsOther given
 compile_other choice lines =
-    after_keeps IsOther refused (asked lines) (OfAsked choice)
+    after_keeps IsOther refused (asked_by lines) (OfAsked choice)
     (λ found given is. after_keeps IsOther refused (fits_its_leaves choice found.1.tree) (OfFitting choice found.0 found.1) (λ fits given is. subst IsOther (sym is.2) (λ e. absurd cc)) given is)
 
 demo_other : (number : ℕ) (given : Result Output Refusal) → DemoGives number given → IsOther given

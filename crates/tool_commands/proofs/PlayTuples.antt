@@ -11,7 +11,7 @@ use Rattle.pop_net.proofs.Tuples.{reachable_tuples, input_tuples}
 use Rattle.pop_crowd.specs.declared.crowd.Meeting.{Meeting}
 use Rattle.pop_crowd.specs.Replay.{replay, IsMeeting, AreMeetings}
 use Rattle.pop_crowd.proofs.Reached.{replay_leads}
-use Rattle.pop_words.specs.Meetings.{pair_of, agents_of, meeting_of}
+use Rattle.pop_words.specs.Meetings.{pair_of, two_agents_of, meeting_of}
 use Rattle.pop_words.specs.declared.meeting.MeetingFault.{MeetingFault}
 use Rattle.pop_words.specs.declared.meeting.MeetingFault.TheVariants as meeting
 use Rattle.tool_texts.specs.Steps.{◌>>=◌}
@@ -31,7 +31,7 @@ parts false b e = absurd cc
 unequal : (x y : ℕ) → not (x == y) ≡ true → x ≢ y
 unequal x y e same = absurd (cc (e, eq-eqb x y same))
 
-agents_are : (agents : ℕ) (o : Option (ℕ × ℕ)) (pair : ℕ × ℕ) → agents_of agents o ≡ Ok pair → (pair.0 ≢ pair.1) × (pair.0 < agents) × (pair.1 < agents)
+agents_are : (agents : ℕ) (o : Option (ℕ × ℕ)) (pair : ℕ × ℕ) → two_agents_of agents o ≡ Ok pair → (pair.0 ≢ pair.1) × (pair.0 < agents) × (pair.1 < agents)
 agents_are agents None pair e = absurd cc
 agents_are agents (Some p) pair e =
     let c = chosen (not (p.0 == p.1) && (nat_lt p.0 agents && nat_lt p.1 agents)) p pair meeting.Agents e in
@@ -47,7 +47,7 @@ paired_ok number (Err meeting.Agents) pair e = absurd cc
 pair_is : (agents number : ℕ) (line : List ℕ) (pair : ℕ × ℕ) → paired number (meeting_of agents line) ≡ Ok pair → IsMeeting agents (between pair)
 unfolding meeting_of
 pair_is agents number line pair e =
-    let a = agents_are agents (pair_of (pieces 32 line)) pair (paired_ok number (agents_of agents (pair_of (pieces 32 line))) pair e) in
+    let a = agents_are agents (pair_of (pieces 32 line)) pair (paired_ok number (two_agents_of agents (pair_of (pieces 32 line))) pair e) in
     record { different = a.0; first = a.1; second = a.2 }
 
 meetings_are : (agents number : ℕ) (lines : List (List ℕ)) (meetings : List Meeting) → meetings_in agents number lines ≡ Ok meetings → AreMeetings agents meetings

@@ -1,7 +1,7 @@
 -- Where a run leads.
 use Rattle.std.proofs.Common.{ℕ, ◌+◌, ◌≤◌, List, length, subst, arith}
 use Rattle.std.specs.Prelude.{All, sum}
-use Rattle.pop_net.specs.NetModel.{NetModel, CrowdModel, IsTuple, helper_count}
+use Rattle.pop_net.specs.NetModel.{NetModel, CrowdModel, IsTuple, number_of_helpers}
 use Rattle.pop_net.specs.InputCrowd.{input_crowd}
 use Rattle.pop_net.specs.Step.{Step}
 use Rattle.pop_net.specs.Reachable.{Reachable}
@@ -15,7 +15,7 @@ use Rattle.pair_workers.specs.Run.{joined}
 use Rattle.pair_workers.specs.WatchedRun.{IsRunOf}
 use Rattle.pop_journal.proofs.RunKinds.{are_watched, is_watched, run_form}
 
-module _ (net : NetModel) (counts : List ℕ) (two : 2 ≤ sum counts + helper_count net) (kind : RunKind) (spec : RunSpec) (rounds : List (List Meeting)) (end : CrowdModel) (is : IsRunOf kind net (input_crowd net counts) spec rounds end) where
+module _ (net : NetModel) (counts : List ℕ) (two : 2 ≤ sum counts + number_of_helpers net) (kind : RunKind) (spec : RunSpec) (rounds : List (List Meeting)) (end : CrowdModel) (is : IsRunOf kind net (input_crowd net counts) spec rounds end) where
   -- the last crowd is reached from the input crowd
   pub run_reaches : Reachable (Step net) (input_crowd net counts) end
   run_reaches =

@@ -25,8 +25,8 @@ use Rattle.tool_texts.specs.declared.output.Ending.TheVariants.{Done}
 use Rattle.tool_commands.specs.Eval.{named, understood}
 
 -- the names and the predicate that the lines tell
-unfoldable pub asked : List (List ℕ) → Result (List (List ℕ) × PredModel) Refusal
-asked lines = do
+unfoldable pub asked_by : List (List ℕ) → Result (List (List ℕ) × PredModel) Refusal
+asked_by lines = do
   two ← just_two lines
   names ← named (vars_of two.0)
   pred ← understood (pred_read names two.1)
@@ -64,8 +64,8 @@ OfFitting choice names pred fits given =
     (bundle : Bundle) × IsCompiled choice names pred bundle × (given ≡ Ok (record { text = bundle_line bundle; ending = Done }))
 
 abbrev pub OfAsked : LeafChoice → List (List ℕ) × PredModel → Result Output Refusal → Type 0
-OfAsked choice asked = After (fits_its_leaves choice asked.1.tree) (OfFitting choice asked.0 asked.1)
+OfAsked choice asked_by = After (fits_its_leaves choice asked_by.1.tree) (OfFitting choice asked_by.0 asked_by.1)
 
 -- what the command gives with these leaves for the lines of its input
 abbrev pub CompileGives : LeafChoice → List (List ℕ) → Result Output Refusal → Type 0
-CompileGives choice lines = After (asked lines) (OfAsked choice)
+CompileGives choice lines = After (asked_by lines) (OfAsked choice)

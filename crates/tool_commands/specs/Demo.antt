@@ -9,7 +9,7 @@ use Rattle.pop_words.specs.declared.spec.TheConstants.{DEMO_LIMIT}
 use Rattle.pair_workers.specs.Run.{IsRun}
 use Rattle.pop_journal.specs.Journal.{last_line, text_of}
 use Rattle.pop_journal.specs.declared.last.Last.{Last}
-use Rattle.pop_demo.specs.DemoCase.{names, demo_tree, demo_pred, demo_counts, demo_spec}
+use Rattle.pop_demo.specs.DemoCase.{names_of_demo, demo_tree, demo_pred, demo_counts, demo_spec}
 use Rattle.comp_net.specs.BuiltNet.{built_net}
 use Rattle.pop_checker.specs.CheckedModel.{CheckedModel}
 use Rattle.tool_texts.specs.declared.refusal.Refusal.{Refusal}
@@ -21,7 +21,7 @@ use Rattle.tool_commands.specs.Start.{IsStart}
 
 -- the net that `compile` builds of the case's predicate, and its input crowd
 abbrev pub demo_net : ℕ → NetModel
-demo_net number = built_net names (demo_tree number)
+demo_net number = built_net names_of_demo (demo_tree number)
 
 abbrev pub demo_start : ℕ → CrowdModel
 demo_start number = input_crowd (demo_net number) (demo_counts number)
@@ -34,7 +34,7 @@ changed (meetings ∷ rounds) = count_by (λ m. m.changed) meetings + changed ro
 abbrev pub summary_lines : ℕ → List (List Meeting) → Last → List (List ℕ)
 summary_lines number rounds last =
     (codes "demo " ++ decimal number)
-    ∷ (codes "pred " ++ tree_text names (demo_tree number))
+    ∷ (codes "pred " ++ tree_text names_of_demo (demo_tree number))
     ∷ (codes "agents " ++ decimal (length (demo_start number)))
     ∷ (codes "rounds " ++ decimal (length rounds))
     ∷ (codes "changed " ++ decimal (changed rounds))

@@ -1,7 +1,7 @@
 -- What is prepared, and the outputs that it leads to.
 use Rattle.std.specs.Prelude.{◌≡◌, ◌≤◌, Result, Ok, Err}
 use Rattle.pop_words.specs.declared.kind.RunKind.TheVariants.{Whole}
-use Rattle.pop_words.specs.Kinds.{most_workers}
+use Rattle.pop_words.specs.Kinds.{most_workers_of}
 use Rattle.pop_words.specs.Options.{IsWithinLimits}
 use Rattle.tool_texts.specs.declared.refusal.Refusal.{Refusal}
 use Rattle.tool_texts.specs.declared.stop.Stop.{Stop}
@@ -17,7 +17,7 @@ use Rattle.tool_commands.specs.Demo.{CanDemo, IsDemoOutput}
 -- a run that can be made
 pub record CanRun (run : PendingRun) : Type 0 where
   pub limits : IsWithinLimits run.spec
-  pub workers : run.spec.workers ≤ most_workers run.kind
+  pub workers : run.spec.workers ≤ most_workers_of run.kind
   pub start : IsStart run.checked.net run.start
 
 abbrev pub IsOutputOfRun : PendingRun → Output → Type 0

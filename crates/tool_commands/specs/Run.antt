@@ -3,7 +3,7 @@ use Rattle.std.specs.Prelude.{◌≡◌, ℕ, Bool, List, length, ◌++◌, Opti
 use Rattle.pop_lines.specs.Lines.{ended}
 use Rattle.pres_ast.specs.PredModel.{PredModel}
 use Rattle.pres_ast.specs.PredicateValue.{predicate_value}
-use Rattle.pop_net.specs.NetModel.{NetModel, CrowdModel, helper_count}
+use Rattle.pop_net.specs.NetModel.{NetModel, CrowdModel, number_of_helpers}
 use Rattle.pop_net.specs.InputCrowd.{IsInput, input_crowd}
 use Rattle.pop_crowd.specs.declared.crowd.Meeting.{Meeting}
 use Rattle.pop_words.specs.declared.kind.RunKind.{RunKind}
@@ -42,7 +42,7 @@ open_pair (Open a b) = Some (a, b)
 
 -- the input lines, and the journal of a run of this kind of the net from the input crowd
 pub record IsRunOutput (kind : RunKind) (spec : RunSpec) (lines : List ℕ) (net : NetModel) (pred : PredModel) (counts : List ℕ) (output : Output) : Type 0 where
-  pub input : IsInput (length net.variables) (helper_count net) counts
+  pub input : IsInput (length net.variables) (number_of_helpers net) counts
   pub rounds : List (List Meeting)
   pub end : CrowdModel
   pub run : IsRunOf kind net (input_crowd net counts) spec rounds end

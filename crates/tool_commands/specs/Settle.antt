@@ -2,7 +2,7 @@
 use Rattle.std.specs.Prelude.{◌≡◌, ℕ, ◌*◌, Bool, nat_lt, List, ◌++◌, length, map, codes, decimal, MatchBool, Option, Some, None, Result, Ok, Err}
 use Rattle.pop_lines.specs.Lines.{ended}
 use Rattle.pres_ast.specs.PredicateValue.{predicate_value}
-use Rattle.pop_net.specs.NetModel.{NetModel, CrowdModel, helper_count}
+use Rattle.pop_net.specs.NetModel.{NetModel, CrowdModel, number_of_helpers}
 use Rattle.pop_net.specs.InputCrowd.{IsInput, input_crowd}
 use Rattle.pop_crowd.specs.Tally.{crowd_lines}
 use Rattle.pop_journal.specs.Journal.{last_line, text_of}
@@ -40,7 +40,7 @@ takes_allowed bundle counts = proof_bound bundle.proof * length (input_crowd bun
 
 -- the settlement of the input crowd, and the predicate's value
 pub record IsSettled (bundle : Bundle) (counts : List ℕ) (given : Result Output Refusal) : Type 0 where
-  pub input : IsInput (length bundle.net.variables) (helper_count bundle.net) counts
+  pub input : IsInput (length bundle.net.variables) (number_of_helpers bundle.net) counts
   pub takes : List Take
   pub end : CrowdModel
   pub settlement : IsSettlement bundle.net bundle.proof (input_crowd bundle.net counts) takes end

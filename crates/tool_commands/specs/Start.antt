@@ -3,7 +3,7 @@ use Rattle.std.specs.Prelude.{◌≡◌, ℕ, ◌&&◌, nat_le, List, [], length
 use Rattle.serde_json.specs.Data.{Data}
 use Rattle.json_shape.specs.Faults.{Fault}
 use Rattle.net_json.specs.Examined.{net_at}
-use Rattle.pop_net.specs.NetModel.{NetModel, CrowdModel, helper_count}
+use Rattle.pop_net.specs.NetModel.{NetModel, CrowdModel, number_of_helpers}
 use Rattle.pop_net.specs.InputCrowd.{IsInput, input_crowd}
 use Rattle.pop_net.specs.Lanes.{crowd_of, AreValid}
 use Rattle.pop_crowd.specs.Crowds.{input_size}
@@ -48,6 +48,6 @@ start_in value line = do
 
 -- the counts are an input of the net, and the crowd is the input crowd
 pub record IsStart (net : NetModel) (start : Start) : Type 0 where
-  pub input : IsInput (length net.variables) (helper_count net) start.counts
+  pub input : IsInput (length net.variables) (number_of_helpers net) start.counts
   pub crowd : crowd_of net start.crowd ≡ input_crowd net start.counts
   pub valid : AreValid net start.crowd

@@ -2,7 +2,7 @@
 
 ghost use Rattle.std.specs.Prelude.{◌≡◌, option_map, IfOk};
 ghost use Rattle.serde_json.specs.View.{view};
-ghost use Rattle.tool_texts.specs.Steps.{Gives, Obeys};
+ghost use Rattle.tool_texts.specs.Steps.{GivesStep, Obeys};
 ghost use Rattle.tool_commands.specs.Start.{IsStart};
 ghost use Rattle.tool_commands.specs.Bundles.{bundle_in, begun, IsBundleWithin, IsBundleOf, IsBegunBy};
 
@@ -14,7 +14,7 @@ use tool_texts::{Refusal, Stop, value_of};
 
 /// The bundle of a line that has this value.
 fn bundle_of(alloc: Global, value: &Option<Value>) -> Result<Bundle, Stop>
-    ensures bundle { Gives (λ bundle. bundle) result (bundle_in (option_map view value.now)) }
+    ensures bundle { GivesStep (λ bundle. bundle) result (bundle_in (option_map view value.now)) }
     ensures limits { IfOk result IsBundleWithin }
 {
     let Some(value) = value else {
@@ -43,7 +43,8 @@ fn bundle_and_start(
     value: &Option<Value>,
     crowd: &[u8],
 ) -> Result<(Bundle, Start), Stop>
-    ensures begun { Gives (λ begin. (begin.0, begin.1.counts)) result (begun (option_map view value.now) crowd.now) }
+    ensures begun { GivesStep
+        (λ begin. (begin.0, begin.1.counts)) result (begun (option_map view value.now) crowd.now) }
     ensures limits { IfOk result (λ begin. IsBundleWithin begin.0) }
     ensures start { IfOk result (λ begin. IsStart begin.0.net begin.1) }
 {

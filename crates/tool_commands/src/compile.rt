@@ -4,9 +4,8 @@ ghost use Rattle.std.specs.Prelude.{◌≡◌, length, IfOk};
 ghost use Rattle.pop_lines.specs.Lines.{lines_of};
 ghost use Rattle.pop_words.specs.Vars.{AreVariables};
 ghost use Rattle.comp_net.specs.Compiles.{Compiles};
-ghost use Rattle.tool_texts.specs.Steps.{Gives, Obeys};
-ghost use Rattle.tool_commands.specs.Compile.{asked as asked_by, fits_its_leaves, bundle_line};
-ghost use Rattle.tool_commands.specs.Compile.{IsCompiled, CompileGives};
+ghost use Rattle.tool_texts.specs.Steps.{GivesStep, Obeys};
+ghost use Rattle.tool_commands.specs.Compile.{asked_by, fits_its_leaves, bundle_line, IsCompiled, CompileGives};
 
 use crate::eval::{names_of, pred_of};
 use bundle_text::write_bundle;
@@ -22,7 +21,7 @@ use tool_texts::{Ending, Output, Refusal, Stop, just_two_lines};
 /// The names and the predicate that an input tells.
 #[tactic(auto, unfolding(crate::specs::Compile::asked))]
 fn asked(alloc: Global, input: &[u8]) -> Result<(List<Text>, Pred), Stop>
-    ensures asked { Gives (λ asked. asked) result (asked_by (lines_of input.now)) }
+    ensures asked { GivesStep (λ asked. asked) result (asked_by (lines_of input.now)) }
     ensures formed { IfOk result (λ asked. AreVariables asked.0) }
     ensures count { IfOk result (λ asked. asked.1.variables ≡ length asked.0) }
 {
@@ -58,7 +57,7 @@ fn bundle_of(
 ) -> Result<Bundle, Stop>
     requires formed { AreVariables names.now }
     requires count { pred.variables ≡ length names.now }
-    ensures fits { Gives (λ _. tt) result (fits_its_leaves choice pred.tree) }
+    ensures fits { GivesStep (λ _. tt) result (fits_its_leaves choice pred.tree) }
     ensures compiled { IfOk result (IsCompiled choice names.now pred) }
 {
     let refusal = match build_with(alloc, choice, &pred, names) {

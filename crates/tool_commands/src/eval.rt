@@ -5,7 +5,7 @@ ghost use Rattle.pop_lines.specs.Lines.{lines_of};
 ghost use Rattle.pop_words.specs.Vars.{vars_of, AreVariables};
 ghost use Rattle.pop_words.specs.Counts.{counts_of};
 ghost use Rattle.pres_read.specs.Reading.{pred_read};
-ghost use Rattle.tool_texts.specs.Steps.{Gives};
+ghost use Rattle.tool_texts.specs.Steps.{GivesStep};
 ghost use Rattle.tool_commands.specs.Eval.{named, understood, counted, truth_line, eval_output};
 
 use json_shape::PredWhy;
@@ -18,7 +18,7 @@ use tool_texts::{Ending, LineWhy, Output, Refusal, Stop, just_three_lines};
 
 /// The names of a vars line.
 pub(crate) fn names_of(alloc: Global, line: &[u8]) -> Result<List<Text>, Stop>
-    ensures names { Gives (λ names. names) result (named (vars_of line.now)) }
+    ensures names { GivesStep (λ names. names) result (named (vars_of line.now)) }
     ensures formed { IfOk result AreVariables }
 {
     match read_vars(alloc, line) {
@@ -31,7 +31,7 @@ pub(crate) fn names_of(alloc: Global, line: &[u8]) -> Result<List<Text>, Stop>
 /// The predicate of a line, over these names.
 pub(crate) fn pred_of(alloc: Global, line: &[u8], names: &List<Text>) -> Result<Pred, Stop>
     requires { AreVariables names.now }
-    ensures pred { Gives (λ pred. pred) result (understood (pred_read names.now line.now)) }
+    ensures pred { GivesStep (λ pred. pred) result (understood (pred_read names.now line.now)) }
     ensures variables { IfOk result (λ pred. pred.variables ≡ length names.now) }
 {
     let why = match read_pred(alloc, line, names) {
@@ -49,7 +49,7 @@ pub(crate) fn pred_of(alloc: Global, line: &[u8], names: &List<Text>) -> Result<
 /// The counts of a crowd line, one per variable.
 pub(crate) fn counts_in(alloc: Global, line: &[u8], names: &List<Text>) -> Result<List<u64>, Stop>
     requires { AreVariables names.now }
-    ensures counts { Gives (λ counts. counts) result (counted (counts_of names.now line.now)) }
+    ensures counts { GivesStep (λ counts. counts) result (counted (counts_of names.now line.now)) }
     ensures len { IfOk result (λ counts. length counts ≡ length names.now) }
 {
     match read_counts(alloc, line, names) {
@@ -69,7 +69,7 @@ fn truth_text(alloc: Global, truth: bool) -> Result<Vec<u8>, AllocError>
 /// What `eval` gives for an input.
 #[tactic(auto, unfolding(crate::specs::Eval::eval_output))]
 pub(crate) fn eval(alloc: Global, input: &[u8]) -> Result<Output, Stop>
-    ensures { Gives (λ output. output) result (eval_output (lines_of input.now)) }
+    ensures { GivesStep (λ output. output) result (eval_output (lines_of input.now)) }
 {
     let (vars, pred, crowd) = just_three_lines(input)?;
     let names = names_of(alloc, vars)?;

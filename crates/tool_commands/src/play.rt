@@ -5,7 +5,7 @@ ghost use Rattle.serde_json.specs.View.{view};
 ghost use Rattle.pop_lines.specs.Lines.{lines_of};
 ghost use Rattle.pop_words.specs.Meetings.{meeting_of};
 ghost use Rattle.pop_net.specs.Lanes.{crowd_of, AreValid};
-ghost use Rattle.tool_texts.specs.Steps.{After, Gives, Obeys};
+ghost use Rattle.tool_texts.specs.Steps.{After, GivesStep, Obeys};
 ghost use Rattle.tool_commands.specs.Play.{paired, played, end_crowd, IsLast, end_line, play_output, OfEnd, PlayGives};
 ghost use Rattle.pop_crowd.specs.Tally.{crowd_lines};
 
@@ -22,7 +22,7 @@ use tool_texts::{Ending, LineWhy, Output, Refusal, Stop, two_and_more_lines, val
 
 /// The agents that the line of this number names.
 fn pair_of(line: &[u8], agents: u32, number: u64) -> Result<(u32, u32), Stop>
-    ensures pair { Gives (λ pair. (pair.0, pair.1)) result (paired number (meeting_of agents line.now)) }
+    ensures pair { GivesStep (λ pair. (pair.0, pair.1)) result (paired number (meeting_of agents line.now)) }
     ensures agents { IfOk result (λ pair. (pair.0 ≢ pair.1) × (pair.0 < agents) × (pair.1 < agents)) }
 {
     match read_meeting(line, agents) {
@@ -37,7 +37,7 @@ fn pair_of(line: &[u8], agents: u32, number: u64) -> Result<(u32, u32), Stop>
 fn end_of(net: &Net, crowd: Crowd, lines: &[u8]) -> Result<Crowd, Stop>
     requires few { length (lines_of lines.now) < 2 ^ 32 }
     requires valid { AreValid net.now crowd }
-    ensures end { Gives (λ end. crowd_of net.now end) result
+    ensures end { GivesStep (λ end. crowd_of net.now end) result
         (played net.now (crowd_of net.now crowd) (lines_of lines.now)) }
     ensures valid { IfOk result (AreValid net.now) }
 {
@@ -88,7 +88,7 @@ fn net_and_end(
     meetings: &[u8],
 ) -> Result<(Net, Crowd), Stop>
     requires { length (lines_of meetings.now) < 2 ^ 32 }
-    ensures end { Gives (λ end. (end.0, crowd_of end.0 end.1)) result
+    ensures end { GivesStep (λ end. (end.0, crowd_of end.0 end.1)) result
         (end_crowd (option_map view value.now) crowd.now (lines_of meetings.now)) }
     ensures valid { IfOk result (λ end. AreValid end.0 end.1) }
 {

@@ -6,7 +6,7 @@ ghost use Rattle.pop_net.specs.Lanes.{crowd_of, AreValid};
 ghost use Rattle.pop_words.specs.Options.{IsWithinLimits};
 ghost use Rattle.pop_journal.specs.Rounds.{AreRoundsOf};
 ghost use Rattle.pop_journal.specs.Form.{journal_in};
-ghost use Rattle.tool_texts.specs.Steps.{Gives, Obeys};
+ghost use Rattle.tool_texts.specs.Steps.{GivesStep, Obeys};
 ghost use Rattle.tool_commands.specs.Start.{IsStart};
 ghost use Rattle.tool_commands.specs.Bundles.{IsBundleWithin};
 ghost use Rattle.tool_commands.specs.Replay.{holds_text, journal_read, journal_output, replay_output};
@@ -35,7 +35,7 @@ fn holds_line(alloc: Global, meetings: u64) -> Result<Vec<u8>, AllocError>
 
 /// The journal of a run of this kind that a text tells, for so many agents.
 fn journal_of(alloc: Global, kind: RunKind, text: &[u8], agents: u32) -> Result<Journal, Stop>
-    ensures read { Gives (λ journal. journal) result
+    ensures read { GivesStep (λ journal. journal) result
         (journal_read kind (journal_in kind agents JOURNAL_LINE (lines_of text.now))) }
     ensures first { IfOk result (λ journal. journal.first ≡ JOURNAL_LINE) }
     ensures limits { IfOk result (λ journal. IsWithinLimits journal.spec) }
@@ -54,7 +54,7 @@ fn compare(alloc: Global, net: &Net, crowd: Crowd, journal: &Journal) -> Result<
     requires first { journal.now.first ≡ JOURNAL_LINE }
     requires limits { IsWithinLimits journal.now.spec }
     requires rounds { AreRoundsOf journal.now.kind journal.now.spec (length crowd) journal.now.rounds }
-    ensures { Gives (λ output. output) result (Ok (journal_output net.now (crowd_of net.now crowd) journal.now)) }
+    ensures { GivesStep (λ output. output) result (Ok (journal_output net.now (crowd_of net.now crowd) journal.now)) }
 {
     match verify(alloc, net, crowd, journal) {
         Ok(meetings) => {
@@ -77,7 +77,7 @@ fn replay_from(
     text: &[u8],
 ) -> Result<Output, Stop>
     requires { AreValid net.now crowd }
-    ensures { Gives (λ output. output) result
+    ensures { GivesStep (λ output. output) result
         (replay_output kind net.now (crowd_of net.now crowd) (lines_of text.now)) }
 {
     let journal = journal_of(alloc, kind, text, crowd.len())?;

@@ -3,13 +3,13 @@
 ghost use Rattle.std.specs.Prelude.{◌≡◌, ◌≤◌, ◌↔◌, ◌++◌, length, IfOk, IsTrue};
 ghost use Rattle.pop_lines.specs.Lines.{lines_of, ended};
 ghost use Rattle.pres_ast.specs.PredicateValue.{predicate_value};
-ghost use Rattle.pop_net.specs.NetModel.{helper_count};
+ghost use Rattle.pop_net.specs.NetModel.{number_of_helpers};
 ghost use Rattle.pop_net.specs.InputCrowd.{IsInput, input_crowd};
 ghost use Rattle.pop_net.specs.Step.{Step};
 ghost use Rattle.pop_net.specs.Reachable.{Reachable};
 ghost use Rattle.pop_net.specs.Lanes.{crowd_of, AreValid};
 ghost use Rattle.pop_words.specs.declared.kind.RunKind.TheVariants.{Whole};
-ghost use Rattle.pop_words.specs.Kinds.{most_workers};
+ghost use Rattle.pop_words.specs.Kinds.{most_workers_of};
 ghost use Rattle.pop_words.specs.Options.{IsWithinLimits};
 ghost use Rattle.pair_workers.specs.WatchedRun.{IsRunOf};
 ghost use Rattle.tool_commands.specs.Play.{IsLast};
@@ -44,7 +44,7 @@ pub(crate) fn is_by_one(spec: &RunSpec) -> bool
 
 /// The journal's last line for the end of a run from these counts, and how the command ends.
 pub(crate) fn last_and_ending(checked: &Checked, counts: &[u64], run: &RunEnd) -> (Last, Ending)
-    requires input { IsInput (length checked.now.net.variables) (helper_count checked.now.net) counts.now }
+    requires input { IsInput (length checked.now.net.variables) (number_of_helpers checked.now.net) counts.now }
     requires valid { AreValid checked.now.net run.now.crowd }
     requires reached { Reachable (Step checked.now.net) (input_crowd checked.now.net counts.now)
         (crowd_of checked.now.net run.now.crowd) }
@@ -84,7 +84,7 @@ fn run_output(
     counts: &[u64],
     run: &RunEnd,
 ) -> Result<Output, NoMemory>
-    requires input { IsInput (length checked.now.net.variables) (helper_count checked.now.net) counts.now }
+    requires input { IsInput (length checked.now.net.variables) (number_of_helpers checked.now.net) counts.now }
     requires valid { AreValid checked.now.net run.now.crowd }
     requires run { IsRunOf kind checked.now.net (input_crowd checked.now.net counts.now) spec.now run.now.rounds
         (crowd_of checked.now.net run.now.crowd) }
@@ -126,7 +126,7 @@ fn run_on_threads<R: Threads + Wait + Sync, G: Gate>(
     gate: &G,
 ) -> Result<RunEnd, NoMemory>
     requires limits { IsWithinLimits spec.now }
-    requires workers { spec.now.workers ≤ most_workers kind }
+    requires workers { spec.now.workers ≤ most_workers_of kind }
     requires valid { AreValid net.now crowd }
     ensures run { IfOk result
         (λ run. IsRunOf kind net.now (crowd_of net.now crowd) spec.now run.rounds (crowd_of net.now run.crowd)) }
@@ -180,7 +180,7 @@ fn prepare_begun(
     start: Start,
 ) -> Result<Prepared, Stop>
     requires spec { IsWithinLimits spec }
-    requires workers { spec.workers ≤ most_workers kind }
+    requires workers { spec.workers ≤ most_workers_of kind }
     requires limits { IsBundleWithin bundle }
     requires start { IsStart bundle.net start }
     ensures leads { Prepares
@@ -214,7 +214,7 @@ pub(crate) fn prepare_run(
     input: &[u8],
 ) -> Result<Prepared, Stop>
     requires spec { IsWithinLimits spec }
-    requires workers { spec.workers ≤ most_workers kind }
+    requires workers { spec.workers ≤ most_workers_of kind }
     ensures leads { Prepares (RunGives kind spec (lines_of input.now)) result }
     ensures plain { kind ≡ Whole → spec.workers ≡ 1 → IfOk result NeedsNoThreads }
 {

@@ -3,7 +3,7 @@
 ghost use Rattle.std.specs.Prelude.{option_map, IfOk};
 ghost use Rattle.serde_json.specs.View.{view};
 ghost use Rattle.pop_net.specs.Lanes.{crowd_of, AreValid};
-ghost use Rattle.tool_texts.specs.Steps.{Gives};
+ghost use Rattle.tool_texts.specs.Steps.{GivesStep};
 ghost use Rattle.tool_commands.specs.Start.{net_in, fitting_in, start_in, IsStart};
 
 use crate::eval::counts_in;
@@ -17,7 +17,7 @@ use tool_texts::{Refusal, Stop};
 
 /// The net of a line that has this value.
 fn net_of(alloc: Global, value: &Option<Value>) -> Result<Net, Stop>
-    ensures { Gives (λ net. net) result (net_in (option_map view value.now)) }
+    ensures { GivesStep (λ net. net) result (net_in (option_map view value.now)) }
 {
     let Some(value) = value else {
         return Err(Stop::Refused(Refusal::NotJson));
@@ -39,7 +39,7 @@ pub struct Start {
 /// How a net starts at a crowd line.
 #[tactic(auto, unfolding(crate::specs::Start::fitting_in))]
 pub(crate) fn start_of(alloc: Global, net: &Net, line: &[u8]) -> Result<Start, Stop>
-    ensures counts { Gives (λ start. start.counts) result (fitting_in net.now line.now) }
+    ensures counts { GivesStep (λ start. start.counts) result (fitting_in net.now line.now) }
     ensures start { IfOk result (IsStart net.now) }
 {
     let counts = counts_in(alloc, line, net.var_names())?;
@@ -57,7 +57,7 @@ pub(crate) fn net_and_start(
     value: &Option<Value>,
     crowd: &[u8],
 ) -> Result<(Net, Crowd), Stop>
-    ensures start { Gives (λ start. (start.0, crowd_of start.0 start.1)) result
+    ensures start { GivesStep (λ start. (start.0, crowd_of start.0 start.1)) result
         (start_in (option_map view value.now) crowd.now) }
     ensures valid { IfOk result (λ start. AreValid start.0 start.1) }
 {

@@ -3,7 +3,7 @@ use Rattle.std.proofs.Common.{◌≡◌, Result, Ok, Err, refl, sym, subst, ◌�
 use Rattle.tool_texts.specs.declared.refusal.Refusal.{Refusal}
 use Rattle.tool_texts.specs.declared.stop.Stop.{Stop}
 use Rattle.tool_texts.specs.declared.stop.Stop.TheVariants.{Refused, NoMemory}
-use Rattle.tool_texts.specs.Steps.{◌>>=◌, After, Gives, MayStop, Obeys}
+use Rattle.tool_texts.specs.Steps.{◌>>=◌, After, GivesStep, MayStop, Obeys}
 
 pub bind_ok : {A B : Type 0} (r : Result A Refusal) (f : A → Result B Refusal) (y : B) → (r >>= f) ≡ Ok y → (x : A) × (r ≡ Ok x) × (f x ≡ Ok y)
 bind_ok (Ok x) f y e = (x, refl, e)
@@ -13,7 +13,7 @@ pub same_ok : {A : Type 0} (x y : A) → (let r : Result A Refusal = Ok x in r �
 same_ok x y e = cc
 
 -- what a step gives is allowed where the step's outcome is
-pub gives_obeys : {A B : Type 0} (rule : Result B Refusal → Type 0) (view : A → B) (r : Result A Stop) (step : Result B Refusal) → rule step → Gives view r step → Obeys rule view r
+pub gives_obeys : {A B : Type 0} (rule : Result B Refusal → Type 0) (view : A → B) (r : Result A Stop) (step : Result B Refusal) → rule step → GivesStep view r step → Obeys rule view r
 gives_obeys rule view (Ok x) step allowed is = subst rule is allowed
 gives_obeys rule view (Err NoMemory) step allowed is = tt
 gives_obeys rule view (Err (Refused r)) step allowed is = subst rule is allowed

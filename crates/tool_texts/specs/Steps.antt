@@ -21,9 +21,9 @@ Stops NoMemory step = Unit {0}
 Stops (Refused r) step = step ≡ Err r
 
 -- what a function returned, seen by `view`, is what the step gives, unless out of memory
-abbrev pub Gives : {A B : Type 0} → (A → B) → Result A Stop → Result B Refusal → Type 0
-Gives view (Ok x) step = step ≡ Ok (view x)
-Gives view (Err stop) step = Stops stop step
+abbrev pub GivesStep : {A B : Type 0} → (A → B) → Result A Stop → Result B Refusal → Type 0
+GivesStep view (Ok x) step = step ≡ Ok (view x)
+GivesStep view (Err stop) step = Stops stop step
 
 -- the rule allows this refusal, unless out of memory
 abbrev pub MayStop : {B : Type 0} → (Result B Refusal → Type 0) → Stop → Type 0

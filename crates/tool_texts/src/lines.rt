@@ -2,7 +2,7 @@
 
 ghost use Rattle.std.specs.Prelude.{◌≡◌, ◌≤◌, length, IfOk};
 ghost use Rattle.pop_lines.specs.Lines.{lines_of};
-ghost use Rattle.tool_texts.specs.Steps.{Gives};
+ghost use Rattle.tool_texts.specs.Steps.{GivesStep};
 ghost use Rattle.tool_texts.specs.Lines.{line_refusal, two_and_more, two_and_some, just_one, just_two, just_three};
 ghost use Rattle.tool_texts.specs.declared.stop.Stop.TheVariants.{Refused};
 
@@ -21,7 +21,7 @@ fn refused(fault: LineFault) -> Stop
 
 /// The line of an input that has no more.
 pub fn just_one_line(input: &[u8]) -> Result<&[u8], Stop>
-    ensures { Gives (λ line. line.now) result (just_one (lines_of input.now)) }
+    ensures { GivesStep (λ line. line.now) result (just_one (lines_of input.now)) }
 {
     match one_line(input) {
         Ok(line) => Ok(line),
@@ -31,7 +31,7 @@ pub fn just_one_line(input: &[u8]) -> Result<&[u8], Stop>
 
 /// The first two lines, and the bytes after them.
 pub fn two_and_more_lines(input: &[u8]) -> Result<(&[u8], &[u8], &[u8]), Stop>
-    ensures lines { Gives (λ found. (found.0.now, found.1.now, lines_of found.2.now)) result
+    ensures lines { GivesStep (λ found. (found.0.now, found.1.now, lines_of found.2.now)) result
         (two_and_more (lines_of input.now)) }
     ensures few { IfOk result (λ found. length (lines_of found.2.now) ≤ length input.now) }
 {
@@ -43,7 +43,7 @@ pub fn two_and_more_lines(input: &[u8]) -> Result<(&[u8], &[u8], &[u8]), Stop>
 
 /// The first two lines, and the bytes after them, which have a line at least.
 pub fn two_and_some_lines(input: &[u8]) -> Result<(&[u8], &[u8], &[u8]), Stop>
-    ensures lines { Gives (λ found. (found.0.now, found.1.now, lines_of found.2.now)) result
+    ensures lines { GivesStep (λ found. (found.0.now, found.1.now, lines_of found.2.now)) result
         (two_and_some (lines_of input.now)) }
 {
     let (first, second, rest) = two_and_more_lines(input)?;
@@ -55,7 +55,7 @@ pub fn two_and_some_lines(input: &[u8]) -> Result<(&[u8], &[u8], &[u8]), Stop>
 
 /// The two lines of an input that has no more.
 pub fn just_two_lines(input: &[u8]) -> Result<(&[u8], &[u8]), Stop>
-    ensures { Gives (λ found. (found.0.now, found.1.now)) result (just_two (lines_of input.now)) }
+    ensures { GivesStep (λ found. (found.0.now, found.1.now)) result (just_two (lines_of input.now)) }
 {
     match two_lines(input) {
         Ok(found) => Ok(found),
@@ -65,7 +65,7 @@ pub fn just_two_lines(input: &[u8]) -> Result<(&[u8], &[u8]), Stop>
 
 /// The three lines of an input that has no more.
 pub fn just_three_lines(input: &[u8]) -> Result<(&[u8], &[u8], &[u8]), Stop>
-    ensures { Gives (λ found. (found.0.now, found.1.now, found.2.now)) result (just_three (lines_of input.now)) }
+    ensures { GivesStep (λ found. (found.0.now, found.1.now, found.2.now)) result (just_three (lines_of input.now)) }
 {
     match three_lines(input) {
         Ok(found) => Ok(found),

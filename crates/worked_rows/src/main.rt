@@ -1,4 +1,4 @@
-//! The worked rows: each line of the standard input has words and an input, with the text and the status that `run_tool` must give.
+//! The worked rows: each line of the standard input has words and an input, with what `run_tool` must give.
 //! It stands on `pop_tool` and `pop_io`.
 //! Nothing stands above it: it is a test of whole commands, and adds no clause.
 //! No clause speaks of deadlock either: rows of many workers over one shard and two are the test of it.

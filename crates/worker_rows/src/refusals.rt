@@ -9,7 +9,7 @@ use std::alloc::Global;
 use std::sync::Wait;
 use std::test::Fail;
 
-/// Its number, its meetings and the room for more, the seats left, whether it is whole, its looks and the room for more.
+/// Its number, its meetings and the room for more, the seats left, whether it is whole, its looks and their room.
 fn said_of(seat: &FieldSeat) -> (u16, u64, u64, u16, bool, u16, u16) {
     (
         seat.number(),

@@ -1,5 +1,5 @@
 use Rattle.std.proofs.Common.{◌∙◌, ◌++◌, ◌∷◌, [], ap}
-use Rattle.cert_traps.specs.Roles.{passes}
+use Rattle.cert_traps.specs.Roles.{passes_role}
 use Rattle.cert_traps.proofs.Lists.{map-take_more, move_small}
 use Rattle.cert_traps.proofs.role.move_flags.Goals as goal
 
@@ -8,5 +8,5 @@ passes-requires c = move_small c.args.leaf.now c.loop-t.t c.move_at.result c.req
 
 pub loop-t-preserved : goal.loop-t-preserved
 loop-t-preserved c =
-    map-take_more (passes c.args.set.now c.args.role) c.args.leaf.now.moves c.loop-t.t c.move_at.result c.loop-t.flags.items c.push.new.self.items c.move_at.ensures c.loop-t.invariant
+    map-take_more (passes_role c.args.set.now c.args.role) c.args.leaf.now.moves c.loop-t.t c.move_at.result c.loop-t.flags.items c.push.new.self.items c.move_at.ensures c.loop-t.invariant
     (c.in_ok-push.ensures.items ∙ ap (λ flag. c.loop-t.flags.items ++ flag ∷ []) c.passes.ensures)

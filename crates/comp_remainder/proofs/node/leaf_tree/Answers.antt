@@ -3,13 +3,13 @@ use Rattle.std.proofs.lemmas.Result.{IfOk-weaker}
 use Rattle.std.proofs.lemmas.List.FromFn.{length-map-range_with_len}
 use Rattle.comp_trees.specs.LeaderTree.{tree_of_ends}
 use Rattle.comp_trees.proofs.TreeOfEnds.{tree-flat}
-use Rattle.comp_remainder.specs.RemainderProof.{leader_node}
+use Rattle.comp_remainder.specs.RemainderProof.{remainder_leader_node}
 use Rattle.comp_remainder.proofs.node.leaf_tree.Goals as goal
 
 pub tree-requires : goal.tree-requires
 tree-requires c =
-    omega (arith, ap length c.in_ok-nodes.ensures, length-map-range_with_len (leader_node c.args.leaf.now c.args.modulus c.args.rest c.args.answer) 0 c.args.modulus, c.requires.states)
+    omega (arith, ap length c.in_ok-nodes.ensures, length-map-range_with_len (remainder_leader_node c.args.leaf.now c.args.modulus c.args.rest c.args.answer) 0 c.args.modulus, c.requires.states)
 
 pub returns : goal.returns
 returns c =
-    IfOk-weaker c.tree.result _ _ (λ nodes h. h ∙ ap (tree_of_ends c.args.leaf.now) c.in_ok-nodes.ensures ∙ tree-flat c.args.leaf.now c.args.modulus (leader_node c.args.leaf.now c.args.modulus c.args.rest c.args.answer)) c.tree.ensures
+    IfOk-weaker c.tree.result _ _ (λ nodes h. h ∙ ap (tree_of_ends c.args.leaf.now) c.in_ok-nodes.ensures ∙ tree-flat c.args.leaf.now c.args.modulus (remainder_leader_node c.args.leaf.now c.args.modulus c.args.rest c.args.answer)) c.tree.ensures

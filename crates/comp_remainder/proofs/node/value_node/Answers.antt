@@ -7,23 +7,23 @@ use Rattle.cert_base.specs.declared.node.Node.TheVariants.{Residue}
 use Rattle.cert_base.specs.Rows.{terms_from}
 use Rattle.comp_trees.specs.LeaderTree.{company_of, mix_by, mix_of_leader}
 use Rattle.comp_trees.proofs.SameMix.{listed_mix}
-use Rattle.comp_remainder_leaf.specs.RemainderLeaf.{state_count}
-use Rattle.comp_remainder.specs.RemainderProof.{value_of, opened_by}
+use Rattle.comp_remainder_leaf.specs.RemainderLeaf.{remainder_state_count}
+use Rattle.comp_remainder.specs.RemainderProof.{remainder_value, opened_by}
 use Rattle.comp_remainder.proofs.node.value_node.Goals as goal
 
 pub multipliers-requires-clause-flows : goal.multipliers-requires-clause-flows
 multipliers-requires-clause-flows c =
-    ap length (c.as_slice.ensures.value ∙ c.in_ok-values.ensures) ∙ length-map-range_with_len (value_of c.args.modulus) 0 (state_count c.args.modulus) ∙ sym c.requires.states
+    ap length (c.as_slice.ensures.value ∙ c.in_ok-values.ensures) ∙ length-map-range_with_len (remainder_value c.args.modulus) 0 (remainder_state_count c.args.modulus) ∙ sym c.requires.states
 
 pub multipliers-requires-clause-out : goal.multipliers-requires-clause-out
 multipliers-requires-clause-out c =
-    ap length (c.as_slice-2.ensures.value ∙ c.in_ok-values.ensures) ∙ length-map-range_with_len (value_of c.args.modulus) 0 (state_count c.args.modulus) ∙ sym c.requires.states
+    ap length (c.as_slice-2.ensures.value ∙ c.in_ok-values.ensures) ∙ length-map-range_with_len (remainder_value c.args.modulus) 0 (remainder_state_count c.args.modulus) ∙ sym c.requires.states
 
 pub returns : goal.returns
 returns c =
     let leaf = c.args.leaf.now in
     let p = c.args.p in
-    let value = value_of c.args.modulus in
+    let value = remainder_value c.args.modulus in
     let range = ap (λ n. map value (range_with_len 0 n)) (sym c.requires.states) in
     let first = c.as_slice.ensures.value ∙ c.in_ok-values.ensures ∙ range in
     let second = c.as_slice-2.ensures.value ∙ c.in_ok-values.ensures ∙ range in

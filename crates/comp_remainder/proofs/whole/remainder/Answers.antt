@@ -2,17 +2,17 @@ use Rattle.std.proofs.Common.{◌∙◌, ap, sym, subst, length}
 use Rattle.std.proofs.lemmas.List.FromFn.{length-map-range_with_len}
 use Rattle.pop_net.specs.LeafModel.{LeafModel}
 use Rattle.cert_base.specs.ProofLimits.{IsLeafProofWithin}
-use Rattle.comp_remainder_leaf.specs.RemainderLeaf.{state_count, name_of}
+use Rattle.comp_remainder_leaf.specs.RemainderLeaf.{remainder_state_count, remainder_state_name}
 use Rattle.comp_remainder.proofs.Valid.{part-as, remainder-within, whole-valid}
 use Rattle.comp_remainder.proofs.whole.remainder.Goals as goal
 
 pub leaf_tree-requires-clause-states : goal.leaf_tree-requires-clause-states
 leaf_tree-requires-clause-states c =
-    ap (λ (l : LeafModel). length l.states) c.in_ok-leaf.ensures.built ∙ length-map-range_with_len (name_of c.args.modulus) 0 (state_count c.args.modulus)
+    ap (λ (l : LeafModel). length l.states) c.in_ok-leaf.ensures.built ∙ length-map-range_with_len (remainder_state_name c.args.modulus) 0 (remainder_state_count c.args.modulus)
 
 pub leaf_tree-requires-2-clause-states : goal.leaf_tree-requires-2-clause-states
 leaf_tree-requires-2-clause-states c =
-    ap (λ (l : LeafModel). length l.states) c.in_ok-leaf.ensures.built ∙ length-map-range_with_len (name_of c.args.modulus) 0 (state_count c.args.modulus)
+    ap (λ (l : LeafModel). length l.states) c.in_ok-leaf.ensures.built ∙ length-map-range_with_len (remainder_state_name c.args.modulus) 0 (remainder_state_count c.args.modulus)
 
 pub returns-clause-valid : goal.returns-clause-valid
 returns-clause-valid c =

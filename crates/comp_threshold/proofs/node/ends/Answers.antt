@@ -1,7 +1,7 @@
 use Rattle.comp_layers.proofs.Members.{map_range_push}
-use Rattle.comp_threshold.specs.ThresholdProof.{leader_node}
+use Rattle.comp_threshold.specs.ThresholdProof.{threshold_leader_node}
 use Rattle.comp_threshold.proofs.node.ends.Goals as goal
 
 pub loop-p-preserved : goal.loop-p-preserved
 loop-p-preserved c =
-    map_range_push (leader_node c.args.leaf.now c.args.s c.args.t c.args.b) c.loop-p.p c.loop-p.nodes.items c.push.new.self.items c.in_ok-leader_node.field-0 c.loop-p.invariant c.in_ok-leader_node.ensures c.in_ok-push.ensures.items
+    map_range_push (threshold_leader_node c.args.leaf.now c.args.s c.args.t c.args.b) c.loop-p.p c.loop-p.nodes.items c.push.new.self.items c.in_ok-leader_node.field-0 c.loop-p.invariant c.in_ok-leader_node.ensures c.in_ok-push.ensures.items

@@ -1,12 +1,12 @@
 use Rattle.std.proofs.Common.{◌≡◌, ◌++◌}
 use Rattle.std.specs.Prelude.{flat_map}
 use Rattle.std.specs.List.{range_with_len}
-use Rattle.comp_threshold_leaf.specs.ThresholdLeaf.{span_of, pairs_of, turns_of}
+use Rattle.comp_threshold_leaf.specs.ThresholdLeaf.{span_of, threshold_pairs, threshold_turns}
 use Rattle.comp_threshold_leaf.proofs.listing.moves.Given as goal
 
 abbrev pub invariant-loop-p : goal.invariant-loop-p
-invariant-loop-p l = l.moves.items ≡ flat_map (pairs_of l.s l.t) (range_with_len 0 l.p)
+invariant-loop-p l = l.moves.items ≡ flat_map (threshold_pairs l.s l.t) (range_with_len 0 l.p)
 
 abbrev pub invariant-loop-p-2 : goal.invariant-loop-p-2
 invariant-loop-p-2 l =
-    l.moves.items ≡ flat_map (pairs_of l.s l.t) (range_with_len 0 (span_of l.s)) ++ flat_map (turns_of l.s l.t) (range_with_len 0 l.p)
+    l.moves.items ≡ flat_map (threshold_pairs l.s l.t) (range_with_len 0 (span_of l.s)) ++ flat_map (threshold_turns l.s l.t) (range_with_len 0 l.p)

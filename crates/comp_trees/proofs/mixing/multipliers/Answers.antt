@@ -2,7 +2,7 @@ use Rattle.std.proofs.Common.{◌∷◌, ◌++◌, [], ◌∙◌, List, map, len
 use Rattle.std.specs.Prelude.{ℤ, pos, slice_index_or}
 use Rattle.std.proofs.lemmas.Int.{to_z-of_z}
 use Rattle.std.proofs.lemmas.List.FromFn.{fill_by_all}
-use Rattle.comp_trees.specs.LeaderTree.{above, company_of, mix_by}
+use Rattle.comp_trees.specs.LeaderTree.{mix_above, company_of, mix_by}
 use Rattle.comp_trees.proofs.SameMix.{mix_short}
 use Rattle.comp_trees.proofs.mixing.multipliers.Goals as goal
 
@@ -20,7 +20,7 @@ returns-clause-mix c =
     let own : ℤ → List ℤ = λ a. (pos 0 ∷ map (λ q. slice_index_or c.args.out.now q (pos 0)) (company_of leaf c.args.leader)) ++ a ∷ [] in
     c.in_ok-extend_from_slice.ensures.items
     ∙ ap (λ xs. c.in_ok-multipliers.multipliers.items ++ xs) (c.as_slice.ensures.value ∙ c.in_ok-own.ensures ∙ ap own alone_is)
-    ∙ ap (λ xs. xs ++ own c.args.alone) (c.in_ok-multipliers.ensures ∙ ap (λ w. above flows w (to_z w64 (of_z w64 c.args.opened)) c.args.leader) wrong_is ∙ ap (λ o. above flows c.args.wrong o c.args.leader) opened_is ∙ ap (λ fs. above fs c.args.wrong c.args.opened c.args.leader) filled)
+    ∙ ap (λ xs. xs ++ own c.args.alone) (c.in_ok-multipliers.ensures ∙ ap (λ w. mix_above flows w (to_z w64 (of_z w64 c.args.opened)) c.args.leader) wrong_is ∙ ap (λ o. mix_above flows c.args.wrong o c.args.leader) opened_is ∙ ap (λ fs. mix_above fs c.args.wrong c.args.opened c.args.leader) filled)
 
 pub returns-clause-short : goal.returns-clause-short
 returns-clause-short c =

@@ -1,11 +1,9 @@
 use Rattle.std.proofs.Common.{◌≡◌, ℕ, ◌-◌, min, List, [], ◌∷◌, ◌++◌, length, take, drop, ap, sym, subst, ◌∙◌, arith}
-use Rattle.std.specs.Prelude.{true, ◌↔◌}
 use Rattle.pop_net.specs.NetModel.{NetModel}
 use Rattle.pop_net.specs.declared.net.Word.{Word}
 use Rattle.pop_net.specs.Lanes.{crowd_of, AreValid}
 use Rattle.pop_crowd.specs.declared.crowd.Meeting.{Meeting}
 use Rattle.pair_workers.specs.Turns.{ArePlayed}
-use Rattle.pair_workers.specs.Ends.{RunGoesOn, IsEndOf, IsRunFrom}
 use Rattle.pair_workers.proofs.FieldRounds.{whole_written}
 use Rattle.pair_workers.proofs.ManyRounds.{AreOnTheRun, all_more_rounds}
 use Rattle.pair_workers.proofs.RunEnds.{run_ended}
@@ -43,12 +41,5 @@ rounds-preserved g c =
 
 pub returns : goal.returns
 returns g c =
-    let net = c.args.net.now in
     let was = c.rounds.invariant in
-    let last = c.rounds.crowd in
-    let more = c.in_ok-goes_on.field-0 in
-    let table = c.in_ok-table.ensures in
-    let goes = subst (λ (n : NetModel). (more ≡ true) ↔ RunGoesOn n (crowd_of n last) c.rounds.left) table c.in_ok-goes_on.ensures in
-    let is = subst (λ (n : NetModel). IsEndOf n (crowd_of n last) c.in_ok-end.end) table c.in_ok-end.ensures in
-    subst (λ (rounds : List (List Meeting)). IsRunFrom net c.args.crowd c.args.spec.now (record { rounds = rounds; crowd = last; end = c.in_ok-end.end })) (sym c.from_vec.ensures)
-    (run_ended net c.args.crowd last c.args.spec.now c.rounds.rounds.items c.rounds.pickers.items c.rounds.left more c.in_ok-end.end was.run was.valid was.agents c.if-branch.false goes is)
+    run_ended c.args.net.now _ c.args.crowd c.rounds.crowd c.args.spec.now c.rounds.rounds.items _ c.rounds.pickers.items c.rounds.left c.in_ok-goes_on.field-0 c.in_ok-end.end was.run was.valid was.agents c.if-branch.false c.in_ok-table.ensures c.in_ok-goes_on.ensures c.in_ok-end.ensures c.from_vec.ensures

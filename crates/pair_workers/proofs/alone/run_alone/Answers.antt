@@ -1,10 +1,8 @@
 use Rattle.std.proofs.Common.{◌≡◌, ℕ, ◌-◌, min, List, [], ◌∷◌, ◌++◌, sym, ap, subst, ◌∙◌, arith, rules, refl}
-use Rattle.std.specs.Prelude.{true, ◌↔◌}
 use Rattle.pop_net.specs.NetModel.{NetModel}
 use Rattle.pop_net.specs.Lanes.{crowd_of}
 use Rattle.pop_crowd.specs.declared.crowd.Meeting.{Meeting}
 use Rattle.pair_workers.specs.Turns.{ArePlayed}
-use Rattle.pair_workers.specs.Ends.{RunGoesOn, IsEndOf, IsRunFrom}
 use Rattle.pair_workers.proofs.ManyRounds.{AreOnTheRun, alone_played, all_more_rounds}
 use Rattle.pair_workers.proofs.OnlyRun.{only_run}
 use Rattle.pair_workers.proofs.RunEnds.{run_ended}
@@ -39,11 +37,5 @@ pub returns : goal.returns
 returns g c =
     let net = c.args.net.now in
     let was = c.rounds.invariant in
-    let last = c.rounds.crowd in
-    let more = c.in_ok-goes_on.field-0 in
-    let table = c.in_ok-table.ensures in
-    let goes = subst (λ (n : NetModel). (more ≡ true) ↔ RunGoesOn n (crowd_of n last) c.rounds.left) table c.in_ok-goes_on.ensures in
-    let is = subst (λ (n : NetModel). IsEndOf n (crowd_of n last) c.in_ok-end.end) table c.in_ok-end.ensures in
-    let run = subst (λ (rounds : List (List Meeting)). IsRunFrom net c.args.crowd c.args.spec.now (record { rounds = rounds; crowd = last; end = c.in_ok-end.end })) (sym c.from_vec-2.ensures)
-    (run_ended net c.args.crowd last c.args.spec.now c.rounds.rounds.items (c.rounds.picker ∷ []) c.rounds.left more c.in_ok-end.end was.run was.valid was.agents c.if-branch.false goes is) in
+    let run = run_ended net _ c.args.crowd c.rounds.crowd c.args.spec.now c.rounds.rounds.items _ (c.rounds.picker ∷ []) c.rounds.left c.in_ok-goes_on.field-0 c.in_ok-end.end was.run was.valid was.agents c.if-branch.false c.in_ok-table.ensures c.in_ok-goes_on.ensures c.in_ok-end.ensures c.from_vec-2.ensures in
     record { run = run; only = only_run net _ c.args.spec.now _ _ c.requires.alone run.run }

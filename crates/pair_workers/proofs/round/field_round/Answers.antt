@@ -7,7 +7,7 @@ use Rattle.pop_net.specs.Lanes.{crowd_of}
 use Rattle.agent_field.specs.Seats.{net_of, opening_of, seats_of, log_of}
 use Rattle.pair_workers.specs.declared.work.Worker.{Worker}
 use Rattle.pair_workers.specs.Turns.{HasPicked, ArePlayed}
-use Rattle.pair_workers.specs.Work.{MayWork, HaveWorked, AreDone, agents_of, pairs_of}
+use Rattle.pair_workers.specs.Work.{MayWork, HaveWorked, AreDone, agents_of_field, pairs_of}
 use Rattle.pair_workers.proofs.FieldRounds.{whole_written, are_done, all_picked, are_played, as_long}
 use Rattle.pair_workers.proofs.round.field_round.Goals as goal
 
@@ -62,8 +62,8 @@ returns g c =
     let first = c.work_beside.new.first in
     let is = c.in_ok-field.ensures.field in
     let some : 0 < length pickers = omega (arith, c.requires.round.pickers, c.requires.limits.workers.0) in
-    let mine : (d : List ℕ) → HasPicked (agents_of f) turns (get_or pickers 0 d) first.picker (pairs_of (log_of first.seat)) = (λ d.
-    subst (λ (p : List ℕ). HasPicked (agents_of f) turns p first.picker (pairs_of (log_of first.seat))) (c.in_ok-picker.ensures ∙ get_or_default pickers 0 c.index-pickers-0.result d some) c.work_beside.ensures.0.picked) in
+    let mine : (d : List ℕ) → HasPicked (agents_of_field f) turns (get_or pickers 0 d) first.picker (pairs_of (log_of first.seat)) = (λ d.
+    subst (λ (p : List ℕ). HasPicked (agents_of_field f) turns p first.picker (pairs_of (log_of first.seat))) (c.in_ok-picker.ensures ∙ get_or_default pickers 0 c.index-pickers-0.result d some) c.work_beside.ensures.0.picked) in
     let closed = c.in_ok-round.ensures in
     let taken = c.in_ok-whole.ensures in
     let round = c.in_ok-round.round in

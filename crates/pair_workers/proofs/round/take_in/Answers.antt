@@ -3,7 +3,7 @@ use Rattle.std.proofs.lemmas.Bool.{cases_eq}
 use Rattle.std.specs.Prelude.{is_some, IsSome}
 use Rattle.agent_field.specs.declared.view.Setup.{Setup}
 use Rattle.agent_field.specs.declared.view.Logged.{Logged}
-use Rattle.agent_field.specs.Seats.{IsSeatOf, number_of, next_of, log_of, taken_of}
+use Rattle.agent_field.specs.Seats.{IsSeatOf, seat_number, next_of, log_of, taken_of}
 use Rattle.pair_workers.specs.declared.work.Worker.{Worker}
 use Rattle.pair_workers.proofs.Turns.{popped}
 use Rattle.pair_workers.proofs.round.take_in.Goals as goal
@@ -20,7 +20,7 @@ workers-preserved c =
     let p = popped init c.workers.others.items rest worker items was.same in
     let j = c.in-Ok.ensures in
     let last : length rest < length init = omega (arith, long, was.few) in
-    let mine : IsSeatOf f worker.seat × (number_of worker.seat ≡ length rest + 1) = subst (λ (v : Worker). IsSeatOf f v.seat × (number_of v.seat ≡ length rest + 1)) (p.1 worker) (c.requires.each (length rest) worker last) in
+    let mine : IsSeatOf f worker.seat × (seat_number worker.seat ≡ length rest + 1) = subst (λ (v : Worker). IsSeatOf f v.seat × (seat_number v.seat ≡ length rest + 1)) (p.1 worker) (c.requires.each (length rest) worker last) in
     let number = worker.seat.number in
     let log = log_of worker.seat in
     let before = taken_of c.workers.first in

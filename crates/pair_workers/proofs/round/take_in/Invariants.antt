@@ -1,13 +1,13 @@
 use Rattle.std.proofs.Common.{◌≡◌, ℕ, ◌+◌, ◌<◌, ◌≤◌, get_or, length, List, Some, None}
 use Rattle.std.specs.Prelude.{IsSome}
-use Rattle.agent_field.specs.Seats.{IsSeatOf, number_of, next_of, log_of, taken_of}
+use Rattle.agent_field.specs.Seats.{IsSeatOf, seat_number, next_of, log_of, taken_of}
 use Rattle.pair_workers.specs.declared.work.Worker.{Worker}
 use Rattle.pair_workers.proofs.round.take_in.Given as goal
 
 abbrev pub invariant-workers : goal.invariant-workers
 invariant-workers l = record {
   ours : IsSeatOf l.field l.first;
-  number : number_of l.first ≡ 0;
+  number : seat_number l.first ≡ 0;
   next : next_of l.first ≡ length l.initial.others.items + 1;
   log : log_of l.first ≡ log_of l.initial.first;
   few : length l.others.items ≤ length l.initial.others.items;

@@ -10,7 +10,7 @@ use Rattle.agent_field.specs.Seats.{net_of, opening_of, seats_of, log_of}
 use Rattle.pair_workers.proofs.FieldRounds.{whole_written, as_long}
 use Rattle.pair_workers.specs.Run.{made_by}
 use Rattle.pop_watch.specs.declared.work.Worker.{Worker}
-use Rattle.pop_watch.specs.Work.{MayPlay, HaveStopped, HasAll}
+use Rattle.pop_watch.specs.Work.{MayPlay, HaveStopped, HasAllWatched}
 use Rattle.pop_watch.specs.Playing.{ArePlaying, of_worker}
 use Rattle.pop_watch.proofs.Seating.{are_done}
 use Rattle.pop_watch.proofs.Renumbered.{IsOfWorker, all_of_workers}
@@ -67,7 +67,7 @@ returns-clause-made g c =
     let ready = c.in_ok-field.ensures.workers in
     let done = are_done f turns pickers old _ new c.as_mut_slice.ensures.value ready c.watch_beside.auto.workers c.watch_beside.ensures.workers in
     let list = whole_written c.in_ok-field.workers.len new old (done.0 ∙ sym ready.0) (omega arith) in
-    let all = subst (λ (l : List Worker). HasAll f l c.watch_beside.new.seat c.in_ok-whole.whole) list c.in_ok-whole.ensures.all in
+    let all = subst (λ (l : List Worker). HasAllWatched f l c.watch_beside.new.seat c.in_ok-whole.whole) list c.in_ok-whole.ensures.all in
     let closed = c.in_ok-round.ensures in
     let meetings = c.in_ok-round.round.meetings in
     let own : calls 0 meetings ≡ [] = closed.own ∙ all.own ∙ c.watch_beside.ensures.seat.1.4 ∙ c.in_ok-field.ensures.observer.log in
@@ -94,7 +94,7 @@ returns-clause-part g c =
     let ready = c.in_ok-field.ensures.workers in
     let done = are_done f turns pickers old _ new c.as_mut_slice.ensures.value ready c.watch_beside.auto.workers c.watch_beside.ensures.workers in
     let list = whole_written c.in_ok-field.workers.len new old (done.0 ∙ sym ready.0) (omega arith) in
-    let all = subst (λ (l : List Worker). HasAll f l c.watch_beside.new.seat c.in_ok-whole.whole) list c.in_ok-whole.ensures.all in
+    let all = subst (λ (l : List Worker). HasAllWatched f l c.watch_beside.new.seat c.in_ok-whole.whole) list c.in_ok-whole.ensures.all in
     let closed = c.in_ok-round.ensures in
     let meetings = c.in_ok-round.round.meetings in
     let own : calls 0 meetings ≡ [] = closed.own ∙ all.own ∙ c.watch_beside.ensures.seat.1.4 ∙ c.in_ok-field.ensures.observer.log in

@@ -6,7 +6,7 @@ use Rattle.std.proofs.lemmas.Iterator.Consumers.{YieldsList-turn, YieldsList-end
 use Rattle.std.specs.Prelude.{is_some, IsSome}
 use Rattle.agent_field.specs.declared.view.Setup.{Setup}
 use Rattle.agent_field.specs.declared.view.Logged.{Logged}
-use Rattle.agent_field.specs.Seats.{IsSeatOf, number_of, next_of, log_of, taken_of}
+use Rattle.agent_field.specs.Seats.{IsSeatOf, seat_number, next_of, log_of, taken_of}
 use Rattle.pop_watch.specs.declared.work.Worker.{Worker}
 use Rattle.pop_watch.proofs.seats.take_in.Goals as goal
 
@@ -30,7 +30,7 @@ workers-preserved c =
     let j = c.in-Ok.ensures in
     let within = turn.0 in
     let found : (d : Worker) → get_or init at d ≡ worker = (λ d. sym (turn.1 ∙ get_or_default init at worker d within)) in
-    let mine : IsSeatOf f worker.seat × (number_of worker.seat ≡ at + 1) = subst (λ (v : Worker). IsSeatOf f v.seat × (number_of v.seat ≡ at + 1)) (found worker) (c.requires.workers at worker within) in
+    let mine : IsSeatOf f worker.seat × (seat_number worker.seat ≡ at + 1) = subst (λ (v : Worker). IsSeatOf f v.seat × (seat_number v.seat ≡ at + 1)) (found worker) (c.requires.workers at worker within) in
     let number = worker.seat.number in
     let log = log_of worker.seat in
     let before = taken_of c.workers.first in

@@ -1,12 +1,12 @@
 use Rattle.std.proofs.Common.{◌≡◌, ℕ, ◌+◌, ◌<◌, get_or, length, map, Some, None}
-use Rattle.agent_field.specs.Seats.{IsSeatOf, number_of, next_of, log_of, taken_of}
+use Rattle.agent_field.specs.Seats.{IsSeatOf, seat_number, next_of, log_of, taken_of}
 use Rattle.pop_watch.specs.declared.work.Worker.{Worker}
 use Rattle.pop_watch.proofs.seats.take_in.Given as goal
 
 abbrev pub invariant-workers : goal.invariant-workers
 invariant-workers l = record {
   ours : IsSeatOf l.field l.first;
-  number : number_of l.first ≡ 0;
+  number : seat_number l.first ≡ 0;
   next : next_of l.first ≡ length l.fn.workers.items + 1;
   log : log_of l.first ≡ log_of l.initial.first;
   pickers : l.pickers.items ≡ map (λ (w : Worker). w.picker) l.yielded;

@@ -4,15 +4,15 @@ use Rattle.std.specs.Str.{bytes_eq}
 use Rattle.std.proofs.lemmas.Bool.{not-false}
 use Rattle.pop_lines.specs.Lines.{pieces}
 use Rattle.pop_words.specs.Counts.{counts_of, with_words, Counted}
-use Rattle.pop_words.specs.Walk.{words_after}
+use Rattle.pop_words.specs.Walk.{words_behind}
 use Rattle.pop_words.specs.declared.counts.CountFault.{CountFault}
 use Rattle.pop_words.specs.declared.counts.CountFault.TheVariants.{Count, NoMemory}
 use Rattle.pop_words.proofs.Cuts.{words-cut}
 use Rattle.pop_words.proofs.counts.read_counts.Goals as goal
 
 -- the counts that were found, with zeros for the others
-totals : (names : List (List ℕ)) (line first : List ℕ) (rest : Option (List ℕ)) (found : List (Option ℕ)) (result : Result (List ℕ) CountFault) → pieces 32 line ≡ first ∷ words_after rest → bytes_eq first (codes "crowd") ≡ true
-    → with_words names (map (λ _. None) names) 1 (words_after rest) ≡ Ok found → IfOk result (λ v. v ≡ map (λ o. unwrap_or o 0) found) → IfErr result (λ e. e ≡ NoMemory) → Counted result (counts_of names line)
+totals : (names : List (List ℕ)) (line first : List ℕ) (rest : Option (List ℕ)) (found : List (Option ℕ)) (result : Result (List ℕ) CountFault) → pieces 32 line ≡ first ∷ words_behind rest → bytes_eq first (codes "crowd") ≡ true
+    → with_words names (map (λ _. None) names) 1 (words_behind rest) ≡ Ok found → IfOk result (λ v. v ≡ map (λ o. unwrap_or o 0) found) → IfErr result (λ e. e ≡ NoMemory) → Counted result (counts_of names line)
 unfolding counts_of
 totals names line first rest found (Ok counts) words is read ok memory = rw (words, is, read) (ap Ok (sym ok))
 totals names line first rest found (Err NoMemory) words is read ok memory = tt

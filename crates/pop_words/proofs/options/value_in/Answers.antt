@@ -4,20 +4,20 @@ use Rattle.std.specs.Str.{bytes_eq}
 use Rattle.std.proofs.lemmas.List.{length-map, get_or-map, get_or_past}
 use Rattle.pop_words.specs.declared.kind.RunKind.{RunKind}
 use Rattle.pop_words.specs.declared.options.RunOption.{RunOption}
-use Rattle.pop_words.specs.Options.{name_of, value_of, default_of, number_behind}
+use Rattle.pop_words.specs.Options.{name_of, option_value, default_of, number_behind}
 use Rattle.pop_words.proofs.Firsts.{position_map}
 use Rattle.pop_words.proofs.options.value_in.Goals as goal
 
 abbrev texts : List (Bor (List ℕ)) → List (List ℕ)
 texts words = map (λ w. w.now) words
 
-value_at : (kind : RunKind) (words : List (Bor (List ℕ))) (option : RunOption) (at : ℕ) → position (λ word. bytes_eq word.now (name_of option)) words ≡ Some at → value_of kind (texts words) option ≡ unwrap_or (number_behind kind option (slice_index_or (texts words) (at + 1) [])) (default_of option)
+value_at : (kind : RunKind) (words : List (Bor (List ℕ))) (option : RunOption) (at : ℕ) → position (λ word. bytes_eq word.now (name_of option)) words ≡ Some at → option_value kind (texts words) option ≡ unwrap_or (number_behind kind option (slice_index_or (texts words) (at + 1) [])) (default_of option)
 value_at kind words option at is = rw (position_map (λ w. w.now) (λ word. bytes_eq word (name_of option)) words, is) refl
 
-value_default : (kind : RunKind) (words : List (Bor (List ℕ))) (option : RunOption) → position (λ word. bytes_eq word.now (name_of option)) words ≡ None → value_of kind (texts words) option ≡ default_of option
+value_default : (kind : RunKind) (words : List (Bor (List ℕ))) (option : RunOption) → position (λ word. bytes_eq word.now (name_of option)) words ≡ None → option_value kind (texts words) option ≡ default_of option
 value_default kind words option is = rw (position_map (λ w. w.now) (λ word. bytes_eq word (name_of option)) words, is) refl
 
-value_past : (kind : RunKind) (words : List (Bor (List ℕ))) (option : RunOption) (at : ℕ) → position (λ word. bytes_eq word.now (name_of option)) words ≡ Some at → length words ≤ at + 1 → value_of kind (texts words) option ≡ default_of option
+value_past : (kind : RunKind) (words : List (Bor (List ℕ))) (option : RunOption) (at : ℕ) → position (λ word. bytes_eq word.now (name_of option)) words ≡ Some at → length words ≤ at + 1 → option_value kind (texts words) option ≡ default_of option
 value_past kind words option at is past =
     let none : slice_index_or (texts words) (at + 1) [] ≡ [] = get_or_past (texts words) (at + 1) [] (omega (arith, past, length-map words (λ w. w.now))) in
     value_at kind words option at is ∙ ap (λ word. unwrap_or (number_behind kind option word) (default_of option)) none

@@ -4,18 +4,18 @@ use Rattle.std.specs.Str.{bytes_eq}
 use Rattle.std.proofs.lemmas.Bool.{not-false, not-true}
 use Rattle.pop_lines.specs.Lines.{pieces}
 use Rattle.pop_words.specs.Vars.{vars_of, Named, AreVariables}
-use Rattle.pop_words.specs.Walk.{words_after, NamedBehind}
+use Rattle.pop_words.specs.Walk.{words_behind, NamedBehind}
 use Rattle.pop_words.specs.declared.vars.VarsFault.{VarsFault}
 use Rattle.pop_words.specs.declared.vars.VarsFault.TheVariants.{Form, NoMemory}
 use Rattle.pop_words.proofs.Cuts.{words-cut}
 use Rattle.pop_words.proofs.NameLists.{variables}
 use Rattle.pop_words.proofs.vars.read_vars.Goals as goal
 
-other_word : (line first : List ℕ) (rest : Option (List ℕ)) → pieces 32 line ≡ first ∷ words_after rest → bytes_eq first (codes "vars") ≡ false → vars_of line ≡ None
+other_word : (line first : List ℕ) (rest : Option (List ℕ)) → pieces 32 line ≡ first ∷ words_behind rest → bytes_eq first (codes "vars") ≡ false → vars_of line ≡ None
 unfolding vars_of
 other_word line first rest words other = rw (words, other) refl
 
-named : (line first : List ℕ) (rest : Option (List ℕ)) (result : Result (List (List ℕ)) VarsFault) → pieces 32 line ≡ first ∷ words_after rest → bytes_eq first (codes "vars") ≡ true → NamedBehind result (words_after rest) → Named result (vars_of line)
+named : (line first : List ℕ) (rest : Option (List ℕ)) (result : Result (List (List ℕ)) VarsFault) → pieces 32 line ≡ first ∷ words_behind rest → bytes_eq first (codes "vars") ≡ true → NamedBehind result (words_behind rest) → Named result (vars_of line)
 unfolding vars_of
 named line first rest (Ok names) words is behind = rw (words, is, behind.1) (ap Some (sym behind.0))
 named line first rest (Err Form) words is behind = rw (words, is, behind) refl
@@ -36,4 +36,4 @@ returns-clause-vars c =
     named c.args.line.now c.cut.result.0.now (option_copied c.cut.result.1) c.names_behind.result words (not-false _ (sym (rw c.as_slice.ensures at c.ne.ensures) ∙ c.if-ne.false)) c.names_behind.ensures
 
 pub returns-clause-names : goal.returns-clause-names
-returns-clause-names c = formed (words_after (option_copied c.cut.result.1)) c.names_behind.result c.names_behind.ensures
+returns-clause-names c = formed (words_behind (option_copied c.cut.result.1)) c.names_behind.result c.names_behind.ensures

@@ -5,7 +5,7 @@ use Rattle.pop_net.specs.Lanes.{crowd_of}
 use Rattle.pop_checker.specs.CheckedModel.{CheckedModel}
 use Rattle.tool_texts.specs.declared.refusal.Refusal.{Refusal}
 use Rattle.tool_texts.specs.declared.output.Output.{Output}
-use Rattle.tool_texts.specs.Steps.{Gives}
+use Rattle.tool_texts.specs.Steps.{GivesStep}
 use Rattle.tool_texts.proofs.Goes.{gives_obeys}
 use Rattle.tool_commands.specs.Replay.{replay_output, judged_output, OfBegun}
 use Rattle.tool_commands.proofs.replay.replay_begun.Goals as goal
@@ -21,7 +21,7 @@ returns-in-Ok c =
     ap (λ (n : NetModel). replay_output c.args.kind n (crowd_of n start.crowd) lines) net ∙ ap (λ (s : CrowdModel). replay_output c.args.kind bundle.net s lines) c.requires.start.crowd in
     gives_obeys (OfBegun c.args.kind lines (bundle, start.counts)) (λ (o : Output). o) c.replay_from.result (judged_output c.args.kind bundle start.counts lines None)
     (None, c.in-Ok.ensures.valid, refl)
-    (subst (λ (r : Result Output Refusal). Gives (λ (o : Output). o) c.replay_from.result r) same c.replay_from.ensures)
+    (subst (λ (r : Result Output Refusal). GivesStep (λ (o : Output). o) c.replay_from.result r) same c.replay_from.ensures)
 
 pub returns-in-Err-Rejected : goal.returns-in-Err-Rejected
 returns-in-Err-Rejected c =

@@ -3,7 +3,7 @@ use Rattle.std.proofs.lemmas.List.{length-map}
 use Rattle.pop_net.specs.Lanes.{tuple_of, crowd_of}
 use Rattle.pop_crowd.proofs.Words.{crowd_tuples}
 use Rattle.terminal_test.specs.Restless.{IsCalm}
-use Rattle.terminal_test.specs.TableNet.{net_of}
+use Rattle.terminal_test.specs.TableNet.{table_net}
 use Rattle.terminal_test.proofs.Ends.{NoPair, terminal_without, moves_on, not_terminal}
 use Rattle.terminal_test.proofs.Searches.{below_more}
 use Rattle.terminal_test.proofs.RestlessStates.{calm_below}
@@ -13,16 +13,16 @@ use Rattle.terminal_test.proofs.pair_table.PairTable.enabled_pair.Goals as goal
 pub returns-in-Some-clause-none : goal.returns-in-Some-clause-none
 returns-in-Some-clause-none c = (
   λ e. cc,
-  λ t. absurd (not_terminal (net_of c.args.self.now) (crowd_of (net_of c.args.self.now) c.args.crowd.now) (crowd_tuples (net_of c.args.self.now) c.args.crowd.now) c.loop-a.a c.in-Some.b c.in-Some.ensures.0 t),
+  λ t. absurd (not_terminal (table_net c.args.self.now) (crowd_of (table_net c.args.self.now) c.args.crowd.now) (crowd_tuples (table_net c.args.self.now) c.args.crowd.now) c.loop-a.a c.in-Some.b c.in-Some.ensures.0 t),
 )
 
 pub returns-in-Some-clause-moves : goal.returns-in-Some-clause-moves
 returns-in-Some-clause-moves c =
-    moves_on (net_of c.args.self.now) (crowd_of (net_of c.args.self.now) c.args.crowd.now) (crowd_tuples (net_of c.args.self.now) c.args.crowd.now) c.loop-a.a c.in-Some.b c.in-Some.ensures.0
+    moves_on (table_net c.args.self.now) (crowd_of (table_net c.args.self.now) c.args.crowd.now) (crowd_tuples (table_net c.args.self.now) c.args.crowd.now) c.loop-a.a c.in-Some.b c.in-Some.ensures.0
 
 pub loop-a-preserved : goal.loop-a-preserved
 loop-a-preserved c =
-    let net = net_of c.args.self.now in
+    let net = table_net c.args.self.now in
     let words = c.args.crowd.now in
     let crowd = crowd_of net words in
     elim c.if-is_restless.branch [
@@ -34,7 +34,7 @@ loop-a-preserved c =
 
 pub returns-clause-none : goal.returns-clause-none
 returns-clause-none c =
-    let net = net_of c.args.self.now in
+    let net = table_net c.args.self.now in
     let crowd = crowd_of net c.args.crowd.now in
     let none : NoPair net crowd = λ a b l m. c.loop-a.invariant a b (omega (arith, l, m, length-map c.args.crowd.now (tuple_of net))) l m in
     ((λ e. terminal_without net crowd (crowd_tuples net c.args.crowd.now) none), (λ t. refl))

@@ -2,13 +2,13 @@ use Rattle.std.proofs.Common.{◌≡◌, ℕ, Bool, true, false, not, refl}
 use Rattle.std.specs.Prelude.{Option, Some, None, is_some, ◌↔◌}
 use Rattle.pop_net.specs.Lanes.{crowd_of}
 use Rattle.pop_crowd.proofs.Words.{crowd_tuples}
-use Rattle.terminal_test.specs.TableNet.{net_of}
+use Rattle.terminal_test.specs.TableNet.{table_net}
 use Rattle.terminal_test.proofs.Ends.{not_terminal}
 use Rattle.terminal_test.proofs.pair_table.PairTable.is_terminal.Goals as goal
 
 pub returns-then-are_enabled-clause-terminal : goal.returns-then-are_enabled-clause-terminal
 returns-then-are_enabled-clause-terminal c =
-    let net = net_of c.args.self.now in (
+    let net = table_net c.args.self.now in (
       λ e. cc,
       λ t. absurd (not_terminal net (crowd_of net c.args.crowd.now) (crowd_tuples net c.args.crowd.now) c.in-Some.a c.in-Some.b (c.are_enabled.ensures.0 c.if-are_enabled.true) t),
     )

@@ -1,7 +1,7 @@
 use Rattle.std.proofs.Common.{◌≡◌, map, take}
 use Rattle.pop_net.specs.LeafModel.{LeafModel}
-use Rattle.terminal_test.specs.Loud.{pairs_of}
+use Rattle.terminal_test.specs.Loud.{pairs_of_moves}
 use Rattle.terminal_test.proofs.pair_table.PairTable.new.Given as goal
 
 abbrev pub invariant-loop-leaf : goal.invariant-loop-leaf
-invariant-loop-leaf l = l.loud.items ≡ map (λ (leaf : LeafModel). pairs_of leaf.moves) (take l.leaf l.net.leaves)
+invariant-loop-leaf l = l.loud.items ≡ map (λ (leaf : LeafModel). pairs_of_moves leaf.moves) (take l.leaf l.net.leaves)
