@@ -1,8 +1,10 @@
 use Rattle.std.proofs.Common.{◌≡◌, ℕ, ◌-◌, min, List, [], ◌∷◌, ◌++◌, sym, ap, subst, ◌∙◌, arith, rules, refl}
+use Rattle.std.specs.Prelude.{true, ◌↔◌}
 use Rattle.pop_net.specs.NetModel.{NetModel}
 use Rattle.pop_net.specs.Lanes.{crowd_of}
 use Rattle.pop_crowd.specs.declared.crowd.Meeting.{Meeting}
 use Rattle.pair_workers.specs.Turns.{ArePlayed}
+use Rattle.pair_workers.specs.Ends.{RunGoesOn}
 use Rattle.pair_workers.proofs.ManyRounds.{AreOnTheRun, alone_played, all_more_rounds}
 use Rattle.pair_workers.proofs.OnlyRun.{only_run}
 use Rattle.pair_workers.proofs.RunEnds.{run_ended}
