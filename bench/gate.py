@@ -1,4 +1,5 @@
-"""Runs the merge gate from nothing in a clone, and prints the processor minutes of each crate's proofs, tests and edits.
+"""Runs the merge gate from nothing in a clone, and prints the processor minutes of each crate's proofs, tests and edits,
+and those of the seed of its edits: the check of the crate as it stands with which they begin.
 
 Usage: python3 bench/gate.py [FOLDER]
 
@@ -16,7 +17,7 @@ from collections import defaultdict
 from pathlib import Path
 
 TICKS = os.sysconf("SC_CLK_TCK")
-KINDS = ["proofs", "tests", "edits", "other"]
+KINDS = ["proofs", "tests", "seeds", "edits", "other"]
 
 
 def children():
@@ -42,6 +43,11 @@ def below(root):
     return found
 
 
+def is_seed(words):
+    """Whether a check of an edit's kind writes into the seed, as the first and the last one of a crate do."""
+    return "--incremental" in words and words[words.index("--incremental") + 1].endswith("/seed")
+
+
 def place(process):
     """The crate and the kind of work of a process, its start and its seconds so far."""
     folder = Path(f"/proc/{process}")
@@ -51,7 +57,7 @@ def place(process):
     if not crate:
         kind = "other"
     elif "rt-edit" in os.readlink(folder / "cwd"):
-        kind = "edits"
+        kind = "seeds" if is_seed(words) else "edits"
     elif "--test" in words:
         kind = "tests"
     else:

@@ -169,7 +169,7 @@ impl ReadItem for States {
 
     ghost can_read = { λ _. ⊤ };
 
-    ghost item_at = { λ _. state_item };
+    ghost item_at = { λ _. set_state_item };
 
     fn read(
         &self,

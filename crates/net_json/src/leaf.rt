@@ -106,7 +106,7 @@ impl ReadItem for States {
 
     ghost can_read = { λ reader. (1 ≤ reader.states) × (reader.states ≤ STATE_LIMIT) };
 
-    ghost item_at = { λ reader. state_item reader.states };
+    ghost item_at = { λ reader. leaf_state_item reader.states };
 
     fn read(
         &self,

@@ -21,7 +21,7 @@ pub struct PairTable<'n> {
     pub(crate) net: &'n Net,
     /// For each leaf the pairs of states that react.
     loud: Vec<List<(u16, u16)>>,
-    ghost pairs: { loud.items ≡ map (λ leaf. pairs_of leaf.moves) net.now.leaves },
+    ghost pairs: { loud.items ≡ map (λ leaf. pairs_of_moves leaf.moves) net.now.leaves },
 }
 
 impl<'n> PairTable<'n> {
