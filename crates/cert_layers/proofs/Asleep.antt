@@ -1,5 +1,5 @@
 -- Which moves are not woken.
-use Rattle.std.proofs.Common.{◌^◌, ◌≡◌, ◌⊎◌, inl, inr, ℕ, ◌<◌, ◌≤◌, Bool, true, false, not, ◌&&◌, List, length, refl, sym, subst, ◌∙◌}
+use Rattle.std.proofs.Common.{◌^◌, ◌≡◌, ◌⊎◌, inl, inr, ℕ, ◌<◌, ◌≤◌, Bool, true, false, not, ◌&&◌, List, [], ◌∷◌, length, refl, sym, subst, ◌∙◌, arith}
 use Rattle.std.specs.Prelude.{Option, Some, None, slice_get, nat_lt, ◌==◌}
 use Rattle.std.specs.List.{list_any, range_with_len}
 use Rattle.std.proofs.lemmas.Bool.{and_cases, and_left, and_right, or_parts, or_cases, not-false, ltb-true, lt-ltb, cases_Bool, cases_lt, eqb-true}
@@ -57,6 +57,23 @@ module _ (early : ℕ → ℕ → Bool) (t : Move) where
       by_reason : (not (early t.p t.q) ≡ false) ⊎ (list_any (wakes_beside_state early t) (range_with_len 0 states) ≡ false) → wakes_states early t x y ≡ false
       by_reason (inl p_and_q) = wakes-early x y (not-false (early t.p t.q) p_and_q)
       by_reason (inr none_beside) = by_brought (list_any-none states (wakes_beside_state early t) none_beside) (cases_Bool (brings_state t x)) (cases_Bool (brings_state t y))
+
+-- no layer is before the first
+never_early : (n : ℕ) → nat_lt n 0 ≡ false
+never_early n = elim (cases_Bool (nat_lt n 0)) [
+  | inl b ↦ absurd (let l = ltb-true n 0 b in omega (arith, l))
+  | inr b ↦ b
+]
+
+nobody_beside : (table : List ℕ) (t : Move) (states : List ℕ) → list_any (wakes_beside_state (is_early table 0) t) states ≡ false
+nobody_beside table t [] = refl
+nobody_beside table t (y ∷ states) =
+    rw (never_early (first_at table t.r y), never_early (first_at table t.s y)) (nobody_beside table t states)
+
+-- so a move of the first layer wakes nothing
+pub first_wakes_none : (table : List ℕ) (t : Move) (states : ℕ) → may_wake_any (is_early table 0) t states ≡ false
+first_wakes_none table t states =
+    and_right (not (is_early table 0 t.p t.q)) (list_any (wakes_beside_state (is_early table 0) t) (range_with_len 0 states)) (nobody_beside table t (range_with_len 0 states))
 
 -- the states of an early move
 early_both : (leaf : LeafModel) (layer_of_move : List (Option ℕ)) (table : List ℕ) (i m j : ℕ) (u : Move) → IsLeaf leaf → IsWakingTable leaf layer_of_move (length leaf.moves) table → i < 2 ^ 16 → slice_get leaf.moves m ≡ Some u → silent_move u ≡ false → layer_of layer_of_move m ≡ Some j → j < i → (is_early table i u.p u.q ≡ true) × (is_early table i u.q u.p ≡ true)

@@ -86,12 +86,16 @@ fn least_woken(
     (0..leaf.move_count()).find(|u| wakes_move(leaf, layer_of_move, table, layer, taken, *u))
 }
 
-/// Whether a move wakes an early move at all. It looks at pairs of states alone.
+/// Whether a move wakes an early move at all. It looks at pairs of states alone. Before the first layer there are no
+/// moves.
 fn may_wake(table: &PairTable, layer: u16, taken: Move, states: u16) -> bool
     requires below { IsMoveBelow STATE_LIMIT taken }
     requires states { states ≤ STATE_LIMIT }
     ensures { result ≡ may_wake_any (is_early table.now layer) taken states }
 {
+    if layer == 0 {
+        return false;
+    }
     !table.is_early(taken.p, taken.q, layer) && wakes_some(table, layer, taken, states)
 }
 
