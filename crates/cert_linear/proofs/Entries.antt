@@ -1,18 +1,20 @@
 -- Entries of which the touched ones are listed.
-use Rattle.std.proofs.Common.{◌≡◌, ◌≢◌, ◌⊎◌, inl, inr, ℕ, zero, suc, ◌+◌, ◌<◌, ◌≤◌, Bool, true, false, List, [], ◌∷◌, ◌++◌, length, refl, ap, sym, ◌∙◌, subst, arith}
-use Rattle.std.specs.Prelude.{ℤ, pos, ◌+ℤ◌, nat_abs, ◌^◌, ◌==◌, if◌then◌else◌, ◌&&◌, All, Contains, slice_index_or, slice_set}
+use Rattle.std.proofs.Common.{◌≡◌, ◌≢◌, ◌⊎◌, inl, inr, ℕ, zero, suc, ◌+◌, ◌<◌, ◌≤◌, Bool, true, false, List, [], ◌∷◌, ◌++◌, length, take, refl, ap, sym, ◌∙◌, subst, arith}
+use Rattle.std.specs.Prelude.{ℤ, pos, ◌+ℤ◌, nat_abs, int_le, slice_get, Some, ◌^◌, ◌==◌, if◌then◌else◌, ◌&&◌, All, Contains, slice_index_or, slice_set}
 use Rattle.std.specs.List.{list_all}
 use Rattle.std.proofs.lemmas.Int.{ints}
 use Rattle.std.proofs.lemmas.Bool.Decides.{eqb_tells}
-use Rattle.std.proofs.lemmas.List.{length-append, get_or-set_same, get_or-set_other, get_or_past, get_or_append_left}
+use Rattle.std.proofs.lemmas.List.{length-append, get_or-set_same, get_or-set_other, get_or_past, get_or_append_left, get_or_default}
+use Rattle.std.proofs.lemmas.Option.{slice_get_read}
 use Rattle.std.proofs.lemmas.List.Elements.{Contains-append_left, Contains-append_right, Contains-append_cases, All-push}
 use Rattle.std.proofs.lemmas.List.Sums.{AllPass-from_list_all, list_all-from_AllPass}
 use Rattle.std.proofs.Math.ListN.{length-set}
 use Rattle.cert_base.specs.declared.fact.Row.{Row}
 use Rattle.cert_base.specs.ClosingTests.{coefficient_in, each_coefficient}
+use Rattle.cert_base.proofs.FlowRows.{take_one_more}
 use Rattle.cert_linear.specs.declared.sum.Entry.{Entry}
 use Rattle.cert_linear.specs.declared.sum.Sum.{Sum}
-use Rattle.cert_linear.specs.Sums.{blank, entry_at, rest_at, coefficient_of, AreTidy, AreRests, IsTidy, IsSum, AreSum}
+use Rattle.cert_linear.specs.Sums.{blank, entry_at, rest_at, coefficient_of, AreTidy, AreRests, IsTidy, IsSum, AreSum, IsListedIfPositive, HasAllPositive}
 use Rattle.pop_net.proofs.Reactions.{and_left, and_right}
 use Rattle.cert_linear.proofs.RowValues.{each_coefficient-at}
 use Rattle.cert_linear.proofs.Coefficients.{size-add}
@@ -282,33 +284,57 @@ each-touched test row sum is tidy zero_passes =
     passes q e false f = ap test (untouched-zero sum q tidy f) ∙ zero_passes
     passes q e true f = found q e (tidy.0.listed q f)
 
--- the touched entries of two sums pass a test that 0 passes exactly when the coefficients of their row do
-pub each-touched-both : (test : ℤ → Bool) (row : Row) (sum other : Sum) → AreSum row sum other → IsTidy sum → IsTidy other → test (pos 0) ≡ true → (list_all (λ q. test (coefficient_of sum q +ℤ coefficient_of other q)) sum.touched.items && list_all (λ q. test (coefficient_of other q +ℤ coefficient_of sum q)) other.touched.items) ≡ each_coefficient test row
-each-touched-both test row sum other are tidy other_tidy zero_passes =
+-- the touched entries of a sum and the listed ones of another pass exactly when no coefficient of their row is above 0
+pub none-positive-both : (row : Row) (sum other : Sum) (listed : List ℕ) → AreSum row sum other → IsTidy sum → HasAllPositive other listed → (list_all (λ q. int_le (coefficient_of sum q +ℤ coefficient_of other q) (pos 0)) sum.touched.items && list_all (λ q. int_le (coefficient_of sum q +ℤ coefficient_of other q) (pos 0)) listed) ≡ each_coefficient (λ a. int_le a (pos 0)) row
+none-positive-both row sum other listed are tidy all =
     both_ways _ _
-    (λ e. list_all-from_AllPass (λ t. test (coefficient_in row.terms t.at)) row.terms (λ k d l. let at = (slice_index_or row.terms k d).at in ap test (sym (are.terms at)) ∙ passes at (and_left _ _ e) (and_right _ _ e) (entry_at sum.entries.items at).touched (entry_at other.entries.items at).touched refl refl))
-    (λ e. both_true _ _ (list_all-from_AllPass first sum.touched.items (λ k d l. let at = slice_index_or sum.touched.items k d in ap test (are.terms at) ∙ each_coefficient-at test row at zero_passes e)) (list_all-from_AllPass second other.touched.items (λ k d l. let at = slice_index_or other.touched.items k d in ap test (swapped at ∙ are.terms at) ∙ each_coefficient-at test row at zero_passes e)))
+    (λ e. list_all-from_AllPass (λ t. test (coefficient_in row.terms t.at)) row.terms (λ k d l. let at = (slice_index_or row.terms k d).at in ap test (sym (are.terms at)) ∙ passes at (and_left _ _ e) (and_right _ _ e) (entry_at sum.entries.items at).touched refl))
+    (λ e. both_true _ _ (list_all-from_AllPass both sum.touched.items (λ k d l. every e (slice_index_or sum.touched.items k d))) (list_all-from_AllPass both listed (λ k d l. every e (slice_index_or listed k d))))
   where
-    first : ℕ → Bool
-    first q = test (coefficient_of sum q +ℤ coefficient_of other q)
+    test : ℤ → Bool
+    test a = int_le a (pos 0)
 
-    second : ℕ → Bool
-    second q = test (coefficient_of other q +ℤ coefficient_of sum q)
-
-    swapped : (q : ℕ) → (coefficient_of other q +ℤ coefficient_of sum q) ≡ (coefficient_of sum q +ℤ coefficient_of other q)
-    swapped q = omega (arith, ints)
+    both : ℕ → Bool
+    both q = test (coefficient_of sum q +ℤ coefficient_of other q)
 
     both_true : (a b : Bool) → a ≡ true → b ≡ true → (a && b) ≡ true
     both_true a b e f = rw (e, f) refl
 
-    found : (f : ℕ → Bool) (touched : List ℕ) (q : ℕ) → list_all f touched ≡ true → Contains touched q → f q ≡ true
-    found f touched q e (k, l, is) = ap f (sym is) ∙ AllPass-from_list_all f touched e k q l
+    every : each_coefficient test row ≡ true → (q : ℕ) → both q ≡ true
+    every e q = ap test (are.terms q) ∙ each_coefficient-at test row q refl e
 
-    passes : (q : ℕ) → list_all first sum.touched.items ≡ true → list_all second other.touched.items ≡ true → (b c : Bool) → (entry_at sum.entries.items q).touched ≡ b → (entry_at other.entries.items q).touched ≡ c → first q ≡ true
-    passes q e f true c g h = found first sum.touched.items q e (tidy.0.listed q g)
-    passes q e f false true g h = ap test (sym (swapped q)) ∙ found second other.touched.items q f (other_tidy.0.listed q h)
-    passes q e f false false g h =
-        let a = untouched-zero sum q tidy g in
-        let b = untouched-zero other q other_tidy h in
-        let zero : (coefficient_of sum q +ℤ coefficient_of other q) ≡ pos 0 = omega (arith, ints, a, b) in
-        ap test zero ∙ zero_passes
+    found : (variables : List ℕ) (q : ℕ) → list_all both variables ≡ true → Contains variables q → both q ≡ true
+    found variables q e (k, l, is) = ap both (sym is) ∙ AllPass-from_list_all both variables e k q l
+
+    untouched : (q : ℕ) → list_all both listed ≡ true → both q ≡ test (coefficient_of other q) → (b : Bool) → test (coefficient_of other q) ≡ b → both q ≡ true
+    untouched q f same true e = same ∙ e
+    untouched q f same false e = found listed q f (all q e)
+
+    passes : (q : ℕ) → list_all both sum.touched.items ≡ true → list_all both listed ≡ true → (b : Bool) → (entry_at sum.entries.items q).touched ≡ b → both q ≡ true
+    passes q e f true g = found sum.touched.items q e (tidy.0.listed q g)
+    passes q e f false g =
+        let zero = untouched-zero sum q tidy g in
+        let own : (coefficient_of sum q +ℤ coefficient_of other q) ≡ coefficient_of other q = omega (arith, ints, zero) in
+        untouched q f (ap test own) (test (coefficient_of other q)) refl
+
+-- ---- positive variables
+
+-- they are all listed where those that were touched are
+pub all-positive : (sum : Sum) (listed : List ℕ) → IsTidy sum → All (IsListedIfPositive sum listed) sum.touched.items → HasAllPositive sum listed
+all-positive sum listed tidy touched q e = go (entry_at sum.entries.items q).touched refl
+  where
+    found : Contains sum.touched.items q → Contains listed q
+    found (k, l, is) = subst (IsListedIfPositive sum listed) is (touched k q l) e
+
+    go : (b : Bool) → (entry_at sum.entries.items q).touched ≡ b → Contains listed q
+    go true f = found (tidy.0.listed q f)
+    go false f =
+        let clash : true ≡ false = sym (ap (λ a. int_le a (pos 0)) (untouched-zero sum q tidy f)) ∙ e in
+        cc
+
+-- one more variable is looked at
+pub listed-more : (sum : Sum) (listed more variables : List ℕ) (i d : ℕ) → i < length variables → ((q : ℕ) → Contains listed q → Contains more q) → IsListedIfPositive sum more (slice_index_or variables i d) → All (IsListedIfPositive sum listed) (take i variables) → All (IsListedIfPositive sum more) (take (i + 1) variables)
+listed-more sum listed more variables i d l grows here before =
+    let x = slice_index_or variables i d in
+    let is : slice_get variables i ≡ Some x = slice_get_read variables (length variables) i x refl l (sym (get_or_default variables i x d l)) in
+    subst (λ us. All (IsListedIfPositive sum more) us) (sym (take_one_more variables i x is)) (All-push (IsListedIfPositive sum more) (take i variables) x (λ k e m f. grows _ (before k e m f)) here)

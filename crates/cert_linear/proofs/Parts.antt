@@ -62,6 +62,7 @@ kept-same stable facts other tally same is = record {
   may = named-same stable facts other same tally.kept.items is.named ∙ is.may;
   sum = subst (λ row. IsSum row tally.lead) (sym (sum-same stable facts other same tally.kept.items is.named)) is.sum;
   size = is.size;
+  positive = is.positive;
   lead = is.lead;
   rest = is.rest;
 }

@@ -4,14 +4,15 @@ use Rattle.cert_base.specs.declared.fact.Term.{Term}
 use Rattle.cert_base.specs.declared.fact.Fact.{Fact}
 use Rattle.cert_base.specs.ClosingTests.{all_named, may_add, sum_of}
 use Rattle.cert_linear.specs.declared.tally.Tally.{Tally}
-use Rattle.cert_linear.specs.Sums.{IsTidy, IsSum, IsSumWithin}
+use Rattle.cert_linear.specs.Sums.{IsTidy, IsSum, IsSumWithin, HasAllPositive}
 
--- the lead is the sum of the kept terms, which name facts below a number and may have their multipliers
+-- the lead is the sum of the kept terms, which name facts below a number and may have their multipliers; its positive variables are listed
 pub record IsKept (stable : ℕ) (facts : List Fact) (tally : Tally) : Type 0 where
   pub named : All (λ t. t.at < stable) tally.kept.items
   pub may : all_named may_add facts tally.kept.items ≡ true
   pub sum : IsSum (sum_of facts tally.kept.items) tally.lead
   pub size : IsSumWithin (2 ^ 119) tally.lead
+  pub positive : HasAllPositive tally.lead tally.positive.items
   pub lead : IsTidy tally.lead
   pub rest : IsTidy tally.rest
 
@@ -20,8 +21,12 @@ abbrev pub Keeps : List Fact → List Term → Tally → Bool → Type 0
 Keeps facts terms tally false = all_named may_add facts terms ≡ false
 Keeps facts terms tally true = tally.kept.items ≡ terms
 
--- the same, and the lead is their sum
+-- the same, and the lead is their sum, whose positive variables are listed
 abbrev pub Makes : List Fact → List Term → Tally → Bool → Type 0
 Makes facts terms tally false = all_named may_add facts terms ≡ false
 Makes facts terms tally true =
-    (tally.kept.items ≡ terms) × (all_named may_add facts terms ≡ true) × IsSum (sum_of facts terms) tally.lead × IsSumWithin (2 ^ 119) tally.lead
+    (tally.kept.items ≡ terms)
+    × (all_named may_add facts terms ≡ true)
+    × IsSum (sum_of facts terms) tally.lead
+    × IsSumWithin (2 ^ 119) tally.lead
+    × HasAllPositive tally.lead tally.positive.items

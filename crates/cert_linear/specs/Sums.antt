@@ -1,5 +1,5 @@
 -- Sums of rows, with one coefficient for each variable.
-use Rattle.std.specs.Prelude.{◌≡◌, ℕ, ◌<◌, ◌≤◌, ◌^◌, length, All, Contains, slice_index_or, true, false, List, ℤ, pos, ◌+ℤ◌, nat_abs, Bool, Option, Some, None}
+use Rattle.std.specs.Prelude.{◌≡◌, ℕ, ◌<◌, ◌≤◌, ◌^◌, length, All, Contains, slice_index_or, true, false, List, ℤ, pos, ◌+ℤ◌, nat_abs, int_le, Bool, Option, Some, None}
 use Rattle.cert_base.specs.declared.fact.Term.{Term}
 use Rattle.cert_base.specs.declared.fact.Row.{Row}
 use Rattle.cert_base.specs.declared.fact.Fact.{Fact}
@@ -60,6 +60,14 @@ pub record IsSame (sum other : Sum) : Type 0 where
 pub record IsSumWithin (size : ℕ) (sum : Sum) : Type 0 where
   pub terms : (variable : ℕ) → nat_abs (coefficient_of sum variable) ≤ size
   pub constant : nat_abs sum.constant ≤ size
+
+-- a variable whose coefficient is above 0 is in the list
+abbrev pub IsListedIfPositive : Sum → List ℕ → ℕ → Type 0
+IsListedIfPositive sum variables variable = int_le (coefficient_of sum variable) (pos 0) ≡ false → Contains variables variable
+
+-- all variables whose coefficient is above 0 are in the list
+abbrev pub HasAllPositive : Sum → List ℕ → Type 0
+HasAllPositive sum variables = (variable : ℕ) → IsListedIfPositive sum variables variable
 
 -- whether a fact may have a multiplier: in a sum of facts, or in one modulo m
 abbrev pub may_by : Option ℕ → ℤ → Fact → Bool

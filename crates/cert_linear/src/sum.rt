@@ -1,13 +1,14 @@
 //! A sum of rows.
 
 ghost use Rattle.std.specs.Prelude.{◌≡◌, ◌≤◌, ◌<◌, ◌+◌, ◌^◌, ◌+ℤ◌, ◌*ℤ◌, ℕ, ◌&&◌, not, ◌==◌, if◌then◌else◌, pos};
-ghost use Rattle.std.specs.Prelude.{negsuc, nat_abs, int_le, length, true, OnOk, IfSome};
+ghost use Rattle.std.specs.Prelude.{negsuc, nat_abs, int_le, length, true, OnOk, IfSome, All, Contains};
 ghost use Rattle.std.specs.List.{list_all};
 ghost use Rattle.pres_ast.specs.PredicateValue.{is_multiple};
 ghost use Rattle.cert_base.specs.declared.fact.Row.{Row};
 ghost use Rattle.cert_base.specs.ClosingTests.{times, no_row, each_coefficient, is_zero_row};
 ghost use Rattle.cert_linear.specs.Conditions.{AreAscending};
 ghost use Rattle.cert_linear.specs.Sums.{coefficient_of, entry_at, rest_at, IsTidy, IsSum, AreSum, IsPlus, IsSumWithin};
+ghost use Rattle.cert_linear.specs.Sums.{IsListedIfPositive, HasAllPositive};
 
 use cert_base::{Row, SIZE_LIMIT};
 use pop_io::NoMemory;
@@ -233,27 +234,66 @@ impl Sum {
         self.coefficient(variable) + other.coefficient(variable)
     }
 
+    /// Makes the list that of the variables whose coefficient is above 0.
+    pub(crate) fn list_positive(&self, positive: &mut Vec<u32>) -> Result<(), NoMemory>
+        requires { IsTidy self.now }
+        ensures { OnOk result (HasAllPositive self.now positive.new.items) }
+    {
+        self.list_positive_among(self.touched.as_slice(), positive)?;
+        Ok(())
+    }
+
+    /// Makes the list that of the variables among these whose coefficient is above 0.
+    fn list_positive_among(
+        &self,
+        variables: &[u32],
+        positive: &mut Vec<u32>,
+    ) -> Result<(), NoMemory>
+        requires { IsTidy self.now }
+        ensures { OnOk result (All (IsListedIfPositive self.now positive.new.items) variables.now) }
+    {
+        positive.truncate(0);
+        for variable in variables {
+            self.push_positive(*variable, positive)?;
+        }
+        Ok(())
+    }
+
+    /// Adds a variable whose coefficient is above 0.
+    fn push_positive(&self, variable: u32, positive: &mut Vec<u32>) -> Result<(), NoMemory>
+        requires { IsTidy self.now }
+        ensures listed { OnOk result (IsListedIfPositive self.now positive.new.items variable) }
+        ensures stay { OnOk result ((q : ℕ) → Contains positive.old.items q → Contains positive.new.items q) }
+    {
+        if self.coefficient(variable) <= 0 {
+            return Ok(());
+        }
+        positive.push(variable)?;
+        Ok(())
+    }
+
     /// Whether both sums together are below 0 at all counts: no coefficient is above 0, and the constant is below 0.
-    pub(crate) fn is_negative_with(&self, other: &Sum) -> bool
+    /// Of the other sum it looks at these variables alone, which are all whose coefficient there is above 0.
+    pub(crate) fn is_negative_with(&self, other: &Sum, positive: &[u32]) -> bool
         requires own { IsTidy self.now × IsSumWithin (2 ^ 119) self.now }
         requires other { IsTidy other.now × IsSumWithin (2 ^ 119) other.now }
+        requires positive { HasAllPositive other.now positive.now }
         ensures { (row : Row) → AreSum row self.now other.now
             → result ≡ (each_coefficient (λ a. int_le a (pos 0)) row && int_le row.constant (negsuc 0)) }
     {
-        self.has_negative_constant_with(other) && self.have_no_positive(other)
+        self.has_negative_constant_with(other) && self.have_no_positive(other, positive)
     }
 
-    fn have_no_positive(&self, other: &Sum) -> bool
+    fn have_no_positive(&self, other: &Sum, positive: &[u32]) -> bool
         requires own { IsTidy self.now × IsSumWithin (2 ^ 119) self.now }
         requires other { IsTidy other.now × IsSumWithin (2 ^ 119) other.now }
         ensures { result
             ≡ (list_all
             (λ q. int_le (coefficient_of self.now q +ℤ coefficient_of other.now q) (pos 0)) self.now.touched.items
-            && list_all
-            (λ q. int_le (coefficient_of other.now q +ℤ coefficient_of self.now q) (pos 0))
-            other.now.touched.items) }
+            && list_all (λ q. int_le (coefficient_of self.now q +ℤ coefficient_of other.now q) (pos 0)) positive.now) }
     {
-        self.has_no_positive_with(other) && other.has_no_positive_with(self)
+        self.has_no_positive_among(other, self.touched.as_slice())
+            && self.has_no_positive_among(other, positive)
     }
 
     fn has_negative_constant_with(&self, other: &Sum) -> bool
@@ -264,15 +304,15 @@ impl Sum {
         self.constant + other.constant < 0
     }
 
-    /// Whether no variable that is touched here has a coefficient above 0 in both sums together.
-    fn has_no_positive_with(&self, other: &Sum) -> bool
+    /// Whether no listed variable has a coefficient above 0 in both sums together.
+    fn has_no_positive_among(&self, other: &Sum, variables: &[u32]) -> bool
         requires own { IsTidy self.now × IsSumWithin (2 ^ 119) self.now }
         requires other { IsTidy other.now × IsSumWithin (2 ^ 119) other.now }
         ensures { result
             ≡ list_all
-            (λ q. int_le (coefficient_of self.now q +ℤ coefficient_of other.now q) (pos 0)) self.now.touched.items }
+            (λ q. int_le (coefficient_of self.now q +ℤ coefficient_of other.now q) (pos 0)) variables.now }
     {
-        self.touched
+        variables
             .iter()
             .all(|q| self.coefficient_with(other, *q) <= 0)
     }

@@ -19,6 +19,8 @@ use std::alloc::Global;
 pub(crate) struct Tally {
     kept: Vec<Term>,
     lead: Sum,
+    /// The variables whose coefficient in the lead is above 0.
+    positive: Vec<u32>,
     /// It is used for other sums too.
     pub(crate) rest: Sum,
 }
@@ -30,6 +32,7 @@ impl Tally {
         Tally {
             kept: Vec::new(alloc),
             lead: Sum::new(alloc),
+            positive: Vec::new(alloc),
             rest: Sum::new(alloc),
         }
     }
@@ -43,6 +46,7 @@ impl Tally {
     {
         self.kept.truncate(0);
         self.lead.clear();
+        self.positive.truncate(0);
     }
 
     /// Keeps the sum only if the facts below `stable` are among the first `len`. The answer is the new `stable`.
@@ -77,7 +81,8 @@ impl Tally {
             return Ok(false);
         }
         let may_add = sum_up(&mut self.rest, facts, rest, None)?;
-        Ok(may_add && self.rest.is_negative_with(&self.lead))
+        let positive = self.positive.as_slice();
+        Ok(may_add && self.rest.is_negative_with(&self.lead, positive))
     }
 
     /// Makes the kept sum that of these terms, unless one may not have its multiplier.
@@ -118,6 +123,7 @@ impl Tally {
         if !sum_up(&mut self.lead, facts, lead, None)? {
             return Ok(false);
         }
+        self.lead.list_positive(&mut self.positive)?;
         self.kept.extend_from_slice(lead)?;
         Ok(true)
     }
