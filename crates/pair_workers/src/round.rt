@@ -24,9 +24,9 @@ pub fn words_of(alloc: Global, crowd: &Crowd) -> Result<List<Word>, NoMemory>
     ensures words { IfOk result (λ words. words ≡ crowd.now) }
     ensures agents { IsCrowdSize (length crowd.now) }
 {
-    let mut words = Vec::new(alloc);
+    let mut words = Vec::with_capacity(alloc, crowd.len() as usize)?;
     'agents: for agent in 0..crowd.len() {
-        words.push(crowd.word(agent))?;
+        words.push_reserved(crowd.word(agent));
     }
     Ok(List::from_vec(words))
 }

@@ -1,4 +1,4 @@
-use Rattle.std.proofs.Common.{◌<◌, length, ◌≡◌, ◌∷◌, [], ◌++◌, get_or, take, sym, ap, ◌∙◌, rules, List}
+use Rattle.std.proofs.Common.{◌<◌, length, ◌≡◌, ◌∷◌, [], ◌++◌, get_or, take, sym, ap, ◌∙◌, rules, List, length-append, arith}
 use Rattle.std.specs.Prelude.{Some, slice_get}
 use Rattle.std.proofs.lemmas.List.{take_more}
 use Rattle.std.proofs.lemmas.Option.{slice_get-get_or}
@@ -13,6 +13,8 @@ agents-preserved c =
     let within : c.agents.agent < length crowd = search rules in
     let same : get_or crowd c.agents.agent word ≡ word = (let e = sym (slice_get-get_or crowd c.agents.agent word within) ∙ at in cc) in
     record {
-      items = c.in_ok-push.ensures.items ∙ ap (λ (l : List Word). l ++ word ∷ []) c.agents.invariant.items
+      items = c.push_reserved.ensures.items ∙ ap (λ (l : List Word). l ++ word ∷ []) c.agents.invariant.items
           ∙ sym (take_more crowd c.agents.agent word within ∙ ap (λ (x : Word). take c.agents.agent crowd ++ x ∷ []) same);
+      count = ap (length {A = Word}) c.push_reserved.ensures.items ∙ length-append c.agents.words.items (word ∷ []) ∙ (let n = c.agents.invariant.count in omega arith);
+      room = let r = c.agents.invariant.room in let same = c.push_reserved.ensures.capacity in omega arith;
     }
