@@ -1,9 +1,5 @@
 //! What is written of a proof, and read again.
 
-ghost use Rattle.std.specs.Prelude.{length};
-ghost use Rattle.cert_base.specs.ProofLimits.{IsProofWithin};
-
-use cert_base::Proof;
 use cert_json::{FormatFault, read_proof, write_proof};
 use net_json::read_net;
 use pop_net::Net;
@@ -20,51 +16,50 @@ const NODES: &str =
 
 const LAYERS: &str = "[{\"moves\":[0,1],\"weights\":[1,0]}]";
 
-/// The text of a proof over the net's variables.
-fn written(alloc: Global, net: &Net, proof: &Proof) -> Result<String, Fail>
-    requires { IsProofWithin (length net.now.variables) (length net.now.leaves) proof.now }
-{
-    let value = write_proof(alloc, proof, net.var_names());
-    let value = value.ok().ok_or("there is memory")?;
-    Ok(value.to_string(alloc)?)
+fn net(alloc: Global) -> Option<Net> {
+    let value = Value::from_str(alloc, NET).ok()?;
+    read_net(alloc, &value).ok()
 }
 
-/// The text that is written of the proof in a bundle.
-fn read_and_written(alloc: Global, text: &str, net: &Net) -> Result<String, Fail> {
-    let value = Value::from_str(alloc, text)?;
-    match read_proof(alloc, &value, net) {
-        Ok(proof) => written(alloc, net, &proof),
-        Err(_fault) => Err("it is a proof".into()),
-    }
+/// The text that is written of the proof in a bundle whose one leaf has this proof.
+fn written(alloc: Global, net: &Net, leaf: &str) -> Option<String> {
+    let bundle = format!(in alloc; "{{\"proof\":[{leaf}]}}").ok()?;
+    let value = Value::from_str(alloc, bundle.as_str()).ok()?;
+    let proof = read_proof(alloc, &value, net).ok()?;
+    let value = write_proof(alloc, &proof, net.var_names()).ok()?;
+    value.to_string(alloc).ok()
+}
+
+/// Whether the list of this leaf's proof is what is written of that one's.
+fn is_written(alloc: Global, leaf: &str, again: &str) -> Option<bool> {
+    let wanted = format!(in alloc; "[{again}]").ok()?;
+    let text = written(alloc, &net(alloc)?, leaf)?;
+    Some(text.as_str() == wanted.as_str())
 }
 
 #[test]
 fn a_proof_is_read_over_a_net(rt: HostRuntime) -> Result<(), Fail> {
     let alloc = rt.alloc();
-    let net = Value::from_str(alloc, NET)?;
-    let net = read_net(alloc, &net).ok().ok_or("it is a net")?;
-    let bundle = format!(in alloc;
-        "{{\"proof\":[{{\"pred\":\"-x < 0\",\"layers\":{LAYERS},\"true\":{NODES},\"false\":[]}}]}}"
+    let leaf = format!(in alloc;
+        "{{\"pred\":\"-x < 0\",\"layers\":{LAYERS},\"true\":{NODES},\"false\":[]}}"
     )?;
-    let first = read_and_written(alloc, bundle.as_str(), &net)?;
-    let wanted = format!(in alloc;
-        "[{{\"false\":[],\"layers\":{LAYERS},\"pred\":\"-x < 0\",\"true\":{NODES}}}]"
+    let again = format!(in alloc;
+        "{{\"false\":[],\"layers\":{LAYERS},\"pred\":\"-x < 0\",\"true\":{NODES}}}"
     )?;
-    assert_eq!(rt; first.as_str(), wanted.as_str());
-    let bundle = format!(in alloc; "{{\"proof\":{first}}}")?;
-    let again = read_and_written(alloc, bundle.as_str(), &net)?;
-    assert_eq!(rt; again.as_str(), first.as_str());
+    assert!(rt; is_written(alloc, leaf.as_str(), again.as_str()) == Some(true));
+    assert!(rt; is_written(alloc, again.as_str(), again.as_str()) == Some(true));
     Ok(())
 }
 
-#[test]
-fn no_object_has_a_proof(rt: HostRuntime) -> Result<(), Fail> {
-    let alloc = rt.alloc();
-    let net = Value::from_str(alloc, NET)?;
-    let net = read_net(alloc, &net).ok().ok_or("it is a net")?;
-    match read_proof(alloc, &Value::Null, &net) {
-        Err(FormatFault::Broken { path, why: _ }) => assert_eq!(rt; path.as_str(), "/proof"),
-        _ => return Err("it is no object".into()),
+/// Whether the fault of no proof at all is told at its member.
+fn lacks_a_proof(alloc: Global) -> Option<bool> {
+    match read_proof(alloc, &Value::Null, &net(alloc)?) {
+        Err(FormatFault::Broken { path, why: _ }) => Some(path.as_str() == "/proof"),
+        _ => None,
     }
-    Ok(())
+}
+
+#[test]
+fn no_object_has_a_proof(rt: HostRuntime) {
+    assert!(rt; lacks_a_proof(rt.alloc()) == Some(true));
 }

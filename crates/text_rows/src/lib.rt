@@ -1,14 +1,10 @@
-//! Tests of lines, streams, JSON parts and predicates that no row of `worked_rows` can hold.
+//! Tests of lines, numbers, streams and predicates that no row of `worked_rows` can hold.
 //! It stands on the crates that it tests, and has no code but tests.
 //! Nothing stands above it.
 #![tactic(auto)]
 
 #[cfg(test)]
 mod lines;
-#[cfg(test)]
-mod lists;
-#[cfg(test)]
-mod parts;
 #[cfg(test)]
 mod predicates;
 #[cfg(test)]

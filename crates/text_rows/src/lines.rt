@@ -1,8 +1,8 @@
 //! Lines, their pieces and numbers.
 
 use pop_lines::{
-    LineFault, line_count, next_line, number, number_within, one_line, printed_number,
-    printed_within, push_number, push_wide_number, small_number, three_lines, two_lines,
+    line_count, next_line, number, number_within, printed_number, printed_within, push_number,
+    push_wide_number, small_number,
 };
 use std::test::Fail;
 
@@ -39,16 +39,6 @@ fn cut_at_line_feeds(rt: HostRuntime) {
         assert!(rt; same_lines(text, lines), "at {text:?}");
         assert_eq!(rt; line_count(text), lines.len());
     }
-}
-
-#[test]
-fn so_many_lines(rt: HostRuntime) {
-    assert!(rt; matches!(one_line(b""), Err(LineFault::Missing(1))));
-    assert!(rt; matches!(one_line(b"a\n"), Ok(b"a")));
-    assert!(rt; matches!(one_line(b"a\n\n"), Err(LineFault::Extra(2))));
-    assert!(rt; matches!(two_lines(b"a"), Err(LineFault::Missing(2))));
-    assert!(rt; matches!(three_lines(b"a\n\n"), Err(LineFault::Missing(3))));
-    assert!(rt; matches!(three_lines(b"a\nb\nc\nd"), Err(LineFault::Extra(4))));
 }
 
 // Texts, and the numbers that they are.

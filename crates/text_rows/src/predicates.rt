@@ -19,39 +19,8 @@ fn names(alloc: Global) -> Result<List<Text>, AllocError>
     Ok(List::from_vec(names))
 }
 
-// Texts and the canonical texts of their trees, worked out by hand from the grammar's table.
-const TREES: [(&[u8], &[u8]); 40] = [
-    (b"x < 1", b"x < 1"),
-    (b"x <= 1", b"x < 2"),
-    (b"x > 1", b"-x < -1"),
-    (b"x >= 1", b"-x < 0"),
-    (b"x = 5", b"(x < 6 && -x < -4)"),
-    (b"x != 5", b"!(x < 6 && -x < -4)"),
-    (b"x = -1 mod 3", b"x = 2 mod 3"),
-    (b"x = -3 mod 3", b"x = 0 mod 3"),
-    (b"x != 7 mod 5", b"!x = 2 mod 5"),
-    (
-        b"2*x - y_2 < 5 && x + y_2 = 1 mod 3",
-        b"(2*x - y_2 < 5 && x + y_2 = 1 mod 3)",
-    ),
-    (b"!x < 1", b"!x < 1"),
-    (b"(x < 1)", b"x < 1"),
-    (b"((x < 1))", b"x < 1"),
-    (b"x < 1 || x < 2 && x < 3", b"(x < 1 || (x < 2 && x < 3))"),
-    (b"x < 1 && x < 2 || x < 3", b"((x < 1 && x < 2) || x < 3)"),
-    (b"x < 1 || x < 2 || x < 3", b"((x < 1 || x < 2) || x < 3)"),
-    (b"x < 1 && x < 2 && x < 3", b"((x < 1 && x < 2) && x < 3)"),
-    (b"x < 1 && (x < 2 && x < 3)", b"(x < 1 && (x < 2 && x < 3))"),
-    (b"!!x < 1", b"!!x < 1"),
-    (b"!(x < 1 || y_2 < 2)", b"!(x < 1 || y_2 < 2)"),
-    (b"!x < 1 && x < 2", b"(!x < 1 && x < 2)"),
-    (b"- x < 1", b"-x < 1"),
-    (b"-x + y_2 - 3*x < - 7", b"-4*x + y_2 < -7"),
-    (b"x - x < 1", b"0*x < 1"),
-    (b"0*y_2 < -1", b"0*x < -1"),
-    (b"y_2 - 1*x < 000012", b"-x + y_2 < 12"),
-    (b"\tx\t<1", b"x < 1"),
-    (b"x<1&&y_2<2", b"(x < 1 && y_2 < 2)"),
+// Texts of atoms too wide to be compiled, and the canonical texts of their trees, worked out by hand from the grammar's table.
+const TREES: [(&[u8], &[u8]); 9] = [
     (b"2147483648*x < 1", b"2147483648*x < 1"),
     (b"2147483647*x + x < 1", b"2147483648*x < 1"),
     (b"-2147483648*x < 1", b"-2147483648*x < 1"),
@@ -64,12 +33,6 @@ const TREES: [(&[u8], &[u8]); 40] = [
         b"x = -1099511627775",
         b"(x < -1099511627774 && -x < 1099511627776)",
     ),
-    (
-        b"000000000000000000000000000000000000000000000000000000000001*x < 1",
-        b"x < 1",
-    ),
-    (b"x = 0 mod 200", b"x = 0 mod 200"),
-    (b"x = 0 mod 002", b"x = 0 mod 2"),
 ];
 
 /// Whether a text is read to a predicate over two variables that has this canonical text.

@@ -1,58 +1,11 @@
 //! Sources and sinks.
 
 use pop_io::{
-    CalmSink, CalmSource, Gate, List, MemorySink, MemorySource, OpenGate, ReadAll, Sink, Source,
-    StdSink, StdSource, Text, Trouble, TroubleKind, is_among, place_of, read_all, write_all,
+    CalmSink, CalmSource, Gate, List, OpenGate, Sink, Source, StdSink, StdSource, Text, is_among,
+    place_of, read_all, write_all,
 };
 use std::alloc::Global;
 use std::test::Fail;
-
-const PART_OF_ONE: Trouble = Trouble {
-    call: 2,
-    kind: TroubleKind::Part(1),
-};
-
-const PART_OF_TWO: Trouble = Trouble {
-    call: 1,
-    kind: TroubleKind::Part(2),
-};
-
-const SECOND_FAILS: Trouble = Trouble {
-    call: 2,
-    kind: TroubleKind::Fail,
-};
-
-/// What is read of `hello` by a source with these troubles.
-fn read(alloc: Global, troubles: &[Trouble]) -> Result<List<u8>, ReadAll> {
-    let troubles = List::from_vec(troubles.to_vec(alloc)?);
-    let hello = List::from_vec(b"hello".to_vec(alloc)?);
-    read_all(alloc, &mut MemorySource::new(hello, troubles))
-}
-
-#[test]
-fn parts_are_read(rt: HostRuntime) -> Result<(), Fail> {
-    let all = read(rt.alloc(), &[PART_OF_ONE]).ok().ok_or("memory")?;
-    let copy = all.copy(rt.alloc()).ok().ok_or("memory")?;
-    assert!(rt; copy.as_slice() == b"hello".as_slice());
-    Ok(())
-}
-
-#[test]
-fn a_failed_take_is_a_read_fault(rt: HostRuntime) {
-    let read = read(rt.alloc(), &[PART_OF_TWO, SECOND_FAILS]);
-    assert!(rt; matches!(read, Err(ReadAll::ReadFault)));
-}
-
-#[test]
-fn parts_are_written(rt: HostRuntime) -> Result<(), Fail> {
-    let troubles = List::from_vec(vec![in rt.alloc(); PART_OF_ONE]?);
-    let mut sink = MemorySink::new(rt.alloc(), 100, troubles)
-        .ok()
-        .ok_or("memory")?;
-    let written = write_all(&mut sink, b"hello").is_ok();
-    assert!(rt; written && sink.held() == b"hello".as_slice());
-    Ok(())
-}
 
 /// How many bytes are taken into three places, which these are then, and how many are left.
 fn taken(alloc: Global, source: &mut CalmSource) -> Option<(usize, [u8; 3], usize)> {
@@ -89,14 +42,16 @@ fn the_standard_streams(rt: HostRuntime) -> Result<(), Fail> {
     Ok(())
 }
 
+/// Where the second of three names is, of which the last two are equal, and whether one is that is none of them.
+fn found(alloc: Global) -> Option<(Option<usize>, bool)> {
+    let x = Text::from_string(String::from_str(alloc, "x").ok()?);
+    let y = Text::from_string(String::from_str(alloc, "y").ok()?);
+    let copy = y.copy(alloc).ok()?;
+    let names = vec![in alloc; x, y, copy].ok()?;
+    Some((place_of(&names, b"y"), is_among(&names, b"xy")))
+}
+
 #[test]
-fn names_among_others(rt: HostRuntime) -> Result<(), Fail> {
-    let alloc = rt.alloc();
-    let x = Text::from_string(String::from_str(alloc, "x")?);
-    let y = Text::from_string(String::from_str(alloc, "y")?);
-    let copy = y.copy(alloc).ok().ok_or("memory")?;
-    let names = vec![in alloc; x, y, copy]?;
-    assert_eq!(rt; place_of(&names, b"y"), Some(1));
-    assert!(rt; !is_among(&names, b"xy"));
-    Ok(())
+fn names_among_others(rt: HostRuntime) {
+    assert!(rt; found(rt.alloc()) == Some((Some(1), false)));
 }
