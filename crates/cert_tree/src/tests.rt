@@ -1,6 +1,8 @@
 //! The check of a tree beside the slow reference.
 
-ghost use Rattle.std.specs.Prelude.{◌≤◌, length, All, IfOk};
+ghost use Rattle.std.specs.Prelude.{◌≡◌, ◌≤◌, length, nat_abs, All, IfOk, IfSome};
+ghost use Rattle.pop_io.specs.declared.names.TheConstants.{VARIABLE_LIMIT};
+ghost use Rattle.pres_ast.specs.declared.limits.TheConstants.{COEFFICIENT_LIMIT, BOUND_LIMIT};
 ghost use Rattle.cert_linear.specs.Conditions.{AreMultipliers};
 ghost use Rattle.cert_tree.specs.Format.{IsWithinFormat};
 
@@ -26,12 +28,12 @@ fn terms(alloc: Global, pairs: &[(u32, i8)]) -> Result<List<Term>, AllocError>
     Ok(List::from_vec(terms))
 }
 
+fn text(alloc: Global, name: &str) -> Option<Text> {
+    Some(Text::from_string(String::from_str(alloc, name).ok()?))
+}
+
 /// One of two agents that meet, or both, take the state `t`.
-fn spread(alloc: Global) -> Result<Leaf, Fail> {
-    let mut states = Vec::new(alloc);
-    for name in ["A", "t"] {
-        states.push(Text::from_string(String::from_str(alloc, name)?))?;
-    }
+fn spread(alloc: Global) -> Option<Leaf> {
     let both = Move {
         p: 0,
         q: 0,
@@ -39,52 +41,58 @@ fn spread(alloc: Global) -> Result<Leaf, Fail> {
         s: 1,
     };
     let one = Move { q: 1, ..both };
-    let leaf = Leaf::new(
-        alloc,
-        List::from_vec(states),
-        List::from_vec(Vec::from_slice(alloc, &[both, one])?),
-        List::from_vec(Vec::from_slice(alloc, &[0u16])?),
-        List::from_vec(Vec::from_slice(alloc, &[false, true])?),
-    );
-    Ok(leaf.ok().ok_or("it is a leaf")?)
+    let states = List::from_vec(vec![in alloc; text(alloc, "A")?, text(alloc, "t")?].ok()?);
+    let moves = List::from_vec(Vec::from_slice(alloc, &[both, one]).ok()?);
+    let inputs = List::from_vec(Vec::from_slice(alloc, &[0u16]).ok()?);
+    let outputs = List::from_vec(Vec::from_slice(alloc, &[false, true]).ok()?);
+    Leaf::new(alloc, states, moves, inputs, outputs).ok()
 }
 
-/// `-x < 0`.
-fn some_input(alloc: Global) -> Result<Pred, AllocError> {
-    let coefs = List::from_vec(Vec::from_slice(alloc, &[-1i64])?);
-    Ok(Pred::new(1, Tree::Less { coefs, bound: 0 }))
+fn less(alloc: Global, coefs: &[i64], bound: i64) -> Option<Pred>
+    requires some { 1 ≤ length coefs.now }
+    requires few { length coefs.now ≤ VARIABLE_LIMIT }
+    requires coefs { All (λ a. nat_abs a ≤ COEFFICIENT_LIMIT) coefs.now }
+    requires bound { nat_abs bound ≤ BOUND_LIMIT }
+    ensures { IfSome result (λ pred. pred.variables ≡ length coefs.now) }
+{
+    let tree = Tree::Less {
+        coefs: List::from_vec(Vec::from_slice(alloc, coefs).ok()?),
+        bound,
+    };
+    Some(Pred::new(coefs.len() as u16, tree))
 }
 
-/// The tree of the protocol that spreads `t`, and a last node or none.
+/// The tree of the protocol that spreads `t`, with this last node. It opens the predicate of the base facts.
 fn tree(alloc: Global, last: &[(u32, i8)]) -> Result<List<Node>, AllocError>
     ensures { IfOk result (λ nodes. All IsWithinFormat nodes × (length nodes ≤ NODE_LIMIT)) }
 {
     let mut nodes = Vec::new(alloc);
     nodes.push(Node::Present(0))?;
     nodes.push(Node::Linear(terms(alloc, &[(4, 1), (5, -1)])?))?;
+    nodes.push(Node::Open(3))?;
     nodes.push(Node::Linear(terms(alloc, last)?))?;
     Ok(List::from_vec(nodes))
 }
 
+/// Whether the reference and the check accept the tree with this last node, for `-x < 0`.
+fn accepted(alloc: Global, leaf: &Leaf, last: &[(u32, i8)]) -> Option<(bool, bool)> {
+    let pred = less(alloc, &[-1], 0)?;
+    let nodes = tree(alloc, last).ok()?;
+    if pred.vars() != leaf.input_count() {
+        return None;
+    }
+    let slow = closes(alloc, leaf, &pred, true, nodes.as_slice()).ok()?;
+    Some((slow, check_tree(alloc, leaf, &pred, true, &nodes).is_ok()))
+}
+
 #[test]
 fn as_the_reference_says(rt: HostRuntime) -> Result<(), Fail> {
-    let alloc = rt.alloc();
-    let leaf = spread(alloc)?;
-    let pred = some_input(alloc)?;
-    if pred.vars() != leaf.input_count() {
-        return Err("there is an input for each variable".into());
-    }
+    let leaf = spread(rt.alloc()).ok_or("a leaf")?;
     for (last, right) in [
         ([(0, -1), (1, -1), (2, 1), (6, -1), (7, -1)], true),
         ([(0, -1), (1, -1), (2, 1), (6, -1), (7, -2)], false),
     ] {
-        let nodes = tree(alloc, &last)?;
-        let closed = closes(alloc, &leaf, &pred, true, nodes.as_slice());
-        assert_eq!(rt; closed.ok(), Some(right));
-        assert_eq!(rt;
-            check_tree(alloc, &leaf, &pred, true, &nodes).is_ok(),
-            right
-        );
+        assert!(rt; accepted(rt.alloc(), &leaf, &last) == Some((right, right)));
     }
     Ok(())
 }
