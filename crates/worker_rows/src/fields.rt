@@ -1,12 +1,13 @@
 //! Seats of a field that meet, and look.
 
-ghost use Rattle.std.specs.Prelude.{◌≤◌, ◌↔◌, IsTrue, length};
+ghost use Rattle.std.specs.Prelude.{◌≤◌, ◌↔◌, IsTrue, IfSome, length};
 ghost use Rattle.pop_net.specs.Lanes.{AreValid};
+ghost use Rattle.agent_field.specs.Calls.{IsOpening};
 ghost use Rattle.agent_field.specs.Seats.{opening_of, IsSeatOf, spare_of, KeepsRest};
 
-use agent_field::{Field, FieldSeat, Round};
-use pop_crowd::Meeting;
-use pop_io::{Gate, List, OpenGate};
+use agent_field::{Field, FieldSeat, Round, SEAT_LIMIT};
+use pop_crowd::{AGENT_LEAST, AGENT_LIMIT, Meeting};
+use pop_io::{Gate, List, OpenGate, SHARD_LIMIT};
 use pop_net::{Net, Word};
 use sample_nets::majority;
 use std::alloc::Global;
@@ -15,7 +16,7 @@ use std::sync::atomic::{AtomicU64, Ordering};
 use std::test::Fail;
 use std::thread::{Threads, join_mut};
 
-pub(crate) fn are_valid(net: &Net, words: &[Word]) -> bool
+fn are_valid(net: &Net, words: &[Word]) -> bool
     ensures { IsTrue result ↔ AreValid net.now words.now }
 {
     for word in words {
@@ -35,26 +36,41 @@ fn shows(seat: &FieldSeat, i: u16, ticket: u64, words: &[Word]) -> bool {
     look.ticket == ticket && look.words.as_slice() == words
 }
 
-/// A look before a meeting and one after it.
-fn looks_around<R: Wait>(rt: &R, alloc: Global, net: &Net) -> Result<Option<Round>, Fail> {
-    let words = vec![in alloc; Word(0), Word(1)]?;
-    if !are_valid(net, words.as_slice()) {
-        return Ok(None);
+/// A field whose agents have these words, and its seat with the number 0.
+pub(crate) fn opened<'n, R: Wait>(
+    rt: &R,
+    alloc: Global,
+    net: &'n Net,
+    words: &[Word],
+    shards: u32,
+    seats: u16,
+) -> Option<(Field<'n>, FieldSeat)>
+    requires agents { (AGENT_LEAST ≤ length words.now) × (length words.now ≤ AGENT_LIMIT) }
+    requires shards { (1 ≤ shards) × (shards ≤ SHARD_LIMIT) }
+    requires seats { (1 ≤ seats) × (seats ≤ SEAT_LIMIT) }
+    ensures { IfSome result (λ r. IsOpening r.0 r.1 net.now words.now shards seats) }
+{
+    if !are_valid(net, words) {
+        return None;
     }
-    let opened = Field::open(rt, alloc, net, List::from_vec(words), 2, 1);
-    let (field, mut seat) = opened.ok().ok_or("a field")?;
-    seat.reserve(1).ok().ok_or("room")?;
-    let reserved = field.reserve_looks(alloc, &mut seat, 2);
-    reserved.ok().ok_or("room")?;
+    let words = List::from_vec(Vec::from_slice(alloc, words).ok()?);
+    Field::open(rt, alloc, net, words, shards, seats).ok()
+}
+
+/// A look before a meeting and one after it.
+fn looks_around<R: Wait>(rt: &R, alloc: Global, net: &Net) -> Option<Round> {
+    let (field, mut seat) = opened(rt, alloc, net, &[Word(0), Word(1)], 2, 1)?;
+    seat.reserve(1).ok()?;
+    field.reserve_looks(alloc, &mut seat, 2).ok()?;
     let first = field.look(rt, &mut seat);
     let met = field.meet(rt, &mut seat, 1, 0, &OpenGate);
     let last = field.look(rt, &mut seat);
     let looked = shows(&seat, 0, 0, &[Word(0), Word(1)]) && shows(&seat, 1, 1, &[Word(2), Word(3)]);
     let answered = (first, last, met.ticket, met.changed) == (0, 1, 0, true);
     if !looked || !answered || seat.spare_looks() != 0 || !seat.whole() {
-        return Ok(None);
+        return None;
     }
-    Ok(field.close(alloc, seat).ok())
+    field.close(alloc, seat).ok()
 }
 
 fn meeting(worker: u16, a: u32, b: u32, changed: bool) -> Meeting {
@@ -69,10 +85,12 @@ fn meeting(worker: u16, a: u32, b: u32, changed: bool) -> Meeting {
 #[test]
 fn a_field_is_looked_at(rt: HostRuntime) -> Result<(), Fail> {
     let net = majority(rt.alloc()).ok_or("a net")?;
-    let round = looks_around(&rt, rt.alloc(), &net)?.ok_or("a round")?;
-    assert_eq!(rt; round.words.as_slice(), [Word(2), Word(3)].as_slice());
+    let round = looks_around(&rt, rt.alloc(), &net).ok_or("a round")?;
     let met = [meeting(0, 1, 0, true)];
-    assert_eq!(rt; round.meetings.as_slice(), met.as_slice());
+    assert!(rt;
+        round.words.as_slice() == [Word(2), Word(3)].as_slice()
+            && round.meetings.as_slice() == met.as_slice()
+    );
     Ok(())
 }
 
@@ -81,6 +99,16 @@ fn a_field_is_looked_at(rt: HostRuntime) -> Result<(), Fail> {
 struct Both {
     held: [AtomicU64; 2],
     gave_up: AtomicU64,
+}
+
+impl Both {
+    /// Whether both were inside their first meetings at once.
+    fn met(&self) -> bool {
+        let gave_up = self.gave_up.load(Ordering::SeqCst);
+        let first = self.held[0].load(Ordering::SeqCst);
+        let second = self.held[1].load(Ordering::SeqCst);
+        (gave_up, first, second) == (0, 1, 1)
+    }
 }
 
 impl Gate for Both {
@@ -137,28 +165,33 @@ fn seats_meet<R: Threads + Wait + Sync, G: Gate>(
     alloc: Global,
     net: &Net,
     gate: &G,
-) -> Result<Option<Round>, Fail> {
-    let words = vec![in alloc; Word(0), Word(1), Word(0), Word(0), Word(1)]?;
-    if !are_valid(net, words.as_slice()) {
-        return Ok(None);
-    }
-    let opened = Field::open(rt, alloc, net, List::from_vec(words), 4, 2);
-    let (field, mut first) = opened.ok().ok_or("a field")?;
-    let split = field.split(alloc, &mut first);
-    let mut second = split.ok().ok_or("a seat")?;
-    first.reserve(3).ok().ok_or("room")?;
-    second.reserve(1).ok().ok_or("room")?;
+) -> Option<Round> {
+    let words = [Word(0), Word(1), Word(0), Word(0), Word(1)];
+    let (field, mut first) = opened(rt, alloc, net, &words, 4, 2)?;
+    let mut second = field.split(alloc, &mut first).ok()?;
+    first.reserve(3).ok()?;
+    second.reserve(1).ok()?;
     meet_beside(rt, &field, &mut first, &mut second, gate);
-    if first.whole() || (second.number(), second.made(), second.left()) != (1, 1, 0) {
-        return Ok(None);
-    }
-    field.join(&mut first, second).ok().ok_or("joined")?;
-    if first.spare() < 2 || field.agents() != 5 || !first.whole() {
-        return Ok(None);
+    let apart = (first.whole(), second.number(), second.made(), second.left());
+    field.join(&mut first, second).ok()?;
+    if apart != (false, 1, 1, 0) || first.spare() < 2 || field.agents() != 5 || !first.whole() {
+        return None;
     }
     field.meet(rt, &mut first, 4, 0, gate);
     field.meet(rt, &mut first, 2, 4, gate);
-    Ok(field.close(alloc, first).ok())
+    field.close(alloc, first).ok()
+}
+
+/// Whether a round's words and meetings are those of the two seats, of which the first two meetings come in any order.
+fn is_of_both(round: &Round) -> bool {
+    let end = [Word(3), Word(3), Word(2), Word(0), Word(3)];
+    let met = round.meetings.as_slice();
+    round.words.as_slice() == end.as_slice()
+        && met.len() == 4
+        && met.contains(&meeting(0, 0, 1, true))
+        && met.contains(&meeting(1, 2, 3, false))
+        && met[2] == meeting(0, 4, 0, true)
+        && met[3] == meeting(0, 2, 4, true)
 }
 
 #[test]
@@ -168,17 +201,7 @@ fn two_seats_meet_at_once(rt: HostRuntime) -> Result<(), Fail> {
         held: [AtomicU64::new(0), AtomicU64::new(0)],
         gave_up: AtomicU64::new(0),
     };
-    let round = seats_meet(&rt, rt.alloc(), &net, &gate)?.ok_or("a round")?;
-    assert_eq!(rt; gate.gave_up.load(Ordering::SeqCst), 0);
-    assert_eq!(rt; gate.held[0].load(Ordering::SeqCst), 1);
-    assert_eq!(rt; gate.held[1].load(Ordering::SeqCst), 1);
-    let end = [Word(3), Word(3), Word(2), Word(0), Word(3)];
-    assert_eq!(rt; round.words.as_slice(), end.as_slice());
-    let met = round.meetings.as_slice();
-    assert_eq!(rt; met.len(), 4);
-    assert!(rt; met.contains(&meeting(0, 0, 1, true)));
-    assert!(rt; met.contains(&meeting(1, 2, 3, false)));
-    assert_eq!(rt; met[2], meeting(0, 4, 0, true));
-    assert_eq!(rt; met[3], meeting(0, 2, 4, true));
+    let round = seats_meet(&rt, rt.alloc(), &net, &gate).ok_or("a round")?;
+    assert!(rt; gate.met() && is_of_both(&round));
     Ok(())
 }

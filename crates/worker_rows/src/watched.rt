@@ -4,7 +4,7 @@ ghost use Rattle.std.specs.Prelude.{◌≡◌, length};
 
 use pair_workers::{End, RunEnd};
 use pop_crowd::{Crowd, Meeting};
-use pop_io::{Gate, OpenGate};
+use pop_io::{Gate, List, OpenGate};
 use pop_net::Net;
 use pop_watch::{read_watched, run_watched, verify_watched, whole_runs_are_watched, write_watched};
 use pop_words::RunSpec;
@@ -12,28 +12,7 @@ use sample_nets::majority;
 use std::alloc::Global;
 use std::sync::Wait;
 use std::sync::atomic::{AtomicU64, Ordering};
-use std::test::Fail;
 use std::thread::Threads;
-
-/// A watched run of two agents of majority by two workers.
-fn watch<R: Threads + Wait + Sync, G: Gate>(
-    rt: &R,
-    alloc: Global,
-    gate: &G,
-) -> Result<RunEnd, Fail> {
-    let net = majority(alloc).ok_or("a net")?;
-    let crowd = Crowd::of_counts(alloc, &net, &[1, 1])
-        .ok()
-        .ok_or("a crowd")?;
-    let spec = RunSpec {
-        workers: 2,
-        shards: 16,
-        turns: 200,
-        seed: 0,
-    };
-    let run = run_watched(rt, alloc, &net, crowd, &spec, gate);
-    Ok(run.ok().ok_or("a run")?)
-}
 
 /// Holds the observer's first pass until both workers have come to turn 100, and both there until its last pass.
 /// Each waits for a number of looks.
@@ -76,58 +55,87 @@ fn made_by(meetings: &[Meeting], worker: u16) -> usize {
     meetings.iter().filter(|m| m.worker == worker).count()
 }
 
+/// How many rounds there are, how many meetings the two workers and all have made in the first, and the end.
+fn told(run: &RunEnd) -> Option<(usize, usize, usize, usize, End)> {
+    let rounds = run.rounds.as_slice();
+    let (first, _) = rounds.split_first()?;
+    let met = first.as_slice();
+    Some((
+        rounds.len(),
+        made_by(met, 0),
+        made_by(met, 1),
+        met.len(),
+        run.end,
+    ))
+}
+
+/// What is told of a watched run of two agents of majority by two workers.
+fn watch<R: Threads + Wait + Sync, G: Gate>(
+    rt: &R,
+    alloc: Global,
+    gate: &G,
+) -> Option<(usize, usize, usize, usize, End)> {
+    let net = majority(alloc)?;
+    let crowd = Crowd::of_counts(alloc, &net, &[1, 1]).ok()?;
+    let spec = RunSpec {
+        workers: 2,
+        shards: 16,
+        turns: 200,
+        seed: 0,
+    };
+    let run = run_watched(rt, alloc, &net, crowd, &spec, gate).ok()?;
+    told(&run)
+}
+
 #[test]
-fn the_observer_stops_a_round(rt: HostRuntime) -> Result<(), Fail> {
+fn the_observer_stops_a_round(rt: HostRuntime) {
     let gate = AtTurn100 {
         there: [AtomicU64::new(0), AtomicU64::new(0)],
         looked: AtomicU64::new(0),
         gave_up: AtomicU64::new(0),
     };
     whole_runs_are_watched();
-    let run = watch(&rt, rt.alloc(), &gate)?;
-    assert_eq!(rt; gate.gave_up.load(Ordering::SeqCst), 0);
-    let rounds = run.rounds.as_slice();
-    assert_eq!(rt; rounds.len(), 1);
-    assert_eq!(rt; made_by(rounds[0].as_slice(), 0), 99);
-    assert_eq!(rt; made_by(rounds[0].as_slice(), 1), 99);
-    assert_eq!(rt; rounds[0].as_slice().len(), 198);
-    assert_eq!(rt; run.end, End::Terminal);
-    Ok(())
+    let told = watch(&rt, rt.alloc(), &gate);
+    assert!(rt; gate.gave_up.load(Ordering::SeqCst) == 0);
+    assert!(rt; told == Some((1, 99, 99, 198, End::Terminal)));
 }
 
-/// How many meetings the journal of a watched run of two agents has, if it holds.
-fn verified(alloc: Global, net: &Net, text: &[u8]) -> Result<Option<u64>, Fail>
+/// The journal of a watched run of two agents by one worker.
+fn written<R: Threads + Wait + Sync>(rt: &R, alloc: Global, net: &Net) -> Option<List<u8>>
     requires { length net.now.variables ≡ 2 }
 {
-    let crowd = Crowd::of_counts(alloc, net, &[1, 1]).ok().ok_or("a crowd")?;
-    let journal = read_watched(alloc, text, 1, crowd.len())
-        .ok()
-        .ok_or("a journal")?;
-    Ok(verify_watched(alloc, net, crowd, &journal).ok())
-}
-
-#[test]
-fn a_journal_is_written_and_verified(rt: HostRuntime) -> Result<(), Fail> {
-    let alloc = rt.alloc();
-    let net = majority(alloc).ok_or("a net")?;
-    let crowd = Crowd::of_counts(alloc, &net, &[1, 1])
-        .ok()
-        .ok_or("a crowd")?;
+    let crowd = Crowd::of_counts(alloc, net, &[1, 1]).ok()?;
     let spec = RunSpec {
         workers: 1,
         shards: 16,
         turns: 1,
         seed: 0,
     };
-    let run = run_watched(&rt, alloc, &net, crowd, &spec, &OpenGate)
-        .ok()
-        .ok_or("a run")?;
-    let written = write_watched(alloc, &net, &spec, &run, false)
-        .ok()
-        .ok_or("a text")?;
-    let text =
-        "watch workers 1 shards 16 turns 1 seed 0\nround 1\n0 1 0 *\nend\na 1\nb 1\nundecided 0 1\n";
-    assert_eq!(rt; written.as_slice(), text.as_bytes());
-    assert_eq!(rt; verified(alloc, &net, written.as_slice())?, Some(1));
-    Ok(())
+    let run = run_watched(rt, alloc, net, crowd, &spec, &OpenGate).ok()?;
+    write_watched(alloc, net, &spec, &run, false).ok()
+}
+
+/// How many meetings the journal of a watched run of two agents has, if it holds.
+fn verified(alloc: Global, net: &Net, text: &[u8]) -> Option<u64>
+    requires { length net.now.variables ≡ 2 }
+{
+    let crowd = Crowd::of_counts(alloc, net, &[1, 1]).ok()?;
+    let journal = read_watched(alloc, text, 1, crowd.len()).ok()?;
+    verify_watched(alloc, net, crowd, &journal).ok()
+}
+
+const TEXT: &str =
+    "watch workers 1 shards 16 turns 1 seed 0\nround 1\n0 1 0 *\nend\na 1\nb 1\nundecided 0 1\n";
+
+/// Whether the journal that is written has this text, and how many meetings it has.
+fn written_and_verified<R: Threads + Wait + Sync>(rt: &R, alloc: Global) -> Option<(bool, u64)> {
+    let net = majority(alloc)?;
+    let text = written(rt, alloc, &net)?;
+    let meetings = verified(alloc, &net, text.as_slice())?;
+    Some((text.as_slice() == TEXT.as_bytes(), meetings))
+}
+
+#[test]
+fn a_journal_is_written_and_verified(rt: HostRuntime) {
+    assert!(rt; written_and_verified(&rt, rt.alloc()) == Some((true, 1)));
 }
