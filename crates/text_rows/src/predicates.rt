@@ -19,7 +19,7 @@ fn names(alloc: Global) -> Result<List<Text>, AllocError>
     Ok(List::from_vec(names))
 }
 
-// Texts of atoms too wide to be compiled, and the canonical texts of their trees, worked out by hand from the grammar's table.
+// Texts of atoms too wide to be compiled, and the canonical texts of their trees, worked out by hand.
 const TREES: [(&[u8], &[u8]); 9] = [
     (b"2147483648*x < 1", b"2147483648*x < 1"),
     (b"2147483647*x + x < 1", b"2147483648*x < 1"),
