@@ -1,48 +1,84 @@
-//! The closing tests by themselves, over copied facts.
+//! The closing tests by themselves.
 
-ghost use Rattle.std.specs.Prelude.{◌≡◌, length, All, IfSome};
+ghost use Rattle.std.specs.Prelude.{◌≡◌, length, All, IfOk};
+ghost use Rattle.cert_base.specs.declared.fact.Fact.TheVariants.{Ge};
 ghost use Rattle.cert_linear.specs.Conditions.{AreMultipliers, AreNamed, IsOrdered};
 
 use cert_base::{Fact, Row, Term};
 use cert_linear::{linear_closes, residue_closes};
 use pop_io::List;
 use std::alloc::Global;
+use std::test::Fail;
 
-/// Three facts of one variable: it is at least 1, it is 0, and twice it is -1.
-fn facts(alloc: Global) -> Option<List<Fact>>
-    ensures ordered { IfSome result (All IsOrdered) }
-    ensures count { IfSome result (λ facts. length facts ≡ 3) }
+/// A row of one variable.
+fn row(alloc: Global, by: i64, constant: i64) -> Result<Row, Fail>
+    ensures { IfOk result (λ row. IsOrdered (Ge row)) }
 {
-    let least = Fact::Ge(Row::single(alloc, 0, 1, -1).ok()?);
-    let none = Fact::Eq(Row::single(alloc, 0, 1, 0).ok()?);
-    let odd = Fact::Eq(Row::single(alloc, 0, 2, 1).ok()?);
-    Some(List::from_vec(vec![in alloc; least, none, odd].ok()?))
+    let terms = [Term { at: 0, by }];
+    Ok(Row {
+        terms: List::from_vec(Vec::from_slice(alloc, &terms)?),
+        constant,
+    })
+}
+
+/// The kinds are `>` and `=`.
+fn fact(alloc: Global, kind: u8, by: i64, constant: i64) -> Result<Fact, Fail>
+    ensures { IfOk result IsOrdered }
+{
+    let row = row(alloc, by, constant)?;
+    Ok(match kind {
+        b'>' => Fact::Ge(row),
+        _ => Fact::Eq(row),
+    })
+}
+
+/// The number of facts of the table.
+const COUNT: usize = 3;
+
+/// The variable is at least 1, it is 0, and twice it is -1.
+const FACTS: [(u8, i64, i64); COUNT] = [(b'>', 1, -1), (b'=', 1, 0), (b'=', 2, 1)];
+
+fn facts(alloc: Global) -> Result<List<Fact>, Fail>
+    ensures ordered { IfOk result (All IsOrdered) }
+    ensures count { IfOk result (λ facts. length facts ≡ COUNT) }
+{
+    let mut facts = Vec::new(alloc);
+    for (kind, by, constant) in FACTS {
+        facts.push(fact(alloc, kind, by, constant)?)?;
+    }
+    if facts.len() != COUNT {
+        return Err("each row is a fact".into());
+    }
+    Ok(List::from_vec(facts))
 }
 
 /// Whether facts times their multipliers refute the facts, by residues or, with the modulus 0, by their sum.
-fn closes(alloc: Global, modulus: u32, terms: &[Term]) -> Option<bool>
-    requires named { AreNamed 3 terms.now }
+fn closes(alloc: Global, modulus: u32, terms: &[Term]) -> Result<bool, Fail>
+    requires named { AreNamed COUNT terms.now }
     requires multipliers { AreMultipliers terms.now }
 {
     let facts = facts(alloc)?;
-    let terms = List::from_vec(Vec::from_slice(alloc, terms).ok()?);
-    if modulus == 0 {
-        linear_closes(alloc, &facts, &terms).ok()
+    let terms = List::from_vec(Vec::from_slice(alloc, terms)?);
+    let closes = if modulus == 0 {
+        linear_closes(alloc, &facts, &terms)
     } else {
-        residue_closes(alloc, &facts, modulus, &terms).ok()
-    }
+        residue_closes(alloc, &facts, modulus, &terms)
+    };
+    Ok(closes.ok().ok_or("there is memory")?)
 }
 
 #[test]
-fn sums_that_refute(rt: HostRuntime) {
+fn sums_that_refute(rt: HostRuntime) -> Result<(), Fail> {
     let least = Term { at: 0, by: 1 };
     let none = Term { at: 1, by: -1 };
-    assert!(rt; closes(rt.alloc(), 0, &[least, none]) == Some(true));
-    assert!(rt; closes(rt.alloc(), 0, &[least]) == Some(false));
+    assert!(rt; closes(rt.alloc(), 0, &[least, none])?);
+    assert!(rt; !closes(rt.alloc(), 0, &[least])?);
+    Ok(())
 }
 
 #[test]
-fn residues_that_refute(rt: HostRuntime) {
-    assert!(rt; closes(rt.alloc(), 2, &[Term { at: 2, by: 1 }]) == Some(true));
-    assert!(rt; closes(rt.alloc(), 2, &[Term { at: 2, by: 2 }]) == Some(false));
+fn residues_that_refute(rt: HostRuntime) -> Result<(), Fail> {
+    assert!(rt; closes(rt.alloc(), 2, &[Term { at: 2, by: 1 }])?);
+    assert!(rt; !closes(rt.alloc(), 2, &[Term { at: 2, by: 2 }])?);
+    Ok(())
 }

@@ -1,0 +1,10 @@
+use Rattle.std.proofs.lemmas.List.Elements.{All-push}
+use Rattle.cert_linear.specs.Conditions.{IsOrdered}
+use Rattle.cert_rows.proofs.sum_rows.facts.Goals as goal
+
+pub loop-kind-preserved : goal.loop-kind-preserved
+loop-kind-preserved c = record {
+  ordered =
+      rw c.in_ok-push.ensures.items
+      (All-push IsOrdered c.loop-kind.facts.items c.in_ok-fact.field-0 c.loop-kind.invariant.ordered c.in_ok-fact.ensures);
+}
