@@ -1,20 +1,23 @@
 #!/usr/bin/env python3
 """Meetings per second of `run` on threads, beside one worker and beside a plain Rust program with a mutex per shard.
 
-Run from the top of the repository: python3 bench/field.py
+Run from the top of the repository: python3 bench/field.py [PROGRAM]
 Majority with 1,000 and with 65,536 agents, nearly as many of one kind as of the other, so that the turns are used up. The times are
-of whole commands, the printing of the journal included.
+of whole commands, the printing of the journal included. The plain program does the same work: it has a word of 64 bits for each agent's
+tuple and a table for each leaf, makes rounds of the same length, and looks before each round whether the crowd is terminal, first at the
+pair that was found last. Its mutexes serve all rounds. With one worker both must make the same rounds, byte for byte.
 """
 
 import os
 import subprocess
+import sys
 import tempfile
 import time
 
 import generator
 
 TOP = os.path.dirname(os.path.dirname(os.path.abspath(__file__)))
-PROGRAM = os.path.join(TOP, "crates/pop_main/out/pop_main")
+PROGRAM = sys.argv[1] if len(sys.argv) > 1 else os.path.join(TOP, "crates/pop_main/out/pop_main")
 MEETINGS = 1_000_000
 
 PLAIN = r"""
@@ -22,28 +25,96 @@ use std::io::Write;
 use std::sync::atomic::{AtomicU64, Ordering};
 use std::sync::Mutex;
 
-const MOVES: [[u8; 4]; 4] = [[0, 1, 2, 3], [0, 3, 0, 2], [1, 2, 1, 3], [3, 2, 3, 3]];
+const STATES: usize = 4;
+const MOVES: [[usize; 4]; 4] = [[0, 1, 2, 3], [0, 3, 0, 2], [1, 2, 1, 3], [3, 2, 3, 3]];
 
-fn react(x: u8, y: u8) -> (u8, u8) {
-    for m in MOVES {
-        if m[0] == x && m[1] == y {
-            return (m[2], m[3]);
+/// What two states of a leaf become, for each pair of them.
+struct Leaf(Vec<(u8, u8)>);
+
+impl Leaf {
+    fn new() -> Leaf {
+        let mut after: Vec<_> = (0..STATES * STATES).map(|pair| ((pair / STATES) as u8, (pair % STATES) as u8)).collect();
+        for [p, q, r, s] in MOVES {
+            after[p * STATES + q] = (r as u8, s as u8);
+            after[q * STATES + p] = (s as u8, r as u8);
         }
-        if m[0] == y && m[1] == x {
-            return (m[3], m[2]);
-        }
+        Leaf(after)
     }
-    (x, y)
+
+    fn react(&self, p: u8, q: u8) -> (u8, u8) {
+        self.0[p as usize * STATES + q as usize]
+    }
 }
 
-type Shard = Mutex<Vec<u8>>;
+fn state(word: u64, leaf: usize) -> u8 {
+    (word >> (8 * leaf)) as u8
+}
 
-fn meet(shards: &[Shard], clock: &AtomicU64, a: usize, b: usize) -> (u64, bool) {
+/// Each leaf reacts by itself. A word has eight bits for each leaf.
+fn react(net: &[Leaf], x: u64, y: u64) -> (u64, u64) {
+    let mut both = (0, 0);
+    for (i, leaf) in net.iter().enumerate() {
+        let (p, q) = leaf.react(state(x, i), state(y, i));
+        both.0 |= u64::from(p) << (8 * i);
+        both.1 |= u64::from(q) << (8 * i);
+    }
+    both
+}
+
+/// Whether a state can react with one that another agent has.
+fn restless(leaf: &Leaf, seen: &[u32]) -> Vec<bool> {
+    let others = |p, q| seen[q] > u32::from(p == q);
+    (0..STATES).map(|p| (0..STATES).any(|q| others(p, q) && leaf.react(p as u8, q as u8) != (p as u8, q as u8))).collect()
+}
+
+/// The least pair of agents that changes.
+fn enabled(net: &[Leaf], words: &[u64]) -> Option<(usize, usize)> {
+    let mut seen = vec![[0; STATES]; net.len()];
+    for word in words {
+        for (leaf, seen) in seen.iter_mut().enumerate() {
+            seen[state(*word, leaf) as usize] += 1;
+        }
+    }
+    let can: Vec<_> = net.iter().zip(&seen).map(|(leaf, seen)| restless(leaf, seen)).collect();
+    let changes = |a: usize, b: usize| react(net, words[a], words[b]) != (words[a], words[b]);
+    (0..words.len())
+        .filter(|a| (0..net.len()).any(|i| can[i][state(words[*a], i) as usize]))
+        .find_map(|a| (a + 1..words.len()).find(|b| changes(a, *b)).map(|b| (a, b)))
+}
+
+type Shard = Mutex<Vec<u64>>;
+
+/// The words of all agents, between two rounds.
+fn words_of(shards: &mut [Shard], agents: usize) -> Vec<u64> {
+    let n = shards.len();
+    let mut words = vec![0; agents];
+    for (s, shard) in shards.iter_mut().enumerate() {
+        for (k, word) in shard.get_mut().unwrap().iter().enumerate() {
+            words[k * n + s] = *word;
+        }
+    }
+    words
+}
+
+/// Whether the crowd is terminal. The pair that was found last is looked at first.
+fn is_terminal(net: &[Leaf], shards: &mut [Shard], agents: usize, last: &mut Option<(usize, usize)>) -> bool {
+    let n = shards.len();
+    let mut word = |a: usize| shards[a % n].get_mut().unwrap()[a / n];
+    if let Some((x, y)) = last.map(|(a, b)| (word(a), word(b))) {
+        if react(net, x, y) != (x, y) {
+            return false;
+        }
+    }
+    *last = enabled(net, &words_of(shards, agents));
+    last.is_none()
+}
+
+fn meet(net: &[Leaf], shards: &[Shard], clock: &AtomicU64, a: usize, b: usize) -> (u64, bool) {
     let n = shards.len();
     let (s, t) = (a % n, b % n);
-    let after = |x: u8, y: u8| {
+    let after = |x: u64, y: u64| {
         let ticket = clock.fetch_add(1, Ordering::SeqCst);
-        let (p, q) = react(x, y);
+        let (p, q) = react(net, x, y);
         (ticket, p, q, (p, q) != (x, y))
     };
     if s == t {
@@ -65,20 +136,22 @@ fn meet(shards: &[Shard], clock: &AtomicU64, a: usize, b: usize) -> (u64, bool) 
 fn main() {
     let words: Vec<u64> = std::env::args().skip(1).map(|w| w.parse().unwrap()).collect();
     let (workers, shards, turns, n) = (words[0], words[1] as usize, words[2], words[3] as usize);
-    let mut field: Vec<Vec<u8>> = vec![Vec::new(); shards];
+    let net = vec![Leaf::new()];
+    let mut field: Vec<Vec<u64>> = vec![Vec::new(); shards];
     for a in 0..n {
         field[a % shards].push(if a <= n / 2 { 0 } else { 1 });
     }
-    let field: Vec<Shard> = field.into_iter().map(Mutex::new).collect();
+    let mut field: Vec<Shard> = field.into_iter().map(Mutex::new).collect();
     let mut picks: Vec<Words> = (0..workers).map(Words::new).collect();
     let mut out = Vec::new();
     let mut left = turns;
     let mut round = 0;
-    while left > 0 {
+    let mut last = None;
+    while left > 0 && !is_terminal(&net, &mut field, n, &mut last) {
         round += 1;
         let count = left.min(4096);
         let clock = AtomicU64::new(0);
-        let (field, clock) = (&field, &clock);
+        let (net, field, clock) = (&net, &field, &clock);
         let logs: Vec<Vec<(u64, u32, u32, bool)>> = std::thread::scope(|scope| {
             let threads: Vec<_> = picks.iter_mut().map(|pick| scope.spawn(move || {
                 let mut log = Vec::with_capacity(count as usize);
@@ -89,7 +162,7 @@ fn main() {
                     if a <= b {
                         b += 1;
                     }
-                    let (ticket, changed) = meet(field, clock, a as usize, b as usize);
+                    let (ticket, changed) = meet(net, field, clock, a as usize, b as usize);
                     log.push((ticket, a as u32, b as u32, changed));
                 }
                 log
@@ -114,16 +187,20 @@ fn main() {
 
 
 def timed(command, standard_input):
-    """The least of three times, and the number of meetings."""
-    best, meetings = None, 0
+    """The least of three times, and the lines of the rounds."""
+    best, lines = None, []
     for _ in range(3):
         with open(standard_input) as given:
             start = time.perf_counter()
             out = subprocess.run(command, stdin=given, stdout=subprocess.PIPE).stdout
             seconds = time.perf_counter() - start
-        meetings = sum(1 for line in out.split(b"\n") if line[:1].isdigit())
+        lines = [line for line in out.split(b"\n") if line.startswith(b"round ") or line[:1].isdigit()]
         best = seconds if best is None else min(best, seconds)
-    return best, meetings
+    return best, lines
+
+
+def meetings(lines):
+    return sum(1 for line in lines if line[:1].isdigit())
 
 
 def main():
@@ -147,8 +224,10 @@ def main():
                     words = ["run", "--workers", str(workers), "--shards", str(shards), "--turns", turns]
                     ours, made = timed([PROGRAM] + words, given)
                     theirs, others = timed([plain, str(workers), str(shards), turns, str(agents)], os.devnull)
-                    rates = f"{made / ours:,.0f} | {others / theirs:,.0f}"
-                    print(f"| {agents} | {workers} | {shards} | {made} | {rates} |", flush=True)
+                    if workers == 1 and made != others:
+                        sys.exit("one worker makes other rounds")
+                    rates = f"{meetings(made) / ours:,.0f} | {meetings(others) / theirs:,.0f}"
+                    print(f"| {agents} | {workers} | {shards} | {meetings(made)} | {rates} |", flush=True)
 
 
 main()
