@@ -86,7 +86,7 @@ pub(crate) fn play_round<G: Gate>(
     let mut log = Vec::with_capacity(alloc, turns as usize)?;
     'turns: for turn in 0..turns {
         gate.pass(0, turn + 1);
-        log.push(meet_next(net, crowd, picker))?;
+        log.push_reserved(meet_next(net, crowd, picker));
     }
     Ok(log)
 }

@@ -1,4 +1,4 @@
-use Rattle.std.proofs.Common.{◌≡◌, ◌+◌, List, [], ◌∷◌, ◌++◌, length, ap, sym, subst, ◌∙◌}
+use Rattle.std.proofs.Common.{◌≡◌, ◌+◌, List, [], ◌∷◌, ◌++◌, length, ap, sym, subst, ◌∙◌, arith}
 use Rattle.std.proofs.lemmas.List.{length-append}
 use Rattle.pop_net.specs.Lanes.{crowd_of}
 use Rattle.pop_crowd.specs.declared.crowd.Meeting.{Meeting}
@@ -10,11 +10,12 @@ use Rattle.pair_workers.proofs.alone.play_round.Goals as goal
 pub turns-preserved : goal.turns-preserved
 turns-preserved g c =
     let net = c.args.net.now in
-    let pushed : c.push.new.self.items ≡ c.turns.log.items ++ c.meet_next.result ∷ [] = c.in_ok-push.ensures.items in
+    let pushed : c.push_reserved.new.self.items ≡ c.turns.log.items ++ c.meet_next.result ∷ [] = c.push_reserved.ensures.items in
     record {
       played = subst (λ (log : List Meeting). IsPlayed net (crowd_of net c.args.crowd.now) (words_from c.args.picker.now) log (crowd_of net c.meet_next.new.crowd) (words_from c.meet_next.new.picker)) (sym pushed)
           (played_more net _ _ c.turns.log.items (c.meet_next.result ∷ []) _ _ _ _ c.turns.invariant.played c.meet_next.ensures.played);
       turns = ap length pushed ∙ length-append c.turns.log.items (c.meet_next.result ∷ []) ∙ ap (λ n. n + 1) c.turns.invariant.turns;
       valid = c.meet_next.ensures.valid;
       agents = c.meet_next.ensures.agents ∙ c.turns.invariant.agents;
+      room = let r = c.turns.invariant.room in let same = c.push_reserved.ensures.capacity in omega arith;
     }

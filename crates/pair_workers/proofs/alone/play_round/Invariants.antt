@@ -1,4 +1,5 @@
-use Rattle.std.proofs.Common.{◌≡◌, length}
+use Rattle.std.proofs.Common.{◌≡◌, ◌≤◌, length}
+use Rattle.std.specs.Prelude.{vec_capacity}
 use Rattle.pop_net.specs.Lanes.{crowd_of, AreValid}
 use Rattle.pair_workers.specs.Picks.{words_from}
 use Rattle.pair_workers.specs.Played.{IsPlayed}
@@ -10,4 +11,5 @@ invariant-turns g l = record {
   turns : length l.log.items ≡ l.turn;
   valid : AreValid l.net l.crowd;
   agents : length l.crowd ≡ length l.fn.crowd;
+  room : l.turns ≤ vec_capacity l.log;
 }
