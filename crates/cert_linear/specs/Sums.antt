@@ -1,5 +1,6 @@
 -- Sums of rows, with one coefficient for each variable.
-use Rattle.std.specs.Prelude.{◌≡◌, ℕ, ◌<◌, ◌≤◌, ◌^◌, length, All, Contains, slice_index_or, true, false, List, ℤ, pos, ◌+ℤ◌, nat_abs, int_le, Bool, Option, Some, None}
+use Rattle.std.specs.Prelude.{◌≡◌, ℕ, ◌<◌, ◌≤◌, ◌^◌, length, All, Contains, slice_index_or, true, false}
+use Rattle.std.specs.Prelude.{List, ℤ, pos, ◌+ℤ◌, nat_abs, int_le, Bool, Option, Some, None}
 use Rattle.cert_base.specs.declared.fact.Term.{Term}
 use Rattle.cert_base.specs.declared.fact.Row.{Row}
 use Rattle.cert_base.specs.declared.fact.Fact.{Fact}
