@@ -15,8 +15,8 @@ impl Row {
     pub fn single(alloc: Global, variable: u32, by: i64, constant: i64) -> Result<Row, NoMemory>
         ensures { IfOk result (λ row. row ≡ single_row variable by constant) }
     {
-        let mut terms = Vec::new(alloc);
-        terms.push(Term { at: variable, by })?;
+        let mut terms = Vec::with_capacity(alloc, 1)?;
+        terms.push_reserved(Term { at: variable, by });
         Ok(Row {
             terms: List::from_vec(terms),
             constant,

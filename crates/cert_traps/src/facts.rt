@@ -28,6 +28,7 @@ pub(crate) fn push_zeros(
     ensures { OnOk result (facts.new.items ≡ facts.old.items
         ++ map (λ t. Eq (single_row (first + t) (pos 1) (pos 0))) (places_from 0 (λ flag. flag) flags.now)) }
 {
+    facts.reserve(flags.len())?;
     for (t, flag) in flags.iter().enumerate() {
         push_zero(alloc, facts, first + t as u32, *flag)?;
     }

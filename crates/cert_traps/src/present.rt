@@ -57,7 +57,7 @@ fn unmet(alloc: Global, leaf: &Leaf, state: u16) -> Result<List<Fact>, NoMemory>
         ++ (if can_meet_in leaf.now state state then (alone_fact leaf.now state ∷ []) else [])) }
 {
     let partners = partners(alloc, leaf, state)?;
-    let mut facts = Vec::new(alloc);
+    let mut facts = Vec::with_capacity(alloc, partners.len())?;
     facts.push(occurs(alloc, leaf, state)?)?;
     for q in 0..leaf.state_count() {
         let meets = meets_other(partners.as_slice(), state, q);

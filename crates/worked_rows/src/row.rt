@@ -4,7 +4,7 @@ use serde::Deserialize;
 
 /// A part of a text: just this; lines of the text that an earlier row gave, from the first to the last of these,
 /// counted from 1; or a text so many times.
-#[derive(Debug, Drop, Deserialize)]
+#[derive(Drop, Deserialize)]
 #[serde(untagged)]
 pub(crate) enum Piece {
     Text(String),
@@ -13,7 +13,7 @@ pub(crate) enum Piece {
 }
 
 /// At which call a source or a sink has a trouble: it moves at most so many bytes, or it fails.
-#[derive(Debug, Drop, Deserialize)]
+#[derive(Drop, Deserialize)]
 pub(crate) struct Upset {
     pub(crate) call: u64,
     #[serde(default)]
@@ -21,7 +21,7 @@ pub(crate) struct Upset {
 }
 
 /// Words and an input, and the text and the exit status that they must give.
-#[derive(Debug, Drop, Deserialize)]
+#[derive(Drop, Deserialize)]
 pub(crate) struct Row {
     pub(crate) name: String,
     pub(crate) words: Vec<String>,
