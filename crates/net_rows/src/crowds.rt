@@ -4,29 +4,46 @@ ghost use Rattle.std.specs.Prelude.{◌≡◌, length, IfSome};
 ghost use Rattle.pop_net.specs.Lanes.{AreValid};
 
 use pop_crowd::{Crowd, Meeting};
-use pop_net::{Item, Net, Word};
+use pop_net::{Item, Leaf, Net, Word};
 use sample_nets::{leaf_of, majority, net_of, step};
 use std::alloc::Global;
-use std::test::Fail;
 use terminal_test::{agreed, enabled_pair};
 
-/// Two leaves; in the first, one state of each kind goes over to the third, and in the second nothing moves.
-/// Variable x starts as `q/v`, and y as `p/u`.
+/// In leaf 0, one state of each kind goes over to the third, and in leaf 1 nothing moves.
+fn leaf(alloc: Global, number: u32) -> Option<Leaf> {
+    if number == 0 {
+        let moves = [step(0, 1, 2, 1)];
+        leaf_of(
+            alloc,
+            &["p", "q", "r"],
+            &moves,
+            &[1, 0],
+            &[true, true, true],
+            &[],
+        )
+    } else {
+        leaf_of(alloc, &["u", "v"], &[], &[1, 0], &[true, true], &[])
+    }
+}
+
+/// A net of both leaves. Variable x starts as `q/v`, and y as `p/u`.
 fn two_leaves(alloc: Global) -> Option<Net>
     ensures { IfSome result (λ net. length net.variables ≡ 2) }
 {
-    let outputs = [true, true, true];
-    let first = leaf_of(
-        alloc,
-        &["p", "q", "r"],
-        &[step(0, 1, 2, 1)],
-        &[1, 0],
-        &outputs,
-        &[],
-    )?;
-    let second = leaf_of(alloc, &["u", "v"], &[], &[1, 0], &[true, true], &[])?;
-    let leaves = vec![in alloc; first, second].ok()?;
+    let mut leaves = Vec::new(alloc);
+    for number in 0..2 {
+        leaves.push(leaf(alloc, number)?).ok()?;
+    }
     net_of(alloc, &["x", "y"], leaves, &[Item::Leaf(0)])
+}
+
+/// A copy of the crowd of these counts.
+fn crowd(alloc: Global, net: &Net, counts: [u64; 2]) -> Option<Crowd>
+    requires { length net.now.variables ≡ 2 }
+    ensures { IfSome result (AreValid net.now) }
+{
+    let crowd = Crowd::of_counts(alloc, net, counts.as_slice()).ok()?;
+    crowd.copy(alloc).ok()
 }
 
 fn meeting(a: u32, b: u32) -> Meeting
@@ -41,60 +58,56 @@ fn meeting(a: u32, b: u32) -> Meeting
     }
 }
 
-/// The word of an agent that is there.
-fn word_at(crowd: &Crowd, agent: u32) -> Option<Word> {
-    if agent < crowd.len() {
-        Some(crowd.word(agent))
-    } else {
-        None
+/// The words of a crowd of three.
+fn words(crowd: &Crowd) -> Option<[Word; 3]> {
+    if crowd.len() != 3 {
+        return None;
     }
+    Some([crowd.word(0), crowd.word(1), crowd.word(2)])
 }
 
-#[test]
-fn agents_meet(rt: HostRuntime) -> Result<(), Fail> {
-    let alloc = rt.alloc();
-    let net = two_leaves(alloc).ok_or("a net")?;
-    let crowd = Crowd::of_counts(alloc, &net, &[1, 2])
-        .ok()
-        .ok_or("a crowd")?;
-    let mut copy = crowd.copy(alloc)?;
-    assert_eq!(rt; copy.len(), 3);
-    let changed = copy.replay(&net, &[meeting(2, 0), meeting(1, 2)]);
-    assert_eq!(rt; changed, 1);
-    for (agent, word) in [(0, 0x0101), (1, 0), (2, 2)] {
-        assert!(rt; word_at(&copy, agent) == Some(Word(word)));
-    }
-    assert!(rt; word_at(&copy, 3).is_none());
-    Ok(())
-}
-
-/// Whether a net with two variables has this least pair and this output at these counts.
-fn looks_so(
-    alloc: Global,
-    net: &Net,
-    counts: [u64; 2],
-    pair: Option<(u32, u32)>,
-    output: Option<bool>,
-) -> Result<bool, Fail>
-    requires { length net.now.variables ≡ 2 }
+/// How many of two meetings change a word, and what the words are then.
+fn replayed(net: &Net, crowd: &mut Crowd) -> Option<(u64, [Word; 3])>
+    requires { AreValid net.now crowd.old }
 {
-    let crowd = Crowd::of_counts(alloc, net, counts.as_slice())
-        .ok()
-        .ok_or("a crowd")?;
-    let found = enabled_pair(alloc, net, &crowd)?;
-    Ok(found == pair && agreed(net, &crowd) == output)
+    if crowd.len() != 3 {
+        return None;
+    }
+    let changed = crowd.replay(net, &[meeting(2, 0), meeting(1, 2)]);
+    Some((changed, words(crowd)?))
 }
 
-const MAJORITY: [([u64; 2], Option<(u32, u32)>, Option<bool>); 2] = [
-    ([2, 1], Some((0, 2)), None),
-    ([0, 65_536], None, Some(false)),
-];
+fn after_meetings(alloc: Global) -> Option<(u64, [Word; 3])> {
+    let net = two_leaves(alloc)?;
+    let mut crowd = crowd(alloc, &net, [1, 2])?;
+    replayed(&net, &mut crowd)
+}
 
 #[test]
-fn the_least_pair_of_majority(rt: HostRuntime) -> Result<(), Fail> {
-    let net = majority(rt.alloc()).ok_or("a net")?;
-    for (counts, pair, output) in MAJORITY {
-        assert!(rt; looks_so(rt.alloc(), &net, counts, pair, output)?);
-    }
-    Ok(())
+fn agents_meet(rt: HostRuntime) {
+    let words = [Word(0x0101), Word(0), Word(2)];
+    assert!(rt; after_meetings(rt.alloc()) == Some((1, words)));
+}
+
+/// The least pair that changes a word, and the output on which all agree.
+type Found = (Option<(u32, u32)>, Option<bool>);
+
+fn found_in(alloc: Global, net: &Net, crowd: &Crowd) -> Option<Found>
+    requires { AreValid net.now crowd.now }
+{
+    let pair = enabled_pair(alloc, net, crowd).ok()?;
+    Some((pair, agreed(net, crowd)))
+}
+
+/// What is found in a crowd of majority.
+fn found(alloc: Global, counts: [u64; 2]) -> Option<Found> {
+    let net = majority(alloc)?;
+    let crowd = crowd(alloc, &net, counts)?;
+    found_in(alloc, &net, &crowd)
+}
+
+#[test]
+fn the_least_pair_of_majority(rt: HostRuntime) {
+    assert!(rt; found(rt.alloc(), [2, 1]) == Some((Some((0, 2)), None)));
+    assert!(rt; found(rt.alloc(), [0, 65_536]) == Some((None, Some(false))));
 }

@@ -1,10 +1,9 @@
 //! What leaves are refused for, and their parts and reactions.
 
-use pop_io::{List, Text};
-use pop_net::{Leaf, LeafFault, Move};
-use sample_nets::{list, majority, numbered, step, texts};
-use std::alloc::{AllocError, Global};
-use std::test::Fail;
+use crate::parts::{listed, repeated};
+use pop_net::{Leaf, LeafFault, Move, Net};
+use sample_nets::{majority, numbered, step, texts};
+use std::alloc::Global;
 
 /// So many states, moves, inputs, outputs and helpers.
 type Sizes = (usize, usize, usize, usize, usize);
@@ -17,22 +16,21 @@ const SIZES: [(Sizes, LeafFault); 5] = [
     ((1, 0, 1, 1, 1_025), LeafFault::Helpers(1_025)),
 ];
 
-fn fault_of(alloc: Global, sizes: Sizes) -> Result<Option<LeafFault>, AllocError> {
+fn fault_of(alloc: Global, sizes: Sizes) -> Option<LeafFault> {
     let (states, moves, inputs, outputs, helpers) = sizes;
-    let states = numbered(alloc, states)?;
-    let moves = List::from_vec(vec![in alloc; step(0, 0, 0, 0); moves]?);
-    let inputs = List::from_vec(vec![in alloc; 0u16; inputs]?);
-    let outputs = List::from_vec(vec![in alloc; true; outputs]?);
-    let helpers = List::from_vec(vec![in alloc; 0u16; helpers]?);
-    Ok(Leaf::with_helpers(alloc, states, moves, inputs, outputs, helpers).err())
+    let states = numbered(alloc, states).ok()?;
+    let moves = repeated(alloc, step(0, 0, 0, 0), moves);
+    let inputs = repeated(alloc, 0, inputs);
+    let outputs = repeated(alloc, true, outputs);
+    let helpers = repeated(alloc, 0, helpers);
+    Leaf::with_helpers(alloc, states, moves, inputs, outputs, helpers).err()
 }
 
 #[test]
-fn leaves_of_many_sizes(rt: HostRuntime) -> Result<(), Fail> {
+fn leaves_of_many_sizes(rt: HostRuntime) {
     for (sizes, fault) in SIZES {
-        assert_eq!(rt; fault_of(rt.alloc(), sizes)?, Some(fault));
+        assert!(rt; fault_of(rt.alloc(), sizes) == Some(fault));
     }
-    Ok(())
 }
 
 /// The names of two states, two moves from 0 and 1, two inputs and a helper.
@@ -45,36 +43,34 @@ const PARTS: [(Parts, LeafFault); 4] = [
     ((["A", "B"], [1, 1], [0, 1], 2), LeafFault::Helper(0)),
 ];
 
-fn fault_of_parts(alloc: Global, parts: Parts) -> Result<Option<LeafFault>, AllocError> {
+fn fault_of_parts(alloc: Global, parts: Parts) -> Option<LeafFault> {
     let (names, ends, inputs, helper) = parts;
-    let names = texts(alloc, names.as_slice())?;
+    let names = texts(alloc, names.as_slice()).ok()?;
     let moves = [step(0, 1, ends[0], 0), step(1, 1, ends[1], 1)];
-    let moves = list(alloc, moves.as_slice())?;
-    let inputs = list(alloc, inputs.as_slice())?;
-    let outputs = list(alloc, &[true, false])?;
-    let helpers = list(alloc, &[helper])?;
-    Ok(Leaf::with_helpers(alloc, names, moves, inputs, outputs, helpers).err())
+    let moves = listed(alloc, moves.as_slice());
+    let inputs = listed(alloc, inputs.as_slice());
+    let outputs = listed(alloc, &[true, false]);
+    let helpers = listed(alloc, &[helper]);
+    Leaf::with_helpers(alloc, names, moves, inputs, outputs, helpers).err()
 }
 
 #[test]
-fn names_and_numbers_of_a_leaf(rt: HostRuntime) -> Result<(), Fail> {
+fn names_and_numbers_of_a_leaf(rt: HostRuntime) {
     for (parts, fault) in PARTS {
-        assert!(rt; fault_of_parts(rt.alloc(), parts)? == Some(fault));
+        assert!(rt; fault_of_parts(rt.alloc(), parts) == Some(fault));
     }
-    Ok(())
-}
-
-/// The leaf of majority.
-fn majority_leaf(alloc: Global) -> Option<Leaf> {
-    let net = majority(alloc)?;
-    if net.leaf_count() == 0 {
-        return None;
-    }
-    net.leaf(0).copy(alloc).ok()
 }
 
 /// The numbers of states, moves, inputs and helpers.
-fn numbers(leaf: &Leaf) -> (u16, u32, u16, u32) {
+type Numbers = (u16, u32, u16, u32);
+
+/// The outputs of states 2 and 3, the start state of variable 1, the first move, and whether it is silent.
+type Details = (bool, bool, u16, Move, bool);
+
+/// What three pairs of states become.
+type Reactions = [(u16, u16); 3];
+
+fn numbers(leaf: &Leaf) -> Numbers {
     (
         leaf.state_count(),
         leaf.move_count(),
@@ -83,50 +79,42 @@ fn numbers(leaf: &Leaf) -> (u16, u32, u16, u32) {
     )
 }
 
-/// The name of state 2, the outputs of states 2 and 3, and the start state of variable 1.
-fn named(leaf: &Leaf) -> Option<(&str, bool, bool, u16)> {
-    if leaf.state_count() < 4 || leaf.input_count() < 2 {
+/// The details of a leaf whose state 2 has this name.
+fn details(leaf: &Leaf, name: &str) -> Option<Details> {
+    if leaf.state_count() < 4 || leaf.input_count() < 2 || leaf.move_count() == 0 {
         return None;
     }
-    Some((leaf.name(2), leaf.output(2), leaf.output(3), leaf.input(1)))
+    if leaf.name(2).as_bytes() != name.as_bytes() {
+        return None;
+    }
+    let (first, silent) = (leaf.move_at(0), leaf.silent(0));
+    Some((leaf.output(2), leaf.output(3), leaf.input(1), first, silent))
+}
+
+fn reactions(leaf: &Leaf) -> Option<Reactions> {
+    if leaf.state_count() < 4 {
+        return None;
+    }
+    Some([leaf.react(3, 0), leaf.react(2, 3), leaf.react(0, 2)])
+}
+
+/// What is seen of the first leaf.
+fn seen(net: &Net) -> Option<(Numbers, Details, Reactions)> {
+    if net.leaf_count() == 0 {
+        return None;
+    }
+    let leaf = net.leaf(0);
+    Some((numbers(leaf), details(leaf, "a")?, reactions(leaf)?))
+}
+
+fn seen_of_majority(alloc: Global) -> Option<(Numbers, Details, Reactions)> {
+    let net = majority(alloc)?;
+    seen(&net)
 }
 
 #[test]
-fn parts_of_a_leaf(rt: HostRuntime) -> Result<(), Fail> {
-    let leaf = majority_leaf(rt.alloc()).ok_or("a leaf")?;
-    assert!(rt; numbers(&leaf) == (4, 4, 2, 0) && named(&leaf) == Some(("a", true, false, 1)));
-    Ok(())
-}
-
-/// The first move, and whether it is silent.
-fn first_move(leaf: &Leaf) -> Option<(Move, bool)> {
-    if leaf.move_count() == 0 {
-        return None;
-    }
-    Some((leaf.move_at(0), leaf.silent(0)))
-}
-
-/// What the states of a pair become.
-fn reaction(leaf: &Leaf, p: u16, q: u16) -> Option<(u16, u16)> {
-    if leaf.state_count() <= p || leaf.state_count() <= q {
-        return None;
-    }
-    Some(leaf.react(p, q))
-}
-
-/// Each pair of states with what they become.
-const REACTIONS: [((u16, u16), (u16, u16)); 3] = [
-    ((3, 0), (2, 0)),
-    ((2, 3), (3, 3)),
-    ((0, 2), (0, 2)),
-];
-
-#[test]
-fn reactions_of_a_leaf(rt: HostRuntime) -> Result<(), Fail> {
-    let leaf = majority_leaf(rt.alloc()).ok_or("a leaf")?;
-    assert!(rt; first_move(&leaf) == Some((step(0, 1, 2, 3), false)));
-    for ((p, q), after) in REACTIONS {
-        assert!(rt; reaction(&leaf, p, q) == Some(after));
-    }
-    Ok(())
+fn parts_and_reactions_of_a_leaf(rt: HostRuntime) {
+    let details = (true, false, 1, step(0, 1, 2, 3), false);
+    let reactions = [(2, 0), (3, 3), (0, 2)];
+    assert!(rt; seen_of_majority(rt.alloc()) == Some(((4, 4, 2, 0), details, reactions)));
 }

@@ -12,3 +12,5 @@ mod files;
 mod leaves;
 #[cfg(test)]
 mod nets;
+#[cfg(test)]
+mod parts;

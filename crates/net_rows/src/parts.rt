@@ -1,0 +1,20 @@
+//! Lists that are empty where memory runs out: the faults that tests look for tell of that.
+
+use pop_io::List;
+use std::alloc::Global;
+
+/// A list of these items.
+pub(crate) fn listed<T: Copy>(alloc: Global, items: &[T]) -> List<T> {
+    match Vec::from_slice(alloc, items) {
+        Ok(items) => List::from_vec(items),
+        Err(_) => List::from_vec(Vec::new(alloc)),
+    }
+}
+
+/// A list with this item so many times.
+pub(crate) fn repeated<T: Copy>(alloc: Global, item: T, times: usize) -> List<T> {
+    match vec![in alloc; item; times] {
+        Ok(items) => List::from_vec(items),
+        Err(_) => List::from_vec(Vec::new(alloc)),
+    }
+}
