@@ -1,11 +1,14 @@
 //! What is written of a proof, and read again.
 
+ghost use Rattle.std.specs.Prelude.{length, IfSome};
+ghost use Rattle.cert_base.specs.ProofLimits.{IsProofWithin};
+
+use cert_base::Proof;
 use cert_json::{FormatFault, read_proof, write_proof};
 use net_json::read_net;
 use pop_net::Net;
 use serde_json::Value;
 use std::alloc::Global;
-use std::test::Fail;
 
 const NET: &str =
     "{\"format\":1,\"vars\":[\"x\"],\"leaves\":[{\"states\":[\"A\",\"t\"],\"moves\":[],\"input\":[0],\"output\":[false,true]}],\"combine\":[0]}";
@@ -21,41 +24,80 @@ fn net(alloc: Global) -> Option<Net> {
     read_net(alloc, &value).ok()
 }
 
-/// The text that is written of the proof in a bundle whose one leaf has this proof.
-fn written(alloc: Global, net: &Net, leaf: &str) -> Option<String> {
-    let bundle = format!(in alloc; "{{\"proof\":[{leaf}]}}").ok()?;
-    let value = Value::from_str(alloc, bundle.as_str()).ok()?;
-    let proof = read_proof(alloc, &value, net).ok()?;
-    let value = write_proof(alloc, &proof, net.var_names()).ok()?;
+/// The list that is written of the proof of one leaf.
+fn wanted(alloc: Global) -> Option<String> {
+    format!(in alloc;
+        "[{{\"false\":[],\"layers\":{LAYERS},\"pred\":\"-x < 0\",\"true\":{NODES}}}]"
+    ).ok()
+}
+
+/// A bundle whose one leaf has this proof, with its members in another order than they are written.
+fn first_text(alloc: Global) -> Option<String> {
+    format!(in alloc;
+        "{{\"proof\":[{{\"pred\":\"-x < 0\",\"layers\":{LAYERS},\"true\":{NODES},\"false\":[]}}]}}"
+    ).ok()
+}
+
+/// A bundle whose one leaf has this proof as it is written.
+fn second_text(alloc: Global) -> Option<String> {
+    let wanted = wanted(alloc)?;
+    format!(in alloc; "{{\"proof\":{wanted}}}").ok()
+}
+
+fn bundle(alloc: Global, is_first: bool) -> Option<Value> {
+    let text = if is_first {
+        first_text(alloc)
+    } else {
+        second_text(alloc)
+    };
+    Value::from_str(alloc, text?.as_str()).ok()
+}
+
+fn proof(alloc: Global, net: &Net, is_first: bool) -> Option<Proof>
+    ensures { IfSome result (IsProofWithin (length net.now.variables) (length net.now.leaves)) }
+{
+    let bundle = bundle(alloc, is_first)?;
+    read_proof(alloc, &bundle, net).ok()
+}
+
+fn text_of(alloc: Global, net: &Net, proof: &Proof) -> Option<String>
+    requires { IsProofWithin (length net.now.variables) (length net.now.leaves) proof.now }
+{
+    let value = write_proof(alloc, proof, net.var_names()).ok()?;
     value.to_string(alloc).ok()
 }
 
-/// Whether the list of this leaf's proof is what is written of that one's.
-fn is_written(alloc: Global, leaf: &str, again: &str) -> Option<bool> {
-    let wanted = format!(in alloc; "[{again}]").ok()?;
-    let text = written(alloc, &net(alloc)?, leaf)?;
-    Some(text.as_str() == wanted.as_str())
+/// What is written of the proof in a bundle.
+fn written(alloc: Global, is_first: bool) -> Option<String> {
+    let net = net(alloc)?;
+    let proof = proof(alloc, &net, is_first)?;
+    text_of(alloc, &net, &proof)
+}
+
+/// Whether what is written of the proof in a bundle is what is wanted.
+fn is_written(alloc: Global, is_first: bool) -> Option<bool> {
+    let text = written(alloc, is_first)?;
+    let wanted = wanted(alloc)?;
+    Some(text.as_bytes() == wanted.as_bytes())
 }
 
 #[test]
-fn a_proof_is_read_over_a_net(rt: HostRuntime) -> Result<(), Fail> {
-    let alloc = rt.alloc();
-    let leaf = format!(in alloc;
-        "{{\"pred\":\"-x < 0\",\"layers\":{LAYERS},\"true\":{NODES},\"false\":[]}}"
-    )?;
-    let again = format!(in alloc;
-        "{{\"false\":[],\"layers\":{LAYERS},\"pred\":\"-x < 0\",\"true\":{NODES}}}"
-    )?;
-    assert!(rt; is_written(alloc, leaf.as_str(), again.as_str()) == Some(true));
-    assert!(rt; is_written(alloc, again.as_str(), again.as_str()) == Some(true));
-    Ok(())
+fn a_proof_is_read_over_a_net(rt: HostRuntime) {
+    assert!(rt; is_written(rt.alloc(), true) == Some(true));
+    assert!(rt; is_written(rt.alloc(), false) == Some(true));
 }
 
-/// Whether the fault of no proof at all is told at its member.
+/// What no proof at all is refused for.
+fn fault(alloc: Global) -> Option<FormatFault> {
+    let net = net(alloc)?;
+    read_proof(alloc, &Value::Null, &net).err()
+}
+
+/// Whether that is told at its member.
 fn lacks_a_proof(alloc: Global) -> Option<bool> {
-    match read_proof(alloc, &Value::Null, &net(alloc)?) {
-        Err(FormatFault::Broken { path, why: _ }) => Some(path.as_str() == "/proof"),
-        _ => None,
+    match fault(alloc)? {
+        FormatFault::Broken { path, why: _ } => Some(path.as_str() == "/proof"),
+        FormatFault::NoMemory => None,
     }
 }
 
