@@ -3,7 +3,7 @@
 ghost use Rattle.std.specs.Prelude.{◌≤◌, ◌↔◌, IsTrue, IfSome, length};
 ghost use Rattle.pop_net.specs.Lanes.{AreValid};
 ghost use Rattle.agent_field.specs.Calls.{IsOpening};
-ghost use Rattle.agent_field.specs.Seats.{opening_of, IsSeatOf, spare_of, KeepsRest};
+ghost use Rattle.agent_field.specs.Seats.{opening_of, IsFirstOf, IsFresh, IsSeatOf, left_of, spare_of, KeepsRest};
 
 use agent_field::{Field, FieldSeat, Round, SEAT_LIMIT};
 use pop_crowd::{AGENT_LEAST, AGENT_LIMIT, Meeting};
@@ -13,7 +13,6 @@ use sample_nets::majority;
 use std::alloc::Global;
 use std::sync::Wait;
 use std::sync::atomic::{AtomicU64, Ordering};
-use std::test::Fail;
 use std::thread::{Threads, join_mut};
 
 fn are_valid(net: &Net, words: &[Word]) -> bool
@@ -57,22 +56,6 @@ pub(crate) fn opened<'n, R: Wait>(
     Field::open(rt, alloc, net, words, shards, seats).ok()
 }
 
-/// A look before a meeting and one after it.
-fn looks_around<R: Wait>(rt: &R, alloc: Global, net: &Net) -> Option<Round> {
-    let (field, mut seat) = opened(rt, alloc, net, &[Word(0), Word(1)], 2, 1)?;
-    seat.reserve(1).ok()?;
-    field.reserve_looks(alloc, &mut seat, 2).ok()?;
-    let first = field.look(rt, &mut seat);
-    let met = field.meet(rt, &mut seat, 1, 0, &OpenGate);
-    let last = field.look(rt, &mut seat);
-    let looked = shows(&seat, 0, 0, &[Word(0), Word(1)]) && shows(&seat, 1, 1, &[Word(2), Word(3)]);
-    let answered = (first, last, met.ticket, met.changed) == (0, 1, 0, true);
-    if !looked || !answered || seat.spare_looks() != 0 || !seat.whole() {
-        return None;
-    }
-    field.close(alloc, seat).ok()
-}
-
 fn meeting(worker: u16, a: u32, b: u32, changed: bool) -> Meeting {
     Meeting {
         worker,
@@ -82,22 +65,63 @@ fn meeting(worker: u16, a: u32, b: u32, changed: bool) -> Meeting {
     }
 }
 
-#[test]
-fn a_field_is_looked_at(rt: HostRuntime) -> Result<(), Fail> {
-    let net = majority(rt.alloc()).ok_or("a net")?;
-    let round = looks_around(&rt, rt.alloc(), &net).ok_or("a round")?;
+/// Looks before a meeting and after it. Whether all that is answered and shown is right.
+fn looks_around<R: Wait>(rt: &R, alloc: Global, field: &Field, seat: &mut FieldSeat) -> bool
+    requires agents { 2 ≤ length (opening_of field.now) }
+    requires seat { IsFirstOf field.now seat.old × IsFresh seat.old }
+    ensures { IsSeatOf field.now seat.new }
+{
+    if seat.reserve(1).is_err() || field.reserve_looks(alloc, seat, 2).is_err() {
+        return false;
+    }
+    let first = field.look(rt, seat);
+    let met = field.meet(rt, seat, 1, 0, &OpenGate);
+    let last = field.look(rt, seat);
+    (first, last, met.ticket, met.changed) == (0, 1, 0, true)
+        && seat.spare_looks() == 0
+        && shows(seat, 0, 0, &[Word(0), Word(1)])
+        && shows(seat, 1, 1, &[Word(2), Word(3)])
+}
+
+/// Whether a round's words and meetings are those of the looks.
+fn is_of_looks(round: &Round) -> bool {
+    let end = [Word(2), Word(3)];
     let met = [meeting(0, 1, 0, true)];
-    assert!(rt;
-        round.words.as_slice() == [Word(2), Word(3)].as_slice()
-            && round.meetings.as_slice() == met.as_slice()
-    );
-    Ok(())
+    round.words.as_slice() == end.as_slice() && round.meetings.as_slice() == met.as_slice()
+}
+
+/// Whether looks at a field are right, and so is what it is closed with.
+fn looks_hold<R: Wait>(rt: &R, alloc: Global, net: &Net) -> bool {
+    let Some((field, mut seat)) = opened(rt, alloc, net, &[Word(0), Word(1)], 2, 1) else {
+        return false;
+    };
+    if !looks_around(rt, alloc, &field, &mut seat) || !seat.whole() {
+        return false;
+    }
+    match field.close(alloc, seat) {
+        Ok(round) => is_of_looks(&round),
+        Err(_) => false,
+    }
+}
+
+/// The same for a field of majority.
+fn majority_is_looked_at<R: Wait>(rt: &R, alloc: Global) -> bool {
+    match majority(alloc) {
+        Some(net) => looks_hold(rt, alloc, &net),
+        None => false,
+    }
+}
+
+#[test]
+fn a_field_is_looked_at(rt: HostRuntime) {
+    assert!(rt; majority_is_looked_at(&rt, rt.alloc()));
 }
 
 /// Two workers that wait for each other inside their first meetings, for a number of looks.
 #[derive(Drop)]
 struct Both {
-    held: [AtomicU64; 2],
+    first: AtomicU64,
+    second: AtomicU64,
     gave_up: AtomicU64,
 }
 
@@ -105,9 +129,20 @@ impl Both {
     /// Whether both were inside their first meetings at once.
     fn met(&self) -> bool {
         let gave_up = self.gave_up.load(Ordering::SeqCst);
-        let first = self.held[0].load(Ordering::SeqCst);
-        let second = self.held[1].load(Ordering::SeqCst);
+        let first = self.first.load(Ordering::SeqCst);
+        let second = self.second.load(Ordering::SeqCst);
         (gave_up, first, second) == (0, 1, 1)
+    }
+
+    /// Comes to one's own place, and waits until the other one has come.
+    fn wait(&self, own: &AtomicU64, other: &AtomicU64) {
+        own.store(1, Ordering::SeqCst);
+        for _ in 0..100_000_000u64 {
+            if other.load(Ordering::SeqCst) == 1 {
+                return;
+            }
+        }
+        self.gave_up.store(1, Ordering::SeqCst);
     }
 }
 
@@ -115,16 +150,11 @@ impl Gate for Both {
     fn pass(&self, _worker: u16, _turn: u64) {}
 
     fn held(&self, seat: u16, call: u64) {
-        if seat > 1 || call != 1 {
-            return;
+        match (seat, call) {
+            (0, 1) => self.wait(&self.first, &self.second),
+            (1, 1) => self.wait(&self.second, &self.first),
+            _ => {}
         }
-        self.held[seat as usize].store(1, Ordering::SeqCst);
-        for _ in 0..100_000_000u64 {
-            if self.held[1 - seat as usize].load(Ordering::SeqCst) == 1 {
-                return;
-            }
-        }
-        self.gave_up.store(1, Ordering::SeqCst);
     }
 }
 
@@ -159,27 +189,30 @@ fn meet_beside<R: Threads + Wait + Sync, G: Gate>(
     );
 }
 
-/// Two seats meet beside each other, and then the first one in one shard and across two.
-fn seats_meet<R: Threads + Wait + Sync, G: Gate>(
+/// A second seat meets beside the first one and is taken in. Whether what they say of themselves before that is right.
+fn meets_beside<R: Threads + Wait + Sync, G: Gate>(
     rt: &R,
     alloc: Global,
-    net: &Net,
+    field: &Field,
+    first: &mut FieldSeat,
     gate: &G,
-) -> Option<Round> {
-    let words = [Word(0), Word(1), Word(0), Word(0), Word(1)];
-    let (field, mut first) = opened(rt, alloc, net, &words, 4, 2)?;
-    let mut second = field.split(alloc, &mut first).ok()?;
-    first.reserve(3).ok()?;
-    second.reserve(1).ok()?;
-    meet_beside(rt, &field, &mut first, &mut second, gate);
-    let apart = (first.whole(), second.number(), second.made(), second.left());
-    field.join(&mut first, second).ok()?;
-    if apart != (false, 1, 1, 0) || first.spare() < 2 || field.agents() != 5 || !first.whole() {
-        return None;
+) -> bool
+    requires agents { 4 ≤ length (opening_of field.now) }
+    requires seat { IsFirstOf field.now first.old × IsFresh first.old × (1 ≤ left_of first.old) }
+    ensures { IsSeatOf field.now first.new }
+{
+    if first.reserve(3).is_err() {
+        return false;
     }
-    field.meet(rt, &mut first, 4, 0, gate);
-    field.meet(rt, &mut first, 2, 4, gate);
-    field.close(alloc, first).ok()
+    let Ok(mut second) = field.split(alloc, first) else {
+        return false;
+    };
+    if second.reserve(1).is_err() {
+        return false;
+    }
+    meet_beside(rt, field, first, &mut second, gate);
+    let apart = (first.whole(), second.number(), second.made(), second.left());
+    field.join(first, second).is_ok() && apart == (false, 1, 1, 0)
 }
 
 /// Whether a round's words and meetings are those of the two seats, of which the first two meetings come in any order.
@@ -194,14 +227,44 @@ fn is_of_both(round: &Round) -> bool {
         && met[3] == meeting(0, 2, 4, true)
 }
 
+/// Two seats meet beside each other, and then the first one in one shard and across two. Whether the round is right.
+fn seats_meet<R: Threads + Wait + Sync, G: Gate>(
+    rt: &R,
+    alloc: Global,
+    net: &Net,
+    gate: &G,
+) -> bool {
+    let words = [Word(0), Word(1), Word(0), Word(0), Word(1)];
+    let Some((field, mut first)) = opened(rt, alloc, net, &words, 4, 2) else {
+        return false;
+    };
+    let met = meets_beside(rt, alloc, &field, &mut first, gate);
+    if !met || first.spare() < 2 || field.agents() != 5 || !first.whole() {
+        return false;
+    }
+    field.meet(rt, &mut first, 4, 0, gate);
+    field.meet(rt, &mut first, 2, 4, gate);
+    match field.close(alloc, first) {
+        Ok(round) => is_of_both(&round),
+        Err(_) => false,
+    }
+}
+
+/// The same for a field of majority.
+fn majority_meets<R: Threads + Wait + Sync, G: Gate>(rt: &R, alloc: Global, gate: &G) -> bool {
+    match majority(alloc) {
+        Some(net) => seats_meet(rt, alloc, &net, gate),
+        None => false,
+    }
+}
+
 #[test]
-fn two_seats_meet_at_once(rt: HostRuntime) -> Result<(), Fail> {
-    let net = majority(rt.alloc()).ok_or("a net")?;
+fn two_seats_meet_at_once(rt: HostRuntime) {
     let gate = Both {
-        held: [AtomicU64::new(0), AtomicU64::new(0)],
+        first: AtomicU64::new(0),
+        second: AtomicU64::new(0),
         gave_up: AtomicU64::new(0),
     };
-    let round = seats_meet(&rt, rt.alloc(), &net, &gate).ok_or("a round")?;
-    assert!(rt; gate.met() && is_of_both(&round));
-    Ok(())
+    let right = majority_meets(&rt, rt.alloc(), &gate);
+    assert!(rt; right && gate.met());
 }

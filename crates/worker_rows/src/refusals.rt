@@ -1,7 +1,10 @@
 //! What seats say of themselves after a call that was refused its memory.
 
+ghost use Rattle.std.specs.Prelude.{◌≤◌, length};
+ghost use Rattle.agent_field.specs.Seats.{opening_of, IsFirstOf, IsFresh, IsSeatOf, left_of};
+
 use crate::fields::opened;
-use agent_field::FieldSeat;
+use agent_field::{Field, FieldSeat};
 use pop_io::OpenGate;
 use pop_net::{Net, Word};
 use sample_nets::majority;
@@ -22,27 +25,40 @@ fn said_of(seat: &FieldSeat) -> (u16, u64, u64, u16, bool, u16, u16) {
     )
 }
 
+/// Calls with a second seat each that may be refused its memory, up to the first that is. That one tells whether it
+/// left the seats as they were.
+fn shared<R: Wait>(rt: &R, alloc: Global, field: &Field, first: &mut FieldSeat) -> Result<(), bool>
+    requires agents { 2 ≤ length (opening_of field.now) }
+    requires seat { IsFirstOf field.now first.old × IsFresh first.old × (1 ≤ left_of first.old) }
+    ensures { IsSeatOf field.now first.new }
+{
+    let before = said_of(first);
+    let Ok(mut second) = field.split(alloc, first) else {
+        return Err(said_of(first) == before);
+    };
+    let before = said_of(&second);
+    if second.reserve(1).is_err() {
+        return Err(said_of(&second) == before);
+    }
+    field.meet(rt, &mut second, 0, 1, &OpenGate);
+    let before = said_of(first);
+    if field.reserve_looks(alloc, first, 2).is_err() {
+        return Err(said_of(first) == before);
+    }
+    let before = (said_of(first), said_of(&second));
+    match field.join(first, second) {
+        Ok(()) => Ok(()),
+        Err((second, _)) => Err((said_of(first), said_of(&second)) == before),
+    }
+}
+
 /// Calls each that may be refused its memory, up to the first that is. Whether that one left the seats as they were.
 fn stay_as_they_were<R: Wait>(rt: &R, alloc: Global, net: &Net) -> bool {
     let Some((field, mut first)) = opened(rt, alloc, net, &[Word(0), Word(1)], 1, 2) else {
         return true;
     };
-    let before = said_of(&first);
-    let Ok(mut second) = field.split(alloc, &mut first) else {
-        return said_of(&first) == before;
-    };
-    let before = said_of(&second);
-    if second.reserve(1).is_err() {
-        return said_of(&second) == before;
-    }
-    field.meet(rt, &mut second, 0, 1, &OpenGate);
-    let before = said_of(&first);
-    if field.reserve_looks(alloc, &mut first, 2).is_err() {
-        return said_of(&first) == before;
-    }
-    let before = (said_of(&first), said_of(&second));
-    if let Err((second, _)) = field.join(&mut first, second) {
-        return (said_of(&first), said_of(&second)) == before;
+    if let Err(stayed) = shared(rt, alloc, &field, &mut first) {
+        return stayed;
     }
     if !first.whole() {
         return false;
@@ -53,10 +69,16 @@ fn stay_as_they_were<R: Wait>(rt: &R, alloc: Global, net: &Net) -> bool {
     }
 }
 
+/// The same for a field of majority.
+fn majority_stays<R: Wait>(rt: &R, alloc: Global) -> Option<bool> {
+    let net = majority(alloc)?;
+    Some(stay_as_they_were(rt, alloc, &net))
+}
+
 /// `bench/refused.py` runs it once for each allocation, which is refused in that run.
 #[test]
 fn a_refusal_leaves_the_seats(rt: HostRuntime) -> Result<(), Fail> {
-    let net = majority(rt.alloc()).ok_or("a net")?;
-    assert!(rt; stay_as_they_were(&rt, rt.alloc(), &net));
+    let stayed = majority_stays(&rt, rt.alloc()).ok_or("a net")?;
+    assert!(rt; stayed);
     Ok(())
 }

@@ -1,31 +1,45 @@
 //! A run by one worker, by the call for many.
 
+ghost use Rattle.std.specs.Prelude.{◌≡◌, length};
+
 use pair_workers::{End, run_all};
 use pop_crowd::Crowd;
 use pop_io::OpenGate;
+use pop_net::Net;
 use pop_words::RunSpec;
 use sample_nets::majority;
 use std::alloc::Global;
 use std::sync::Wait;
-use std::test::Fail;
 use std::thread::Threads;
 
-/// How a run of two agents of majority by one worker ends.
-fn end_of_one<R: Threads + Wait + Sync>(rt: &R, alloc: Global) -> Option<End> {
-    let net = majority(alloc)?;
-    let crowd = Crowd::of_counts(alloc, &net, &[1, 1]).ok()?;
+/// Whether a run of two agents by one worker ends terminal.
+fn one_ends<R: Threads + Wait + Sync>(rt: &R, alloc: Global, net: &Net) -> bool
+    requires { length net.now.variables ≡ 2 }
+{
+    let Ok(crowd) = Crowd::of_counts(alloc, net, &[1, 1]) else {
+        return false;
+    };
     let spec = RunSpec {
         workers: 1,
         shards: 16,
         turns: 2,
         seed: 0,
     };
-    let run = run_all(rt, alloc, &net, crowd, &spec, &OpenGate).ok()?;
-    Some(run.end)
+    match run_all(rt, alloc, net, crowd, &spec, &OpenGate) {
+        Ok(run) => run.end == End::Terminal,
+        Err(_) => false,
+    }
+}
+
+/// The same for majority.
+fn majority_ends<R: Threads + Wait + Sync>(rt: &R, alloc: Global) -> bool {
+    match majority(alloc) {
+        Some(net) => one_ends(rt, alloc, &net),
+        None => false,
+    }
 }
 
 #[test]
-fn all_workers_are_one(rt: HostRuntime) -> Result<(), Fail> {
-    assert!(rt; end_of_one(&rt, rt.alloc()) == Some(End::Terminal));
-    Ok(())
+fn all_workers_are_one(rt: HostRuntime) {
+    assert!(rt; majority_ends(&rt, rt.alloc()));
 }

@@ -1,13 +1,15 @@
 //! Watched runs: one that the observer stops, and the calls that write, read and verify a journal.
 
-ghost use Rattle.std.specs.Prelude.{◌≡◌, length};
+ghost use Rattle.std.specs.Prelude.{◌≡◌, ◌≤◌, length, IfSome};
+ghost use Rattle.pop_net.specs.Lanes.{AreValid};
+ghost use Rattle.pop_words.specs.Options.{IsWithinLimits};
 
 use pair_workers::{End, RunEnd};
 use pop_crowd::{Crowd, Meeting};
 use pop_io::{Gate, List, OpenGate};
 use pop_net::Net;
 use pop_watch::{read_watched, run_watched, verify_watched, whole_runs_are_watched, write_watched};
-use pop_words::RunSpec;
+use pop_words::{RunSpec, WATCHED_WORKERS};
 use sample_nets::majority;
 use std::alloc::Global;
 use std::sync::Wait;
@@ -18,7 +20,8 @@ use std::thread::Threads;
 /// Each waits for a number of looks.
 #[derive(Drop)]
 struct AtTurn100 {
-    there: [AtomicU64; 2],
+    first: AtomicU64,
+    second: AtomicU64,
     looked: AtomicU64,
     gave_up: AtomicU64,
 }
@@ -32,18 +35,31 @@ impl AtTurn100 {
         }
         self.gave_up.store(1, Ordering::SeqCst);
     }
+
+    /// A worker comes to turn 100.
+    fn come(&self, own: &AtomicU64) {
+        own.store(1, Ordering::SeqCst);
+        self.wait_for(&self.looked);
+    }
+
+    /// The observer comes to a pass.
+    fn observe(&self, turn: u64) {
+        if turn != 1 {
+            self.looked.store(1, Ordering::SeqCst);
+            return;
+        }
+        self.wait_for(&self.first);
+        self.wait_for(&self.second);
+    }
 }
 
 impl Gate for AtTurn100 {
     fn pass(&self, worker: u16, turn: u64) {
-        if worker == 2 && turn == 1 {
-            self.wait_for(&self.there[0]);
-            self.wait_for(&self.there[1]);
-        } else if worker == 2 {
-            self.looked.store(1, Ordering::SeqCst);
-        } else if worker < 2 && turn == 100 {
-            self.there[worker as usize].store(1, Ordering::SeqCst);
-            self.wait_for(&self.looked);
+        match (worker, turn) {
+            (0, 100) => self.come(&self.first),
+            (1, 100) => self.come(&self.second),
+            (2, _) => self.observe(turn),
+            _ => {}
         }
     }
 
@@ -55,63 +71,80 @@ fn made_by(meetings: &[Meeting], worker: u16) -> usize {
     meetings.iter().filter(|m| m.worker == worker).count()
 }
 
-/// How many rounds there are, how many meetings the two workers and all have made in the first, and the end.
-fn told(run: &RunEnd) -> Option<(usize, usize, usize, usize, End)> {
+/// Whether a run is terminal after one round, in which each of the two workers has made 99 meetings.
+fn is_stopped(run: &RunEnd) -> bool {
     let rounds = run.rounds.as_slice();
-    let (first, _) = rounds.split_first()?;
-    let met = first.as_slice();
-    Some((
-        rounds.len(),
-        made_by(met, 0),
-        made_by(met, 1),
-        met.len(),
-        run.end,
-    ))
+    if rounds.len() != 1 || run.end != End::Terminal {
+        return false;
+    }
+    let met = rounds[0].as_slice();
+    (made_by(met, 0), made_by(met, 1), met.len()) == (99, 99, 198)
 }
 
-/// What is told of a watched run of two agents of majority by two workers.
-fn watch<R: Threads + Wait + Sync, G: Gate>(
+/// A watched run of two agents.
+fn watched<R: Threads + Wait + Sync, G: Gate>(
     rt: &R,
     alloc: Global,
+    net: &Net,
+    spec: &RunSpec,
     gate: &G,
-) -> Option<(usize, usize, usize, usize, End)> {
-    let net = majority(alloc)?;
-    let crowd = Crowd::of_counts(alloc, &net, &[1, 1]).ok()?;
+) -> Option<RunEnd>
+    requires net { length net.now.variables ≡ 2 }
+    requires spec { IsWithinLimits spec.now × (spec.now.workers ≤ WATCHED_WORKERS) }
+    ensures { IfSome result (λ run. AreValid net.now run.crowd) }
+{
+    let crowd = Crowd::of_counts(alloc, net, &[1, 1]).ok()?;
+    run_watched(rt, alloc, net, crowd, spec, gate).ok()
+}
+
+/// Whether a run by two workers is stopped before its round is whole.
+fn stops<R: Threads + Wait + Sync, G: Gate>(rt: &R, alloc: Global, net: &Net, gate: &G) -> bool
+    requires { length net.now.variables ≡ 2 }
+{
     let spec = RunSpec {
         workers: 2,
         shards: 16,
         turns: 200,
         seed: 0,
     };
-    let run = run_watched(rt, alloc, &net, crowd, &spec, gate).ok()?;
-    told(&run)
+    match watched(rt, alloc, net, &spec, gate) {
+        Some(run) => is_stopped(&run),
+        None => false,
+    }
+}
+
+/// The same for majority.
+fn majority_stops<R: Threads + Wait + Sync, G: Gate>(rt: &R, alloc: Global, gate: &G) -> bool {
+    match majority(alloc) {
+        Some(net) => stops(rt, alloc, &net, gate),
+        None => false,
+    }
 }
 
 #[test]
 fn the_observer_stops_a_round(rt: HostRuntime) {
     let gate = AtTurn100 {
-        there: [AtomicU64::new(0), AtomicU64::new(0)],
+        first: AtomicU64::new(0),
+        second: AtomicU64::new(0),
         looked: AtomicU64::new(0),
         gave_up: AtomicU64::new(0),
     };
     whole_runs_are_watched();
-    let told = watch(&rt, rt.alloc(), &gate);
-    assert!(rt; gate.gave_up.load(Ordering::SeqCst) == 0);
-    assert!(rt; told == Some((1, 99, 99, 198, End::Terminal)));
+    let stopped = majority_stops(&rt, rt.alloc(), &gate);
+    assert!(rt; stopped && gate.gave_up.load(Ordering::SeqCst) == 0);
 }
 
 /// The journal of a watched run of two agents by one worker.
 fn written<R: Threads + Wait + Sync>(rt: &R, alloc: Global, net: &Net) -> Option<List<u8>>
     requires { length net.now.variables ≡ 2 }
 {
-    let crowd = Crowd::of_counts(alloc, net, &[1, 1]).ok()?;
     let spec = RunSpec {
         workers: 1,
         shards: 16,
         turns: 1,
         seed: 0,
     };
-    let run = run_watched(rt, alloc, net, crowd, &spec, &OpenGate).ok()?;
+    let run = watched(rt, alloc, net, &spec, &OpenGate)?;
     write_watched(alloc, net, &spec, &run, false).ok()
 }
 
@@ -127,15 +160,27 @@ fn verified(alloc: Global, net: &Net, text: &[u8]) -> Option<u64>
 const TEXT: &str =
     "watch workers 1 shards 16 turns 1 seed 0\nround 1\n0 1 0 *\nend\na 1\nb 1\nundecided 0 1\n";
 
-/// Whether the journal that is written has this text, and how many meetings it has.
-fn written_and_verified<R: Threads + Wait + Sync>(rt: &R, alloc: Global) -> Option<(bool, u64)> {
-    let net = majority(alloc)?;
-    let text = written(rt, alloc, &net)?;
-    let meetings = verified(alloc, &net, text.as_slice())?;
-    Some((text.as_slice() == TEXT.as_bytes(), meetings))
+/// Whether the journal that is written has this text, and one meeting.
+fn writes_and_verifies<R: Threads + Wait + Sync>(rt: &R, alloc: Global, net: &Net) -> bool
+    requires { length net.now.variables ≡ 2 }
+{
+    match written(rt, alloc, net) {
+        Some(text) => {
+            text.as_slice() == TEXT.as_bytes() && verified(alloc, net, text.as_slice()) == Some(1)
+        }
+        None => false,
+    }
+}
+
+/// The same for majority.
+fn majority_writes<R: Threads + Wait + Sync>(rt: &R, alloc: Global) -> bool {
+    match majority(alloc) {
+        Some(net) => writes_and_verifies(rt, alloc, &net),
+        None => false,
+    }
 }
 
 #[test]
 fn a_journal_is_written_and_verified(rt: HostRuntime) {
-    assert!(rt; written_and_verified(&rt, rt.alloc()) == Some((true, 1)));
+    assert!(rt; majority_writes(&rt, rt.alloc()));
 }
