@@ -9,7 +9,7 @@ ghost use Rattle.pop_lines.specs.Lines.{lines_of};
 ghost use Rattle.pop_words.specs.Kinds.{most_workers_of};
 ghost use Rattle.pop_words.specs.Options.{IsWithinLimits};
 ghost use Rattle.pair_workers.specs.Run.{turns_in};
-ghost use Rattle.pop_journal.specs.declared.fault.JournalFault.TheVariants.{NoMemory as OutOfMemory};
+ghost use Rattle.pop_journal.specs.declared.fault.JournalFault.TheVariants.{NoMemory as OutOfMemory, Out};
 ghost use Rattle.pop_journal.specs.ReadLines.{ReadsRound, ReadsRounds, ReadsJournal};
 
 use crate::fault::{JournalFault, JournalWhy};
@@ -57,10 +57,7 @@ fn read_round<'t>(
     'lines: while meetings.len() < wanted {
         let line = number + meetings.len() as u64;
         let Some((told, more)) = next_told(rest) else {
-            return Err(JournalFault::Out {
-                line,
-                why: JournalWhy::Missing,
-            });
+            return Err(fault_at(line, JournalWhy::Missing));
         };
         if stops_here(kind, told, rest) {
             return Ok((RoundEnd::Stopped, more));
@@ -88,7 +85,7 @@ fn read_rounds<'t>(
 ) -> Result<&'t [u8], JournalFault>
     requires spec { IsWithinLimits spec.now }
     requires none { rounds.old.items ≡ [] }
-    requires number { number ≤ 2 ^ 41 }
+    requires number { number ≤ LINE_LIMIT + 1 }
     ensures { ReadsRounds kind spec.now agents number (lines_of text.now) rounds.new.items result }
 {
     let mut rest = text;
@@ -100,16 +97,10 @@ fn read_rounds<'t>(
         }
         let round = rounds.len() as u64 + 1;
         if !is_round_line(first, round) {
-            return Err(JournalFault::Out {
-                line,
-                why: JournalWhy::Form,
-            });
+            return Err(fault_at(line, JournalWhy::Form));
         }
         if left == 0 {
-            return Err(JournalFault::Out {
-                line,
-                why: JournalWhy::Round,
-            });
+            return Err(fault_at(line, JournalWhy::Round));
         }
         let turns = ROUND_TURNS.min(left);
         let mut meetings = Vec::new(alloc);
@@ -131,10 +122,14 @@ fn read_rounds<'t>(
             RoundEnd::Stopped => return Ok(behind),
         }
     }
-    Err(JournalFault::Out {
-        line,
-        why: JournalWhy::Missing,
-    })
+    Err(fault_at(line, JournalWhy::Missing))
+}
+
+/// What is wrong with the line of this number.
+fn fault_at(line: u64, why: JournalWhy) -> JournalFault
+    ensures { result ≡ Out line why }
+{
+    JournalFault::Out { line, why }
 }
 
 /// Whether a line is that of the round with this number.
@@ -180,16 +175,10 @@ fn read_lines(
         IsWithinLimits journal.spec × (journal.spec.workers ≤ most_workers_of kind)) }
 {
     let Some((line, rest)) = next_line(text) else {
-        return Err(JournalFault::Out {
-            line: first,
-            why: JournalWhy::Missing,
-        });
+        return Err(fault_at(first, JournalWhy::Missing));
     };
     let Some(spec) = spec_of(kind, line) else {
-        return Err(JournalFault::Out {
-            line: first,
-            why: JournalWhy::Form,
-        });
+        return Err(fault_at(first, JournalWhy::Form));
     };
     let mut rounds = Vec::new(alloc);
     let behind = read_rounds(alloc, kind, &spec, agents, rest, first + 1, &mut rounds)?;
