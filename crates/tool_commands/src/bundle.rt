@@ -1,13 +1,17 @@
 //! The bundle of a line, and how its net starts.
 
-ghost use Rattle.std.specs.Prelude.{◌≡◌, option_map, IfOk};
+ghost use Rattle.std.specs.Prelude.{◌≡◌, option_map, IfErr, IfOk, OnOk};
 ghost use Rattle.serde_json.specs.View.{view};
+ghost use Rattle.cert_base.specs.ValidProof.{ValidProof};
+ghost use Rattle.cert_base.specs.ProofBound.{proof_bound};
+ghost use Rattle.pop_checker.specs.Rejections.{IsCheckFault};
 ghost use Rattle.tool_texts.specs.Steps.{GivesStep, Obeys};
 ghost use Rattle.tool_commands.specs.Start.{IsStart};
 ghost use Rattle.tool_commands.specs.Bundles.{bundle_in, begun, IsBundleWithin, IsBundleOf, IsBegunBy};
 
 use crate::start::{Start, start_of};
 use cert_json::{Bundle, FormatFault, read_bundle};
+use pop_checker::{CheckFault, Checked, check};
 use serde_json::Value;
 use std::alloc::Global;
 use tool_texts::{Refusal, Stop, value_of};
@@ -61,4 +65,16 @@ pub(crate) fn begin(alloc: Global, lines: (&[u8], &[u8])) -> Result<(Bundle, Sta
 {
     let value = value_of(alloc, lines.0)?;
     bundle_and_start(alloc, &value, lines.1)
+}
+
+/// The net and the predicate of a bundle, if its proof is valid.
+pub(crate) fn check_bundle(alloc: Global, bundle: Bundle) -> Result<Checked, CheckFault>
+    requires { IsBundleWithin bundle }
+    ensures valid { OnOk result (ValidProof bundle.net bundle.pred bundle.proof) }
+    ensures fault { IfErr result (IsCheckFault bundle.net bundle.pred bundle.proof) }
+    ensures kept { IfOk result (λ checked. checked
+        ≡ record { net = bundle.net; pred = bundle.pred; bound = proof_bound bundle.proof }) }
+{
+    let Bundle { net, pred, proof } = bundle;
+    check(alloc, net, pred, &proof)
 }

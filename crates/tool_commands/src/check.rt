@@ -6,7 +6,7 @@ ghost use Rattle.tool_texts.specs.Steps.{Obeys};
 ghost use Rattle.tool_commands.specs.Bundles.{IsBundleWithin};
 ghost use Rattle.tool_commands.specs.Check.{certified_text, OfBundle, CheckGives};
 
-use crate::bundle::bundle_of_line;
+use crate::bundle::{bundle_of_line, check_bundle};
 use cert_json::Bundle;
 use pop_checker::CheckFault;
 use std::alloc::{AllocError, Global};
@@ -24,8 +24,7 @@ fn judge(alloc: Global, bundle: Bundle) -> Result<Output, Stop>
     requires { IsBundleWithin bundle }
     ensures { Obeys (OfBundle bundle) (λ output. output) result }
 {
-    let Bundle { net, pred, proof } = bundle;
-    match pop_checker::check(alloc, net, pred, &proof) {
+    match check_bundle(alloc, bundle) {
         Ok(checked) => {
             let text = certified_line(alloc, checked.bound())?;
             Ok(Output::new(text, Ending::Done))

@@ -151,19 +151,45 @@ fn summary_of(
     Ok(text)
 }
 
-/// Makes the run of a case. It waits for no thread.
-pub fn make_demo<G: Gate>(alloc: Global, demo: PendingDemo, gate: &G) -> Result<Output, NoMemory>
+/// A case without its crowd, which the worker takes.
+#[derive(Drop)]
+struct Case {
+    number: u32,
+    checked: Checked,
+    counts: List<u64>,
+}
+
+/// A case's setting and its crowd.
+fn apart(demo: PendingDemo) -> (Case, Crowd)
     requires { CanDemo demo }
-    ensures { IfOk result (IsDemoOutput demo.number) }
+    ensures number { result.0.number ≡ demo.number }
+    ensures few { result.0.number ≤ DEMO_LIMIT }
+    ensures checked { IsCheckedCase result.0.number result.0.checked }
+    ensures counts { result.0.counts ≡ demo_counts result.0.number }
+    ensures start { IsStart result.0.checked.net (record { counts = result.0.counts; crowd = result.1 }) }
 {
     let PendingDemo {
         number,
         checked,
         start: Start { counts, crowd },
     } = demo;
-    let spec = demo_run(number);
-    let run = run_alone(alloc, checked.net(), crowd, &spec, gate)?;
-    let (last, ending) = last_and_ending(&checked, counts.as_slice(), &run);
-    let text = summary_of(alloc, number, &checked, &run, last)?;
+    let case = Case {
+        number,
+        checked,
+        counts,
+    };
+    (case, crowd)
+}
+
+/// Makes the run of a case. It waits for no thread.
+pub fn make_demo<G: Gate>(alloc: Global, demo: PendingDemo, gate: &G) -> Result<Output, NoMemory>
+    requires { CanDemo demo }
+    ensures { IfOk result (IsDemoOutput demo.number) }
+{
+    let (case, crowd) = apart(demo);
+    let spec = demo_run(case.number);
+    let run = run_alone(alloc, case.checked.net(), crowd, &spec, gate)?;
+    let (last, ending) = last_and_ending(&case.checked, case.counts.as_slice(), &run);
+    let text = summary_of(alloc, case.number, &case.checked, &run, last)?;
     Ok(Output::new(text, ending))
 }

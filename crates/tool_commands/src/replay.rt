@@ -12,10 +12,10 @@ ghost use Rattle.tool_commands.specs.Bundles.{IsBundleWithin};
 ghost use Rattle.tool_commands.specs.Replay.{holds_text, journal_read, journal_output, replay_output};
 ghost use Rattle.tool_commands.specs.Replay.{OfBegun, ReplayGives};
 
-use crate::bundle::begin;
+use crate::bundle::{begin, check_bundle};
 use crate::start::Start;
 use cert_json::Bundle;
-use pop_checker::{CheckFault, check};
+use pop_checker::CheckFault;
 use pop_crowd::Crowd;
 use pop_journal::{Journal, JournalFault, VerifyFault, read_journal, verify};
 use pop_net::Net;
@@ -96,8 +96,7 @@ fn replay_begun(
     requires start { IsStart bundle.net start }
     ensures { Obeys (OfBegun kind (lines_of text.now) (bundle, start.counts)) (λ output. output) result }
 {
-    let Bundle { net, pred, proof } = bundle;
-    match check(alloc, net, pred, &proof) {
+    match check_bundle(alloc, bundle) {
         Ok(checked) => replay_from(alloc, kind, checked.net(), start.crowd, text),
         Err(CheckFault::Rejected(rejected)) => Ok(Output::of_rejection(alloc, rejected)?),
         Err(CheckFault::NoMemory) => Err(Stop::NoMemory),

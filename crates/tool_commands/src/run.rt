@@ -18,12 +18,12 @@ ghost use Rattle.tool_commands.specs.Bundles.{IsBundleWithin};
 ghost use Rattle.tool_commands.specs.Run.{journal_end, run_ending, open_pair, IsRunOutput, OfBegun, RunGives};
 ghost use Rattle.tool_commands.specs.Prepared.{CanRun, IsOutputOfRun, NeedsNoThreads, Prepares, IsPending};
 
-use crate::bundle::begin;
+use crate::bundle::{begin, check_bundle};
 use crate::prepared::{PendingRun, Prepared};
 use crate::start::Start;
 use cert_json::Bundle;
 use pair_workers::{End, RunEnd, run_all, run_alone};
-use pop_checker::{CheckFault, Checked, check};
+use pop_checker::{CheckFault, Checked};
 use pop_crowd::Crowd;
 use pop_io::{Gate, List, NoMemory};
 use pop_journal::{Last, push_journal};
@@ -74,26 +74,65 @@ fn both_lines(alloc: Global, first: &[u8], second: &[u8]) -> Result<List<u8>, Al
     Ok(List::from_vec(text))
 }
 
-/// The output of a run of this kind: the input lines, and its journal.
-fn run_output(
-    alloc: Global,
+/// A run without its crowd, which the workers take.
+#[derive(Drop)]
+struct Setting {
     kind: RunKind,
-    spec: &RunSpec,
+    spec: RunSpec,
     lines: List<u8>,
-    checked: &Checked,
-    counts: &[u64],
-    run: &RunEnd,
-) -> Result<Output, NoMemory>
-    requires input { IsInput (length checked.now.net.variables) (number_of_helpers checked.now.net) counts.now }
-    requires valid { AreValid checked.now.net run.now.crowd }
-    requires run { IsRunOf kind checked.now.net (input_crowd checked.now.net counts.now) spec.now run.now.rounds
-        (crowd_of checked.now.net run.now.crowd) }
-    requires last { IsLast checked.now.net (crowd_of checked.now.net run.now.crowd) (open_pair run.now.end) }
-    ensures { IfOk result (IsRunOutput kind spec.now lines checked.now.net checked.now.pred counts.now) }
+    checked: Checked,
+    counts: List<u64>,
+}
+
+/// A run's setting and its crowd.
+fn apart(run: PendingRun) -> (Setting, Crowd)
+    ensures setting { result.0 ≡ record {
+      kind = run.kind;
+      spec = run.spec;
+      lines = run.lines;
+      checked = run.checked;
+      counts = run.start.counts;
+    } }
+    ensures crowd { result.1 ≡ run.start.crowd }
 {
-    let (last, ending) = last_and_ending(checked, counts, run);
+    let PendingRun {
+        kind,
+        spec,
+        lines,
+        checked,
+        start: Start { counts, crowd },
+    } = run;
+    let setting = Setting {
+        kind,
+        spec,
+        lines,
+        checked,
+        counts,
+    };
+    (setting, crowd)
+}
+
+/// The output of a run: the input lines, and its journal.
+fn run_output(alloc: Global, setting: Setting, run: &RunEnd) -> Result<Output, NoMemory>
+    requires input { IsInput (length setting.checked.net.variables) (number_of_helpers setting.checked.net)
+        setting.counts }
+    requires valid { AreValid setting.checked.net run.now.crowd }
+    requires run { IsRunOf setting.kind setting.checked.net (input_crowd setting.checked.net setting.counts)
+        setting.spec run.now.rounds (crowd_of setting.checked.net run.now.crowd) }
+    requires last { IsLast setting.checked.net (crowd_of setting.checked.net run.now.crowd) (open_pair run.now.end) }
+    ensures { IfOk result (IsRunOutput setting.kind setting.spec setting.lines
+        setting.checked.net setting.checked.pred setting.counts) }
+{
+    let (last, ending) = last_and_ending(&setting.checked, setting.counts.as_slice(), run);
+    let Setting {
+        kind,
+        spec,
+        lines,
+        checked,
+        counts: _,
+    } = setting;
     let mut text = lines.into_vec();
-    push_journal(alloc, &mut text, kind, checked.net(), spec, run, last)?;
+    push_journal(alloc, &mut text, kind, checked.net(), &spec, run, last)?;
     Ok(Output::new(text, ending))
 }
 
@@ -104,15 +143,9 @@ pub fn make_alone<G: Gate>(alloc: Global, run: PendingRun, gate: &G) -> Result<O
     requires kind { run.kind ≡ Whole }
     ensures { IfOk result (IsOutputOfRun run) }
 {
-    let PendingRun {
-        kind,
-        spec,
-        lines,
-        checked,
-        start: Start { counts, crowd },
-    } = run;
-    let end = run_alone(alloc, checked.net(), crowd, &spec, gate)?;
-    run_output(alloc, kind, &spec, lines, &checked, counts.as_slice(), &end)
+    let (setting, crowd) = apart(run);
+    let end = run_alone(alloc, setting.checked.net(), crowd, &setting.spec, gate)?;
+    run_output(alloc, setting, &end)
 }
 
 /// A run of this kind by workers on threads.
@@ -149,15 +182,10 @@ pub fn make_on_threads<R: Threads + Wait + Sync, G: Gate>(
     requires { CanRun run }
     ensures { IfOk result (IsOutputOfRun run) }
 {
-    let PendingRun {
-        kind,
-        spec,
-        lines,
-        checked,
-        start: Start { counts, crowd },
-    } = run;
-    let end = run_on_threads(rt, alloc, kind, checked.net(), crowd, &spec, gate)?;
-    run_output(alloc, kind, &spec, lines, &checked, counts.as_slice(), &end)
+    let (setting, crowd) = apart(run);
+    let net = setting.checked.net();
+    let end = run_on_threads(rt, alloc, setting.kind, net, crowd, &setting.spec, gate)?;
+    run_output(alloc, setting, &end)
 }
 
 /// The run that is still to be made, alone or on threads.
@@ -187,8 +215,7 @@ fn prepare_begun(
         (OfBegun kind spec (ended lines.entry.0.now ++ ended lines.entry.1.now) (bundle, start.counts)) result }
     ensures plain { kind ≡ Whole → spec.workers ≡ 1 → IfOk result NeedsNoThreads }
 {
-    let Bundle { net, pred, proof } = bundle;
-    match check(alloc, net, pred, &proof) {
+    match check_bundle(alloc, bundle) {
         Ok(checked) => {
             let lines = both_lines(alloc, lines.0, lines.1)?;
             Ok(pending(PendingRun {

@@ -1,4 +1,0 @@
-use Rattle.tool_commands.proofs.run.make_on_threads.Goals as goal
-
-pub returns : goal.returns
-returns g c = rw c.as_slice.ensures at c.run_output.ensures
