@@ -1,12 +1,13 @@
 //! A trap: a set of states that stays marked once it is.
 
-ghost use Rattle.std.specs.Prelude.{◌≡◌, ◌≤◌, ◌^◌, ◌++◌, ◌∷◌, [], pos, length, map, IfOk, OnOk};
+ghost use Rattle.std.specs.Prelude.{◌≡◌, ◌≤◌, ◌^◌, ◌++◌, ◌∷◌, [], pos, negsuc, length, map, IfOk, OnOk};
 ghost use Rattle.pop_net.specs.LeafModel.{IsLeaf};
 ghost use Rattle.cert_base.specs.declared.fact.Fact.TheVariants.{Ge, Eq};
 ghost use Rattle.cert_base.specs.FactsAndCases.{no_moves, no_start_facts, no_helper_facts};
 ghost use Rattle.cert_base.specs.FactsAndCases.{some_taken_fact, count_row, puts_into, cases_of_trap};
 ghost use Rattle.cert_base.specs.Ends.{Cover};
 ghost use Rattle.cert_traps.specs.Roles.{passes_role};
+ghost use Rattle.cert_traps.specs.declared.role.Role.TheVariants.{Leaves};
 
 use crate::facts::{coefs, push_zeros};
 use crate::role::{Role, move_flags};
@@ -23,12 +24,35 @@ pub fn trap_cases(alloc: Global, leaf: &Leaf, set: &List<u16>) -> Result<List<Li
     ensures cover { IfOk result (Cover leaf.now) }
 {
     let set = StateSet::new(alloc, set)?;
-    let marked = count_in(alloc, leaf, &set, -1)?;
+    let _formed = leaf.state_count();
+    let cases = cases_of(alloc, leaf, &set)?;
+    Ok(cases)
+}
+
+fn cases_of(alloc: Global, leaf: &Leaf, set: &StateSet) -> Result<List<List<Fact>>, NoMemory>
+    requires { IsLeaf leaf.now }
+    ensures { IfOk result (λ cases. cases ≡ cases_of_trap leaf.now set.now) }
+{
     let mut cases = Vec::new(alloc);
-    cases.push(only(alloc, some_taken(alloc, leaf, &set, Role::Leaves)?)?)?;
-    cases.push(never_marked(alloc, leaf, &set)?)?;
-    cases.push(only(alloc, Fact::Ge(marked))?)?;
+    cases.push(left(alloc, leaf, set)?)?;
+    cases.push(never_marked(alloc, leaf, set)?)?;
+    cases.push(marked(alloc, leaf, set)?)?;
     Ok(List::from_vec(cases))
+}
+
+/// A move leaves the set.
+fn left(alloc: Global, leaf: &Leaf, set: &StateSet) -> Result<List<Fact>, NoMemory>
+    requires { IsLeaf leaf.now }
+    ensures { IfOk result (λ facts. facts ≡ some_taken_fact leaf.now (passes_role set.now Leaves) ∷ []) }
+{
+    only(alloc, some_taken(alloc, leaf, set, Role::Leaves)?)
+}
+
+/// The set is marked at the end.
+fn marked(alloc: Global, leaf: &Leaf, set: &StateSet) -> Result<List<Fact>, NoMemory>
+    ensures { IfOk result (λ facts. facts ≡ Ge (count_row leaf.now set.now (negsuc 0)) ∷ []) }
+{
+    only(alloc, Fact::Ge(count_in(alloc, leaf, set, -1)?))
 }
 
 fn never_marked(alloc: Global, leaf: &Leaf, set: &StateSet) -> Result<List<Fact>, NoMemory>

@@ -32,7 +32,7 @@ fn push_twins(nodes: &mut Vec<Node>, power: u16) -> Result<(), NoMemory>
 }
 
 /// Where the predicate holds: 2^k is absent at the end, or it is present.
-pub(crate) fn true_tree(alloc: Global, power: u16) -> Result<List<Node>, NoMemory>
+fn true_tree(alloc: Global, power: u16) -> Result<List<Node>, NoMemory>
     requires { power ≤ POWER_LIMIT }
     ensures { IfOk result (λ nodes. nodes ≡ flock_true_tree power) }
 {
@@ -48,7 +48,7 @@ pub(crate) fn true_tree(alloc: Global, power: u16) -> Result<List<Node>, NoMemor
 }
 
 /// Where it doesn't: 2^k was put together, or was there at the start, or never came.
-pub(crate) fn false_tree(alloc: Global, power: u16) -> Result<List<Node>, NoMemory>
+fn false_tree(alloc: Global, power: u16) -> Result<List<Node>, NoMemory>
     requires { power ≤ POWER_LIMIT }
     ensures { IfOk result (λ nodes. nodes ≡ flock_false_tree power) }
 {
@@ -63,4 +63,15 @@ pub(crate) fn false_tree(alloc: Global, power: u16) -> Result<List<Node>, NoMemo
     nodes.push(weighed(alloc, start.as_slice())?)?;
     nodes.push(weighed(alloc, never.as_slice())?)?;
     Ok(List::from_vec(nodes))
+}
+
+/// The trees for true and for false.
+pub(crate) fn both_trees(alloc: Global, power: u16) -> Result<(List<Node>, List<Node>), NoMemory>
+    requires { power ≤ POWER_LIMIT }
+    ensures on_true { IfOk result (λ both. both.0 ≡ flock_true_tree power) }
+    ensures on_false { IfOk result (λ both. both.1 ≡ flock_false_tree power) }
+{
+    let on_true = true_tree(alloc, power)?;
+    let on_false = false_tree(alloc, power)?;
+    Ok((on_true, on_false))
 }

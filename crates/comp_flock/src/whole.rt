@@ -8,9 +8,9 @@ ghost use Rattle.cert_base.specs.ValidProof.{ValidLeafProof};
 ghost use Rattle.cert_base.specs.ProofLimits.{IsLeafProofWithin};
 ghost use Rattle.comp_flock_leaf.specs.declared.limits.TheConstants.{POWER_LIMIT};
 ghost use Rattle.comp_flock_leaf.specs.FlockLeaf.{is_flock_coefficient, flock_leaf_of};
-ghost use Rattle.comp_flock.specs.FlockProof.{flock_pred_of};
+ghost use Rattle.comp_flock.specs.FlockProof.{flock_part, flock_pred_of};
 
-use crate::trees::{false_tree, true_tree};
+use crate::trees::both_trees;
 use crate::weights::flock_layers;
 use cert_base::LeafProof;
 use comp_flock_leaf::{bound_of, flock_leaf};
@@ -33,6 +33,25 @@ fn flock_pred(alloc: Global, coefs: &[i64], power: u32) -> Result<Pred, NoMemory
     Ok(Pred::new(coefs.len() as u16, tree))
 }
 
+/// The proof of the built leaf.
+fn leaf_proof(alloc: Global, coefs: &[i64], power: u32) -> Result<LeafProof, NoMemory>
+    requires some { 1 ≤ length coefs.now }
+    requires few { length coefs.now ≤ VARIABLE_LIMIT }
+    requires coefs { list_all is_flock_coefficient coefs.now ≡ true }
+    requires high { power ≤ POWER_LIMIT }
+    ensures { IfOk result (λ part. part ≡ flock_part coefs.now power) }
+{
+    let pred = flock_pred(alloc, coefs, power)?;
+    let layers = flock_layers(alloc, power as u16)?;
+    let (on_true, on_false) = both_trees(alloc, power as u16)?;
+    Ok(LeafProof {
+        pred,
+        layers,
+        on_true,
+        on_false,
+    })
+}
+
 /// The built leaf of the flock atom with these coefficients, each 0 or -1, and this power, and a valid proof for it.
 pub fn flock(alloc: Global, coefs: &[i64], power: u32) -> Result<(Leaf, LeafProof), NoMemory>
     requires some { 1 ≤ length coefs.now }
@@ -48,15 +67,6 @@ pub fn flock(alloc: Global, coefs: &[i64], power: u32) -> Result<(Leaf, LeafProo
     ensures single { IfOk result (λ both. AllPairs Differ both.0.moves) }
 {
     let leaf = flock_leaf(alloc, coefs, power as u16)?;
-    let pred = flock_pred(alloc, coefs, power)?;
-    let layers = flock_layers(alloc, power as u16)?;
-    let on_true = true_tree(alloc, power as u16)?;
-    let on_false = false_tree(alloc, power as u16)?;
-    let proof = LeafProof {
-        pred,
-        layers,
-        on_true,
-        on_false,
-    };
+    let proof = leaf_proof(alloc, coefs, power)?;
     Ok((leaf, proof))
 }

@@ -1,6 +1,6 @@
 //! The node of a leader that is present.
 
-ghost use Rattle.std.specs.Prelude.{◌≡◌, ◌<◌, ◌≤◌, map, neg_ℤ, length, slice_index_or, false, IfOk};
+ghost use Rattle.std.specs.Prelude.{◌≡◌, ◌<◌, ◌≤◌, map, neg_ℤ, length, slice_index_or, true, false, IfOk};
 ghost use Rattle.std.specs.List.{range_with_len};
 ghost use Rattle.pres_ast.specs.declared.limits.TheConstants.{MODULUS_LIMIT};
 ghost use Rattle.cert_base.specs.FactsAndCases.{states_of, indicator, differs};
@@ -138,7 +138,7 @@ fn ends(
 }
 
 /// The tree for an answer.
-pub(crate) fn leaf_tree(
+fn leaf_tree(
     alloc: Global,
     leaf: &Leaf,
     modulus: u16,
@@ -151,4 +151,21 @@ pub(crate) fn leaf_tree(
 {
     let nodes = ends(alloc, leaf, modulus, rest, answer)?;
     tree(alloc, leaf, nodes)
+}
+
+/// The trees for true and for false.
+pub(crate) fn both_trees(
+    alloc: Global,
+    leaf: &Leaf,
+    modulus: u16,
+    rest: u16,
+) -> Result<(List<Node>, List<Node>), NoMemory>
+    requires few { modulus ≤ MODULUS_LIMIT }
+    requires states { length leaf.now.states ≡ remainder_state_count modulus }
+    ensures on_true { IfOk result (λ both. both.0 ≡ remainder_tree leaf.now modulus rest true) }
+    ensures on_false { IfOk result (λ both. both.1 ≡ remainder_tree leaf.now modulus rest false) }
+{
+    let on_true = leaf_tree(alloc, leaf, modulus, rest, true)?;
+    let on_false = leaf_tree(alloc, leaf, modulus, rest, false)?;
+    Ok((on_true, on_false))
 }

@@ -9,7 +9,7 @@ ghost use Rattle.cert_base.specs.ProofLimits.{IsLeafProofWithin};
 ghost use Rattle.comp_remainder_leaf.specs.RemainderLeaf.{remainder_leaf_of};
 ghost use Rattle.comp_remainder.specs.RemainderProof.{congruence, remainder_part};
 
-use crate::node::leaf_tree;
+use crate::node::both_trees;
 use crate::weights::leaf_layers;
 use cert_base::LeafProof;
 use comp_remainder_leaf::remainder_leaf;
@@ -35,6 +35,34 @@ fn congruent(alloc: Global, coefs: &[i64], modulus: u32, rest: u32) -> Result<Pr
     Ok(Pred::new(coefs.len() as u16, tree))
 }
 
+/// The proof of a built leaf.
+fn leaf_proof(
+    alloc: Global,
+    coefs: &[i64],
+    modulus: u32,
+    rest: u32,
+    leaf: &Leaf,
+) -> Result<LeafProof, NoMemory>
+    requires built { leaf.now ≡ remainder_leaf_of coefs.now modulus rest }
+    requires some { 1 ≤ length coefs.now }
+    requires few { length coefs.now ≤ VARIABLE_LIMIT }
+    requires coefs { All (λ a. nat_abs a ≤ COEFFICIENT_LIMIT) coefs.now }
+    requires low { 2 ≤ modulus }
+    requires high { modulus ≤ MODULUS_LIMIT }
+    requires rest { rest < modulus }
+    ensures { IfOk result (λ part. part ≡ remainder_part coefs.now modulus rest) }
+{
+    let pred = congruent(alloc, coefs, modulus, rest)?;
+    let layers = leaf_layers(alloc, leaf, modulus as u16)?;
+    let (on_true, on_false) = both_trees(alloc, leaf, modulus as u16, rest as u16)?;
+    Ok(LeafProof {
+        pred,
+        layers,
+        on_true,
+        on_false,
+    })
+}
+
 /// The built leaf of `Rest`, and a valid proof for it.
 pub fn remainder(
     alloc: Global,
@@ -56,15 +84,6 @@ pub fn remainder(
     ensures single { IfOk result (λ both. AllPairs Differ both.0.moves) }
 {
     let leaf = remainder_leaf(alloc, coefs, modulus as u16, rest as u16)?;
-    let pred = congruent(alloc, coefs, modulus, rest)?;
-    let layers = leaf_layers(alloc, &leaf, modulus as u16)?;
-    let on_true = leaf_tree(alloc, &leaf, modulus as u16, rest as u16, true)?;
-    let on_false = leaf_tree(alloc, &leaf, modulus as u16, rest as u16, false)?;
-    let proof = LeafProof {
-        pred,
-        layers,
-        on_true,
-        on_false,
-    };
+    let proof = leaf_proof(alloc, coefs, modulus, rest, &leaf)?;
     Ok((leaf, proof))
 }

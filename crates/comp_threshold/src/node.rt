@@ -1,6 +1,6 @@
 //! The node of a leader that is present.
 
-ghost use Rattle.std.specs.Prelude.{◌≡◌, ◌<◌, ◌≤◌, ℕ, List, map, neg_ℤ, pos, length, IfOk};
+ghost use Rattle.std.specs.Prelude.{◌≡◌, ◌<◌, ◌≤◌, ℕ, List, map, neg_ℤ, pos, length, true, false, IfOk};
 ghost use Rattle.std.specs.List.{range_with_len};
 ghost use Rattle.cert_base.specs.FactsAndCases.{states_of, indicator, differs};
 ghost use Rattle.comp_threshold_leaf.specs.ThresholdLeaf.{span_of, threshold_state_count, threshold_output, built};
@@ -123,13 +123,7 @@ fn ends(alloc: Global, leaf: &Leaf, s: u16, t: u16, b: bool) -> Result<Vec<Node>
 }
 
 /// The tree for b.
-pub(crate) fn leaf_tree(
-    alloc: Global,
-    leaf: &Leaf,
-    s: u16,
-    t: u16,
-    b: bool,
-) -> Result<List<Node>, NoMemory>
+fn leaf_tree(alloc: Global, leaf: &Leaf, s: u16, t: u16, b: bool) -> Result<List<Node>, NoMemory>
     requires narrow { s ≤ WIDTH_LIMIT }
     requires states { length leaf.now.states ≡ threshold_state_count s }
     requires outputs { leaf.now.outputs ≡ map (threshold_output s t) (range_with_len 0 (threshold_state_count s)) }
@@ -137,4 +131,22 @@ pub(crate) fn leaf_tree(
 {
     let nodes = ends(alloc, leaf, s, t, b)?;
     tree(alloc, leaf, nodes)
+}
+
+/// The trees for true and for false.
+pub(crate) fn both_trees(
+    alloc: Global,
+    leaf: &Leaf,
+    s: u16,
+    t: u16,
+) -> Result<(List<Node>, List<Node>), NoMemory>
+    requires narrow { s ≤ WIDTH_LIMIT }
+    requires states { length leaf.now.states ≡ threshold_state_count s }
+    requires outputs { leaf.now.outputs ≡ map (threshold_output s t) (range_with_len 0 (threshold_state_count s)) }
+    ensures on_true { IfOk result (λ both. both.0 ≡ threshold_tree leaf.now s t true) }
+    ensures on_false { IfOk result (λ both. both.1 ≡ threshold_tree leaf.now s t false) }
+{
+    let on_true = leaf_tree(alloc, leaf, s, t, true)?;
+    let on_false = leaf_tree(alloc, leaf, s, t, false)?;
+    Ok((on_true, on_false))
 }

@@ -1,14 +1,15 @@
 //! The leaf with its proof.
 
-ghost use Rattle.std.specs.Prelude.{◌≡◌, ◌≤◌, nat_abs, All, length, IfOk, IfErr};
+ghost use Rattle.std.specs.Prelude.{◌≡◌, ◌≤◌, nat_abs, All, AllPairs, length, IfOk, IfErr};
 ghost use Rattle.pop_io.specs.declared.names.TheConstants.{VARIABLE_LIMIT};
+ghost use Rattle.pop_net.specs.Reaction.{Differ};
 ghost use Rattle.pres_ast.specs.PredTree.{LessThan};
 ghost use Rattle.pres_ast.specs.declared.limits.TheConstants.{COEFFICIENT_LIMIT, BOUND_LIMIT};
-ghost use Rattle.comp_threshold_leaf.specs.ThresholdLeaf.{threshold_width};
+ghost use Rattle.comp_threshold_leaf.specs.ThresholdLeaf.{threshold_leaf_of, threshold_width};
 ghost use Rattle.comp_threshold.specs.Built.{IsThreshold, IsWidthFault};
 
 use crate::fault::ThresholdFault;
-use crate::node::leaf_tree;
+use crate::node::both_trees;
 use crate::weights::leaf_layers;
 use cert_base::LeafProof;
 use comp_threshold_leaf::{WIDTH_LIMIT, place, threshold_leaf, width};
@@ -31,6 +32,36 @@ fn less(alloc: Global, coefs: &[i64], bound: i64) -> Result<Pred, NoMemory>
     Ok(Pred::new(coefs.len() as u16, tree))
 }
 
+/// The proof of a built leaf.
+fn leaf_proof(
+    alloc: Global,
+    coefs: &[i64],
+    bound: i64,
+    s: u16,
+    leaf: &Leaf,
+) -> Result<LeafProof, NoMemory>
+    requires width { s ≡ threshold_width coefs.now bound }
+    requires narrow { s ≤ WIDTH_LIMIT }
+    requires some { 1 ≤ length coefs.now }
+    requires few { length coefs.now ≤ VARIABLE_LIMIT }
+    requires coefs { All (λ a. nat_abs a ≤ COEFFICIENT_LIMIT) coefs.now }
+    requires bound { nat_abs bound ≤ BOUND_LIMIT }
+    requires built { leaf.now ≡ threshold_leaf_of coefs.now bound }
+    requires single { AllPairs Differ leaf.now.moves }
+    ensures { IfOk result (IsThreshold coefs.now bound leaf.now) }
+{
+    let t = place(s, bound);
+    let pred = less(alloc, coefs, bound)?;
+    let layers = leaf_layers(alloc, leaf, s)?;
+    let (on_true, on_false) = both_trees(alloc, leaf, s, t)?;
+    Ok(LeafProof {
+        pred,
+        layers,
+        on_true,
+        on_false,
+    })
+}
+
 /// A leaf of this width.
 fn narrow(alloc: Global, coefs: &[i64], bound: i64, s: u16) -> Result<(Leaf, LeafProof), NoMemory>
     requires width { s ≡ threshold_width coefs.now bound }
@@ -41,18 +72,8 @@ fn narrow(alloc: Global, coefs: &[i64], bound: i64, s: u16) -> Result<(Leaf, Lea
     requires bound { nat_abs bound ≤ BOUND_LIMIT }
     ensures { IfOk result (λ both. IsThreshold coefs.now bound both.0 both.1) }
 {
-    let t = place(s, bound);
     let leaf = threshold_leaf(alloc, coefs, bound, s)?;
-    let pred = less(alloc, coefs, bound)?;
-    let layers = leaf_layers(alloc, &leaf, s)?;
-    let on_true = leaf_tree(alloc, &leaf, s, t, true)?;
-    let on_false = leaf_tree(alloc, &leaf, s, t, false)?;
-    let proof = LeafProof {
-        pred,
-        layers,
-        on_true,
-        on_false,
-    };
+    let proof = leaf_proof(alloc, coefs, bound, s, &leaf)?;
     Ok((leaf, proof))
 }
 

@@ -1,42 +1,9 @@
-use Rattle.std.proofs.Common.{◌∙◌, ap, length, arith, rules, w64, SFits}
-use Rattle.std.specs.Prelude.{nat_abs}
+use Rattle.std.proofs.Common.{rules, subst, w64, SFits}
 use Rattle.std.proofs.lemmas.Int.{to_z-of_z}
-use Rattle.pres_ast.specs.PredTree.{LessThan}
-use Rattle.comp_threshold_leaf.specs.ThresholdLeaf.{place_of_value, threshold_leaf_of}
-use Rattle.comp_threshold_leaf.proofs.Places.{width-bound}
-use Rattle.comp_threshold.proofs.Valid.{whole-valid, outputs-are, states-are}
+use Rattle.comp_threshold.specs.Built.{IsThreshold}
 use Rattle.comp_threshold.proofs.whole.narrow.Goals as goal
-
-pub place-t-requires-clause-within : goal.place-t-requires-clause-within
-place-t-requires-clause-within c =
-    let fits : SFits w64 c.args.bound = search rules in
-    let same = to_z-of_z w64 c.args.bound fits in
-    let wide = width-bound c.args.coefs.now c.args.bound in
-    let w = c.requires.width in
-    omega (arith, ap nat_abs same, wide, w)
-
-pub leaf_tree-requires-clause-states : goal.leaf_tree-requires-clause-states
-leaf_tree-requires-clause-states c =
-    let fits : SFits w64 c.args.bound = search rules in
-    states-are c.args.coefs.now c.args.bound c.args.s c.in_ok-leaf.leaf c.requires.width (c.in_ok-leaf.ensures.leaf ∙ ap (threshold_leaf_of c.args.coefs.now) (to_z-of_z w64 c.args.bound fits))
-
-pub leaf_tree-requires-2-clause-states : goal.leaf_tree-requires-2-clause-states
-leaf_tree-requires-2-clause-states c =
-    let fits : SFits w64 c.args.bound = search rules in
-    states-are c.args.coefs.now c.args.bound c.args.s c.in_ok-leaf.leaf c.requires.width (c.in_ok-leaf.ensures.leaf ∙ ap (threshold_leaf_of c.args.coefs.now) (to_z-of_z w64 c.args.bound fits))
-
-pub leaf_tree-requires-clause-outputs : goal.leaf_tree-requires-clause-outputs
-leaf_tree-requires-clause-outputs c =
-    let fits : SFits w64 c.args.bound = search rules in
-    outputs-are c.args.coefs.now c.args.bound c.args.s c.place-t.result c.in_ok-leaf.leaf c.requires.width (c.place-t.ensures ∙ ap (place_of_value c.args.s) (to_z-of_z w64 c.args.bound fits)) (c.in_ok-leaf.ensures.leaf ∙ ap (threshold_leaf_of c.args.coefs.now) (to_z-of_z w64 c.args.bound fits))
-
-pub leaf_tree-requires-2-clause-outputs : goal.leaf_tree-requires-2-clause-outputs
-leaf_tree-requires-2-clause-outputs c =
-    let fits : SFits w64 c.args.bound = search rules in
-    outputs-are c.args.coefs.now c.args.bound c.args.s c.place-t.result c.in_ok-leaf.leaf c.requires.width (c.place-t.ensures ∙ ap (place_of_value c.args.s) (to_z-of_z w64 c.args.bound fits)) (c.in_ok-leaf.ensures.leaf ∙ ap (threshold_leaf_of c.args.coefs.now) (to_z-of_z w64 c.args.bound fits))
 
 pub returns : goal.returns
 returns c =
     let fits : SFits w64 c.args.bound = search rules in
-    whole-valid c.args.coefs.now c.args.bound c.args.s c.place-t.result c.in_ok-leaf.leaf c.in_ok-pred.pred c.in_ok-layers.layers c.in_ok-on_true.on_true c.in_ok-on_false.on_false
-    c.requires.width (c.place-t.ensures ∙ ap (place_of_value c.args.s) (to_z-of_z w64 c.args.bound fits)) (c.in_ok-leaf.ensures.leaf ∙ ap (threshold_leaf_of c.args.coefs.now) (to_z-of_z w64 c.args.bound fits)) c.in_ok-leaf.ensures.single (c.in_ok-pred.ensures ∙ ap (λ z. record { variables = length c.args.coefs.now; tree = LessThan c.args.coefs.now z }) (to_z-of_z w64 c.args.bound fits)) c.in_ok-layers.ensures c.in_ok-on_true.ensures c.in_ok-on_false.ensures c.requires.some c.requires.few c.requires.narrow
+    subst (λ z. IsThreshold c.args.coefs.now z c.in_ok-leaf.leaf c.in_ok-proof.proof) (to_z-of_z w64 c.args.bound fits) c.in_ok-proof.ensures

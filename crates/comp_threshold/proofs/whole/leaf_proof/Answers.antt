@@ -1,0 +1,31 @@
+use Rattle.std.proofs.Common.{◌∙◌, ap, length, arith, rules, w64, SFits}
+use Rattle.std.specs.Prelude.{nat_abs}
+use Rattle.std.proofs.lemmas.Int.{to_z-of_z}
+use Rattle.pres_ast.specs.PredTree.{LessThan}
+use Rattle.comp_threshold_leaf.specs.ThresholdLeaf.{place_of_value}
+use Rattle.comp_threshold_leaf.proofs.Places.{width-bound}
+use Rattle.comp_threshold.proofs.Valid.{whole-valid, outputs-are, states-are}
+use Rattle.comp_threshold.proofs.whole.leaf_proof.Goals as goal
+
+pub place-t-requires-clause-within : goal.place-t-requires-clause-within
+place-t-requires-clause-within c =
+    let fits : SFits w64 c.args.bound = search rules in
+    let same = to_z-of_z w64 c.args.bound fits in
+    let wide = width-bound c.args.coefs.now c.args.bound in
+    let w = c.requires.width in
+    omega (arith, ap nat_abs same, wide, w)
+
+pub both_trees-requires-clause-states : goal.both_trees-requires-clause-states
+both_trees-requires-clause-states c =
+    states-are c.args.coefs.now c.args.bound c.args.s c.args.leaf.now c.requires.width c.requires.built
+
+pub both_trees-requires-clause-outputs : goal.both_trees-requires-clause-outputs
+both_trees-requires-clause-outputs c =
+    let fits : SFits w64 c.args.bound = search rules in
+    outputs-are c.args.coefs.now c.args.bound c.args.s c.place-t.result c.args.leaf.now c.requires.width (c.place-t.ensures ∙ ap (place_of_value c.args.s) (to_z-of_z w64 c.args.bound fits)) c.requires.built
+
+pub returns : goal.returns
+returns c =
+    let fits : SFits w64 c.args.bound = search rules in
+    whole-valid c.args.coefs.now c.args.bound c.args.s c.place-t.result c.args.leaf.now c.in_ok-pred.pred c.in_ok-layers.layers c.in_ok-on_true.on_true c.in_ok-on_true.on_false
+    c.requires.width (c.place-t.ensures ∙ ap (place_of_value c.args.s) (to_z-of_z w64 c.args.bound fits)) c.requires.built c.requires.single (c.in_ok-pred.ensures ∙ ap (λ z. record { variables = length c.args.coefs.now; tree = LessThan c.args.coefs.now z }) (to_z-of_z w64 c.args.bound fits)) c.in_ok-layers.ensures c.in_ok-on_true.ensures.on_true c.in_ok-on_true.ensures.on_false c.requires.some c.requires.few c.requires.narrow
