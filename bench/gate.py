@@ -74,7 +74,9 @@ def watch(gate):
                 crate, kind, start, taken = place(process)
             except (OSError, ValueError, IndexError):
                 continue
-            seconds[(process, start)] = (crate, kind, taken)
+            # (one that has just ended has no command line left)
+            earlier = seconds.get((process, start), (crate, kind, 0))
+            seconds[(process, start)] = (*(earlier[:2] if not crate else (crate, kind)), taken)
         time.sleep(0.5)
     return seconds.values()
 
