@@ -1,12 +1,13 @@
 //! Lists that are empty where memory runs out: the faults that tests look for tell of that.
 
 use pop_io::List;
+use sample_nets::list;
 use std::alloc::Global;
 
 /// A list of these items.
 pub(crate) fn listed<T: Copy>(alloc: Global, items: &[T]) -> List<T> {
-    match Vec::from_slice(alloc, items) {
-        Ok(items) => List::from_vec(items),
+    match list(alloc, items) {
+        Ok(items) => items,
         Err(_) => List::from_vec(Vec::new(alloc)),
     }
 }
