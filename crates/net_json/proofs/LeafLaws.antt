@@ -244,21 +244,20 @@ module _ (format variables : ℕ) (known : (format ≡ PLAIN_FORMAT) ⊎ (format
       few_helpers (Some r) hs d most told fits = let hi = fits.1 in omega (arith, most, hi)
 
   -- the lists that were read make a leaf
-  pub leaf_read : (range : Option (ℕ × ℕ)) (path : List ℕ) (d e f g h : Data) (n : ℕ) (ss : List (List ℕ)) (ts : List Move) (qs : List ℕ) (bs : List Bool) (hs : List ℕ) → n ≡ length ss
+  pub leaf_read : (range : Option (ℕ × ℕ)) (path : List ℕ) (d : Data) (n : ℕ) (ss : List (List ℕ)) (ts : List Move) (qs : List ℕ) (bs : List Bool) (hs : List ℕ) → n ≡ length ss
       → IfSome range (λ r. r.1 ≤ HELPER_LIMIT)
-      → member_at path (codes "states") d ≡ Ok e → names_at state_name STATE_LIMIT (member_path path (codes "states")) e ≡ Ok ss
-      → member_at path (codes "moves") d ≡ Ok f → leaf_moves_at n (member_path path (codes "moves")) f ≡ Ok ts
-      → member_at path (codes "input") d ≡ Ok g → inputs_at variables n (member_path path (codes "input")) g ≡ Ok qs
-      → member_at path (codes "output") d ≡ Ok h → outputs_at n (member_path path (codes "output")) h ≡ Ok bs
+      → member_by path (codes "states") (names_at state_name STATE_LIMIT) d ≡ Ok ss
+      → member_by path (codes "moves") (leaf_moves_at n) d ≡ Ok ts
+      → member_by path (codes "input") (inputs_at variables n) d ≡ Ok qs
+      → member_by path (codes "output") (outputs_at n) d ≡ Ok bs
       → helpers_at range n path d ≡ Ok hs
       → IsLeaf (record { states = ss; moves = ts; inputs = qs; outputs = bs; helpers = hs })
-  leaf_read range path d e f g h n ss ts qs bs hs long most s s' m m' q q' o o' hs' =
-      (leaf_of range path d ss ts qs bs hs
-      (rw s s')
-      (rw m (subst (λ (k : ℕ). leaf_moves_at k (member_path path (codes "moves")) f ≡ Ok ts) long m'))
-      (rw q (subst (λ (k : ℕ). inputs_at variables k (member_path path (codes "input")) g ≡ Ok qs) long q'))
-      (rw o (subst (λ (k : ℕ). outputs_at k (member_path path (codes "output")) h ≡ Ok bs) long o'))
-      (subst (λ (k : ℕ). helpers_at range k path d ≡ Ok hs) long hs')).1 most
+  leaf_read range path d n ss ts qs bs hs long most s m q o h =
+      (leaf_of range path d ss ts qs bs hs s
+      (subst (λ (k : ℕ). member_by path (codes "moves") (leaf_moves_at k) d ≡ Ok ts) long m)
+      (subst (λ (k : ℕ). member_by path (codes "input") (inputs_at variables k) d ≡ Ok qs) long q)
+      (subst (λ (k : ℕ). member_by path (codes "output") (outputs_at k) d ≡ Ok bs) long o)
+      (subst (λ (k : ℕ). helpers_at range k path d ≡ Ok hs) long h)).1 most
 
   -- what is known of a leaf that stands behind others
   abbrev pub Follows : List LeafModel → LeafModel → Type 0

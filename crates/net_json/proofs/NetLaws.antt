@@ -260,19 +260,17 @@ net_of path d format vars leaves items f v l c narrow =
     }
 
 -- the lists that were read make a net
-pub net_read : (path : List ℕ) (d e f g h : Data) (format m n : ℕ) (vars : List (List ℕ)) (leaves : List LeafModel) (items : List Item) → m ≡ length vars → n ≡ length leaves
-    → member_at path (codes "format") d ≡ Ok e → number_at (member_path path (codes "format")) PLAIN_FORMAT HELPER_FORMAT e ≡ Ok format
-    → member_at path (codes "vars") d ≡ Ok f → names_at variable_name VARIABLE_LIMIT (member_path path (codes "vars")) f ≡ Ok vars
-    → member_at path (codes "leaves") d ≡ Ok g → leaves_at format m (member_path path (codes "leaves")) g ≡ Ok leaves
-    → member_at path (codes "combine") d ≡ Ok h → combine_at n (member_path path (codes "combine")) h ≡ Ok items
+pub net_read : (path : List ℕ) (d : Data) (format m n : ℕ) (vars : List (List ℕ)) (leaves : List LeafModel) (items : List Item) → m ≡ length vars → n ≡ length leaves
+    → member_by path (codes "format") (λ p. number_at p PLAIN_FORMAT HELPER_FORMAT) d ≡ Ok format
+    → member_by path (codes "vars") (names_at variable_name VARIABLE_LIMIT) d ≡ Ok vars
+    → member_by path (codes "leaves") (leaves_at format m) d ≡ Ok leaves
+    → member_by path (codes "combine") (combine_at n) d ≡ Ok items
     → first_wide_leaf leaves ≡ None
     → IsNet (record { variables = vars; leaves = leaves; combine = items })
-net_read path d e f g h format m n vars leaves items long wide o o' v v' l l' c c' narrow =
-    (net_of path d format vars leaves items
-    (rw o o')
-    (rw v v')
-    (rw l (subst (λ (k : ℕ). leaves_at format k (member_path path (codes "leaves")) g ≡ Ok leaves) long l'))
-    (rw c (subst (λ (k : ℕ). combine_at k (member_path path (codes "combine")) h ≡ Ok items) wide c'))
+net_read path d format m n vars leaves items long wide f v l c narrow =
+    (net_of path d format vars leaves items f v
+    (subst (λ (k : ℕ). member_by path (codes "leaves") (leaves_at format k) d ≡ Ok leaves) long l)
+    (subst (λ (k : ℕ). member_by path (codes "combine") (combine_at k) d ≡ Ok items) wide c)
     narrow).fits
 
 pub net_at-takes : (path : List ℕ) (d : Data) (net : NetModel) → net_at path d ≡ Ok net → IsNetFile net d

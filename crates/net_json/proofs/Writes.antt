@@ -1,10 +1,10 @@
 -- Lists of values that are written one after the other, and that what is written is a net's file.
-use Rattle.std.proofs.Common.{◌≡◌, inl, inr, ℕ, zero, suc, ◌+◌, ◌≤◌, ◌<◌, ◌^◌, List, [], ◌∷◌, ◌++◌, length, map, take, nat_lt, Bool, true, false, Some, refl, sym, ap, ◌∙◌, arith, add-one}
-use Rattle.std.specs.Prelude.{slice_get, All}
+use Rattle.std.proofs.Common.{◌≡◌, inl, inr, ℕ, zero, suc, ◌+◌, ◌≤◌, ◌<◌, ◌^◌, List, [], ◌∷◌, ◌++◌, length, map, take, codes, nat_lt, Bool, true, false, Some, refl, sym, ap, ◌∙◌, arith, add-one}
+use Rattle.std.specs.Prelude.{slice_get, All, if◌then◌else◌}
 use Rattle.std.proofs.lemmas.Bool.{lt-ltb, ltb-false}
 use Rattle.std.proofs.lemmas.List.Elements.{All-head, All-tail}
 use Rattle.std.proofs.lemmas.List.{map-append}
-use Rattle.serde_json.specs.Data.{Data, string, boolean, array}
+use Rattle.serde_json.specs.Data.{Data, string, boolean, array, object, Members, member, no_members, put}
 use Rattle.serde_json.specs.View.{view, items_of}
 use Rattle.serde_json.specs.declared.value.Value.{Value}
 use Rattle.json_shape.specs.Shapes.{listed}
@@ -16,7 +16,7 @@ use Rattle.pop_net.specs.LeafModel.{LeafModel, IsLeaf, IsMoveBelow}
 use Rattle.pop_net.specs.NetModel.{NetModel, IsNet, NamesBelow, number_of_helpers}
 use Rattle.pop_net.specs.declared.limits.TheConstants.{STATE_LIMIT, LEAF_LIMIT}
 use Rattle.net_json.specs.NetFile.{IsMove, IsItem, IsLeafFile, IsNetFile}
-use Rattle.net_json.specs.Written.{number_data, list_data, texts_data, numbers_data, truths_data, move_data, item_data, leaf_members, helped_members, leaf_data, net_members, is_helped, format_of, net_data}
+use Rattle.net_json.specs.Written.{number_data, list_data, texts_data, numbers_data, truths_data, move_data, item_data, leaf_data, is_helped, format_of, net_data}
 
 whole_taken : {A : Type 0} (xs : List A) (i : ℕ) → length xs ≤ i → take i xs ≡ xs
 whole_taken [] zero le = refl
@@ -122,14 +122,24 @@ net_file net is =
     format_is true = refl
     format_is false = refl
 
-pub plain_leaf-is : (leaf : LeafModel) (v inputs moves outputs states : Data) → v ≡ leaf_members inputs moves outputs states → inputs ≡ numbers_data leaf.inputs → moves ≡ list_data (map move_data leaf.moves) → outputs ≡ truths_data leaf.outputs → states ≡ texts_data leaf.states → v ≡ leaf_data false leaf
+-- the members of a leaf, put in one after the other
+pub leaf_written : (helped : Bool) (leaf : LeafModel) (none one two three four : Members) (inputs moves outputs states : Data)
+    → none ≡ (if helped then member (codes "helpers") (numbers_data leaf.helpers) no_members else no_members)
+    → inputs ≡ numbers_data leaf.inputs → one ≡ put (codes "input") inputs none
+    → moves ≡ list_data (map move_data leaf.moves) → two ≡ put (codes "moves") moves one
+    → outputs ≡ truths_data leaf.outputs → three ≡ put (codes "output") outputs two
+    → states ≡ texts_data leaf.states → four ≡ put (codes "states") states three
+    → object four ≡ leaf_data helped leaf
 unfolding leaf_data
-plain_leaf-is leaf v inputs moves outputs states whole i m o s = rw (whole, i, m, o, s) refl
+leaf_written false leaf none one two three four inputs moves outputs states z i a m b o c s d = rw (d, c, b, a, z, i, m, o, s) refl
+leaf_written true leaf none one two three four inputs moves outputs states z i a m b o c s d = rw (d, c, b, a, z, i, m, o, s) refl
 
-pub helped_leaf-is : (leaf : LeafModel) (v helpers inputs moves outputs states : Data) → v ≡ helped_members helpers inputs moves outputs states → helpers ≡ numbers_data leaf.helpers → inputs ≡ numbers_data leaf.inputs → moves ≡ list_data (map move_data leaf.moves) → outputs ≡ truths_data leaf.outputs → states ≡ texts_data leaf.states → v ≡ leaf_data true leaf
-unfolding leaf_data
-helped_leaf-is leaf v helpers inputs moves outputs states whole h i m o s = rw (whole, h, i, m, o, s) refl
-
-pub net_data-is : (net : NetModel) (helped : Bool) (v combine format leaves vars : Data) → helped ≡ is_helped net → v ≡ net_members combine format leaves vars → combine ≡ list_data (map item_data net.combine) → format ≡ number_data (format_of helped) → leaves ≡ list_data (map (leaf_data helped) net.leaves) → vars ≡ texts_data net.variables → v ≡ net_data net
+-- the members of a net, put in one after the other
+pub net_written : (net : NetModel) (helped : Bool) (one two three four : Members) (combine format leaves vars : Data) → helped ≡ is_helped net
+    → combine ≡ list_data (map item_data net.combine) → one ≡ put (codes "combine") combine no_members
+    → format ≡ number_data (format_of helped) → two ≡ put (codes "format") format one
+    → leaves ≡ list_data (map (leaf_data helped) net.leaves) → three ≡ put (codes "leaves") leaves two
+    → vars ≡ texts_data net.variables → four ≡ put (codes "vars") vars three
+    → object four ≡ net_data net
 unfolding net_data
-net_data-is net helped v combine format leaves vars is whole c f l s = rw (whole, c, f, l, s, is) refl
+net_written net helped one two three four combine format leaves vars is c a f b l d v e = rw (e, d, b, a, c, f, l, v, is) refl

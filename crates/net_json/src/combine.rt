@@ -1,14 +1,15 @@
 //! The combination of a net.
 
-ghost use Rattle.std.specs.Prelude.{◌≡◌, ◌≤◌, length, true, Some, IfOk, is_some};
+ghost use Rattle.std.specs.Prelude.{◌≡◌, ◌≤◌, codes, length, true, Some, IfOk, is_some};
 ghost use Rattle.serde_json.specs.Find.{as_str};
 ghost use Rattle.serde_json.specs.View.{view};
 ghost use Rattle.json_shape.specs.Faults.{GivesRead};
 ghost use Rattle.json_shape.specs.Paths.{path_text};
+ghost use Rattle.json_shape.specs.Shapes.{member_by};
 ghost use Rattle.pop_net.specs.NetFaults.{names_below, operands_left};
 ghost use Rattle.net_json.specs.Examined.{operand_at, items_at, combine_at};
 
-use json_shape::{FormatFault, Path, Why, broken, list_of, number_of};
+use json_shape::{FormatFault, Path, Why, broken, list_of, member_of, number_of};
 use pop_io::List;
 use pop_net::{ITEM_LIMIT, Item, OpenTrees};
 use serde_json::Value;
@@ -63,7 +64,7 @@ fn items_of(
     Ok((List::from_vec(items), trees.count()))
 }
 
-/// The combination of so many leaves.
+/// The member `combine`: the combination of so many leaves.
 #[tactic(auto, unfolding(crate::specs::Examined::combine_at))]
 pub(crate) fn combine_of(
     alloc: Global,
@@ -72,11 +73,14 @@ pub(crate) fn combine_of(
     value: &Value,
 ) -> Result<List<Item>, FormatFault>
     requires { 1 ≤ leaves }
-    ensures { GivesRead (λ xs. xs) result (combine_at leaves (path_text path.now) (view value.now)) }
+    ensures { GivesRead (λ xs. xs) result
+        (member_by (path_text path.now) (codes "combine") (combine_at leaves) (view value.now)) }
 {
-    let (items, open) = items_of(alloc, path, leaves, value)?;
+    let combine = member_of(alloc, path, "combine", value)?;
+    let path = Path::Member(path, "combine");
+    let (items, open) = items_of(alloc, &path, leaves, combine)?;
     if open != 1 {
-        return Err(broken(alloc, path, Why::Shape));
+        return Err(broken(alloc, &path, Why::Shape));
     }
     Ok(items)
 }

@@ -1,13 +1,15 @@
 //! The parts of a leaf's object.
 
-ghost use Rattle.std.specs.Prelude.{◌≡◌, ◌-◌, ◌<◌, ◌≤◌, ◌^◌, length, IfOk};
+ghost use Rattle.std.specs.Prelude.{◌≡◌, ◌-◌, ◌<◌, ◌≤◌, ◌^◌, codes, length, IfOk};
 ghost use Rattle.serde_json.specs.View.{view};
 ghost use Rattle.json_shape.specs.Faults.{GivesRead};
 ghost use Rattle.json_shape.specs.Paths.{path_text};
-ghost use Rattle.json_shape.specs.Shapes.{number_at};
+ghost use Rattle.json_shape.specs.Shapes.{member_by, number_at};
 ghost use Rattle.net_json.specs.Examined.{move_at, leaf_moves_at, leaf_states_at, outputs_at};
 
-use json_shape::{FormatFault, Path, ReadItem, Why, broken, each_of, number_of, truth_of};
+use json_shape::{
+    FormatFault, Path, ReadItem, Why, broken, each_of, member_of, number_of, truth_of,
+};
 use pop_io::List;
 use pop_net::{MOVE_LIMIT, Move, STATE_LIMIT};
 use serde_json::Value;
@@ -78,7 +80,7 @@ impl ReadItem for Moves {
     }
 }
 
-/// At most `MOVE_LIMIT` moves of a leaf with so many states.
+/// The member `moves`: at most `MOVE_LIMIT` moves of a leaf with so many states.
 pub(crate) fn moves_of(
     alloc: Global,
     path: &Path<'_>,
@@ -86,9 +88,12 @@ pub(crate) fn moves_of(
     value: &Value,
 ) -> Result<List<Move>, FormatFault>
     requires { (1 ≤ states) × (states ≤ STATE_LIMIT) }
-    ensures { GivesRead (λ ts. ts) result (leaf_moves_at states (path_text path.now) (view value.now)) }
+    ensures { GivesRead (λ ts. ts) result
+        (member_by (path_text path.now) (codes "moves") (leaf_moves_at states) (view value.now)) }
 {
-    each_of(alloc, path, 0, MOVE_LIMIT, &Moves { states }, value)
+    let moves = member_of(alloc, path, "moves", value)?;
+    let path = Path::Member(path, "moves");
+    each_of(alloc, &path, 0, MOVE_LIMIT, &Moves { states }, moves)
 }
 
 /// Numbers of states of a leaf with so many.
@@ -119,19 +124,23 @@ impl ReadItem for States {
     }
 }
 
-/// From `least` to `most` numbers of states.
+/// A member by its name: from `least` to `most` numbers of states.
 pub(crate) fn states_of(
     alloc: Global,
     path: &Path<'_>,
+    member: &str,
     least: usize,
     most: usize,
     states: usize,
     value: &Value,
 ) -> Result<List<u16>, FormatFault>
     requires { (1 ≤ states) × (states ≤ STATE_LIMIT) }
-    ensures { GivesRead (λ qs. qs) result (leaf_states_at least most states (path_text path.now) (view value.now)) }
+    ensures { GivesRead (λ qs. qs) result
+        (member_by (path_text path.now) member.now (leaf_states_at least most states) (view value.now)) }
 {
-    each_of(alloc, path, least, most, &States { states }, value)
+    let numbers = member_of(alloc, path, member, value)?;
+    let path = Path::Member(path, member);
+    each_of(alloc, &path, least, most, &States { states }, numbers)
 }
 
 /// Outputs of states.
@@ -159,14 +168,17 @@ impl ReadItem for Outputs {
     }
 }
 
-/// One output per state.
+/// The member `output`: one output per state.
 pub(crate) fn outputs_of(
     alloc: Global,
     path: &Path<'_>,
     states: usize,
     value: &Value,
 ) -> Result<List<bool>, FormatFault>
-    ensures { GivesRead (λ bs. bs) result (outputs_at states (path_text path.now) (view value.now)) }
+    ensures { GivesRead (λ bs. bs) result
+        (member_by (path_text path.now) (codes "output") (outputs_at states) (view value.now)) }
 {
-    each_of(alloc, path, states, states, &Outputs, value)
+    let outputs = member_of(alloc, path, "output", value)?;
+    let path = Path::Member(path, "output");
+    each_of(alloc, &path, states, states, &Outputs, outputs)
 }

@@ -1,9 +1,10 @@
 //! The leaves of a net.
 
-ghost use Rattle.std.specs.Prelude.{◌≡◌, ◌≤◌, length, IfOk};
+ghost use Rattle.std.specs.Prelude.{◌≡◌, ◌≤◌, codes, length, IfOk};
 ghost use Rattle.serde_json.specs.View.{view};
 ghost use Rattle.json_shape.specs.Faults.{GivesRead};
 ghost use Rattle.json_shape.specs.Paths.{path_text};
+ghost use Rattle.json_shape.specs.Shapes.{member_by};
 ghost use Rattle.net_json.specs.Examined.{helpers_allowed, helpers_at, leaf_at, leaves_at};
 ghost use Rattle.net_json.specs.HelperRange.{IsHelperRange};
 
@@ -47,11 +48,7 @@ fn helpers_of(
 {
     match range {
         None => Ok(List::from_vec(Vec::new(alloc))),
-        Some((least, most)) => {
-            let helpers = member_of(alloc, path, "helpers", value)?;
-            let path = Path::Member(path, "helpers");
-            states_of(alloc, &path, least, most, states, helpers)
-        }
+        Some((least, most)) => states_of(alloc, path, "helpers", least, most, states, value),
     }
 }
 
@@ -68,17 +65,11 @@ fn leaf_of(
     ensures { GivesRead (λ leaf. leaf) result (leaf_at range variables (path_text path.now) (view value.now)) }
 {
     object_of(alloc, path, value)?;
-    let states = member_of(alloc, path, "states", value)?;
-    let states_path = Path::Member(path, "states");
-    let states = names_of(alloc, &states_path, NameForm::State, STATE_LIMIT, states)?;
+    let states = names_of(alloc, path, "states", NameForm::State, STATE_LIMIT, value)?;
     let count = states.as_slice().len();
-    let moves = member_of(alloc, path, "moves", value)?;
-    let moves = moves_of(alloc, &Path::Member(path, "moves"), count, moves)?;
-    let inputs = member_of(alloc, path, "input", value)?;
-    let inputs_path = Path::Member(path, "input");
-    let inputs = states_of(alloc, &inputs_path, variables, variables, count, inputs)?;
-    let outputs = member_of(alloc, path, "output", value)?;
-    let outputs = outputs_of(alloc, &Path::Member(path, "output"), count, outputs)?;
+    let moves = moves_of(alloc, path, count, value)?;
+    let inputs = states_of(alloc, path, "input", variables, variables, count, value)?;
+    let outputs = outputs_of(alloc, path, count, value)?;
     let helpers = helpers_of(alloc, path, range, count, value)?;
     let leaf = Leaf::of_valid(alloc, states, moves, inputs, outputs, helpers)?;
     Ok(leaf)
@@ -114,7 +105,7 @@ impl ReadItem for Leaves {
     }
 }
 
-/// 1 to `LEAF_LIMIT` leaves with so many inputs, of this format.
+/// The member `leaves`: 1 to `LEAF_LIMIT` leaves with so many inputs, of this format.
 pub(crate) fn leaves_of(
     alloc: Global,
     path: &Path<'_>,
@@ -123,15 +114,12 @@ pub(crate) fn leaves_of(
     value: &Value,
 ) -> Result<List<Leaf>, FormatFault>
     requires { (1 ≤ variables) × (variables ≤ VARIABLE_LIMIT) }
-    ensures leaves { GivesRead (λ ls. ls) result (leaves_at format variables (path_text path.now) (view value.now)) }
+    ensures leaves { GivesRead (λ ls. ls) result
+        (member_by (path_text path.now) (codes "leaves") (leaves_at format variables) (view value.now)) }
     ensures count { IfOk result (λ ls. (1 ≤ length ls) × (length ls ≤ LEAF_LIMIT)) }
 {
-    each_of(
-        alloc,
-        path,
-        1,
-        LEAF_LIMIT,
-        &Leaves { format, variables },
-        value,
-    )
+    let leaves = member_of(alloc, path, "leaves", value)?;
+    let path = Path::Member(path, "leaves");
+    let reader = Leaves { format, variables };
+    each_of(alloc, &path, 1, LEAF_LIMIT, &reader, leaves)
 }

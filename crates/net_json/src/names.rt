@@ -4,10 +4,11 @@ ghost use Rattle.std.specs.Prelude.{◌≡◌, ◌≤◌, length, IfOk};
 ghost use Rattle.serde_json.specs.View.{view};
 ghost use Rattle.json_shape.specs.Faults.{GivesRead};
 ghost use Rattle.json_shape.specs.Paths.{path_text};
+ghost use Rattle.json_shape.specs.Shapes.{member_by};
 ghost use Rattle.net_json.specs.NameForms.{form_of};
 ghost use Rattle.net_json.specs.Examined.{names_at};
 
-use json_shape::{FormatFault, Path, ReadItem, Why, broken, each_of, text_of};
+use json_shape::{FormatFault, Path, ReadItem, Why, broken, each_of, member_of, text_of};
 use pop_io::{List, Text, is_among, is_state_name, is_variable_name};
 use serde_json::Value;
 use std::alloc::Global;
@@ -60,17 +61,19 @@ impl ReadItem for NameForm {
     }
 }
 
-/// 1 to `most` names of a form, no two of them equal.
+/// A member by its name: 1 to `most` names of a form, no two of them equal.
 pub(crate) fn names_of(
     alloc: Global,
     path: &Path<'_>,
+    member: &str,
     form: NameForm,
     most: usize,
     value: &Value,
 ) -> Result<List<Text>, FormatFault>
     ensures names { GivesRead (λ ts. ts) result
-        (names_at (form_of form) most (path_text path.now) (view value.now)) }
+        (member_by (path_text path.now) member.now (names_at (form_of form) most) (view value.now)) }
     ensures count { IfOk result (λ ts. (1 ≤ length ts) × (length ts ≤ most)) }
 {
-    each_of(alloc, path, 1, most, &form, value)
+    let names = member_of(alloc, path, member, value)?;
+    each_of(alloc, &Path::Member(path, member), 1, most, &form, names)
 }

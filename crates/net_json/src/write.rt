@@ -1,18 +1,19 @@
 //! Writing a net as a JSON value.
 
-ghost use Rattle.std.specs.Prelude.{◌≡◌, [], map, take, length, IfOk, Ok};
-ghost use Rattle.serde_json.specs.Data.{string};
-ghost use Rattle.serde_json.specs.View.{view};
+ghost use Rattle.std.specs.Prelude.{◌≡◌, [], codes, map, take, length, if◌then◌else◌, IfOk, Ok};
+ghost use Rattle.serde_json.specs.Data.{string, member, no_members};
+ghost use Rattle.serde_json.specs.View.{view, members_view};
+ghost use Rattle.pop_net.specs.NetModel.{IsNet};
 ghost use Rattle.net_json.specs.Examined.{net_at};
 ghost use Rattle.net_json.specs.NetFile.{IsNetFile};
 ghost use Rattle.net_json.specs.Written.{number_data, list_data, texts_data, numbers_data, truths_data, move_data};
 ghost use Rattle.net_json.specs.Written.{item_data};
-ghost use Rattle.net_json.specs.Written.{leaf_members, helped_members, leaf_data, net_members, format_of, net_data};
+ghost use Rattle.net_json.specs.Written.{leaf_data, format_of, is_helped, net_data};
 
 use crate::format::{HELPER_FORMAT, PLAIN_FORMAT};
 use pop_io::{NoMemory, Text};
 use pop_net::{Item, Leaf, Move, Net};
-use serde_json::{Value, json};
+use serde_json::{Map, Value, json, put};
 use std::alloc::{AllocError, Global};
 
 fn texts_value(alloc: Global, texts: &[Text]) -> Result<Value, AllocError>
@@ -81,49 +82,32 @@ fn outputs_value(alloc: Global, leaf: &Leaf) -> Result<Value, AllocError>
     Ok(Value::Array(list))
 }
 
-fn leaf_object(
+/// The helpers of a leaf as a member, where the file has some.
+fn helper_members(
     alloc: Global,
-    inputs: Value,
-    moves: Value,
-    outputs: Value,
-    states: Value,
-) -> Result<Value, AllocError>
-    ensures { IfOk result (λ v. view v
-        ≡ leaf_members (view inputs) (view moves) (view outputs) (view states)) }
+    leaf: &Leaf,
+    helped: bool,
+) -> Result<Map<String, Value>, AllocError>
+    ensures { IfOk result (λ ms. members_view ms.entries
+        ≡ (if helped then member (codes "helpers") (numbers_data leaf.now.helpers) no_members else no_members)) }
 {
-    json!(in alloc; {"input": inputs, "moves": moves, "output": outputs, "states": states})
-}
-
-fn helped_object(
-    alloc: Global,
-    helpers: Value,
-    inputs: Value,
-    moves: Value,
-    outputs: Value,
-    states: Value,
-) -> Result<Value, AllocError>
-    ensures { IfOk result (λ v. view v
-        ≡ helped_members (view helpers) (view inputs) (view moves) (view outputs) (view states)) }
-{
-    json!(in alloc; {"helpers": helpers, "input": inputs, "moves": moves, "output": outputs, "states": states})
+    let mut members = Map::new(alloc);
+    if helped {
+        put(&mut members, alloc, "helpers", helpers_value(alloc, leaf)?)?;
+    }
+    Ok(members)
 }
 
 /// A leaf, with its helpers where the file has some.
 fn leaf_value(alloc: Global, leaf: &Leaf, helped: bool) -> Result<Value, AllocError>
     ensures { IfOk result (λ v. view v ≡ leaf_data helped leaf.now) }
 {
-    let inputs = inputs_value(alloc, leaf)?;
-    let moves = moves_value(alloc, leaf)?;
-    let outputs = outputs_value(alloc, leaf)?;
-    let states = states_value(alloc, leaf)?;
-    if helped {
-        let helpers = helpers_value(alloc, leaf)?;
-        let value = helped_object(alloc, helpers, inputs, moves, outputs, states)?;
-        Ok(value)
-    } else {
-        let value = leaf_object(alloc, inputs, moves, outputs, states)?;
-        Ok(value)
-    }
+    let mut members = helper_members(alloc, leaf, helped)?;
+    put(&mut members, alloc, "input", inputs_value(alloc, leaf)?)?;
+    put(&mut members, alloc, "moves", moves_value(alloc, leaf)?)?;
+    put(&mut members, alloc, "output", outputs_value(alloc, leaf)?)?;
+    put(&mut members, alloc, "states", states_value(alloc, leaf)?)?;
+    Ok(Value::Object(members))
 }
 
 fn leaves_value(alloc: Global, net: &Net, helped: bool) -> Result<Value, AllocError>
@@ -164,16 +148,20 @@ fn format_value(helped: bool) -> Value
     Value::from(if helped { HELPER_FORMAT } else { PLAIN_FORMAT })
 }
 
-fn net_object(
-    alloc: Global,
-    combine: Value,
-    format: Value,
-    leaves: Value,
-    vars: Value,
-) -> Result<Value, AllocError>
-    ensures { IfOk result (λ v. view v ≡ net_members (view combine) (view format) (view leaves) (view vars)) }
+/// The net's members, in the format with or without helpers.
+fn net_value(alloc: Global, net: &Net, helped: bool) -> Result<Value, AllocError>
+    requires { helped ≡ is_helped net.now }
+    ensures value { IfOk result (λ v. view v ≡ net_data net.now) }
+    ensures formed { IfOk result (λ _. IsNet net.now) }
 {
-    json!(in alloc; {"combine": combine, "format": format, "leaves": leaves, "vars": vars})
+    let mut members = Map::new(alloc);
+    put(&mut members, alloc, "combine", combine_value(alloc, net)?)?;
+    put(&mut members, alloc, "format", format_value(helped))?;
+    let leaves = leaves_value(alloc, net, helped)?;
+    put(&mut members, alloc, "leaves", leaves)?;
+    let vars = texts_value(alloc, net.var_names().as_slice())?;
+    put(&mut members, alloc, "vars", vars)?;
+    Ok(Value::Object(members))
 }
 
 /// The net as a JSON value with the named members alone, in the byte order of their names: in format 1 without
@@ -185,8 +173,6 @@ pub fn write_net(alloc: Global, net: &Net) -> Result<Value, NoMemory>
     ensures again { IfOk result (λ v. net_at [] (view v) ≡ Ok net.now) }
 {
     let helped = 0 < net.helper_count();
-    let combine = combine_value(alloc, net)?;
-    let leaves = leaves_value(alloc, net, helped)?;
-    let vars = texts_value(alloc, net.var_names().as_slice())?;
-    Ok(net_object(alloc, combine, format_value(helped), leaves, vars)?)
+    let value = net_value(alloc, net, helped)?;
+    Ok(value)
 }

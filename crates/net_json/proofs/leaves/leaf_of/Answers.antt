@@ -7,11 +7,7 @@ use Rattle.net_json.proofs.leaves.leaf_of.Goals as goal
 
 pub of_valid-requires : goal.of_valid-requires
 of_valid-requires c =
-    leaf_read PLAIN_FORMAT c.args.variables (inl refl) c.requires.variables.0 c.requires.variables.1 c.args.range (path_text c.args.path.now) (view c.args.value.now) _ _ _ _ (length c.as_slice-count.result.now) _ _ _ _ _
+    leaf_read PLAIN_FORMAT c.args.variables (inl refl) c.requires.variables.0 c.requires.variables.1 c.args.range (path_text c.args.path.now) (view c.args.value.now) (length c.as_slice-count.result.now) _ _ _ _ _
     (ap length c.as_slice-count.ensures)
     c.requires.range
-    c.in_ok-states.ensures c.in_ok-states-2.ensures.names
-    c.in_ok-moves.ensures c.in_ok-moves-2.ensures
-    c.in_ok-inputs.ensures c.in_ok-inputs-2.ensures
-    c.in_ok-outputs.ensures c.in_ok-outputs-2.ensures
-    c.in_ok-helpers.ensures
+    c.in_ok-states.ensures.names c.in_ok-moves.ensures c.in_ok-inputs.ensures c.in_ok-outputs.ensures c.in_ok-helpers.ensures

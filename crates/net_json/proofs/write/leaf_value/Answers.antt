@@ -1,12 +1,13 @@
-use Rattle.net_json.proofs.Writes.{plain_leaf-is, helped_leaf-is}
+use Rattle.std.proofs.Common.{◌∙◌}
+use Rattle.serde_json.proofs.Views.{view-Object}
+use Rattle.net_json.proofs.Writes.{leaf_written}
 use Rattle.net_json.proofs.write.leaf_value.Goals as goal
 
-pub returns-in_ok-value : goal.returns-in_ok-value
-returns-in_ok-value c =
-    rw c.if-helped.true
-    (helped_leaf-is c.args.leaf.now _ _ _ _ _ _ c.in_ok-value.ensures c.in_ok-helpers.ensures c.in_ok-inputs.ensures c.in_ok-moves.ensures c.in_ok-outputs.ensures c.in_ok-states.ensures)
-
-pub returns-in_ok-value-2 : goal.returns-in_ok-value-2
-returns-in_ok-value-2 c =
-    rw c.if-helped.false
-    (plain_leaf-is c.args.leaf.now _ _ _ _ _ c.in_ok-value-2.ensures c.in_ok-inputs.ensures c.in_ok-moves.ensures c.in_ok-outputs.ensures c.in_ok-states.ensures)
+pub returns : goal.returns
+returns c =
+    view-Object c.put-4.new.map
+    ∙ leaf_written c.args.helped c.args.leaf.now _ _ _ _ _ _ _ _ _ c.in_ok-members.ensures
+    c.in_ok-inputs_value.ensures c.in_ok-put.ensures.ok
+    c.in_ok-moves_value.ensures c.in_ok-put-2.ensures.ok
+    c.in_ok-outputs_value.ensures c.in_ok-put-3.ensures.ok
+    c.in_ok-states_value.ensures c.in_ok-put-4.ensures.ok
