@@ -53,12 +53,23 @@ term_step names a coefs negative place s = Err (Syntax place)
 abbrev pub zero_coefs : List (List ℕ) → List ℤ
 zero_coefs names = replicate (length names) (pos 0)
 
+-- the first token of a sum
+abbrev pub first_step : List (List ℕ) → Around → ℕ → Symbol → Result Progress TextFault
+first_step names a place Minus = Ok (going_on a (ATerm (zero_coefs names) true))
+first_step names a place s = term_step names a (zero_coefs names) false place s
+
+-- one more `!` before the unit
+abbrev pub after_not : Around → Progress
+after_not a = going_on (record { above = a.above; span = record { ors = a.span.ors; ands = a.span.ands; nots = suc a.span.nots } }) AUnit
+
+-- inside a `(`
+abbrev pub after_open : Around → Progress
+after_open a = going_on (record { above = a.span ∷ a.above; span = clear }) AUnit
+
 abbrev pub unit_step : List (List ℕ) → Around → ℕ → Symbol → Result Progress TextFault
-unit_step names a place Not =
-    Ok (going_on (record { above = a.above; span = record { ors = a.span.ors; ands = a.span.ands; nots = suc a.span.nots } }) AUnit)
-unit_step names a place Open = Ok (going_on (record { above = a.span ∷ a.above; span = clear }) AUnit)
-unit_step names a place Minus = Ok (going_on a (ATerm (zero_coefs names) true))
-unit_step names a place s = term_step names a (zero_coefs names) false place s
+unit_step names a place Not = Ok (after_not a)
+unit_step names a place Open = Ok (after_open a)
+unit_step names a place s = first_step names a place s
 
 abbrev pub star_step : Around → List ℤ → Factor → ℕ → Symbol → Result Progress TextFault
 star_step a coefs factor place Star = Ok (going_on a (AName coefs factor))

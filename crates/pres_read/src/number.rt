@@ -1,11 +1,12 @@
 //! Numbers within a limit.
 
-ghost use Rattle.std.specs.Prelude.{◌≡◌, ◌≤◌, ◌^◌};
+ghost use Rattle.std.specs.Prelude.{◌≡◌, ◌≤◌};
+ghost use Rattle.pres_ast.specs.declared.limits.TheConstants.{BOUND_LIMIT};
 ghost use Rattle.pres_read.specs.Numbers.{value_of_digits, value_within};
 
 /// The number that the digits write, where it is at most the limit.
 pub(crate) fn number_within(digits: &[u8], limit: u64) -> Option<u64>
-    requires { limit ≤ 2 ^ 41 }
+    requires { limit ≤ BOUND_LIMIT }
     ensures { result ≡ value_within limit (value_of_digits digits.now) }
 {
     let mut value = 0;

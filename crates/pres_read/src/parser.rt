@@ -1,15 +1,18 @@
 //! One token further.
 
-ghost use Rattle.std.specs.Prelude.{◌≡◌, ◌≤◌, ◌<◌, ◌^◌, ◌-◌, All, nat_abs, IfOk, length, option_map, ◌∷◌};
+ghost use Rattle.std.specs.Prelude.{◌≡◌, ◌≤◌, ◌-◌, Result as Outcome, List as Items, ℤ, All, nat_abs, IfOk, length, option_map};
+ghost use Rattle.pres_ast.specs.declared.limits.TheConstants.{WEIGHT_LIMIT};
 ghost use Rattle.pres_ast.specs.PredModel.{AreCoefs};
 ghost use Rattle.pres_ast.specs.TreeOf.{tree_of};
 ghost use Rattle.pres_tokens.specs.Symbols.{symbol_of, token_of};
 ghost use Rattle.pres_read.specs.Outcome.{GivesParsed};
-ghost use Rattle.pres_read.specs.Progress.{start, clear, AUnit};
-ghost use Rattle.pres_read.specs.Reading.{zero_coefs, unit_step, term_step, star_step, name_step, relation_step};
+ghost use Rattle.pres_read.specs.Progress.{Around as Surroundings, Progress, start};
+ghost use Rattle.pres_read.specs.TextFault.{TextFault};
+ghost use Rattle.pres_read.specs.Reading.{zero_coefs, after_not, after_open, unit_step, first_step, term_step};
+ghost use Rattle.pres_read.specs.Reading.{star_step, name_step, relation_step};
 ghost use Rattle.pres_read.specs.Reading.{constant_step, number_step, given_constant, modulo_step};
-ghost use Rattle.pres_read.specs.Reading.{equality_step, modulus_step, given_modulus, step, finish, going_on};
-ghost use Rattle.pres_read.specs.Reading.{progress_after_constant, tree_up_to_unit};
+ghost use Rattle.pres_read.specs.Reading.{equality_step, modulus_step, step, finish, going_on};
+ghost use Rattle.pres_read.specs.Reading.{progress_after_constant, progress_after_unit, tree_up_to_unit};
 ghost use Rattle.pres_read.specs.Atoms.{limit_of, negation_if, equality_tree};
 ghost use Rattle.pres_read.specs.Sound.{HasNext};
 ghost use Rattle.pres_read.specs.Views.{span_of_level, factor_of, around_of, progress_of, next_expected};
@@ -37,41 +40,45 @@ fn at_unit<'a>(
     around: Around,
     token: Token<'a>,
 ) -> Result<Parser<'a>, ReadPred>
-    requires { around.level.nots < 2 ^ 31 }
+    requires { around.level.nots ≤ WEIGHT_LIMIT }
     ensures { GivesParsed progress_of result
         (unit_step names.now (around_of around) token.entry.place (symbol_of token.entry.kind)) }
 {
     match token.kind {
-        Kind::Not => {
-            let Around { above, mut level } = around;
-            level.nots += 1;
-            Ok(Parser {
-                around: Around { above, level },
-                expect: Expect::Unit,
-            })
-        }
+        Kind::Not => Ok(denied(around)),
         Kind::Open => Ok(opened(around)?),
-        Kind::Minus => {
-            let coefs = zeros(alloc, names)?;
-            Ok(Parser {
-                around,
-                expect: Expect::Term {
-                    coefs,
-                    negative: true,
-                },
-            })
-        }
-        _ => {
-            let coefs = zeros(alloc, names)?;
-            at_term(names, around, coefs, false, token)
-        }
+        _ => awaiting(around, at_first(alloc, names, token)),
+    }
+}
+
+/// What is expected next, in the same surroundings.
+fn awaiting<'a>(
+    around: Around,
+    expect: Result<Expect<'a>, ReadPred>,
+) -> Result<Parser<'a>, ReadPred>
+    ensures { (step : Outcome Progress TextFault)
+        → GivesParsed (λ e. going_on (around_of around) (next_expected e)) expect.entry step
+        → GivesParsed progress_of result step }
+{
+    let expect = expect?;
+    Ok(Parser { around, expect })
+}
+
+/// One more `!` before the unit.
+fn denied<'a>(around: Around) -> Parser<'a>
+    requires { around.level.nots ≤ WEIGHT_LIMIT }
+    ensures { progress_of result ≡ after_not (around_of around) }
+{
+    let Around { above, mut level } = around;
+    level.nots += 1;
+    Parser {
+        around: Around { above, level },
+        expect: Expect::Unit,
     }
 }
 
 fn opened<'a>(around: Around) -> Result<Parser<'a>, NoMemory>
-    ensures { IfOk result
-        (λ p. progress_of p
-        ≡ going_on (record { above = (around_of around).span ∷ (around_of around).above; span = clear }) AUnit) }
+    ensures { IfOk result (λ p. progress_of p ≡ after_open (around_of around)) }
 {
     let Around { mut above, level } = around;
     above.push(level)?;
@@ -86,16 +93,30 @@ fn opened<'a>(around: Around) -> Result<Parser<'a>, NoMemory>
     })
 }
 
+/// What follows the first token of a sum, wherever the sum stands.
+fn at_first<'a>(alloc: Global, names: &List<Text>, token: Token<'a>) -> Result<Expect<'a>, ReadPred>
+    ensures { (a : Surroundings) → GivesParsed (λ e. going_on a (next_expected e)) result
+        (first_step names.now a token.entry.place (symbol_of token.entry.kind)) }
+{
+    let coefs = zeros(alloc, names)?;
+    match token.kind {
+        Kind::Minus => Ok(Expect::Term {
+            coefs,
+            negative: true,
+        }),
+        _ => at_term(names, coefs, false, token),
+    }
+}
+
 fn at_term<'a>(
     names: &List<Text>,
-    around: Around,
     coefs: Vec<i64>,
     negative: bool,
     token: Token<'a>,
-) -> Result<Parser<'a>, ReadPred>
+) -> Result<Expect<'a>, ReadPred>
     requires { AreCoefs (length names.now) coefs.items }
-    ensures { GivesParsed progress_of result
-        (term_step names.now (around_of around) coefs.items negative token.entry.place (symbol_of token.entry.kind)) }
+    ensures { (a : Surroundings) → GivesParsed (λ e. going_on a (next_expected e)) result
+        (term_step names.now a coefs.items negative token.entry.place (symbol_of token.entry.kind)) }
 {
     let place = token.place;
     match token.kind {
@@ -107,10 +128,7 @@ fn at_term<'a>(
                 place,
             };
             let coefs = with_term(coefs, names, factor, word, place)?;
-            Ok(Parser {
-                around,
-                expect: Expect::Relation { coefs },
-            })
+            Ok(Expect::Relation { coefs })
         }
         Kind::Number(digits) => {
             let factor = Factor {
@@ -118,77 +136,60 @@ fn at_term<'a>(
                 digits,
                 place,
             };
-            Ok(Parser {
-                around,
-                expect: Expect::Star { coefs, factor },
-            })
+            Ok(Expect::Star { coefs, factor })
         }
         _ => Err(ReadPred::Syntax(place)),
     }
 }
 
 fn at_star<'a>(
-    around: Around,
     coefs: Vec<i64>,
     factor: Factor<'a>,
     token: Token<'a>,
-) -> Result<Parser<'a>, ReadPred>
-    ensures { GivesParsed progress_of result
-        (star_step (around_of around) coefs.items (factor_of factor.entry) token.entry.place
-        (symbol_of token.entry.kind)) }
+) -> Result<Expect<'a>, ReadPred>
+    ensures { (a : Surroundings) → GivesParsed (λ e. going_on a (next_expected e)) result
+        (star_step a coefs.items (factor_of factor.entry) token.entry.place (symbol_of token.entry.kind)) }
 {
     match token.kind {
-        Kind::Star => Ok(Parser {
-            around,
-            expect: Expect::Name { coefs, factor },
-        }),
+        Kind::Star => Ok(Expect::Name { coefs, factor }),
         _ => Err(ReadPred::Syntax(token.place)),
     }
 }
 
 fn at_name<'a>(
     names: &List<Text>,
-    around: Around,
     coefs: Vec<i64>,
     factor: Factor<'a>,
     token: Token<'a>,
-) -> Result<Parser<'a>, ReadPred>
+) -> Result<Expect<'a>, ReadPred>
     requires { AreCoefs (length names.now) coefs.items }
-    ensures { GivesParsed progress_of result
-        (name_step names.now (around_of around) coefs.items (factor_of factor.entry) token.entry.place
+    ensures { (a : Surroundings) → GivesParsed (λ e. going_on a (next_expected e)) result
+        (name_step names.now a coefs.items (factor_of factor.entry) token.entry.place
         (symbol_of token.entry.kind)) }
 {
     let Kind::Name(word) = token.kind else {
         return Err(ReadPred::Syntax(token.place));
     };
     let coefs = with_term(coefs, names, factor, word, token.place)?;
-    Ok(Parser {
-        around,
-        expect: Expect::Relation { coefs },
-    })
+    Ok(Expect::Relation { coefs })
 }
 
-fn at_relation<'a>(
-    around: Around,
-    coefs: Vec<i64>,
-    token: Token<'a>,
-) -> Result<Parser<'a>, ReadPred>
-    ensures { GivesParsed progress_of result
-        (relation_step (around_of around) coefs.items token.entry.place (symbol_of token.entry.kind)) }
+fn at_relation<'a>(coefs: Vec<i64>, token: Token<'a>) -> Result<Expect<'a>, ReadPred>
+    ensures { (a : Surroundings) → GivesParsed (λ e. going_on a (next_expected e)) result
+        (relation_step a coefs.items token.entry.place (symbol_of token.entry.kind)) }
 {
-    let expect = match token.kind {
-        Kind::Plus => Expect::Term {
+    match token.kind {
+        Kind::Plus => Ok(Expect::Term {
             coefs,
             negative: false,
-        },
-        Kind::Minus => Expect::Term {
+        }),
+        Kind::Minus => Ok(Expect::Term {
             coefs,
             negative: true,
-        },
-        Kind::Compare(relation) => Expect::Constant { coefs, relation },
-        _ => return Err(ReadPred::Syntax(token.place)),
-    };
-    Ok(Parser { around, expect })
+        }),
+        Kind::Compare(relation) => Ok(Expect::Constant { coefs, relation }),
+        _ => Err(ReadPred::Syntax(token.place)),
+    }
 }
 
 fn at_constant<'a>(
@@ -211,6 +212,22 @@ fn at_constant<'a>(
     }
 }
 
+/// The constant that a token gives, wherever it stands.
+fn constant_of(relation: Relation, negative: bool, token: Token<'_>) -> Result<i64, ReadPred>
+    ensures constant { (a : Surroundings) → (coefs : Items ℤ)
+        → GivesParsed (λ c. progress_after_constant a coefs relation c) result
+        (number_step a coefs relation negative token.entry.place (symbol_of token.entry.kind)) }
+    ensures small { IfOk result (λ c. nat_abs c ≤ limit_of relation) }
+{
+    let Kind::Number(digits) = token.kind else {
+        return Err(ReadPred::Syntax(token.place));
+    };
+    match number_within(digits, constant_limit(relation)) {
+        Some(size) => Ok(signed(negative, size)),
+        None => Err(ReadPred::TooLarge(token.place)),
+    }
+}
+
 fn at_number<'a>(
     alloc: Global,
     around: Around,
@@ -223,13 +240,8 @@ fn at_number<'a>(
     ensures { GivesParsed progress_of result
         (number_step (around_of around) coefs.items relation negative token.entry.place (symbol_of token.entry.kind)) }
 {
-    let Kind::Number(digits) = token.kind else {
-        return Err(ReadPred::Syntax(token.place));
-    };
-    let Some(size) = number_within(digits, constant_limit(relation)) else {
-        return Err(ReadPred::TooLarge(token.place));
-    };
-    Ok(after_constant(alloc, around, coefs, relation, signed(negative, size))?)
+    let constant = constant_of(relation, negative, token)?;
+    Ok(after_constant(alloc, around, coefs, relation, constant)?)
 }
 
 fn after_constant<'a>(
@@ -323,6 +335,29 @@ fn compared_up_to(
     up_to_unit(alloc, level, negated_if(alloc, unequal, tree)?)
 }
 
+/// The tree of a congruence whose modulus is the token, wherever it stands.
+fn congruence(
+    alloc: Global,
+    coefs: Vec<i64>,
+    unequal: bool,
+    constant: i64,
+    token: Token<'_>,
+) -> Result<Tree, ReadPred>
+    ensures { (a : Surroundings) → GivesParsed (λ tree. progress_after_unit a (tree_of tree)) result
+        (modulus_step a coefs.items unequal constant token.entry.place (symbol_of token.entry.kind)) }
+{
+    let Kind::Number(digits) = token.kind else {
+        return Err(ReadPred::Syntax(token.place));
+    };
+    match number_within(digits, u64::from(MODULUS_LIMIT)) {
+        Some(modulus) if 2 <= modulus => {
+            let tree = congruent(alloc, coefs, unequal, constant, modulus as u32)?;
+            Ok(tree)
+        }
+        _ => Err(ReadPred::TooLarge(token.place)),
+    }
+}
+
 fn at_modulus<'a>(
     alloc: Global,
     around: Around,
@@ -334,16 +369,7 @@ fn at_modulus<'a>(
     ensures { GivesParsed progress_of result
         (modulus_step (around_of around) coefs.items unequal constant token.entry.place (symbol_of token.entry.kind)) }
 {
-    let Kind::Number(digits) = token.kind else {
-        return Err(ReadPred::Syntax(token.place));
-    };
-    let Some(modulus) = number_within(digits, u64::from(MODULUS_LIMIT)) else {
-        return Err(ReadPred::TooLarge(token.place));
-    };
-    if modulus < 2 {
-        return Err(ReadPred::TooLarge(token.place));
-    }
-    let tree = congruent(alloc, coefs, unequal, constant, modulus as u32)?;
+    let tree = congruence(alloc, coefs, unequal, constant, token)?;
     Ok(after_unit(alloc, around, tree)?)
 }
 
@@ -373,17 +399,23 @@ impl<'a> Parser<'a> {
         names: &List<Text>,
         token: Token<'a>,
     ) -> Result<Parser<'a>, ReadPred>
-        requires nots { self.around.level.nots < 2 ^ 31 }
+        requires nots { self.around.level.nots ≤ WEIGHT_LIMIT }
         requires next { HasNext (length names.now) (next_expected self.expect) }
         ensures { GivesParsed progress_of result (step names.now (progress_of self.entry) (token_of token.entry)) }
     {
         let Parser { around, expect } = self;
         match expect {
             Expect::Unit => at_unit(alloc, names, around, token),
-            Expect::Term { coefs, negative } => at_term(names, around, coefs, negative, token),
-            Expect::Star { coefs, factor } => at_star(around, coefs, factor, token),
-            Expect::Name { coefs, factor } => at_name(names, around, coefs, factor, token),
-            Expect::Relation { coefs } => at_relation(around, coefs, token),
+            Expect::Term { coefs, negative } => awaiting(
+                around,
+                at_term(names, coefs, negative, token),
+            ),
+            Expect::Star { coefs, factor } => awaiting(around, at_star(coefs, factor, token)),
+            Expect::Name { coefs, factor } => awaiting(
+                around,
+                at_name(names, coefs, factor, token),
+            ),
+            Expect::Relation { coefs } => awaiting(around, at_relation(coefs, token)),
             Expect::Constant { coefs, relation } => at_constant(
                 alloc, around, coefs, relation, token,
             ),

@@ -1,6 +1,7 @@
 //! The coefficients of a sum, term by term.
 
-ghost use Rattle.std.specs.Prelude.{◌≡◌, ◌≤◌, ◌<◌, ◌^◌, length, vec_len, All, nat_abs, pos, ◌+ℤ◌, slice_index_or};
+ghost use Rattle.std.specs.Prelude.{◌≡◌, ◌≤◌, ◌<◌, length, vec_len, All, nat_abs, pos, ◌+ℤ◌, slice_index_or};
+ghost use Rattle.pres_ast.specs.declared.limits.TheConstants.{BOUND_LIMIT};
 ghost use Rattle.pres_ast.specs.PredModel.{AreCoefs};
 ghost use Rattle.pres_read.specs.Outcome.{GivesParsed};
 ghost use Rattle.pres_read.specs.Atoms.{added, with_coef_at, signed_number};
@@ -37,7 +38,7 @@ pub(crate) fn with_term(
 fn grown(coefs: &[i64], at: usize, amount: i64) -> i64
     requires at { at < length coefs.now }
     requires coefs { All (λ a. nat_abs a ≤ COEFFICIENT_LIMIT) coefs.now }
-    requires amount { nat_abs amount ≤ 2 ^ 41 }
+    requires amount { nat_abs amount ≤ COEFFICIENT_LIMIT }
     ensures { result ≡ slice_index_or coefs.now at (pos 0) +ℤ amount }
 {
     coefs[at] + amount
@@ -56,7 +57,7 @@ fn with_coef(mut coefs: Vec<i64>, at: usize, coef: i64, place: u32) -> Result<Ve
 
 /// The number with its sign.
 pub(crate) fn signed(negative: bool, size: u64) -> i64
-    requires { size ≤ 2 ^ 41 }
+    requires { size ≤ BOUND_LIMIT }
     ensures value { result ≡ signed_number negative size }
     ensures small { nat_abs result ≡ size }
 {
