@@ -2,6 +2,7 @@
 
 ghost use Rattle.std.specs.Prelude.{◌≡◌, ◌≤◌, ◌+◌, [], length, IfOk, IfErr};
 ghost use Rattle.pop_net.specs.Lanes.{crowd_of, AreValid};
+ghost use Rattle.terminal_test.specs.TableNet.{table_net};
 ghost use Rattle.pop_words.specs.Options.{IsWithinLimits};
 ghost use Rattle.pair_workers.specs.CrowdSize.{IsCrowdSize};
 ghost use Rattle.pair_workers.specs.Run.{joined};
@@ -45,6 +46,41 @@ fn first_replayer(
     })
 }
 
+/// Compares all lines of a journal behind the first, by its workers before the first round.
+fn compare_lines(
+    alloc: Global,
+    net: &Net,
+    table: &PairTable,
+    replayer: &mut Replayer,
+    journal: &Journal,
+) -> Result<u64, VerifyFault>
+    requires table { table_net table.now ≡ net.now }
+    requires valid { AreValid net.now replayer.old.crowd }
+    requires agents { IsCrowdSize (length replayer.old.crowd) }
+    requires stands { IsReplaying net.now (crowd_of net.now replayer.old.crowd) journal.now.spec [] replayer.old }
+    requires first { journal.now.first ≤ LINE_LIMIT }
+    requires spec { IsWithinLimits journal.now.spec }
+    requires rounds { AreWatchedRounds journal.now.spec (length replayer.old.crowd) journal.now.rounds }
+    ensures passes { Passes (journal.now.first + 1)
+        (journal_compared net.now (crowd_of net.now replayer.old.crowd) journal.now) result }
+    ensures meetings { IfOk result (λ k. k ≡ length (joined journal.now.rounds)) }
+{
+    let mut line = journal.first + 1;
+    let mut total = 0u64;
+    for (k, meetings) in journal.rounds.as_slice().iter().enumerate() {
+        let meetings = meetings.as_slice();
+        replayer.compare_round(alloc, net, table, k as u64 + 1, meetings, line)?;
+        line += 1 + meetings.len() as u64;
+        total += meetings.len() as u64;
+    }
+    let rounds = journal.rounds.as_slice();
+    let round = rounds.len() as u64 + 1;
+    let lacking = lacking_last(alloc, &journal.spec, rounds)?;
+    let tail = journal.tail.as_slice();
+    replayer.compare_end(alloc, net, table, &journal.spec, round, lacking, tail, line)?;
+    Ok(total)
+}
+
 /// Compares all lines of a journal behind the first.
 fn compare(alloc: Global, net: &Net, crowd: Crowd, journal: &Journal) -> Result<u64, VerifyFault>
     requires valid { AreValid net.now crowd }
@@ -58,29 +94,7 @@ fn compare(alloc: Global, net: &Net, crowd: Crowd, journal: &Journal) -> Result<
 {
     let table = PairTable::new(alloc, net)?;
     let mut replayer = first_replayer(alloc, net, crowd, &journal.spec)?;
-    let mut line = journal.first + 1;
-    let mut total = 0u64;
-    for (k, meetings) in journal.rounds.as_slice().iter().enumerate() {
-        let meetings = meetings.as_slice();
-        replayer.compare_round(alloc, net, &table, k as u64 + 1, meetings, line)?;
-        line += 1 + meetings.len() as u64;
-        total += meetings.len() as u64;
-    }
-    let rounds = journal.rounds.as_slice();
-    let round = rounds.len() as u64 + 1;
-    let lacking = lacking_last(alloc, &journal.spec, rounds)?;
-    let tail = journal.tail.as_slice();
-    replayer.compare_end(
-        alloc,
-        net,
-        &table,
-        &journal.spec,
-        round,
-        lacking,
-        tail,
-        line,
-    )?;
-    Ok(total)
+    compare_lines(alloc, net, &table, &mut replayer, journal)
 }
 
 /// Compares the lines of a journal behind the first with the ones that are expected after the lines before them.
