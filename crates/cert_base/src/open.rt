@@ -46,14 +46,8 @@ fn tree_cases(
             )
         }
         Tree::Not(p) => one_case(alloc, holds(alloc, vars, p, !value)?),
-        Tree::And(p, q) => {
-            let first = holds(alloc, vars, p, value)?;
-            two(alloc, first, holds(alloc, vars, q, value)?, value)
-        }
-        Tree::Or(p, q) => {
-            let first = holds(alloc, vars, p, value)?;
-            two(alloc, first, holds(alloc, vars, q, value)?, !value)
-        }
+        Tree::And(p, q) => two(alloc, vars, p, q, value, value),
+        Tree::Or(p, q) => two(alloc, vars, p, q, value, !value),
     }
 }
 
@@ -98,21 +92,56 @@ fn congruent(
     })
 }
 
-/// One case with both facts, or one case for each.
-fn two(alloc: Global, f: Fact, g: Fact, both: bool) -> Result<List<List<Fact>>, NoMemory>
-    ensures { IfOk result (λ cases. cases ≡ (if both then both_of f g else one_of f g)) }
+/// One case where both trees have the value, or one case for each.
+fn two(
+    alloc: Global,
+    vars: u16,
+    p: &Tree,
+    q: &Tree,
+    value: bool,
+    both: bool,
+) -> Result<List<List<Fact>>, NoMemory>
+    requires first { IsPred vars (tree_of p.now) }
+    requires second { IsPred vars (tree_of q.now) }
+    ensures { IfOk result (λ cases. cases ≡ (if both
+        then both_of (Holds (over_count vars (tree_of p.now)) value) (Holds (over_count vars (tree_of q.now)) value)
+        else one_of (Holds (over_count vars (tree_of p.now)) value) (Holds (over_count vars (tree_of q.now)) value))) }
 {
     let mut cases = Vec::new(alloc);
-    let mut first = Vec::new(alloc);
-    first.push(f)?;
     if both {
-        first.push(g)?;
-        cases.push(List::from_vec(first))?;
+        cases.push(both_hold(alloc, vars, p, q, value)?)?;
     } else {
-        cases.push(List::from_vec(first))?;
-        cases.push(only(alloc, g)?)?;
+        cases.push(only_holds(alloc, vars, p, value)?)?;
+        cases.push(only_holds(alloc, vars, q, value)?)?;
     }
     Ok(List::from_vec(cases))
+}
+
+/// The facts that both trees have the value.
+fn both_hold(
+    alloc: Global,
+    vars: u16,
+    p: &Tree,
+    q: &Tree,
+    value: bool,
+) -> Result<List<Fact>, NoMemory>
+    requires first { IsPred vars (tree_of p.now) }
+    requires second { IsPred vars (tree_of q.now) }
+    ensures { IfOk result (λ facts. facts ≡ Holds (over_count vars (tree_of p.now)) value
+        ∷ Holds (over_count vars (tree_of q.now)) value ∷ []) }
+{
+    let mut facts = Vec::new(alloc);
+    facts.push(holds(alloc, vars, p, value)?)?;
+    facts.push(holds(alloc, vars, q, value)?)?;
+    Ok(List::from_vec(facts))
+}
+
+/// The one fact that the tree has the value.
+fn only_holds(alloc: Global, vars: u16, tree: &Tree, value: bool) -> Result<List<Fact>, NoMemory>
+    requires { IsPred vars (tree_of tree.now) }
+    ensures { IfOk result (λ facts. facts ≡ Holds (over_count vars (tree_of tree.now)) value ∷ []) }
+{
+    only(alloc, holds(alloc, vars, tree, value)?)
 }
 
 fn one_case(alloc: Global, fact: Fact) -> Result<List<List<Fact>>, NoMemory>

@@ -1,6 +1,7 @@
 //! A row is above 0, is 0, or is below 0.
 
-ghost use Rattle.std.specs.Prelude.{◌≡◌, ◌≤◌, nat_abs, neg_ℤ, negsuc, map, All, IfOk};
+ghost use Rattle.std.specs.Prelude.{◌≡◌, ◌≤◌, ◌∷◌, [], nat_abs, neg_ℤ, negsuc, map, All, IfOk};
+ghost use Rattle.cert_base.specs.declared.fact.Fact.TheVariants.{Ge, Eq};
 ghost use Rattle.cert_base.specs.FactsAndCases.{plus, negated_row, cases_of_split};
 ghost use Rattle.cert_base.specs.Ends.{CoverAll};
 
@@ -17,13 +18,35 @@ pub fn split_cases(alloc: Global, row: &Row) -> Result<List<List<Fact>>, NoMemor
     // All counts meet all facts of one of the cases.
     ensures cover { IfOk result CoverAll }
 {
-    let above = less_one(row.copy(alloc)?);
-    let below = less_one(negated(alloc, row)?);
     let mut cases = Vec::new(alloc);
-    cases.push(only(alloc, Fact::Ge(above))?)?;
-    cases.push(only(alloc, Fact::Eq(row.copy(alloc)?))?)?;
-    cases.push(only(alloc, Fact::Ge(below))?)?;
+    cases.push(above(alloc, row)?)?;
+    cases.push(zero(alloc, row)?)?;
+    cases.push(below(alloc, row)?)?;
     Ok(List::from_vec(cases))
+}
+
+/// The row is above 0.
+fn above(alloc: Global, row: &Row) -> Result<List<Fact>, NoMemory>
+    requires { nat_abs row.now.constant ≤ SIZE_LIMIT }
+    ensures { IfOk result (λ facts. facts ≡ Ge (plus row.now (negsuc 0)) ∷ []) }
+{
+    only(alloc, Fact::Ge(less_one(row.copy(alloc)?)))
+}
+
+/// The row is 0.
+fn zero(alloc: Global, row: &Row) -> Result<List<Fact>, NoMemory>
+    ensures { IfOk result (λ facts. facts ≡ Eq row.now ∷ []) }
+{
+    only(alloc, Fact::Eq(row.copy(alloc)?))
+}
+
+/// The row is below 0.
+fn below(alloc: Global, row: &Row) -> Result<List<Fact>, NoMemory>
+    requires coefs { All (λ term. nat_abs term.by ≤ SIZE_LIMIT) row.now.terms }
+    requires constant { nat_abs row.now.constant ≤ SIZE_LIMIT }
+    ensures { IfOk result (λ facts. facts ≡ Ge (plus (negated_row row.now) (negsuc 0)) ∷ []) }
+{
+    only(alloc, Fact::Ge(less_one(negated(alloc, row)?)))
 }
 
 fn less_one(row: Row) -> Row
