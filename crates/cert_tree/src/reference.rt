@@ -1,6 +1,6 @@
 //! A slow reference for the tests alone: a check of a tree in which each case has a list of all its facts.
 
-ghost use Rattle.std.specs.Prelude.{◌≡◌, ◌+◌, ◌≤◌, ◌++◌, ◌∷◌, [], true, length, reverse, All, IfOk, OnOk, IsTrue};
+ghost use Rattle.std.specs.Prelude.{◌≡◌, ◌+◌, ◌≤◌, ◌<◌, ◌++◌, ◌∷◌, [], true, length, reverse, All, IfOk, OnOk, IsTrue};
 ghost use Rattle.cert_base.specs.FactsAndCases.{base_list};
 ghost use Rattle.cert_base.specs.Closes.{Closes};
 ghost use Rattle.cert_tree.specs.Format.{IsWithinFormat};
@@ -85,15 +85,33 @@ fn pass(alloc: Global, leaf: &Leaf, waiting: &mut Vec<Case>, node: &Node) -> Res
     if above as usize >= PATH_LIMIT {
         return Ok(false);
     }
-    let cases = match node_cases(alloc, leaf, &mut facts, node) {
+    pass_at(alloc, leaf, waiting, above, &mut facts, node)
+}
+
+/// Whether a case with so many nodes above it and these facts passes the node.
+fn pass_at(
+    alloc: Global,
+    leaf: &Leaf,
+    waiting: &mut Vec<Case>,
+    above: u32,
+    facts: &mut Trail,
+    node: &Node,
+) -> Result<bool, NoMemory>
+    requires within { IsWithinFormat node.now }
+    requires shallow { above < PATH_LIMIT }
+    requires fit { All IsFit ((above, facts.old) ∷ reverse waiting.old.items) }
+    ensures { IfOk result
+        (Passed leaf.now ((above, facts.old) ∷ reverse waiting.old.items) node.now (reverse waiting.new.items)) }
+{
+    let cases = match node_cases(alloc, leaf, facts, node) {
         Ok(cases) => cases,
         Err(Halt::NoMemory) => return Err(NoMemory),
         Err(Halt::Refused(_)) => return Ok(false),
     };
-    if !has_room(&facts, cases.as_slice()) {
+    if !has_room(facts, cases.as_slice()) {
         return Ok(false);
     }
-    push_cases(alloc, waiting, above + 1, &facts, cases.into_vec())?;
+    push_cases(alloc, waiting, above + 1, facts, cases.into_vec())?;
     Ok(true)
 }
 
@@ -121,11 +139,17 @@ fn joined(alloc: Global, facts: &Trail, own: List<Fact>) -> Result<Trail, NoMemo
     requires { length facts.now + length own ≤ FACT_LIMIT }
     ensures { IfOk result (λ all. all ≡ facts.now ++ own) }
 {
+    let mut all = copied(alloc, facts)?;
+    extend(&mut all, own)?;
+    Ok(all)
+}
+
+fn copied(alloc: Global, facts: &Trail) -> Result<Trail, NoMemory>
+    ensures { IfOk result (λ copies. copies ≡ facts.now) }
+{
     let mut copies = Vec::new(alloc);
     for i in 0..facts.len() {
         copies.push(facts.fact(i).copy(alloc)?)?;
     }
-    let mut all = Trail::new(alloc, List::from_vec(copies));
-    extend(&mut all, own)?;
-    Ok(all)
+    Ok(Trail::new(alloc, List::from_vec(copies)))
 }

@@ -13,7 +13,6 @@ use pop_io::{List, Text};
 use pop_net::{Leaf, Move};
 use pres_ast::{Pred, Tree};
 use std::alloc::{AllocError, Global};
-use std::test::Fail;
 
 fn terms(alloc: Global, pairs: &[(u32, i8)]) -> Result<List<Term>, AllocError>
     ensures { IfOk result AreMultipliers }
@@ -32,6 +31,21 @@ fn text(alloc: Global, name: &str) -> Option<Text> {
     Some(Text::from_string(String::from_str(alloc, name).ok()?))
 }
 
+fn states(alloc: Global) -> Option<List<Text>> {
+    let mut states = Vec::new(alloc);
+    states.push(text(alloc, "A")?).ok()?;
+    states.push(text(alloc, "t")?).ok()?;
+    Some(List::from_vec(states))
+}
+
+/// A list of these items, or of none where memory runs out.
+fn listed<T: Copy>(alloc: Global, items: &[T]) -> List<T> {
+    match Vec::from_slice(alloc, items) {
+        Ok(items) => List::from_vec(items),
+        Err(_) => List::from_vec(Vec::new(alloc)),
+    }
+}
+
 /// One of two agents that meet, or both, take the state `t`.
 fn spread(alloc: Global) -> Option<Leaf> {
     let both = Move {
@@ -41,10 +55,10 @@ fn spread(alloc: Global) -> Option<Leaf> {
         s: 1,
     };
     let one = Move { q: 1, ..both };
-    let states = List::from_vec(vec![in alloc; text(alloc, "A")?, text(alloc, "t")?].ok()?);
-    let moves = List::from_vec(Vec::from_slice(alloc, &[both, one]).ok()?);
-    let inputs = List::from_vec(Vec::from_slice(alloc, &[0u16]).ok()?);
-    let outputs = List::from_vec(Vec::from_slice(alloc, &[false, true]).ok()?);
+    let states = states(alloc)?;
+    let moves = listed(alloc, &[both, one]);
+    let inputs = listed(alloc, &[0u16]);
+    let outputs = listed(alloc, &[false, true]);
     Leaf::new(alloc, states, moves, inputs, outputs).ok()
 }
 
@@ -62,37 +76,62 @@ fn less(alloc: Global, coefs: &[i64], bound: i64) -> Option<Pred>
     Some(Pred::new(coefs.len() as u16, tree))
 }
 
+fn linear(alloc: Global, pairs: &[(u32, i8)]) -> Result<Node, AllocError>
+    ensures { IfOk result IsWithinFormat }
+{
+    let terms = terms(alloc, pairs)?;
+    Ok(Node::Linear(terms))
+}
+
 /// The tree of the protocol that spreads `t`, with this last node. It opens the predicate of the base facts.
 fn tree(alloc: Global, last: &[(u32, i8)]) -> Result<List<Node>, AllocError>
     ensures { IfOk result (λ nodes. All IsWithinFormat nodes × (length nodes ≤ NODE_LIMIT)) }
 {
     let mut nodes = Vec::new(alloc);
     nodes.push(Node::Present(0))?;
-    nodes.push(Node::Linear(terms(alloc, &[(4, 1), (5, -1)])?))?;
+    nodes.push(linear(alloc, &[(4, 1), (5, -1)])?)?;
     nodes.push(Node::Open(3))?;
-    nodes.push(Node::Linear(terms(alloc, last)?))?;
+    nodes.push(linear(alloc, last)?)?;
     Ok(List::from_vec(nodes))
 }
 
-/// Whether the reference and the check accept the tree with this last node, for `-x < 0`.
-fn accepted(alloc: Global, leaf: &Leaf, last: &[(u32, i8)]) -> Option<(bool, bool)> {
-    let pred = less(alloc, &[-1], 0)?;
+/// Whether the reference and the check accept these nodes.
+fn both_accept(alloc: Global, leaf: &Leaf, pred: &Pred, nodes: &List<Node>) -> Option<(bool, bool)>
+    requires variables { pred.now.variables ≡ length leaf.now.inputs }
+    requires few { length nodes.now ≤ NODE_LIMIT }
+    requires within { All IsWithinFormat nodes.now }
+{
+    let slow = closes(alloc, leaf, pred, true, nodes.as_slice()).ok()?;
+    Some((slow, check_tree(alloc, leaf, pred, true, nodes).is_ok()))
+}
+
+/// Whether they accept the tree with this last node.
+fn accept(alloc: Global, leaf: &Leaf, pred: &Pred, last: &[(u32, i8)]) -> Option<(bool, bool)>
+    requires { pred.now.variables ≡ length leaf.now.inputs }
+{
     let nodes = tree(alloc, last).ok()?;
+    both_accept(alloc, leaf, pred, &nodes)
+}
+
+/// Whether they do so for `-x < 0`.
+fn accept_less(alloc: Global, leaf: &Leaf, last: &[(u32, i8)]) -> Option<(bool, bool)> {
+    let pred = less(alloc, &[-1], 0)?;
     if pred.vars() != leaf.input_count() {
         return None;
     }
-    let slow = closes(alloc, leaf, &pred, true, nodes.as_slice()).ok()?;
-    Some((slow, check_tree(alloc, leaf, &pred, true, &nodes).is_ok()))
+    accept(alloc, leaf, &pred, last)
+}
+
+/// Whether they do so for the protocol that spreads `t`.
+fn accepted(alloc: Global, last: &[(u32, i8)]) -> Option<(bool, bool)> {
+    let leaf = spread(alloc)?;
+    accept_less(alloc, &leaf, last)
 }
 
 #[test]
-fn as_the_reference_says(rt: HostRuntime) -> Result<(), Fail> {
-    let leaf = spread(rt.alloc()).ok_or("a leaf")?;
-    for (last, right) in [
-        ([(0, -1), (1, -1), (2, 1), (6, -1), (7, -1)], true),
-        ([(0, -1), (1, -1), (2, 1), (6, -1), (7, -2)], false),
-    ] {
-        assert!(rt; accepted(rt.alloc(), &leaf, &last) == Some((right, right)));
-    }
-    Ok(())
+fn as_the_reference_says(rt: HostRuntime) {
+    let right = [(0, -1), (1, -1), (2, 1), (6, -1), (7, -1)];
+    let wrong = [(0, -1), (1, -1), (2, 1), (6, -1), (7, -2)];
+    assert!(rt; accepted(rt.alloc(), &right) == Some((true, true)));
+    assert!(rt; accepted(rt.alloc(), &wrong) == Some((false, false)));
 }

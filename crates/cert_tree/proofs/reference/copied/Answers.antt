@@ -1,6 +1,6 @@
 use Rattle.std.proofs.Common.{◌∙◌, ◌++◌, ◌∷◌, [], take, ap, sym}
 use Rattle.cert_base.proofs.FlowRows.{take_one_more}
-use Rattle.cert_tree.proofs.reference.joined.Goals as goal
+use Rattle.cert_tree.proofs.reference.copied.Goals as goal
 
 pub loop-i-preserved : goal.loop-i-preserved
 loop-i-preserved c =
