@@ -144,6 +144,7 @@ fn joined(alloc: Global, facts: &Trail, own: List<Fact>) -> Result<Trail, NoMemo
     Ok(all)
 }
 
+/// A copy of the facts.
 fn copied(alloc: Global, facts: &Trail) -> Result<Trail, NoMemory>
     ensures { IfOk result (λ copies. copies ≡ facts.now) }
 {

@@ -40,13 +40,17 @@ loop-number-preserved c =
       cover = cover_on c.args.leaf.now ((0, base_list c.args.leaf.now c.args.pred.now c.args.value) ∷ []) (waiting c.loop-number.walk) (waiting c.visit.new.self) c.loop-number.invariant.cover c.in_default.ensures.cover;
     }
 
-pub returns-then-branch-clause-accepts : goal.returns-then-branch-clause-accepts
-returns-then-branch-clause-accepts c =
+pub returns-then-branch-clause-fault : goal.returns-then-branch-clause-fault
+returns-then-branch-clause-fault c =
     let at : StandsAtFirst (waiting c.loop-number.walk) c.next_case.new.self = rw c.if-branch.true at c.in_ok-next_case.ensures in
     let past : length c.args.nodes.now ≤ c.loop-number.number = rw c.as_slice-node-items.ensures at c.loop-number-test.false in
     let missing = missing_at c.args.leaf.now c.args.pred.now c.args.value c.args.nodes.now (at.above, c.next_case.new.self.trail) (waiting c.loop-number.walk) (waiting c.next_case.new.self) c.loop-number.number c.loop-number.invariant.same (drop_all c.args.nodes.now c.loop-number.number past) at.first in
     let end : c.loop-number.number ≡ length c.as_slice.result.now = omega (arith, past, c.loop-number.auto.number-end, ap length c.as_slice-node-items.ensures, ap length c.as_slice.ensures) in
-    only_memory c.args.leaf.now c.args.pred.now c.args.value c.args.nodes.now (Broken (length c.as_slice.result.now) Missing) (missing ∙ ap (λ n. Some (n, Missing)) end)
+    missing ∙ ap (λ n. Some (n, Missing)) end
+
+pub returns-then-branch-clause-accepts : goal.returns-then-branch-clause-accepts
+returns-then-branch-clause-accepts c =
+    only_memory c.args.leaf.now c.args.pred.now c.args.value c.args.nodes.now (Broken (length c.as_slice.result.now) Missing) (returns-then-branch-clause-fault c)
 
 pub returns-clause-closes : goal.returns-clause-closes
 returns-clause-closes c =
