@@ -50,6 +50,17 @@ pub first-short : (k : ℕ) → k ≤ 39 → length (first_mix k) ≤ 200
 first-short k l =
     omega (arith, mix-long (map (lesser_size k) (range_with_len 0 (k + 2))) (pos 0) (pos 1) (pos (2 ^ k) ∷ []), length-map-range_with_len (lesser_size k) 0 (k + 2))
 
+pub converted-short : (k : ℕ) → k ≤ 39 → length (converted_mix k) ≤ 200
+converted-short k l =
+    omega (arith, mix-long (zeros (k + 2)) (pos 1) (pos 0) (pos 0 ∷ replicate (k + 1) (negsuc 0)), length-replicate (k + 2) (pos 0), length-replicate (k + 1) (negsuc 0))
+
+pub start-short : (k : ℕ) → k ≤ 39 → length (start_mix k) ≤ 200
+start-short k l = omega (arith, mix-long (zeros (k + 2)) (pos 0) (pos 0) (pos 1 ∷ []), length-replicate (k + 2) (pos 0))
+
+pub never-short : (k : ℕ) → k ≤ 39 → length (never_mix k) ≤ 200
+never-short k l =
+    omega (arith, mix-long (zeros (k + 2)) (pos 1) (pos 0) (zeros (k + 1) ++ negsuc 0 ∷ []), length-replicate (k + 2) (pos 0), length-append (zeros (k + 1)) (negsuc 0 ∷ []), length-replicate (k + 1) (pos 0))
+
 -- a node of few multipliers
 mix-within : (flows : List ℤ) (wrong opened : ℤ) (own : List ℤ) (n m : ℕ) → length flows ≤ n → length own ≤ m → n + m ≤ 200 → All IsSmall flows → IsSmall wrong → IsSmall opened → All IsSmall own → IsNodeWithin (weighed_node (flock_mix flows wrong opened own))
 mix-within flows wrong opened own n m ln lm few fs w o os =

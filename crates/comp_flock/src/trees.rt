@@ -1,8 +1,9 @@
 //! Both trees of a leaf.
 
-ghost use Rattle.std.specs.Prelude.{◌≡◌, ◌≤◌, ◌+◌, ◌++◌, map, IfOk, OnOk};
+ghost use Rattle.std.specs.Prelude.{◌≡◌, ◌≤◌, ◌+◌, ◌^◌, ◌++◌, ◌∷◌, [], length, map, IfOk, OnOk};
 ghost use Rattle.std.specs.List.{range_with_len};
-ghost use Rattle.cert_base.specs.declared.node.Node.TheVariants.{Twin as twin_node};
+ghost use Rattle.cert_base.specs.declared.node.Node.TheVariants.{Siphon, Twin as twin_node};
+ghost use Rattle.comp_trees.specs.LeaderTree.{weighed_node};
 ghost use Rattle.comp_flock_leaf.specs.declared.limits.TheConstants.{POWER_LIMIT};
 ghost use Rattle.comp_flock.specs.FlockProof.{flock_true_tree, flock_false_tree};
 
@@ -31,19 +32,35 @@ fn push_twins(nodes: &mut Vec<Node>, power: u16) -> Result<(), NoMemory>
     Ok(())
 }
 
+/// The siphon of 2^k alone.
+fn siphon(alloc: Global, power: u16) -> Result<Node, NoMemory>
+    requires { power ≤ POWER_LIMIT }
+    ensures { IfOk result (λ node. node ≡ Siphon ((power + 1) ∷ [])) }
+{
+    let full = Vec::from_slice(alloc, &[power + 1])?;
+    Ok(Node::Siphon(List::from_vec(full)))
+}
+
+/// The node that these multipliers close.
+fn node(alloc: Global, multipliers: Vec<i64>) -> Result<Node, NoMemory>
+    requires { length multipliers.items ≤ 2 ^ 32 }
+    ensures { IfOk result (λ node. node ≡ weighed_node multipliers.items) }
+{
+    let node = weighed(alloc, multipliers.as_slice())?;
+    Ok(node)
+}
+
 /// Where the predicate holds: 2^k is absent at the end, or it is present.
 fn true_tree(alloc: Global, power: u16) -> Result<List<Node>, NoMemory>
     requires { power ≤ POWER_LIMIT }
     ensures { IfOk result (λ nodes. nodes ≡ flock_true_tree power) }
 {
-    let few = few(alloc, power)?;
-    let converted = converted(alloc, power)?;
     let mut nodes = Vec::new(alloc);
     nodes.push(Node::Open(opened(power)))?;
     nodes.push(Node::Present(power + 1))?;
     push_twins(&mut nodes, power)?;
-    nodes.push(weighed(alloc, few.as_slice())?)?;
-    nodes.push(weighed(alloc, converted.as_slice())?)?;
+    nodes.push(node(alloc, few(alloc, power)?)?)?;
+    nodes.push(node(alloc, converted(alloc, power)?)?)?;
     Ok(List::from_vec(nodes))
 }
 
@@ -52,16 +69,12 @@ fn false_tree(alloc: Global, power: u16) -> Result<List<Node>, NoMemory>
     requires { power ≤ POWER_LIMIT }
     ensures { IfOk result (λ nodes. nodes ≡ flock_false_tree power) }
 {
-    let first = first(alloc, power)?;
-    let start = start(alloc, power)?;
-    let never = never(alloc, power)?;
-    let full = List::from_vec(Vec::from_slice(alloc, &[power + 1])?);
     let mut nodes = Vec::new(alloc);
     nodes.push(Node::Open(opened(power)))?;
-    nodes.push(Node::Siphon(full))?;
-    nodes.push(weighed(alloc, first.as_slice())?)?;
-    nodes.push(weighed(alloc, start.as_slice())?)?;
-    nodes.push(weighed(alloc, never.as_slice())?)?;
+    nodes.push(siphon(alloc, power)?)?;
+    nodes.push(node(alloc, first(alloc, power)?)?)?;
+    nodes.push(node(alloc, start(alloc, power)?)?)?;
+    nodes.push(node(alloc, never(alloc, power)?)?)?;
     Ok(List::from_vec(nodes))
 }
 

@@ -1,7 +1,9 @@
-use Rattle.std.proofs.Common.{◌∙◌, length, ap, arith}
-use Rattle.comp_flock.proofs.Within.{few-short}
+use Rattle.std.proofs.Common.{length, ap, arith}
+use Rattle.comp_flock.proofs.Within.{few-short, converted-short}
 use Rattle.comp_flock.proofs.trees.true_tree.Goals as goal
 
-pub weighed-requires : goal.weighed-requires
-weighed-requires c =
-    omega (arith, ap length (c.as_slice.ensures.value ∙ c.in_ok-few.ensures), few-short c.args.power c.requires)
+pub node-requires : goal.node-requires
+node-requires c = omega (arith, ap length c.in_ok-few.ensures, few-short c.args.power c.requires)
+
+pub node-requires-2 : goal.node-requires-2
+node-requires-2 c = omega (arith, ap length c.in_ok-converted.ensures, converted-short c.args.power c.requires)
