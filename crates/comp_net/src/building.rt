@@ -36,9 +36,10 @@ impl Built {
         requires { length self.old.leaves.items < LEAF_LIMIT }
         ensures { OnOk result (AddsLeaf leaf part self.old self.new) }
     {
-        self.items.push(Item::Leaf(self.leaves.len() as u8))?;
+        let item = Item::Leaf(self.leaves.len() as u8);
         self.leaves.push(leaf)?;
         self.parts.push(part)?;
+        self.items.push(item)?;
         Ok(())
     }
 
