@@ -34,14 +34,14 @@ fn cases_of(alloc: Global, leaf: &Leaf, set: &StateSet) -> Result<List<List<Fact
     ensures { IfOk result (λ cases. cases ≡ cases_of_trap leaf.now set.now) }
 {
     let mut cases = Vec::new(alloc);
-    cases.push(left(alloc, leaf, set)?)?;
+    cases.push(some_left(alloc, leaf, set)?)?;
     cases.push(never_marked(alloc, leaf, set)?)?;
     cases.push(marked(alloc, leaf, set)?)?;
     Ok(List::from_vec(cases))
 }
 
 /// A move leaves the set.
-fn left(alloc: Global, leaf: &Leaf, set: &StateSet) -> Result<List<Fact>, NoMemory>
+fn some_left(alloc: Global, leaf: &Leaf, set: &StateSet) -> Result<List<Fact>, NoMemory>
     requires { IsLeaf leaf.now }
     ensures { IfOk result (λ facts. facts ≡ some_taken_fact leaf.now (passes_role set.now Leaves) ∷ []) }
 {

@@ -5,6 +5,6 @@ use Rattle.cert_traps.proofs.trap.cases_of.Goals as goal
 pub returns : goal.returns
 returns c =
     c.from_vec.ensures
-    ∙ three_cases c.new-cases.result.items c.push.new.self.items c.push-2.new.self.items c.push-3.new.self.items c.in_ok-left.field-0 c.in_ok-never_marked.field-0 c.in_ok-marked.field-0 _ _ _
+    ∙ three_cases c.new-cases.result.items c.push.new.self.items c.push-2.new.self.items c.push-3.new.self.items c.in_ok-some_left.field-0 c.in_ok-never_marked.field-0 c.in_ok-marked.field-0 _ _ _
     c.new-cases.ensures.items c.in_ok-push.ensures.items c.in_ok-push-2.ensures.items c.in_ok-push-3.ensures.items
-    c.in_ok-left.ensures c.in_ok-never_marked.ensures c.in_ok-marked.ensures
+    c.in_ok-some_left.ensures c.in_ok-never_marked.ensures c.in_ok-marked.ensures
