@@ -111,10 +111,10 @@ same_term a b = (both, equal)
 
 -- ---- facts that come and go
 
-get-push : (facts : List Fact) (fact : Fact) (n : ℕ) → n < length facts → slice_get (facts ++ fact ∷ []) n ≡ slice_get facts n
-get-push [] fact n l = absurd (omega (arith, l))
-get-push (f ∷ facts) fact zero l = refl
-get-push (f ∷ facts) fact (suc n) l = get-push facts fact n (omega (arith, l))
+get-append : (facts more : List Fact) (n : ℕ) → n < length facts → slice_get (facts ++ more) n ≡ slice_get facts n
+get-append [] more n l = absurd (omega (arith, l))
+get-append (f ∷ facts) more zero l = refl
+get-append (f ∷ facts) more (suc n) l = get-append facts more n (omega (arith, l))
 
 get-take : (facts : List Fact) (k n : ℕ) → n < k → slice_get (take k facts) n ≡ slice_get facts n
 get-take facts zero n l = absurd (omega (arith, l))
@@ -122,13 +122,13 @@ get-take [] (suc k) n l = refl
 get-take (f ∷ facts) (suc k) zero l = refl
 get-take (f ∷ facts) (suc k) (suc n) l = get-take facts k n (omega (arith, l))
 
--- one more fact
-pub kept_push : (stable : ℕ) (facts other : List Fact) (fact : Fact) (tally : Tally) → other ≡ facts ++ fact ∷ [] → length facts < FACT_LIMIT → stable ≤ length facts → IsKept stable facts tally → (length other ≤ FACT_LIMIT) × (stable ≤ length other) × IsKept stable other tally
-kept_push stable facts other fact tally e room l is =
-    let len : length other ≡ length facts + 1 = ap length e ∙ length-append facts (fact ∷ []) in (
+-- more facts at the end
+pub kept_append : (stable : ℕ) (facts more other : List Fact) (tally : Tally) → other ≡ facts ++ more → length facts + length more ≤ FACT_LIMIT → stable ≤ length facts → IsKept stable facts tally → (length other ≤ FACT_LIMIT) × (stable ≤ length other) × IsKept stable other tally
+kept_append stable facts more other tally e room l is =
+    let len : length other ≡ length facts + length more = ap length e ∙ length-append facts more in (
       omega (arith, len, room),
       omega (arith, len, l),
-      kept-same stable facts other tally (λ n m. ap (λ fs. slice_get fs n) e ∙ get-push facts fact n (omega (arith, m, l))) is,
+      kept-same stable facts other tally (λ n m. ap (λ fs. slice_get fs n) e ∙ get-append facts more n (omega (arith, m, l))) is,
     )
 
 pub kept_equal : (stable : ℕ) (facts other : List Fact) (tally : Tally) → other ≡ facts → length facts ≤ FACT_LIMIT → stable ≤ length facts → IsKept stable facts tally → (length other ≤ FACT_LIMIT) × (stable ≤ length other) × IsKept stable other tally

@@ -38,7 +38,7 @@ impl Model for Trail {
 }
 
 impl Trail {
-    ghost use Rattle.std.specs.Prelude.{◌≡◌, ◌≤◌, ◌<◌, ◌++◌, [], ◌∷◌, take, length, Some, slice_get, All, IfOk, IfErr};
+    ghost use Rattle.std.specs.Prelude.{◌≡◌, ◌≤◌, ◌<◌, ◌+◌, ◌++◌, [], ◌∷◌, take, length, Some, slice_get, All, IfOk, IfErr};
     ghost use Rattle.std.specs.Prelude.{OnOk, OnErr, IsTrue};
     ghost use Rattle.cert_base.specs.ClosingTests.{closes_by_sum, closes_by_residue};
     ghost use Rattle.cert_base.specs.Ends.{AreRefuted};
@@ -83,6 +83,17 @@ impl Trail {
             Ok(()) => Ok(()),
             Err(refused) => Err((refused.value, NoMemory)),
         }
+    }
+
+    /// Adds facts at the end. A refusal leaves the trail as before.
+    pub fn append(&mut self, facts: List<Fact>) -> Result<(), NoMemory>
+        requires { length self.old + length facts ≤ FACT_LIMIT }
+        ensures appended { OnOk result (self.new ≡ self.old ++ facts) }
+        ensures unchanged { OnErr result (self.new ≡ self.old) }
+    {
+        let mut facts = facts.into_vec();
+        self.facts.append(&mut facts)?;
+        Ok(())
     }
 
     /// Leaves the first facts, so many. It allocates nothing.

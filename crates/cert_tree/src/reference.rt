@@ -10,7 +10,7 @@ ghost use Rattle.cert_tree.specs.Reference.{none_refused, all_below, Passed};
 
 use crate::halt::Halt;
 use crate::nodes::node_cases;
-use crate::walk::{extend, has_room};
+use crate::walk::has_room;
 use cert_base::{FACT_LIMIT, Fact, Node, PATH_LIMIT, base_facts};
 use cert_linear::Trail;
 use pop_io::{List, NoMemory};
@@ -140,7 +140,7 @@ fn joined(alloc: Global, facts: &Trail, own: List<Fact>) -> Result<Trail, NoMemo
     ensures { IfOk result (λ all. all ≡ facts.now ++ own) }
 {
     let mut all = copied(alloc, facts)?;
-    extend(&mut all, own)?;
+    all.append(own)?;
     Ok(all)
 }
 

@@ -105,7 +105,7 @@ impl Walk {
         self.trail.cut(len);
         let own = cases.remove(0);
         self.frames.push(Frame { len, cases })?;
-        extend(&mut self.trail, own)
+        self.trail.append(own)
     }
 
     /// Takes the frames from the latest node with a case that waits.
@@ -120,19 +120,6 @@ impl Walk {
         }
         None
     }
-}
-
-/// Adds the facts of a case.
-pub(crate) fn extend(trail: &mut Trail, own: List<Fact>) -> Result<(), NoMemory>
-    requires { length trail.old + length own ≤ FACT_LIMIT }
-    ensures { OnOk result (trail.new ≡ trail.old ++ own) }
-{
-    for fact in own.into_vec() {
-        if let Err((_fact, memory)) = trail.add(fact) {
-            return Err(memory);
-        }
-    }
-    Ok(())
 }
 
 /// Whether the trail with the facts of each case is short enough.
