@@ -22,7 +22,7 @@ pending_leads rule run can so (Threads other) is =
     subst (λ (r : PendingRun). LeadsTo rule (Threads r)) (sym is.0) (record { can = can; allowed = so })
 pending_leads rule run can so (Demo demo) is = absurd is
 
-pub pending_plain : (run : PendingRun) (prepared : Prepared) → IsPending run prepared → run.kind ≡ Whole → run.spec.workers ≡ 1 → NeedsNoThreads prepared
+pub pending_plain : (run : PendingRun) (prepared : Prepared) → IsPending run prepared → run.setting.kind ≡ Whole → run.setting.spec.workers ≡ 1 → NeedsNoThreads prepared
 pending_plain run (Text output) is whole one = absurd is
 pending_plain run (Alone other) is whole one = tt
 pending_plain run (Threads other) is whole one = is.1 whole one

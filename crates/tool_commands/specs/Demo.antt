@@ -2,21 +2,23 @@
 use Rattle.std.specs.Prelude.{◌≡◌, ℕ, ◌+◌, ◌≤◌, List, [], ◌∷◌, ◌++◌, codes, decimal, length, count_by, Option, Result, Ok}
 use Rattle.pres_ast.specs.PredicateValue.{predicate_value}
 use Rattle.pres_read.specs.Canonical.{tree_text}
-use Rattle.pop_net.specs.NetModel.{NetModel, CrowdModel}
-use Rattle.pop_net.specs.InputCrowd.{input_crowd}
+use Rattle.pop_net.specs.NetModel.{NetModel, CrowdModel, number_of_helpers}
+use Rattle.pop_net.specs.InputCrowd.{IsInput, input_crowd}
+use Rattle.pop_net.specs.Lanes.{crowd_of, AreValid}
 use Rattle.pop_crowd.specs.declared.crowd.Meeting.{Meeting}
 use Rattle.pop_words.specs.declared.spec.TheConstants.{DEMO_LIMIT}
 use Rattle.pair_workers.specs.Run.{IsRun}
+use Rattle.pair_workers.specs.declared.alone.RunEnd.{RunEnd}
 use Rattle.pop_journal.specs.Journal.{last_line, text_of}
 use Rattle.pop_journal.specs.declared.last.Last.{Last}
 use Rattle.pop_demo.specs.DemoCase.{names_of_demo, demo_tree, demo_pred, demo_counts, demo_spec}
 use Rattle.comp_net.specs.BuiltNet.{built_net}
-use Rattle.pop_checker.specs.CheckedModel.{CheckedModel}
 use Rattle.tool_texts.specs.declared.refusal.Refusal.{Refusal}
 use Rattle.tool_texts.specs.declared.output.Output.{Output}
+use Rattle.tool_commands.specs.declared.demo.Case.{Case}
 use Rattle.tool_commands.specs.declared.demo.PendingDemo.{PendingDemo}
 use Rattle.tool_commands.specs.Play.{IsLast}
-use Rattle.tool_commands.specs.Run.{journal_end, run_ending}
+use Rattle.tool_commands.specs.Run.{journal_end, open_pair, run_ending}
 use Rattle.tool_commands.specs.Start.{IsStart}
 
 -- the net that `compile` builds of the case's predicate, and its input crowd
@@ -55,14 +57,22 @@ pub record IsDemoOutput (number : ℕ) (output : Output) : Type 0 where
 abbrev pub DemoGives : ℕ → Result Output Refusal → Type 0
 DemoGives number given = (output : Output) × IsDemoOutput number output × (given ≡ Ok output)
 
--- the net and the predicate of the case
-pub record IsCheckedCase (number : ℕ) (checked : CheckedModel) : Type 0 where
-  pub net : checked.net ≡ demo_net number
-  pub pred : checked.pred ≡ demo_pred number
+-- the case of its number: its net, its predicate and its counts
+pub record IsCase (case : Case) : Type 0 where
+  pub few : case.number ≤ DEMO_LIMIT
+  pub net : case.checked.net ≡ demo_net case.number
+  pub pred : case.checked.pred ≡ demo_pred case.number
+  pub counts : case.counts ≡ demo_counts case.number
 
 -- a run of the case that can be made
 pub record CanDemo (demo : PendingDemo) : Type 0 where
-  pub few : demo.number ≤ DEMO_LIMIT
-  pub checked : IsCheckedCase demo.number demo.checked
-  pub counts : demo.start.counts ≡ demo_counts demo.number
-  pub start : IsStart demo.checked.net demo.start
+  pub case : IsCase demo.case
+  pub start : IsStart demo.case.checked.net (record { counts = demo.case.counts; crowd = demo.crowd })
+
+-- a run of the case that was made
+pub record IsRunOfCase (case : Case) (ran : RunEnd) : Type 0 where
+  pub input : IsInput (length case.checked.net.variables) (number_of_helpers case.checked.net) case.counts
+  pub run : IsRun case.checked.net (input_crowd case.checked.net case.counts) (demo_spec case.number) ran.rounds (crowd_of case.checked.net ran.crowd)
+  pub last : IsLast case.checked.net (crowd_of case.checked.net ran.crowd) (open_pair ran.end)
+  pub valid : AreValid case.checked.net ran.crowd
+  pub agents : length ran.crowd ≡ length (input_crowd case.checked.net case.counts)

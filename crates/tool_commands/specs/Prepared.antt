@@ -16,16 +16,17 @@ use Rattle.tool_commands.specs.Demo.{CanDemo, IsDemoOutput}
 
 -- a run that can be made
 pub record CanRun (run : PendingRun) : Type 0 where
-  pub limits : IsWithinLimits run.spec
-  pub workers : run.spec.workers ≤ most_workers_of run.kind
-  pub start : IsStart run.checked.net run.start
+  pub limits : IsWithinLimits run.setting.spec
+  pub workers : run.setting.spec.workers ≤ most_workers_of run.setting.kind
+  pub start : IsStart run.setting.checked.net (record { counts = run.setting.counts; crowd = run.crowd })
 
 abbrev pub IsOutputOfRun : PendingRun → Output → Type 0
-IsOutputOfRun run output = IsRunOutput run.kind run.spec run.lines run.checked.net run.checked.pred run.start.counts output
+IsOutputOfRun run output =
+    let s = run.setting in IsRunOutput s.kind s.spec run.lines s.checked.net s.checked.pred s.counts output
 
 abbrev pub CanBeMade : Prepared → Type 0
 CanBeMade (Text output) = Unit {0}
-CanBeMade (Alone run) = CanRun run × (run.spec.workers ≡ 1) × (run.kind ≡ Whole)
+CanBeMade (Alone run) = CanRun run × (run.setting.spec.workers ≡ 1) × (run.setting.kind ≡ Whole)
 CanBeMade (Threads run) = CanRun run
 CanBeMade (Demo demo) = CanDemo demo
 
@@ -34,7 +35,7 @@ abbrev pub IsOutputOf : Prepared → Output → Type 0
 IsOutputOf (Text whole) output = output ≡ whole
 IsOutputOf (Alone run) output = IsOutputOfRun run output
 IsOutputOf (Threads run) output = IsOutputOfRun run output
-IsOutputOf (Demo demo) output = IsDemoOutput demo.number output
+IsOutputOf (Demo demo) output = IsDemoOutput demo.case.number output
 
 abbrev pub NeedsNoThreads : Prepared → Type 0
 NeedsNoThreads (Text output) = Unit {0}
@@ -55,6 +56,6 @@ Prepares rule (Err stop) = MayStop rule stop
 -- this run is what is prepared: alone just if it is a whole run by one worker
 abbrev pub IsPending : PendingRun → Prepared → Type 0
 IsPending run (Text output) = ⊥
-IsPending run (Alone other) = (other ≡ run) × (run.spec.workers ≡ 1) × (run.kind ≡ Whole)
-IsPending run (Threads other) = (other ≡ run) × (run.kind ≡ Whole → run.spec.workers ≡ 1 → ⊥)
+IsPending run (Alone other) = (other ≡ run) × (run.setting.spec.workers ≡ 1) × (run.setting.kind ≡ Whole)
+IsPending run (Threads other) = (other ≡ run) × (run.setting.kind ≡ Whole → run.setting.spec.workers ≡ 1 → ⊥)
 IsPending run (Demo demo) = ⊥

@@ -12,11 +12,10 @@ ghost use Rattle.pop_demo.specs.DemoCase.{demo_counts, demo_spec};
 ghost use Rattle.tool_commands.specs.Prepared.{LeadsTo, NeedsNoThreads};
 ghost use Rattle.tool_commands.specs.Start.{IsStart};
 ghost use Rattle.tool_commands.specs.Demo.{changed, demo_start, summary_lines};
-ghost use Rattle.tool_commands.specs.Demo.{DemoGives, IsCheckedCase, IsDemoOutput, CanDemo};
+ghost use Rattle.tool_commands.specs.Demo.{DemoGives, IsCase, IsDemoOutput, IsRunOfCase, CanDemo};
 
 use crate::prepared::Prepared;
 use crate::run::last_and_ending;
-use crate::start::Start;
 use comp_net::{CompileFault, compile};
 use pair_workers::{RunEnd, run_alone};
 use pop_checker::{CheckFault, Checked, check};
@@ -29,18 +28,26 @@ use pres_read::print_pred;
 use std::alloc::{AllocError, Global};
 use tool_texts::Output;
 
-/// The run of a case that is still to be made.
+/// A case: its net, which was checked, and the counts with which it starts.
 #[derive(Drop)]
-pub struct PendingDemo {
+pub struct Case {
     pub number: u32,
     pub checked: Checked,
-    pub start: Start,
+    pub counts: List<u64>,
 }
 
-/// The net of a case, which was checked, and the counts with which it starts.
-fn checked_case(alloc: Global, number: u32) -> Result<(Checked, List<u64>), NoMemory>
-    ensures checked { IfOk result (λ case. IsCheckedCase number case.0) }
-    ensures counts { IfOk result (λ case. case.1 ≡ demo_counts number) }
+/// The run of a case that is still to be made, from this crowd.
+#[derive(Drop)]
+pub struct PendingDemo {
+    pub case: Case,
+    pub crowd: Crowd,
+}
+
+/// The case of a number.
+fn case_of(alloc: Global, number: u32) -> Result<Case, NoMemory>
+    requires { number ≤ DEMO_LIMIT }
+    ensures number { IfOk result (λ case. case.number ≡ number) }
+    ensures case { IfOk result IsCase }
 {
     let names = demo_names(alloc)?;
     let (pred, counts) = demo_case(alloc, number)?;
@@ -50,26 +57,23 @@ fn checked_case(alloc: Global, number: u32) -> Result<(Checked, List<u64>), NoMe
         Err(_) => unreachable!(),
     };
     match check(alloc, net, pred, &proof) {
-        Ok(checked) => Ok((checked, counts)),
+        Ok(checked) => Ok(Case {
+            number,
+            checked,
+            counts,
+        }),
         Err(CheckFault::NoMemory) => Err(NoMemory),
         Err(CheckFault::Rejected(_)) => unreachable!(),
     }
 }
 
-/// The crowd in which the net of a case starts.
-fn start_case(
-    alloc: Global,
-    number: u32,
-    checked: &Checked,
-    counts: List<u64>,
-) -> Result<Start, NoMemory>
-    requires checked { IsCheckedCase number checked.now }
-    requires counts { counts ≡ demo_counts number }
-    ensures counts { IfOk result (λ start. start.counts ≡ demo_counts number) }
-    ensures start { IfOk result (IsStart checked.now.net) }
+/// The crowd in which a case starts.
+fn first_crowd(alloc: Global, case: &Case) -> Result<Crowd, NoMemory>
+    requires { IsCase case.now }
+    ensures { IfOk result (λ crowd. IsStart case.now.checked.net (record { counts = case.now.counts; crowd = crowd })) }
 {
-    match Crowd::of_counts(alloc, checked.net(), counts.as_slice()) {
-        Ok(crowd) => Ok(Start { counts, crowd }),
+    match Crowd::of_counts(alloc, case.checked.net(), case.counts.as_slice()) {
+        Ok(crowd) => Ok(crowd),
         Err(CrowdFault::NoMemory) => Err(NoMemory),
         Err(CrowdFault::Size(_)) => unreachable!(),
     }
@@ -81,13 +85,9 @@ pub(crate) fn prepare_demo(alloc: Global, number: u32) -> Result<Prepared, NoMem
     ensures leads { IfOk result (LeadsTo (λ output. DemoGives number (Ok output))) }
     ensures plain { IfOk result NeedsNoThreads }
 {
-    let (checked, counts) = checked_case(alloc, number)?;
-    let start = start_case(alloc, number, &checked, counts)?;
-    Ok(Prepared::Demo(PendingDemo {
-        number,
-        checked,
-        start,
-    }))
+    let case = case_of(alloc, number)?;
+    let crowd = first_crowd(alloc, &case)?;
+    Ok(Prepared::Demo(PendingDemo { case, crowd }))
 }
 
 fn changed_in(meetings: &[Meeting]) -> usize
@@ -127,22 +127,17 @@ fn push_text(text: &mut Vec<u8>, name: &str, line: &str) -> Result<(), AllocErro
 }
 
 /// The summary of a run of a case.
-fn summary_of(
-    alloc: Global,
-    number: u32,
-    checked: &Checked,
-    run: &RunEnd,
-    last: Last,
-) -> Result<Vec<u8>, NoMemory>
-    requires case { IsCheckedCase number checked.now }
-    requires agents { length run.now.crowd ≡ length (demo_start number) }
+fn summary_of(alloc: Global, case: &Case, run: &RunEnd, last: Last) -> Result<Vec<u8>, NoMemory>
+    requires case { IsCase case.now }
+    requires agents { length run.now.crowd ≡ length (demo_start case.now.number) }
     requires few { length (joined run.now.rounds) < 2 ^ 64 }
-    ensures { IfOk result (λ text. text.items ≡ text_of (summary_lines number run.now.rounds last)) }
+    ensures { IfOk result (λ text. text.items ≡ text_of (summary_lines case.now.number run.now.rounds last)) }
 {
+    let checked = &case.checked;
     let pred = print_pred(alloc, checked.pred(), checked.net().var_names())?;
     let rounds = run.rounds.as_slice();
     let mut text = Vec::new(alloc);
-    push_count(&mut text, "demo ", u64::from(number))?;
+    push_count(&mut text, "demo ", u64::from(case.number))?;
     push_text(&mut text, "pred ", pred.as_str())?;
     push_count(&mut text, "agents ", u64::from(run.crowd.len()))?;
     push_count(&mut text, "rounds ", rounds.len() as u64)?;
@@ -151,45 +146,25 @@ fn summary_of(
     Ok(text)
 }
 
-/// A case without its crowd, which the worker takes.
-#[derive(Drop)]
-struct Case {
-    number: u32,
-    checked: Checked,
-    counts: List<u64>,
-}
-
-/// A case's setting and its crowd.
-fn apart(demo: PendingDemo) -> (Case, Crowd)
-    requires { CanDemo demo }
-    ensures number { result.0.number ≡ demo.number }
-    ensures few { result.0.number ≤ DEMO_LIMIT }
-    ensures checked { IsCheckedCase result.0.number result.0.checked }
-    ensures counts { result.0.counts ≡ demo_counts result.0.number }
-    ensures start { IsStart result.0.checked.net (record { counts = result.0.counts; crowd = result.1 }) }
+/// What is said of a run of a case.
+fn case_output(alloc: Global, case: &Case, run: &RunEnd) -> Result<Output, NoMemory>
+    requires case { IsCase case.now }
+    requires run { IsRunOfCase case.now run.now }
+    requires few { length (joined run.now.rounds) < 2 ^ 64 }
+    ensures { IfOk result (IsDemoOutput case.now.number) }
 {
-    let PendingDemo {
-        number,
-        checked,
-        start: Start { counts, crowd },
-    } = demo;
-    let case = Case {
-        number,
-        checked,
-        counts,
-    };
-    (case, crowd)
+    let (last, ending) = last_and_ending(&case.checked, case.counts.as_slice(), run);
+    let text = summary_of(alloc, case, run, last)?;
+    Ok(Output::new(text, ending))
 }
 
 /// Makes the run of a case. It waits for no thread.
 pub fn make_demo<G: Gate>(alloc: Global, demo: PendingDemo, gate: &G) -> Result<Output, NoMemory>
     requires { CanDemo demo }
-    ensures { IfOk result (IsDemoOutput demo.number) }
+    ensures { IfOk result (IsDemoOutput demo.case.number) }
 {
-    let (case, crowd) = apart(demo);
+    let PendingDemo { case, crowd } = demo;
     let spec = demo_run(case.number);
     let run = run_alone(alloc, case.checked.net(), crowd, &spec, gate)?;
-    let (last, ending) = last_and_ending(&case.checked, case.counts.as_slice(), &run);
-    let text = summary_of(alloc, case.number, &case.checked, &run, last)?;
-    Ok(Output::new(text, ending))
+    case_output(alloc, &case, &run)
 }

@@ -17,8 +17,8 @@ mod settle;
 mod start;
 mod table;
 
-pub use demo::{PendingDemo, make_demo};
-pub use prepared::{PendingRun, Prepared};
+pub use demo::{Case, PendingDemo, make_demo};
+pub use prepared::{PendingRun, Prepared, Setting};
 pub use replay::JOURNAL_LINE;
 pub use run::{make_alone, make_on_threads};
 pub use start::Start;

@@ -1,21 +1,29 @@
 //! What a command prepares.
 
 use crate::demo::PendingDemo;
-use crate::start::Start;
 use pop_checker::Checked;
+use pop_crowd::Crowd;
 use pop_io::List;
 use pop_words::{RunKind, RunSpec};
 use tool_texts::Output;
 
-/// A run that is still to be made, of a net whose proof is valid.
+/// What a run of a net is made by, whose proof is valid.
 #[derive(Drop)]
-pub struct PendingRun {
+pub struct Setting {
     pub kind: RunKind,
     pub spec: RunSpec,
+    pub checked: Checked,
+    pub counts: List<u64>,
+}
+
+/// A run that is still to be made.
+#[derive(Drop)]
+pub struct PendingRun {
     /// The two input lines, each with its line feed.
     pub lines: List<u8>,
-    pub checked: Checked,
-    pub start: Start,
+    pub setting: Setting,
+    /// The crowd in which the run starts.
+    pub crowd: Crowd,
 }
 
 /// The whole text, or what is still to be made.

@@ -19,7 +19,7 @@ ghost use Rattle.tool_commands.specs.Run.{journal_end, run_ending, open_pair, Is
 ghost use Rattle.tool_commands.specs.Prepared.{CanRun, IsOutputOfRun, NeedsNoThreads, Prepares, IsPending};
 
 use crate::bundle::{begin, check_bundle};
-use crate::prepared::{PendingRun, Prepared};
+use crate::prepared::{PendingRun, Prepared, Setting};
 use crate::start::Start;
 use cert_json::Bundle;
 use pair_workers::{End, RunEnd, run_all, run_alone};
@@ -74,78 +74,45 @@ fn both_lines(alloc: Global, first: &[u8], second: &[u8]) -> Result<List<u8>, Al
     Ok(List::from_vec(text))
 }
 
-/// A run without its crowd, which the workers take.
-#[derive(Drop)]
-struct Setting {
-    kind: RunKind,
-    spec: RunSpec,
-    lines: List<u8>,
-    checked: Checked,
-    counts: List<u64>,
-}
-
-/// A run's setting and its crowd.
-fn apart(run: PendingRun) -> (Setting, Crowd)
-    ensures setting { result.0 ≡ record {
-      kind = run.kind;
-      spec = run.spec;
-      lines = run.lines;
-      checked = run.checked;
-      counts = run.start.counts;
-    } }
-    ensures crowd { result.1 ≡ run.start.crowd }
-{
-    let PendingRun {
-        kind,
-        spec,
-        lines,
-        checked,
-        start: Start { counts, crowd },
-    } = run;
-    let setting = Setting {
-        kind,
-        spec,
-        lines,
-        checked,
-        counts,
-    };
-    (setting, crowd)
-}
-
 /// The output of a run: the input lines, and its journal.
-fn run_output(alloc: Global, setting: Setting, run: &RunEnd) -> Result<Output, NoMemory>
-    requires input { IsInput (length setting.checked.net.variables) (number_of_helpers setting.checked.net)
-        setting.counts }
-    requires valid { AreValid setting.checked.net run.now.crowd }
-    requires run { IsRunOf setting.kind setting.checked.net (input_crowd setting.checked.net setting.counts)
-        setting.spec run.now.rounds (crowd_of setting.checked.net run.now.crowd) }
-    requires last { IsLast setting.checked.net (crowd_of setting.checked.net run.now.crowd) (open_pair run.now.end) }
-    ensures { IfOk result (IsRunOutput setting.kind setting.spec setting.lines
-        setting.checked.net setting.checked.pred setting.counts) }
+fn run_output(
+    alloc: Global,
+    lines: List<u8>,
+    setting: &Setting,
+    run: &RunEnd,
+) -> Result<Output, NoMemory>
+    requires input { IsInput (length setting.now.checked.net.variables) (number_of_helpers setting.now.checked.net)
+        setting.now.counts }
+    requires valid { AreValid setting.now.checked.net run.now.crowd }
+    requires run { IsRunOf setting.now.kind setting.now.checked.net
+        (input_crowd setting.now.checked.net setting.now.counts)
+        setting.now.spec run.now.rounds (crowd_of setting.now.checked.net run.now.crowd) }
+    requires last { IsLast setting.now.checked.net (crowd_of setting.now.checked.net run.now.crowd)
+        (open_pair run.now.end) }
+    ensures { IfOk result (IsRunOutput setting.now.kind setting.now.spec lines
+        setting.now.checked.net setting.now.checked.pred setting.now.counts) }
 {
     let (last, ending) = last_and_ending(&setting.checked, setting.counts.as_slice(), run);
-    let Setting {
-        kind,
-        spec,
-        lines,
-        checked,
-        counts: _,
-    } = setting;
+    let (net, spec) = (setting.checked.net(), &setting.spec);
     let mut text = lines.into_vec();
-    push_journal(alloc, &mut text, kind, checked.net(), &spec, run, last)?;
+    push_journal(alloc, &mut text, setting.kind, net, spec, run, last)?;
     Ok(Output::new(text, ending))
 }
 
 /// Makes a whole run by one worker. It waits for no thread.
 pub fn make_alone<G: Gate>(alloc: Global, run: PendingRun, gate: &G) -> Result<Output, NoMemory>
     requires can { CanRun run }
-    requires alone { run.spec.workers ≡ 1 }
-    requires kind { run.kind ≡ Whole }
+    requires alone { run.setting.spec.workers ≡ 1 }
+    requires kind { run.setting.kind ≡ Whole }
     ensures { IfOk result (IsOutputOfRun run) }
 {
-    let (setting, crowd) = apart(run);
+    let PendingRun {
+        lines,
+        setting,
+        crowd,
+    } = run;
     let end = run_alone(alloc, setting.checked.net(), crowd, &setting.spec, gate)?;
-    run_output(alloc, setting, &end)
+    run_output(alloc, lines, &setting, &end)
 }
 
 /// A run of this kind by workers on threads.
@@ -182,20 +149,46 @@ pub fn make_on_threads<R: Threads + Wait + Sync, G: Gate>(
     requires { CanRun run }
     ensures { IfOk result (IsOutputOfRun run) }
 {
-    let (setting, crowd) = apart(run);
+    let PendingRun {
+        lines,
+        setting,
+        crowd,
+    } = run;
     let net = setting.checked.net();
     let end = run_on_threads(rt, alloc, setting.kind, net, crowd, &setting.spec, gate)?;
-    run_output(alloc, setting, &end)
+    run_output(alloc, lines, &setting, &end)
 }
 
 /// The run that is still to be made, alone or on threads.
 fn pending(run: PendingRun) -> Prepared
     ensures { IsPending run result }
 {
-    match run.kind {
-        RunKind::Whole if is_by_one(&run.spec) => Prepared::Alone(run),
+    match run.setting.kind {
+        RunKind::Whole if is_by_one(&run.setting.spec) => Prepared::Alone(run),
         _ => Prepared::Threads(run),
     }
+}
+
+/// The run of a checked net that is still to be made.
+fn pending_of(
+    alloc: Global,
+    lines: (&[u8], &[u8]),
+    setting: Setting,
+    crowd: Crowd,
+) -> Result<Prepared, AllocError>
+    ensures { IfOk result (IsPending (record {
+      lines = ended lines.entry.0.now ++ ended lines.entry.1.now;
+      setting = setting;
+      crowd = crowd;
+    })) }
+{
+    let lines = both_lines(alloc, lines.0, lines.1)?;
+    let run = pending(PendingRun {
+        lines,
+        setting,
+        crowd,
+    });
+    Ok(run)
 }
 
 /// The run of a bundle's net, if its proof is valid.
@@ -217,14 +210,15 @@ fn prepare_begun(
 {
     match check_bundle(alloc, bundle) {
         Ok(checked) => {
-            let lines = both_lines(alloc, lines.0, lines.1)?;
-            Ok(pending(PendingRun {
+            let Start { counts, crowd } = start;
+            let setting = Setting {
                 kind,
                 spec,
-                lines,
                 checked,
-                start,
-            }))
+                counts,
+            };
+            let run = pending_of(alloc, lines, setting, crowd)?;
+            Ok(run)
         }
         Err(CheckFault::Rejected(rejected)) => {
             Ok(Prepared::Text(Output::of_rejection(alloc, rejected)?))

@@ -5,7 +5,7 @@ use Rattle.tool_commands.proofs.run.make_alone.Goals as goal
 
 pub run_output-requires-clause-last : goal.run_output-requires-clause-last
 run_output-requires-clause-last g c =
-    let setting = c.apart-setting.result.0 in
+    let setting = c.args.run.setting in
     let net = setting.checked.net in
     let ran = c.in_ok-end.end in
     let run = rw c.net.ensures at c.in_ok-end.ensures.run in

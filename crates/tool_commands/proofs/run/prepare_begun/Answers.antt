@@ -17,13 +17,13 @@ returns-in-Ok-clause-leads c =
       None,
       output,
       c.in-Ok.ensures.valid,
-      subst (λ (m : CheckedModel). IsRunOutput c.args.kind c.args.spec text m.net m.pred counts output) kept (rw c.in_ok-lines-in-Ok.ensures at is),
+      subst (λ (m : CheckedModel). IsRunOutput c.args.kind c.args.spec text m.net m.pred counts output) kept is,
       refl,
     ))
-    c.pending.result c.pending.ensures
+    c.in_ok-run-in-Ok.run' c.in_ok-run-in-Ok.ensures
 
 pub returns-in-Ok-clause-plain : goal.returns-in-Ok-clause-plain
-returns-in-Ok-clause-plain c = λ whole one. pending_plain _ c.pending.result c.pending.ensures whole one
+returns-in-Ok-clause-plain c = λ whole one. pending_plain _ c.in_ok-run-in-Ok.run' c.in_ok-run-in-Ok.ensures whole one
 
 pub returns-in-Err-Rejected-clause-leads : goal.returns-in-Err-Rejected-clause-leads
 returns-in-Err-Rejected-clause-leads c =

@@ -22,13 +22,13 @@ joined kind net spec rounds crowd end truth lines start whole last is begins all
 
 pub last_and_ending-last-requires-clause-reached : goal.last_and_ending-last-requires-clause-reached
 last_and_ending-last-requires-clause-reached c =
-    let net = c.args.setting.checked.net in
+    let net = c.args.setting.now.checked.net in
     let run = c.args.run.now in
-    rw c.as_slice.ensures (run_reaches net c.args.setting.counts c.requires.input.two_agents c.args.setting.kind c.args.setting.spec run.rounds (crowd_of net run.crowd) c.requires.run)
+    rw c.as_slice.ensures (run_reaches net c.args.setting.now.counts c.requires.input.two_agents c.args.setting.now.kind c.args.setting.now.spec run.rounds (crowd_of net run.crowd) c.requires.run)
 
 pub returns : goal.returns
 returns c =
-    let net = c.args.setting.checked.net in
+    let net = c.args.setting.now.checked.net in
     let run = c.args.run.now in
     let last = rw c.as_slice.ensures at c.last_and_ending-last.ensures in record {
       input = c.requires.input;
@@ -38,7 +38,7 @@ returns c =
       pair = open_pair run.end;
       last = c.requires.last;
       text = ap (λ (o : Output). o.text) c.new.ensures
-          ∙ joined c.args.setting.kind net c.args.setting.spec run.rounds (crowd_of net run.crowd) run.end (predicate_value c.args.setting.checked.pred.tree c.args.setting.counts) c.args.setting.lines _ c.push_journal.new.text.items c.last_and_ending-last.result last
-          c.into_vec-text.ensures (rw c.net.ensures at c.in_ok-push_journal.ensures);
+          ∙ joined c.args.setting.now.kind net c.args.setting.now.spec run.rounds (crowd_of net run.crowd) run.end (predicate_value c.args.setting.now.checked.pred.tree c.args.setting.now.counts) c.args.lines _ c.push_journal.new.text.items c.last_and_ending-last.result last
+          c.into_vec-text.ensures (rw c.net-net.ensures at c.in_ok-push_journal.ensures);
       ending = ap (λ (o : Output). o.ending) c.new.ensures ∙ ap (λ (l : Last × Ending). l.1) last;
     }

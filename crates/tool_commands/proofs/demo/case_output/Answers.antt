@@ -1,0 +1,48 @@
+use Rattle.std.proofs.Common.{◌≡◌, ℕ, Bool, List, length, ap, subst, ◌∙◌}
+use Rattle.pres_ast.specs.PredicateValue.{predicate_value}
+use Rattle.pop_net.specs.NetModel.{NetModel, CrowdModel}
+use Rattle.pop_net.specs.Lanes.{crowd_of}
+use Rattle.pop_net.specs.InputCrowd.{input_crowd}
+use Rattle.pop_words.specs.declared.kind.RunKind.TheVariants.{Whole}
+use Rattle.pair_workers.specs.Run.{IsRun}
+use Rattle.pop_journal.specs.Journal.{text_of}
+use Rattle.pop_journal.specs.declared.last.Last.{Last}
+use Rattle.pop_demo.specs.DemoCase.{demo_tree, demo_counts, demo_spec}
+use Rattle.tool_texts.specs.declared.output.Output.{Output}
+use Rattle.tool_texts.specs.declared.output.Ending.{Ending}
+use Rattle.tool_commands.specs.Play.{IsLast}
+use Rattle.tool_commands.specs.Run.{open_pair, journal_end}
+use Rattle.tool_commands.specs.Demo.{summary_lines}
+use Rattle.tool_commands.proofs.Ran.{run_reaches}
+use Rattle.tool_commands.proofs.demo.case_output.Goals as goal
+
+pub summary_of-requires-clause-agents : goal.summary_of-requires-clause-agents
+summary_of-requires-clause-agents c =
+    c.requires.run.agents ∙ ap (length {A = List ℕ}) (λ i. input_crowd (c.requires.case.net i) (c.requires.case.counts i))
+
+pub last_and_ending-last-requires-clause-reached : goal.last_and_ending-last-requires-clause-reached
+last_and_ending-last-requires-clause-reached c =
+    let case = c.args.case.now in
+    let net = case.checked.net in
+    let ran = c.args.run.now in
+    rw c.as_slice.ensures (run_reaches net case.counts c.requires.run.input.two_agents Whole (demo_spec case.number) ran.rounds (crowd_of net ran.crowd) c.requires.run.run)
+
+pub returns : goal.returns
+returns c =
+    let case = c.args.case.now in
+    let net = case.checked.net in
+    let ran = c.args.run.now in
+    let end = crowd_of net ran.crowd in
+    let is = c.requires.case in
+    let truth : predicate_value case.checked.pred.tree case.counts ≡ predicate_value (demo_tree case.number) (demo_counts case.number) = (λ i. predicate_value (is.pred i).tree (is.counts i)) in
+    let last = c.last_and_ending-last.ensures in record {
+      rounds = ran.rounds;
+      end = end;
+      run = subst (λ (t : NetModel × CrowdModel). IsRun t.0 t.1 (demo_spec case.number) ran.rounds end) (λ i. (is.net i, input_crowd (is.net i) (is.counts i))) c.requires.run.run;
+      pair = open_pair ran.end;
+      last = subst (λ (n : NetModel). IsLast n end (open_pair ran.end)) is.net c.requires.run.last;
+      text = ap (λ (o : Output). o.text) c.new.ensures ∙ c.in_ok-text.ensures
+          ∙ ap (λ (l : Last × Ending). text_of (summary_lines case.number ran.rounds l.0)) (rw c.as_slice.ensures at last)
+          ∙ ap (λ (b : Bool). text_of (summary_lines case.number ran.rounds (journal_end b (open_pair ran.end)))) truth;
+      ending = ap (λ (o : Output). o.ending) c.new.ensures ∙ ap (λ (l : Last × Ending). l.1) last;
+    }
