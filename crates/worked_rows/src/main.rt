@@ -7,7 +7,6 @@
 mod row;
 mod rows;
 
-use crate::row::Row;
 use crate::rows::Rows;
 use std::io::{BufRead, BufReader};
 
@@ -15,8 +14,7 @@ fn main(rt: HostRuntime) -> anyhow::Result<()> {
     let mut rows = Rows::new(rt.alloc());
     for line in BufReader::new(rt.alloc(), rt.reader())?.lines(rt.alloc()) {
         let line = line?;
-        let row: Row = serde_json::from_str(rt.alloc(), line.as_str())?;
-        rows.try_row(&rt, rt.alloc(), row)?;
+        rows.try_line(&rt, rt.alloc(), line.as_str())?;
     }
     for name in rows.failed(rt.alloc())? {
         println!(rt; "{name} doesn't hold")?;

@@ -1,47 +1,57 @@
 //! What a row is.
 
-use serde::Deserialize;
+use serde_json::Value;
 
-/// A part of a text: just this; lines of the text that an earlier row gave, from the first to the last of these,
-/// counted from 1; or a text so many times.
-#[derive(Drop, Deserialize)]
-#[serde(untagged)]
-pub(crate) enum Piece {
-    Text(String),
-    Lines(String, u64, u64),
-    Times(String, u64),
+/// A row: a JSON object whose members are read where they are used. It has a `name`, the `words` and the pieces of the
+/// `input` that the program is given, the pieces of the `text` that it must write, and its exit `status`, which is one of
+/// these numbers. It may say that the text `begins` with these pieces, what stands `with` them somewhere in the text,
+/// that each of the `prefixes` of the input, ended by a line feed, is an input of its own, and which troubles the source
+/// (`reads`) and the sink (`writes`) have.
+#[derive(Drop)]
+pub(crate) struct Row<'r> {
+    value: &'r Value,
 }
 
-/// At which call a source or a sink has a trouble: it moves at most so many bytes, or it fails.
-#[derive(Drop, Deserialize)]
-pub(crate) struct Upset {
-    pub(crate) call: u64,
-    #[serde(default)]
-    pub(crate) most: Option<u64>,
+/// The members that each row has.
+const MEMBERS: [&str; 4] = ["name", "words", "text", "status"];
+
+impl<'r> Row<'r> {
+    /// The row that a value is, if it has what each row has.
+    pub(crate) fn of_value(value: &'r Value) -> Option<Row<'r>> {
+        for member in MEMBERS {
+            value.get(member)?;
+        }
+        Some(Row { value })
+    }
+
+    /// The items of a member, none if it is left out.
+    pub(crate) fn items(&self, member: &str) -> &'r [Value] {
+        match self.value.get(member).and_then(Value::as_array) {
+            Some(items) => items.as_slice(),
+            None => &[],
+        }
+    }
+
+    /// The text of a member, empty if it is left out.
+    pub(crate) fn text(&self, member: &str) -> &'r str {
+        text_of(self.value.get(member))
+    }
+
+    /// Whether a member says so.
+    pub(crate) fn truth(&self, member: &str) -> bool {
+        self.value
+            .get(member)
+            .and_then(Value::as_bool)
+            .unwrap_or(false)
+    }
 }
 
-/// Words and an input, and the text and the exit status that they must give.
-#[derive(Drop, Deserialize)]
-pub(crate) struct Row {
-    pub(crate) name: String,
-    pub(crate) words: Vec<String>,
-    #[serde(default)]
-    pub(crate) input: Vec<Piece>,
-    pub(crate) text: Vec<Piece>,
-    /// Whether the text may go on behind these pieces.
-    #[serde(default)]
-    pub(crate) begins: bool,
-    /// What stands somewhere in the text.
-    #[serde(default)]
-    pub(crate) with: String,
-    /// Whether each prefix of the input, ended by a line feed, is an input of its own.
-    #[serde(default)]
-    pub(crate) prefixes: bool,
-    /// The exit status is one of these.
-    pub(crate) status: Vec<u8>,
-    /// The troubles of the source, and those of the sink.
-    #[serde(default)]
-    pub(crate) reads: Vec<Upset>,
-    #[serde(default)]
-    pub(crate) writes: Vec<Upset>,
+/// The text that a value is, or an empty one.
+pub(crate) fn text_of(value: Option<&Value>) -> &str {
+    value.and_then(Value::as_str).unwrap_or("")
+}
+
+/// The number that a value is, or 0.
+pub(crate) fn number_of(value: Option<&Value>) -> u64 {
+    value.and_then(Value::as_u64).unwrap_or(0)
 }

@@ -1,10 +1,11 @@
 //! How rows are run, one after the other.
 
-use crate::row::{Piece, Row, Upset};
+use crate::row::{Row, number_of, text_of};
 use anyhow::{Context, Result};
 use pop_io::{List, MemorySink, MemorySource, OpenGate, Trouble, TroubleKind};
 use pop_lines::next_line;
 use pop_tool::run_tool;
+use serde_json::Value;
 use std::alloc::{AllocError, Global};
 use std::sync::Wait;
 use std::thread::Threads;
@@ -56,7 +57,7 @@ impl Rows {
     }
 
     /// The text that an earlier row gave.
-    fn text_of(&self, name: &str) -> &[u8] {
+    fn given_by(&self, name: &str) -> &[u8] {
         match self
             .given
             .as_slice()
@@ -69,48 +70,88 @@ impl Rows {
     }
 
     /// The bytes of these pieces, one after the other.
-    fn joined(&self, alloc: Global, pieces: &[Piece]) -> Result<Vec<u8>, AllocError> {
+    fn joined(&self, alloc: Global, pieces: &[Value]) -> Result<Vec<u8>, AllocError> {
         let mut bytes = Vec::new(alloc);
         for piece in pieces {
-            match piece {
-                Piece::Text(text) => bytes.extend_from_slice(text.as_bytes())?,
-                Piece::Lines(name, first, last) => {
-                    push_lines(&mut bytes, self.text_of(name.as_str()), *first, *last)?
-                }
-                Piece::Times(text, times) => push_times(&mut bytes, text.as_bytes(), *times)?,
+            match piece.as_array() {
+                Some(parts) => self.push_parts(&mut bytes, parts.as_slice())?,
+                None => bytes.extend_from_slice(text_of(Some(piece)).as_bytes())?,
             }
         }
         Ok(bytes)
     }
 
-    /// Runs a row as it stands, and, if its input is short and nothing upsets it, byte by byte.
-    pub(crate) fn try_row<R: Threads + Wait + Sync>(
+    /// Adds a text so many times; or lines of the text that an earlier row gave, from the first to the last of these,
+    /// counted from 1.
+    fn push_parts(&self, bytes: &mut Vec<u8>, parts: &[Value]) -> Result<(), AllocError> {
+        let text = text_of(parts.first());
+        let number = number_of(parts.get(1));
+        match parts.get(2) {
+            None => push_times(bytes, text.as_bytes(), number),
+            last => push_lines(bytes, self.given_by(text), number, number_of(last)),
+        }
+    }
+
+    /// Runs the row that a line holds.
+    pub(crate) fn try_line<R: Threads + Wait + Sync>(
         &mut self,
         rt: &R,
         alloc: Global,
-        row: Row,
+        line: &str,
     ) -> Result<()> {
-        let input = self.joined(alloc, row.input.as_slice())?;
-        let wanted = self.joined(alloc, row.text.as_slice())?;
-        let (text, status) = answer(rt, alloc, &row, &input, &row.reads, &row.writes)?;
-        let mut holds = is_right(&row, &wanted, &text, status);
-        if row.reads.is_empty() && row.writes.is_empty() && input.len() <= CRUMBS_LIMIT {
-            holds = holds && holds_in_crumbs(rt, alloc, &row, &input, &wanted)?;
-        }
-        if row.prefixes {
-            holds = holds && prefixes_hold(rt, alloc, &row, &input, &wanted)?;
-        }
-        let Row { name, .. } = row;
+        let value: Value = serde_json::from_str(alloc, line)?;
+        let row = Row::of_value(&value).context("a row lacks a member")?;
+        self.try_row(rt, alloc, &row)
+    }
+
+    /// Runs a row as it stands, and, if its input is short and nothing upsets it, byte by byte.
+    fn try_row<R: Threads + Wait + Sync>(
+        &mut self,
+        rt: &R,
+        alloc: Global,
+        row: &Row<'_>,
+    ) -> Result<()> {
+        let input = self.joined(alloc, row.items("input"))?;
+        let wanted = self.joined(alloc, row.items("text"))?;
+        let (text, holds) = tried(rt, alloc, row, &input, &wanted)?;
+        let name = String::from_str(alloc, row.text("name"))?;
         self.given.push(Given { name, text, holds })?;
         Ok(())
     }
+}
+
+/// The text that a row gives, and whether it holds, for this input and the text that is wanted.
+fn tried<R: Threads + Wait + Sync>(
+    rt: &R,
+    alloc: Global,
+    row: &Row<'_>,
+    input: &[u8],
+    wanted: &[u8],
+) -> Result<(Vec<u8>, bool)> {
+    let (reads, writes) = (row.items("reads"), row.items("writes"));
+    let (text, status) = answer(
+        rt,
+        alloc,
+        row,
+        input,
+        &troubles(alloc, reads)?,
+        &troubles(alloc, writes)?,
+    )?;
+    let mut holds = is_right(row, wanted, &text, status);
+    if reads.is_empty() && writes.is_empty() && input.len() <= CRUMBS_LIMIT {
+        holds = holds && holds_in_crumbs(rt, alloc, row, input, wanted)?;
+    }
+    if row.truth("prefixes") {
+        holds = holds && prefixes_hold(rt, alloc, row, input, wanted)?;
+    }
+    Ok((text, holds))
 }
 
 /// Whether a row holds where each call moves one byte.
 fn holds_in_crumbs<R: Threads + Wait + Sync>(
     rt: &R,
     alloc: Global,
-    row: &Row,
+    row: &Row<'_>,
     input: &[u8],
     wanted: &[u8],
 ) -> Result<bool> {
@@ -124,7 +165,7 @@ fn holds_in_crumbs<R: Threads + Wait + Sync>(
 fn prefixes_hold<R: Threads + Wait + Sync>(
     rt: &R,
     alloc: Global,
-    row: &Row,
+    row: &Row<'_>,
     input: &[u8],
     wanted: &[u8],
 ) -> Result<bool> {
@@ -166,13 +207,20 @@ fn push_times(bytes: &mut Vec<u8>, part: &[u8], times: u64) -> Result<(), AllocE
 }
 
 /// Whether a text and an exit status are those of a row.
-fn is_right(row: &Row, wanted: &[u8], text: &[u8], status: u8) -> bool {
-    let is_text = if row.begins {
+fn is_right(row: &Row<'_>, wanted: &[u8], text: &[u8], status: u8) -> bool {
+    let is_text = if row.truth("begins") {
         text.starts_with(wanted)
     } else {
         text == wanted
     };
-    is_text && row.status.contains(&status) && has(text, row.with.as_bytes())
+    is_text && has_status(row.items("status"), status) && has(text, row.text("with").as_bytes())
+}
+
+/// Whether an exit status is one of these.
+fn has_status(statuses: &[Value], status: u8) -> bool {
+    statuses
+        .iter()
+        .any(|one| number_of(Some(one)) == u64::from(status))
 }
 
 /// Whether these bytes stand somewhere in a text.
@@ -181,57 +229,83 @@ fn has(text: &[u8], part: &[u8]) -> bool {
 }
 
 /// At most one byte moves at each of the first calls.
-fn crumbs(alloc: Global, calls: usize) -> Result<Vec<Upset>, AllocError> {
-    let mut upsets = Vec::new(alloc);
+fn crumbs(alloc: Global, calls: usize) -> Result<Vec<Trouble>, AllocError> {
+    let mut troubles = Vec::new(alloc);
     for call in 0..calls {
-        upsets.push(Upset {
+        troubles.push(Trouble {
             call: call as u64 + 1,
-            most: Some(1),
+            kind: TroubleKind::Part(1),
         })?;
     }
-    Ok(upsets)
+    Ok(troubles)
 }
 
-fn troubles(alloc: Global, upsets: &[Upset]) -> Result<List<Trouble>, AllocError> {
+/// At which calls a source or a sink has a trouble: it moves at most so many bytes, or it fails.
+fn troubles(alloc: Global, upsets: &[Value]) -> Result<Vec<Trouble>, AllocError> {
     let mut troubles = Vec::new(alloc);
     for upset in upsets {
         troubles.push(Trouble {
-            call: upset.call,
-            kind: match upset.most {
+            call: number_of(upset.get("call")),
+            kind: match upset.get("most").and_then(Value::as_u64) {
                 Some(most) => TroubleKind::Part(most),
                 None => TroubleKind::Fail,
             },
         })?;
     }
-    Ok(List::from_vec(troubles))
+    Ok(troubles)
 }
 
-fn refs<'r>(alloc: Global, row: &'r Row) -> Result<Vec<&'r str>, AllocError> {
+/// The words of a row.
+fn words_of<'r>(alloc: Global, row: &Row<'r>) -> Result<Vec<&'r str>, AllocError> {
     let mut words = Vec::new(alloc);
-    for word in row.words.as_slice() {
-        words.push(word.as_str())?;
+    for word in row.items("words") {
+        words.push(text_of(Some(word)))?;
     }
     Ok(words)
+}
+
+fn list(alloc: Global, troubles: &[Trouble]) -> Result<List<Trouble>, AllocError> {
+    Ok(List::from_vec(Vec::from_slice(alloc, troubles)?))
+}
+
+/// The source of an input, with these troubles.
+fn source_of(alloc: Global, input: &[u8], reads: &[Trouble]) -> Result<MemorySource, AllocError> {
+    let bytes = List::from_vec(Vec::from_slice(alloc, input)?);
+    Ok(MemorySource::new(bytes, list(alloc, reads)?))
+}
+
+/// An empty sink with these troubles.
+fn sink_of(alloc: Global, writes: &[Trouble]) -> Result<MemorySink> {
+    let sink = MemorySink::new(alloc, ROOM, list(alloc, writes)?);
+    sink.ok().context("out of memory")
 }
 
 /// The text and the exit status that the program's call gives for a row's words and this input.
 fn answer<R: Threads + Wait + Sync>(
     rt: &R,
     alloc: Global,
-    row: &Row,
+    row: &Row<'_>,
     input: &[u8],
-    reads: &[Upset],
-    writes: &[Upset],
+    reads: &[Trouble],
+    writes: &[Trouble],
 ) -> Result<(Vec<u8>, u8)> {
-    let words = refs(alloc, row)?;
+    let mut sink = sink_of(alloc, writes)?;
+    let status = status_of(rt, alloc, row, source_of(alloc, input, reads)?, &mut sink)?;
+    let text = Vec::from_slice(alloc, sink.held())?;
+    Ok((text, status))
+}
+
+/// The exit status that the program's call gives for a row's words.
+fn status_of<R: Threads + Wait + Sync>(
+    rt: &R,
+    alloc: Global,
+    row: &Row<'_>,
+    mut source: MemorySource,
+    sink: &mut MemorySink,
+) -> Result<u8> {
+    let words = words_of(alloc, row)?;
     if WORD_LIMIT < words.len() {
         return Err(anyhow::Error::msg("too many words"));
     }
-    let bytes = List::from_vec(Vec::from_slice(alloc, input)?);
-    let mut source = MemorySource::new(bytes, troubles(alloc, reads)?);
-    let sink = MemorySink::new(alloc, ROOM, troubles(alloc, writes)?);
-    let mut sink = sink.ok().context("out of memory")?;
-    let status = run_tool(rt, alloc, &words, &mut source, &mut sink, &OpenGate);
-    let text = Vec::from_slice(alloc, sink.held())?;
-    Ok((text, status.code()))
+    Ok(run_tool(rt, alloc, &words, &mut source, sink, &OpenGate).code())
 }
