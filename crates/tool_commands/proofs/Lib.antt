@@ -1,6 +1,7 @@
 pub mod InputSize
 pub mod Begun
 pub mod Ran
+pub mod Rejected
 pub mod Played
 pub mod Ends
 pub mod PlayTuples

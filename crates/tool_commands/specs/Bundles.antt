@@ -6,9 +6,13 @@ use Rattle.cert_base.specs.ValidProof.{ValidProof}
 use Rattle.cert_json.specs.Bundles.{bundle_at}
 use Rattle.cert_json.specs.declared.bundle.Bundle.{Bundle}
 use Rattle.pop_checker.specs.declared.fault.Rejected.{Rejected}
+use Rattle.pop_checker.specs.declared.fault.CheckFault.{CheckFault}
+use Rattle.pop_checker.specs.declared.fault.CheckFault.TheVariants.{Rejected as Rejects, NoMemory}
 use Rattle.pop_checker.specs.Rejections.{IsRejected}
 use Rattle.tool_texts.specs.declared.refusal.Refusal.{Refusal}
 use Rattle.tool_texts.specs.declared.refusal.Refusal.TheVariants.{NotJson}
+use Rattle.tool_texts.specs.declared.output.Output.{Output}
+use Rattle.tool_texts.specs.Rejections.{rejection_output}
 use Rattle.tool_texts.specs.Steps.{◌>>=◌}
 use Rattle.tool_texts.specs.Json.{HasValue}
 use Rattle.tool_commands.specs.Start.{formatted, fitting_in}
@@ -42,3 +46,8 @@ pub record IsBundleWithin (bundle : Bundle) : Type 0 where
 abbrev pub IsJudged : Bundle → Option Rejected → Type 0
 IsJudged bundle None = ValidProof bundle.net bundle.pred bundle.proof
 IsJudged bundle (Some rejected) = IsRejected bundle.net bundle.pred bundle.proof rejected
+
+-- the rejection that a check found is told
+abbrev pub TellsRejection : CheckFault → Result Output Refusal → Type 0
+TellsRejection (Rejects rejected) given = given ≡ Ok (rejection_output rejected)
+TellsRejection NoMemory given = ⊥

@@ -7,14 +7,14 @@ ghost use Rattle.cert_base.specs.ProofBound.{proof_bound};
 ghost use Rattle.pop_checker.specs.Rejections.{IsCheckFault};
 ghost use Rattle.tool_texts.specs.Steps.{GivesStep, Obeys};
 ghost use Rattle.tool_commands.specs.Start.{IsStart};
-ghost use Rattle.tool_commands.specs.Bundles.{bundle_in, begun, IsBundleWithin, IsBundleOf, IsBegunBy};
+ghost use Rattle.tool_commands.specs.Bundles.{bundle_in, begun, IsBundleWithin, IsBundleOf, IsBegunBy, TellsRejection};
 
 use crate::start::{Start, start_of};
 use cert_json::{Bundle, FormatFault, read_bundle};
 use pop_checker::{CheckFault, Checked, check};
 use serde_json::Value;
 use std::alloc::Global;
-use tool_texts::{Refusal, Stop, value_of};
+use tool_texts::{Output, Refusal, Stop, value_of};
 
 /// The bundle of a line that has this value.
 fn bundle_of(alloc: Global, value: &Option<Value>) -> Result<Bundle, Stop>
@@ -77,4 +77,14 @@ pub(crate) fn check_bundle(alloc: Global, bundle: Bundle) -> Result<Checked, Che
 {
     let Bundle { net, pred, proof } = bundle;
     check(alloc, net, pred, &proof)
+}
+
+/// What is said of a proof that is not valid.
+pub(crate) fn rejection_of(alloc: Global, fault: CheckFault) -> Result<Output, Stop>
+    ensures { Obeys (TellsRejection fault) (λ output. output) result }
+{
+    match fault {
+        CheckFault::Rejected(rejected) => Ok(Output::of_rejection(alloc, rejected)?),
+        CheckFault::NoMemory => Err(Stop::NoMemory),
+    }
 }

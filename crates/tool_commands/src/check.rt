@@ -6,9 +6,8 @@ ghost use Rattle.tool_texts.specs.Steps.{Obeys};
 ghost use Rattle.tool_commands.specs.Bundles.{IsBundleWithin};
 ghost use Rattle.tool_commands.specs.Check.{certified_text, OfBundle, CheckGives};
 
-use crate::bundle::{bundle_of_line, check_bundle};
+use crate::bundle::{bundle_of_line, check_bundle, rejection_of};
 use cert_json::Bundle;
-use pop_checker::CheckFault;
 use std::alloc::{AllocError, Global};
 use tool_texts::{Ending, Output, Stop, just_one_line};
 
@@ -29,8 +28,7 @@ fn judge(alloc: Global, bundle: Bundle) -> Result<Output, Stop>
             let text = certified_line(alloc, checked.bound())?;
             Ok(Output::new(text, Ending::Done))
         }
-        Err(CheckFault::Rejected(rejected)) => Ok(Output::of_rejection(alloc, rejected)?),
-        Err(CheckFault::NoMemory) => Err(Stop::NoMemory),
+        Err(fault) => rejection_of(alloc, fault),
     }
 }
 

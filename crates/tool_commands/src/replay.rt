@@ -12,10 +12,9 @@ ghost use Rattle.tool_commands.specs.Bundles.{IsBundleWithin};
 ghost use Rattle.tool_commands.specs.Replay.{holds_text, journal_read, journal_output, replay_output};
 ghost use Rattle.tool_commands.specs.Replay.{OfBegun, ReplayGives};
 
-use crate::bundle::{begin, check_bundle};
+use crate::bundle::{begin, check_bundle, rejection_of};
 use crate::start::Start;
 use cert_json::Bundle;
-use pop_checker::CheckFault;
 use pop_crowd::Crowd;
 use pop_journal::{Journal, JournalFault, VerifyFault, read_journal, verify};
 use pop_net::Net;
@@ -98,8 +97,7 @@ fn replay_begun(
 {
     match check_bundle(alloc, bundle) {
         Ok(checked) => replay_from(alloc, kind, checked.net(), start.crowd, text),
-        Err(CheckFault::Rejected(rejected)) => Ok(Output::of_rejection(alloc, rejected)?),
-        Err(CheckFault::NoMemory) => Err(Stop::NoMemory),
+        Err(fault) => rejection_of(alloc, fault),
     }
 }
 

@@ -10,11 +10,11 @@ ghost use Rattle.tool_commands.specs.Start.{IsStart};
 ghost use Rattle.tool_commands.specs.Bundles.{IsBundleWithin};
 ghost use Rattle.tool_commands.specs.Settle.{take_line, settle_text, OfJudged, OfBegun, SettleGives};
 
-use crate::bundle::begin;
+use crate::bundle::{begin, rejection_of};
 use crate::start::Start;
 use cert_base::Proof;
 use cert_json::Bundle;
-use pop_checker::{CheckFault, Checked, check};
+use pop_checker::{Checked, check};
 use pop_io::NoMemory;
 use pop_journal::{Last, push_last_line};
 use pop_lines::push_number;
@@ -104,8 +104,7 @@ fn settle_begun(alloc: Global, bundle: Bundle, start: Start) -> Result<Output, S
     let Bundle { net, pred, proof } = bundle;
     match check(alloc, net, pred, &proof) {
         Ok(checked) => settle_start(alloc, &checked, &proof, start),
-        Err(CheckFault::Rejected(rejected)) => Ok(Output::of_rejection(alloc, rejected)?),
-        Err(CheckFault::NoMemory) => Err(Stop::NoMemory),
+        Err(fault) => rejection_of(alloc, fault),
     }
 }
 

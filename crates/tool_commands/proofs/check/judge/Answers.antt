@@ -1,6 +1,7 @@
-use Rattle.std.proofs.Common.{Some, None, ap, Ok}
-use Rattle.tool_texts.specs.declared.output.Output.{Output}
+use Rattle.std.proofs.Common.{Some, None, refl}
+use Rattle.tool_commands.specs.Check.{OfBundle}
 use Rattle.tool_commands.proofs.Certified.{certified_as}
+use Rattle.tool_commands.proofs.Rejected.{rejected_obeys}
 use Rattle.tool_commands.proofs.check.judge.Goals as goal
 
 pub returns-in_ok-text-in-Ok : goal.returns-in_ok-text-in-Ok
@@ -8,6 +9,6 @@ returns-in_ok-text-in-Ok c =
     let kept = c.in-Ok.ensures.kept in
     (None, c.in-Ok.ensures.valid, certified_as c.args.bundle c.in-Ok.checked _ _ _ kept c.bound.ensures.value c.in_ok-text-in-Ok.ensures c.new.ensures)
 
-pub returns-in_ok-of_rejection-in-Err-Rejected : goal.returns-in_ok-of_rejection-in-Err-Rejected
-returns-in_ok-of_rejection-in-Err-Rejected c =
-    (Some c.in-Err-Rejected.rejected, rw c.in-Err-Rejected.field-0-is at c.in-Err-Rejected.ensures.fault, ap (λ (o : Output). Ok o) c.in_ok-of_rejection-in-Err-Rejected.ensures)
+pub returns-in-Err : goal.returns-in-Err
+returns-in-Err c =
+    rejected_obeys c.args.bundle (OfBundle c.args.bundle) (λ rejected is. (Some rejected, is, refl)) c.in-Err.fault c.in-Err.ensures.fault c.rejection_of.result c.rejection_of.ensures

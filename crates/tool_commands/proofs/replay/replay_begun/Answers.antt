@@ -8,6 +8,7 @@ use Rattle.tool_texts.specs.declared.output.Output.{Output}
 use Rattle.tool_texts.specs.Steps.{GivesStep}
 use Rattle.tool_texts.proofs.Goes.{gives_obeys}
 use Rattle.tool_commands.specs.Replay.{replay_output, judged_output, OfBegun}
+use Rattle.tool_commands.proofs.Rejected.{rejected_obeys}
 use Rattle.tool_commands.proofs.replay.replay_begun.Goals as goal
 
 pub returns-in-Ok : goal.returns-in-Ok
@@ -23,6 +24,6 @@ returns-in-Ok c =
     (None, c.in-Ok.ensures.valid, refl)
     (subst (λ (r : Result Output Refusal). GivesStep (λ (o : Output). o) c.replay_from.result r) same c.replay_from.ensures)
 
-pub returns-in-Err-Rejected : goal.returns-in-Err-Rejected
-returns-in-Err-Rejected c =
-    (Some c.in-Err-Rejected.rejected, rw c.in-Err-Rejected.field-0-is at c.in-Err-Rejected.ensures.fault, ap (λ (o : Output). Ok o) (rw c.in-Err-Rejected.rejected-is at c.in_ok-of_rejection-in-Err-Rejected.ensures))
+pub returns-in-Err : goal.returns-in-Err
+returns-in-Err c =
+    rejected_obeys c.args.bundle (OfBegun c.args.kind (lines_of c.args.text.now) (c.args.bundle, c.args.start.counts)) (λ rejected is. (Some rejected, is, refl)) c.in-Err.fault c.in-Err.ensures.fault c.rejection_of.result c.rejection_of.ensures

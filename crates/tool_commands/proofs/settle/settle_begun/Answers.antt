@@ -1,16 +1,17 @@
-use Rattle.std.proofs.Common.{Some, None, Ok, sym, ap, subst}
+use Rattle.std.proofs.Common.{Some, None, refl, sym, subst}
 use Rattle.pop_checker.specs.CheckedModel.{CheckedModel}
 use Rattle.pop_settle.specs.Settling.{HasLayers}
 use Rattle.tool_texts.specs.declared.output.Output.{Output}
 use Rattle.tool_texts.specs.Steps.{Obeys}
 use Rattle.tool_texts.proofs.Goes.{obeys_wider}
 use Rattle.tool_commands.specs.Settle.{OfJudged, OfBegun}
+use Rattle.tool_commands.proofs.Rejected.{rejected_obeys}
 use Rattle.tool_commands.proofs.Settled.{has_layers}
 use Rattle.tool_commands.proofs.settle.settle_begun.Goals as goal
 
-pub returns-in-Err-Rejected : goal.returns-in-Err-Rejected
-returns-in-Err-Rejected c =
-    (Some c.in-Err-Rejected.rejected, rw c.in-Err-Rejected.field-0-is at c.in-Err-Rejected.ensures.fault, ap (λ (o : Output). Ok o) c.in_ok-of_rejection-in-Err-Rejected.ensures)
+pub returns-in-Err : goal.returns-in-Err
+returns-in-Err c =
+    rejected_obeys c.args.bundle (OfBegun (c.args.bundle, c.args.start.counts)) (λ rejected is. (Some rejected, is, refl)) c.in-Err.fault c.in-Err.ensures.fault c.rejection_of.result c.rejection_of.ensures
 
 pub settle_start-requires-clause-layers : goal.settle_start-requires-clause-layers
 settle_start-requires-clause-layers c =
