@@ -1,4 +1,4 @@
-use Rattle.std.proofs.Common.{◌≡◌, Some, None, Result, Ok, refl, ap, subst, ◌∙◌}
+use Rattle.std.proofs.Common.{◌≡◌, Some, None, Result, refl, ap, subst, ◌∙◌}
 use Rattle.pop_lines.specs.Lines.{lines_of}
 use Rattle.pop_net.specs.NetModel.{NetModel, CrowdModel}
 use Rattle.pop_net.specs.Lanes.{crowd_of}
