@@ -6,20 +6,21 @@ use serde_json::Value;
 /// `input` that the program is given, the pieces of the `text` that it must write, and its exit `status`, which is one of
 /// these numbers. It may say that the text `begins` with these pieces, what stands `with` them somewhere in the text,
 /// that each of the `prefixes` of the input, ended by a line feed, is an input of its own, and which troubles the source
-/// (`reads`) and the sink (`writes`) have.
+/// (`reads`) and the sink (`writes`) have. Such a member of another type counts as left out.
 #[derive(Drop)]
 pub(crate) struct Row<'r> {
     value: &'r Value,
 }
 
-/// The members that each row has.
-const MEMBERS: [&str; 4] = ["name", "words", "text", "status"];
+/// The lists that each row has, beside its name.
+const LISTS: [&str; 3] = ["words", "text", "status"];
 
 impl<'r> Row<'r> {
     /// The row that a value is, if it has what each row has.
     pub(crate) fn of_value(value: &'r Value) -> Option<Row<'r>> {
-        for member in MEMBERS {
-            value.get(member)?;
+        value.get("name")?.as_str()?;
+        for member in LISTS {
+            value.get(member)?.as_array()?;
         }
         Some(Row { value })
     }
