@@ -1,11 +1,13 @@
 -- Every demo case has a built net, and starts with a crowd that can be run.
-use Rattle.std.proofs.Common.{◌≡◌, ℕ, ◌≤◌, Bool, true, false, refl, arith}
+use Rattle.std.proofs.Common.{◌≡◌, ℕ, ◌≤◌, Bool, true, false, None, refl, arith, rules}
 use Rattle.std.specs.Prelude.{◌==◌, ◌%◌, ◌/◌, if◌then◌else◌}
 use Rattle.pres_ast.specs.PredTree.{PredTree, Negation, Conjunction, Disjunction}
 use Rattle.pop_net.specs.NetModel.{number_of_helpers}
 use Rattle.pop_crowd.specs.Crowds.{input_size}
 use Rattle.pop_crowd.specs.declared.limits.TheConstants.{AGENT_LEAST, AGENT_LIMIT}
 use Rattle.comp_net.specs.BuiltNet.{built_net}
+use Rattle.comp_net.specs.CompileFaults.{fault_with}
+use Rattle.comp_net.specs.declared.choice.LeafChoice.TheVariants.{Plain}
 use Rattle.pop_demo.specs.DemoCase.{names_of_demo, demo_threshold, demo_remainder, of_form, demo_tree, demo_counts}
 use Rattle.tool_commands.specs.Demo.{demo_net}
 
@@ -26,6 +28,10 @@ each_case P first second both either number =
 
 no_helpers : (number : ℕ) → number_of_helpers (demo_net number) ≡ 0
 no_helpers = each_case (λ tree. number_of_helpers (built_net names_of_demo tree) ≡ 0) (λ i. refl) (λ i. refl) (λ i. refl) (λ i. refl)
+
+-- each has a built net
+pub case_fits : (number : ℕ) → fault_with Plain (demo_tree number) ≡ None
+case_fits = each_case (λ tree. fault_with Plain tree ≡ None) (λ i. search rules) (λ i. refl) (λ i. search rules) (λ i. search rules)
 
 pub some_agents : (number : ℕ) → AGENT_LEAST ≤ input_size (demo_net number) (demo_counts number)
 some_agents number = omega (arith, no_helpers number)

@@ -4,6 +4,7 @@ pub mod Ran
 pub mod Rejected
 pub mod Played
 pub mod Ends
+pub mod Made
 pub mod PlayTuples
 pub mod Leads
 pub mod Certified

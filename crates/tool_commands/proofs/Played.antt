@@ -1,5 +1,5 @@
 -- Starting a crowd, and meetings line by line.
-use Rattle.std.proofs.Common.{◌≡◌, ℕ, ◌+◌, ◌≤◌, List, ◌∷◌, length, Result, Ok, Err, refl, sym, ap, ◌∙◌}
+use Rattle.std.proofs.Common.{◌≡◌, ℕ, ◌+◌, ◌≤◌, List, ◌∷◌, length, Result, Ok, Err, refl, sym, ap, subst, ◌∙◌}
 use Rattle.std.proofs.lemmas.Bool.{le-leb}
 use Rattle.std.proofs.lemmas.List.{length-map}
 use Rattle.pop_net.specs.declared.net.Word.{Word}
@@ -47,3 +47,11 @@ nested net crowd pair (Err r) = refl
 module _ (net : NetModel) (agents number : ℕ) (crowd : CrowdModel) (line : List ℕ) (lines : List (List ℕ)) where
   pub goes_on : (pair : ℕ × ℕ) → paired number (meeting_of agents line) ≡ Ok pair → on_from net agents number crowd (line ∷ lines) ≡ on_from net agents (number + 1) (after_meeting net pair.0 pair.1 crowd) lines
   goes_on pair is = rw is (nested net crowd pair (meetings_in agents (number + 1) lines))
+
+-- a line more is played
+pub one_line : (net : NetModel) (agents n number : ℕ) (before after : CrowdModel) (line : List ℕ) (rest more : List (List ℕ)) (end : Result CrowdModel Refusal) (a b : ℕ)
+    → agents ≡ n → rest ≡ line ∷ more → paired number (meeting_of agents line) ≡ Ok (a, b) → after ≡ after_meeting net a b before → on_from net n number before rest ≡ end
+    → on_from net n (number + 1) after more ≡ end
+one_line net agents n number before after line rest more end a b same is pair met so_far =
+    let here : paired number (meeting_of n line) ≡ Ok (a, b) = subst (λ (k : ℕ). paired number (meeting_of k line) ≡ Ok (a, b)) same pair in
+    ap (λ (crowd : CrowdModel). on_from net n (number + 1) crowd more) met ∙ sym (goes_on net n number before line more (a, b) here) ∙ sym (ap (on_from net n number before) is) ∙ so_far

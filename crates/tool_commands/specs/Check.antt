@@ -16,9 +16,12 @@ use Rattle.tool_commands.specs.Bundles.{IsBundleOf, IsJudged}
 abbrev pub certified_text : ℕ → List ℕ
 certified_text bound = codes "certified " ++ decimal bound
 
+abbrev pub certified_output : ℕ → Output
+certified_output bound = record { text = ended (certified_text bound); ending = Done }
+
 -- `certified` with the bound, or the first part of the proof that is not valid
 abbrev pub judgement : Bundle → Option Rejected → Output
-judgement bundle None = record { text = ended (certified_text (proof_bound bundle.proof)); ending = Done }
+judgement bundle None = certified_output (proof_bound bundle.proof)
 judgement bundle (Some rejected) = rejection_output rejected
 
 abbrev pub OfBundle : Bundle → Result Output Refusal → Type 0

@@ -59,9 +59,12 @@ pub record IsCompiled (choice : LeafChoice) (names : List (List ℕ)) (pred : Pr
 abbrev pub bundle_line : Bundle → List ℕ
 bundle_line bundle = ended (compact_text (bundle_data bundle))
 
+abbrev pub compiled_output : Bundle → Output
+compiled_output bundle = record { text = bundle_line bundle; ending = Done }
+
 abbrev pub OfFitting : LeafChoice → List (List ℕ) → PredModel → Unit {0} → Result Output Refusal → Type 0
 OfFitting choice names pred fits given =
-    (bundle : Bundle) × IsCompiled choice names pred bundle × (given ≡ Ok (record { text = bundle_line bundle; ending = Done }))
+    (bundle : Bundle) × IsCompiled choice names pred bundle × (given ≡ Ok (compiled_output bundle))
 
 abbrev pub OfAsked : LeafChoice → List (List ℕ) × PredModel → Result Output Refusal → Type 0
 OfAsked choice asked_by = After (fits_its_leaves choice asked_by.1.tree) (OfFitting choice asked_by.0 asked_by.1)

@@ -1,5 +1,6 @@
 -- What `demo` makes of a number: the summary of a run of its case.
-use Rattle.std.specs.Prelude.{◌≡◌, ℕ, ◌+◌, ◌≤◌, List, [], ◌∷◌, ◌++◌, codes, decimal, length, count_by, Option, Result, Ok}
+use Rattle.std.specs.Prelude.{◌≡◌, ℕ, ◌+◌, ◌<◌, ◌≤◌, ◌^◌, List, [], ◌∷◌, ◌++◌, codes, decimal, length, count_by, Option, Result, Ok}
+use Rattle.pres_ast.specs.PredModel.{PredModel}
 use Rattle.pres_ast.specs.PredicateValue.{predicate_value}
 use Rattle.pres_read.specs.Canonical.{tree_text}
 use Rattle.pop_net.specs.NetModel.{NetModel, CrowdModel, number_of_helpers}
@@ -7,11 +8,14 @@ use Rattle.pop_net.specs.InputCrowd.{IsInput, input_crowd}
 use Rattle.pop_net.specs.Lanes.{crowd_of, AreValid}
 use Rattle.pop_crowd.specs.declared.crowd.Meeting.{Meeting}
 use Rattle.pop_words.specs.declared.spec.TheConstants.{DEMO_LIMIT}
-use Rattle.pair_workers.specs.Run.{IsRun}
+use Rattle.pair_workers.specs.Run.{IsRun, joined}
 use Rattle.pair_workers.specs.declared.alone.RunEnd.{RunEnd}
 use Rattle.pop_journal.specs.Journal.{last_line, text_of}
 use Rattle.pop_journal.specs.declared.last.Last.{Last}
 use Rattle.pop_demo.specs.DemoCase.{names_of_demo, demo_tree, demo_pred, demo_counts, demo_spec}
+use Rattle.cert_base.specs.declared.proof.Proof.{Proof}
+use Rattle.cert_base.specs.ProofLimits.{IsProofWithin}
+use Rattle.cert_base.specs.ValidProof.{ValidProof}
 use Rattle.comp_net.specs.BuiltNet.{built_net}
 use Rattle.tool_texts.specs.declared.refusal.Refusal.{Refusal}
 use Rattle.tool_texts.specs.declared.output.Output.{Output}
@@ -57,6 +61,12 @@ pub record IsDemoOutput (number : ℕ) (output : Output) : Type 0 where
 abbrev pub DemoGives : ℕ → Result Output Refusal → Type 0
 DemoGives number given = (output : Output) × IsDemoOutput number output × (given ≡ Ok output)
 
+-- the net that is built of a predicate, and a valid proof within the limits of its file
+pub record IsBuilt (pred : PredModel) (both : NetModel × Proof) : Type 0 where
+  pub net : both.0 ≡ built_net names_of_demo pred.tree
+  pub valid : ValidProof both.0 pred both.1
+  pub within : IsProofWithin pred.variables (length both.0.leaves) both.1
+
 -- the case of its number: its net, its predicate and its counts
 pub record IsCase (case : Case) : Type 0 where
   pub few : case.number ≤ DEMO_LIMIT
@@ -76,3 +86,4 @@ pub record IsRunOfCase (case : Case) (ran : RunEnd) : Type 0 where
   pub last : IsLast case.checked.net (crowd_of case.checked.net ran.crowd) (open_pair ran.end)
   pub valid : AreValid case.checked.net ran.crowd
   pub agents : length ran.crowd ≡ length (input_crowd case.checked.net case.counts)
+  pub few : length (joined ran.rounds) < 2 ^ 64

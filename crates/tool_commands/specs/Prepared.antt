@@ -1,5 +1,10 @@
 -- What is prepared, and the outputs that it leads to.
-use Rattle.std.specs.Prelude.{◌≡◌, ◌≤◌, Result, Ok, Err}
+use Rattle.std.specs.Prelude.{◌≡◌, ℕ, ◌≤◌, List, length, Result, Ok, Err}
+use Rattle.pop_net.specs.NetModel.{number_of_helpers}
+use Rattle.pop_net.specs.InputCrowd.{IsInput, input_crowd}
+use Rattle.pop_net.specs.Lanes.{crowd_of, AreValid}
+use Rattle.pair_workers.specs.WatchedRun.{IsRunOf}
+use Rattle.pair_workers.specs.declared.alone.RunEnd.{RunEnd}
 use Rattle.pop_words.specs.declared.kind.RunKind.TheVariants.{Whole}
 use Rattle.pop_words.specs.Kinds.{most_workers_of}
 use Rattle.pop_words.specs.Options.{IsWithinLimits}
@@ -7,11 +12,13 @@ use Rattle.tool_texts.specs.declared.refusal.Refusal.{Refusal}
 use Rattle.tool_texts.specs.declared.stop.Stop.{Stop}
 use Rattle.tool_texts.specs.declared.output.Output.{Output}
 use Rattle.tool_texts.specs.Steps.{MayStop}
+use Rattle.tool_commands.specs.declared.prepared.Setting.{Setting}
 use Rattle.tool_commands.specs.declared.prepared.PendingRun.{PendingRun}
 use Rattle.tool_commands.specs.declared.prepared.Prepared.{Prepared}
 use Rattle.tool_commands.specs.declared.prepared.Prepared.TheVariants.{Text, Alone, Threads, Demo}
 use Rattle.tool_commands.specs.Start.{IsStart}
-use Rattle.tool_commands.specs.Run.{IsRunOutput}
+use Rattle.tool_commands.specs.Play.{IsLast}
+use Rattle.tool_commands.specs.Run.{open_pair, IsRunOutput}
 use Rattle.tool_commands.specs.Demo.{CanDemo, IsDemoOutput}
 
 -- a run that can be made
@@ -20,9 +27,19 @@ pub record CanRun (run : PendingRun) : Type 0 where
   pub workers : run.setting.spec.workers ≤ most_workers_of run.setting.kind
   pub start : IsStart run.setting.checked.net (record { counts = run.setting.counts; crowd = run.crowd })
 
+-- a run of this setting that was made
+pub record IsRunOfSetting (setting : Setting) (ran : RunEnd) : Type 0 where
+  pub input : IsInput (length setting.checked.net.variables) (number_of_helpers setting.checked.net) setting.counts
+  pub run : IsRunOf setting.kind setting.checked.net (input_crowd setting.checked.net setting.counts) setting.spec ran.rounds (crowd_of setting.checked.net ran.crowd)
+  pub last : IsLast setting.checked.net (crowd_of setting.checked.net ran.crowd) (open_pair ran.end)
+  pub valid : AreValid setting.checked.net ran.crowd
+
+-- what is given for a run of this setting behind these lines
+abbrev pub IsOutputOfSetting : Setting → List ℕ → Output → Type 0
+IsOutputOfSetting s lines output = IsRunOutput s.kind s.spec lines s.checked.net s.checked.pred s.counts output
+
 abbrev pub IsOutputOfRun : PendingRun → Output → Type 0
-IsOutputOfRun run output =
-    let s = run.setting in IsRunOutput s.kind s.spec run.lines s.checked.net s.checked.pred s.counts output
+IsOutputOfRun run output = IsOutputOfSetting run.setting run.lines output
 
 abbrev pub CanBeMade : Prepared → Type 0
 CanBeMade (Text output) = Unit {0}

@@ -47,10 +47,17 @@ journal_output net start journal =
 abbrev pub replay_output : RunKind → NetModel → CrowdModel → List (List ℕ) → Result Output Refusal
 replay_output kind net start lines = journal_read kind (journal_in kind (length start) JOURNAL_LINE lines) >>= λ journal. Ok (journal_output net start journal)
 
--- a valid proof lets its net's journal be replayed
+-- a valid proof lets its net's journal be replayed from this crowd
+abbrev pub judged_from : RunKind → Bundle → CrowdModel → List (List ℕ) → Option Rejected → Result Output Refusal
+judged_from kind bundle start lines None = replay_output kind bundle.net start lines
+judged_from kind bundle start lines (Some rejected) = Ok (rejection_output rejected)
+
+abbrev pub OfBundle : RunKind → List (List ℕ) → Bundle → CrowdModel → Result Output Refusal → Type 0
+OfBundle kind lines bundle start given = (judged : Option Rejected) × IsJudged bundle judged × (given ≡ judged_from kind bundle start lines judged)
+
+-- the same from the input crowd
 abbrev pub judged_output : RunKind → Bundle → List ℕ → List (List ℕ) → Option Rejected → Result Output Refusal
-judged_output kind bundle counts lines None = replay_output kind bundle.net (input_crowd bundle.net counts) lines
-judged_output kind bundle counts lines (Some rejected) = Ok (rejection_output rejected)
+judged_output kind bundle counts lines judged = judged_from kind bundle (input_crowd bundle.net counts) lines judged
 
 abbrev pub OfBegun : RunKind → List (List ℕ) → Bundle × List ℕ → Result Output Refusal → Type 0
 OfBegun kind lines begin given = (judged : Option Rejected) × IsJudged begin.0 judged × (given ≡ judged_output kind begin.0 begin.1 lines judged)

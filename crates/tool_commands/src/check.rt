@@ -1,21 +1,22 @@
 //! The command `check`.
 
-ghost use Rattle.std.specs.Prelude.{◌≡◌, IfOk};
-ghost use Rattle.pop_lines.specs.Lines.{lines_of, ended};
-ghost use Rattle.tool_texts.specs.Steps.{Obeys};
+ghost use Rattle.std.specs.Prelude.{Ok};
+ghost use Rattle.pop_lines.specs.Lines.{lines_of};
+ghost use Rattle.tool_texts.specs.Steps.{GivesStep, Obeys};
 ghost use Rattle.tool_commands.specs.Bundles.{IsBundleWithin};
-ghost use Rattle.tool_commands.specs.Check.{certified_text, OfBundle, CheckGives};
+ghost use Rattle.tool_commands.specs.Check.{certified_output, OfBundle, CheckGives};
 
 use crate::bundle::{bundle_of_line, check_bundle, rejection_of};
 use cert_json::Bundle;
-use std::alloc::{AllocError, Global};
+use std::alloc::Global;
 use tool_texts::{Ending, Output, Stop, just_one_line};
 
-fn certified_line(alloc: Global, bound: u64) -> Result<Vec<u8>, AllocError>
-    ensures { IfOk result (λ text. text.items ≡ ended (certified_text bound)) }
+/// What is said of a valid proof with this bound.
+fn certified(alloc: Global, bound: u64) -> Result<Output, Stop>
+    ensures { GivesStep (λ output. output) result (Ok (certified_output bound)) }
 {
     let text = format!(in alloc; "certified {bound}\n")?;
-    Ok(text.into_bytes())
+    Ok(Output::new(text.into_bytes(), Ending::Done))
 }
 
 /// What is said of a bundle.
@@ -24,10 +25,7 @@ fn judge(alloc: Global, bundle: Bundle) -> Result<Output, Stop>
     ensures { Obeys (OfBundle bundle) (λ output. output) result }
 {
     match check_bundle(alloc, bundle) {
-        Ok(checked) => {
-            let text = certified_line(alloc, checked.bound())?;
-            Ok(Output::new(text, Ending::Done))
-        }
+        Ok(checked) => certified(alloc, checked.bound()),
         Err(fault) => rejection_of(alloc, fault),
     }
 }

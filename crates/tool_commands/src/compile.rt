@@ -1,18 +1,18 @@
 //! The commands `compile` and `compile --flocks`.
 
-ghost use Rattle.std.specs.Prelude.{◌≡◌, length, IfOk};
+ghost use Rattle.std.specs.Prelude.{◌≡◌, length, Ok, IfOk};
 ghost use Rattle.pop_lines.specs.Lines.{lines_of};
 ghost use Rattle.pop_words.specs.Vars.{AreVariables};
 ghost use Rattle.comp_net.specs.Compiles.{Compiles};
 ghost use Rattle.tool_texts.specs.Steps.{GivesStep, Obeys};
-ghost use Rattle.tool_commands.specs.Compile.{asked_by, fits_its_leaves, bundle_line, IsCompiled, CompileGives};
+ghost use Rattle.tool_commands.specs.Compile.{asked_by, fits_its_leaves, compiled_output, IsCompiled, OfAsked, CompileGives};
 
 use crate::eval::{names_of, pred_of};
 use bundle_text::write_bundle;
 use cert_base::Proof;
 use cert_json::Bundle;
 use comp_net::{CompileFault, LeafChoice};
-use pop_io::{List, NoMemory, Text};
+use pop_io::{List, Text};
 use pop_net::Net;
 use pres_ast::Pred;
 use std::alloc::Global;
@@ -70,21 +70,36 @@ fn bundle_of(
     Err(Stop::Refused(refusal))
 }
 
-/// The line of a bundle that was built, with its line feed.
-fn line_of(
+/// What is given for a bundle that was built: its line.
+fn output_of(
     alloc: Global,
     choice: LeafChoice,
     names: &List<Text>,
     bundle: &Bundle,
-) -> Result<Vec<u8>, NoMemory>
+) -> Result<Output, Stop>
     requires count { bundle.now.pred.variables ≡ length names.now }
     requires compiled { IsCompiled choice names.now bundle.now.pred bundle.now }
-    ensures { IfOk result (λ line. line.items ≡ bundle_line bundle.now) }
+    ensures { GivesStep (λ output. output) result (Ok (compiled_output bundle.now)) }
 {
     let mut line = Vec::new(alloc);
     write_bundle(alloc, &mut line, bundle)?;
     line.push(b'\n')?;
-    Ok(line)
+    Ok(Output::new(line, Ending::Done))
+}
+
+/// What is given for a predicate over these names.
+fn compile_asked(
+    alloc: Global,
+    choice: LeafChoice,
+    names: &List<Text>,
+    pred: Pred,
+) -> Result<Output, Stop>
+    requires formed { AreVariables names.now }
+    requires count { pred.variables ≡ length names.now }
+    ensures { Obeys (OfAsked choice (names.now, pred)) (λ output. output) result }
+{
+    let bundle = bundle_of(alloc, choice, pred, names)?;
+    output_of(alloc, choice, names, &bundle)
 }
 
 /// What `compile` gives for an input, with these leaves.
@@ -92,7 +107,5 @@ pub(crate) fn compile(alloc: Global, choice: LeafChoice, input: &[u8]) -> Result
     ensures { Obeys (CompileGives choice (lines_of input.now)) (λ output. output) result }
 {
     let (names, pred) = asked(alloc, input)?;
-    let bundle = bundle_of(alloc, choice, pred, &names)?;
-    let line = line_of(alloc, choice, &names, &bundle)?;
-    Ok(Output::new(line, Ending::Done))
+    compile_asked(alloc, choice, &names, pred)
 }

@@ -1,6 +1,6 @@
 //! The command `demo`.
 
-ghost use Rattle.std.specs.Prelude.{◌≡◌, ◌++◌, ◌<◌, ◌≤◌, ◌^◌, codes, count_by, decimal, length, IfOk, OnOk};
+ghost use Rattle.std.specs.Prelude.{◌≡◌, ◌++◌, ◌<◌, ◌≤◌, ◌^◌, codes, count_by, decimal, length, None, IfOk, OnOk};
 ghost use Rattle.pres_ast.specs.PredicateValue.{predicate_value};
 ghost use Rattle.pop_lines.specs.Lines.{ended};
 ghost use Rattle.pop_net.specs.Lanes.{crowd_of};
@@ -8,14 +8,18 @@ ghost use Rattle.pop_words.specs.declared.spec.TheConstants.{DEMO_LIMIT};
 ghost use Rattle.pair_workers.specs.Run.{joined};
 ghost use Rattle.pair_workers.specs.Ends.{IsRunFrom};
 ghost use Rattle.pop_journal.specs.Journal.{text_of};
-ghost use Rattle.pop_demo.specs.DemoCase.{demo_counts, demo_spec};
+ghost use Rattle.pop_demo.specs.DemoCase.{demo_counts, demo_spec, names_of_demo};
+ghost use Rattle.comp_net.specs.BuiltNet.{built_net};
+ghost use Rattle.comp_net.specs.CompileFaults.{fault_with};
+ghost use Rattle.comp_net.specs.declared.choice.LeafChoice.TheVariants.{Plain};
 ghost use Rattle.tool_commands.specs.Prepared.{LeadsTo, NeedsNoThreads};
 ghost use Rattle.tool_commands.specs.Start.{IsStart};
 ghost use Rattle.tool_commands.specs.Demo.{changed, demo_start, summary_lines};
-ghost use Rattle.tool_commands.specs.Demo.{DemoGives, IsCase, IsDemoOutput, IsRunOfCase, CanDemo};
+ghost use Rattle.tool_commands.specs.Demo.{DemoGives, IsBuilt, IsCase, IsDemoOutput, IsRunOfCase, CanDemo};
 
 use crate::prepared::Prepared;
 use crate::run::last_and_ending;
+use cert_base::Proof;
 use comp_net::{CompileFault, compile};
 use pair_workers::{RunEnd, run_alone};
 use pop_checker::{CheckFault, Checked, check};
@@ -24,6 +28,8 @@ use pop_demo::{demo_case, demo_names, demo_run};
 use pop_io::{Gate, List, NoMemory};
 use pop_journal::{Last, push_last_line};
 use pop_lines::push_number;
+use pop_net::Net;
+use pres_ast::Pred;
 use pres_read::print_pred;
 use std::alloc::{AllocError, Global};
 use tool_texts::Output;
@@ -43,28 +49,48 @@ pub struct PendingDemo {
     pub crowd: Crowd,
 }
 
+/// The net that is built of a predicate over the names of the demo, and its proof.
+fn built(alloc: Global, pred: &Pred) -> Result<(Net, Proof), NoMemory>
+    requires fits { fault_with Plain pred.now.tree ≡ None }
+    requires count { pred.now.variables ≡ length names_of_demo }
+    ensures { IfOk result (IsBuilt pred.now) }
+{
+    let names = demo_names(alloc)?;
+    match compile(alloc, pred, &names) {
+        Ok(built) => Ok(built),
+        Err(CompileFault::NoMemory) => Err(NoMemory),
+        Err(_) => unreachable!(),
+    }
+}
+
+/// The net that is built of a predicate over the names of the demo, which is checked.
+fn checked_of(alloc: Global, pred: Pred) -> Result<Checked, NoMemory>
+    requires fits { fault_with Plain pred.tree ≡ None }
+    requires count { pred.variables ≡ length names_of_demo }
+    ensures net { IfOk result (λ checked. checked.net ≡ built_net names_of_demo pred.tree) }
+    ensures pred { IfOk result (λ checked. checked.pred ≡ pred) }
+{
+    let (net, proof) = built(alloc, &pred)?;
+    match check(alloc, net, pred, &proof) {
+        Ok(checked) => Ok(checked),
+        Err(CheckFault::NoMemory) => Err(NoMemory),
+        Err(CheckFault::Rejected(_)) => unreachable!(),
+    }
+}
+
 /// The case of a number.
 fn case_of(alloc: Global, number: u32) -> Result<Case, NoMemory>
     requires { number ≤ DEMO_LIMIT }
     ensures number { IfOk result (λ case. case.number ≡ number) }
     ensures case { IfOk result IsCase }
 {
-    let names = demo_names(alloc)?;
     let (pred, counts) = demo_case(alloc, number)?;
-    let (net, proof) = match compile(alloc, &pred, &names) {
-        Ok(built) => built,
-        Err(CompileFault::NoMemory) => return Err(NoMemory),
-        Err(_) => unreachable!(),
-    };
-    match check(alloc, net, pred, &proof) {
-        Ok(checked) => Ok(Case {
-            number,
-            checked,
-            counts,
-        }),
-        Err(CheckFault::NoMemory) => Err(NoMemory),
-        Err(CheckFault::Rejected(_)) => unreachable!(),
-    }
+    let checked = checked_of(alloc, pred)?;
+    Ok(Case {
+        number,
+        checked,
+        counts,
+    })
 }
 
 /// The crowd in which a case starts.
@@ -150,12 +176,25 @@ fn summary_of(alloc: Global, case: &Case, run: &RunEnd, last: Last) -> Result<Ve
 fn case_output(alloc: Global, case: &Case, run: &RunEnd) -> Result<Output, NoMemory>
     requires case { IsCase case.now }
     requires run { IsRunOfCase case.now run.now }
-    requires few { length (joined run.now.rounds) < 2 ^ 64 }
     ensures { IfOk result (IsDemoOutput case.now.number) }
 {
     let (last, ending) = last_and_ending(&case.checked, case.counts.as_slice(), run);
     let text = summary_of(alloc, case, run, last)?;
     Ok(Output::new(text, ending))
+}
+
+/// What is said of a run of a case, if it was made.
+fn demo_output(
+    alloc: Global,
+    case: &Case,
+    ran: Result<RunEnd, NoMemory>,
+) -> Result<Output, NoMemory>
+    requires case { IsCase case.now }
+    requires run { IfOk ran (IsRunOfCase case.now) }
+    ensures { IfOk result (IsDemoOutput case.now.number) }
+{
+    let end = ran?;
+    case_output(alloc, case, &end)
 }
 
 /// Makes the run of a case. It waits for no thread.
@@ -165,6 +204,6 @@ pub fn make_demo<G: Gate>(alloc: Global, demo: PendingDemo, gate: &G) -> Result<
 {
     let PendingDemo { case, crowd } = demo;
     let spec = demo_run(case.number);
-    let run = run_alone(alloc, case.checked.net(), crowd, &spec, gate)?;
-    case_output(alloc, &case, &run)
+    let ran = run_alone(alloc, case.checked.net(), crowd, &spec, gate);
+    demo_output(alloc, &case, ran)
 }

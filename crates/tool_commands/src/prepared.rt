@@ -7,7 +7,7 @@ use pop_io::List;
 use pop_words::{RunKind, RunSpec};
 use tool_texts::Output;
 
-/// What a run of a net is made by, whose proof is valid.
+/// The setting of a run: a net whose proof is valid, and how it is run.
 #[derive(Drop)]
 pub struct Setting {
     pub kind: RunKind,

@@ -1,35 +1,43 @@
 //! The command `replay`, with the flag `--watched` or without.
 
 ghost use Rattle.std.specs.Prelude.{◌≡◌, length, Ok, IfOk};
-ghost use Rattle.pop_lines.specs.Lines.{lines_of, ended};
+ghost use Rattle.pop_lines.specs.Lines.{lines_of};
 ghost use Rattle.pop_net.specs.Lanes.{crowd_of, AreValid};
 ghost use Rattle.pop_words.specs.Options.{IsWithinLimits};
 ghost use Rattle.pop_journal.specs.Rounds.{AreRoundsOf};
 ghost use Rattle.pop_journal.specs.Form.{journal_in};
 ghost use Rattle.tool_texts.specs.Steps.{GivesStep, Obeys};
-ghost use Rattle.tool_commands.specs.Start.{IsStart};
 ghost use Rattle.tool_commands.specs.Bundles.{IsBundleWithin};
-ghost use Rattle.tool_commands.specs.Replay.{holds_text, journal_read, journal_output, replay_output};
-ghost use Rattle.tool_commands.specs.Replay.{OfBegun, ReplayGives};
+ghost use Rattle.tool_texts.specs.Differences.{difference_output};
+ghost use Rattle.tool_commands.specs.Replay.{holds_output, journal_read, journal_output, replay_output};
+ghost use Rattle.tool_commands.specs.Replay.{OfBundle, ReplayGives};
 
 use crate::bundle::{begin, check_bundle, rejection_of};
-use crate::start::Start;
 use cert_json::Bundle;
 use pop_crowd::Crowd;
 use pop_journal::{Journal, JournalFault, VerifyFault, read_journal, verify};
 use pop_net::Net;
 use pop_words::RunKind;
-use std::alloc::{AllocError, Global};
+use std::alloc::Global;
 use tool_texts::{Ending, Output, Refusal, Stop, two_and_some_lines};
 
 /// The number of the line in which the journal begins, behind the bundle and the crowd line.
 pub const JOURNAL_LINE: u64 = 3;
 
-fn holds_line(alloc: Global, meetings: u64) -> Result<Vec<u8>, AllocError>
-    ensures { IfOk result (λ text. text.items ≡ ended (holds_text meetings)) }
+/// What is said of a journal that holds, with its number of meetings.
+fn holds(alloc: Global, meetings: u64) -> Result<Output, Stop>
+    ensures { GivesStep (λ output. output) result (Ok (holds_output meetings)) }
 {
     let text = format!(in alloc; "holds {meetings}\n")?;
-    Ok(text.into_bytes())
+    Ok(Output::new(text.into_bytes(), Ending::Done))
+}
+
+/// What is said of a journal whose line of this number isn't the expected one.
+fn differs(alloc: Global, line: u64, kept: &[u8], found: &[u8]) -> Result<Output, Stop>
+    ensures { GivesStep (λ output. output) result
+        (Ok (difference_output (record { line = line; kept = kept.now; found = found.now }))) }
+{
+    Ok(Output::of_difference(alloc, line, kept, found)?)
 }
 
 /// The journal of a run of this kind that a text tells, for so many agents.
@@ -56,12 +64,9 @@ fn compare(alloc: Global, net: &Net, crowd: Crowd, journal: &Journal) -> Result<
     ensures { GivesStep (λ output. output) result (Ok (journal_output net.now (crowd_of net.now crowd) journal.now)) }
 {
     match verify(alloc, net, crowd, journal) {
-        Ok(meetings) => {
-            let text = holds_line(alloc, meetings)?;
-            Ok(Output::new(text, Ending::Done))
-        }
+        Ok(meetings) => holds(alloc, meetings),
         Err(VerifyFault::Differs { line, kept, found }) => {
-            Ok(Output::of_difference(alloc, line, kept.as_slice(), found.as_slice())?)
+            differs(alloc, line, kept.as_slice(), found.as_slice())
         }
         Err(VerifyFault::NoMemory) => Err(Stop::NoMemory),
     }
@@ -88,15 +93,15 @@ fn replay_begun(
     alloc: Global,
     kind: RunKind,
     bundle: Bundle,
-    start: Start,
+    crowd: Crowd,
     text: &[u8],
 ) -> Result<Output, Stop>
     requires limits { IsBundleWithin bundle }
-    requires start { IsStart bundle.net start }
-    ensures { Obeys (OfBegun kind (lines_of text.now) (bundle, start.counts)) (λ output. output) result }
+    requires valid { AreValid bundle.net crowd }
+    ensures { Obeys (OfBundle kind (lines_of text.now) bundle (crowd_of bundle.net crowd)) (λ output. output) result }
 {
     match check_bundle(alloc, bundle) {
-        Ok(checked) => replay_from(alloc, kind, checked.net(), start.crowd, text),
+        Ok(checked) => replay_from(alloc, kind, checked.net(), crowd, text),
         Err(fault) => rejection_of(alloc, fault),
     }
 }
@@ -107,5 +112,5 @@ pub(crate) fn replay(alloc: Global, kind: RunKind, input: &[u8]) -> Result<Outpu
 {
     let (first, second, text) = two_and_some_lines(input)?;
     let (bundle, start) = begin(alloc, (first, second))?;
-    replay_begun(alloc, kind, bundle, start, text)
+    replay_begun(alloc, kind, bundle, start.crowd, text)
 }

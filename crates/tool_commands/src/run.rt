@@ -11,12 +11,11 @@ ghost use Rattle.pop_net.specs.Lanes.{crowd_of, AreValid};
 ghost use Rattle.pop_words.specs.declared.kind.RunKind.TheVariants.{Whole};
 ghost use Rattle.pop_words.specs.Kinds.{most_workers_of};
 ghost use Rattle.pop_words.specs.Options.{IsWithinLimits};
-ghost use Rattle.pair_workers.specs.WatchedRun.{IsRunOf};
 ghost use Rattle.tool_commands.specs.Play.{IsLast};
 ghost use Rattle.tool_commands.specs.Start.{IsStart};
 ghost use Rattle.tool_commands.specs.Bundles.{IsBundleWithin};
-ghost use Rattle.tool_commands.specs.Run.{journal_end, run_ending, open_pair, IsRunOutput, OfBegun, RunGives};
-ghost use Rattle.tool_commands.specs.Prepared.{CanRun, IsOutputOfRun, NeedsNoThreads, Prepares, IsPending};
+ghost use Rattle.tool_commands.specs.Run.{journal_end, run_ending, open_pair, OfBegun, RunGives};
+ghost use Rattle.tool_commands.specs.Prepared.{CanRun, IsRunOfSetting, IsOutputOfSetting, IsOutputOfRun, NeedsNoThreads, Prepares, IsPending};
 
 use crate::bundle::{begin, check_bundle};
 use crate::prepared::{PendingRun, Prepared, Setting};
@@ -27,7 +26,6 @@ use pop_checker::{CheckFault, Checked};
 use pop_crowd::Crowd;
 use pop_io::{Gate, List, NoMemory};
 use pop_journal::{Last, push_journal};
-use pop_net::Net;
 use pop_watch::run_watched;
 use pop_words::{RunKind, RunSpec};
 use std::alloc::{AllocError, Global};
@@ -81,22 +79,28 @@ fn run_output(
     setting: &Setting,
     run: &RunEnd,
 ) -> Result<Output, NoMemory>
-    requires input { IsInput (length setting.now.checked.net.variables) (number_of_helpers setting.now.checked.net)
-        setting.now.counts }
-    requires valid { AreValid setting.now.checked.net run.now.crowd }
-    requires run { IsRunOf setting.now.kind setting.now.checked.net
-        (input_crowd setting.now.checked.net setting.now.counts)
-        setting.now.spec run.now.rounds (crowd_of setting.now.checked.net run.now.crowd) }
-    requires last { IsLast setting.now.checked.net (crowd_of setting.now.checked.net run.now.crowd)
-        (open_pair run.now.end) }
-    ensures { IfOk result (IsRunOutput setting.now.kind setting.now.spec lines
-        setting.now.checked.net setting.now.checked.pred setting.now.counts) }
+    requires { IsRunOfSetting setting.now run.now }
+    ensures { IfOk result (IsOutputOfSetting setting.now lines) }
 {
     let (last, ending) = last_and_ending(&setting.checked, setting.counts.as_slice(), run);
     let (net, spec) = (setting.checked.net(), &setting.spec);
     let mut text = lines.into_vec();
     push_journal(alloc, &mut text, setting.kind, net, spec, run, last)?;
     Ok(Output::new(text, ending))
+}
+
+/// The output of a run, if it was made.
+fn made_output(
+    alloc: Global,
+    lines: List<u8>,
+    setting: &Setting,
+    ran: Result<RunEnd, NoMemory>,
+) -> Result<Output, NoMemory>
+    requires { IfOk ran (IsRunOfSetting setting.now) }
+    ensures { IfOk result (IsOutputOfSetting setting.now lines) }
+{
+    let end = ran?;
+    run_output(alloc, lines, setting, &end)
 }
 
 /// Makes a whole run by one worker. It waits for no thread.
@@ -111,31 +115,27 @@ pub fn make_alone<G: Gate>(alloc: Global, run: PendingRun, gate: &G) -> Result<O
         setting,
         crowd,
     } = run;
-    let end = run_alone(alloc, setting.checked.net(), crowd, &setting.spec, gate)?;
-    run_output(alloc, lines, &setting, &end)
+    let ran = run_alone(alloc, setting.checked.net(), crowd, &setting.spec, gate);
+    made_output(alloc, lines, &setting, ran)
 }
 
-/// A run of this kind by workers on threads.
+/// A run of this setting by workers on threads.
 fn run_on_threads<R: Threads + Wait + Sync, G: Gate>(
     rt: &R,
     alloc: Global,
-    kind: RunKind,
-    net: &Net,
+    setting: &Setting,
     crowd: Crowd,
-    spec: &RunSpec,
     gate: &G,
 ) -> Result<RunEnd, NoMemory>
-    requires limits { IsWithinLimits spec.now }
-    requires workers { spec.now.workers ≤ most_workers_of kind }
-    requires valid { AreValid net.now crowd }
-    ensures run { IfOk result
-        (λ run. IsRunOf kind net.now (crowd_of net.now crowd) spec.now run.rounds (crowd_of net.now run.crowd)) }
-    ensures last { IfOk result (λ run. IsLast net.now (crowd_of net.now run.crowd) (open_pair run.end)) }
-    ensures valid { IfOk result (λ run. AreValid net.now run.crowd) }
+    requires limits { IsWithinLimits setting.now.spec }
+    requires workers { setting.now.spec.workers ≤ most_workers_of setting.now.kind }
+    requires start { IsStart setting.now.checked.net (record { counts = setting.now.counts; crowd = crowd }) }
+    ensures { IfOk result (IsRunOfSetting setting.now) }
 {
-    match kind {
-        RunKind::Whole => Ok(run_all(rt, alloc, net, crowd, spec, gate)?),
-        RunKind::Watched => Ok(run_watched(rt, alloc, net, crowd, spec, gate)?),
+    let (net, spec) = (setting.checked.net(), &setting.spec);
+    match setting.kind {
+        RunKind::Whole => run_all(rt, alloc, net, crowd, spec, gate),
+        RunKind::Watched => run_watched(rt, alloc, net, crowd, spec, gate),
     }
 }
 
@@ -154,9 +154,8 @@ pub fn make_on_threads<R: Threads + Wait + Sync, G: Gate>(
         setting,
         crowd,
     } = run;
-    let net = setting.checked.net();
-    let end = run_on_threads(rt, alloc, setting.kind, net, crowd, &setting.spec, gate)?;
-    run_output(alloc, lines, &setting, &end)
+    let ran = run_on_threads(rt, alloc, &setting, crowd, gate);
+    made_output(alloc, lines, &setting, ran)
 }
 
 /// The run that is still to be made, alone or on threads.

@@ -15,6 +15,7 @@ use crate::start::Start;
 use cert_base::Proof;
 use cert_json::Bundle;
 use pop_checker::{Checked, check};
+use pop_crowd::Crowd;
 use pop_io::NoMemory;
 use pop_journal::{Last, push_last_line};
 use pop_lines::push_number;
@@ -75,18 +76,18 @@ fn settle_start(
     alloc: Global,
     checked: &Checked,
     proof: &Proof,
-    start: Start,
+    counts: &[u64],
+    crowd: Crowd,
 ) -> Result<Output, Stop>
     requires layers { HasLayers checked.now.net proof.now }
-    requires start { IsStart checked.now.net start }
+    requires start { IsStart checked.now.net (record { counts = counts.now; crowd = crowd }) }
     ensures { Obeys
-        (OfJudged (record { net = checked.now.net; pred = checked.now.pred; proof = proof.now }) start.counts None)
+        (OfJudged (record { net = checked.now.net; pred = checked.now.pred; proof = proof.now }) counts.now None)
         (λ output. output) result }
 {
-    let Start { counts, crowd } = start;
     match pop_settle::settle(alloc, checked.net(), proof, crowd) {
         Ok(settled) => {
-            let verdict = checked.verdict(counts.as_slice(), &settled.crowd);
+            let verdict = checked.verdict(counts, &settled.crowd);
             let text = settled_text(alloc, checked.net(), &settled, verdict)?;
             Ok(Output::new(text, Ending::Done))
         }
@@ -96,14 +97,14 @@ fn settle_start(
 }
 
 /// What is said of a bundle's crowd, if the proof is valid.
-fn settle_begun(alloc: Global, bundle: Bundle, start: Start) -> Result<Output, Stop>
+fn settle_begun(alloc: Global, bundle: Bundle, counts: &[u64], crowd: Crowd) -> Result<Output, Stop>
     requires limits { IsBundleWithin bundle }
-    requires start { IsStart bundle.net start }
-    ensures { Obeys (OfBegun (bundle, start.counts)) (λ output. output) result }
+    requires start { IsStart bundle.net (record { counts = counts.now; crowd = crowd }) }
+    ensures { Obeys (OfBegun (bundle, counts.now)) (λ output. output) result }
 {
     let Bundle { net, pred, proof } = bundle;
     match check(alloc, net, pred, &proof) {
-        Ok(checked) => settle_start(alloc, &checked, &proof, start),
+        Ok(checked) => settle_start(alloc, &checked, &proof, counts, crowd),
         Err(fault) => rejection_of(alloc, fault),
     }
 }
@@ -114,5 +115,6 @@ pub(crate) fn settle(alloc: Global, input: &[u8]) -> Result<Output, Stop>
 {
     let lines = just_two_lines(input)?;
     let (bundle, start) = begin(alloc, lines)?;
-    settle_begun(alloc, bundle, start)
+    let Start { counts, crowd } = start;
+    settle_begun(alloc, bundle, counts.as_slice(), crowd)
 }

@@ -20,6 +20,9 @@ pub summary_of-requires-clause-agents : goal.summary_of-requires-clause-agents
 summary_of-requires-clause-agents c =
     c.requires.run.agents ∙ ap (length {A = List ℕ}) (λ i. input_crowd (c.requires.case.net i) (c.requires.case.counts i))
 
+pub summary_of-requires-clause-few : goal.summary_of-requires-clause-few
+summary_of-requires-clause-few c = c.requires.run.few
+
 pub last_and_ending-last-requires-clause-reached : goal.last_and_ending-last-requires-clause-reached
 last_and_ending-last-requires-clause-reached c =
     let case = c.args.case.now in

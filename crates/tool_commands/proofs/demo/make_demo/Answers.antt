@@ -1,35 +1,35 @@
 use Rattle.std.proofs.Common.{length, List, ℕ, ◌≤◌, ap, sym, subst, ◌∙◌, arith}
 use Rattle.std.proofs.lemmas.List.{length-map}
+use Rattle.std.proofs.lemmas.Result.{IfOk-weaker}
 use Rattle.pop_net.specs.NetModel.{CrowdModel}
 use Rattle.pop_net.specs.Lanes.{crowd_of, tuple_of}
 use Rattle.pop_words.specs.declared.spec.RunSpec.{RunSpec}
 use Rattle.pair_workers.specs.Run.{IsRun}
+use Rattle.pair_workers.specs.OneRun.{IsOnlyRunFrom}
+use Rattle.pair_workers.specs.declared.alone.RunEnd.{RunEnd}
+use Rattle.tool_commands.specs.Demo.{IsRunOfCase}
 use Rattle.tool_commands.proofs.InputSize.{length-input_crowd}
 use Rattle.tool_commands.proofs.Changed.{run_small}
 use Rattle.tool_commands.proofs.Ends.{run_last}
 use Rattle.tool_commands.proofs.demo.make_demo.Goals as goal
 
-pub case_output-requires-clause-run : goal.case_output-requires-clause-run
-case_output-requires-clause-run g c =
-    let net = c.args.demo.case.checked.net in
-    let crowd = c.args.demo.crowd in
-    let ran = c.in_ok-run.run' in
-    let end = crowd_of net ran.crowd in
-    let run = rw c.net.ensures at c.in_ok-run.ensures.run in
-    let start = c.requires.start in record {
-      input = start.input;
-      run = subst (λ (t : CrowdModel × RunSpec). IsRun net t.0 t.1 ran.rounds end) (λ i. (start.crowd i, c.demo_run-spec.ensures.run i)) run.run;
-      last = run_last net end c.demo_run-spec.result (length ran.rounds) ran.end run.ends;
-      valid = run.valid;
-      agents = run.agents ∙ sym (length-map crowd (tuple_of net)) ∙ ap (length {A = List ℕ}) start.crowd;
-    }
-
-pub case_output-requires-clause-few : goal.case_output-requires-clause-few
-case_output-requires-clause-few g c =
+pub demo_output-requires-clause-run : goal.demo_output-requires-clause-run
+demo_output-requires-clause-run g c =
     let case = c.args.demo.case in
     let net = case.checked.net in
-    let start = crowd_of net c.args.demo.crowd in
-    let run = rw c.net.ensures at c.in_ok-run.ensures.run in
-    let long = ap (length {A = List ℕ}) c.requires.start.crowd ∙ length-input_crowd net case.counts in
-    let two : 2 ≤ length start = omega (arith, long, c.requires.start.input.two_agents) in
-    run_small net start c.demo_run-spec.result c.in_ok-run.run'.rounds _ two c.demo_run-spec.ensures.limits run.run
+    let crowd = c.args.demo.crowd in
+    let spec = c.demo_run-spec.result in
+    let input = c.requires.start in
+    let start = crowd_of net crowd in
+    let long = ap (length {A = List ℕ}) input.crowd ∙ length-input_crowd net case.counts in
+    let two : 2 ≤ length start = omega (arith, long, input.input.two_agents) in
+    IfOk-weaker c.run_alone-ran.result (IsOnlyRunFrom net crowd spec) (IsRunOfCase case)
+    (λ (ran : RunEnd) is. let end = crowd_of net ran.crowd in record {
+      input = input.input;
+      run = subst (λ (t : CrowdModel × RunSpec). IsRun net t.0 t.1 ran.rounds end) (λ i. (input.crowd i, c.demo_run-spec.ensures.run i)) is.run.run;
+      last = run_last net end spec (length ran.rounds) ran.end is.run.ends;
+      valid = is.run.valid;
+      agents = is.run.agents ∙ sym (length-map crowd (tuple_of net)) ∙ ap (length {A = List ℕ}) input.crowd;
+      few = run_small net start spec ran.rounds end two c.demo_run-spec.ensures.limits is.run.run;
+    })
+    (rw c.net.ensures at c.run_alone-ran.ensures)

@@ -1,12 +1,7 @@
-use Rattle.pop_net.specs.Lanes.{crowd_of}
-use Rattle.std.proofs.Common.{length}
-use Rattle.tool_commands.proofs.Ends.{run_last}
+use Rattle.tool_commands.proofs.Made.{made_alone}
 use Rattle.tool_commands.proofs.run.make_alone.Goals as goal
 
-pub run_output-requires-clause-last : goal.run_output-requires-clause-last
-run_output-requires-clause-last g c =
-    let setting = c.args.run.setting in
-    let net = setting.checked.net in
-    let ran = c.in_ok-end.end in
-    let run = rw c.net.ensures at c.in_ok-end.ensures.run in
-    run_last net (crowd_of net ran.crowd) setting.spec (length ran.rounds) ran.end run.ends
+pub made_output-requires : goal.made_output-requires
+made_output-requires g c =
+    let run = c.args.run in
+    made_alone run.setting run.crowd c.requires.can.start c.requires.kind c.run_alone-ran.result (rw c.net.ensures at c.run_alone-ran.ensures)

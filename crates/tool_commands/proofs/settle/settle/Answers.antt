@@ -18,7 +18,7 @@ returns c =
     let lines = c.in_ok-lines.lines in
     let begin : Bundle × List ℕ = (c.in_ok-bundle.bundle, c.in_ok-bundle.start.counts) in
     obeys_wider (OfBegun begin) (SettleGives (lines_of c.args.input.now))
-    (λ given of. for_lines (lines.0.now, lines.1.now) _ given c.in_ok-lines.ensures (Ok begin, c.in_ok-bundle.ensures.begun, of)) _ c.settle_begun.result c.settle_begun.ensures
+    (λ given of. for_lines (lines.0.now, lines.1.now) _ given c.in_ok-lines.ensures (Ok begin, c.in_ok-bundle.ensures.begun, of)) _ c.settle_begun.result (rw c.as_slice.ensures at c.settle_begun.ensures)
 
 pub returns-in_err-bundle : goal.returns-in_err-bundle
 returns-in_err-bundle c =
