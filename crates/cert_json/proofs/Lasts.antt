@@ -1,6 +1,8 @@
 -- The last of the numbers that were read, by its place.
-use Rattle.std.proofs.Common.{◌≡◌, ℕ, zero, suc, ◌+◌, ◌-◌, List, [], ◌∷◌, length, map, refl, arith}
+use Rattle.std.proofs.Common.{◌≡◌, ◌≢◌, inl, inr, ◌⊎◌, ℕ, zero, suc, ◌+◌, ◌-◌, ◌<◌, ◌==◌, true, false, List, [], ◌∷◌, length, map, get_or, Some, refl, arith}
 use Rattle.std.specs.Prelude.{option_map, slice_get}
+use Rattle.std.proofs.lemmas.Bool.Decides.{eqb_tells}
+use Rattle.std.proofs.lemmas.Option.{get_or_from_slice_get}
 use Rattle.json_shape.specs.Shapes.{last_of}
 
 module _ {A : Type 0} (number : A → ℕ) where
@@ -14,3 +16,11 @@ module _ {A : Type 0} (number : A → ℕ) where
   pub last_of_all : (xs : List A) → option_map number (slice_get xs (length xs - 1)) ≡ last_of (map number xs)
   last_of_all [] = refl
   last_of_all (x ∷ xs) = last_at (x ∷ xs) (length (x ∷ xs) - 1) (omega arith)
+
+-- what fits each of the first fits one more
+pub one_more_fits : {A : Type 0} (P : A → Type 0) (xs : List A) (i : ℕ) (x : A) → ((k : ℕ) → k < i → (d : A) → P (get_or xs k d)) → slice_get xs i ≡ Some x → P x → (k : ℕ) → k < i + 1 → (d : A) → P (get_or xs k d)
+one_more_fits P xs i x so_far is here k below d = go (eqb_tells k i)
+  where
+    go : ((k == i) ≡ true) × (k ≡ i) ⊎ ((k == i) ≡ false) × (k ≢ i) → P (get_or xs k d)
+    go (inl same) = rw (same.1, get_or_from_slice_get xs i x d is) here
+    go (inr other) = let ne = other.1 in so_far k (omega (arith, below, ne)) d

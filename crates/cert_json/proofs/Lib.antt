@@ -4,6 +4,7 @@ pub mod PartLaws
 pub mod NodeLaws
 pub mod ProofLaws
 pub mod Short
+pub mod Members
 pub mod WrittenFiles
 pub mod BundleLaws
 pub mod ReadPreds

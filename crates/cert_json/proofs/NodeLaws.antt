@@ -21,7 +21,7 @@ use Rattle.cert_json.specs.declared.kind.NodeKind.{NodeKind}
 use Rattle.cert_json.specs.declared.kind.NodeKind.TheVariants as kind
 use Rattle.cert_json.specs.Kinds.{kind_text, kind_else, kind_named}
 use Rattle.cert_json.specs.ProofFile.{IsTerm, AreParts, IsNode}
-use Rattle.cert_json.specs.Examined.{index_at, state_at, modulus_at, small_at, terms_at, numbers_of, row_terms_at, set_states_at, with_one, with_two, split_by, after_word, by_kind, node_at, node_item, nodes_at}
+use Rattle.cert_json.specs.Examined.{index_at, state_at, modulus_at, small_at, terms_at, numbers_of, row_terms_at, set_states_at, only_by, with_one, with_two, split_by, after_word, by_kind, node_at, node_item, nodes_at}
 use Rattle.cert_json.proofs.PartLaws
 
 by_test : (v w : NodeKind) (s : List ℕ) (other : Option NodeKind) → (other ≡ Some w → s ≡ kind_text w) → (b : Bool) → bytes_eq s (kind_text v) ≡ b → cond b (Some v) other ≡ Some w → s ≡ kind_text w
@@ -44,9 +44,9 @@ module _ {A : Type 0} (read : List ℕ → Data → Result A Fault) (Is : A → 
       → (path s : List ℕ) (ds : List Data) (node : Node) → word_at path ds ≡ Ok s → with_one read make path ds ≡ Ok node → (x : A) × (make x ≡ node) × BeginsWith s (IsOnly (Is x)) ds × P x
   one_takes takes path s ds node w e =
       let made = λ (x : A). (let o : Result Node Fault = Ok (make x) in o) in
-      let d = bind_ok (one_after path ds) (λ d. read (item_path path 1) d >>= λ x. made x) node e in
-      let x = bind_ok (read (item_path path 1) d.0) (λ x. made x) node d.2 in
-      let t = takes (item_path path 1) d.0 x.0 x.1 in
+      let x = bind_ok (only_by read path ds) (λ x. made x) node e in
+      let d = bind_ok (one_after path ds) (λ d. read (item_path path 1) d) x.0 x.1 in
+      let t = takes (item_path path 1) d.0 x.0 d.2 in
       (x.0, same_ok (make x.0) node x.2, Tagged.one_after-takes (Is x.0) path s ds d.0 w d.1 t.0, t.1)
 
   one_again : ((path : List ℕ) (d : Data) (x : A) → Is x d → P x → read path d ≡ Ok x)

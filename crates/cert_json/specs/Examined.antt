@@ -95,10 +95,13 @@ set_state_item path found d = ascending_at path (2 ^ 16 - 1) (last_of found) d
 abbrev pub set_states_at : List ℕ → Data → Result (List ℕ) Fault
 set_states_at path d = each_at set_state_item path 0 STATE_LIMIT d
 
+-- the item after the word, where it is the only one, read by this reader at its path
+abbrev pub only_by : {A : Type 0} → (List ℕ → Data → Result A Fault) → List ℕ → List Data → Result A Fault
+only_by read path ds = one_after path ds >>= λ d. read (item_path path 1) d
+
 abbrev pub with_one : {A : Type 0} → (List ℕ → Data → Result A Fault) → (A → Node) → List ℕ → List Data → Result Node Fault
 with_one read make path ds = do
-  d ← one_after path ds
-  x ← read (item_path path 1) d
+  x ← only_by read path ds
   Ok (make x)
 
 abbrev pub with_two : {A B : Type 0} → (List ℕ → Data → Result A Fault) → (List ℕ → Data → Result B Fault) → (A → B → Node)

@@ -1,11 +1,14 @@
 //! Reading a whole bundle: a net, a predicate, and the proof that the net computes it.
 
-ghost use Rattle.std.specs.Prelude.{◌≡◌, ◌≢◌, length, IfErr, IfOk};
+ghost use Rattle.std.specs.Prelude.{◌≡◌, ◌≢◌, codes, length, IfErr, IfOk};
 ghost use Rattle.serde_json.specs.View.{view};
 ghost use Rattle.json_shape.specs.Faults.{GivesRead};
+ghost use Rattle.json_shape.specs.Paths.{path_text};
+ghost use Rattle.json_shape.specs.Shapes.{member_by};
+ghost use Rattle.net_json.specs.Examined.{net_at};
 ghost use Rattle.cert_base.specs.ProofLimits.{IsProofWithin};
 ghost use Rattle.cert_json.specs.BundleFile.{IsBundleFile};
-ghost use Rattle.cert_json.specs.Bundles.{bundle_at};
+ghost use Rattle.cert_json.specs.Bundles.{claim_at, bundle_at};
 
 use crate::read::{pred_of, read_proof};
 use cert_base::Proof;
@@ -23,18 +26,34 @@ pub struct Bundle {
     pub proof: Proof,
 }
 
+/// The member `net`.
+fn net_of(alloc: Global, path: &Path<'_>, value: &Value) -> Result<Net, FormatFault>
+    ensures { GivesRead (λ net. net) result
+        (member_by (path_text path.now) (codes "net") net_at (view value.now)) }
+{
+    let net = member_of(alloc, path, "net", value)?;
+    read_net_at(alloc, &Path::Member(path, "net"), net)
+}
+
+/// The predicate and the proof beside this net.
+#[tactic(auto, unfolding(crate::specs::Bundles::claim_at))]
+fn claim_of(alloc: Global, value: &Value, net: &Net) -> Result<(Pred, Proof), FormatFault>
+    ensures claim { GivesRead (λ claim. claim) result (claim_at net.now (view value.now)) }
+    ensures variables { IfOk result (λ claim. claim.0.variables ≡ length net.now.variables) }
+{
+    let pred = pred_of(alloc, &Path::Root, net.var_names(), value)?;
+    let proof = read_proof(alloc, value, net)?;
+    Ok((pred, proof))
+}
+
 #[tactic(auto, unfolding(crate::specs::Bundles::bundle_at))]
 fn bundle_of(alloc: Global, value: &Value) -> Result<Bundle, FormatFault>
     ensures exact { GivesRead (λ bundle. bundle) result (bundle_at (view value.now)) }
     ensures variables { IfOk result (λ bundle. bundle.pred.variables ≡ length bundle.net.variables) }
 {
-    let root = Path::Root;
-    object_of(alloc, &root, value)?;
-    let net = member_of(alloc, &root, "net", value)?;
-    let net = read_net_at(alloc, &Path::Member(&root, "net"), net)?;
-    let pred = member_of(alloc, &root, "pred", value)?;
-    let pred = pred_of(alloc, &Path::Member(&root, "pred"), net.var_names(), pred)?;
-    let proof = read_proof(alloc, value, &net)?;
+    object_of(alloc, &Path::Root, value)?;
+    let net = net_of(alloc, &Path::Root, value)?;
+    let (pred, proof) = claim_of(alloc, value, &net)?;
     Ok(Bundle { net, pred, proof })
 }
 

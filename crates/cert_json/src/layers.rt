@@ -1,9 +1,10 @@
 //! Ranking layers.
 
-ghost use Rattle.std.specs.Prelude.{◌≡◌};
+ghost use Rattle.std.specs.Prelude.{◌≡◌, codes};
 ghost use Rattle.serde_json.specs.View.{view};
 ghost use Rattle.json_shape.specs.Faults.{GivesRead};
 ghost use Rattle.json_shape.specs.Paths.{path_text};
+ghost use Rattle.json_shape.specs.Shapes.{member_by};
 ghost use Rattle.cert_json.specs.Examined.{layer_moves_at, weights_at, layers_at};
 
 use crate::terms::{index_of, small_of};
@@ -39,11 +40,14 @@ impl ReadItem for Moves {
     }
 }
 
-/// At most `MOVE_LIMIT` numbers of moves.
+/// The member `moves`: at most `MOVE_LIMIT` numbers of moves.
 fn moves_of(alloc: Global, path: &Path<'_>, value: &Value) -> Result<List<u32>, FormatFault>
-    ensures { GivesRead (λ ns. ns) result (layer_moves_at (path_text path.now) (view value.now)) }
+    ensures { GivesRead (λ ns. ns) result
+        (member_by (path_text path.now) (codes "moves") layer_moves_at (view value.now)) }
 {
-    each_of(alloc, path, 0, MOVE_LIMIT, &Moves, value)
+    let moves = member_of(alloc, path, "moves", value)?;
+    let path = Path::Member(path, "moves");
+    each_of(alloc, &path, 0, MOVE_LIMIT, &Moves, moves)
 }
 
 /// Weights of states.
@@ -71,11 +75,14 @@ impl ReadItem for Weights {
     }
 }
 
-/// At most `STATE_LIMIT` weights.
+/// The member `weights`: at most `STATE_LIMIT` weights.
 fn weights_of(alloc: Global, path: &Path<'_>, value: &Value) -> Result<List<i64>, FormatFault>
-    ensures { GivesRead (λ ws. ws) result (weights_at (path_text path.now) (view value.now)) }
+    ensures { GivesRead (λ ws. ws) result
+        (member_by (path_text path.now) (codes "weights") weights_at (view value.now)) }
 {
-    each_of(alloc, path, 0, STATE_LIMIT, &Weights, value)
+    let weights = member_of(alloc, path, "weights", value)?;
+    let path = Path::Member(path, "weights");
+    each_of(alloc, &path, 0, STATE_LIMIT, &Weights, weights)
 }
 
 /// Layers.
@@ -101,21 +108,22 @@ impl ReadItem for Layers {
         value: &Value,
     ) -> Result<Layer, FormatFault> {
         object_of(alloc, path, value)?;
-        let moves = member_of(alloc, path, "moves", value)?;
-        let moves = moves_of(alloc, &Path::Member(path, "moves"), moves)?;
-        let weights = member_of(alloc, path, "weights", value)?;
-        let weights = weights_of(alloc, &Path::Member(path, "weights"), weights)?;
+        let moves = moves_of(alloc, path, value)?;
+        let weights = weights_of(alloc, path, value)?;
         Ok(Layer { moves, weights })
     }
 }
 
-/// At most `LAYER_LIMIT` layers.
+/// The member `layers`: at most `LAYER_LIMIT` layers.
 pub(crate) fn layers_of(
     alloc: Global,
     path: &Path<'_>,
     value: &Value,
 ) -> Result<List<Layer>, FormatFault>
-    ensures { GivesRead (λ layers. layers) result (layers_at (path_text path.now) (view value.now)) }
+    ensures { GivesRead (λ layers. layers) result
+        (member_by (path_text path.now) (codes "layers") layers_at (view value.now)) }
 {
-    each_of(alloc, path, 0, LAYER_LIMIT, &Layers, value)
+    let layers = member_of(alloc, path, "layers", value)?;
+    let path = Path::Member(path, "layers");
+    each_of(alloc, &path, 0, LAYER_LIMIT, &Layers, layers)
 }

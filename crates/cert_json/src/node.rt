@@ -4,22 +4,74 @@ ghost use Rattle.std.specs.Prelude.{◌≡◌, map};
 ghost use Rattle.serde_json.specs.View.{view};
 ghost use Rattle.json_shape.specs.Faults.{GivesRead};
 ghost use Rattle.json_shape.specs.Paths.{path_text};
-ghost use Rattle.cert_json.specs.Examined.{split_by, after_word, nodes_at};
+ghost use Rattle.json_shape.specs.Shapes.{member_by};
+ghost use Rattle.cert_base.specs.declared.node.Node.TheVariants.{Residue};
+ghost use Rattle.cert_json.specs.Examined.{index_at, state_at, modulus_at, small_at, terms_at, row_terms_at};
+ghost use Rattle.cert_json.specs.Examined.{set_states_at, only_by, with_two, split_by, after_word, nodes_at};
 
 use crate::kind::NodeKind;
 use crate::terms::{index_of, modulus_of, row_terms_of, small_of, state_of, states_of, terms_of};
 use cert_base::{NODE_LIMIT, Node, Row, Term};
 use json_shape::{
-    FormatFault, Path, ReadItem, Why, both_items, broken, each_of, items_of, only_item, word_of,
+    FormatFault, Path, ReadItem, Why, both_items, broken, each_of, items_of, member_of, only_item,
+    word_of,
 };
 use pop_io::List;
 use serde_json::Value;
 use std::alloc::Global;
 
-fn split_by(terms: List<Term>, constant: i64) -> Node
-    ensures { result ≡ split_by terms constant }
+/// The terms after the word, where no other item is.
+fn terms_after(alloc: Global, path: &Path<'_>, items: &[Value]) -> Result<List<Term>, FormatFault>
+    ensures { GivesRead (λ ts. ts) result (only_by terms_at (path_text path.now) (map view items.now)) }
 {
-    Node::Split(Row { terms, constant })
+    let item = only_item(alloc, path, items)?;
+    terms_of(alloc, &Path::Item(path, 1), item)
+}
+
+/// The set of states after the word, where no other item is.
+fn set_after(alloc: Global, path: &Path<'_>, items: &[Value]) -> Result<List<u16>, FormatFault>
+    ensures { GivesRead (λ qs. qs) result (only_by set_states_at (path_text path.now) (map view items.now)) }
+{
+    let item = only_item(alloc, path, items)?;
+    states_of(alloc, &Path::Item(path, 1), item)
+}
+
+/// The state after the word, where no other item is.
+fn state_after(alloc: Global, path: &Path<'_>, items: &[Value]) -> Result<u16, FormatFault>
+    ensures { GivesRead (λ q. q) result (only_by state_at (path_text path.now) (map view items.now)) }
+{
+    let item = only_item(alloc, path, items)?;
+    state_of(alloc, &Path::Item(path, 1), item)
+}
+
+/// The number after the word, where no other item is.
+fn index_after(alloc: Global, path: &Path<'_>, items: &[Value]) -> Result<u32, FormatFault>
+    ensures { GivesRead (λ n. n) result (only_by index_at (path_text path.now) (map view items.now)) }
+{
+    let item = only_item(alloc, path, items)?;
+    index_of(alloc, &Path::Item(path, 1), item)
+}
+
+/// The modulus and the terms after the word.
+fn residue_after(alloc: Global, path: &Path<'_>, items: &[Value]) -> Result<Node, FormatFault>
+    ensures { GivesRead (λ node. node) result
+        (with_two modulus_at terms_at Residue (path_text path.now) (map view items.now)) }
+{
+    let (modulus, terms) = both_items(alloc, path, items)?;
+    let modulus = modulus_of(alloc, &Path::Item(path, 1), modulus)?;
+    let terms = terms_of(alloc, &Path::Item(path, 2), terms)?;
+    Ok(Node::Residue(modulus, terms))
+}
+
+/// The row's terms and its constant after the word.
+fn split_after(alloc: Global, path: &Path<'_>, items: &[Value]) -> Result<Node, FormatFault>
+    ensures { GivesRead (λ node. node) result
+        (with_two row_terms_at small_at split_by (path_text path.now) (map view items.now)) }
+{
+    let (terms, constant) = both_items(alloc, path, items)?;
+    let terms = row_terms_of(alloc, &Path::Item(path, 1), terms)?;
+    let constant = small_of(alloc, &Path::Item(path, 2), constant)?;
+    Ok(Node::Split(Row { terms, constant }))
 }
 
 /// What stands after the word, for each kind of node.
@@ -31,30 +83,15 @@ fn after_word(
 ) -> Result<Node, FormatFault>
     ensures { GivesRead (λ node. node) result (after_word (path_text path.now) kind (map view items.now)) }
 {
-    macro_rules! one {
-        ($read:ident, $node:path) => {{
-            let item = only_item(alloc, path, items)?;
-            let part = $read(alloc, &Path::Item(path, 1), item)?;
-            Ok($node(part))
-        }};
-    }
-    macro_rules! two {
-        ($read:ident, $other:ident, $node:path) => {{
-            let (item, second) = both_items(alloc, path, items)?;
-            let part = $read(alloc, &Path::Item(path, 1), item)?;
-            let rest = $other(alloc, &Path::Item(path, 2), second)?;
-            Ok($node(part, rest))
-        }};
-    }
     match kind {
-        NodeKind::Linear => one!(terms_of, Node::Linear),
-        NodeKind::Residue => two!(modulus_of, terms_of, Node::Residue),
-        NodeKind::Split => two!(row_terms_of, small_of, split_by),
-        NodeKind::Present => one!(state_of, Node::Present),
-        NodeKind::Twin => one!(state_of, Node::Twin),
-        NodeKind::Trap => one!(states_of, Node::Trap),
-        NodeKind::Siphon => one!(states_of, Node::Siphon),
-        NodeKind::Open => one!(index_of, Node::Open),
+        NodeKind::Linear => terms_after(alloc, path, items).map(Node::Linear),
+        NodeKind::Residue => residue_after(alloc, path, items),
+        NodeKind::Split => split_after(alloc, path, items),
+        NodeKind::Present => state_after(alloc, path, items).map(Node::Present),
+        NodeKind::Twin => state_after(alloc, path, items).map(Node::Twin),
+        NodeKind::Trap => set_after(alloc, path, items).map(Node::Trap),
+        NodeKind::Siphon => set_after(alloc, path, items).map(Node::Siphon),
+        NodeKind::Open => index_after(alloc, path, items).map(Node::Open),
     }
 }
 
@@ -89,13 +126,17 @@ impl ReadItem for Nodes {
     }
 }
 
-/// At most `NODE_LIMIT` nodes.
+/// A member by its name: at most `NODE_LIMIT` nodes.
 pub(crate) fn nodes_of(
     alloc: Global,
     path: &Path<'_>,
+    member: &str,
     value: &Value,
 ) -> Result<List<Node>, FormatFault>
-    ensures { GivesRead (λ nodes. nodes) result (nodes_at (path_text path.now) (view value.now)) }
+    ensures { GivesRead (λ nodes. nodes) result
+        (member_by (path_text path.now) member.now nodes_at (view value.now)) }
 {
-    each_of(alloc, path, 0, NODE_LIMIT, &Nodes, value)
+    let nodes = member_of(alloc, path, member, value)?;
+    let path = Path::Member(path, member);
+    each_of(alloc, &path, 0, NODE_LIMIT, &Nodes, nodes)
 }

@@ -1,10 +1,11 @@
 //! Reading a proof from a bundle's JSON value.
 
-ghost use Rattle.std.specs.Prelude.{◌≡◌, ◌≢◌, ◌≤◌, length, IfOk, IfErr};
+ghost use Rattle.std.specs.Prelude.{◌≡◌, ◌≢◌, ◌≤◌, codes, length, IfOk, IfErr};
 ghost use Rattle.serde_json.specs.View.{view};
 ghost use Rattle.pop_io.specs.Names.{variable_name, AreNames};
 ghost use Rattle.json_shape.specs.Faults.{GivesRead};
 ghost use Rattle.json_shape.specs.Paths.{path_text};
+ghost use Rattle.json_shape.specs.Shapes.{member_by};
 ghost use Rattle.cert_base.specs.declared.proof.Proof.{Proof};
 ghost use Rattle.cert_base.specs.ProofLimits.{IsProofWithin};
 ghost use Rattle.cert_json.specs.ProofFile.{IsProofFile};
@@ -25,7 +26,7 @@ use std::alloc::Global;
 
 /// A predicate over these names.
 #[tactic(auto, unfolding(crate::specs::Examined::pred_at))]
-pub(crate) fn pred_of(
+fn pred_from(
     alloc: Global,
     path: &Path<'_>,
     names: &List<Text>,
@@ -48,6 +49,24 @@ pub(crate) fn pred_of(
         Err(ReadPred::NoMemory) => return Err(FormatFault::NoMemory),
     };
     Err(broken(alloc, path, Why::Pred(why)))
+}
+
+/// The member `pred`: a predicate over these names.
+pub(crate) fn pred_of(
+    alloc: Global,
+    path: &Path<'_>,
+    names: &List<Text>,
+    value: &Value,
+) -> Result<Pred, FormatFault>
+    requires some { 1 ≤ length names.now }
+    requires few { length names.now ≤ VARIABLE_LIMIT }
+    requires names { AreNames variable_name names.now }
+    ensures pred { GivesRead (λ pred. pred) result
+        (member_by (path_text path.now) (codes "pred") (pred_at names.now) (view value.now)) }
+    ensures variables { IfOk result (λ pred. pred.variables ≡ length names.now) }
+{
+    let pred = member_of(alloc, path, "pred", value)?;
+    pred_from(alloc, &Path::Member(path, "pred"), names, pred)
 }
 
 /// Proofs of leaves over these names.
@@ -78,14 +97,10 @@ impl<'a> ReadItem for LeafProofs<'a> {
         value: &Value,
     ) -> Result<LeafProof, FormatFault> {
         object_of(alloc, path, value)?;
-        let pred = member_of(alloc, path, "pred", value)?;
-        let pred = pred_of(alloc, &Path::Member(path, "pred"), self.names, pred)?;
-        let layers = member_of(alloc, path, "layers", value)?;
-        let layers = layers_of(alloc, &Path::Member(path, "layers"), layers)?;
-        let on_true = member_of(alloc, path, "true", value)?;
-        let on_true = nodes_of(alloc, &Path::Member(path, "true"), on_true)?;
-        let on_false = member_of(alloc, path, "false", value)?;
-        let on_false = nodes_of(alloc, &Path::Member(path, "false"), on_false)?;
+        let pred = pred_of(alloc, path, self.names, value)?;
+        let layers = layers_of(alloc, path, value)?;
+        let on_true = nodes_of(alloc, path, "true", value)?;
+        let on_false = nodes_of(alloc, path, "false", value)?;
         Ok(LeafProof {
             pred,
             layers,
@@ -95,6 +110,7 @@ impl<'a> ReadItem for LeafProofs<'a> {
     }
 }
 
+/// The member `proof`: one proof for each leaf, over these names.
 fn leaf_proofs_of(
     alloc: Global,
     path: &Path<'_>,
@@ -106,9 +122,11 @@ fn leaf_proofs_of(
     requires few { length names.now ≤ VARIABLE_LIMIT }
     requires names { AreNames variable_name names.now }
     ensures { GivesRead (λ parts. parts) result
-        (leaf_proofs_at names.now leaves (path_text path.now) (view value.now)) }
+        (member_by (path_text path.now) (codes "proof") (leaf_proofs_at names.now leaves) (view value.now)) }
 {
-    each_of(alloc, path, leaves, leaves, &LeafProofs { names }, value)
+    let proofs = member_of(alloc, path, "proof", value)?;
+    let path = Path::Member(path, "proof");
+    each_of(alloc, &path, leaves, leaves, &LeafProofs { names }, proofs)
 }
 
 #[tactic(auto, unfolding(crate::specs::Examined::proof_at))]
@@ -116,11 +134,9 @@ fn proof_of(alloc: Global, value: &Value, net: &Net) -> Result<Proof, FormatFaul
     ensures { GivesRead (λ proof. proof) result
         (proof_at net.now.variables (length net.now.leaves) (view value.now)) }
 {
-    let root = Path::Root;
-    let proof = member_of(alloc, &root, "proof", value)?;
     let names = net.var_names();
     let leaves = net.leaf_count() as usize;
-    let leaves = leaf_proofs_of(alloc, &Path::Member(&root, "proof"), names, leaves, proof)?;
+    let leaves = leaf_proofs_of(alloc, &Path::Root, names, leaves, value)?;
     Ok(Proof { leaves })
 }
 

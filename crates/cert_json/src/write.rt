@@ -1,23 +1,25 @@
 //! Writing a proof as a JSON value.
 
 ghost use Rattle.std.specs.Prelude.{◌≡◌, ◌≤◌, ℕ, All, map, take, length, IfOk, Ok, Some};
-ghost use Rattle.serde_json.specs.Data.{Data};
+ghost use Rattle.serde_json.specs.Data.{Data, string};
 ghost use Rattle.serde_json.specs.View.{view};
 ghost use Rattle.serde_json.specs.Find.{get};
 ghost use Rattle.std.specs.Prelude.{codes};
 ghost use Rattle.pop_io.specs.Names.{variable_name, AreNames};
 ghost use Rattle.pres_ast.specs.PredModel.{IsPred};
+ghost use Rattle.pres_read.specs.Canonical.{tree_text};
 ghost use Rattle.net_json.specs.Written.{list_data, numbers_data};
 ghost use Rattle.cert_base.specs.ProofLimits.{IsProofWithin};
 ghost use Rattle.cert_json.specs.Examined.{proof_at};
-ghost use Rattle.cert_json.specs.Written.{integers_data, layer_members, layer_data};
+ghost use Rattle.cert_json.specs.Written.{integers_data, nodes_data, layer_data};
 ghost use Rattle.cert_json.specs.Written.{leaf_proof_members, leaf_proof_data, proof_data};
 
 use crate::write_node::nodes_value;
 use cert_base::{Layer, LeafProof, Proof};
 use pop_io::{List, NoMemory, Text};
+use pres_ast::Pred;
 use pres_read::print_pred;
-use serde_json::{Value, json};
+use serde_json::{Map, Value, put};
 use std::alloc::{AllocError, Global};
 
 fn moves_value(alloc: Global, moves: &[u32]) -> Result<Value, AllocError>
@@ -40,19 +42,15 @@ fn weights_value(alloc: Global, weights: &[i64]) -> Result<Value, AllocError>
     Ok(Value::Array(list))
 }
 
-fn layer_object(alloc: Global, moves: Value, weights: Value) -> Result<Value, AllocError>
-    ensures { IfOk result (λ v. view v ≡ layer_members (view moves) (view weights)) }
-{
-    json!(in alloc; {"moves": moves, "weights": weights})
-}
-
-#[tactic(auto, unfolding(crate::specs::Written::layer_data))]
 fn layer_value(alloc: Global, layer: &Layer) -> Result<Value, AllocError>
     ensures { IfOk result (λ v. view v ≡ layer_data layer.now) }
 {
+    let mut members = Map::new(alloc);
     let moves = moves_value(alloc, layer.moves.as_slice())?;
+    put(&mut members, alloc, "moves", moves)?;
     let weights = weights_value(alloc, layer.weights.as_slice())?;
-    layer_object(alloc, moves, weights)
+    put(&mut members, alloc, "weights", weights)?;
+    Ok(Value::Object(members))
 }
 
 fn layers_value(alloc: Global, layers: &[Layer]) -> Result<Value, AllocError>
@@ -65,17 +63,34 @@ fn layers_value(alloc: Global, layers: &[Layer]) -> Result<Value, AllocError>
     Ok(Value::Array(list))
 }
 
-fn leaf_proof_object(
-    alloc: Global,
-    on_false: Value,
-    layers: Value,
-    pred: Value,
-    on_true: Value,
-) -> Result<Value, AllocError>
-    ensures { IfOk result (λ v. view v
-        ≡ leaf_proof_members (view on_false) (view layers) (view pred) (view on_true)) }
+/// A predicate's canonical text.
+fn pred_value(alloc: Global, pred: &Pred, names: &List<Text>) -> Result<Value, NoMemory>
+    requires count { pred.now.variables ≡ length names.now }
+    requires names { AreNames variable_name names.now }
+    ensures value { IfOk result (λ v. view v ≡ string (tree_text names.now pred.now.tree)) }
+    ensures limits { IfOk result (λ v. IsPred (length names.now) pred.now.tree) }
 {
-    json!(in alloc; {"false": on_false, "layers": layers, "pred": pred, "true": on_true})
+    let _ = pred.vars();
+    let text = print_pred(alloc, pred, names)?;
+    let text = Value::try_from_str(alloc, text.as_str())?;
+    Ok(text)
+}
+
+/// A leaf's proof with this predicate.
+fn leaf_proof_object(alloc: Global, pred: Value, part: &LeafProof) -> Result<Value, AllocError>
+    ensures { IfOk result (λ v. view v
+        ≡ leaf_proof_members (nodes_data part.now.on_false) (list_data (map layer_data part.now.layers)) (view pred)
+        (nodes_data part.now.on_true)) }
+{
+    let mut members = Map::new(alloc);
+    put(&mut members, alloc, "pred", pred)?;
+    let on_false = nodes_value(alloc, part.on_false.as_slice())?;
+    put(&mut members, alloc, "false", on_false)?;
+    let layers = layers_value(alloc, part.layers.as_slice())?;
+    put(&mut members, alloc, "layers", layers)?;
+    let on_true = nodes_value(alloc, part.on_true.as_slice())?;
+    put(&mut members, alloc, "true", on_true)?;
+    Ok(Value::Object(members))
 }
 
 #[tactic(auto, unfolding(crate::specs::Written::leaf_proof_data))]
@@ -85,14 +100,9 @@ fn leaf_proof_value(alloc: Global, part: &LeafProof, names: &List<Text>) -> Resu
     ensures value { IfOk result (λ v. view v ≡ leaf_proof_data names.now part.now) }
     ensures limits { IfOk result (λ v. IsPred (length names.now) part.now.pred.tree) }
 {
-    let pred = &part.pred;
-    let _ = pred.vars();
-    let text = print_pred(alloc, pred, names)?;
-    let text = Value::try_from_str(alloc, text.as_str())?;
-    let on_false = nodes_value(alloc, part.on_false.as_slice())?;
-    let layers = layers_value(alloc, part.layers.as_slice())?;
-    let on_true = nodes_value(alloc, part.on_true.as_slice())?;
-    Ok(leaf_proof_object(alloc, on_false, layers, text, on_true)?)
+    let pred = pred_value(alloc, &part.pred, names)?;
+    let value = leaf_proof_object(alloc, pred, part)?;
+    Ok(value)
 }
 
 #[tactic(auto, unfolding(crate::specs::Written::proof_data))]
