@@ -1,8 +1,9 @@
 -- A sum of facts of which one part is kept.
-use Rattle.std.specs.Prelude.{◌≡◌, ℕ, ◌<◌, ◌^◌, List, All, Bool, true, false}
+use Rattle.std.specs.Prelude.{◌≡◌, ℕ, ◌<◌, List, All, Bool, true, false}
 use Rattle.cert_base.specs.declared.fact.Term.{Term}
 use Rattle.cert_base.specs.declared.fact.Fact.{Fact}
 use Rattle.cert_base.specs.ClosingTests.{all_named, may_add, sum_of}
+use Rattle.cert_linear.specs.declared.sum.TheConstants.{SUM_LIMIT}
 use Rattle.cert_linear.specs.declared.tally.Tally.{Tally}
 use Rattle.cert_linear.specs.Sums.{IsTidy, IsSum, IsSumWithin, HasAllPositive}
 
@@ -11,7 +12,7 @@ pub record IsKept (stable : ℕ) (facts : List Fact) (tally : Tally) : Type 0 wh
   pub named : All (λ t. t.at < stable) tally.kept.items
   pub may : all_named may_add facts tally.kept.items ≡ true
   pub sum : IsSum (sum_of facts tally.kept.items) tally.lead
-  pub size : IsSumWithin (2 ^ 119) tally.lead
+  pub size : IsSumWithin SUM_LIMIT tally.lead
   pub positive : HasAllPositive tally.lead tally.positive.items
   pub lead : IsTidy tally.lead
   pub rest : IsTidy tally.rest
@@ -28,5 +29,5 @@ Makes facts terms tally true =
     (tally.kept.items ≡ terms)
     × (all_named may_add facts terms ≡ true)
     × IsSum (sum_of facts terms) tally.lead
-    × IsSumWithin (2 ^ 119) tally.lead
+    × IsSumWithin SUM_LIMIT tally.lead
     × HasAllPositive tally.lead tally.positive.items

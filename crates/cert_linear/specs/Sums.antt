@@ -7,6 +7,7 @@ use Rattle.cert_base.specs.declared.fact.Fact.{Fact}
 use Rattle.cert_base.specs.ClosingTests.{coefficient_in, may_add, may_add_modulo, all_named, sum_of}
 use Rattle.cert_linear.specs.declared.sum.Entry.{Entry}
 use Rattle.cert_linear.specs.declared.sum.Sum.{Sum}
+use Rattle.cert_linear.specs.declared.sum.TheConstants.{SUM_LIMIT}
 
 -- the entry of a variable; one that the list doesn't reach is blank
 abbrev pub blank : Entry
@@ -79,4 +80,4 @@ may_by (Some m) = may_add_modulo m
 abbrev pub SumsUp : Option ℕ → List Fact → List Term → Sum → Bool → Type 0
 SumsUp modulus facts terms sum false = all_named (may_by modulus) facts terms ≡ false
 SumsUp modulus facts terms sum true =
-    (all_named (may_by modulus) facts terms ≡ true) × IsSum (sum_of facts terms) sum × IsSumWithin (2 ^ 119) sum
+    (all_named (may_by modulus) facts terms ≡ true) × IsSum (sum_of facts terms) sum × IsSumWithin SUM_LIMIT sum

@@ -1,6 +1,6 @@
 //! Whether a combination of facts refutes them.
 
-ghost use Rattle.std.specs.Prelude.{◌≡◌, ◌≤◌, ◌<◌, ◌^◌, length, nat_abs, All, MatchOption, IfOk, IsTrue, OnOk, true};
+ghost use Rattle.std.specs.Prelude.{◌≡◌, ◌≤◌, ◌<◌, length, nat_abs, All, MatchOption, IfOk, IsTrue, OnOk, true};
 ghost use Rattle.std.specs.Prelude.{false, negsuc, Some, None};
 ghost use Rattle.std.specs.List.{list_any};
 ghost use Rattle.cert_base.specs.declared.fact.Row.{Row};
@@ -10,7 +10,7 @@ ghost use Rattle.cert_base.specs.Ends.{AreRefuted};
 ghost use Rattle.cert_linear.specs.Conditions.{AreAscending, IsOrdered, AreMultipliers, AreNamed};
 ghost use Rattle.cert_linear.specs.Sums.{may_by, SumsUp, IsTidy, IsSum, IsSame, IsSumWithin};
 
-use crate::sum::Sum;
+use crate::sum::{SUM_LIMIT, Sum};
 use crate::tally::Tally;
 use cert_base::{Fact, Row, Term};
 use pop_io::{List, NoMemory};
@@ -122,7 +122,7 @@ fn is_denied(sum: &mut Sum, facts: &[Fact], modulus: u32) -> Result<bool, NoMemo
     requires modulus { 0 < modulus }
     requires ordered { All IsOrdered facts.now }
     requires tidy { IsTidy sum.old }
-    requires size { IsSumWithin (2 ^ 119) sum.old }
+    requires size { IsSumWithin SUM_LIMIT sum.old }
     ensures denied { IfOk result
         (λ denied. (row : Row) → IsSum row sum.old → denied ≡ list_any (denies modulus row) facts.now) }
     ensures tidy { IsTidy sum.new }
@@ -140,7 +140,7 @@ fn is_denied_by(sum: &mut Sum, fact: &Fact, modulus: u32) -> Result<bool, NoMemo
     requires modulus { 0 < modulus }
     requires ordered { IsOrdered fact.now }
     requires tidy { IsTidy sum.old }
-    requires size { IsSumWithin (2 ^ 119) sum.old }
+    requires size { IsSumWithin SUM_LIMIT sum.old }
     ensures value { IfOk result (λ denied. (row : Row) → IsSum row sum.old → denied ≡ denies modulus row fact.now) }
     ensures stays { OnOk result (IsSame sum.old sum.new) }
     ensures tidy { IsTidy sum.new }
@@ -156,7 +156,7 @@ fn agrees(sum: &mut Sum, row: &Row, modulus: u32) -> Result<bool, NoMemory>
     requires modulus { 0 < modulus }
     requires ascending { AreAscending row.now.terms }
     requires tidy { IsTidy sum.old }
-    requires size { IsSumWithin (2 ^ 119) sum.old }
+    requires size { IsSumWithin SUM_LIMIT sum.old }
     ensures value { IfOk result
         (λ agrees. (other : Row) → IsSum other sum.old
         → agrees ≡ is_zero_row modulus (add_rows other (times (negsuc 0) row.now))) }

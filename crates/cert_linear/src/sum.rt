@@ -14,6 +14,10 @@ use cert_base::{Row, SIZE_LIMIT};
 use pop_io::NoMemory;
 use std::alloc::Global;
 
+/// The greatest size of a coefficient or the constant in a sum of `TERM_LIMIT` rows: each product of a multiplier and
+/// an `i64` is within 2^103.
+pub(crate) const SUM_LIMIT: u128 = 1 << 119;
+
 /// What fits of the coefficient of a variable, and whether it is listed as touched.
 #[derive(Clone, Copy)]
 pub(crate) struct Entry {
@@ -227,8 +231,8 @@ impl Sum {
 
     /// The coefficient of a variable in both sums together.
     fn coefficient_with(&self, other: &Sum, variable: u32) -> i128
-        requires own { IsTidy self.now × IsSumWithin (2 ^ 119) self.now }
-        requires other { IsTidy other.now × IsSumWithin (2 ^ 119) other.now }
+        requires own { IsTidy self.now × IsSumWithin SUM_LIMIT self.now }
+        requires other { IsTidy other.now × IsSumWithin SUM_LIMIT other.now }
         ensures { result ≡ (coefficient_of self.now variable +ℤ coefficient_of other.now variable) }
     {
         self.coefficient(variable) + other.coefficient(variable)
@@ -275,8 +279,8 @@ impl Sum {
     /// Whether both sums together are below 0 at all counts: no coefficient is above 0, and the constant is below 0.
     /// Of the other sum it looks at these variables alone, which are all whose coefficient there is above 0.
     pub(crate) fn is_negative_with(&self, other: &Sum, positive: &[u32]) -> bool
-        requires own { IsTidy self.now × IsSumWithin (2 ^ 119) self.now }
-        requires other { IsTidy other.now × IsSumWithin (2 ^ 119) other.now }
+        requires own { IsTidy self.now × IsSumWithin SUM_LIMIT self.now }
+        requires other { IsTidy other.now × IsSumWithin SUM_LIMIT other.now }
         requires positive { HasAllPositive other.now positive.now }
         ensures { (row : Row) → AreSum row self.now other.now
             → result ≡ (each_coefficient (λ a. int_le a (pos 0)) row && int_le row.constant (negsuc 0)) }
@@ -285,8 +289,8 @@ impl Sum {
     }
 
     fn have_no_positive(&self, other: &Sum, positive: &[u32]) -> bool
-        requires own { IsTidy self.now × IsSumWithin (2 ^ 119) self.now }
-        requires other { IsTidy other.now × IsSumWithin (2 ^ 119) other.now }
+        requires own { IsTidy self.now × IsSumWithin SUM_LIMIT self.now }
+        requires other { IsTidy other.now × IsSumWithin SUM_LIMIT other.now }
         ensures { result
             ≡ (list_all
             (λ q. int_le (coefficient_of self.now q +ℤ coefficient_of other.now q) (pos 0)) self.now.touched.items
@@ -297,8 +301,8 @@ impl Sum {
     }
 
     fn has_negative_constant_with(&self, other: &Sum) -> bool
-        requires own { IsSumWithin (2 ^ 119) self.now }
-        requires other { IsSumWithin (2 ^ 119) other.now }
+        requires own { IsSumWithin SUM_LIMIT self.now }
+        requires other { IsSumWithin SUM_LIMIT other.now }
         ensures { result ≡ int_le (self.now.constant +ℤ other.now.constant) (negsuc 0) }
     {
         self.constant + other.constant < 0
@@ -306,8 +310,8 @@ impl Sum {
 
     /// Whether no listed variable has a coefficient above 0 in both sums together.
     fn has_no_positive_among(&self, other: &Sum, variables: &[u32]) -> bool
-        requires own { IsTidy self.now × IsSumWithin (2 ^ 119) self.now }
-        requires other { IsTidy other.now × IsSumWithin (2 ^ 119) other.now }
+        requires own { IsTidy self.now × IsSumWithin SUM_LIMIT self.now }
+        requires other { IsTidy other.now × IsSumWithin SUM_LIMIT other.now }
         ensures { result
             ≡ list_all
             (λ q. int_le (coefficient_of self.now q +ℤ coefficient_of other.now q) (pos 0)) variables.now }
