@@ -12,5 +12,5 @@ mod mixing;
 mod others;
 mod preorder;
 
-pub use mixing::{multipliers, terms, weighed};
+pub use mixing::{MULTIPLIER_LIMIT, multipliers, terms, weighed};
 pub use preorder::tree;

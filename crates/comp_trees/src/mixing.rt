@@ -1,6 +1,6 @@
 //! The multipliers of a leader's node.
 
-ghost use Rattle.std.specs.Prelude.{◌≡◌, ◌∷◌, ◌++◌, [], pos, map, All, slice_index_or, ◌<◌, ◌≤◌, ◌^◌, length, IfOk};
+ghost use Rattle.std.specs.Prelude.{◌≡◌, ◌∷◌, ◌++◌, [], pos, map, All, slice_index_or, ◌<◌, ◌≤◌, length, IfOk};
 ghost use Rattle.cert_base.specs.Rows.{terms_from};
 ghost use Rattle.comp_trees.specs.LeaderTree.{weighed_node, mix_by, mix_of_leader, company_of, mix_above};
 
@@ -10,9 +10,12 @@ use pop_io::{List, NoMemory};
 use pop_net::Leaf;
 use std::alloc::Global;
 
+/// The most multipliers of a node: a term names its fact by a `u32`.
+pub const MULTIPLIER_LIMIT: usize = 1 << 32;
+
 /// The facts that are named by the multipliers other than 0.
 pub fn terms(alloc: Global, multipliers: &[i64]) -> Result<List<Term>, NoMemory>
-    requires { length multipliers.now ≤ 2 ^ 32 }
+    requires { length multipliers.now ≤ MULTIPLIER_LIMIT }
     ensures { IfOk result (λ terms. terms ≡ terms_from 0 multipliers.now) }
 {
     let row = Row::dense(alloc, 0, multipliers, 0)?;
@@ -21,7 +24,7 @@ pub fn terms(alloc: Global, multipliers: &[i64]) -> Result<List<Term>, NoMemory>
 
 /// The node that these multipliers close.
 pub fn weighed(alloc: Global, multipliers: &[i64]) -> Result<Node, NoMemory>
-    requires { length multipliers.now ≤ 2 ^ 32 }
+    requires { length multipliers.now ≤ MULTIPLIER_LIMIT }
     ensures { IfOk result (λ node. node ≡ weighed_node multipliers.now) }
 {
     Ok(Node::Linear(terms(alloc, multipliers)?))
@@ -43,7 +46,7 @@ pub fn multipliers(
     requires out { length out.now ≡ length leaf.now.states }
     ensures mix { IfOk result (λ multipliers. multipliers.items
         ≡ mix_of_leader leaf.now (company_of leaf.now leader) (mix_by flows.now wrong opened out.now alone) leader) }
-    ensures short { IfOk result (λ multipliers. length multipliers.items ≤ 2 ^ 32) }
+    ensures short { IfOk result (λ multipliers. length multipliers.items ≤ MULTIPLIER_LIMIT) }
 {
     let _states = leaf.state_count();
     let mut multipliers = above(alloc, leader, flows, wrong, opened)?;

@@ -1,12 +1,12 @@
 //! The nodes of a tree in preorder.
 
-ghost use Rattle.std.specs.Prelude.{◌≡◌, ◌++◌, ◌≤◌, ◌+◌, ◌^◌, map, reverse, length, IfOk, OnOk};
+ghost use Rattle.std.specs.Prelude.{◌≡◌, ◌++◌, ◌≤◌, ◌+◌, map, reverse, length, IfOk, OnOk};
 ghost use Rattle.std.specs.List.{range_with_len};
 ghost use Rattle.cert_base.specs.declared.node.Node.TheVariants.{Present as present_node};
 ghost use Rattle.comp_trees.specs.LeaderTree.{tree_of_ends, no_leak_mix, no_start_mix};
 ghost use Rattle.comp_trees.specs.LeaderTree.{no_leader_mix, top_nodes, weighed_node};
 
-use crate::mixing::weighed;
+use crate::mixing::{MULTIPLIER_LIMIT, weighed};
 use cert_base::Node;
 use pop_io::{List, NoMemory};
 use pop_net::Leaf;
@@ -94,7 +94,7 @@ fn no_leak_by(alloc: Global, leaf: &Leaf) -> Result<Vec<i64>, NoMemory>
 
 fn no_start_by(alloc: Global, leaf: &Leaf) -> Result<Vec<i64>, NoMemory>
     ensures list { IfOk result (λ multipliers. multipliers.items ≡ no_start_mix leaf.now) }
-    ensures short { IfOk result (λ multipliers. length multipliers.items ≤ 2 ^ 32) }
+    ensures short { IfOk result (λ multipliers. length multipliers.items ≤ MULTIPLIER_LIMIT) }
 {
     let mut multipliers = vec![in alloc; 0i64; usize::from(leaf.state_count())]?;
     multipliers.extend_from_slice(&[1, 0, 0])?;
