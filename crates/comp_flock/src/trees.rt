@@ -1,6 +1,6 @@
 //! Both trees of a leaf.
 
-ghost use Rattle.std.specs.Prelude.{◌≡◌, ◌≤◌, ◌+◌, ◌^◌, ◌++◌, ◌∷◌, [], length, map, IfOk, OnOk};
+ghost use Rattle.std.specs.Prelude.{◌≡◌, ◌≤◌, ◌+◌, ◌++◌, ◌∷◌, [], length, map, IfOk, OnOk};
 ghost use Rattle.std.specs.List.{range_with_len};
 ghost use Rattle.cert_base.specs.declared.node.Node.TheVariants.{Siphon, Twin as twin_node};
 ghost use Rattle.comp_trees.specs.LeaderTree.{weighed_node};
@@ -9,7 +9,7 @@ ghost use Rattle.comp_flock.specs.FlockProof.{flock_true_tree, flock_false_tree}
 
 use crate::multipliers::{converted, few, first, never, start};
 use cert_base::Node;
-use comp_trees::weighed;
+use comp_trees::{MULTIPLIER_LIMIT, weighed};
 use pop_io::{List, NoMemory};
 use std::alloc::Global;
 
@@ -43,7 +43,7 @@ fn siphon(alloc: Global, power: u16) -> Result<Node, NoMemory>
 
 /// The node that these multipliers close.
 fn node(alloc: Global, multipliers: Vec<i64>) -> Result<Node, NoMemory>
-    requires { length multipliers.items ≤ 2 ^ 32 }
+    requires { length multipliers.items ≤ MULTIPLIER_LIMIT }
     ensures { IfOk result (λ node. node ≡ weighed_node multipliers.items) }
 {
     let node = weighed(alloc, multipliers.as_slice())?;
