@@ -80,5 +80,6 @@ impl Pred {
 pub fn same(a: &Pred, b: &Pred) -> bool
     ensures { IsTrue result ↔ (a.now ≡ b.now) }
 {
-    a.vars == b.vars && a.tree.same(&b.tree)
+    let same_vars = a.vars == b.vars;
+    same_vars && a.tree.same(&b.tree)
 }
