@@ -18,7 +18,7 @@ pub(crate) const PAIR_COUNT: usize = STATE_LIMIT * STATE_LIMIT;
 pub(crate) const NO_LAYER: u16 = u16::MAX;
 
 /// For each ordered pair of states, row by row, the least layer with a non-silent move that takes them.
-#[derive(Debug, Drop)]
+#[derive(Drop)]
 pub(crate) struct PairTable {
     layers: List<u16>,
 }

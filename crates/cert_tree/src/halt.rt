@@ -5,7 +5,7 @@ use pop_io::NoMemory as OutOfMemory;
 use std::alloc::{AllocError, AllocFailed};
 
 /// A node is refused, or memory ran out.
-#[derive(Clone, Copy, Debug, PartialEq, Eq)]
+#[derive(Clone, Copy)]
 pub(crate) enum Halt {
     Refused(TreeWhy),
     NoMemory,

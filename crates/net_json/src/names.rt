@@ -14,7 +14,7 @@ use serde_json::Value;
 use std::alloc::Global;
 
 /// What the names of a list name.
-#[derive(Clone, Copy, Debug, PartialEq, Eq)]
+#[derive(Clone, Copy)]
 pub(crate) enum NameForm {
     Variable,
     State,

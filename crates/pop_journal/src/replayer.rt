@@ -29,7 +29,7 @@ use std::alloc::{AllocError, Global};
 use terminal_test::{PairTable, agreed};
 
 /// A crowd in the middle of a journal, and each worker before its next pick.
-#[derive(Debug, Drop)]
+#[derive(Drop)]
 pub(crate) struct Replayer {
     pub(crate) crowd: Crowd,
     pub(crate) pickers: Vec<Picker>,

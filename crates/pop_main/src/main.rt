@@ -13,7 +13,7 @@ use std::thread::Threads;
 use std::{env, io};
 
 /// Why the words of the command line were not taken.
-#[derive(Clone, Copy, Debug, PartialEq, Eq)]
+#[derive(Clone, Copy)]
 enum WordsFault {
     /// A word is no UTF-8, or there are 2^32 words or more.
     Faulty,

@@ -16,7 +16,7 @@ use pop_io::SHARD_LIMIT;
 use pop_lines::number_within;
 
 /// An option of a run.
-#[derive(Clone, Copy, Debug, PartialEq, Eq)]
+#[derive(Clone, Copy)]
 pub(crate) enum RunOption {
     Workers,
     Shards,

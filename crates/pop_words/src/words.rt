@@ -13,7 +13,7 @@ use crate::spec::{DEMO_LIMIT, RunSpec};
 use pop_lines::number_within;
 
 /// What stands behind a command's own word.
-#[derive(Clone, Copy, Debug, PartialEq, Eq)]
+#[derive(Clone, Copy)]
 pub(crate) enum Form {
     /// Nothing.
     Alone(Command),
@@ -26,7 +26,7 @@ pub(crate) enum Form {
 }
 
 /// A flag that makes another command of the one before it.
-#[derive(Clone, Copy, Debug, PartialEq, Eq)]
+#[derive(Clone, Copy)]
 pub(crate) enum Flag {
     OfCompile,
     OfReplay,

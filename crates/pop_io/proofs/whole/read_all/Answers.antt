@@ -1,4 +1,4 @@
-use Rattle.std.proofs.Common.{refl, arith, ◌++◌, length-append, take}
+use Rattle.std.proofs.Common.{refl, arith, ◌++◌, length-append, take, rules}
 use Rattle.std.proofs.lemmas.List.{length-take}
 use Rattle.std.proofs.lemmas.Result.{err_from_is_err_and}
 use Rattle.std.proofs.KnownBytes.{Consumes-trans}
@@ -20,3 +20,12 @@ returns-in_err-extend_from_slice-in-Ok-clause-long g c =
       Consumes-trans _ _ _ _ _ c.loop-bytes.invariant.consumed c.in-Ok.ensures.bytes.0,
       (λ e. absurd (cc (p.1, p.2, e)), λ lt. absurd (omega (arith, length-append c.loop-bytes.bytes.items more, length-take c.in-Ok.count c.take.new.out))),
     )
+
+pub returns-in-Err-clause-whole : goal.returns-in-Err-clause-whole
+returns-in-Err-clause-whole c = search rules
+
+pub returns-in-Err-clause-end : goal.returns-in-Err-clause-end
+returns-in-Err-clause-end c = search rules
+
+pub returns-in-Ok-eq0-clause-fault : goal.returns-in-Ok-eq0-clause-fault
+returns-in-Ok-eq0-clause-fault c = search rules

@@ -1,4 +1,4 @@
-use Rattle.std.proofs.Common.{arith, ap, length}
+use Rattle.std.proofs.Common.{arith, ap, length, rules}
 use Rattle.pop_lines.proofs.Joined.{lines-joined, length-lines}
 use Rattle.pop_lines.proofs.walks.line_count.Goals as goal
 
@@ -7,3 +7,6 @@ overflow_add-count c = omega (arith, c.lines.invariant, length-lines c.args.byte
 
 pub returns-clause-lines : goal.returns-clause-lines
 returns-clause-lines c = lines-joined c.args.bytes.now
+
+pub lines-preserved : goal.lines-preserved
+lines-preserved c = search rules

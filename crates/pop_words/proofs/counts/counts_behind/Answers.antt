@@ -1,4 +1,4 @@
-use Rattle.std.proofs.Common.{arith, refl, None}
+use Rattle.std.proofs.Common.{arith, refl, None, rules}
 use Rattle.std.proofs.lemmas.List.{length-map}
 use Rattle.std.specs.Option.{option_copied}
 use Rattle.pop_words.proofs.Cuts.{shorter}
@@ -19,3 +19,6 @@ words-preserved c =
       cc (c.enter.ensures.len, before.1),
       omega (arith, before.2, c.enter.ensures.fewer c.if-not-enter.false),
     )
+
+pub returns-then-not-enter-clause-counts : goal.returns-then-not-enter-clause-counts
+returns-then-not-enter-clause-counts c = search rules

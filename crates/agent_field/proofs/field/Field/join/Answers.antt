@@ -13,3 +13,6 @@ join_seat-requires c =
       search rules,
       joins c.args.self.now.table.shared.key _ _ _ _ (ap (λ (m : Mine). m.0.live) mine) (ap (λ (m : Mine). m.0.number) mine ∙ c.requires.first.1) (ap (λ (m : Mine). m.0.live) theirs) (ap (λ (m : Mine). m.0.due) theirs) (ap (λ (m : Mine). m.0.held) theirs),
     )
+
+pub invariant_of-seat : goal.invariant_of-seat
+invariant_of-seat c = search rules

@@ -14,3 +14,15 @@ returns g c =
       moment = search rules;
       rest = search rules;
     }
+
+pub invariant_of-seat : goal.invariant_of-seat
+invariant_of-seat c = search rules
+
+pub lock_pair-requires-clause-shards : goal.lock_pair-requires-clause-shards
+lock_pair-requires-clause-shards c = search rules
+
+pub react_pair-ticket-requires-clause-locked : goal.react_pair-ticket-requires-clause-locked
+react_pair-ticket-requires-clause-locked c = search rules
+
+pub unlock_pair-requires-clause-locked : goal.unlock_pair-requires-clause-locked
+unlock_pair-requires-clause-locked c = search rules

@@ -15,3 +15,6 @@ split_seat-token-requires c =
       splits c.args.self.now.table.shared.key _ _ (ap (λ (m : Mine). m.0.live) mine) (ap (λ (m : Mine). m.0.number) mine ∙ c.requires.first.1)
           (subst (λ (n : ℕ). n < c.args.self.now.table.shared.key.seats) (sym next) (subst (λ (k : Setup). c.args.seat.now.next < k.seats) c.requires.first.0.1 room)),
     )
+
+pub invariant_of-seat : goal.invariant_of-seat
+invariant_of-seat c = search rules

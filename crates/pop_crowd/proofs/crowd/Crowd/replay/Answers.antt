@@ -6,6 +6,7 @@ use Rattle.pop_net.specs.Lanes.{tuple_of, crowd_of}
 use Rattle.pop_crowd.specs.Replay.{replay, AreMeetings}
 use Rattle.pop_crowd.proofs.Words.{crowd_tuples}
 use Rattle.pop_crowd.proofs.Reached.{replay_reached}
+use Rattle.std.proofs.lemmas.Grind.{common_steps}
 use Rattle.pop_crowd.proofs.crowd.Crowd.replay.Goals as goal
 
 pub returns-clause-reached : goal.returns-clause-reached
@@ -16,3 +17,6 @@ returns-clause-reached c =
     ap (λ ms. replay net ms (crowd_of net c.loop-meeting.self)) (sym (drop_all c.loop-meeting.meeting-index c.args.meetings.now (omega arith))) ∙ c.loop-meeting.invariant.rest in
     let meetings : AreMeetings (length crowd) c.args.meetings.now = rw (length-map c.args.self.now (tuple_of net)) c.requires.meetings in
     subst (ReachedWithin (Step net) (length c.args.meetings.now) crowd) (sym end) (replay_reached net c.args.meetings.now crowd (crowd_tuples net c.args.self.now) meetings)
+
+pub loop-meeting-preserved : goal.loop-meeting-preserved
+loop-meeting-preserved c = grind (arith, common_steps)
