@@ -29,8 +29,7 @@ fn is_other(leaf: &Leaf, state: u16, q: u16) -> bool
     requires other { q < length leaf.now.states }
     ensures { result ≡ (not (q == state) && can_meet_in leaf.now state q) }
 {
-    let other = q != state;
-    other && can_meet(leaf, state, q)
+    q != state && can_meet(leaf, state, q)
 }
 
 fn push_if(states: &mut Vec<u16>, state: u16, passes: bool) -> Result<(), NoMemory>

@@ -80,6 +80,5 @@ impl Pred {
 pub fn same(a: &Pred, b: &Pred) -> bool
     ensures { IsTrue result ↔ (a.now ≡ b.now) }
 {
-    let same_vars = a.vars == b.vars;
-    same_vars && a.tree.same(&b.tree)
+    a.vars == b.vars && a.tree.same(&b.tree)
 }
