@@ -5,7 +5,8 @@ ghost use Rattle.pop_lines.specs.Lines.{lines_of};
 ghost use Rattle.pop_words.specs.Vars.{AreVariables};
 ghost use Rattle.comp_net.specs.Compiles.{Compiles};
 ghost use Rattle.tool_texts.specs.Steps.{GivesStep, Obeys};
-ghost use Rattle.tool_commands.specs.Compile.{asked_by, fits_its_leaves, compiled_output, IsCompiled, OfAsked, CompileGives};
+ghost use Rattle.tool_commands.specs.Compile.{asked_by, fits_its_leaves, compiled_output};
+ghost use Rattle.tool_commands.specs.Compile.{IsCompiled, OfAsked, CompileGives};
 
 use crate::eval::{names_of, pred_of};
 use bundle_text::write_bundle;

@@ -15,7 +15,8 @@ ghost use Rattle.tool_commands.specs.Play.{IsLast};
 ghost use Rattle.tool_commands.specs.Start.{IsStart};
 ghost use Rattle.tool_commands.specs.Bundles.{IsBundleWithin};
 ghost use Rattle.tool_commands.specs.Run.{journal_end, run_ending, open_pair, OfBegun, RunGives};
-ghost use Rattle.tool_commands.specs.Prepared.{CanRun, IsRunOfSetting, IsOutputOfSetting, IsOutputOfRun, NeedsNoThreads, Prepares, IsPending};
+ghost use Rattle.tool_commands.specs.Prepared.{CanRun, IsRunOfSetting, IsOutputOfSetting, IsOutputOfRun};
+ghost use Rattle.tool_commands.specs.Prepared.{NeedsNoThreads, Prepares, IsPending};
 
 use crate::bundle::{begin, check_bundle};
 use crate::prepared::{PendingRun, Prepared, Setting};
