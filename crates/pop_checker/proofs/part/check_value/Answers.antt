@@ -1,5 +1,18 @@
 use Rattle.pop_checker.proofs.Formats.{nodes_format}
+use Rattle.std.proofs.Common.{rules}
 use Rattle.pop_checker.proofs.part.check_value.Goals as goal
 
 pub check_tree-requires-clause-within : goal.check_tree-requires-clause-within
 check_tree-requires-clause-within c = nodes_format c.args.nodes.now c.requires.within
+
+pub returns-in-Ok-clause-closes : goal.returns-in-Ok-clause-closes
+returns-in-Ok-clause-closes c = search rules
+
+pub returns-in-Ok-clause-right : goal.returns-in-Ok-clause-right
+returns-in-Ok-clause-right c = search rules
+
+pub returns-in-Err-clause-fault : goal.returns-in-Err-clause-fault
+returns-in-Err-clause-fault c = search rules
+
+pub returns-in-Err-clause-accepts : goal.returns-in-Err-clause-accepts
+returns-in-Err-clause-accepts c = search rules
