@@ -2,6 +2,7 @@ use Rattle.std.proofs.Common.{◌≡◌, ◌≤◌, ◌^◌, ◌∙◌, length, 
 use Rattle.cert_base.specs.ProofBound.{layers_bound}
 use Rattle.pop_settle.proofs.Bounds.{bound_more, bound_fits}
 use Rattle.pop_settle.proofs.bound.most_takes.Goals.{After-bound_of-bound}
+use Rattle.std.proofs.lemmas.Grind.{common_steps}
 use Rattle.pop_settle.proofs.bound.most_takes.Goals as goal
 
 value : (c : After-bound_of-bound) → c.bound_of-bound.result ≡ layers_bound c.part-item.result.layers
@@ -21,3 +22,6 @@ loop-part-preserved c =
       so_far = bound_more c.args.proof.now.leaves c.as_slice-part-items.result.now c.loop-part.part-index c.loop-part.bound c.bound_of-bound.result _ c.part-item.result c.as_slice-part-items.ensures c.loop-part-test.true c.part-item.is (value c) c.loop-part.invariant.so_far;
       small = omega (arith, small c, c.loop-part.invariant.small);
     }
+
+pub returns : goal.returns
+returns c = grind (arith, common_steps)

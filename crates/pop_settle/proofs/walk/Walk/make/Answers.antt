@@ -1,4 +1,4 @@
-use Rattle.std.proofs.Common.{length}
+use Rattle.std.proofs.Common.{length, rules}
 use Rattle.pop_net.specs.LeafModel.{IsLeaf, IsMoveBelow}
 use Rattle.pop_net.proofs.Quiet.{All-slice_get}
 use Rattle.pop_settle.proofs.walk.Walk.make.Goals.{After-move_at-t}
@@ -14,3 +14,6 @@ change-requires-clause-state_in c = rw c.leaf.ensures (below (goal.at.change-req
 
 pub change-requires-2-clause-state_in : goal.change-requires-2-clause-state_in
 change-requires-2-clause-state_in c = rw c.leaf.ensures (below (goal.at.change-requires-2-clause-state_in c).After-move_at-t).3
+
+pub returns-clause-takes : goal.returns-clause-takes
+returns-clause-takes c = search rules

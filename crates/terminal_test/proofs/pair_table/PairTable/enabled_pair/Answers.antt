@@ -1,4 +1,4 @@
-use Rattle.std.proofs.Common.{Bool, List, subst, refl, arith}
+use Rattle.std.proofs.Common.{Bool, List, subst, refl, arith, rules}
 use Rattle.std.proofs.lemmas.List.{length-map}
 use Rattle.pop_net.specs.Lanes.{tuple_of, crowd_of}
 use Rattle.pop_crowd.proofs.Words.{crowd_tuples}
@@ -38,3 +38,9 @@ returns-clause-none c =
     let crowd = crowd_of net c.args.crowd.now in
     let none : NoPair net crowd = λ a b l m. c.loop-a.invariant a b (omega (arith, l, m, length-map c.args.crowd.now (tuple_of net))) l m in
     ((λ e. terminal_without net crowd (crowd_tuples net c.args.crowd.now) none), (λ t. refl))
+
+pub loop-a-init : goal.loop-a-init
+loop-a-init c = search rules
+
+pub returns-in-Some-clause-least : goal.returns-in-Some-clause-least
+returns-in-Some-clause-least c = search rules

@@ -1,4 +1,4 @@
-use Rattle.std.proofs.Common.{◌≡◌, ℕ, Bool, true, false, not, refl}
+use Rattle.std.proofs.Common.{◌≡◌, ℕ, Bool, true, false, not, refl, rules}
 use Rattle.std.specs.Prelude.{Option, Some, None, is_some, ◌↔◌}
 use Rattle.pop_net.specs.Lanes.{crowd_of}
 use Rattle.pop_crowd.proofs.Words.{crowd_tuples}
@@ -22,3 +22,6 @@ none_says (Some pair) false e says = (λ f. cc, λ p. let f = says.1 p in cc)
 
 pub returns-clause-terminal : goal.returns-clause-terminal
 returns-clause-terminal c = none_says c.in_ok-found.found c.is_none.result c.is_none.ensures c.in_ok-found.ensures.none
+
+pub returns-clause-kept : goal.returns-clause-kept
+returns-clause-kept c = search rules
