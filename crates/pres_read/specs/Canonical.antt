@@ -38,6 +38,11 @@ zero_text (name ∷ names) = codes "0*" ++ name
 abbrev pub sum_text : List (List ℕ) → List ℤ → List ℕ
 sum_text names coefs = if list_all is_zero coefs then zero_text names else terms_text true names coefs
 
+-- what stands between the two parts of a tree
+abbrev pub sign_between : PredTree → List ℕ
+sign_between (Disjunction p q) = codes " || "
+sign_between p = codes " && "
+
 abbrev pub tree_text : List (List ℕ) → PredTree → List ℕ
 tree_text names (LessThan coefs bound) = sum_text names coefs ++ codes " < " ++ signed_decimal bound
 tree_text names (Congruent coefs modulus rest) = sum_text names coefs ++ codes " = " ++ decimal rest ++ codes " mod " ++ decimal modulus

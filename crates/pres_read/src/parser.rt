@@ -1,6 +1,6 @@
 //! One token further.
 
-ghost use Rattle.std.specs.Prelude.{◌≡◌, ◌≤◌, ◌-◌, Result as Outcome, List as Items, ℤ, All, nat_abs, IfOk, length, option_map};
+ghost use Rattle.std.specs.Prelude.{◌≡◌, ◌≤◌, ◌-◌, Ok, Result as Outcome, List as Items, ℤ, All, nat_abs, IfOk, length, option_map};
 ghost use Rattle.pres_ast.specs.declared.limits.TheConstants.{WEIGHT_LIMIT};
 ghost use Rattle.pres_ast.specs.PredModel.{AreCoefs};
 ghost use Rattle.pres_ast.specs.TreeOf.{tree_of};
@@ -46,7 +46,7 @@ fn at_unit<'a>(
 {
     match token.kind {
         Kind::Not => Ok(denied(around)),
-        Kind::Open => Ok(opened(around)?),
+        Kind::Open => opened(around),
         _ => awaiting(around, at_first(alloc, names, token)),
     }
 }
@@ -77,8 +77,8 @@ fn denied<'a>(around: Around) -> Parser<'a>
     }
 }
 
-fn opened<'a>(around: Around) -> Result<Parser<'a>, NoMemory>
-    ensures { IfOk result (λ p. progress_of p ≡ after_open (around_of around)) }
+fn opened<'a>(around: Around) -> Result<Parser<'a>, ReadPred>
+    ensures { GivesParsed progress_of result (Ok (after_open (around_of around))) }
 {
     let Around { mut above, level } = around;
     above.push(level)?;
@@ -241,7 +241,7 @@ fn at_number<'a>(
         (number_step (around_of around) coefs.items relation negative token.entry.place (symbol_of token.entry.kind)) }
 {
     let constant = constant_of(relation, negative, token)?;
-    Ok(after_constant(alloc, around, coefs, relation, constant)?)
+    after_constant(alloc, around, coefs, relation, constant)
 }
 
 fn after_constant<'a>(
@@ -250,11 +250,11 @@ fn after_constant<'a>(
     coefs: Vec<i64>,
     relation: Relation,
     constant: i64,
-) -> Result<Parser<'a>, NoMemory>
+) -> Result<Parser<'a>, ReadPred>
     requires coefs { All (λ a. nat_abs a ≤ COEFFICIENT_LIMIT) coefs.items }
     requires constant { nat_abs constant ≤ limit_of relation }
-    ensures { IfOk result
-        (λ p. progress_of p ≡ progress_after_constant (around_of around) coefs.items relation constant) }
+    ensures { GivesParsed progress_of result
+        (Ok (progress_after_constant (around_of around) coefs.items relation constant)) }
 {
     let unequal = match relation {
         Relation::Equal => false,
@@ -370,7 +370,7 @@ fn at_modulus<'a>(
         (modulus_step (around_of around) coefs.items unequal constant token.entry.place (symbol_of token.entry.kind)) }
 {
     let tree = congruence(alloc, coefs, unequal, constant, token)?;
-    Ok(after_unit(alloc, around, tree)?)
+    after_unit(alloc, around, tree)
 }
 
 impl<'a> Parser<'a> {

@@ -5,12 +5,13 @@ ghost use Rattle.std.specs.Prelude.{codes, true};
 ghost use Rattle.std.specs.List.{list_all};
 ghost use Rattle.std.specs.Fmt.{signed_decimal};
 ghost use Rattle.pop_io.specs.Names.{variable_name, AreNames};
+ghost use Rattle.pres_ast.specs.PredTree.{LessThan, Congruent};
 ghost use Rattle.pres_ast.specs.PredModel.{HasAtoms, IsPred};
 ghost use Rattle.pres_ast.specs.TreeOf.{tree_of};
 ghost use Rattle.pres_read.specs.Grammar.{Derives};
 ghost use Rattle.pres_read.specs.Texts.{text_symbols};
 ghost use Rattle.pres_read.specs.Reading.{pred_read};
-ghost use Rattle.pres_read.specs.Canonical.{is_zero, term_text, sign_text, terms_text, zero_text, sum_text, tree_text};
+ghost use Rattle.pres_read.specs.Canonical.{is_zero, term_text, sign_text, terms_text, zero_text, sum_text, sign_between, tree_text};
 
 use itoa::Buffer;
 use pop_io::{List, NoMemory, Text};
@@ -48,39 +49,65 @@ fn push_tree(out: &mut String, tree: &Tree, names: &List<Text>) -> Result<(), Al
     ensures { OnOk result (string_bytes out.new ≡ string_bytes out.old ++ tree_text names.now (tree_of tree.now)) }
 {
     match tree {
-        Tree::Less { coefs, bound } => {
-            push_sum(out, coefs.as_slice(), names)?;
-            out.push_str(" < ")?;
-            out.push_str(Buffer::new().format(*bound))
-        }
+        Tree::Less { coefs, bound } => push_comparison(out, coefs.as_slice(), *bound, names),
         Tree::Rest {
             coefs,
             modulus,
             rest,
-        } => {
-            push_sum(out, coefs.as_slice(), names)?;
-            out.push_str(" = ")?;
-            push_rest(out, *rest, *modulus)
-        }
+        } => push_congruence(out, coefs.as_slice(), *modulus, *rest, names),
         Tree::Not(p) => {
             out.push_str("!")?;
             push_tree(out, p, names)
         }
-        Tree::And(p, q) => {
+        Tree::And(p, q) | Tree::Or(p, q) => {
             out.push_str("(")?;
             push_tree(out, p, names)?;
-            out.push_str(" && ")?;
-            push_tree(out, q, names)?;
-            out.push_str(")")
-        }
-        Tree::Or(p, q) => {
-            out.push_str("(")?;
-            push_tree(out, p, names)?;
-            out.push_str(" || ")?;
+            out.push_str(sign_between(tree))?;
             push_tree(out, q, names)?;
             out.push_str(")")
         }
     }
+}
+
+/// The sign between the two parts of a tree.
+fn sign_between(tree: &Tree) -> &'static str
+    ensures { result.now ≡ sign_between (tree_of tree.now) }
+{
+    match tree {
+        Tree::Or(_, _) => " || ",
+        _ => " && ",
+    }
+}
+
+fn push_comparison(
+    out: &mut String,
+    coefs: &[i64],
+    bound: i64,
+    names: &List<Text>,
+) -> Result<(), AllocError>
+    requires { length coefs.now ≡ length names.now }
+    ensures { OnOk result
+        (string_bytes out.new ≡ string_bytes out.old ++ tree_text names.now (LessThan coefs.now bound)) }
+{
+    push_sum(out, coefs, names)?;
+    out.push_str(" < ")?;
+    out.push_str(Buffer::new().format(bound))
+}
+
+fn push_congruence(
+    out: &mut String,
+    coefs: &[i64],
+    modulus: u32,
+    rest: u32,
+    names: &List<Text>,
+) -> Result<(), AllocError>
+    requires { length coefs.now ≡ length names.now }
+    ensures { OnOk result
+        (string_bytes out.new ≡ string_bytes out.old ++ tree_text names.now (Congruent coefs.now modulus rest)) }
+{
+    push_sum(out, coefs, names)?;
+    out.push_str(" = ")?;
+    push_rest(out, rest, modulus)
 }
 
 fn push_rest(out: &mut String, rest: u32, modulus: u32) -> Result<(), AllocError>

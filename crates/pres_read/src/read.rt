@@ -108,8 +108,11 @@ impl<'a> Reader<'a> {
             (read_on names.now (progress_of self.entry.parser) (depth_of self.entry.depth) (token_of token.entry)) }
     {
         let Reader { parser, depth } = self;
+        let after = depth.after(token);
         let parser = parser.take(alloc, names, token)?;
-        let depth = depth.after(token)?;
-        Ok(Reader { parser, depth })
+        match after {
+            Ok(depth) => Ok(Reader { parser, depth }),
+            Err(fault) => Err(fault),
+        }
     }
 }

@@ -1,6 +1,6 @@
 //! Units, and the signs before and after them.
 
-ghost use Rattle.std.specs.Prelude.{◌≡◌, IfOk, option_map};
+ghost use Rattle.std.specs.Prelude.{◌≡◌, Ok, IfOk, option_map};
 ghost use Rattle.pres_ast.specs.TreeOf.{tree_of};
 ghost use Rattle.pres_tokens.specs.Symbols.{symbol_of};
 ghost use Rattle.pres_read.specs.Progress.{AUnit};
@@ -35,8 +35,8 @@ fn conjoined(alloc: Global, left: Option<Tree>, right: Tree) -> Result<Tree, NoM
     }
 }
 
-fn disjoined(alloc: Global, left: Option<Tree>, right: Tree) -> Result<Tree, NoMemory>
-    ensures { IfOk result (λ whole. tree_of whole ≡ disjunction (option_map tree_of left) (tree_of right)) }
+fn disjoined(alloc: Global, left: Option<Tree>, right: Tree) -> Result<Tree, ReadPred>
+    ensures { GivesParsed tree_of result (Ok (disjunction (option_map tree_of left) (tree_of right))) }
 {
     match left {
         None => Ok(right),
@@ -63,8 +63,8 @@ pub(crate) fn after_unit<'a>(
     alloc: Global,
     around: Around,
     tree: Tree,
-) -> Result<Parser<'a>, NoMemory>
-    ensures { IfOk result (λ p. progress_of p ≡ progress_after_unit (around_of around) (tree_of tree)) }
+) -> Result<Parser<'a>, ReadPred>
+    ensures { GivesParsed progress_of result (Ok (progress_after_unit (around_of around) (tree_of tree))) }
 {
     let Around { above, level } = around;
     let (ors, tree) = up_to_unit(alloc, level, tree)?;
@@ -139,7 +139,7 @@ fn closed<'a>(
     let Some(level) = above.pop() else {
         return Err(ReadPred::Syntax(place));
     };
-    Ok(after_unit(alloc, Around { above, level }, tree)?)
+    after_unit(alloc, Around { above, level }, tree)
 }
 
 /// The end of the text after a conjunction of units.
@@ -155,5 +155,5 @@ pub(crate) fn ended(
     if !above.is_empty() {
         return Err(ReadPred::Syntax(end));
     }
-    Ok(disjoined(alloc, ors, tree)?)
+    disjoined(alloc, ors, tree)
 }
