@@ -5,8 +5,10 @@ ghost use Rattle.pop_net.specs.LeafModel.{IsLeaf};
 ghost use Rattle.cert_base.specs.declared.fact.Fact.TheVariants.{Ge, Eq};
 ghost use Rattle.cert_base.specs.Rows.{input_row};
 ghost use Rattle.cert_base.specs.FactsAndCases.{indicator, is_in, helpers_among, takes_from, no_moves};
-ghost use Rattle.cert_base.specs.FactsAndCases.{count_row, cases_of_siphon};
+ghost use Rattle.cert_base.specs.FactsAndCases.{some_taken_fact, count_row, cases_of_siphon};
 ghost use Rattle.cert_base.specs.Ends.{Cover};
+ghost use Rattle.cert_traps.specs.Roles.{passes_role};
+ghost use Rattle.cert_traps.specs.declared.role.Role.TheVariants.{Enters};
 
 use crate::facts::coefs;
 use crate::role::Role;
@@ -28,18 +30,33 @@ pub fn siphon_cases(
     ensures cover { IfOk result (Cover leaf.now) }
 {
     let set = StateSet::new(alloc, set)?;
-    let started = some_started(alloc, leaf, &set)?;
+    let _formed = leaf.state_count();
+    let cases = cases_of(alloc, leaf, &set)?;
+    Ok(cases)
+}
+
+fn cases_of(alloc: Global, leaf: &Leaf, set: &StateSet) -> Result<List<List<Fact>>, NoMemory>
+    requires { IsLeaf leaf.now }
+    ensures { IfOk result (λ cases. cases ≡ cases_of_siphon leaf.now set.now) }
+{
     let mut cases = Vec::new(alloc);
-    cases.push(only(alloc, some_taken(alloc, leaf, &set, Role::Enters)?)?)?;
-    cases.push(only(alloc, started)?)?;
-    cases.push(never_marked(alloc, leaf, &set)?)?;
+    cases.push(some_entered(alloc, leaf, set)?)?;
+    cases.push(only(alloc, some_started(alloc, leaf, set)?)?)?;
+    cases.push(never_marked(alloc, leaf, set)?)?;
     Ok(List::from_vec(cases))
+}
+
+/// A move enters the set.
+fn some_entered(alloc: Global, leaf: &Leaf, set: &StateSet) -> Result<List<Fact>, NoMemory>
+    requires { IsLeaf leaf.now }
+    ensures { IfOk result (λ facts. facts ≡ some_taken_fact leaf.now (passes_role set.now Enters) ∷ []) }
+{
+    only(alloc, some_taken(alloc, leaf, set, Role::Enters)?)
 }
 
 /// Some input starts in the set, or a helper is in it.
 fn some_started(alloc: Global, leaf: &Leaf, set: &StateSet) -> Result<Fact, NoMemory>
-    ensures formed { IsLeaf leaf.now }
-    ensures fact { IfOk result
+    ensures { IfOk result
         (λ fact. fact ≡ Ge (input_row (map (λ start. indicator (is_in set.now start)) leaf.now.inputs)
         (pos (helpers_among leaf.now set.now) -ℤ pos 1))) }
 {

@@ -1,18 +1,12 @@
-use Rattle.std.proofs.Common.{◌∙◌, List, [], ◌∷◌, sym, subst, ap}
+use Rattle.std.proofs.Common.{◌∙◌, List, sym, subst, ap}
 use Rattle.cert_base.specs.declared.fact.Fact.{Fact}
 use Rattle.cert_base.specs.FactsAndCases.{cases_of_siphon}
 use Rattle.cert_base.specs.Ends.{Cover}
 use Rattle.cert_traps.proofs.Covers.{siphon-cover}
-use Rattle.cert_traps.proofs.Lists.{three_cases}
 use Rattle.cert_traps.proofs.siphon.siphon_cases.Goals as goal
 
 pub returns-clause-cases : goal.returns-clause-cases
-returns-clause-cases c =
-    c.from_vec.ensures
-    ∙ three_cases c.new-cases.result.items c.push.new.self.items c.push-2.new.self.items c.push-3.new.self.items c.in_ok-only.field-0 c.in_ok-only-2.field-0 c.in_ok-never_marked.field-0 _ _ _
-    c.new-cases.ensures.items c.in_ok-push.ensures.items c.in_ok-push-2.ensures.items c.in_ok-push-3.ensures.items
-    (c.in_ok-only.ensures ∙ ap (λ fact. fact ∷ []) c.in_ok-some_taken.ensures) (c.in_ok-only-2.ensures ∙ ap (λ fact. fact ∷ []) c.in_ok-started.ensures.fact) c.in_ok-never_marked.ensures
-    ∙ ap (cases_of_siphon c.args.leaf.now) c.in_ok-set.ensures
+returns-clause-cases c = c.in_ok-cases.ensures ∙ ap (cases_of_siphon c.args.leaf.now) c.in_ok-set.ensures
 
 pub returns-clause-cover : goal.returns-clause-cover
 returns-clause-cover c =

@@ -12,8 +12,8 @@ over_inputs-requires c =
     let long = length-coefs (is_in c.args.set.now) c.args.leaf.now.inputs c.as_slice.result.now c.as_slice-2.result.now (c.as_slice.ensures.value ∙ c.in_ok-flags.ensures.flags) (c.as_slice-2.ensures.value ∙ c.in_ok-coefs.ensures) in
     omega (arith, long, c.in_ok-flags.ensures.formed.input_count)
 
-pub returns-clause-fact : goal.returns-clause-fact
-returns-clause-fact c =
+pub returns : goal.returns
+returns c =
     let count = to_z-of_z w64 c.from.result (search rules) in
     let less : SFits w64 (c.from.result -ℤ pos 1) = search rules in
     let constant : to_z w64 (of_z w64 (to_z w64 (of_z w64 c.from.result) -ℤ pos 1)) ≡ (pos (helpers_among c.args.leaf.now c.args.set.now) -ℤ pos 1) =
