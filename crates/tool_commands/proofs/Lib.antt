@@ -7,6 +7,7 @@ pub mod Ends
 pub mod Made
 pub mod PlayTuples
 pub mod Leads
+pub mod Ready
 pub mod Certified
 pub mod Endings
 pub mod OneLast

@@ -60,6 +60,11 @@ NeedsNoThreads (Alone run) = Unit {0}
 NeedsNoThreads (Threads run) = ⊥
 NeedsNoThreads (Demo demo) = Unit {0}
 
+-- what is prepared for an output, or a stop
+abbrev pub ready : Result Output Stop → Result Prepared Stop
+ready (Ok output) = Ok (Text output)
+ready (Err stop) = Err stop
+
 -- it can be made, and the rule allows each of its outputs
 pub record LeadsTo (rule : Output → Type 0) (prepared : Prepared) : Type 0 where
   pub can : CanBeMade prepared

@@ -3,7 +3,7 @@
 ghost use Rattle.std.specs.Prelude.{◌≡◌, ◌↔◌, ◌<◌, ◌^◌, length, IfOk, IsTrue};
 ghost use Rattle.pop_lines.specs.Lines.{lines_of};
 ghost use Rattle.pop_words.specs.Words.{HasLimits};
-ghost use Rattle.tool_commands.specs.Prepared.{Prepares, NeedsNoThreads};
+ghost use Rattle.tool_commands.specs.Prepared.{ready, Prepares, NeedsNoThreads};
 ghost use Rattle.tool_commands.specs.Commands.{CommandGives, IsPlain, reads};
 
 use crate::check::check;
@@ -18,7 +18,7 @@ use crate::settle::settle;
 use comp_net::LeafChoice;
 use pop_words::{Command, RunKind};
 use std::alloc::Global;
-use tool_texts::Stop;
+use tool_texts::{Output, Stop};
 
 /// What a command prepares for an input that isn't too long.
 pub fn prepare_command(alloc: Global, command: Command, input: &[u8]) -> Result<Prepared, Stop>
@@ -28,17 +28,27 @@ pub fn prepare_command(alloc: Global, command: Command, input: &[u8]) -> Result<
     ensures plain { IsPlain command → IfOk result NeedsNoThreads }
 {
     match command {
-        Command::Play => Ok(Prepared::Text(play(alloc, input)?)),
-        Command::Eval => Ok(Prepared::Text(eval(alloc, input)?)),
-        Command::Check => Ok(Prepared::Text(check(alloc, input)?)),
+        Command::Play => at_once(play(alloc, input)),
+        Command::Eval => at_once(eval(alloc, input)),
+        Command::Check => at_once(check(alloc, input)),
         Command::Run(spec) => prepare_run(alloc, RunKind::Whole, spec, input),
         Command::Watch(spec) => prepare_run(alloc, RunKind::Watched, spec, input),
-        Command::Replay => Ok(Prepared::Text(replay(alloc, RunKind::Whole, input)?)),
-        Command::ReplayWatched => Ok(Prepared::Text(replay(alloc, RunKind::Watched, input)?)),
-        Command::Settle => Ok(Prepared::Text(settle(alloc, input)?)),
-        Command::Compile => Ok(Prepared::Text(compile(alloc, LeafChoice::Plain, input)?)),
-        Command::Flocks => Ok(Prepared::Text(compile(alloc, LeafChoice::Flocks, input)?)),
+        Command::Replay => at_once(replay(alloc, RunKind::Whole, input)),
+        Command::ReplayWatched => at_once(replay(alloc, RunKind::Watched, input)),
+        Command::Settle => at_once(settle(alloc, input)),
+        Command::Compile => at_once(compile(alloc, LeafChoice::Plain, input)),
+        Command::Flocks => at_once(compile(alloc, LeafChoice::Flocks, input)),
         Command::Demo(number) => Ok(prepare_demo(alloc, number)?),
+    }
+}
+
+/// What is prepared where the whole output is there already.
+fn at_once(output: Result<Output, Stop>) -> Result<Prepared, Stop>
+    ensures { result ≡ ready output }
+{
+    match output {
+        Ok(output) => Ok(Prepared::Text(output)),
+        Err(stop) => Err(stop),
     }
 }
 
