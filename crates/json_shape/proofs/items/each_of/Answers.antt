@@ -3,7 +3,7 @@ use Rattle.std.proofs.lemmas.Result.{err_from_is_err_and}
 use Rattle.serde_json.specs.View.{view}
 use Rattle.json_shape.specs.Paths.{path_text}
 use Rattle.json_shape.specs.Shapes.{each, each_at, item_by}
-use Rattle.json_shape.proofs.Each.{each-fails, each-goes}
+use Rattle.json_shape.proofs.Each.{each-fails, each-goes, each-done}
 use Rattle.json_shape.proofs.items.each_of.Goals as goal
 
 pub returns-in_err-read-clause-items : goal.returns-in_err-read-clause-items
@@ -24,3 +24,10 @@ loop-i-preserved g c =
           (rw c.deref.ensures.value at c.in_ok-read.ensures) c.loop-i.invariant.so_far);
       count = omega (arith, c.in_ok-push.ensures.len, c.loop-i.invariant.count);
     }
+
+pub returns-clause-items : goal.returns-clause-items
+unfolding each_at
+returns-clause-items g c =
+    let at = item_by (g.R.ReadItem.item_at c.args.reader.now) (path_text c.args.path.now) in
+    rw (c.in_ok-list.ensures.list, ← c.deref-item-items.ensures.value, c.from_vec.ensures)
+    (each-done at c.loop-i.items.items c.deref-item-items.result.now c.loop-i.i (each at [] 0 (map view c.deref-item-items.result.now)) c.loop-i-test.false c.loop-i.invariant.so_far)
