@@ -5,7 +5,7 @@ use Rattle.json_shape.specs.Paths.{path_text}
 use Rattle.pop_net.specs.NetModel.{after_item, depth_operators}
 use Rattle.pop_net.specs.NetFaults.{names_below, are_low}
 use Rattle.net_json.specs.Examined.{combine_item, items_at}
-use Rattle.json_shape.proofs.Each.{each-fails, each-goes}
+use Rattle.json_shape.proofs.Each.{each-fails, each-goes, each-done}
 use Rattle.net_json.proofs.Items.{open_next, after_item-length, operand-fails, shape-fails, item-goes, and_second, put_some}
 use Rattle.net_json.proofs.combine.items_of.Goals as goal
 
@@ -41,3 +41,9 @@ loop-i-preserved c =
       trees_open = rw c.in_ok-push.ensures.items (open_next c.loop-i.items.items c.loop-i.trees item c.loop-i.invariant.trees_open ∙ after);
       few = omega (arith, after_item-length item c.loop-i.trees c.put.new.self after, c.loop-i.invariant.few);
     }
+
+pub returns-clause-items : goal.returns-clause-items
+unfolding items_at
+returns-clause-items c =
+    rw (c.in_ok-list.ensures.list, ← c.deref-item-items.ensures.value, c.from_vec.ensures)
+    (each-done (combine_item (path_text c.args.path.now) c.args.leaves) c.loop-i.items.items c.deref-item-items.result.now c.loop-i.i _ c.loop-i-test.false c.loop-i.invariant.read)
