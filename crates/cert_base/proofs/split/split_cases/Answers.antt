@@ -10,3 +10,9 @@ returns-clause-cases c = search rules
 pub returns-clause-cover : goal.returns-clause-cover
 returns-clause-cover c =
     subst (λ (cases : List (List Fact)). CoverAll cases) (sym (returns-clause-cases c)) (split_cases-cover c.args.row.now)
+
+pub below-requires-clause-coefs : goal.below-requires-clause-coefs
+below-requires-clause-coefs c = c.requires.coefs
+
+pub below-requires-clause-constant : goal.below-requires-clause-constant
+below-requires-clause-constant c = c.requires.constant
