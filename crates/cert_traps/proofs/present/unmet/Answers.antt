@@ -17,3 +17,10 @@ returns c =
     ∙ unmet_all c.args.leaf.now c.args.state c.loop-q.q c.index.result.now c.in_ok-partners.partners.items c.loop-q.facts.items c.push_alone.new.facts.items c.in_ok-partners.ensures c.requires all
     (read_is c.in_ok-partners.partners.items c.from.result c.args.state c.index.result.now c.index.ensures c.from.ensures within)
     c.loop-q.invariant c.in_ok-push_alone.ensures
+
+pub index-requires : goal.index-requires
+index-requires c = omega (arith, c.from.ensures, c.in_ok-partners.ensures.long, c.requires)
+
+pub meets_other-meets-requires : goal.meets_other-meets-requires
+meets_other-meets-requires c =
+    omega (arith, ap length c.as_slice.ensures.value, c.in_ok-partners.ensures.long, c.state_count-q-end.ensures.count, c.loop-q-test.true)

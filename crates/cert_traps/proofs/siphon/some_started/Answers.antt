@@ -23,3 +23,9 @@ returns c =
     (c.in_ok-over_inputs.ensures
     ∙ ap (λ a. input_row c.as_slice-2.result.now a) constant
     ∙ ap (λ coefs. input_row coefs (pos (helpers_among c.args.leaf.now c.args.set.now) -ℤ pos 1)) coefs)
+
+pub helpers-requires : goal.helpers-requires
+helpers-requires c = c.in_ok-flags.ensures.formed
+
+pub returns-clause-formed : goal.returns-clause-formed
+returns-clause-formed c = c.in_ok-flags.ensures.formed
