@@ -1,4 +1,4 @@
-use Rattle.std.proofs.Common.{◌≡◌, ℕ, ◌-◌, min, List, [], ◌∷◌, ◌++◌, length, take, drop, ap, sym, subst, ◌∙◌, arith}
+use Rattle.std.proofs.Common.{◌≡◌, ℕ, ◌-◌, min, List, [], ◌∷◌, ◌++◌, length, take, drop, ap, sym, subst, ◌∙◌, arith, refl}
 use Rattle.std.specs.Prelude.{true, ◌↔◌}
 use Rattle.pop_net.specs.NetModel.{NetModel}
 use Rattle.pop_net.specs.declared.net.Word.{Word}
@@ -7,7 +7,7 @@ use Rattle.pop_crowd.specs.declared.crowd.Meeting.{Meeting}
 use Rattle.pair_workers.specs.Turns.{ArePlayed}
 use Rattle.pair_workers.specs.Ends.{RunGoesOn}
 use Rattle.pair_workers.proofs.FieldRounds.{whole_written}
-use Rattle.pair_workers.proofs.ManyRounds.{AreOnTheRun, all_more_rounds}
+use Rattle.pair_workers.proofs.ManyRounds.{AreOnTheRun, all_more_rounds, all_no_rounds}
 use Rattle.pair_workers.proofs.RunEnds.{run_ended}
 use Rattle.pair_workers.proofs.all.run_many.Goals as goal
 
@@ -45,3 +45,41 @@ pub returns : goal.returns
 returns g c =
     let was = c.rounds.invariant in
     run_ended c.args.net.now _ c.args.crowd c.rounds.crowd c.args.spec.now c.rounds.rounds.items _ c.rounds.pickers.items c.rounds.left c.in_ok-goes_on.field-0 c.in_ok-end.end was.run was.valid was.agents c.if-branch.false c.in_ok-table.ensures c.in_ok-goes_on.ensures c.in_ok-end.ensures c.from_vec.ensures
+
+pub rounds-init : goal.rounds-init
+rounds-init g c =
+    let net = c.args.net.now in
+    let start = crowd_of net c.args.crowd in
+    let spec = c.args.spec.now in
+    let first = c.in_ok-pickers.ensures in
+    record {
+      run = subst (λ (rounds : List (List Meeting)). AreOnTheRun net start spec rounds start c.in_ok-pickers.pickers.items spec.turns) (sym c.new-rounds.ensures.items)
+          (all_no_rounds net start spec c.in_ok-pickers.pickers.items first.first);
+      valid = c.requires.valid;
+      agents = refl;
+      pickers = first.long;
+      few = c.requires.limits.turns.1;
+    }
+
+pub goes_on-requires : goal.goes_on-requires
+goes_on-requires g c = subst (λ (n : NetModel). AreValid n c.rounds.crowd) (sym c.in_ok-table.ensures) c.rounds.invariant.valid
+
+pub run_round-requires-clause-round : goal.run_round-requires-clause-round
+run_round-requires-clause-round g c κs within =
+    record {
+      valid = c.rounds.invariant.valid;
+      pickers = ap length c.as_mut_slice-lent.ensures.value ∙ c.rounds.invariant.pickers;
+      few = omega (arith, c.min-turns.ensures);
+    }
+
+pub run_round-requires-clause-limits : goal.run_round-requires-clause-limits
+run_round-requires-clause-limits g c κs within = c.requires.limits
+
+pub next_crowd-crowd-requires-clause-valid : goal.next_crowd-crowd-requires-clause-valid
+next_crowd-crowd-requires-clause-valid g c = c.in_ok-words.ensures.valid
+
+pub next_crowd-crowd-requires-clause-agents : goal.next_crowd-crowd-requires-clause-agents
+next_crowd-crowd-requires-clause-agents g c = c.in_ok-words.ensures.agents
+
+pub end_of-requires : goal.end_of-requires
+end_of-requires g c = subst (λ (n : NetModel). AreValid n c.rounds.crowd) (sym c.in_ok-table.ensures) c.rounds.invariant.valid

@@ -1,10 +1,10 @@
-use Rattle.std.proofs.Common.{◌≡◌, ◌+◌, List, [], ◌∷◌, ◌++◌, length, ap, sym, subst, ◌∙◌, arith}
+use Rattle.std.proofs.Common.{◌≡◌, ◌+◌, List, [], ◌∷◌, ◌++◌, length, ap, sym, subst, ◌∙◌, arith, refl}
 use Rattle.std.proofs.lemmas.List.{length-append}
 use Rattle.pop_net.specs.Lanes.{crowd_of}
 use Rattle.pop_crowd.specs.declared.crowd.Meeting.{Meeting}
 use Rattle.pair_workers.specs.Picks.{words_from}
 use Rattle.pair_workers.specs.Played.{IsPlayed}
-use Rattle.pair_workers.proofs.Played.{played_more}
+use Rattle.pair_workers.proofs.Played.{played_more, played_none}
 use Rattle.pair_workers.proofs.alone.play_round.Goals as goal
 
 pub turns-preserved : goal.turns-preserved
@@ -18,4 +18,18 @@ turns-preserved g c =
       valid = c.meet_next.ensures.valid;
       agents = c.meet_next.ensures.agents ∙ c.turns.invariant.agents;
       room = let r = c.turns.invariant.room in let same = c.push_reserved.ensures.capacity in omega arith;
+    }
+
+pub turns-init : goal.turns-init
+turns-init g c =
+    let net = c.args.net.now in
+    let start = crowd_of net c.args.crowd.now in
+    let words = words_from c.args.picker.now in
+    let log = c.in_ok-log.ensures in
+    record {
+      played = subst (λ (log : List Meeting). IsPlayed net start words log start words) (sym log.items) (played_none net start words);
+      turns = ap length log.items;
+      valid = c.requires.valid;
+      agents = refl;
+      room = omega (arith, log.exact);
     }

@@ -1,11 +1,11 @@
 use Rattle.std.proofs.Common.{◌≡◌, ℕ, ◌-◌, min, List, [], ◌∷◌, ◌++◌, sym, ap, subst, ◌∙◌, arith, rules, refl}
 use Rattle.std.specs.Prelude.{true, ◌↔◌}
 use Rattle.pop_net.specs.NetModel.{NetModel}
-use Rattle.pop_net.specs.Lanes.{crowd_of}
+use Rattle.pop_net.specs.Lanes.{crowd_of, AreValid}
 use Rattle.pop_crowd.specs.declared.crowd.Meeting.{Meeting}
 use Rattle.pair_workers.specs.Turns.{ArePlayed}
 use Rattle.pair_workers.specs.Ends.{RunGoesOn}
-use Rattle.pair_workers.proofs.ManyRounds.{AreOnTheRun, alone_played, all_more_rounds}
+use Rattle.pair_workers.proofs.ManyRounds.{AreOnTheRun, alone_played, all_more_rounds, all_no_rounds, first_alone}
 use Rattle.pair_workers.proofs.OnlyRun.{only_run}
 use Rattle.pair_workers.proofs.RunEnds.{run_ended}
 use Rattle.pair_workers.proofs.alone.run_alone.Goals as goal
@@ -41,3 +41,23 @@ returns g c =
     let was = c.rounds.invariant in
     let run = run_ended net _ c.args.crowd c.rounds.crowd c.args.spec.now c.rounds.rounds.items _ (c.rounds.picker ∷ []) c.rounds.left c.in_ok-goes_on.field-0 c.in_ok-end.end was.run was.valid was.agents c.if-branch.false c.in_ok-table.ensures c.in_ok-goes_on.ensures c.in_ok-end.ensures c.from_vec-2.ensures in
     record { run = run; only = only_run net _ c.args.spec.now _ _ c.requires.alone run.run }
+
+pub rounds-init : goal.rounds-init
+rounds-init g c =
+    let net = c.args.net.now in
+    let start = crowd_of net c.args.crowd in
+    let spec = c.args.spec.now in
+    let picker = c.new-picker.result in
+    record {
+      run = subst (λ (rounds : List (List Meeting)). AreOnTheRun net start spec rounds start (picker ∷ []) spec.turns) (sym c.new-rounds.ensures.items)
+          (all_no_rounds net start spec (picker ∷ []) (first_alone spec picker c.requires.alone c.new-picker.ensures.state));
+      valid = c.requires.can.valid;
+      agents = refl;
+      few = c.requires.can.limits.turns.1;
+    }
+
+pub goes_on-requires : goal.goes_on-requires
+goes_on-requires g c = subst (λ (n : NetModel). AreValid n c.rounds.crowd) (sym c.in_ok-table.ensures) c.rounds.invariant.valid
+
+pub end_of-requires : goal.end_of-requires
+end_of-requires g c = subst (λ (n : NetModel). AreValid n c.rounds.crowd) (sym c.in_ok-table.ensures) c.rounds.invariant.valid

@@ -79,3 +79,20 @@ returns-clause-all c =
         let e = c.in_default.ensures.cases.0 in
         subst (λ (k : ℕ). IsSome (get_or (taken_of c.workers.first) k None)) (let same : i + 1 ≡ suc i = omega arith in same)
         (c.workers.invariant.whole i (omega arith) (omega (arith, early, c.workers.invariant.next)))
+
+pub join-requires-clause-first : goal.join-requires-clause-first
+join-requires-clause-first c = (c.workers.invariant.ours, c.workers.invariant.number)
+
+pub join-requires-clause-theirs : goal.join-requires-clause-theirs
+join-requires-clause-theirs c =
+    let rest = c.pop.new.self.items in
+    let worker = c.in-Some.worker in
+    let items = c.in-Some.ensures.items in
+    let long : length c.workers.others.items ≡ length rest + 1 = ap (length {A = Worker}) items ∙ length-append rest (worker ∷ []) in
+    let is = (popped c.args.others.items c.workers.others.items rest worker items c.workers.invariant.same).1 worker in
+    subst (λ (v : Worker). IsSeatOf c.args.field.now v.seat) is (c.requires.each (length rest) worker (omega (arith, long, c.workers.invariant.few))).0
+
+pub returns-clause-back : goal.returns-clause-back
+returns-clause-back c = λ i d e within.
+    let none_left : length c.workers.others.items ≡ 0 = (let e = c.in_default.ensures.cases.0 in omega arith) in
+    c.workers.invariant.moved i d e (omega (arith, none_left)) within
