@@ -11,9 +11,3 @@ returns-clause-cases c = c.in_ok-cases.ensures ∙ ap (cases_of_siphon c.args.le
 pub returns-clause-cover : goal.returns-clause-cover
 returns-clause-cover c =
     subst (λ (cases : List (List Fact)). Cover c.args.leaf.now cases) (sym (returns-clause-cases c)) (siphon-cover c.args.leaf.now c.args.set.now)
-
-pub some_taken-requires : goal.some_taken-requires
-some_taken-requires c = c.in_ok-started.ensures.formed
-
-pub never_marked-requires : goal.never_marked-requires
-never_marked-requires c = c.in_ok-started.ensures.formed

@@ -26,6 +26,3 @@ returns c =
 
 pub helpers-requires : goal.helpers-requires
 helpers-requires c = c.in_ok-flags.ensures.formed
-
-pub returns-clause-formed : goal.returns-clause-formed
-returns-clause-formed c = c.in_ok-flags.ensures.formed
