@@ -162,6 +162,11 @@ rest_fits x y l m =
     let both = to_z-of_z w128 (x +ℤ y) (fits_small (x +ℤ y) (omega (arith, bound))) in
     rw (to_z-of_z w128 x (fits_small x (omega arith)), to_z-of_z w128 y (fits_small y (omega arith))) both
 
+pub rest_in_range : (x y : ℤ) → nat_abs x ≤ 2 ^ 121 + 2 ^ 31 → nat_abs y ≤ 2 ^ 103 → SFits w128 (to_z w128 (of_z w128 x) +ℤ to_z w128 (of_z w128 y))
+rest_in_range x y l m =
+    let bound = size-add x y in
+    rw (to_z-of_z w128 x (fits_small x (omega arith)), to_z-of_z w128 y (fits_small y (omega arith))) (fits_small (x +ℤ y) (omega (arith, bound)))
+
 -- all terms of a row are entered, and its constant
 pub entered_all : (a : ℤ) (row : Row) (sum mid more : Sum) (k : ℕ) → length row.terms ≤ k → IsEntered a (take k row.terms) sum mid → ((q : ℕ) → coefficient_of more q ≡ coefficient_of mid q) → more.constant ≡ (mid.constant +ℤ (a *ℤ row.constant)) → IsPlus (times a row) sum more
 entered_all a row sum mid more k l is same constant = record {
