@@ -1,9 +1,7 @@
 -- No command ends by a fault of reading.
 use Rattle.std.proofs.Common.{◌≡◌, ℕ, Bool, true, false, nat_lt, List, Option, Some, None, Result, Ok, Err, sym, ap, subst, ◌∙◌}
 use Rattle.std.specs.Prelude.{◌≢◌, MatchBool, ◌+◌, length}
-use Rattle.pres_read.specs.Reading.{pred_read}
 use Rattle.pop_words.specs.Vars.{vars_of}
-use Rattle.pop_words.specs.Counts.{counts_of}
 use Rattle.pop_words.specs.declared.command.Command.{Command}
 use Rattle.pop_words.specs.declared.command.Command.TheVariants.{Play, Eval, Check, Run, Watch, Replay, ReplayWatched, Settle, Compile, Flocks, Demo}
 use Rattle.pop_words.specs.declared.kind.RunKind.{RunKind}
@@ -21,7 +19,7 @@ use Rattle.tool_texts.specs.declared.output.Ending.TheVariants.{ReadFault}
 use Rattle.tool_texts.specs.Lines.{just_one, just_two, just_three, two_and_more, two_and_some}
 use Rattle.tool_texts.specs.Refusals.{output_for}
 use Rattle.tool_texts.proofs.Goes.{bind_keeps, after_keeps}
-use Rattle.tool_commands.specs.Eval.{named, understood, counted, eval_output}
+use Rattle.tool_commands.specs.Eval.{named, truth_in, eval_output}
 use Rattle.tool_commands.specs.Play.{end_crowd, OfEnd, OfLines, PlayGives}
 use Rattle.tool_commands.specs.Check.{judgement, OfBundle, OfLine, CheckGives}
 use Rattle.tool_commands.specs.Run.{run_ending, OfJudged, OfLines as OfRunLines, RunGives}
@@ -47,9 +45,8 @@ unfolding eval_output
 eval_other lines =
     bind_keeps IsOther refused (just_three lines) _
     (λ three. bind_keeps IsOther refused (named (vars_of three.0)) _
-    (λ names. bind_keeps IsOther refused (understood (pred_read names three.1)) _
-    (λ pred. bind_keeps IsOther refused (counted (counts_of names three.2)) _
-    (λ counts e. absurd cc))))
+    (λ names. bind_keeps IsOther refused (truth_in names three.1 three.2) _
+    (λ truth e. absurd cc)))
 
 play_other : (lines : List (List ℕ)) (given : Result Output Refusal) → PlayGives lines given → IsOther given
 play_other lines =

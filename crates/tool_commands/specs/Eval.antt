@@ -32,11 +32,17 @@ abbrev pub truth_line : Bool → List ℕ
 truth_line true = codes "true\n"
 truth_line false = codes "false\n"
 
+-- the truth of a predicate line at a crowd line
+unfoldable pub truth_in : List (List ℕ) → List ℕ → List ℕ → Result Bool Refusal
+truth_in names line crowd = do
+  pred ← understood (pred_read names line)
+  counts ← counted (counts_of names crowd)
+  Ok (predicate_value pred.tree counts)
+
 -- what `eval` gives for the lines of its input
 unfoldable pub eval_output : List (List ℕ) → Result Output Refusal
 eval_output lines = do
   three ← just_three lines
   names ← named (vars_of three.0)
-  pred ← understood (pred_read names three.1)
-  counts ← counted (counts_of names three.2)
-  Ok (record { text = truth_line (predicate_value pred.tree counts); ending = Done })
+  truth ← truth_in names three.1 three.2
+  Ok (record { text = truth_line truth; ending = Done })

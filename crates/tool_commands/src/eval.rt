@@ -6,7 +6,7 @@ ghost use Rattle.pop_words.specs.Vars.{vars_of, AreVariables};
 ghost use Rattle.pop_words.specs.Counts.{counts_of};
 ghost use Rattle.pres_read.specs.Reading.{pred_read};
 ghost use Rattle.tool_texts.specs.Steps.{GivesStep};
-ghost use Rattle.tool_commands.specs.Eval.{named, understood, counted, truth_line, eval_output};
+ghost use Rattle.tool_commands.specs.Eval.{named, understood, counted, truth_line, truth_in, eval_output};
 
 use json_shape::PredWhy;
 use pop_io::{List, Text};
@@ -66,6 +66,17 @@ fn truth_text(alloc: Global, truth: bool) -> Result<Vec<u8>, AllocError>
     Vec::from_slice(alloc, line.as_bytes())
 }
 
+/// The truth of a predicate line at a crowd line.
+#[tactic(auto, unfolding(crate::specs::Eval::truth_in))]
+fn truth_of(alloc: Global, names: &List<Text>, pred: &[u8], crowd: &[u8]) -> Result<bool, Stop>
+    requires { AreVariables names.now }
+    ensures { GivesStep (λ truth. truth) result (truth_in names.now pred.now crowd.now) }
+{
+    let pred = pred_of(alloc, pred, names)?;
+    let counts = counts_in(alloc, crowd, names)?;
+    Ok(pred.eval(counts.as_slice()))
+}
+
 /// What `eval` gives for an input.
 #[tactic(auto, unfolding(crate::specs::Eval::eval_output))]
 pub(crate) fn eval(alloc: Global, input: &[u8]) -> Result<Output, Stop>
@@ -73,8 +84,7 @@ pub(crate) fn eval(alloc: Global, input: &[u8]) -> Result<Output, Stop>
 {
     let (vars, pred, crowd) = just_three_lines(input)?;
     let names = names_of(alloc, vars)?;
-    let pred = pred_of(alloc, pred, &names)?;
-    let counts = counts_in(alloc, crowd, &names)?;
-    let text = truth_text(alloc, pred.eval(counts.as_slice()))?;
+    let truth = truth_of(alloc, &names, pred, crowd)?;
+    let text = truth_text(alloc, truth)?;
     Ok(Output::new(text, Ending::Done))
 }
