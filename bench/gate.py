@@ -6,9 +6,13 @@ Usage: python3 bench/gate.py [FOLDER]
 The clone is made in FOLDER, or in a new temporary folder. `rt ci --anew` proves and tries all, whatever earlier runs kept.
 A process counts for the crate that its command line names. Times are read twice a second, so the last half second of each
 process is missing; what a process took that names no crate stands in the last line.
+
+Virtual machines differ in speed, from one to the next and within minutes. So one crate of one commit is checked beside the gate, at its start and
+every ten minutes, and the seconds of these checks are printed too: minutes of two gates compare by them. They count for nothing else.
 """
 
 import os
+import shutil
 import subprocess
 import sys
 import tempfile
@@ -18,6 +22,33 @@ from pathlib import Path
 
 TICKS = os.sysconf("SC_CLK_TCK")
 KINDS = ["proofs", "tests", "seeds", "edits", "other"]
+
+# The crate stands on no other one.
+GAUGE_COMMIT, GAUGE_CRATE = "e11a5bb", "pop_lines"
+GAUGE_PAUSE = 600
+
+
+class Gauge:
+    """How fast the machine is: the seconds of one check from nothing, by one job, taken again and again."""
+
+    def __init__(self, top, folder):
+        self.folder, self.seconds, self.check, self.next = folder, [], None, 0
+        subprocess.run(["git", "clone", "-q", str(top), folder], check=True)
+        subprocess.run(["git", "checkout", "-q", GAUGE_COMMIT], cwd=folder, check=True)
+        shutil.rmtree(f"{folder}/crates/{GAUGE_CRATE}/must-fail")
+
+    def step(self):
+        """Takes in a check that has ended, or begins one when it is time."""
+        if self.check:
+            ended, _, usage = os.wait4(self.check.pid, os.WNOHANG)
+            if ended:
+                self.seconds.append(usage.ru_utime + usage.ru_stime)
+                self.check = None
+        elif time.time() >= self.next:
+            self.next = time.time() + GAUGE_PAUSE
+            words, one = ["rt", "ci", "--anew", GAUGE_CRATE], {**os.environ, "RT_JOBS": "1"}
+            quiet = subprocess.DEVNULL
+            self.check = subprocess.Popen(words, cwd=self.folder, env=one, stdout=quiet, stderr=quiet)
 
 
 def children():
@@ -65,10 +96,11 @@ def place(process):
     return crate, kind, stat[19], (int(stat[11]) + int(stat[12])) / TICKS
 
 
-def watch(gate):
+def watch(gate, gauge):
     """The seconds of each process of the gate, by its number and start."""
     seconds = {}
     while gate.poll() is None:
+        gauge.step()
         for process in below(gate.pid):
             try:
                 crate, kind, start, taken = place(process)
@@ -95,10 +127,12 @@ def main():
     top = Path(__file__).resolve().parent.parent
     folder = sys.argv[1] if len(sys.argv) > 1 else tempfile.mkdtemp()
     subprocess.run(["git", "clone", "-q", str(top), folder], check=True)
+    gauge = Gauge(top, f"{folder}-gauge")
     start = time.time()
     gate = subprocess.Popen(["rt", "ci", "--anew"], cwd=folder, stdout=sys.stderr)
-    seconds = watch(gate)
+    seconds = watch(gate, gauge)
     report(seconds)
+    print(f"{GAUGE_CRATE} of {GAUGE_COMMIT} by one job: " + " ".join(f"{taken:.0f}" for taken in gauge.seconds) + " seconds")
     print(f"wall clock {(time.time() - start) / 60:.1f} minutes, status {gate.returncode}")
     return gate.returncode
 
