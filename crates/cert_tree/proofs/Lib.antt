@@ -1,4 +1,3 @@
-pub mod Inversion
 pub mod Passing
 pub mod ClosedWalk
 pub mod Rooms
@@ -8,4 +7,3 @@ pub mod Ordered
 pub mod Visits
 pub mod Starts
 pub mod Verdicts
-pub mod ReferenceWalk

@@ -2,4 +2,3 @@ pub mod Format
 pub mod Refusals
 pub mod Frames
 pub mod RefusalLaw
-pub mod Reference

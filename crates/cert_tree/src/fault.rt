@@ -3,7 +3,7 @@
 use pop_io::NoMemory as OutOfMemory;
 
 /// The first node that is refused.
-#[derive(Clone, Copy, Debug, PartialEq, Eq)]
+#[derive(Clone, Copy, PartialEq, Eq)]
 pub enum TreeFault {
     /// A node is refused.
     Broken {
@@ -16,7 +16,7 @@ pub enum TreeFault {
 }
 
 /// Why a node is refused. Of several reasons the first one counts.
-#[derive(Clone, Copy, Debug, PartialEq, Eq)]
+#[derive(Clone, Copy, PartialEq, Eq)]
 pub enum TreeWhy {
     /// No node is left for a case.
     Missing,

@@ -13,8 +13,3 @@ mod walk;
 pub use fault::{TreeFault, TreeWhy};
 pub use law::refusal_law;
 pub use tree::check_tree;
-
-#[cfg(test)]
-mod reference;
-#[cfg(test)]
-mod tests;
