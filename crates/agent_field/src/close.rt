@@ -18,7 +18,7 @@ use pop_net::Word;
 use std::alloc::Global;
 
 /// The words at the end, and all meetings in the order of their tickets, each with the number of the seat that made it.
-#[derive(Debug, Drop)]
+#[derive(Drop)]
 pub struct Round {
     pub words: List<Word>,
     pub meetings: List<Meeting>,

@@ -53,7 +53,7 @@ pub struct FieldSeat {
 }
 
 /// What a meeting answers.
-#[derive(Clone, Copy, Debug, PartialEq, Eq)]
+#[derive(Clone, Copy, PartialEq, Eq)]
 pub struct Met {
     pub ticket: u64,
     pub changed: bool,

@@ -6,7 +6,7 @@ use pop_net::{Net, Word};
 use std::snapshot::Snapshot;
 
 /// A meeting, as the seat that made it keeps it.
-#[derive(Clone, Copy, Debug, PartialEq, Eq)]
+#[derive(Clone, Copy, PartialEq, Eq)]
 pub struct Logged {
     pub ticket: u64,
     pub a: u32,
@@ -15,7 +15,7 @@ pub struct Logged {
 }
 
 /// All words, as they were before the meeting with this ticket.
-#[derive(Debug, Drop)]
+#[derive(Drop)]
 pub struct Look {
     pub ticket: u64,
     pub words: List<Word>,

@@ -7,7 +7,7 @@ use pres_ast::Pred;
 use std::alloc::Global;
 
 /// A number of a variable or of a fact, and its coefficient or multiplier.
-#[derive(Clone, Copy, Debug, PartialEq, Eq)]
+#[derive(Clone, Copy, PartialEq, Eq)]
 pub struct Term {
     pub at: u32,
     pub by: i64,
@@ -17,7 +17,7 @@ pub struct Term {
 ///
 /// The variables of a leaf are numbered through: first one per input, how often it was given; then one per
 /// state, how many agents are in it at the end; then one per move, how often it was taken.
-#[derive(Debug, Drop)]
+#[derive(Drop)]
 pub struct Row {
     pub terms: List<Term>,
     pub constant: i64,

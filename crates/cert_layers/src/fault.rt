@@ -4,7 +4,7 @@ use std::alloc::{AllocError, AllocFailed};
 
 /// The first place at which layers fail; a shape before a missing layer, that before a weight, and that before a
 /// waking.
-#[derive(Clone, Copy, Debug, PartialEq, Eq)]
+#[derive(Clone, Copy, PartialEq, Eq)]
 pub enum LayerFault {
     /// The first layer that hasn't one weight per state, or lists a number that no move has or that was listed before.
     Shape(u32),

@@ -6,7 +6,7 @@ ghost use Rattle.comp_net.specs.Atoms.{flock_of_atom};
 use comp_flock::flock_power;
 
 /// The leaves that atoms get.
-#[derive(Clone, Copy, Debug, PartialEq, Eq)]
+#[derive(Clone, Copy, PartialEq, Eq)]
 pub enum LeafChoice {
     /// Those of thresholds and remainders.
     Plain,

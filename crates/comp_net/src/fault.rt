@@ -7,7 +7,7 @@ use pop_io::NoMemory as MemoryFault;
 use std::alloc::AllocError;
 
 /// The first reason, or out of memory.
-#[derive(Clone, Copy, Debug, PartialEq, Eq)]
+#[derive(Clone, Copy, PartialEq, Eq)]
 pub enum CompileFault {
     /// It has so many atoms, more than a net may have leaves.
     ManyAtoms(u32),

@@ -10,7 +10,7 @@ use std::alloc::{AllocError, AllocFailed, Global};
 use std::fmt;
 
 /// Why a value breaks its rule.
-#[derive(Clone, Copy, Debug, PartialEq, Eq)]
+#[derive(Clone, Copy, PartialEq, Eq)]
 pub enum Why {
     /// The value is missing, or of another JSON kind.
     Kind,
@@ -25,7 +25,7 @@ pub enum Why {
 }
 
 /// Why a predicate's text is refused. The numbers are byte offsets, of `LongText` the length.
-#[derive(Clone, Copy, Debug, PartialEq, Eq)]
+#[derive(Clone, Copy, PartialEq, Eq)]
 pub enum PredWhy {
     /// No text of the grammar begins so.
     Syntax(u32),
@@ -76,7 +76,7 @@ impl fmt::Display for Why {
 }
 
 /// Why a file was not read.
-#[derive(Debug, Drop)]
+#[derive(Drop)]
 pub enum FormatFault {
     /// The first rule that is broken. The path is a `/` and a name or a number for each step from the root.
     Broken { path: Text, why: Why },

@@ -19,7 +19,7 @@ use terminal_test::PairTable;
 pub const ROUND_TURNS: u64 = 4_096;
 
 /// Why a run ended.
-#[derive(Clone, Copy, Debug, PartialEq, Eq)]
+#[derive(Clone, Copy, PartialEq, Eq)]
 pub enum End {
     /// No meeting changes the last crowd.
     Terminal,
@@ -28,7 +28,7 @@ pub enum End {
 }
 
 /// The meetings of a run round by round, its last crowd, and why it ended.
-#[derive(Debug, Drop)]
+#[derive(Drop)]
 pub struct RunEnd {
     pub rounds: List<List<Meeting>>,
     pub crowd: Crowd,

@@ -12,7 +12,7 @@ use std::marker::Model;
 
 /// A worker's random words, of which contracts see the state. Xoshiro256++ is a generator of
 /// Blackman and Vigna.
-#[derive(Debug, Drop)]
+#[derive(Drop)]
 pub struct Picker {
     words: Xoshiro256PlusPlus,
 }

@@ -5,7 +5,7 @@ use cert_tree::TreeFault;
 
 /// The first part that is not valid: leaf by leaf the layers, the tree for true and the tree for false; last the
 /// predicate.
-#[derive(Clone, Copy, Debug, PartialEq, Eq)]
+#[derive(Clone, Copy, PartialEq, Eq)]
 pub enum Rejected {
     /// The layers of a leaf; the fault is not `NoMemory`.
     Layers {
@@ -23,7 +23,7 @@ pub enum Rejected {
 }
 
 /// Why a net is not accepted with a proof.
-#[derive(Clone, Copy, Debug, PartialEq, Eq)]
+#[derive(Clone, Copy, PartialEq, Eq)]
 pub enum CheckFault {
     /// The proof is not valid.
     Rejected(Rejected),

@@ -12,7 +12,7 @@ use std::alloc::Global;
 use std::marker::Model;
 
 /// A crowd of `AGENT_LEAST` to `AGENT_LIMIT` agents, which contracts see as the list of its words.
-#[derive(Debug, Drop)]
+#[derive(Drop)]
 pub struct Crowd {
     words: Vec<Word>,
 }
@@ -30,7 +30,7 @@ impl Model for Crowd {
 }
 
 /// A meeting of two agents by a worker, and whether it changed a word.
-#[derive(Clone, Copy, Debug, PartialEq, Eq)]
+#[derive(Clone, Copy, PartialEq, Eq)]
 pub struct Meeting {
     pub worker: u16,
     pub a: u32,

@@ -16,7 +16,7 @@ pub trait Gate: Sync {
 }
 
 /// The gate that holds nobody.
-#[derive(Clone, Copy, Debug)]
+#[derive(Clone, Copy)]
 pub struct OpenGate;
 
 impl Gate for OpenGate {

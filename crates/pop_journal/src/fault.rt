@@ -9,7 +9,7 @@ use std::alloc::{AllocError, AllocFailed};
 use std::fmt;
 
 /// Why a line is out of form.
-#[derive(Clone, Copy, Debug, PartialEq, Eq)]
+#[derive(Clone, Copy, PartialEq, Eq)]
 pub enum JournalWhy {
     /// There is no such line.
     Missing,
@@ -42,7 +42,7 @@ impl fmt::Display for JournalWhy {
 }
 
 /// Why a text is no journal.
-#[derive(Clone, Copy, Debug, PartialEq, Eq)]
+#[derive(Clone, Copy, PartialEq, Eq)]
 pub enum JournalFault {
     /// The first line out of form.
     Out { line: u64, why: JournalWhy },
@@ -51,7 +51,7 @@ pub enum JournalFault {
 }
 
 /// Why a journal doesn't hold.
-#[derive(Debug, Drop)]
+#[derive(Drop)]
 pub enum VerifyFault {
     /// The first line that isn't the expected one.
     Differs {

@@ -8,7 +8,7 @@ use pop_words::{RunKind, RunSpec};
 pub const LINE_LIMIT: u64 = 1_099_511_627_776;
 
 /// A run's kind, options and rounds, the lines behind `end`, and the number of the first line.
-#[derive(Debug, Drop)]
+#[derive(Drop)]
 pub struct Journal {
     pub kind: RunKind,
     pub spec: RunSpec,

@@ -7,7 +7,7 @@ ghost use Rattle.pop_net.specs.declared.fault.LeafFault.TheVariants.{NoMemory as
 use pop_io::NoMemory;
 
 /// The first rule that a leaf breaks.
-#[derive(Clone, Copy, Debug, PartialEq, Eq)]
+#[derive(Clone, Copy, PartialEq, Eq)]
 pub enum LeafFault {
     /// The number of states is outside 1 to `STATE_LIMIT`.
     States(u64),
@@ -31,7 +31,7 @@ pub enum LeafFault {
 }
 
 /// The first rule that a net breaks.
-#[derive(Clone, Copy, Debug, PartialEq, Eq)]
+#[derive(Clone, Copy, PartialEq, Eq)]
 pub enum NetFault {
     /// The number of variables is outside 1 to `VARIABLE_LIMIT`.
     Vars(u64),
@@ -55,7 +55,7 @@ pub enum NetFault {
 }
 
 /// The first rule that a combination breaks, which has at most `ITEM_LIMIT` items.
-#[derive(Clone, Copy, Debug, PartialEq, Eq)]
+#[derive(Clone, Copy, PartialEq, Eq)]
 pub enum CombinationFault {
     /// The first item that names no leaf, finds too few operands, or makes a tree of a depth over `DEPTH_LIMIT`.
     Item(u32),

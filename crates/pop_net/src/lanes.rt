@@ -8,7 +8,7 @@ use crate::leaf::Leaf;
 use crate::limits::{LANE_BITS, WIDE_LANE_BITS, WORD_BITS};
 
 /// How many bits a lane has.
-#[derive(Clone, Copy, Debug, PartialEq, Eq)]
+#[derive(Clone, Copy, PartialEq, Eq)]
 pub(crate) enum LaneWidth {
     Narrow,
     Wide,

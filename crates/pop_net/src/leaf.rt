@@ -13,7 +13,7 @@ use std::alloc::Global;
 use std::marker::Model;
 
 /// The move `p,q -> r,s`.
-#[derive(Clone, Copy, Debug, PartialEq, Eq)]
+#[derive(Clone, Copy, PartialEq, Eq)]
 pub struct Move {
     pub p: u16,
     pub q: u16,
@@ -51,7 +51,7 @@ impl Move {
 }
 
 /// A population protocol.
-#[derive(Debug, Drop)]
+#[derive(Drop)]
 pub struct Leaf {
     states: List<Text>,
     moves: List<Move>,

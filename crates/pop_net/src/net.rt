@@ -15,11 +15,11 @@ use std::alloc::Global;
 use std::marker::Model;
 
 /// One state per leaf, packed: eight bits per leaf, or sixteen in a wide net, leaf 0 lowest.
-#[derive(Clone, Copy, Debug, PartialEq, Eq)]
+#[derive(Clone, Copy, PartialEq, Eq)]
 pub struct Word(pub u64);
 
 /// An item of a combination in postfix.
-#[derive(Clone, Copy, Debug, PartialEq, Eq)]
+#[derive(Clone, Copy, PartialEq, Eq)]
 pub enum Item {
     Leaf(u8),
     Not,
@@ -40,7 +40,7 @@ impl Item {
 }
 
 /// Protocols that run side by side on the same agents.
-#[derive(Debug, Drop)]
+#[derive(Drop)]
 pub struct Net {
     vars: List<Text>,
     leaves: List<Leaf>,

@@ -6,7 +6,7 @@ ghost use Rattle.pop_settle.specs.declared.fault.SettleFault.TheVariants.{NoMemo
 use pop_io::NoMemory;
 
 /// Why a crowd is not settled.
-#[derive(Clone, Copy, Debug, PartialEq, Eq)]
+#[derive(Clone, Copy, PartialEq, Eq)]
 pub enum SettleFault {
     /// The proof's bound times the number of agents is over `TAKE_LIMIT`.
     Long(u128),

@@ -4,7 +4,7 @@ use pop_crowd::Crowd;
 use pop_io::List;
 
 /// Two agents take a move of one leaf, and their states in the other leaves stay.
-#[derive(Clone, Copy, Debug, PartialEq, Eq)]
+#[derive(Clone, Copy, PartialEq, Eq)]
 pub struct Take {
     pub leaf: u8,
     /// The move's number.
@@ -16,7 +16,7 @@ pub struct Take {
 }
 
 /// The takes in their order, and the last crowd.
-#[derive(Debug, Drop)]
+#[derive(Drop)]
 pub struct Settled {
     pub takes: List<Take>,
     pub crowd: Crowd,

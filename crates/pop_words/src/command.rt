@@ -4,7 +4,7 @@ use crate::spec::RunSpec;
 use std::fmt;
 
 /// What the program is asked to do.
-#[derive(Clone, Copy, Debug, PartialEq, Eq)]
+#[derive(Clone, Copy, PartialEq, Eq)]
 pub enum Command {
     Play,
     Eval,
@@ -25,14 +25,14 @@ pub enum Command {
 }
 
 /// The first bad word, counted from 0, and what is wrong there.
-#[derive(Clone, Copy, Debug, PartialEq, Eq)]
+#[derive(Clone, Copy, PartialEq, Eq)]
 pub struct Usage {
     pub word: u32,
     pub why: UsageWhy,
 }
 
 /// What is wrong with a word.
-#[derive(Clone, Copy, Debug, PartialEq, Eq)]
+#[derive(Clone, Copy, PartialEq, Eq)]
 pub enum UsageWhy {
     /// A word is wanted after the last one.
     Missing,

@@ -13,7 +13,7 @@ use pop_lines::{cut, small_number};
 use std::alloc::{AllocError, AllocFailed, Global};
 
 /// Why a crowd line was not read.
-#[derive(Clone, Copy, Debug, PartialEq, Eq)]
+#[derive(Clone, Copy, PartialEq, Eq)]
 pub enum CountFault {
     /// The first word of the line that breaks its form, counted from 0.
     Count(u32),

@@ -6,7 +6,7 @@ use crate::spec::WATCHED_WORKERS;
 use pop_io::WORKER_LIMIT;
 
 /// How the last round of a run may end.
-#[derive(Clone, Copy, Debug, PartialEq, Eq)]
+#[derive(Clone, Copy, PartialEq, Eq)]
 pub enum RunKind {
     /// Each round is whole: a run of `run`.
     Whole,

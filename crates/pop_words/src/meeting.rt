@@ -7,7 +7,7 @@ ghost use Rattle.pop_words.specs.Meetings.{meeting_of, two_agents_of, pair_of};
 use pop_lines::{cut, number};
 
 /// Why a line is no meeting of two agents.
-#[derive(Clone, Copy, Debug, PartialEq, Eq)]
+#[derive(Clone, Copy, PartialEq, Eq)]
 pub enum MeetingFault {
     /// It isn't two numbers with one space between them.
     Form,

@@ -17,7 +17,7 @@ pub const DEMO_LIMIT: u32 = 9_999;
 
 /// The options of a run: how many workers and shards, how many meetings each worker may make at
 /// most, and the seed of their picks.
-#[derive(Debug, Clone, Copy, PartialEq, Eq)]
+#[derive(Clone, Copy, PartialEq, Eq)]
 pub struct RunSpec {
     pub workers: u16,
     pub shards: u32,

@@ -12,7 +12,7 @@ use pop_lines::cut;
 use std::alloc::{AllocError, AllocFailed, Global};
 
 /// Why a vars line was not read.
-#[derive(Clone, Copy, Debug, PartialEq, Eq)]
+#[derive(Clone, Copy, PartialEq, Eq)]
 pub enum VarsFault {
     /// It isn't `vars` and 1 to `VARIABLE_LIMIT` distinct names, one space before each.
     Form,

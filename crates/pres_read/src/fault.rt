@@ -7,7 +7,7 @@ use pop_io::NoMemory;
 use std::alloc::{AllocError, AllocFailed};
 
 /// The first token that breaks a rule, by its place, an offset in bytes. At one token the rules come in this order.
-#[derive(Clone, Copy, Debug, PartialEq, Eq)]
+#[derive(Clone, Copy, PartialEq, Eq)]
 pub enum ReadPred {
     /// No text of the grammar has this token after the tokens before it, or none ends here.
     Syntax(u32),

@@ -1,7 +1,7 @@
 //! What a token is.
 
 /// How a sum is compared with a constant.
-#[derive(Clone, Copy, Debug, PartialEq, Eq)]
+#[derive(Clone, Copy, PartialEq, Eq)]
 pub enum Relation {
     /// `<`
     Less,
@@ -18,7 +18,7 @@ pub enum Relation {
 }
 
 /// What stands at a token's place.
-#[derive(Clone, Copy, Debug)]
+#[derive(Clone, Copy)]
 pub enum Kind<'a> {
     /// A word other than `mod`, of any length.
     Name(&'a [u8]),
@@ -49,7 +49,7 @@ pub enum Kind<'a> {
 }
 
 /// A token and the offset of its first byte.
-#[derive(Clone, Copy, Debug)]
+#[derive(Clone, Copy)]
 pub struct Token<'a> {
     /// The offset.
     pub place: u32,

@@ -3,7 +3,7 @@
 use pop_io::List;
 
 /// How a command ended whose whole text is written.
-#[derive(Clone, Copy, Debug, PartialEq, Eq)]
+#[derive(Clone, Copy, PartialEq, Eq)]
 pub enum Ending {
     /// Nothing is wrong.
     Done,
@@ -22,7 +22,7 @@ pub enum Ending {
 }
 
 /// A whole text, and how its command ended.
-#[derive(Debug, Drop)]
+#[derive(Drop)]
 pub struct Output {
     pub text: List<u8>,
     pub ending: Ending,

@@ -12,7 +12,7 @@ use std::alloc::{AllocError, Global};
 use std::fmt;
 
 /// What is wrong with a line of the input.
-#[derive(Clone, Copy, Debug, PartialEq, Eq)]
+#[derive(Clone, Copy, PartialEq, Eq)]
 pub enum LineWhy {
     /// There is no such line.
     Missing,
@@ -25,7 +25,7 @@ pub enum LineWhy {
 }
 
 /// Why an input is refused. Lines are counted from 1, the words of a crowd line and the atoms of a predicate from 0.
-#[derive(Debug, Drop)]
+#[derive(Drop)]
 pub enum Refusal {
     /// The input has too many bytes.
     TooLong,

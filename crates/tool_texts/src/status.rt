@@ -6,7 +6,7 @@ ghost use Rattle.tool_texts.specs.Statuses.{code_of};
 use crate::output::Ending;
 
 /// The statuses in the order of their codes.
-#[derive(Clone, Copy, Debug, PartialEq, Eq)]
+#[derive(Clone, Copy, PartialEq, Eq)]
 pub enum Status {
     /// The whole text was written, and nothing is wrong.
     Done,

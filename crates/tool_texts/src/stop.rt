@@ -7,7 +7,7 @@ use crate::refusal::Refusal;
 use pop_io::NoMemory;
 use std::alloc::{AllocError, AllocFailed};
 
-#[derive(Debug, Drop)]
+#[derive(Drop)]
 pub enum Stop {
     /// The input is refused.
     Refused(Refusal),
