@@ -14,4 +14,3 @@ pub mod Closing
 pub mod Below
 pub mod Usable
 pub mod OneHistory
-pub mod Called
