@@ -1,6 +1,6 @@
 -- Lists of values that are written one after the other, and that what is written is a net's file.
 use Rattle.std.proofs.Common.{◌≡◌, inl, inr, ℕ, zero, suc, ◌+◌, ◌≤◌, ◌<◌, ◌^◌, List, [], ◌∷◌, ◌++◌, length, map, take, codes, nat_lt, Bool, true, false, Some, refl, sym, ap, ◌∙◌, arith, add-one}
-use Rattle.std.specs.Prelude.{slice_get, All, if◌then◌else◌}
+use Rattle.std.specs.Prelude.{slice_get, All, if◌then◌else◌, Result, Ok, Err, IfOk, IsOkAnd}
 use Rattle.std.proofs.lemmas.Bool.{lt-ltb, ltb-false}
 use Rattle.std.proofs.lemmas.List.Elements.{All-head, All-tail}
 use Rattle.std.proofs.lemmas.List.{map-append}
@@ -122,24 +122,46 @@ net_file net is =
     format_is true = refl
     format_is false = refl
 
+-- a member that was put in, where its value could be made
+made : {E : Type 0} (r : Result Value E) (d : Data) (name : List ℕ) (old new : Members) → IfOk r (λ v. view v ≡ d) → IsOkAnd r (λ v. new ≡ put name (view v) old) → new ≡ put name d old
+made (Ok v) d name old new is added = added ∙ ap (λ e. put name e old) is
+made (Err e) d name old new is added = absurd added
+
 -- the members of a leaf, put in one after the other
-pub leaf_written : (helped : Bool) (leaf : LeafModel) (none one two three four : Members) (inputs moves outputs states : Data)
+pub leaf_written : {E : Type 0} (helped : Bool) (leaf : LeafModel) (inputs moves outputs states : Result Value E) (none one two three four : Members)
     → none ≡ (if helped then member (codes "helpers") (numbers_data leaf.helpers) no_members else no_members)
-    → inputs ≡ numbers_data leaf.inputs → one ≡ put (codes "input") inputs none
-    → moves ≡ list_data (map move_data leaf.moves) → two ≡ put (codes "moves") moves one
-    → outputs ≡ truths_data leaf.outputs → three ≡ put (codes "output") outputs two
-    → states ≡ texts_data leaf.states → four ≡ put (codes "states") states three
+    → IfOk inputs (λ v. view v ≡ numbers_data leaf.inputs) → IsOkAnd inputs (λ v. one ≡ put (codes "input") (view v) none)
+    → IfOk moves (λ v. view v ≡ list_data (map move_data leaf.moves)) → IsOkAnd moves (λ v. two ≡ put (codes "moves") (view v) one)
+    → IfOk outputs (λ v. view v ≡ truths_data leaf.outputs) → IsOkAnd outputs (λ v. three ≡ put (codes "output") (view v) two)
+    → IfOk states (λ v. view v ≡ texts_data leaf.states) → IsOkAnd states (λ v. four ≡ put (codes "states") (view v) three)
     → object four ≡ leaf_data helped leaf
 unfolding leaf_data
-leaf_written false leaf none one two three four inputs moves outputs states z i a m b o c s d = rw (d, c, b, a, z, i, m, o, s) refl
-leaf_written true leaf none one two three four inputs moves outputs states z i a m b o c s d = rw (d, c, b, a, z, i, m, o, s) refl
+leaf_written helped leaf inputs moves outputs states none one two three four z i a m b o c s d =
+    all helped z
+    (made inputs (numbers_data leaf.inputs) (codes "input") none one i a)
+    (made moves (list_data (map move_data leaf.moves)) (codes "moves") one two m b)
+    (made outputs (truths_data leaf.outputs) (codes "output") two three o c)
+    (made states (texts_data leaf.states) (codes "states") three four s d)
+  where
+    all : (helped : Bool) → none ≡ (if helped then member (codes "helpers") (numbers_data leaf.helpers) no_members else no_members)
+        → one ≡ put (codes "input") (numbers_data leaf.inputs) none
+        → two ≡ put (codes "moves") (list_data (map move_data leaf.moves)) one
+        → three ≡ put (codes "output") (truths_data leaf.outputs) two
+        → four ≡ put (codes "states") (texts_data leaf.states) three
+        → object four ≡ leaf_data helped leaf
+    all false z a b c d = rw (d, c, b, a, z) refl
+    all true z a b c d = rw (d, c, b, a, z) refl
 
 -- the members of a net, put in one after the other
-pub net_written : (net : NetModel) (helped : Bool) (one two three four : Members) (combine format leaves vars : Data) → helped ≡ is_helped net
-    → combine ≡ list_data (map item_data net.combine) → one ≡ put (codes "combine") combine no_members
+pub net_written : {E : Type 0} (net : NetModel) (helped : Bool) (combine leaves vars : Result Value E) (one two three four : Members) (format : Data) → helped ≡ is_helped net
+    → IfOk combine (λ v. view v ≡ list_data (map item_data net.combine)) → IsOkAnd combine (λ v. one ≡ put (codes "combine") (view v) no_members)
     → format ≡ number_data (format_of helped) → two ≡ put (codes "format") format one
-    → leaves ≡ list_data (map (leaf_data helped) net.leaves) → three ≡ put (codes "leaves") leaves two
-    → vars ≡ texts_data net.variables → four ≡ put (codes "vars") vars three
+    → IfOk leaves (λ v. view v ≡ list_data (map (leaf_data helped) net.leaves)) → IsOkAnd leaves (λ v. three ≡ put (codes "leaves") (view v) two)
+    → IfOk vars (λ v. view v ≡ texts_data net.variables) → IsOkAnd vars (λ v. four ≡ put (codes "vars") (view v) three)
     → object four ≡ net_data net
 unfolding net_data
-net_written net helped one two three four combine format leaves vars is c a f b l d v e = rw (e, d, b, a, c, f, l, v, is) refl
+net_written net helped combine leaves vars one two three four format is c a f b l d v e =
+    let a' = made combine (list_data (map item_data net.combine)) (codes "combine") no_members one c a in
+    let d' = made leaves (list_data (map (leaf_data helped) net.leaves)) (codes "leaves") two three l d in
+    let e' = made vars (texts_data net.variables) (codes "vars") three four v e in
+    rw (e', d', b, a', f, is) refl

@@ -7,9 +7,8 @@ ghost use Rattle.json_shape.specs.Paths.{path_text};
 ghost use Rattle.json_shape.specs.Shapes.{member_by, number_at};
 ghost use Rattle.net_json.specs.Examined.{move_at, leaf_moves_at, leaf_states_at, outputs_at};
 
-use json_shape::{
-    FormatFault, Path, ReadItem, Why, broken, each_of, member_of, number_of, truth_of,
-};
+use crate::member::each_in;
+use json_shape::{FormatFault, Path, ReadItem, Why, broken, number_of, truth_of};
 use pop_io::List;
 use pop_net::{MOVE_LIMIT, Move, STATE_LIMIT};
 use serde_json::Value;
@@ -91,9 +90,8 @@ pub(crate) fn moves_of(
     ensures { GivesRead (λ ts. ts) result
         (member_by (path_text path.now) (codes "moves") (leaf_moves_at states) (view value.now)) }
 {
-    let moves = member_of(alloc, path, "moves", value)?;
-    let path = Path::Member(path, "moves");
-    each_of(alloc, &path, 0, MOVE_LIMIT, &Moves { states }, moves)
+    let reader = Moves { states };
+    each_in(alloc, path, "moves", 0, MOVE_LIMIT, &reader, value)
 }
 
 /// Numbers of states of a leaf with so many.
@@ -138,9 +136,8 @@ pub(crate) fn states_of(
     ensures { GivesRead (λ qs. qs) result
         (member_by (path_text path.now) member.now (leaf_states_at least most states) (view value.now)) }
 {
-    let numbers = member_of(alloc, path, member, value)?;
-    let path = Path::Member(path, member);
-    each_of(alloc, &path, least, most, &States { states }, numbers)
+    let reader = States { states };
+    each_in(alloc, path, member, least, most, &reader, value)
 }
 
 /// Outputs of states.
@@ -178,7 +175,5 @@ pub(crate) fn outputs_of(
     ensures { GivesRead (λ bs. bs) result
         (member_by (path_text path.now) (codes "output") (outputs_at states) (view value.now)) }
 {
-    let outputs = member_of(alloc, path, "output", value)?;
-    let path = Path::Member(path, "output");
-    each_of(alloc, &path, states, states, &Outputs, outputs)
+    each_in(alloc, path, "output", states, states, &Outputs, value)
 }

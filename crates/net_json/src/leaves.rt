@@ -10,8 +10,9 @@ ghost use Rattle.net_json.specs.HelperRange.{IsHelperRange};
 
 use crate::format::PLAIN_FORMAT;
 use crate::leaf::{moves_of, outputs_of, states_of};
+use crate::member::each_in;
 use crate::names::{NameForm, names_of};
-use json_shape::{FormatFault, Path, ReadItem, each_of, member_of, object_of};
+use json_shape::{FormatFault, Path, ReadItem, object_of};
 use pop_io::{List, VARIABLE_LIMIT};
 use pop_net::{HELPER_LIMIT, LEAF_LIMIT, Leaf, STATE_LIMIT};
 use serde_json::Value;
@@ -118,8 +119,6 @@ pub(crate) fn leaves_of(
         (member_by (path_text path.now) (codes "leaves") (leaves_at format variables) (view value.now)) }
     ensures count { IfOk result (λ ls. (1 ≤ length ls) × (length ls ≤ LEAF_LIMIT)) }
 {
-    let leaves = member_of(alloc, path, "leaves", value)?;
-    let path = Path::Member(path, "leaves");
     let reader = Leaves { format, variables };
-    each_of(alloc, &path, 1, LEAF_LIMIT, &reader, leaves)
+    each_in(alloc, path, "leaves", 1, LEAF_LIMIT, &reader, value)
 }

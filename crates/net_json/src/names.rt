@@ -8,7 +8,8 @@ ghost use Rattle.json_shape.specs.Shapes.{member_by};
 ghost use Rattle.net_json.specs.NameForms.{form_of};
 ghost use Rattle.net_json.specs.Examined.{names_at};
 
-use json_shape::{FormatFault, Path, ReadItem, Why, broken, each_of, member_of, text_of};
+use crate::member::each_in;
+use json_shape::{FormatFault, Path, ReadItem, Why, broken, text_of};
 use pop_io::{List, Text, is_among, is_state_name, is_variable_name};
 use serde_json::Value;
 use std::alloc::Global;
@@ -74,6 +75,5 @@ pub(crate) fn names_of(
         (member_by (path_text path.now) member.now (names_at (form_of form) most) (view value.now)) }
     ensures count { IfOk result (λ ts. (1 ≤ length ts) × (length ts ≤ most)) }
 {
-    let names = member_of(alloc, path, member, value)?;
-    each_of(alloc, &Path::Member(path, member), 1, most, &form, names)
+    each_in(alloc, path, member, 1, most, &form, value)
 }

@@ -1,7 +1,7 @@
 //! Writing a net as a JSON value.
 
-ghost use Rattle.std.specs.Prelude.{◌≡◌, [], codes, map, take, length, if◌then◌else◌, IfOk, Ok};
-ghost use Rattle.serde_json.specs.Data.{string, member, no_members};
+ghost use Rattle.std.specs.Prelude.{◌≡◌, [], codes, map, take, length, if◌then◌else◌, IfOk, IsOkAnd, OnOk, Ok};
+ghost use Rattle.serde_json.specs.Data.{string, member, no_members, put as with_member};
 ghost use Rattle.serde_json.specs.View.{view, members_view};
 ghost use Rattle.pop_net.specs.NetModel.{IsNet};
 ghost use Rattle.net_json.specs.Examined.{net_at};
@@ -13,7 +13,7 @@ ghost use Rattle.net_json.specs.Written.{leaf_data, format_of, is_helped, net_da
 use crate::format::{HELPER_FORMAT, PLAIN_FORMAT};
 use pop_io::{NoMemory, Text};
 use pop_net::{Item, Leaf, Move, Net};
-use serde_json::{Map, Value, json, put};
+use serde_json::{Map, Value, put};
 use std::alloc::{AllocError, Global};
 
 fn texts_value(alloc: Global, texts: &[Text]) -> Result<Value, AllocError>
@@ -36,10 +36,20 @@ fn states_value(alloc: Global, leaf: &Leaf) -> Result<Value, AllocError>
     Ok(Value::Array(list))
 }
 
+fn numbers_value(alloc: Global, numbers: &[u16]) -> Result<Value, AllocError>
+    ensures { IfOk result (λ v. view v ≡ numbers_data numbers.now) }
+{
+    let mut list = Vec::new(alloc);
+    for number in numbers {
+        list.push(Value::from(*number))?;
+    }
+    Ok(Value::Array(list))
+}
+
 fn move_value(alloc: Global, t: Move) -> Result<Value, AllocError>
     ensures { IfOk result (λ v. view v ≡ move_data t) }
 {
-    json!(in alloc; [t.p, t.q, t.r, t.s])
+    numbers_value(alloc, &[t.p, t.q, t.r, t.s])
 }
 
 fn moves_value(alloc: Global, leaf: &Leaf) -> Result<Value, AllocError>
@@ -82,6 +92,19 @@ fn outputs_value(alloc: Global, leaf: &Leaf) -> Result<Value, AllocError>
     Ok(Value::Array(list))
 }
 
+/// Adds a member, unless its value could not be made.
+fn put_made(
+    members: &mut Map<String, Value>,
+    alloc: Global,
+    name: &str,
+    value: Result<Value, AllocError>,
+) -> Result<(), AllocError>
+    ensures { OnOk result (IsOkAnd value (λ v. members_view members.new.entries
+        ≡ with_member name.now (view v) (members_view members.old.entries))) }
+{
+    put(members, alloc, name, value?)
+}
+
 /// The helpers of a leaf as a member, where the file has some.
 fn helper_members(
     alloc: Global,
@@ -93,7 +116,7 @@ fn helper_members(
 {
     let mut members = Map::new(alloc);
     if helped {
-        put(&mut members, alloc, "helpers", helpers_value(alloc, leaf)?)?;
+        put_made(&mut members, alloc, "helpers", helpers_value(alloc, leaf))?;
     }
     Ok(members)
 }
@@ -103,10 +126,10 @@ fn leaf_value(alloc: Global, leaf: &Leaf, helped: bool) -> Result<Value, AllocEr
     ensures { IfOk result (λ v. view v ≡ leaf_data helped leaf.now) }
 {
     let mut members = helper_members(alloc, leaf, helped)?;
-    put(&mut members, alloc, "input", inputs_value(alloc, leaf)?)?;
-    put(&mut members, alloc, "moves", moves_value(alloc, leaf)?)?;
-    put(&mut members, alloc, "output", outputs_value(alloc, leaf)?)?;
-    put(&mut members, alloc, "states", states_value(alloc, leaf)?)?;
+    put_made(&mut members, alloc, "input", inputs_value(alloc, leaf))?;
+    put_made(&mut members, alloc, "moves", moves_value(alloc, leaf))?;
+    put_made(&mut members, alloc, "output", outputs_value(alloc, leaf))?;
+    put_made(&mut members, alloc, "states", states_value(alloc, leaf))?;
     Ok(Value::Object(members))
 }
 
@@ -155,12 +178,16 @@ fn net_value(alloc: Global, net: &Net, helped: bool) -> Result<Value, AllocError
     ensures formed { IfOk result (λ _. IsNet net.now) }
 {
     let mut members = Map::new(alloc);
-    put(&mut members, alloc, "combine", combine_value(alloc, net)?)?;
+    let vars = net.var_names().as_slice();
+    put_made(&mut members, alloc, "combine", combine_value(alloc, net))?;
     put(&mut members, alloc, "format", format_value(helped))?;
-    let leaves = leaves_value(alloc, net, helped)?;
-    put(&mut members, alloc, "leaves", leaves)?;
-    let vars = texts_value(alloc, net.var_names().as_slice())?;
-    put(&mut members, alloc, "vars", vars)?;
+    put_made(
+        &mut members,
+        alloc,
+        "leaves",
+        leaves_value(alloc, net, helped),
+    )?;
+    put_made(&mut members, alloc, "vars", texts_value(alloc, vars))?;
     Ok(Value::Object(members))
 }
 
