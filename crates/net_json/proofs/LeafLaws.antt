@@ -91,7 +91,7 @@ module _ (states : ℕ) (some_state : 1 ≤ states) where
       let r' = state_takes (item_path path 2) c r.0 r.1 in
       let s' = state_takes (item_path path 3) d s.0 s.1 in
       let move : Move = record { p = p.0; q = q.0; r = r.0; s = s.0 } in
-      subst (λ (u : Move). AreItems IsNumber (u.p ∷ u.q ∷ u.r ∷ u.s ∷ []) (a ∷ b ∷ c ∷ d ∷ []) × IsMoveBelow states u) (same_ok move t s.2)
+      subst (λ (u : Move). AreItems IsNumber (u.p ∷ u.q ∷ u.r ∷ u.s ∷ []) (a ∷ b ∷ c ∷ d ∷ []) × IsMoveBelow states u) {x = move} (same_ok move t s.2)
       ((p'.0, (q'.0, (r'.0, (s'.0, tt)))), (p'.1, q'.1, r'.1, s'.1))
   four_takes path [] t e = absurd cc
   four_takes path (a ∷ []) t e = absurd cc
@@ -281,7 +281,8 @@ module _ (format variables : ℕ) (known : (format ≡ PLAIN_FORMAT) ⊎ (format
       let o = bind_ok (output s.0) (λ bs. helpers s.0 >>= λ hs. made s.0 m.0 q.0 bs hs) leaf q.2 in
       let h = bind_ok (helpers s.0) (λ hs. made s.0 m.0 q.0 o.0 hs) leaf o.2 in
       let r = leaf_of range path d s.0 m.0 q.0 o.0 h.0 s.1 m.1 q.1 o.1 h.1 in
-      subst (λ (l : LeafModel). IsLeafFile format l d × Follows found l) (same_ok (record { states = s.0; moves = m.0; inputs = q.0; outputs = o.0; helpers = h.0 }) leaf h.2)
+      let of_parts : LeafModel = record { states = s.0; moves = m.0; inputs = q.0; outputs = o.0; helpers = h.0 } in
+      subst (λ (l : LeafModel). IsLeafFile format l d × Follows found l) {x = of_parts} (same_ok of_parts leaf h.2)
       (r.0 (of_format found h.0 d), (r.1, r.2, r.4, λ plain. subst (λ (f : ℕ). TellsHelpers (helpers_allowed f found) h.0 d) plain r.3))
 
 pub leaf_at-again : (range : Option (ℕ × ℕ)) (format variables : ℕ) (path : List ℕ) (d : Data) (leaf : LeafModel) → IsLeafFile format leaf d → TellsHelpers range leaf.helpers d → Allows range leaf.helpers → IsLeaf leaf → length leaf.inputs ≡ variables → leaf_at range variables path d ≡ Ok leaf

@@ -286,8 +286,9 @@ net_at-takes path d net e =
     let v = bind_ok names (λ vs. leaves f.0 vs >>= λ ls. combine ls >>= λ cs. made vs ls cs) net f.2 in
     let l = bind_ok (leaves f.0 v.0) (λ ls. combine ls >>= λ cs. made v.0 ls cs) net v.2 in
     let c = bind_ok (combine l.0) (λ cs. made v.0 l.0 cs) net l.2 in
-    let w = fitting-takes path (first_wide_leaf l.0) (record { variables = v.0; leaves = l.0; combine = c.0 }) net c.2 in
-    subst (λ (n : NetModel). IsNetFile n d) w.1 (net_of path d f.0 v.0 l.0 c.0 f.1 v.1 l.1 c.1 w.0)
+    let of_parts : NetModel = record { variables = v.0; leaves = l.0; combine = c.0 } in
+    let w = fitting-takes path (first_wide_leaf l.0) of_parts net c.2 in
+    subst (λ (n : NetModel). IsNetFile n d) {x = of_parts} w.1 (net_of path d f.0 v.0 l.0 c.0 f.1 v.1 l.1 c.1 w.0)
 
 -- the format that a file of a net names
 format_known : (net : NetModel) (d : Data) (file : IsNetFile net d) → (file.number ≡ PLAIN_FORMAT) ⊎ (file.number ≡ HELPER_FORMAT)

@@ -1,5 +1,4 @@
-use Rattle.std.proofs.Common.{rules}
 use Rattle.net_json.proofs.leaf.OutputsReadItem.read.Goals as goal
 
 pub returns : goal.returns
-returns c = search rules
+returns c = c.truth_of.ensures
