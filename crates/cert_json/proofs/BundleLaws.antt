@@ -1,5 +1,5 @@
 -- What is read of a bundle is in its file, and each such file is read.
-use Rattle.std.proofs.Common.{◌≡◌, [], length, codes, Result, Ok, Err, refl, ap, subst, ◌∙◌}
+use Rattle.std.proofs.Common.{◌≡◌, [], length, codes, Result, Ok, Err, refl, subst}
 use Rattle.std.specs.Prelude.{◌≢◌, IfOk, IfErr}
 use Rattle.serde_json.specs.Data.{Data}
 use Rattle.json_shape.specs.declared.fault.FormatFault.{FormatFault}
@@ -26,20 +26,18 @@ unfolding bundle_at claim_at
 bundle_takes d bundle e =
     let net_path = member_path [] (codes "net") in
     let pred_path = member_path [] (codes "pred") in
-    let made = λ (net : NetModel) (claim : PredModel × Proof). (let o : Result Bundle Fault = Ok (record { net = net; pred = claim.0; proof = claim.1 }) in o) in
     let net = member_by [] (codes "net") net_at d in
-    let a = bind_ok (object_at [] d) (λ o. net >>= λ n. claim_at n d >>= λ claim. made n claim) bundle e in
-    let n = bind_ok net (λ n. claim_at n d >>= λ claim. made n claim) bundle a.2 in
-    let c = bind_ok (claim_at n.0 d) (λ claim. made n.0 claim) bundle n.2 in
+    let a = bind_ok (object_at [] d) (λ o. net >>= λ n. claim_at n d) bundle e in
+    let n = bind_ok net (λ n. claim_at n d) bundle a.2 in
     let pred = member_by [] (codes "pred") (pred_at n.0.variables) d in
     let proof = proof_at n.0.variables (length n.0.leaves) d in
-    let both = λ (p : PredModel) (proof : Proof). (let o : Result (PredModel × Proof) Fault = Ok (p, proof) in o) in
-    let p = bind_ok pred (λ p. proof >>= λ parts. both p parts) c.0 c.1 in
-    let r = bind_ok proof (λ parts. both p.0 parts) c.0 p.2 in
+    let made = λ (pred : PredModel) (proof : Proof). (let o : Result Bundle Fault = Ok (record { net = n.0; pred = pred; proof = proof }) in o) in
+    let p = bind_ok pred (λ p. proof >>= λ parts. made p parts) bundle n.2 in
+    let r = bind_ok proof (λ parts. made p.0 parts) bundle p.2 in
     let n' = bind_ok (member_at [] (codes "net") d) (λ v. net_at net_path v) n.0 n.1 in
     let p' = bind_ok (member_at [] (codes "pred") d) (λ v. pred_at n.0.variables pred_path v) p.0 p.1 in
     let taken = proof_takes n.0.variables (length n.0.leaves) d r.0 r.1 in
-    subst (λ (b : Bundle). IsBundleFile b d) (ap (λ (claim : PredModel × Proof). (let b : Bundle = record { net = n.0; pred = claim.0; proof = claim.1 } in b)) (same_ok (p.0, r.0) c.0 r.2) ∙ same_ok (record { net = n.0; pred = c.0.0; proof = c.0.1 }) bundle c.2)
+    subst (λ (b : Bundle). IsBundleFile b d) (same_ok (record { net = n.0; pred = p.0; proof = r.0 }) bundle r.2)
     (record {
       net = (n'.0, Readers.member_at-takes [] (codes "net") d n'.0 n'.1, net_at-takes net_path n'.0 n.0 n'.2);
       pred = (p'.0, Readers.member_at-takes [] (codes "pred") d p'.0 p'.1, (pred_takes n.0.variables pred_path p'.0 p.0 p'.2).0);

@@ -8,3 +8,4 @@ pub mod Members
 pub mod WrittenFiles
 pub mod BundleLaws
 pub mod ReadPreds
+pub mod TextFaults

@@ -35,15 +35,15 @@ fn net_of(alloc: Global, path: &Path<'_>, value: &Value) -> Result<Net, FormatFa
     read_net_at(alloc, &Path::Member(path, "net"), net)
 }
 
-/// The predicate and the proof beside this net.
+/// The bundle of this net, with the predicate and the proof beside it.
 #[tactic(auto, unfolding(crate::specs::Bundles::claim_at))]
-fn claim_of(alloc: Global, value: &Value, net: &Net) -> Result<(Pred, Proof), FormatFault>
-    ensures claim { GivesRead (λ claim. claim) result (claim_at net.now (view value.now)) }
-    ensures variables { IfOk result (λ claim. claim.0.variables ≡ length net.now.variables) }
+fn bundle_with(alloc: Global, value: &Value, net: Net) -> Result<Bundle, FormatFault>
+    ensures exact { GivesRead (λ bundle. bundle) result (claim_at net (view value.now)) }
+    ensures variables { IfOk result (λ bundle. bundle.pred.variables ≡ length bundle.net.variables) }
 {
     let pred = pred_of(alloc, &Path::Root, net.var_names(), value)?;
-    let proof = read_proof(alloc, value, net)?;
-    Ok((pred, proof))
+    let proof = read_proof(alloc, value, &net)?;
+    Ok(Bundle { net, pred, proof })
 }
 
 #[tactic(auto, unfolding(crate::specs::Bundles::bundle_at))]
@@ -53,8 +53,7 @@ fn bundle_of(alloc: Global, value: &Value) -> Result<Bundle, FormatFault>
 {
     object_of(alloc, &Path::Root, value)?;
     let net = net_of(alloc, &Path::Root, value)?;
-    let (pred, proof) = claim_of(alloc, value, &net)?;
-    Ok(Bundle { net, pred, proof })
+    bundle_with(alloc, value, net)
 }
 
 /// The bundle of a file, or the first rule that the file breaks, with its path from the file's root.

@@ -7,9 +7,10 @@ ghost use Rattle.json_shape.specs.Paths.{path_text};
 ghost use Rattle.json_shape.specs.Shapes.{member_by};
 ghost use Rattle.cert_json.specs.Examined.{layer_moves_at, weights_at, layers_at};
 
+use crate::member::each_in;
 use crate::terms::{index_of, small_of};
 use cert_base::{LAYER_LIMIT, Layer};
-use json_shape::{FormatFault, Path, ReadItem, each_of, member_of, object_of};
+use json_shape::{FormatFault, Path, ReadItem, object_of};
 use pop_io::List;
 use pop_net::{MOVE_LIMIT, STATE_LIMIT};
 use serde_json::Value;
@@ -45,9 +46,7 @@ fn moves_of(alloc: Global, path: &Path<'_>, value: &Value) -> Result<List<u32>, 
     ensures { GivesRead (λ ns. ns) result
         (member_by (path_text path.now) (codes "moves") layer_moves_at (view value.now)) }
 {
-    let moves = member_of(alloc, path, "moves", value)?;
-    let path = Path::Member(path, "moves");
-    each_of(alloc, &path, 0, MOVE_LIMIT, &Moves, moves)
+    each_in(alloc, path, "moves", 0, MOVE_LIMIT, &Moves, value)
 }
 
 /// Weights of states.
@@ -80,9 +79,7 @@ fn weights_of(alloc: Global, path: &Path<'_>, value: &Value) -> Result<List<i64>
     ensures { GivesRead (λ ws. ws) result
         (member_by (path_text path.now) (codes "weights") weights_at (view value.now)) }
 {
-    let weights = member_of(alloc, path, "weights", value)?;
-    let path = Path::Member(path, "weights");
-    each_of(alloc, &path, 0, STATE_LIMIT, &Weights, weights)
+    each_in(alloc, path, "weights", 0, STATE_LIMIT, &Weights, value)
 }
 
 /// Layers.
@@ -123,7 +120,5 @@ pub(crate) fn layers_of(
     ensures { GivesRead (λ layers. layers) result
         (member_by (path_text path.now) (codes "layers") layers_at (view value.now)) }
 {
-    let layers = member_of(alloc, path, "layers", value)?;
-    let path = Path::Member(path, "layers");
-    each_of(alloc, &path, 0, LAYER_LIMIT, &Layers, layers)
+    each_in(alloc, path, "layers", 0, LAYER_LIMIT, &Layers, value)
 }

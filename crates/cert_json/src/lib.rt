@@ -7,6 +7,7 @@
 mod bundle;
 mod kind;
 mod layers;
+mod member;
 mod node;
 mod read;
 mod terms;

@@ -10,11 +10,11 @@ ghost use Rattle.cert_json.specs.Examined.{index_at, state_at, modulus_at, small
 ghost use Rattle.cert_json.specs.Examined.{set_states_at, only_by, with_two, split_by, after_word, nodes_at};
 
 use crate::kind::NodeKind;
+use crate::member::each_in;
 use crate::terms::{index_of, modulus_of, row_terms_of, small_of, state_of, states_of, terms_of};
 use cert_base::{NODE_LIMIT, Node, Row, Term};
 use json_shape::{
-    FormatFault, Path, ReadItem, Why, both_items, broken, each_of, items_of, member_of, only_item,
-    word_of,
+    FormatFault, Path, ReadItem, Why, both_items, broken, items_of, only_item, word_of,
 };
 use pop_io::List;
 use serde_json::Value;
@@ -136,7 +136,5 @@ pub(crate) fn nodes_of(
     ensures { GivesRead (λ nodes. nodes) result
         (member_by (path_text path.now) member.now nodes_at (view value.now)) }
 {
-    let nodes = member_of(alloc, path, member, value)?;
-    let path = Path::Member(path, member);
-    each_of(alloc, &path, 0, NODE_LIMIT, &Nodes, nodes)
+    each_in(alloc, path, member, 0, NODE_LIMIT, &Nodes, value)
 }

@@ -1,21 +1,23 @@
 //! Reading a proof from a bundle's JSON value.
 
-ghost use Rattle.std.specs.Prelude.{◌≡◌, ◌≢◌, ◌≤◌, codes, length, IfOk, IfErr};
+ghost use Rattle.std.specs.Prelude.{◌≡◌, ◌≢◌, ◌≤◌, codes, length, IfOk, IfErr, IfSome, IfNone};
 ghost use Rattle.serde_json.specs.View.{view};
 ghost use Rattle.pop_io.specs.Names.{variable_name, AreNames};
-ghost use Rattle.json_shape.specs.Faults.{GivesRead};
+ghost use Rattle.json_shape.specs.Faults.{GivesRead, Says};
 ghost use Rattle.json_shape.specs.Paths.{path_text};
 ghost use Rattle.json_shape.specs.Shapes.{member_by};
 ghost use Rattle.cert_base.specs.declared.proof.Proof.{Proof};
 ghost use Rattle.cert_base.specs.ProofLimits.{IsProofWithin};
 ghost use Rattle.cert_json.specs.ProofFile.{IsProofFile};
-ghost use Rattle.cert_json.specs.Examined.{pred_at, leaf_proofs_at, proof_at};
+ghost use Rattle.pres_read.specs.Outcome.{text_fault_of};
+ghost use Rattle.cert_json.specs.Examined.{pred_at, why_of, leaf_proofs_at, proof_at};
 
 use crate::layers::layers_of;
+use crate::member::each_in;
 use crate::node::nodes_of;
 use cert_base::{LeafProof, Proof};
 use json_shape::{
-    FormatFault, Path, PredWhy, ReadItem, Why, broken, each_of, member_of, object_of, text_of,
+    FormatFault, Path, PredWhy, ReadItem, Why, broken, member_of, object_of, text_of,
 };
 use pop_io::{List, Text, VARIABLE_LIMIT};
 use pop_net::Net;
@@ -23,6 +25,22 @@ use pres_ast::Pred;
 use pres_read::{ReadPred, read_pred};
 use serde_json::Value;
 use std::alloc::Global;
+
+/// The fault of a text at this path that is no predicate.
+fn text_fault(alloc: Global, path: &Path<'_>, fault: ReadPred) -> FormatFault
+    ensures told { IfSome (text_fault_of fault) (λ f. Says result (path_text path.now) (Why.Pred (why_of f))) }
+    ensures memory { IfNone (text_fault_of fault) (result ≡ FormatFault.NoMemory) }
+{
+    let why = match fault {
+        ReadPred::Syntax(at) => PredWhy::Syntax(at),
+        ReadPred::UnknownName(at) => PredWhy::UnknownName(at),
+        ReadPred::TooLarge(at) => PredWhy::TooLarge(at),
+        ReadPred::TooDeep(at) => PredWhy::TooDeep(at),
+        ReadPred::LongText(length) => PredWhy::LongText(length),
+        ReadPred::NoMemory => return FormatFault::NoMemory,
+    };
+    broken(alloc, path, Why::Pred(why))
+}
 
 /// A predicate over these names.
 #[tactic(auto, unfolding(crate::specs::Examined::pred_at))]
@@ -39,16 +57,10 @@ fn pred_from(
     ensures variables { IfOk result (λ pred. pred.variables ≡ length names.now) }
 {
     let text = text_of(alloc, path, value)?;
-    let why = match read_pred(alloc, text.as_bytes(), names) {
-        Ok(pred) => return Ok(pred),
-        Err(ReadPred::Syntax(at)) => PredWhy::Syntax(at),
-        Err(ReadPred::UnknownName(at)) => PredWhy::UnknownName(at),
-        Err(ReadPred::TooLarge(at)) => PredWhy::TooLarge(at),
-        Err(ReadPred::TooDeep(at)) => PredWhy::TooDeep(at),
-        Err(ReadPred::LongText(length)) => PredWhy::LongText(length),
-        Err(ReadPred::NoMemory) => return Err(FormatFault::NoMemory),
-    };
-    Err(broken(alloc, path, Why::Pred(why)))
+    match read_pred(alloc, text.as_bytes(), names) {
+        Ok(pred) => Ok(pred),
+        Err(fault) => Err(text_fault(alloc, path, fault)),
+    }
 }
 
 /// The member `pred`: a predicate over these names.
@@ -124,9 +136,8 @@ fn leaf_proofs_of(
     ensures { GivesRead (λ parts. parts) result
         (member_by (path_text path.now) (codes "proof") (leaf_proofs_at names.now leaves) (view value.now)) }
 {
-    let proofs = member_of(alloc, path, "proof", value)?;
-    let path = Path::Member(path, "proof");
-    each_of(alloc, &path, leaves, leaves, &LeafProofs { names }, proofs)
+    let reader = LeafProofs { names };
+    each_in(alloc, path, "proof", leaves, leaves, &reader, value)
 }
 
 #[tactic(auto, unfolding(crate::specs::Examined::proof_at))]

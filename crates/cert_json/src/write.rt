@@ -1,8 +1,8 @@
 //! Writing a proof as a JSON value.
 
-ghost use Rattle.std.specs.Prelude.{◌≡◌, ◌≤◌, ℕ, All, map, take, length, IfOk, Ok, Some};
-ghost use Rattle.serde_json.specs.Data.{Data, string};
-ghost use Rattle.serde_json.specs.View.{view};
+ghost use Rattle.std.specs.Prelude.{◌≡◌, ◌≤◌, ℕ, All, map, take, length, IfOk, IsOkAnd, OnOk, Ok, Some};
+ghost use Rattle.serde_json.specs.Data.{Data, string, put as with_member};
+ghost use Rattle.serde_json.specs.View.{view, members_view};
 ghost use Rattle.serde_json.specs.Find.{get};
 ghost use Rattle.std.specs.Prelude.{codes};
 ghost use Rattle.pop_io.specs.Names.{variable_name, AreNames};
@@ -42,14 +42,32 @@ fn weights_value(alloc: Global, weights: &[i64]) -> Result<Value, AllocError>
     Ok(Value::Array(list))
 }
 
+/// Adds a member, unless its value could not be made.
+fn put_made(
+    members: &mut Map<String, Value>,
+    alloc: Global,
+    name: &str,
+    value: Result<Value, AllocError>,
+) -> Result<(), AllocError>
+    ensures { OnOk result (IsOkAnd value (λ v. members_view members.new.entries
+        ≡ with_member name.now (view v) (members_view members.old.entries))) }
+{
+    put(members, alloc, name, value?)
+}
+
 fn layer_value(alloc: Global, layer: &Layer) -> Result<Value, AllocError>
     ensures { IfOk result (λ v. view v ≡ layer_data layer.now) }
 {
     let mut members = Map::new(alloc);
-    let moves = moves_value(alloc, layer.moves.as_slice())?;
-    put(&mut members, alloc, "moves", moves)?;
-    let weights = weights_value(alloc, layer.weights.as_slice())?;
-    put(&mut members, alloc, "weights", weights)?;
+    let moves = layer.moves.as_slice();
+    put_made(&mut members, alloc, "moves", moves_value(alloc, moves))?;
+    let weights = layer.weights.as_slice();
+    put_made(
+        &mut members,
+        alloc,
+        "weights",
+        weights_value(alloc, weights),
+    )?;
     Ok(Value::Object(members))
 }
 
@@ -84,12 +102,12 @@ fn leaf_proof_object(alloc: Global, pred: Value, part: &LeafProof) -> Result<Val
 {
     let mut members = Map::new(alloc);
     put(&mut members, alloc, "pred", pred)?;
-    let on_false = nodes_value(alloc, part.on_false.as_slice())?;
-    put(&mut members, alloc, "false", on_false)?;
-    let layers = layers_value(alloc, part.layers.as_slice())?;
-    put(&mut members, alloc, "layers", layers)?;
-    let on_true = nodes_value(alloc, part.on_true.as_slice())?;
-    put(&mut members, alloc, "true", on_true)?;
+    let on_false = part.on_false.as_slice();
+    put_made(&mut members, alloc, "false", nodes_value(alloc, on_false))?;
+    let layers = part.layers.as_slice();
+    put_made(&mut members, alloc, "layers", layers_value(alloc, layers))?;
+    let on_true = part.on_true.as_slice();
+    put_made(&mut members, alloc, "true", nodes_value(alloc, on_true))?;
     Ok(Value::Object(members))
 }
 

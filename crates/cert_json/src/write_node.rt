@@ -1,6 +1,7 @@
 //! Writing nodes as JSON values.
 
-ghost use Rattle.std.specs.Prelude.{◌≡◌, map, take, IfOk};
+ghost use Rattle.std.specs.Prelude.{◌≡◌, [], ◌∷◌, map, take, IfOk};
+ghost use Rattle.serde_json.specs.Data.{string};
 ghost use Rattle.serde_json.specs.View.{view};
 ghost use Rattle.net_json.specs.Written.{numbers_data};
 ghost use Rattle.cert_json.specs.Kinds.{kind_text};
@@ -8,13 +9,16 @@ ghost use Rattle.cert_json.specs.Written.{term_data, terms_data, one_part, two_p
 
 use crate::kind::NodeKind;
 use cert_base::{Node, Term};
-use serde_json::{Value, json};
+use serde_json::{Value, push};
 use std::alloc::{AllocError, Global};
 
 fn term_value(alloc: Global, term: Term) -> Result<Value, AllocError>
     ensures { IfOk result (λ v. view v ≡ term_data term) }
 {
-    json!(in alloc; [term.at, term.by])
+    let mut list = Vec::new(alloc);
+    push(&mut list, Value::from(term.at))?;
+    push(&mut list, Value::from(term.by))?;
+    Ok(Value::Array(list))
 }
 
 fn terms_value(alloc: Global, terms: &[Term]) -> Result<Value, AllocError>
@@ -37,16 +41,30 @@ fn states_value(alloc: Global, states: &[u16]) -> Result<Value, AllocError>
     Ok(Value::Array(list))
 }
 
+/// A list of the word of a kind.
+fn word_list(alloc: Global, kind: NodeKind) -> Result<Vec<Value>, AllocError>
+    ensures { IfOk result (λ list. map view list.items ≡ string (kind_text kind) ∷ []) }
+{
+    let mut list = Vec::new(alloc);
+    push(&mut list, Value::try_from_str(alloc, kind.text())?)?;
+    Ok(list)
+}
+
 fn one_value(alloc: Global, kind: NodeKind, part: Value) -> Result<Value, AllocError>
     ensures { IfOk result (λ v. view v ≡ one_part (kind_text kind) (view part)) }
 {
-    json!(in alloc; [kind.text(), part])
+    let mut list = word_list(alloc, kind)?;
+    push(&mut list, part)?;
+    Ok(Value::Array(list))
 }
 
 fn two_value(alloc: Global, kind: NodeKind, part: Value, rest: Value) -> Result<Value, AllocError>
     ensures { IfOk result (λ v. view v ≡ two_parts (kind_text kind) (view part) (view rest)) }
 {
-    json!(in alloc; [kind.text(), part, rest])
+    let mut list = word_list(alloc, kind)?;
+    push(&mut list, part)?;
+    push(&mut list, rest)?;
+    Ok(Value::Array(list))
 }
 
 fn node_value(alloc: Global, node: &Node) -> Result<Value, AllocError>
