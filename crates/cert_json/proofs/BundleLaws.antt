@@ -37,7 +37,8 @@ bundle_takes d bundle e =
     let n' = bind_ok (member_at [] (codes "net") d) (λ v. net_at net_path v) n.0 n.1 in
     let p' = bind_ok (member_at [] (codes "pred") d) (λ v. pred_at n.0.variables pred_path v) p.0 p.1 in
     let taken = proof_takes n.0.variables (length n.0.leaves) d r.0 r.1 in
-    subst (λ (b : Bundle). IsBundleFile b d) (same_ok (record { net = n.0; pred = p.0; proof = r.0 }) bundle r.2)
+    let of_parts : Bundle = record { net = n.0; pred = p.0; proof = r.0 } in
+    subst (λ (b : Bundle). IsBundleFile b d) {x = of_parts} (same_ok of_parts bundle r.2)
     (record {
       net = (n'.0, Readers.member_at-takes [] (codes "net") d n'.0 n'.1, net_at-takes net_path n'.0 n.0 n'.2);
       pred = (p'.0, Readers.member_at-takes [] (codes "pred") d p'.0 p'.1, (pred_takes n.0.variables pred_path p'.0 p.0 p'.2).0);

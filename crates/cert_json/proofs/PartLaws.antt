@@ -49,7 +49,7 @@ module _ (number : List ℕ → Data → Result ℕ Fault) (P : ℕ → Type 0) 
       let n' = takes (item_path path 0) p.0.0 n.0 n.1 in
       let z' = small_takes (item_path path 1) p.0.1 z.0 z.1 in
       let term : Term = record { at = n.0; by = z.0 } in
-      subst (λ (u : Term). IsTerm u d × IsTermWithin u × P u.at) (same_ok term t z.2)
+      subst (λ (u : Term). IsTerm u d × IsTermWithin u × P u.at) {x = term} (same_ok term t z.2)
       (Tagged.pair_at-takes (IsNumber n.0) (IsInteger z.0) path d p.0 p.1 n'.0 z'.0, (n'.1, z'.1), n'.2)
 
   term_from-again : ((path : List ℕ) (d : Data) (n : ℕ) → IsNumber n d → n < 2 ^ 32 → P n → number path d ≡ Ok n)
@@ -189,7 +189,7 @@ layer_takes path d layer e =
       weights = (w'.0, Readers.member_at-takes path (codes "weights") d w'.0 w'.1, wt.0);
     } in
     let fits : IsLayerWithin whole = record { move_count = mt.1; moves = mt.2; weight_count = wt.1; weights = wt.2 } in
-    subst (λ (l : Layer). IsLayerFile l d × IsLayerWithin l) (same_ok whole layer w.2) (file, fits)
+    subst (λ (l : Layer). IsLayerFile l d × IsLayerWithin l) {x = whole} (same_ok whole layer w.2) (file, fits)
 
 layer_again : (path : List ℕ) (d : Data) (layer : Layer) → IsLayerFile layer d → IsLayerWithin layer → layer_at path d ≡ Ok layer
 unfolding layer_at

@@ -84,7 +84,8 @@ module _ (names : List (List ℕ)) where
       let l = bind_ok layers (λ ls. trues >>= λ ts. falses >>= λ fs. made p.0 ls ts fs) part p.2 in
       let t = bind_ok trues (λ ts. falses >>= λ fs. made p.0 l.0 ts fs) part l.2 in
       let f = bind_ok falses (λ fs. made p.0 l.0 t.0 fs) part t.2 in
-      subst (Parted d) (same_ok (record { pred = p.0; layers = l.0; on_true = t.0; on_false = f.0 }) part f.2) (leaf_of path d p.0 l.0 t.0 f.0 p.1 l.1 t.1 f.1)
+      let of_parts : LeafProof = record { pred = p.0; layers = l.0; on_true = t.0; on_false = f.0 } in
+      subst (Parted d) {x = of_parts} (same_ok of_parts part f.2) (leaf_of path d p.0 l.0 t.0 f.0 p.1 l.1 t.1 f.1)
 
   leaf_again : (path : List ℕ) (d : Data) (part : LeafProof) → IsLeafProofFile names part d → IsLeafProofWithin (length names) part → leaf_proof_at names path d ≡ Ok part
   unfolding leaf_proof_at
@@ -110,7 +111,8 @@ module _ (names : List (List ℕ)) where
       let m = bind_ok (member_at [] (codes "proof") d) (λ v. leaf_proofs_at names leaves path v) a.0 a.1 in
       let taken = λ (found : List LeafProof) (i : ℕ) (x : Data) (part : LeafProof) (is : item_by (leaf_proof_item names) path found i x ≡ Ok part). leaf_takes (item_path path i) x part is in
       let r = Readers.list-takes (item_by (leaf_proof_item names) path) (IsLeafProofFile names) (λ _ part. IsLeafProofWithin (length names) part) taken path leaves leaves m.0 a.0 m.2 in
-      subst (λ (q : Proof). IsProofFile names q d × IsProofWithin (length names) leaves q) (same_ok (record { leaves = a.0 }) proof a.2) (
+      let of_parts : Proof = record { leaves = a.0 } in
+      subst (λ (q : Proof). IsProofFile names q d × IsProofWithin (length names) leaves q) {x = of_parts} (same_ok of_parts proof a.2) (
         (m.0, Readers.member_at-takes [] (codes "proof") d m.0 m.1, r.0),
         record { one_each = omega (arith, r.2, r.3); parts = EachFrom-All (IsLeafProofWithin (length names)) [] a.0 r.1 },
       )
