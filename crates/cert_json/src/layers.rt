@@ -7,10 +7,9 @@ ghost use Rattle.json_shape.specs.Paths.{path_text};
 ghost use Rattle.json_shape.specs.Shapes.{member_by};
 ghost use Rattle.cert_json.specs.Examined.{layer_moves_at, weights_at, layers_at};
 
-use crate::member::each_in;
 use crate::terms::{index_of, small_of};
 use cert_base::{LAYER_LIMIT, Layer};
-use json_shape::{FormatFault, Path, ReadItem, object_of};
+use json_shape::{FormatFault, Path, ReadItem, each_in, object_of};
 use pop_io::List;
 use pop_net::{MOVE_LIMIT, STATE_LIMIT};
 use serde_json::Value;

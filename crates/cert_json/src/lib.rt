@@ -7,7 +7,6 @@
 mod bundle;
 mod kind;
 mod layers;
-mod member;
 mod node;
 mod read;
 mod terms;

@@ -10,11 +10,10 @@ ghost use Rattle.cert_json.specs.Examined.{index_at, state_at, modulus_at, small
 ghost use Rattle.cert_json.specs.Examined.{set_states_at, only_by, with_two, split_by, after_word, nodes_at};
 
 use crate::kind::NodeKind;
-use crate::member::each_in;
 use crate::terms::{index_of, modulus_of, row_terms_of, small_of, state_of, states_of, terms_of};
 use cert_base::{NODE_LIMIT, Node, Row, Term};
 use json_shape::{
-    FormatFault, Path, ReadItem, Why, both_items, broken, items_of, only_item, word_of,
+    FormatFault, Path, ReadItem, Why, both_items, broken, each_in, items_of, only_item, word_of,
 };
 use pop_io::List;
 use serde_json::Value;

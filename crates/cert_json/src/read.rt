@@ -13,11 +13,10 @@ ghost use Rattle.pres_read.specs.Outcome.{text_fault_of};
 ghost use Rattle.cert_json.specs.Examined.{pred_at, why_of, leaf_proofs_at, proof_at};
 
 use crate::layers::layers_of;
-use crate::member::each_in;
 use crate::node::nodes_of;
 use cert_base::{LeafProof, Proof};
 use json_shape::{
-    FormatFault, Path, PredWhy, ReadItem, Why, broken, member_of, object_of, text_of,
+    FormatFault, Path, PredWhy, ReadItem, Why, broken, each_in, member_of, object_of, text_of,
 };
 use pop_io::{List, Text, VARIABLE_LIMIT};
 use pop_net::Net;

@@ -4,11 +4,11 @@ ghost use Rattle.std.specs.Prelude.{◌≡◌, ◌≤◌, [], length, IfOk};
 ghost use Rattle.serde_json.specs.View.{view};
 ghost use Rattle.json_shape.specs.Faults.{GivesRead};
 ghost use Rattle.json_shape.specs.Paths.{path_text};
-ghost use Rattle.json_shape.specs.Shapes.{each_at};
+ghost use Rattle.json_shape.specs.Shapes.{each_at, member_by};
 
 use crate::fault::FormatFault;
 use crate::path::Path;
-use crate::shape::list_of;
+use crate::shape::{list_of, member_of};
 use pop_io::List;
 use serde_json::Value;
 use std::alloc::Global;
@@ -62,4 +62,30 @@ pub fn each_of<R: ReadItem>(
         items.push(read)?;
     }
     Ok(List::from_vec(items))
+}
+
+/// The items of a member, a list of `least` to `most`, one after the other.
+pub fn each_in<R: ReadItem>(
+    alloc: Global,
+    path: &Path<'_>,
+    member: &str,
+    least: usize,
+    most: usize,
+    reader: &R,
+    value: &Value,
+) -> Result<List<R::Item>, FormatFault>
+    requires { R.can_read reader.now }
+    ensures items { GivesRead (λ xs. xs) result (member_by (path_text path.now) member.now
+        (λ p. each_at (R.item_at reader.now) p least most) (view value.now)) }
+    ensures count { IfOk result (λ xs. (least ≤ length xs) × (length xs ≤ most)) }
+{
+    let list = member_of(alloc, path, member, value)?;
+    each_of(
+        alloc,
+        &Path::Member(path, member),
+        least,
+        most,
+        reader,
+        list,
+    )
 }

@@ -10,7 +10,7 @@ mod shape;
 mod tagged;
 
 pub use fault::{FormatFault, PredWhy, Why, broken};
-pub use items::{ReadItem, each_of};
+pub use items::{ReadItem, each_in, each_of};
 pub use path::Path;
 pub use shape::{
     ascending_of, integer_of, list_of, member_of, number_of, object_of, text_of, truth_of,

@@ -7,8 +7,7 @@ ghost use Rattle.json_shape.specs.Paths.{path_text};
 ghost use Rattle.json_shape.specs.Shapes.{member_by, number_at};
 ghost use Rattle.net_json.specs.Examined.{move_at, leaf_moves_at, leaf_states_at, outputs_at};
 
-use crate::member::each_in;
-use json_shape::{FormatFault, Path, ReadItem, Why, broken, number_of, truth_of};
+use json_shape::{FormatFault, Path, ReadItem, Why, broken, each_in, number_of, truth_of};
 use pop_io::List;
 use pop_net::{MOVE_LIMIT, Move, STATE_LIMIT};
 use serde_json::Value;

@@ -10,9 +10,8 @@ ghost use Rattle.net_json.specs.HelperRange.{IsHelperRange};
 
 use crate::format::PLAIN_FORMAT;
 use crate::leaf::{moves_of, outputs_of, states_of};
-use crate::member::each_in;
 use crate::names::{NameForm, names_of};
-use json_shape::{FormatFault, Path, ReadItem, object_of};
+use json_shape::{FormatFault, Path, ReadItem, each_in, object_of};
 use pop_io::{List, VARIABLE_LIMIT};
 use pop_net::{HELPER_LIMIT, LEAF_LIMIT, Leaf, STATE_LIMIT};
 use serde_json::Value;

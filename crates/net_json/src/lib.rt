@@ -7,7 +7,6 @@ mod combine;
 mod format;
 mod leaf;
 mod leaves;
-mod member;
 mod names;
 mod read;
 mod write;

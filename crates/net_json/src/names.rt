@@ -8,8 +8,7 @@ ghost use Rattle.json_shape.specs.Shapes.{member_by};
 ghost use Rattle.net_json.specs.NameForms.{form_of};
 ghost use Rattle.net_json.specs.Examined.{names_at};
 
-use crate::member::each_in;
-use json_shape::{FormatFault, Path, ReadItem, Why, broken, text_of};
+use json_shape::{FormatFault, Path, ReadItem, Why, broken, each_in, text_of};
 use pop_io::{List, Text, is_among, is_state_name, is_variable_name};
 use serde_json::Value;
 use std::alloc::Global;
