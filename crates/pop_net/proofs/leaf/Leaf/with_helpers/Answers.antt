@@ -1,15 +1,15 @@
-use Rattle.std.proofs.Common.{◌≡◌, inr}
-use Rattle.std.specs.Prelude.{Some, None}
-use Rattle.pop_net.specs.LeafFaults.{fault_of_leaf}
+use Rattle.std.proofs.Common.{◌≡◌, inr, sym, ◌∙◌}
+use Rattle.pop_net.specs.LeafModel.{IsLeaf}
+use Rattle.pop_net.specs.declared.fault.LeafFault.TheVariants.{NoMemory}
 use Rattle.pop_net.proofs.LeafFaults.{unbroken_leaf, right_leaf}
 use Rattle.pop_net.proofs.leaf.Leaf.with_helpers.Goals as goal
 
 pub of_valid-requires : goal.of_valid-requires
 of_valid-requires c =
-    let e : fault_of_leaf (record { states = c.args.states; moves = c.args.moves; inputs = c.args.inputs; outputs = c.args.outputs; helpers = c.args.helpers }) ≡ None = cc in
-    unbroken_leaf _ e
+    let right : IsLeaf (record { states = c.as_slice.result.now; moves = c.as_slice-2.result.now; inputs = c.as_slice-3.result.now; outputs = c.as_slice-4.result.now; helpers = c.as_slice-5.result.now }) = unbroken_leaf _ (sym c.leaf_fault.ensures ∙ c.in-None.is) in
+    rw (c.as_slice.ensures, c.as_slice-2.ensures, c.as_slice-3.ensures, c.as_slice-4.ensures, c.as_slice-5.ensures) at right
 
 pub returns-in-Some-clause-accepts : goal.returns-in-Some-clause-accepts
 returns-in-Some-clause-accepts c =
-    let e : fault_of_leaf (record { states = c.args.states; moves = c.args.moves; inputs = c.args.inputs; outputs = c.args.outputs; helpers = c.args.helpers }) ≡ Some c.in-Some.fault = cc in
-    right_leaf _ _ (inr e)
+    let refused : IsLeaf (record { states = c.as_slice.result.now; moves = c.as_slice-2.result.now; inputs = c.as_slice-3.result.now; outputs = c.as_slice-4.result.now; helpers = c.as_slice-5.result.now }) → c.in-Some.fault ≡ NoMemory = right_leaf _ _ (inr (sym c.leaf_fault.ensures ∙ c.in-Some.is)) in
+    rw (c.as_slice.ensures, c.as_slice-2.ensures, c.as_slice-3.ensures, c.as_slice-4.ensures, c.as_slice-5.ensures) at refused

@@ -1,15 +1,18 @@
-use Rattle.std.proofs.Common.{◌≡◌, inr, rules}
-use Rattle.std.specs.Prelude.{Some, None}
-use Rattle.pop_net.specs.NetFaults.{fault_of_net}
+use Rattle.std.proofs.Common.{◌≡◌, inr, sym, ◌∙◌}
+use Rattle.std.specs.Prelude.{All}
+use Rattle.pop_net.specs.LeafModel.{IsLeaf}
+use Rattle.pop_net.specs.NetModel.{IsNet}
+use Rattle.pop_net.specs.declared.fault.NetFault.TheVariants.{NoMemory}
 use Rattle.pop_net.proofs.NetFaults.{unbroken_net, right_net}
 use Rattle.pop_net.proofs.net.Net.new.Goals as goal
 
 pub of_valid-requires : goal.of_valid-requires
 of_valid-requires c =
-    let e : fault_of_net (record { variables = c.args.vars; leaves = c.args.leaves; combine = c.args.combine }) ≡ None = cc in
-    unbroken_net _ (search rules) e
+    let leaves : All IsLeaf c.as_slice-2.result.now = rw c.in-None.is at c.net_fault.ensures.formed in
+    let right : IsNet (record { variables = c.as_slice.result.now; leaves = c.as_slice-2.result.now; combine = c.as_slice-3.result.now }) = unbroken_net _ leaves (sym c.net_fault.ensures.first ∙ c.in-None.is) in
+    rw (c.as_slice.ensures, c.as_slice-2.ensures, c.as_slice-3.ensures) at right
 
 pub returns-in-Some-clause-accepts : goal.returns-in-Some-clause-accepts
 returns-in-Some-clause-accepts c =
-    let e : fault_of_net (record { variables = c.args.vars; leaves = c.args.leaves; combine = c.args.combine }) ≡ Some c.in-Some.fault = cc in
-    right_net _ _ (inr e)
+    let refused : IsNet (record { variables = c.as_slice.result.now; leaves = c.as_slice-2.result.now; combine = c.as_slice-3.result.now }) → c.in-Some.fault ≡ NoMemory = right_net _ _ (inr (sym c.net_fault.ensures.first ∙ c.in-Some.is)) in
+    rw (c.as_slice.ensures, c.as_slice-2.ensures, c.as_slice-3.ensures) at refused
