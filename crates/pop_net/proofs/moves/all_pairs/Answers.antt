@@ -1,6 +1,15 @@
-use Rattle.std.proofs.Common.{◌≡◌, ◌*◌, ℕ, subst, arith}
-use Rattle.pop_net.proofs.Tables.{IsStill, still_table}
+use Rattle.std.proofs.Common.{◌≡◌, ◌*◌, ℕ, refl, subst, arith}
+use Rattle.std.proofs.lemmas.Nat.{mul-le}
+use Rattle.pop_net.proofs.Tables.{IsStill, still_more, still_table}
 use Rattle.pop_net.proofs.moves.all_pairs.Goals as goal
+
+pub overflow_mul-count : goal.overflow_mul-count
+overflow_mul-count c =
+    let few = mul-le c.args.states c.args.states 512 512 c.requires c.requires in record { fits = omega (arith, few) }
+
+pub loop-k-preserved : goal.loop-k-preserved
+loop-k-preserved c =
+    rw c.in_ok-push.ensures.items (still_more c.args.states c.loop-k.k c.loop-k.pairs.items _ _ refl refl c.loop-k.invariant)
 
 pub returns : goal.returns
 returns c =
