@@ -63,6 +63,11 @@ bounded least most (Some v) n e =
     let parts = and_parts (nat_le least v) (nat_le v most) both.0 in
     (both.1, subst (Between least most) same (leb-true least v parts.0, leb-true v most parts.1))
 
+-- a number that was read is within its limits
+pub printed_between : (least most : ℕ) (digits : List ℕ) (n : ℕ) → printed_number_of_within least most digits ≡ Some n → Between least most n
+printed_between least most digits n e =
+    (bounded least most (number_of digits) n (test (has_no_leading_zero digits) (number_of_within least most digits) n e).1).1
+
 printed_is : (least most : ℕ) (digits : List ℕ) (n : ℕ) → most < 2 ^ 64 → printed_number_of_within least most digits ≡ Some n → (digits ≡ decimal n) × Between least most n
 printed_is least most digits n small e =
     let form = test (has_no_leading_zero digits) (number_of_within least most digits) n e in
@@ -79,7 +84,8 @@ mapped (Some m) rest n more e = let same : ◌≡◌ {A = Named} (m, rest) (n, m
 -- a number behind its name
 named_is : (name : List ℕ) (least most : ℕ) (words : List (List ℕ)) (n : ℕ) (more : List (List ℕ)) → most < 2 ^ 64 → number_named name least most words ≡ Some (n, more) → (words ≡ name ∷ decimal n ∷ more) × Between least most n
 named_is name least most [] n more small e = absurd cc
-named_is name least most (word ∷ []) n more small e = absurd cc
+named_is name least most (word ∷ []) n more small e =
+    absurd (let none : None ≡ Some (n, more) = (test (bytes_eq word name) None (n, more) e).1 in cc)
 named_is name least most (word ∷ digits ∷ rest) n more small e =
     let both = test (bytes_eq word name) (option_map (λ (m : ℕ). let t : Named = (m, rest) in t) (printed_number_of_within least most digits)) (n, more) e in
     let found = mapped (printed_number_of_within least most digits) rest n more both.1 in

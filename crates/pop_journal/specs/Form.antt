@@ -16,31 +16,40 @@ use Rattle.pop_journal.specs.Journal.{round_line}
 use Rattle.pop_journal.specs.declared.fault.JournalWhy.{JournalWhy}
 use Rattle.pop_journal.specs.declared.fault.JournalWhy.TheVariants.{Missing, Form, Worker, Agents, Round}
 
--- a name, and behind it a number in its printed form and within these limits, with the words behind both
+-- a number in its printed form and within these limits, with the words behind it
+abbrev pub number_first : ℕ → ℕ → List (List ℕ) → Option (ℕ × List (List ℕ))
+number_first least most [] = None
+number_first least most (number ∷ more) = option_map (λ n. (n, more)) (printed_number_of_within least most number)
+
+-- such a number behind its name
 abbrev pub number_named : List ℕ → ℕ → ℕ → List (List ℕ) → Option (ℕ × List (List ℕ))
-number_named name least most (word ∷ number ∷ more) =
-    if bytes_eq word name then option_map (λ n. (n, more)) (printed_number_of_within least most number) else None
-number_named name least most _ = None
+number_named name least most [] = None
+number_named name least most (word ∷ words) = if bytes_eq word name then number_first least most words else None
 
 abbrev pub at_the_end : RunSpec → List (List ℕ) → Option RunSpec
 at_the_end spec [] = if nat_le (spec.workers * spec.turns) MEETING_LIMIT then Some spec else None
 at_the_end spec (word ∷ more) = None
 
--- the numbers of the first line; workers times turns are within their limit
+-- the turns and the seed, behind the workers and the shards; workers times turns are within their limit
+abbrev pub turns_named : ℕ → ℕ → List (List ℕ) → Option RunSpec
+turns_named workers shards words =
+    option_and_then
+    (λ t. option_and_then
+    (λ n. at_the_end (record { workers = workers; shards = shards; turns = t.0; seed = n.0 }) n.1)
+    (number_named (codes "seed") 0 SEED_LIMIT t.1))
+    (number_named (codes "turns") 0 TURN_LIMIT words)
+
+-- the numbers of a run of at most so many workers
+abbrev pub spec_named : ℕ → List (List ℕ) → Option RunSpec
+spec_named most words =
+    option_and_then
+    (λ w. option_and_then (λ s. turns_named w.0 s.0 s.1) (number_named (codes "shards") 1 SHARD_LIMIT w.1))
+    (number_named (codes "workers") 1 most words)
+
+-- the kind's word, and behind it the numbers
 abbrev pub spec_words : RunKind → List (List ℕ) → Option RunSpec
 spec_words kind [] = None
-spec_words kind (first ∷ words) =
-    if bytes_eq first (kind_word kind)
-    then option_and_then
-    (λ w. option_and_then
-    (λ s. option_and_then
-    (λ t. option_and_then
-    (λ n. at_the_end (record { workers = w.0; shards = s.0; turns = t.0; seed = n.0 }) n.1)
-    (number_named (codes "seed") 0 SEED_LIMIT t.1))
-    (number_named (codes "turns") 0 TURN_LIMIT s.1))
-    (number_named (codes "shards") 1 SHARD_LIMIT w.1))
-    (number_named (codes "workers") 1 (most_workers_of kind) words)
-    else None
+spec_words kind (first ∷ words) = if bytes_eq first (kind_word kind) then spec_named (most_workers_of kind) words else None
 
 unfoldable pub spec_in : RunKind → List ℕ → Option RunSpec
 spec_in kind line = spec_words kind (pieces 32 line)

@@ -5,8 +5,8 @@ ghost use Rattle.std.specs.Prelude.{Some, slice_index_or};
 ghost use Rattle.pop_lines.specs.Lines.{lines_of};
 ghost use Rattle.pair_workers.specs.Run.{meetings_of, turns_in};
 ghost use Rattle.pop_journal.specs.ReadLines.{first_ends};
-ghost use Rattle.pop_journal.specs.Form.{Tells, told_in, three_numbers, meeting_told, onward, number_named, spec_in};
-ghost use Rattle.pop_journal.specs.Form.{at_the_end};
+ghost use Rattle.pop_journal.specs.Form.{Tells, told_in, three_numbers, meeting_told, onward, number_named};
+ghost use Rattle.pop_journal.specs.Form.{at_the_end, number_first, turns_named, spec_named, spec_in};
 ghost use Rattle.pop_words.specs.Walk.{words_behind};
 ghost use Rattle.pop_words.specs.Kinds.{most_workers_of};
 ghost use Rattle.pop_words.specs.Options.{IsWithinLimits};
@@ -140,8 +140,23 @@ fn number_behind<'t>(
     if word != name {
         return None;
     }
-    let (number, rest) = cut(rest?, b' ');
-    let number = printed_within(number, least, most)?;
+    first_number(rest, least, most)
+}
+
+/// A number, and what stands behind a space after it.
+fn first_number<'t>(
+    words: Option<&'t [u8]>,
+    least: u64,
+    most: u64,
+) -> Option<(u64, Option<&'t [u8]>)>
+    ensures read { MatchOption result
+        (number_first least most (words_behind (option_copied words.entry)) ≡ None)
+        (λ found. number_first least most (words_behind (option_copied words.entry))
+        ≡ Some (found.0, words_behind (option_copied found.1))) }
+    ensures within { IfSome result (λ found. (least ≤ found.0) × (found.0 ≤ most)) }
+{
+    let (word, rest) = cut(words?, b' ');
+    let number = printed_within(word, least, most)?;
     Some((number, rest))
 }
 
@@ -151,18 +166,36 @@ pub(crate) fn spec_of(kind: RunKind, line: &[u8]) -> Option<RunSpec>
     ensures spec { result ≡ spec_in kind line.now }
     ensures limits { IfSome result (λ spec. IsWithinLimits spec × (spec.workers ≤ most_workers_of kind)) }
 {
-    let (first, rest) = cut(line, b' ');
+    let (first, words) = cut(line, b' ');
     if first != kind.word().as_bytes() {
         return None;
     }
-    let most = u64::from(kind.most_workers());
-    let (workers, rest) = number_behind(rest, b"workers".as_slice(), 1, most)?;
+    spec_behind(words, kind.most_workers())
+}
+
+/// The numbers behind the word of a kind with so many workers at most.
+fn spec_behind(words: Option<&[u8]>, most: u16) -> Option<RunSpec>
+    requires { most ≤ WORKER_LIMIT }
+    ensures spec { result ≡ spec_named most (words_behind (option_copied words.entry)) }
+    ensures limits { IfSome result (λ spec. IsWithinLimits spec × (spec.workers ≤ most)) }
+{
+    let (workers, rest) = number_behind(words, b"workers".as_slice(), 1, u64::from(most))?;
     let (shards, rest) = number_behind(rest, b"shards".as_slice(), 1, u64::from(SHARD_LIMIT))?;
-    let (turns, rest) = number_behind(rest, b"turns".as_slice(), 0, TURN_LIMIT)?;
+    turns_behind(rest, workers as u16, shards as u32)
+}
+
+/// The turns and the seed behind these workers and shards.
+fn turns_behind(words: Option<&[u8]>, workers: u16, shards: u32) -> Option<RunSpec>
+    requires workers { (1 ≤ workers) × (workers ≤ WORKER_LIMIT) }
+    requires shards { (1 ≤ shards) × (shards ≤ SHARD_LIMIT) }
+    ensures spec { result ≡ turns_named workers shards (words_behind (option_copied words.entry)) }
+    ensures limits { IfSome result (λ spec. IsWithinLimits spec × (spec.workers ≡ workers)) }
+{
+    let (turns, rest) = number_behind(words, b"turns".as_slice(), 0, TURN_LIMIT)?;
     let (seed, rest) = number_behind(rest, b"seed".as_slice(), 0, SEED_LIMIT)?;
     let spec = RunSpec {
-        workers: workers as u16,
-        shards: shards as u32,
+        workers,
+        shards,
         turns,
         seed,
     };
