@@ -18,7 +18,7 @@ ghost use Rattle.terminal_test.specs.TableNet.{table_net};
 use crate::fault::VerifyFault;
 use crate::last::Last;
 use crate::limits::ROUND_LIMIT;
-use crate::write::push_last_line;
+use crate::write::{push_last_line, push_meeting_numbers};
 use pair_workers::{Picker, ROUND_TURNS};
 use pop_crowd::{Crowd, Meeting};
 use pop_io::{List, NoMemory, WORKER_LIMIT};
@@ -42,11 +42,7 @@ fn meeting_text(alloc: Global, meeting: &Meeting) -> Result<List<u8>, AllocError
     ensures { IfOk result (λ text. text ≡ meeting_line meeting.now) }
 {
     let mut text = Vec::new(alloc);
-    push_number(&mut text, u64::from(meeting.worker))?;
-    text.extend_from_slice(b" ")?;
-    push_number(&mut text, u64::from(meeting.a))?;
-    text.extend_from_slice(b" ")?;
-    push_number(&mut text, u64::from(meeting.b))?;
+    push_meeting_numbers(&mut text, meeting)?;
     text.extend_from_slice(if meeting.changed { b" *" } else { b"" })?;
     Ok(List::from_vec(text))
 }
