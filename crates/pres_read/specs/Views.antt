@@ -1,5 +1,5 @@
 -- What the reader's types stand for.
-use Rattle.std.specs.Prelude.{List, Vec, map, reverse, option_map}
+use Rattle.std.specs.Prelude.{List, ℤ, Vec, map, reverse, option_map}
 use Rattle.std.specs.Global.{Global}
 use Rattle.pres_ast.specs.TreeOf.{tree_of}
 use Rattle.pres_read.specs.declared.place.Level.{Level}
@@ -7,6 +7,8 @@ use Rattle.pres_read.specs.declared.place.Around.{Around}
 use Rattle.pres_read.specs.declared.place.Factor.{Factor}
 use Rattle.pres_read.specs.declared.place.Expect.{Expect}
 use Rattle.pres_read.specs.declared.place.Expect.TheVariants as expect
+use Rattle.pres_read.specs.declared.place.Next.{Next}
+use Rattle.pres_read.specs.declared.place.Next.TheVariants as next
 use Rattle.pres_read.specs.declared.place.Parser.{Parser}
 use Rattle.pres_read.specs.declared.depth.Depth.{Depth}
 use Rattle.pres_read.specs.Atoms as atoms
@@ -26,16 +28,19 @@ around_of a = record { above = spans_of a.above; span = span_of_level a.level }
 abbrev pub factor_of : Factor → atoms.Factor
 factor_of f = record { negative = f.negative; digits = f.digits.now; place = f.place }
 
+abbrev pub next_in_atom : List ℤ → Next → progress.Next
+next_in_atom coefs (next.Term negative) = progress.ATerm coefs negative
+next_in_atom coefs (next.Star factor) = progress.AStar coefs (factor_of factor)
+next_in_atom coefs (next.Name factor) = progress.AName coefs (factor_of factor)
+next_in_atom coefs next.Relation = progress.ARelation coefs
+next_in_atom coefs (next.Constant relation) = progress.AConstant coefs relation
+next_in_atom coefs (next.Number relation) = progress.ANumber coefs relation
+next_in_atom coefs (next.Modulo unequal constant) = progress.AModulo coefs unequal constant
+next_in_atom coefs (next.Modulus unequal constant) = progress.AModulus coefs unequal constant
+
 abbrev pub next_expected : Expect → progress.Next
 next_expected expect.Unit = progress.AUnit
-next_expected (expect.Term coefs negative) = progress.ATerm coefs.items negative
-next_expected (expect.Star coefs factor) = progress.AStar coefs.items (factor_of factor)
-next_expected (expect.Name coefs factor) = progress.AName coefs.items (factor_of factor)
-next_expected (expect.Relation coefs) = progress.ARelation coefs.items
-next_expected (expect.Constant coefs relation) = progress.AConstant coefs.items relation
-next_expected (expect.Number coefs relation) = progress.ANumber coefs.items relation
-next_expected (expect.Modulo coefs unequal constant) = progress.AModulo coefs.items unequal constant
-next_expected (expect.Modulus coefs unequal constant) = progress.AModulus coefs.items unequal constant
+next_expected (expect.Atom coefs awaited) = next_in_atom coefs.items awaited
 next_expected (expect.Sign tree) = progress.ASign (tree_of tree)
 
 abbrev pub progress_of : Parser → progress.Progress

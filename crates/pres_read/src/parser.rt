@@ -1,32 +1,32 @@
 //! One token further.
 
-ghost use Rattle.std.specs.Prelude.{◌≡◌, ◌≤◌, ◌-◌, Ok, Result as Outcome, List as Items, ℤ, All, nat_abs, IfOk, length, option_map};
+ghost use Rattle.std.specs.Prelude.{◌≡◌, ◌≤◌, ◌-◌, Ok, List as Items, ℤ, All, nat_abs, IfOk, length, option_map};
 ghost use Rattle.pres_ast.specs.declared.limits.TheConstants.{WEIGHT_LIMIT};
 ghost use Rattle.pres_ast.specs.PredModel.{AreCoefs};
 ghost use Rattle.pres_ast.specs.TreeOf.{tree_of};
 ghost use Rattle.pres_tokens.specs.Symbols.{symbol_of, token_of};
 ghost use Rattle.pres_read.specs.Outcome.{GivesParsed};
-ghost use Rattle.pres_read.specs.Progress.{Around as Surroundings, Progress, start};
-ghost use Rattle.pres_read.specs.TextFault.{TextFault};
-ghost use Rattle.pres_read.specs.Reading.{zero_coefs, after_not, after_open, unit_step, first_step, term_step};
+ghost use Rattle.pres_read.specs.Progress.{Around as Surroundings, start};
+ghost use Rattle.pres_read.specs.Reading.{zero_coefs, after_open, unit_step, first_step, term_step};
 ghost use Rattle.pres_read.specs.Reading.{star_step, name_step, relation_step};
-ghost use Rattle.pres_read.specs.Reading.{constant_step, number_step, given_constant, modulo_step};
-ghost use Rattle.pres_read.specs.Reading.{equality_step, modulus_step, step, finish, going_on};
-ghost use Rattle.pres_read.specs.Reading.{progress_after_constant, progress_after_unit, tree_up_to_unit};
-ghost use Rattle.pres_read.specs.Atoms.{limit_of, negation_if, equality_tree};
+ghost use Rattle.pres_read.specs.Reading.{constant_step, number_step, modulo_step, after_sum};
+ghost use Rattle.pres_read.specs.Reading.{equality_step, modulus_step, by_next, step, finish_by, finish, going_on};
+ghost use Rattle.pres_read.specs.Reading.{progress_after_constant, progress_after_unit};
+ghost use Rattle.pres_read.specs.Atoms.{added, limit_of, negation_if, equality_tree};
 ghost use Rattle.pres_read.specs.Sound.{HasNext};
-ghost use Rattle.pres_read.specs.Views.{span_of_level, factor_of, around_of, progress_of, next_expected};
+ghost use Rattle.pres_read.specs.Views.{factor_of, around_of, progress_of, next_in_atom, next_expected};
 
 use crate::atom::{compared, congruent, constant_limit, equality, negated_if};
 use crate::fault::ReadPred;
 use crate::number::number_within;
-use crate::place::{Around, Expect, Factor, Level, Parser};
+use crate::place::{Around, Expect, Factor, Level, Next, Parser};
 use crate::sum::{signed, with_term};
 use crate::unit::{after_unit, at_sign, ended, up_to_unit};
 use pop_io::{List, NoMemory, Text};
 use pres_ast::{BOUND_LIMIT, COEFFICIENT_LIMIT, MODULUS_LIMIT, Tree};
 use pres_tokens::{Kind, Relation, Token};
 use std::alloc::{AllocError, Global};
+use std::mem;
 
 fn zeros(alloc: Global, names: &List<Text>) -> Result<Vec<i64>, AllocError>
     ensures { IfOk result (λ sum. sum.items ≡ zero_coefs names.now) }
@@ -37,60 +37,30 @@ fn zeros(alloc: Global, names: &List<Text>) -> Result<Vec<i64>, AllocError>
 fn at_unit<'a>(
     alloc: Global,
     names: &List<Text>,
-    around: Around,
+    around: &mut Around,
     token: Token<'a>,
-) -> Result<Parser<'a>, ReadPred>
-    requires { around.level.nots ≤ WEIGHT_LIMIT }
-    ensures { GivesParsed progress_of result
-        (unit_step names.now (around_of around) token.entry.place (symbol_of token.entry.kind)) }
+) -> Result<Expect<'a>, ReadPred>
+    requires { around.old.level.nots ≤ WEIGHT_LIMIT }
+    ensures { GivesParsed (λ e. going_on (around_of around.new) (next_expected e)) result
+        (unit_step names.now (around_of around.old) token.entry.place (symbol_of token.entry.kind)) }
 {
     match token.kind {
-        Kind::Not => Ok(denied(around)),
+        Kind::Not => {
+            around.level.nots += 1;
+            Ok(Expect::Unit)
+        }
         Kind::Open => opened(around),
-        _ => awaiting(around, at_first(alloc, names, token)),
+        _ => at_first(alloc, names, token),
     }
 }
 
-/// What is expected next, in the same surroundings.
-fn awaiting<'a>(
-    around: Around,
-    expect: Result<Expect<'a>, ReadPred>,
-) -> Result<Parser<'a>, ReadPred>
-    ensures { (step : Outcome Progress TextFault)
-        → GivesParsed (λ e. going_on (around_of around) (next_expected e)) expect.entry step
-        → GivesParsed progress_of result step }
+fn opened<'a>(around: &mut Around) -> Result<Expect<'a>, ReadPred>
+    ensures { GivesParsed
+        (λ e. going_on (around_of around.new) (next_expected e)) result (Ok (after_open (around_of around.old))) }
 {
-    let expect = expect?;
-    Ok(Parser { around, expect })
-}
-
-/// One more `!` before the unit.
-fn denied<'a>(around: Around) -> Parser<'a>
-    requires { around.level.nots ≤ WEIGHT_LIMIT }
-    ensures { progress_of result ≡ after_not (around_of around) }
-{
-    let Around { above, mut level } = around;
-    level.nots += 1;
-    Parser {
-        around: Around { above, level },
-        expect: Expect::Unit,
-    }
-}
-
-fn opened<'a>(around: Around) -> Result<Parser<'a>, ReadPred>
-    ensures { GivesParsed progress_of result (Ok (after_open (around_of around))) }
-{
-    let Around { mut above, level } = around;
-    above.push(level)?;
-    let level = Level {
-        ors: None,
-        ands: None,
-        nots: 0,
-    };
-    Ok(Parser {
-        around: Around { above, level },
-        expect: Expect::Unit,
-    })
+    let level = mem::replace(&mut around.level, Level::new());
+    around.above.push(level)?;
+    Ok(Expect::Unit)
 }
 
 /// What follows the first token of a sum, wherever the sum stands.
@@ -100,9 +70,9 @@ fn at_first<'a>(alloc: Global, names: &List<Text>, token: Token<'a>) -> Result<E
 {
     let coefs = zeros(alloc, names)?;
     match token.kind {
-        Kind::Minus => Ok(Expect::Term {
+        Kind::Minus => Ok(Expect::Atom {
             coefs,
-            negative: true,
+            next: Next::Term { negative: true },
         }),
         _ => at_term(names, coefs, false, token),
     }
@@ -127,8 +97,7 @@ fn at_term<'a>(
                 digits,
                 place,
             };
-            let coefs = with_term(coefs, names, factor, word, place)?;
-            Ok(Expect::Relation { coefs })
+            after_term(names, coefs, factor, word, place)
         }
         Kind::Number(digits) => {
             let factor = Factor {
@@ -136,10 +105,32 @@ fn at_term<'a>(
                 digits,
                 place,
             };
-            Ok(Expect::Star { coefs, factor })
+            Ok(Expect::Atom {
+                coefs,
+                next: Next::Star { factor },
+            })
         }
         _ => Err(ReadPred::Syntax(place)),
     }
+}
+
+/// What follows a term, whose name is the word at `place`.
+fn after_term<'a>(
+    names: &List<Text>,
+    coefs: Vec<i64>,
+    factor: Factor<'_>,
+    word: &[u8],
+    place: u32,
+) -> Result<Expect<'a>, ReadPred>
+    requires { AreCoefs (length names.now) coefs.items }
+    ensures { (a : Surroundings) → GivesParsed (λ e. going_on a (next_expected e)) result
+        (after_sum a (added names.now coefs.items (factor_of factor.entry) place word.now)) }
+{
+    let coefs = with_term(coefs, names, factor, word, place)?;
+    Ok(Expect::Atom {
+        coefs,
+        next: Next::Relation,
+    })
 }
 
 fn at_star<'a>(
@@ -151,7 +142,10 @@ fn at_star<'a>(
         (star_step a coefs.items (factor_of factor.entry) token.entry.place (symbol_of token.entry.kind)) }
 {
     match token.kind {
-        Kind::Star => Ok(Expect::Name { coefs, factor }),
+        Kind::Star => Ok(Expect::Atom {
+            coefs,
+            next: Next::Name { factor },
+        }),
         _ => Err(ReadPred::Syntax(token.place)),
     }
 }
@@ -167,46 +161,40 @@ fn at_name<'a>(
         (name_step names.now a coefs.items (factor_of factor.entry) token.entry.place
         (symbol_of token.entry.kind)) }
 {
-    let Kind::Name(word) = token.kind else {
-        return Err(ReadPred::Syntax(token.place));
-    };
-    let coefs = with_term(coefs, names, factor, word, token.place)?;
-    Ok(Expect::Relation { coefs })
+    match token.kind {
+        Kind::Name(word) => after_term(names, coefs, factor, word, token.place),
+        _ => Err(ReadPred::Syntax(token.place)),
+    }
 }
 
 fn at_relation<'a>(coefs: Vec<i64>, token: Token<'a>) -> Result<Expect<'a>, ReadPred>
     ensures { (a : Surroundings) → GivesParsed (λ e. going_on a (next_expected e)) result
         (relation_step a coefs.items token.entry.place (symbol_of token.entry.kind)) }
 {
-    match token.kind {
-        Kind::Plus => Ok(Expect::Term {
-            coefs,
-            negative: false,
-        }),
-        Kind::Minus => Ok(Expect::Term {
-            coefs,
-            negative: true,
-        }),
-        Kind::Compare(relation) => Ok(Expect::Constant { coefs, relation }),
-        _ => Err(ReadPred::Syntax(token.place)),
-    }
+    let next = match token.kind {
+        Kind::Plus => Next::Term { negative: false },
+        Kind::Minus => Next::Term { negative: true },
+        Kind::Compare(relation) => Next::Constant { relation },
+        _ => return Err(ReadPred::Syntax(token.place)),
+    };
+    Ok(Expect::Atom { coefs, next })
 }
 
 fn at_constant<'a>(
     alloc: Global,
-    around: Around,
+    around: &mut Around,
     coefs: Vec<i64>,
     relation: Relation,
     token: Token<'a>,
-) -> Result<Parser<'a>, ReadPred>
+) -> Result<Expect<'a>, ReadPred>
     requires { All (λ a. nat_abs a ≤ COEFFICIENT_LIMIT) coefs.items }
-    ensures { GivesParsed progress_of result
-        (constant_step (around_of around) coefs.items relation token.entry.place (symbol_of token.entry.kind)) }
+    ensures { GivesParsed (λ e. going_on (around_of around.new) (next_expected e)) result
+        (constant_step (around_of around.old) coefs.items relation token.entry.place (symbol_of token.entry.kind)) }
 {
     match token.kind {
-        Kind::Minus => Ok(Parser {
-            around,
-            expect: Expect::Number { coefs, relation },
+        Kind::Minus => Ok(Expect::Atom {
+            coefs,
+            next: Next::Number { relation },
         }),
         _ => at_number(alloc, around, coefs, relation, false, token),
     }
@@ -230,15 +218,16 @@ fn constant_of(relation: Relation, negative: bool, token: Token<'_>) -> Result<i
 
 fn at_number<'a>(
     alloc: Global,
-    around: Around,
+    around: &mut Around,
     coefs: Vec<i64>,
     relation: Relation,
     negative: bool,
     token: Token<'a>,
-) -> Result<Parser<'a>, ReadPred>
+) -> Result<Expect<'a>, ReadPred>
     requires { All (λ a. nat_abs a ≤ COEFFICIENT_LIMIT) coefs.items }
-    ensures { GivesParsed progress_of result
-        (number_step (around_of around) coefs.items relation negative token.entry.place (symbol_of token.entry.kind)) }
+    ensures { GivesParsed (λ e. going_on (around_of around.new) (next_expected e)) result
+        (number_step (around_of around.old) coefs.items relation negative token.entry.place
+        (symbol_of token.entry.kind)) }
 {
     let constant = constant_of(relation, negative, token)?;
     after_constant(alloc, around, coefs, relation, constant)
@@ -246,15 +235,15 @@ fn at_number<'a>(
 
 fn after_constant<'a>(
     alloc: Global,
-    around: Around,
+    around: &mut Around,
     coefs: Vec<i64>,
     relation: Relation,
     constant: i64,
-) -> Result<Parser<'a>, ReadPred>
+) -> Result<Expect<'a>, ReadPred>
     requires coefs { All (λ a. nat_abs a ≤ COEFFICIENT_LIMIT) coefs.items }
     requires constant { nat_abs constant ≤ limit_of relation }
-    ensures { GivesParsed progress_of result
-        (Ok (progress_after_constant (around_of around) coefs.items relation constant)) }
+    ensures { GivesParsed (λ e. going_on (around_of around.new) (next_expected e)) result
+        (Ok (progress_after_constant (around_of around.old) coefs.items relation constant)) }
 {
     let unequal = match relation {
         Relation::Equal => false,
@@ -264,35 +253,30 @@ fn after_constant<'a>(
             return after_unit(alloc, around, tree);
         }
     };
-    let expect = Expect::Modulo {
+    Ok(Expect::Atom {
         coefs,
-        unequal,
-        constant,
-    };
-    Ok(Parser { around, expect })
+        next: Next::Modulo { unequal, constant },
+    })
 }
 
 fn at_modulo<'a>(
     alloc: Global,
-    around: Around,
+    around: &mut Around,
     coefs: Vec<i64>,
     unequal: bool,
     constant: i64,
     token: Token<'a>,
-) -> Result<Parser<'a>, ReadPred>
+) -> Result<Expect<'a>, ReadPred>
     requires coefs { All (λ a. nat_abs a ≤ COEFFICIENT_LIMIT) coefs.items }
     requires constant { nat_abs constant ≤ BOUND_LIMIT - 1 }
-    ensures { GivesParsed progress_of result
-        (modulo_step (around_of around) coefs.items unequal constant token.entry.place (symbol_of token.entry.kind)) }
+    ensures { GivesParsed (λ e. going_on (around_of around.new) (next_expected e)) result
+        (modulo_step (around_of around.old) coefs.items unequal constant token.entry.place
+        (symbol_of token.entry.kind)) }
 {
     match token.kind {
-        Kind::Mod => Ok(Parser {
-            around,
-            expect: Expect::Modulus {
-                coefs,
-                unequal,
-                constant,
-            },
+        Kind::Mod => Ok(Expect::Atom {
+            coefs,
+            next: Next::Modulus { unequal, constant },
         }),
         _ => after_equality(alloc, around, coefs, unequal, constant, token),
     }
@@ -300,39 +284,35 @@ fn at_modulo<'a>(
 
 fn after_equality<'a>(
     alloc: Global,
-    around: Around,
+    around: &mut Around,
     coefs: Vec<i64>,
     unequal: bool,
     constant: i64,
     token: Token<'a>,
-) -> Result<Parser<'a>, ReadPred>
+) -> Result<Expect<'a>, ReadPred>
     requires coefs { All (λ a. nat_abs a ≤ COEFFICIENT_LIMIT) coefs.items }
     requires constant { nat_abs constant ≤ BOUND_LIMIT - 1 }
-    ensures { GivesParsed progress_of result
-        (equality_step (around_of around) coefs.items unequal constant token.entry.place (symbol_of token.entry.kind)) }
+    ensures { GivesParsed (λ e. going_on (around_of around.new) (next_expected e)) result
+        (equality_step (around_of around.old) coefs.items unequal constant token.entry.place
+        (symbol_of token.entry.kind)) }
 {
-    let Around { above, level } = around;
-    let (ors, tree) = compared_up_to(alloc, level, coefs, unequal, constant)?;
-    at_sign(alloc, above, ors, tree, token)
+    let tree = plain_equality(alloc, coefs, unequal, constant)?;
+    let tree = up_to_unit(alloc, &mut around.level, tree)?;
+    at_sign(alloc, around, tree, token)
 }
 
-// The disjunction before an atom without a modulus, and the conjunction up to it.
-fn compared_up_to(
+/// The tree of an atom without a modulus.
+fn plain_equality(
     alloc: Global,
-    level: Level,
     coefs: Vec<i64>,
     unequal: bool,
     constant: i64,
-) -> Result<(Option<Tree>, Tree), NoMemory>
+) -> Result<Tree, NoMemory>
     requires coefs { All (λ a. nat_abs a ≤ COEFFICIENT_LIMIT) coefs.items }
     requires constant { nat_abs constant ≤ BOUND_LIMIT - 1 }
-    ensures ors { IfOk result (λ found. option_map tree_of found.0 ≡ option_map tree_of level.ors) }
-    ensures tree { IfOk result
-        (λ found. tree_of found.1
-        ≡ tree_up_to_unit (span_of_level level) (negation_if unequal (equality_tree coefs.items constant))) }
+    ensures { IfOk result (λ tree. tree_of tree ≡ negation_if unequal (equality_tree coefs.items constant)) }
 {
-    let tree = equality(alloc, coefs, constant)?;
-    up_to_unit(alloc, level, negated_if(alloc, unequal, tree)?)
+    negated_if(alloc, unequal, equality(alloc, coefs, constant)?)
 }
 
 /// The tree of a congruence whose modulus is the token, wherever it stands.
@@ -360,104 +340,146 @@ fn congruence(
 
 fn at_modulus<'a>(
     alloc: Global,
-    around: Around,
+    around: &mut Around,
     coefs: Vec<i64>,
     unequal: bool,
     constant: i64,
     token: Token<'a>,
-) -> Result<Parser<'a>, ReadPred>
-    ensures { GivesParsed progress_of result
-        (modulus_step (around_of around) coefs.items unequal constant token.entry.place (symbol_of token.entry.kind)) }
+) -> Result<Expect<'a>, ReadPred>
+    ensures { GivesParsed (λ e. going_on (around_of around.new) (next_expected e)) result
+        (modulus_step (around_of around.old) coefs.items unequal constant token.entry.place
+        (symbol_of token.entry.kind)) }
 {
     let tree = congruence(alloc, coefs, unequal, constant, token)?;
     after_unit(alloc, around, tree)
+}
+
+fn in_atom<'a>(
+    alloc: Global,
+    names: &List<Text>,
+    around: &mut Around,
+    coefs: Vec<i64>,
+    next: Next<'a>,
+    token: Token<'a>,
+) -> Result<Expect<'a>, ReadPred>
+    requires next { HasNext (length names.now) (next_in_atom coefs.items next) }
+    ensures { GivesParsed (λ e. going_on (around_of around.new) (next_expected e)) result
+        (by_next names.now (around_of around.old) (next_in_atom coefs.items next.entry) token.entry.place
+        (symbol_of token.entry.kind)) }
+{
+    match next {
+        Next::Term { negative } => at_term(names, coefs, negative, token),
+        Next::Star { factor } => at_star(coefs, factor, token),
+        Next::Name { factor } => at_name(names, coefs, factor, token),
+        Next::Relation => at_relation(coefs, token),
+        Next::Constant { relation } => at_constant(alloc, around, coefs, relation, token),
+        Next::Number { relation } => at_number(alloc, around, coefs, relation, true, token),
+        Next::Modulo { unequal, constant } => at_modulo(
+            alloc, around, coefs, unequal, constant, token,
+        ),
+        Next::Modulus { unequal, constant } => at_modulus(
+            alloc, around, coefs, unequal, constant, token,
+        ),
+    }
+}
+
+/// What comes after a further token.
+#[tactic(auto, unfolding(crate::specs::Reading::step))]
+pub(crate) fn after_token<'a>(
+    alloc: Global,
+    names: &List<Text>,
+    around: &mut Around,
+    expect: Expect<'a>,
+    token: Token<'a>,
+) -> Result<Expect<'a>, ReadPred>
+    requires nots { around.old.level.nots ≤ WEIGHT_LIMIT }
+    requires next { HasNext (length names.now) (next_expected expect) }
+    ensures { GivesParsed (λ e. going_on (around_of around.new) (next_expected e)) result
+        (step names.now (going_on (around_of around.old) (next_expected expect.entry)) (token_of token.entry)) }
+{
+    match expect {
+        Expect::Unit => at_unit(alloc, names, around, token),
+        Expect::Atom { coefs, next } => in_atom(alloc, names, around, coefs, next, token),
+        Expect::Sign { tree } => at_sign(alloc, around, tree, token),
+    }
+}
+
+/// The tree where the text ends.
+#[tactic(auto, unfolding(crate::specs::Reading::finish))]
+fn at_end(
+    alloc: Global,
+    names: &List<Text>,
+    around: &mut Around,
+    expect: Expect<'_>,
+    end: u32,
+) -> Result<Tree, ReadPred>
+    requires next { HasNext (length names.now) (next_expected expect) }
+    ensures { GivesParsed tree_of result (finish (going_on (around_of around.old) (next_expected expect.entry)) end) }
+{
+    match expect {
+        Expect::Unit => Err(ReadPred::Syntax(end)),
+        Expect::Atom { coefs, next } => end_of_atom(alloc, names, around, coefs, next, end),
+        Expect::Sign { tree } => ended(alloc, around, tree, end),
+    }
+}
+
+/// The tree where the text ends in an atom.
+fn end_of_atom(
+    alloc: Global,
+    names: &List<Text>,
+    around: &mut Around,
+    coefs: Vec<i64>,
+    next: Next<'_>,
+    end: u32,
+) -> Result<Tree, ReadPred>
+    requires next { HasNext (length names.now) (next_in_atom coefs.items next) }
+    ensures { GivesParsed tree_of result
+        (finish_by (around_of around.old) (next_in_atom coefs.items next.entry) end) }
+{
+    let Next::Modulo { unequal, constant } = next else {
+        return Err(ReadPred::Syntax(end));
+    };
+    let tree = plain_equality(alloc, coefs, unequal, constant)?;
+    let tree = up_to_unit(alloc, &mut around.level, tree)?;
+    ended(alloc, around, tree, end)
 }
 
 impl<'a> Parser<'a> {
     pub fn new(alloc: Global) -> Parser<'a>
         ensures { progress_of result ≡ start }
     {
-        let level = Level {
-            ors: None,
-            ands: None,
-            nots: 0,
-        };
         Parser {
             around: Around {
                 above: Vec::new(alloc),
-                level,
+                level: Level::new(),
             },
             expect: Expect::Unit,
         }
     }
 
     /// The reader after a further token.
-    #[tactic(auto, unfolding(crate::specs::Reading::step))]
     pub fn take(
-        self,
+        &mut self,
         alloc: Global,
         names: &List<Text>,
         token: Token<'a>,
-    ) -> Result<Parser<'a>, ReadPred>
-        requires nots { self.around.level.nots ≤ WEIGHT_LIMIT }
-        requires next { HasNext (length names.now) (next_expected self.expect) }
-        ensures { GivesParsed progress_of result (step names.now (progress_of self.entry) (token_of token.entry)) }
+    ) -> Result<(), ReadPred>
+        requires nots { self.old.around.level.nots ≤ WEIGHT_LIMIT }
+        requires next { HasNext (length names.now) (next_expected self.old.expect) }
+        ensures { GivesParsed (λ _. progress_of self.new) result
+            (step names.now (progress_of self.old) (token_of token.entry)) }
     {
-        let Parser { around, expect } = self;
-        match expect {
-            Expect::Unit => at_unit(alloc, names, around, token),
-            Expect::Term { coefs, negative } => awaiting(
-                around,
-                at_term(names, coefs, negative, token),
-            ),
-            Expect::Star { coefs, factor } => awaiting(around, at_star(coefs, factor, token)),
-            Expect::Name { coefs, factor } => awaiting(
-                around,
-                at_name(names, coefs, factor, token),
-            ),
-            Expect::Relation { coefs } => awaiting(around, at_relation(coefs, token)),
-            Expect::Constant { coefs, relation } => at_constant(
-                alloc, around, coefs, relation, token,
-            ),
-            Expect::Number { coefs, relation } => at_number(
-                alloc, around, coefs, relation, true, token,
-            ),
-            Expect::Modulo {
-                coefs,
-                unequal,
-                constant,
-            } => at_modulo(alloc, around, coefs, unequal, constant, token),
-            Expect::Modulus {
-                coefs,
-                unequal,
-                constant,
-            } => at_modulus(alloc, around, coefs, unequal, constant, token),
-            Expect::Sign { tree } => {
-                let Around { above, level } = around;
-                at_sign(alloc, above, level.ors, tree, token)
-            }
-        }
+        let expect = mem::replace(&mut self.expect, Expect::Unit);
+        self.expect = after_token(alloc, names, &mut self.around, expect, token)?;
+        Ok(())
     }
 
     /// The tree at the end of the text.
-    #[tactic(auto, unfolding(crate::specs::Reading::finish))]
     pub fn finish(self, alloc: Global, names: &List<Text>, end: u32) -> Result<Tree, ReadPred>
         requires next { HasNext (length names.now) (next_expected self.expect) }
         ensures { GivesParsed tree_of result (finish (progress_of self.entry) end) }
     {
-        let Parser { around, expect } = self;
-        let Around { above, level } = around;
-        match expect {
-            Expect::Modulo {
-                coefs,
-                unequal,
-                constant,
-            } => {
-                let (ors, tree) = compared_up_to(alloc, level, coefs, unequal, constant)?;
-                ended(alloc, above, ors, tree, end)
-            }
-            Expect::Sign { tree } => ended(alloc, above, level.ors, tree, end),
-            _ => Err(ReadPred::Syntax(end)),
-        }
+        let Parser { mut around, expect } = self;
+        at_end(alloc, names, &mut around, expect, end)
     }
 }

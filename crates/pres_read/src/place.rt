@@ -1,5 +1,9 @@
 //! Where a reader stands in a predicate's text.
 
+ghost use Rattle.std.specs.Prelude.{◌≡◌};
+ghost use Rattle.pres_read.specs.Progress.{clear};
+ghost use Rattle.pres_read.specs.Views.{span_of_level};
+
 use pres_ast::Tree;
 use pres_tokens::Relation;
 
@@ -10,6 +14,19 @@ pub(crate) struct Level {
     pub ors: Option<Tree>,
     pub ands: Option<Tree>,
     pub nots: u32,
+}
+
+impl Level {
+    /// The level after an open parenthesis.
+    pub fn new() -> Level
+        ensures { span_of_level result ≡ clear }
+    {
+        Level {
+            ors: None,
+            ands: None,
+            nots: 0,
+        }
+    }
 }
 
 /// What stands around a unit. The level of the innermost open parenthesis is the last one.
@@ -27,49 +44,49 @@ pub(crate) struct Factor<'a> {
     pub place: u32,
 }
 
-/// What comes next, and what the atom's tokens so far have given.
+/// What comes next. Inside an atom, `coefs` is the sum of its terms so far.
 #[derive(Drop)]
 pub(crate) enum Expect<'a> {
     Unit,
-    Term {
+    Atom {
         coefs: Vec<i64>,
-        negative: bool,
-    },
-    Star {
-        coefs: Vec<i64>,
-        factor: Factor<'a>,
-    },
-    Name {
-        coefs: Vec<i64>,
-        factor: Factor<'a>,
-    },
-    /// A relation, or a further term.
-    Relation {
-        coefs: Vec<i64>,
-    },
-    Constant {
-        coefs: Vec<i64>,
-        relation: Relation,
-    },
-    /// A constant's number, after its `-`.
-    Number {
-        coefs: Vec<i64>,
-        relation: Relation,
-    },
-    /// `mod`, or what follows a unit.
-    Modulo {
-        coefs: Vec<i64>,
-        unequal: bool,
-        constant: i64,
-    },
-    Modulus {
-        coefs: Vec<i64>,
-        unequal: bool,
-        constant: i64,
+        next: Next<'a>,
     },
     /// `&&`, `||`, `)` or the end, after this conjunction.
     Sign {
         tree: Tree,
+    },
+}
+
+/// What comes next in an atom, and what the tokens after its last whole term have given.
+#[derive(Clone, Copy)]
+pub(crate) enum Next<'a> {
+    Term {
+        negative: bool,
+    },
+    Star {
+        factor: Factor<'a>,
+    },
+    Name {
+        factor: Factor<'a>,
+    },
+    /// A relation, or a further term.
+    Relation,
+    Constant {
+        relation: Relation,
+    },
+    /// A constant's number, after its `-`.
+    Number {
+        relation: Relation,
+    },
+    /// `mod`, or what follows a unit.
+    Modulo {
+        unequal: bool,
+        constant: i64,
+    },
+    Modulus {
+        unequal: bool,
+        constant: i64,
     },
 }
 

@@ -79,7 +79,7 @@ fn read_tree<'a>(alloc: Global, text: &'a [u8], names: &List<Text>) -> Result<Tr
     };
     let mut at = 0;
     while let Some((token, end)) = next_token(text, at) {
-        reader = reader.take(alloc, names, token)?;
+        reader.take(alloc, names, token)?;
         at = end;
     }
     reader.parser.finish(alloc, names, text.len() as u32)
@@ -92,27 +92,19 @@ struct Reader<'a> {
 }
 
 impl<'a> Reader<'a> {
-    fn take(
-        self,
-        alloc: Global,
-        names: &List<Text>,
-        token: Token<'a>,
-    ) -> Result<Reader<'a>, ReadPred>
-        requires sound { IsSoundProgress (length names.now) (progress_of self.parser) self.depth.charge }
-        requires charge { self.depth.charge ≤ WEIGHT_LIMIT }
-        requires parentheses { self.depth.parentheses ≤ PARENTHESIS_LIMIT }
-        ensures sound { IfOk result (λ r. IsSoundProgress (length names.now) (progress_of r.parser) r.depth.charge) }
-        ensures charge { IfOk result (λ r. r.depth.charge ≤ WEIGHT_LIMIT) }
-        ensures parentheses { IfOk result (λ r. r.depth.parentheses ≤ PARENTHESIS_LIMIT) }
-        ensures exact { GivesParsed (λ r. (progress_of r.parser, depth_of r.depth)) result
-            (read_on names.now (progress_of self.entry.parser) (depth_of self.entry.depth) (token_of token.entry)) }
+    fn take(&mut self, alloc: Global, names: &List<Text>, token: Token<'a>) -> Result<(), ReadPred>
+        requires sound { IsSoundProgress (length names.now) (progress_of self.old.parser) self.old.depth.charge }
+        requires charge { self.old.depth.charge ≤ WEIGHT_LIMIT }
+        requires parentheses { self.old.depth.parentheses ≤ PARENTHESIS_LIMIT }
+        ensures sound { IfOk result
+            (λ _. IsSoundProgress (length names.now) (progress_of self.new.parser) self.new.depth.charge) }
+        ensures charge { IfOk result (λ _. self.new.depth.charge ≤ WEIGHT_LIMIT) }
+        ensures parentheses { IfOk result (λ _. self.new.depth.parentheses ≤ PARENTHESIS_LIMIT) }
+        ensures exact { GivesParsed (λ _. (progress_of self.new.parser, depth_of self.new.depth)) result
+            (read_on names.now (progress_of self.old.parser) (depth_of self.old.depth) (token_of token.entry)) }
     {
-        let Reader { parser, depth } = self;
-        let after = depth.after(token);
-        let parser = parser.take(alloc, names, token)?;
-        match after {
-            Ok(depth) => Ok(Reader { parser, depth }),
-            Err(fault) => Err(fault),
-        }
+        self.parser.take(alloc, names, token)?;
+        self.depth = self.depth.after(token)?;
+        Ok(())
     }
 }
