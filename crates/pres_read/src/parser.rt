@@ -1,6 +1,6 @@
 //! One token further.
 
-ghost use Rattle.std.specs.Prelude.{◌≡◌, ◌≤◌, ◌-◌, Ok, List as Items, ℤ, All, nat_abs, IfOk, length, option_map};
+ghost use Rattle.std.specs.Prelude.{◌≡◌, ◌≤◌, ◌-◌, Ok, List as Items, ℤ, All, nat_abs, IfOk, length};
 ghost use Rattle.pres_ast.specs.declared.limits.TheConstants.{WEIGHT_LIMIT};
 ghost use Rattle.pres_ast.specs.PredModel.{AreCoefs};
 ghost use Rattle.pres_ast.specs.TreeOf.{tree_of};
@@ -12,17 +12,17 @@ ghost use Rattle.pres_read.specs.Reading.{star_step, name_step, relation_step};
 ghost use Rattle.pres_read.specs.Reading.{constant_step, number_step, modulo_step, after_sum};
 ghost use Rattle.pres_read.specs.Reading.{equality_step, modulus_step, by_next, step, finish_by, finish, going_on};
 ghost use Rattle.pres_read.specs.Reading.{progress_after_constant, progress_after_unit};
-ghost use Rattle.pres_read.specs.Atoms.{added, limit_of, negation_if, equality_tree};
+ghost use Rattle.pres_read.specs.Atoms.{added, limit_of};
 ghost use Rattle.pres_read.specs.Sound.{HasNext};
 ghost use Rattle.pres_read.specs.Views.{factor_of, around_of, progress_of, next_in_atom, next_expected};
 
-use crate::atom::{compared, congruent, constant_limit, equality, negated_if};
+use crate::atom::{compared, congruent, constant_limit, equal};
 use crate::fault::ReadPred;
 use crate::number::number_within;
 use crate::place::{Around, Expect, Factor, Level, Next, Parser};
 use crate::sum::{signed, with_term};
 use crate::unit::{after_unit, at_sign, ended, up_to_unit};
-use pop_io::{List, NoMemory, Text};
+use pop_io::{List, Text};
 use pres_ast::{BOUND_LIMIT, COEFFICIENT_LIMIT, MODULUS_LIMIT, Tree};
 use pres_tokens::{Kind, Relation, Token};
 use std::alloc::{AllocError, Global};
@@ -296,23 +296,9 @@ fn after_equality<'a>(
         (equality_step (around_of around.old) coefs.items unequal constant token.entry.place
         (symbol_of token.entry.kind)) }
 {
-    let tree = plain_equality(alloc, coefs, unequal, constant)?;
+    let tree = equal(alloc, coefs, unequal, constant)?;
     let tree = up_to_unit(alloc, &mut around.level, tree)?;
     at_sign(alloc, around, tree, token)
-}
-
-/// The tree of an atom without a modulus.
-fn plain_equality(
-    alloc: Global,
-    coefs: Vec<i64>,
-    unequal: bool,
-    constant: i64,
-) -> Result<Tree, NoMemory>
-    requires coefs { All (λ a. nat_abs a ≤ COEFFICIENT_LIMIT) coefs.items }
-    requires constant { nat_abs constant ≤ BOUND_LIMIT - 1 }
-    ensures { IfOk result (λ tree. tree_of tree ≡ negation_if unequal (equality_tree coefs.items constant)) }
-{
-    negated_if(alloc, unequal, equality(alloc, coefs, constant)?)
 }
 
 /// The tree of a congruence whose modulus is the token, wherever it stands.
@@ -439,7 +425,7 @@ fn end_of_atom(
     let Next::Modulo { unequal, constant } = next else {
         return Err(ReadPred::Syntax(end));
     };
-    let tree = plain_equality(alloc, coefs, unequal, constant)?;
+    let tree = equal(alloc, coefs, unequal, constant)?;
     let tree = up_to_unit(alloc, &mut around.level, tree)?;
     ended(alloc, around, tree, end)
 }

@@ -48,46 +48,25 @@ pub(crate) struct Factor<'a> {
 #[derive(Drop)]
 pub(crate) enum Expect<'a> {
     Unit,
-    Atom {
-        coefs: Vec<i64>,
-        next: Next<'a>,
-    },
+    Atom { coefs: Vec<i64>, next: Next<'a> },
     /// `&&`, `||`, `)` or the end, after this conjunction.
-    Sign {
-        tree: Tree,
-    },
+    Sign { tree: Tree },
 }
 
 /// What comes next in an atom, and what the tokens after its last whole term have given.
 #[derive(Clone, Copy)]
 pub(crate) enum Next<'a> {
-    Term {
-        negative: bool,
-    },
-    Star {
-        factor: Factor<'a>,
-    },
-    Name {
-        factor: Factor<'a>,
-    },
+    Term { negative: bool },
+    Star { factor: Factor<'a> },
+    Name { factor: Factor<'a> },
     /// A relation, or a further term.
     Relation,
-    Constant {
-        relation: Relation,
-    },
+    Constant { relation: Relation },
     /// A constant's number, after its `-`.
-    Number {
-        relation: Relation,
-    },
+    Number { relation: Relation },
     /// `mod`, or what follows a unit.
-    Modulo {
-        unequal: bool,
-        constant: i64,
-    },
-    Modulus {
-        unequal: bool,
-        constant: i64,
-    },
+    Modulo { unequal: bool, constant: i64 },
+    Modulus { unequal: bool, constant: i64 },
 }
 
 #[derive(Drop)]
