@@ -1,9 +1,11 @@
 //! Units, and the signs before and after them.
 
-ghost use Rattle.std.specs.Prelude.{◌≡◌, None, Ok, IfOk, option_map};
+ghost use Rattle.std.specs.Prelude.{◌≡◌, None, Some, Ok, IfOk, option_map};
+ghost use Rattle.pres_ast.specs.PredTree.{PredTree};
 ghost use Rattle.pres_ast.specs.TreeOf.{tree_of};
 ghost use Rattle.pres_tokens.specs.Symbols.{symbol_of};
 ghost use Rattle.pres_read.specs.Outcome.{GivesParsed};
+ghost use Rattle.pres_read.specs.Progress.{AUnit};
 ghost use Rattle.pres_read.specs.Reading.{negation, conjunction, disjunction, tree_up_to_unit, progress_after_unit};
 ghost use Rattle.pres_read.specs.Reading.{sign_step, end_step, close_step, going_on};
 ghost use Rattle.pres_read.specs.Views.{span_of_level, spans_of, around_of, next_expected};
@@ -80,26 +82,35 @@ pub(crate) fn at_sign<'a>(
         token.entry.place (symbol_of token.entry.kind)) }
 {
     match token.kind {
-        Kind::And => {
-            around.level = Level {
-                ors: around.level.ors.take(),
-                ands: Some(tree),
-                nots: 0,
-            };
-            Ok(Expect::Unit)
-        }
-        Kind::Or => {
-            let left = disjoined(alloc, around.level.ors.take(), tree)?;
-            around.level = Level {
-                ors: Some(left),
-                ands: None,
-                nots: 0,
-            };
-            Ok(Expect::Unit)
-        }
+        Kind::And => Ok(after_and(around, tree)),
+        Kind::Or => after_or(alloc, around, tree),
         Kind::Close => closed(alloc, around, tree, token.place),
         _ => Err(ReadPred::Syntax(token.place)),
     }
+}
+
+fn after_and<'a>(around: &mut Around, tree: Tree) -> Expect<'a>
+    ensures { going_on (around_of around.new) (next_expected result)
+        ≡ going_on (record { above = spans_of around.old.above;
+        span = record { ors = option_map tree_of around.old.level.ors; ands = Some (tree_of tree); nots = 0 } }) AUnit }
+{
+    around.level.ands = Some(tree);
+    around.level.nots = 0;
+    Expect::Unit
+}
+
+fn after_or<'a>(alloc: Global, around: &mut Around, tree: Tree) -> Result<Expect<'a>, ReadPred>
+    ensures { GivesParsed (λ e. going_on (around_of around.new) (next_expected e)) result
+        (Ok (going_on (record { above = spans_of around.old.above; span = record {
+        ors = Some (disjunction (option_map tree_of around.old.level.ors) (tree_of tree)); ands = None; nots = 0 } }) AUnit)) }
+{
+    let left = disjoined(alloc, around.level.ors.take(), tree)?;
+    around.level = Level {
+        ors: Some(left),
+        ands: None,
+        nots: 0,
+    };
+    Ok(Expect::Unit)
 }
 
 /// What comes after a `)`, which makes a unit of the disjunction before it.
@@ -114,11 +125,20 @@ fn closed<'a>(
         place) }
 {
     let tree = disjoined(alloc, around.level.ors.take(), tree)?;
-    around.level = match around.above.pop() {
-        Some(level) => level,
-        None => return Err(ReadPred::Syntax(place)),
-    };
+    leave(around, place)?;
     after_unit(alloc, around, tree)
+}
+
+/// Goes back to the level around the innermost open parenthesis.
+fn leave(around: &mut Around, place: u32) -> Result<(), ReadPred>
+    ensures { (p : PredTree) → GivesParsed (λ _. progress_after_unit (around_of around.new) p) result
+        (close_step (spans_of around.old.above) p place) }
+{
+    let Some(level) = around.above.pop() else {
+        return Err(ReadPred::Syntax(place));
+    };
+    around.level = level;
+    Ok(())
 }
 
 /// The end of the text after a conjunction of units.
