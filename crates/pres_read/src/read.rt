@@ -1,6 +1,7 @@
 //! Reading a predicate.
 
 ghost use Rattle.std.specs.Prelude.{◌≡◌, ◌≤◌, IfOk, IfErr, IfSome, length};
+ghost use Rattle.pop_io.specs.Gives.{Fails};
 ghost use Rattle.pop_io.specs.Names.{variable_name, AreNames};
 ghost use Rattle.pres_ast.specs.PredTree.{PredTree};
 ghost use Rattle.pres_ast.specs.PredModel.{IsPred};
@@ -10,7 +11,7 @@ ghost use Rattle.pres_tokens.specs.Symbols.{token_of};
 ghost use Rattle.pres_read.specs.Outcome.{GivesParsed, text_fault_of};
 ghost use Rattle.pres_read.specs.Progress.{start};
 ghost use Rattle.pres_read.specs.Depth.{surface};
-ghost use Rattle.pres_read.specs.Reading.{run, read_on, pred_read};
+ghost use Rattle.pres_read.specs.Reading.{run, finish, read_on, pred_read};
 ghost use Rattle.pres_read.specs.Grammar.{APred, Phrase, symbols, meaning, Derives};
 ghost use Rattle.pres_read.specs.Faults.{IsReadFault};
 ghost use Rattle.pres_read.specs.Texts.{text_symbols, IsReadAs, IsReadTo};
@@ -77,11 +78,7 @@ fn read_tree<'a>(alloc: Global, text: &'a [u8], names: &List<Text>) -> Result<Tr
         parser: Parser::new(alloc),
         depth: Depth::new(),
     };
-    let mut at = 0;
-    while let Some((token, end)) = next_token(text, at) {
-        reader.take(alloc, names, token)?;
-        at = end;
-    }
+    reader.take_all(alloc, text, names)?;
     reader.parser.finish(alloc, names, text.len() as u32)
 }
 
@@ -92,6 +89,35 @@ struct Reader<'a> {
 }
 
 impl<'a> Reader<'a> {
+    /// Takes the tokens of a text.
+    fn take_all(
+        &mut self,
+        alloc: Global,
+        text: &'a [u8],
+        names: &List<Text>,
+    ) -> Result<(), ReadPred>
+        requires short { length text.now ≤ TEXT_LIMIT }
+        requires sound { IsSoundProgress (length names.now) (progress_of self.old.parser) self.old.depth.charge }
+        requires charge { self.old.depth.charge ≤ WEIGHT_LIMIT }
+        requires parentheses { self.old.depth.parentheses ≤ PARENTHESIS_LIMIT }
+        ensures sound { IfOk result
+            (λ _. IsSoundProgress (length names.now) (progress_of self.new.parser) self.new.depth.charge) }
+        ensures charge { IfOk result (λ _. self.new.depth.charge ≤ WEIGHT_LIMIT) }
+        ensures goes { IfOk result
+            (λ _. run names.now (length text.now) (progress_of self.old.parser) (depth_of self.old.depth) (tokens_of text.now)
+            ≡ finish (progress_of self.new.parser) (length text.now)) }
+        ensures fails { IfErr result
+            (λ e. Fails text_fault_of e
+            (run names.now (length text.now) (progress_of self.old.parser) (depth_of self.old.depth) (tokens_of text.now))) }
+    {
+        let mut at = 0;
+        while let Some((token, end)) = next_token(text, at) {
+            self.take(alloc, names, token)?;
+            at = end;
+        }
+        Ok(())
+    }
+
     fn take(&mut self, alloc: Global, names: &List<Text>, token: Token<'a>) -> Result<(), ReadPred>
         requires sound { IsSoundProgress (length names.now) (progress_of self.old.parser) self.old.depth.charge }
         requires charge { self.old.depth.charge ≤ WEIGHT_LIMIT }

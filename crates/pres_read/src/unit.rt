@@ -91,8 +91,10 @@ pub(crate) fn at_sign<'a>(
 
 fn after_and<'a>(around: &mut Around, tree: Tree) -> Expect<'a>
     ensures { going_on (around_of around.new) (next_expected result)
-        ≡ going_on (record { above = spans_of around.old.above;
-        span = record { ors = option_map tree_of around.old.level.ors; ands = Some (tree_of tree); nots = 0 } }) AUnit }
+        ≡ going_on (record {
+          above = spans_of around.old.above;
+          span = record { ors = option_map tree_of around.old.level.ors; ands = Some (tree_of tree); nots = 0 };
+        }) AUnit }
 {
     around.level.ands = Some(tree);
     around.level.nots = 0;
@@ -101,8 +103,14 @@ fn after_and<'a>(around: &mut Around, tree: Tree) -> Expect<'a>
 
 fn after_or<'a>(alloc: Global, around: &mut Around, tree: Tree) -> Result<Expect<'a>, ReadPred>
     ensures { GivesParsed (λ e. going_on (around_of around.new) (next_expected e)) result
-        (Ok (going_on (record { above = spans_of around.old.above; span = record {
-        ors = Some (disjunction (option_map tree_of around.old.level.ors) (tree_of tree)); ands = None; nots = 0 } }) AUnit)) }
+        (Ok (going_on (record {
+          above = spans_of around.old.above;
+          span = record {
+            ors = Some (disjunction (option_map tree_of around.old.level.ors) (tree_of tree));
+            ands = None;
+            nots = 0;
+          };
+        }) AUnit)) }
 {
     let left = disjoined(alloc, around.level.ors.take(), tree)?;
     around.level = Level {
