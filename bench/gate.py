@@ -1,9 +1,10 @@
 """Runs the merge gate from nothing in a clone, and prints the processor minutes of each crate's proofs, tests and edits,
 and those of the seed of its edits: the check of the crate as it stands with which they begin.
 
-Usage: python3 bench/gate.py [FOLDER]
+Usage: python3 bench/gate.py [FOLDER [COMMIT]]
 
-The clone is made in FOLDER, or in a new temporary folder. `rt ci --anew` proves and tries all, whatever earlier runs kept.
+The clone is made in FOLDER, or in a new temporary folder. `rt ci --anew` proves and tries all, whatever earlier runs kept. With a COMMIT it is that
+one's gate, so that an earlier gate and this one can be measured on one machine.
 A process counts for the crate that its command line names. Times are read twice a second, so the last half second of each
 process is missing; what a process took that names no crate stands in the last line.
 
@@ -127,6 +128,8 @@ def main():
     top = Path(__file__).resolve().parent.parent
     folder = sys.argv[1] if len(sys.argv) > 1 else tempfile.mkdtemp()
     subprocess.run(["git", "clone", "-q", str(top), folder], check=True)
+    if len(sys.argv) > 2:
+        subprocess.run(["git", "checkout", "-q", sys.argv[2]], cwd=folder, check=True)
     gauge = Gauge(top, f"{folder}-gauge")
     start = time.time()
     gate = subprocess.Popen(["rt", "ci", "--anew"], cwd=folder, stdout=sys.stderr)
