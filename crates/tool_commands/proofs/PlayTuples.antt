@@ -16,6 +16,7 @@ use Rattle.pop_words.specs.declared.meeting.MeetingFault.{MeetingFault}
 use Rattle.pop_words.specs.declared.meeting.MeetingFault.TheVariants as meeting
 use Rattle.tool_texts.specs.Steps.{◌>>=◌}
 use Rattle.tool_texts.proofs.Goes.{bind_ok, same_ok}
+use Rattle.tool_commands.specs.declared.play.TheConstants.{MEETINGS_LINE}
 use Rattle.tool_commands.specs.Start.{net_in, fitting_in, crowd_in, start_in}
 use Rattle.tool_commands.specs.Play.{between, paired, meetings_in, played, end_crowd}
 
@@ -65,8 +66,8 @@ start_tuples net line crowd e =
 played_tuples : (net : NetModel) (start : CrowdModel) (lines : List (List ℕ)) (end : CrowdModel) → All (IsTuple net) start → played net start lines ≡ Ok end → All (IsTuple net) end
 unfolding played
 played_tuples net start lines end tuples e =
-    let m = bind_ok (meetings_in (length start) 3 lines) (λ meetings. Ok (replay net meetings start)) end e in
-    let r = replay_leads net m.0 start tuples (meetings_are (length start) 3 lines m.0 m.1) in
+    let m = bind_ok (meetings_in (length start) MEETINGS_LINE lines) (λ meetings. Ok (replay net meetings start)) end e in
+    let r = replay_leads net m.0 start tuples (meetings_are (length start) MEETINGS_LINE lines m.0 m.1) in
     subst (All (IsTuple net)) (same_ok (replay net m.0 start) end m.2) (reachable_tuples net start (replay net m.0 start) tuples (r.0, r.2))
 
 -- the start crowd of a net line and a crowd line has one state per leaf in each tuple

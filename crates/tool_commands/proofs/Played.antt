@@ -15,6 +15,7 @@ use Rattle.pop_words.specs.Counts.{counts_of}
 use Rattle.pop_words.specs.Meetings.{meeting_of}
 use Rattle.tool_texts.specs.declared.refusal.Refusal.{Refusal}
 use Rattle.tool_texts.specs.Steps.{◌>>=◌}
+use Rattle.tool_commands.specs.declared.play.TheConstants.{MEETINGS_LINE}
 use Rattle.tool_commands.specs.Eval.{counted}
 use Rattle.tool_commands.specs.Start.{fitting_in}
 use Rattle.tool_commands.proofs.InputSize.{length-input_crowd}
@@ -37,7 +38,7 @@ pub record Playing (same : Type 0) (valid : Type 0) (agents n number left lines 
   pub so_far : same
   pub words : valid
   pub crowd : n ≡ agents
-  pub counted_lines : number + left ≡ 3 + lines
+  pub counted_lines : number + left ≡ MEETINGS_LINE + lines
 
 nested : (net : NetModel) (crowd : CrowdModel) (pair : ℕ × ℕ) (r : Result (List Meeting) Refusal)
     → ((r >>= λ more. Ok (between pair ∷ more)) >>= λ meetings. Ok (replay net meetings crowd)) ≡ (r >>= λ meetings. Ok (replay net meetings (after_meeting net pair.0 pair.1 crowd)))

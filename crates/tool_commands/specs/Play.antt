@@ -17,6 +17,7 @@ use Rattle.tool_texts.specs.declared.refusal.LineWhy.TheVariants.{Form, Agents}
 use Rattle.tool_texts.specs.Steps.{◌>>=◌, After}
 use Rattle.tool_texts.specs.Lines.{two_and_more}
 use Rattle.tool_texts.specs.Json.{HasValue}
+use Rattle.tool_commands.specs.declared.play.TheConstants.{MEETINGS_LINE}
 use Rattle.tool_commands.specs.Start.{start_in}
 use Rattle.tool_texts.specs.declared.output.Output.{Output}
 use Rattle.tool_texts.specs.declared.output.Ending.TheVariants.{Done}
@@ -37,9 +38,9 @@ meetings_in agents number [] = Ok []
 meetings_in agents number (line ∷ lines) =
     paired number (meeting_of agents line) >>= λ pair. meetings_in agents (number + 1) lines >>= λ more. Ok (between pair ∷ more)
 
--- the crowd after the meetings of these lines, which are the input's from line 3 on
+-- the crowd after the meetings of these lines, of which the first has the number MEETINGS_LINE
 unfoldable pub played : NetModel → CrowdModel → List (List ℕ) → Result CrowdModel Refusal
-played net crowd lines = meetings_in (length crowd) 3 lines >>= λ meetings. Ok (replay net meetings crowd)
+played net crowd lines = meetings_in (length crowd) MEETINGS_LINE lines >>= λ meetings. Ok (replay net meetings crowd)
 
 -- the net, and the crowd at the end
 unfoldable pub end_crowd : Option Data → List ℕ → List (List ℕ) → Result (NetModel × CrowdModel) Refusal

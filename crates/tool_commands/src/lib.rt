@@ -18,6 +18,7 @@ mod start;
 mod table;
 
 pub use demo::{Case, PendingDemo, make_demo};
+pub use play::MEETINGS_LINE;
 pub use prepared::{PendingRun, Prepared, Setting};
 pub use replay::JOURNAL_LINE;
 pub use run::{make_alone, make_on_threads};

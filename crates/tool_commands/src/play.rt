@@ -20,6 +20,9 @@ use std::alloc::{AllocError, Global};
 use terminal_test::enabled_pair;
 use tool_texts::{Ending, LineWhy, Output, Refusal, Stop, two_and_more_lines, value_of};
 
+/// The number of the line in which the meetings begin, behind the net and the crowd line.
+pub const MEETINGS_LINE: u64 = 3;
+
 /// The agents that the line of this number names.
 fn pair_of(line: &[u8], agents: u32, number: u64) -> Result<(u32, u32), Stop>
     ensures pair { GivesStep (λ pair. (pair.0, pair.1)) result (paired number (meeting_of agents line.now)) }
@@ -32,7 +35,7 @@ fn pair_of(line: &[u8], agents: u32, number: u64) -> Result<(u32, u32), Stop>
     }
 }
 
-/// The crowd after the meetings of all lines, which are the input's from line 3 on.
+/// The crowd after the meetings of all lines, of which the first has the number `MEETINGS_LINE`.
 #[tactic(auto, unfolding(crate::specs::Play::played))]
 fn end_of(net: &Net, crowd: Crowd, lines: &[u8]) -> Result<Crowd, Stop>
     requires few { length (lines_of lines.now) < 2 ^ 32 }
@@ -43,7 +46,7 @@ fn end_of(net: &Net, crowd: Crowd, lines: &[u8]) -> Result<Crowd, Stop>
 {
     let mut crowd = crowd;
     let mut rest = lines;
-    let mut number = 3u64;
+    let mut number = MEETINGS_LINE;
     'lines: while let Some((line, more)) = next_line(rest) {
         let (a, b) = pair_of(line, crowd.len(), number)?;
         crowd.meet(net, a, b);

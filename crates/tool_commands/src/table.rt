@@ -28,22 +28,22 @@ pub fn prepare_command(alloc: Global, command: Command, input: &[u8]) -> Result<
     ensures plain { IsPlain command → IfOk result NeedsNoThreads }
 {
     match command {
-        Command::Play => at_once(play(alloc, input)),
-        Command::Eval => at_once(eval(alloc, input)),
-        Command::Check => at_once(check(alloc, input)),
+        Command::Play => ready(play(alloc, input)),
+        Command::Eval => ready(eval(alloc, input)),
+        Command::Check => ready(check(alloc, input)),
         Command::Run(spec) => prepare_run(alloc, RunKind::Whole, spec, input),
         Command::Watch(spec) => prepare_run(alloc, RunKind::Watched, spec, input),
-        Command::Replay => at_once(replay(alloc, RunKind::Whole, input)),
-        Command::ReplayWatched => at_once(replay(alloc, RunKind::Watched, input)),
-        Command::Settle => at_once(settle(alloc, input)),
-        Command::Compile => at_once(compile(alloc, LeafChoice::Plain, input)),
-        Command::Flocks => at_once(compile(alloc, LeafChoice::Flocks, input)),
+        Command::Replay => ready(replay(alloc, RunKind::Whole, input)),
+        Command::ReplayWatched => ready(replay(alloc, RunKind::Watched, input)),
+        Command::Settle => ready(settle(alloc, input)),
+        Command::Compile => ready(compile(alloc, LeafChoice::Plain, input)),
+        Command::Flocks => ready(compile(alloc, LeafChoice::Flocks, input)),
         Command::Demo(number) => Ok(prepare_demo(alloc, number)?),
     }
 }
 
 /// What is prepared where the whole output is there already.
-fn at_once(output: Result<Output, Stop>) -> Result<Prepared, Stop>
+fn ready(output: Result<Output, Stop>) -> Result<Prepared, Stop>
     ensures { result ≡ ready output }
 {
     match output {

@@ -3,25 +3,25 @@ use Rattle.tool_commands.proofs.Ready.{command_ready, step_obeys}
 use Rattle.tool_commands.proofs.table.prepare_command.Goals as goal
 
 pub returns-in-Play-clause-leads : goal.returns-in-Play-clause-leads
-returns-in-Play-clause-leads c = command_ready c.args.command Play _ c.play.result c.at_once.result c.in-Play.is c.play.ensures c.at_once.ensures
+returns-in-Play-clause-leads c = command_ready c.args.command Play _ c.play.result c.ready.result c.in-Play.is c.play.ensures c.ready.ensures
 
 pub returns-in-Eval-clause-leads : goal.returns-in-Eval-clause-leads
-returns-in-Eval-clause-leads c = command_ready c.args.command Eval _ c.eval.result c.at_once-in-Eval.result c.in-Eval.is (step_obeys c.eval.result _ c.eval.ensures) c.at_once-in-Eval.ensures
+returns-in-Eval-clause-leads c = command_ready c.args.command Eval _ c.eval.result c.ready-in-Eval.result c.in-Eval.is (step_obeys c.eval.result _ c.eval.ensures) c.ready-in-Eval.ensures
 
 pub returns-in-Check-clause-leads : goal.returns-in-Check-clause-leads
-returns-in-Check-clause-leads c = command_ready c.args.command Check _ c.check.result c.at_once-in-Check.result c.in-Check.is c.check.ensures c.at_once-in-Check.ensures
+returns-in-Check-clause-leads c = command_ready c.args.command Check _ c.check.result c.ready-in-Check.result c.in-Check.is c.check.ensures c.ready-in-Check.ensures
 
 pub returns-in-Replay-clause-leads : goal.returns-in-Replay-clause-leads
-returns-in-Replay-clause-leads c = command_ready c.args.command Replay _ c.replay.result c.at_once-in-Replay.result c.in-Replay.is c.replay.ensures c.at_once-in-Replay.ensures
+returns-in-Replay-clause-leads c = command_ready c.args.command Replay _ c.replay.result c.ready-in-Replay.result c.in-Replay.is c.replay.ensures c.ready-in-Replay.ensures
 
 pub returns-in-ReplayWatched-clause-leads : goal.returns-in-ReplayWatched-clause-leads
-returns-in-ReplayWatched-clause-leads c = command_ready c.args.command ReplayWatched _ c.replay-in-ReplayWatched.result c.at_once-in-ReplayWatched.result c.in-ReplayWatched.is c.replay-in-ReplayWatched.ensures c.at_once-in-ReplayWatched.ensures
+returns-in-ReplayWatched-clause-leads c = command_ready c.args.command ReplayWatched _ c.replay-in-ReplayWatched.result c.ready-in-ReplayWatched.result c.in-ReplayWatched.is c.replay-in-ReplayWatched.ensures c.ready-in-ReplayWatched.ensures
 
 pub returns-in-Settle-clause-leads : goal.returns-in-Settle-clause-leads
-returns-in-Settle-clause-leads c = command_ready c.args.command Settle _ c.settle.result c.at_once-in-Settle.result c.in-Settle.is c.settle.ensures c.at_once-in-Settle.ensures
+returns-in-Settle-clause-leads c = command_ready c.args.command Settle _ c.settle.result c.ready-in-Settle.result c.in-Settle.is c.settle.ensures c.ready-in-Settle.ensures
 
 pub returns-in-Compile-clause-leads : goal.returns-in-Compile-clause-leads
-returns-in-Compile-clause-leads c = command_ready c.args.command Compile _ c.compile.result c.at_once-in-Compile.result c.in-Compile.is c.compile.ensures c.at_once-in-Compile.ensures
+returns-in-Compile-clause-leads c = command_ready c.args.command Compile _ c.compile.result c.ready-in-Compile.result c.in-Compile.is c.compile.ensures c.ready-in-Compile.ensures
 
 pub returns-in-Flocks-clause-leads : goal.returns-in-Flocks-clause-leads
-returns-in-Flocks-clause-leads c = command_ready c.args.command Flocks _ c.compile-in-Flocks.result c.at_once-in-Flocks.result c.in-Flocks.is c.compile-in-Flocks.ensures c.at_once-in-Flocks.ensures
+returns-in-Flocks-clause-leads c = command_ready c.args.command Flocks _ c.compile-in-Flocks.result c.ready-in-Flocks.result c.in-Flocks.is c.compile-in-Flocks.ensures c.ready-in-Flocks.ensures
