@@ -11,7 +11,6 @@ use Rattle.pop_words.specs.declared.kind.RunKind.TheVariants.{Whole, Watched}
 use Rattle.pair_workers.specs.Run.{IsRun}
 use Rattle.pair_workers.specs.WatchedRun.{IsWatchedRun, IsRunOf}
 use Rattle.pair_workers.specs.Ends.{IsRunFrom}
-use Rattle.pair_workers.specs.OneRun.{IsOnlyRunFrom}
 use Rattle.pair_workers.specs.declared.alone.RunEnd.{RunEnd}
 use Rattle.pop_watch.specs.WatchedEnds.{IsWatchedRunFrom}
 use Rattle.tool_commands.specs.declared.prepared.Setting.{Setting}
@@ -20,7 +19,7 @@ use Rattle.tool_commands.specs.Prepared.{IsRunOfSetting}
 use Rattle.tool_commands.proofs.Ends.{run_last, watched_last}
 
 module _ (setting : Setting) (crowd : List Word) (start : IsStart setting.checked.net (record { counts = setting.counts; crowd = crowd })) where
-  whole_run : setting.kind ≡ Whole → (ran : RunEnd) → IsRunFrom setting.checked.net crowd setting.spec ran → IsRunOfSetting setting ran
+  pub whole_run : setting.kind ≡ Whole → (ran : RunEnd) → IsRunFrom setting.checked.net crowd setting.spec ran → IsRunOfSetting setting ran
   whole_run kind ran is =
       let net = setting.checked.net in
       let end = crowd_of net ran.crowd in record {
@@ -41,10 +40,6 @@ module _ (setting : Setting) (crowd : List Word) (start : IsStart setting.checke
         last = watched_last net end setting.spec ran.rounds ran.end is.ends;
         valid = is.valid;
       }
-
-  pub made_alone : {E : Type 0} → setting.kind ≡ Whole → (r : Result RunEnd E) → IfOk r (IsOnlyRunFrom setting.checked.net crowd setting.spec) → IfOk r (IsRunOfSetting setting)
-  made_alone kind r is =
-      IfOk-weaker r (IsOnlyRunFrom setting.checked.net crowd setting.spec) (IsRunOfSetting setting) (λ (ran : RunEnd) only. whole_run kind ran only.run) is
 
   pub made_whole : {E : Type 0} → setting.kind ≡ Whole → (r : Result RunEnd E) → IfOk r (IsRunFrom setting.checked.net crowd setting.spec) → IfOk r (IsRunOfSetting setting)
   made_whole kind r is = IfOk-weaker r (IsRunFrom setting.checked.net crowd setting.spec) (IsRunOfSetting setting) (whole_run kind) is

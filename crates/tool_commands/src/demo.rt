@@ -183,20 +183,6 @@ fn case_output(alloc: Global, case: &Case, run: &RunEnd) -> Result<Output, NoMem
     Ok(Output::new(text, ending))
 }
 
-/// What is said of a run of a case, if it was made.
-fn demo_output(
-    alloc: Global,
-    case: &Case,
-    ran: Result<RunEnd, NoMemory>,
-) -> Result<Output, NoMemory>
-    requires case { IsCase case.now }
-    requires run { IfOk ran (IsRunOfCase case.now) }
-    ensures { IfOk result (IsDemoOutput case.now.number) }
-{
-    let end = ran?;
-    case_output(alloc, case, &end)
-}
-
 /// Makes the run of a case. It waits for no thread.
 pub fn make_demo<G: Gate>(alloc: Global, demo: PendingDemo, gate: &G) -> Result<Output, NoMemory>
     requires { CanDemo demo }
@@ -204,6 +190,6 @@ pub fn make_demo<G: Gate>(alloc: Global, demo: PendingDemo, gate: &G) -> Result<
 {
     let PendingDemo { case, crowd } = demo;
     let spec = demo_run(case.number);
-    let ran = run_alone(alloc, case.checked.net(), crowd, &spec, gate);
-    demo_output(alloc, &case, ran)
+    let end = run_alone(alloc, case.checked.net(), crowd, &spec, gate)?;
+    case_output(alloc, &case, &end)
 }

@@ -90,20 +90,6 @@ fn run_output(
     Ok(Output::new(text, ending))
 }
 
-/// The output of a run, if it was made.
-fn made_output(
-    alloc: Global,
-    lines: List<u8>,
-    setting: &Setting,
-    ran: Result<RunEnd, NoMemory>,
-) -> Result<Output, NoMemory>
-    requires { IfOk ran (IsRunOfSetting setting.now) }
-    ensures { IfOk result (IsOutputOfSetting setting.now lines) }
-{
-    let end = ran?;
-    run_output(alloc, lines, setting, &end)
-}
-
 /// Makes a whole run by one worker. It waits for no thread.
 pub fn make_alone<G: Gate>(alloc: Global, run: PendingRun, gate: &G) -> Result<Output, NoMemory>
     requires can { CanRun run }
@@ -116,8 +102,8 @@ pub fn make_alone<G: Gate>(alloc: Global, run: PendingRun, gate: &G) -> Result<O
         setting,
         crowd,
     } = run;
-    let ran = run_alone(alloc, setting.checked.net(), crowd, &setting.spec, gate);
-    made_output(alloc, lines, &setting, ran)
+    let end = run_alone(alloc, setting.checked.net(), crowd, &setting.spec, gate)?;
+    run_output(alloc, lines, &setting, &end)
 }
 
 /// A run of this setting by workers on threads.
@@ -155,8 +141,8 @@ pub fn make_on_threads<R: Threads + Wait + Sync, G: Gate>(
         setting,
         crowd,
     } = run;
-    let ran = run_on_threads(rt, alloc, &setting, crowd, gate);
-    made_output(alloc, lines, &setting, ran)
+    let end = run_on_threads(rt, alloc, &setting, crowd, gate)?;
+    run_output(alloc, lines, &setting, &end)
 }
 
 /// The run that is still to be made, alone or on threads.
