@@ -1,6 +1,6 @@
 //! The nodes of a tree as JSON text.
 
-ghost use Rattle.std.specs.Prelude.{◌≡◌, ◌++◌, ◌∷◌, [], OnOk, map, codes, length};
+ghost use Rattle.std.specs.Prelude.{◌≡◌, ◌++◌, ◌∷◌, [], OnOk, map, codes};
 ghost use Rattle.serde_json.specs.Written.{compact_text};
 ghost use Rattle.net_json.specs.Written.{number_data, numbers_data};
 ghost use Rattle.cert_json.specs.Written.{integer_data, term_data, terms_data, one_part, two_parts, node_data};

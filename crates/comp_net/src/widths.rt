@@ -1,7 +1,6 @@
 //! Which predicates have no built net.
 
 ghost use Rattle.std.specs.Prelude.{◌≡◌, ◌≤◌, ◌<◌, ◌++◌, length, OnOk, IfOk, IfSome};
-ghost use Rattle.pres_ast.specs.PredModel.{IsPred};
 ghost use Rattle.pres_ast.specs.TreeOf.{tree_of};
 ghost use Rattle.pres_ast.specs.PredTree.{LessThan};
 ghost use Rattle.comp_net.specs.Atoms.{atom_width};

@@ -1,6 +1,6 @@
 //! The layers of a leaf.
 
-ghost use Rattle.std.specs.Prelude.{◌≡◌, ◌≤◌, ◌+◌, ◌==◌, nat_lt, length, IfOk};
+ghost use Rattle.std.specs.Prelude.{◌≡◌, ◌≤◌, ◌+◌, ◌==◌, nat_lt, IfOk};
 ghost use Rattle.pres_ast.specs.declared.limits.TheConstants.{MODULUS_LIMIT};
 ghost use Rattle.cert_base.specs.FactsAndCases.{indicator};
 ghost use Rattle.comp_remainder.specs.RemainderLayers.{indicator_weights, remainder_layers};

@@ -1,9 +1,8 @@
 //! The node of a leader that is present.
 
-ghost use Rattle.std.specs.Prelude.{◌≡◌, ◌<◌, ◌≤◌, ℕ, List, map, neg_ℤ, pos, length, true, false, IfOk};
+ghost use Rattle.std.specs.Prelude.{◌≡◌, ◌<◌, ◌≤◌, List, map, length, true, false, IfOk};
 ghost use Rattle.std.specs.List.{range_with_len};
-ghost use Rattle.cert_base.specs.FactsAndCases.{states_of, indicator, differs};
-ghost use Rattle.comp_threshold_leaf.specs.ThresholdLeaf.{span_of, threshold_state_count, threshold_output, built};
+ghost use Rattle.comp_threshold_leaf.specs.ThresholdLeaf.{span_of, threshold_state_count, threshold_output};
 ghost use Rattle.comp_threshold_leaf.specs.declared.limits.TheConstants.{WIDTH_LIMIT};
 ghost use Rattle.comp_threshold.specs.ThresholdProof.{signed_value, threshold_leader_node, wrong_sign};
 ghost use Rattle.comp_threshold.specs.ThresholdProof.{threshold_value_node, threshold_wrong_node, threshold_tree};

@@ -1,8 +1,6 @@
 //! The layers of a leaf.
 
-ghost use Rattle.std.specs.Prelude.{◌≡◌, ◌≤◌, map, length, IfOk};
-ghost use Rattle.std.specs.List.{range_with_len};
-ghost use Rattle.comp_threshold_leaf.specs.ThresholdLeaf.{threshold_state_count};
+ghost use Rattle.std.specs.Prelude.{◌≡◌, ◌≤◌, map, IfOk};
 ghost use Rattle.comp_threshold_leaf.specs.declared.limits.TheConstants.{WIDTH_LIMIT};
 ghost use Rattle.comp_threshold.specs.ThresholdProof.{threshold_distance, threshold_first_weight};
 ghost use Rattle.comp_threshold.specs.ThresholdProof.{threshold_false_weight, threshold_true_weight, threshold_weights};

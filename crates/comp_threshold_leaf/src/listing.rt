@@ -1,7 +1,6 @@
 //! The moves of a leaf.
 
-ghost use Rattle.std.specs.Prelude.{◌≡◌, ◌<◌, ◌≤◌, IfOk, flat_map};
-ghost use Rattle.std.specs.List.{range_with_len};
+ghost use Rattle.std.specs.Prelude.{◌≡◌, ◌<◌, ◌≤◌, IfOk};
 ghost use Rattle.comp_threshold_leaf.specs.ThresholdLeaf.{span_of, threshold_state_count, threshold_leader_move};
 ghost use Rattle.comp_threshold_leaf.specs.ThresholdLeaf.{alters_states, threshold_pairs, threshold_turns};
 ghost use Rattle.comp_threshold_leaf.specs.ThresholdLeaf.{threshold_moves};

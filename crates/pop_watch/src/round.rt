@@ -1,8 +1,6 @@
 //! A watched round: the workers meet on a field, while an observer looks at it.
 
 ghost use Rattle.std.specs.Prelude.{◌≡◌, ℕ, ◌+◌, ◌<◌, ◌≤◌, ◌-◌, length, map, All, IfOk, IsTrue, ◌↔◌, slice_index_or};
-ghost use Rattle.pop_net.specs.Lanes.{AreValid};
-ghost use Rattle.pop_crowd.specs.declared.crowd.Meeting.{Meeting as MeetingModel};
 ghost use Rattle.agent_field.specs.Seats.{IsOpened, IsSeatOf, KeepsLogs, seat_number, spare_looks_of, net_of};
 ghost use Rattle.terminal_test.specs.TableNet.{table_net};
 ghost use Rattle.pop_words.specs.Options.{IsWithinLimits};

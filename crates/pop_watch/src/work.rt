@@ -1,6 +1,6 @@
 //! One worker's turns on the field, up to a stop, and those of all.
 
-ghost use Rattle.std.specs.Prelude.{◌≡◌, ℕ, ◌<◌, ◌≤◌, length, All, slice_index_or};
+ghost use Rattle.std.specs.Prelude.{ℕ, ◌<◌, length, All, slice_index_or};
 ghost use Rattle.pair_workers.specs.CrowdSize.{IsCrowdSize};
 ghost use Rattle.pair_workers.specs.Work.{agents_of_field};
 ghost use Rattle.pop_watch.specs.Work.{MayPlay, HasPlayed};

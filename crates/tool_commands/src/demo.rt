@@ -1,14 +1,11 @@
 //! The command `demo`.
 
-ghost use Rattle.std.specs.Prelude.{◌≡◌, ◌++◌, ◌<◌, ◌≤◌, ◌^◌, codes, count_by, decimal, length, None, IfOk, OnOk};
-ghost use Rattle.pres_ast.specs.PredicateValue.{predicate_value};
+ghost use Rattle.std.specs.Prelude.{◌≡◌, ◌++◌, ◌<◌, ◌≤◌, ◌^◌, count_by, decimal, length, None, IfOk, OnOk};
 ghost use Rattle.pop_lines.specs.Lines.{ended};
-ghost use Rattle.pop_net.specs.Lanes.{crowd_of};
 ghost use Rattle.pop_words.specs.declared.spec.TheConstants.{DEMO_LIMIT};
 ghost use Rattle.pair_workers.specs.Run.{joined};
-ghost use Rattle.pair_workers.specs.Ends.{IsRunFrom};
 ghost use Rattle.pop_journal.specs.Journal.{text_of};
-ghost use Rattle.pop_demo.specs.DemoCase.{demo_counts, demo_spec, names_of_demo};
+ghost use Rattle.pop_demo.specs.DemoCase.{names_of_demo};
 ghost use Rattle.comp_net.specs.BuiltNet.{built_net};
 ghost use Rattle.comp_net.specs.CompileFaults.{fault_with};
 ghost use Rattle.comp_net.specs.declared.choice.LeafChoice.TheVariants.{Plain};

@@ -7,7 +7,6 @@ ghost use Rattle.pop_words.specs.Meetings.{meeting_of};
 ghost use Rattle.pop_net.specs.Lanes.{crowd_of, AreValid};
 ghost use Rattle.tool_texts.specs.Steps.{After, GivesStep, Obeys};
 ghost use Rattle.tool_commands.specs.Play.{paired, played, end_crowd, IsLast, end_line, play_output, OfEnd, PlayGives};
-ghost use Rattle.pop_crowd.specs.Tally.{crowd_lines};
 
 use crate::start::net_and_start;
 use pop_crowd::Crowd;

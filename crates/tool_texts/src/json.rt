@@ -1,6 +1,6 @@
 //! The JSON value of a line.
 
-ghost use Rattle.std.specs.Prelude.{◌≡◌, option_map, IfOk};
+ghost use Rattle.std.specs.Prelude.{option_map, IfOk};
 ghost use Rattle.serde_json.specs.View.{view};
 ghost use Rattle.tool_texts.specs.Json.{HasValue};
 
