@@ -6,5 +6,6 @@ pub mod NetEnds
 pub mod Outputs
 pub mod Meetings
 pub mod Settles
+pub mod Fairness
 pub mod Verdicts
 pub mod RightEnds

@@ -31,8 +31,7 @@ use Rattle.cert_tree.specs.Frames.{CoverUnder}
 use Rattle.cert_tree.proofs.Verdicts.{ends_right}
 use Rattle.pop_checker.specs.Sound.{ArePreds, IsSound}
 use Rattle.pop_checker.specs.Parts.{AreRightBefore}
-use Rattle.pop_checker.proofs.Outputs.{computes}
-use Rattle.pop_checker.proofs.Settles.{valid_settles}
+use Rattle.pop_checker.proofs.Verdicts.{right_by}
 
 -- ---- facts of predicates within the limits
 
@@ -221,4 +220,4 @@ valid_right net p proof is preds valid i leaf part l h k =
 
 pub sound : IsSound
 sound net p proof is preds valid =
-    record { computes = computes net p proof is valid (valid_right net p proof is preds valid); settles = valid_settles net p proof is valid }
+    right_by net p proof is valid (valid_right net p proof is preds valid)

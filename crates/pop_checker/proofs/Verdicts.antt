@@ -19,11 +19,17 @@ use Rattle.pop_checker.specs.Parts.{AreRightBefore}
 use Rattle.pop_checker.specs.Sound.{IsRight}
 use Rattle.pop_checker.proofs.Outputs.{computes as computed}
 use Rattle.pop_checker.proofs.Settles.{valid_settles}
+use Rattle.pop_checker.proofs.Fairness.{steps_fairly, meetings_fairly}
 
 -- a net whose proof is right computes the predicate
 pub right_by : (net : NetModel) (p : PredModel) (proof : Proof) → IsNet net → ValidProof net p proof → AreRightBefore net proof.leaves (length net.leaves) → IsRight net p proof
 right_by net p proof is valid right =
-    record { computes = computed net p proof is valid right; settles = λ single. valid_settles net p proof is valid single }
+    record {
+      computes = computed net p proof is valid right;
+      settles = λ single. valid_settles net p proof is valid single;
+      fair = steps_fairly net p.tree (proof_bound proof) (computed net p proof is valid right);
+      fair_meetings = λ single. meetings_fairly net p.tree (proof_bound proof) is (computed net p proof is valid right) (valid_settles net p proof is valid single);
+    }
 
 -- a net whose proof is right is checked
 pub checked_by : (net : NetModel) (p : PredModel) (proof : Proof) (bound : ℕ) → IsNet net → p.variables ≡ length net.variables → ValidProof net p proof → AreRightBefore net proof.leaves (length net.leaves) → bound ≡ proof_bound proof → IsChecked (record { net = net; pred = p; bound = bound })
@@ -33,6 +39,8 @@ checked_by net p proof bound is variables valid right e =
       variables = variables;
       computes = computed net p proof is valid right;
       settles = λ single. valid_settles net p proof is valid single;
+      fair = steps_fairly net p.tree (proof_bound proof) (computed net p proof is valid right);
+      fair_meetings = λ single. meetings_fairly net p.tree (proof_bound proof) is (computed net p proof is valid right) (valid_settles net p proof is valid single);
     })
 
 -- all agents output the predicate's value

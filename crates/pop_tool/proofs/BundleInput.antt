@@ -6,6 +6,8 @@ use Rattle.cert_json.specs.declared.bundle.Bundle.{Bundle}
 use Rattle.cert_json.specs.BundleFile.{IsBundleFile}
 use Rattle.cert_json.proofs.BundleLaws.{bundle_takes, bundle_again}
 use Rattle.cert_json.proofs.ReadPreds.{file_net, file_preds}
+use Rattle.pop_net.specs.Step.{Step}
+use Rattle.pop_fair.specs.FairlyComputes.{FairlyComputes}
 use Rattle.pop_checker.specs.Computes.{Computes}
 use Rattle.pop_checker.proofs.RightEnds.{sound}
 use Rattle.tool_texts.specs.Steps.{◌>>=◌}
@@ -39,3 +41,8 @@ input_begins first second bundle counts input =
 pub file_computes : (bundle : Bundle) (d : Data) → IsBundleFile bundle d → HasValidProof bundle → Computes bundle.net bundle.pred.tree (proof_bound bundle.proof)
 file_computes bundle d file valid =
     (sound bundle.net bundle.pred bundle.proof (file_net bundle d file) (file_preds bundle d file) valid).computes
+
+-- and does so in every fair execution
+pub file_fair : (bundle : Bundle) (d : Data) → IsBundleFile bundle d → HasValidProof bundle → FairlyComputes (Step bundle.net) bundle.net bundle.pred.tree
+file_fair bundle d file valid =
+    (sound bundle.net bundle.pred bundle.proof (file_net bundle d file) (file_preds bundle d file) valid).fair

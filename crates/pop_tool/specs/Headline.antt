@@ -31,6 +31,7 @@ use Rattle.cert_json.specs.declared.bundle.Bundle.{Bundle}
 use Rattle.pop_settle.specs.declared.take.Take.{Take}
 use Rattle.pop_settle.specs.Settlement.{IsSettlement}
 use Rattle.pop_checker.specs.Computes.{Computes}
+use Rattle.pop_fair.specs.FairlyComputes.{FairlyComputes}
 use Rattle.tool_texts.specs.declared.status.Status.{Status}
 use Rattle.tool_texts.specs.declared.status.Status.TheVariants.{Done, Undecided}
 use Rattle.tool_texts.specs.Json.{HasValue}
@@ -67,6 +68,8 @@ HasValidProof bundle = ValidProof bundle.net bundle.pred bundle.proof
 pub record CheckSays (bundle : Bundle) (text : List ℕ) (status : Status) : Type 0 where
   pub certified : ((text ≡ ended (certified_text (proof_bound bundle.proof))) × (status ≡ Done)) ↔ HasValidProof bundle
   pub computes : HasValidProof bundle → Computes bundle.net bundle.pred.tree (proof_bound bundle.proof)
+  -- in every fair execution from an input the crowd comes to rest, with the predicate's value as every agent's output
+  pub fair : HasValidProof bundle → FairlyComputes (Step bundle.net) bundle.net bundle.pred.tree
 
 -- the input is the line of some bundle whose proof is valid
 pub record IsValidLine (input : List ℕ) : Type 0 where
