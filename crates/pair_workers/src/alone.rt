@@ -70,7 +70,7 @@ pub fn run_alone<G: Gate>(
 }
 
 /// So many meetings, one after the other.
-pub(crate) fn play_round<G: Gate>(
+pub fn play_round<G: Gate>(
     alloc: Global,
     net: &Net,
     crowd: &mut Crowd,

@@ -12,7 +12,7 @@ mod round;
 mod work;
 
 pub use all::{first_pickers, run_all};
-pub use alone::{End, ROUND_TURNS, RunEnd, run_alone};
+pub use alone::{End, ROUND_TURNS, RunEnd, play_round, run_alone};
 pub use ends::{end_of, goes_on};
 pub use examples::{pick_examples, run_examples};
 pub use picker::Picker;

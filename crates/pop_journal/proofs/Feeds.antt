@@ -58,7 +58,7 @@ pub unbroken_append : (xs ys : List (List ℕ)) → AreUnbroken xs → AreUnbrok
 unbroken_append [] ys all more = more
 unbroken_append (x ∷ xs) ys all more = (all.0, unbroken_append xs ys all.1 more)
 
-both_unbroken : (xs ys : List ℕ) → IsUnbroken xs → IsUnbroken ys → IsUnbroken (xs ++ ys)
+pub both_unbroken : (xs ys : List ℕ) → IsUnbroken xs → IsUnbroken ys → IsUnbroken (xs ++ ys)
 both_unbroken xs ys none more = list_any-append feed xs ys ∙ or_from (list_any feed xs) (list_any feed ys) none more
 
 own : IsNumeralModel (λ ds. all_ascii_digits ds ≡ true) (digits_value 10)
@@ -70,7 +70,7 @@ digits_unbroken (c ∷ text) digits =
     let both = and_parts (is_ascii_digit c) (all_ascii_digits text) digits in
     or_from (feed c) (list_any feed text) (ne_eqb c 10 (λ same. false≢true (subst (λ (x : ℕ). is_ascii_digit x ≡ true) same both.0))) (digits_unbroken text both.1)
 
-decimal_unbroken : (n : ℕ) → n < 2 ^ 64 → IsUnbroken (decimal n)
+pub decimal_unbroken : (n : ℕ) → n < 2 ^ 64 → IsUnbroken (decimal n)
 decimal_unbroken n small = digits_unbroken (decimal n) (digits_decimal own n small)
 
 mark_unbroken : (mark : Bool) → IsUnbroken (if mark then codes " *" else [])

@@ -18,3 +18,5 @@ pub mod OneSpelling
 pub mod RunLine
 pub mod Feeds
 pub mod Written
+pub mod MadeAlone
+pub mod PairLine

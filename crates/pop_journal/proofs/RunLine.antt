@@ -44,7 +44,7 @@ run_right kind spec =
     ∙ append_assoc (kind_word kind ++ codes " workers ") (decimal spec.workers) (s ++ (t ++ n))
     ∙ append_assoc (kind_word kind) (codes " workers ") (decimal spec.workers ++ (s ++ (t ++ n)))
 
-test : {A : Type 0} (b : Bool) (o : Option A) (y : A) → (if b then o else None) ≡ Some y → (b ≡ true) × (o ≡ Some y)
+pub test : {A : Type 0} (b : Bool) (o : Option A) (y : A) → (if b then o else None) ≡ Some y → (b ≡ true) × (o ≡ Some y)
 test true o y e = (refl, e)
 test false o y e = absurd cc
 
@@ -135,7 +135,7 @@ spec_spelled kind line spec e =
     (sym (join_with_byte-slice_split 32 line) ∙ ap (join_with_byte 32) are.0 ∙ sym (run_right kind spec), are.1, are.2)
 
 -- the other way
-cut_number : (n : ℕ) (rest : List ℕ) → n < 2 ^ 64 → pieces 32 (decimal n ++ 32 ∷ rest) ≡ decimal n ∷ pieces 32 rest
+pub cut_number : (n : ℕ) (rest : List ℕ) → n < 2 ^ 64 → pieces 32 (decimal n ++ 32 ∷ rest) ≡ decimal n ∷ pieces 32 rest
 cut_number n rest small = slice_split_at space (decimal n) 32 rest (decimal_no_space n small) refl
 
 numbers_cut : (spec : RunSpec) → IsWithinLimits spec → pieces 32 (join_with_byte 32 (numbers_of spec)) ≡ numbers_of spec

@@ -7,3 +7,5 @@ pub mod Form
 pub mod ReadLines
 pub mod Laws
 pub mod Reasons
+pub mod WrittenRun
+pub mod FirstPair

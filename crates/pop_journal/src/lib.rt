@@ -3,6 +3,7 @@
 //! The layer above uses: `push_journal` adds `journal_text`, `read_journal` reads `journal_in`, `verify` needs `Holds`.
 #![tactic(auto)]
 
+mod alone;
 mod fault;
 mod form;
 mod journal;
@@ -16,10 +17,12 @@ mod short;
 mod verdict;
 mod write;
 
+pub use alone::push_run_alone;
 pub use fault::{JournalFault, JournalWhy, VerifyFault};
 pub use journal::{Journal, LINE_LIMIT};
 pub use last::Last;
 pub use law::{one_spelling, written_holds};
 pub use read::read_journal;
+pub use short::short_pair;
 pub use verdict::verify;
-pub use write::{push_journal, push_last_line, write_journal};
+pub use write::{push_end, push_journal, push_last_line, write_journal};

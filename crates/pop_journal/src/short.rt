@@ -3,6 +3,7 @@
 ghost use Rattle.std.specs.Prelude.{◌≡◌, ◌∷◌, ◌++◌, [], if◌then◌else◌, codes, decimal, Some, IfSome};
 ghost use Rattle.pop_lines.specs.Lines.{lines_of};
 ghost use Rattle.pop_journal.specs.Form.{Tells};
+ghost use Rattle.pop_journal.specs.FirstPair.{IsFirstPair};
 
 /// Each number of so many digits is below 2^32.
 const SHORT_DIGITS: usize = 9;
@@ -63,4 +64,19 @@ pub(crate) fn short_meeting(text: &[u8]) -> Option<(u32, u32, u32, bool, &[u8])>
     let (second, rest) = leading_number(behind(rest, b' ')?)?;
     let (mark, rest) = line_end(rest)?;
     Some((worker, first, second, mark, rest))
+}
+
+/// The two agents that the first line of a text names, if its numbers are short and printed and it has a line feed, and what
+/// stands behind it. It may be `None` of another meeting line.
+#[inline(always)]
+pub fn short_pair(text: &[u8], agents: u32) -> Option<((u32, u32), &[u8])>
+    ensures { IfSome result (λ m. IsFirstPair agents text.now m.0.0 m.0.1 m.1.now) }
+{
+    let (first, rest) = leading_number(text)?;
+    let (second, rest) = leading_number(behind(rest, b' ')?)?;
+    let rest = behind(rest, b'\n')?;
+    if first == second || agents <= first || agents <= second {
+        return None;
+    }
+    Some(((first, second), rest))
 }

@@ -2,3 +2,4 @@ pub mod Pieces
 pub mod Joined
 pub mod Digits
 pub mod Printed
+pub mod Places

@@ -6,6 +6,7 @@
 mod cuts;
 mod fault;
 mod numbers;
+mod numerals;
 mod print;
 mod walks;
 
@@ -14,6 +15,7 @@ pub use fault::LineFault;
 pub use numbers::{
     DIGIT_LIMIT, number, number_within, printed_number, printed_within, small_number,
 };
+pub use numerals::{NUMBER_ROOM, Numerals, put_byte, put_bytes};
 pub use print::{push_number, push_wide_number};
 pub use walks::{
     line_count, one_line, one_line_and_more, three_lines, three_lines_and_more, two_lines,

@@ -19,7 +19,7 @@ use Rattle.tool_commands.specs.declared.play.TheConstants.{MEETINGS_LINE}
 use Rattle.tool_commands.specs.Eval.{counted}
 use Rattle.tool_commands.specs.Start.{fitting_in}
 use Rattle.tool_commands.proofs.InputSize.{length-input_crowd}
-use Rattle.tool_commands.specs.Play.{between, paired, meetings_in}
+use Rattle.tool_commands.specs.Play.{between, paired, meetings_in, on_from}
 
 -- the crowd of some counts has as many agents
 pub agents_counted : (net : NetModel) (counts : List ℕ) (crowd : List Word) → crowd_of net crowd ≡ input_crowd net counts → input_size net counts ≡ length crowd
@@ -28,10 +28,6 @@ agents_counted net counts crowd start = sym (length-input_crowd net counts) ∙ 
 pub fits : (net : NetModel) (line : List ℕ) (counts : List ℕ) → counted (counts_of net.variables line) ≡ Ok counts → AGENT_LEAST ≤ input_size net counts → input_size net counts ≤ AGENT_LIMIT → fitting_in net line ≡ Ok counts
 unfolding fitting_in
 fits net line counts read lo hi = rw (read, le-leb AGENT_LEAST (input_size net counts) lo, le-leb (input_size net counts) AGENT_LIMIT hi) refl
-
--- the crowd after the meetings of the lines from a number on
-abbrev pub on_from : NetModel → ℕ → ℕ → CrowdModel → List (List ℕ) → Result CrowdModel Refusal
-on_from net agents number crowd lines = meetings_in agents number lines >>= λ meetings. Ok (replay net meetings crowd)
 
 -- what the loop over the lines keeps
 pub record Playing (same : Type 0) (valid : Type 0) (agents n number left lines : ℕ) : Type 0 where

@@ -38,6 +38,10 @@ meetings_in agents number [] = Ok []
 meetings_in agents number (line ∷ lines) =
     paired number (meeting_of agents line) >>= λ pair. meetings_in agents (number + 1) lines >>= λ more. Ok (between pair ∷ more)
 
+-- the crowd after the meetings of the lines from a number on
+abbrev pub on_from : NetModel → ℕ → ℕ → CrowdModel → List (List ℕ) → Result CrowdModel Refusal
+on_from net agents number crowd lines = meetings_in agents number lines >>= λ meetings. Ok (replay net meetings crowd)
+
 -- the crowd after the meetings of these lines, of which the first has the number MEETINGS_LINE
 unfoldable pub played : NetModel → CrowdModel → List (List ℕ) → Result CrowdModel Refusal
 played net crowd lines = meetings_in (length crowd) MEETINGS_LINE lines >>= λ meetings. Ok (replay net meetings crowd)

@@ -175,7 +175,8 @@ fn case_output(alloc: Global, case: &Case, run: &RunEnd) -> Result<Output, NoMem
     requires run { IsRunOfCase case.now run.now }
     ensures { IfOk result (IsDemoOutput case.now.number) }
 {
-    let (last, ending) = last_and_ending(&case.checked, case.counts.as_slice(), run);
+    let counts = case.counts.as_slice();
+    let (last, ending) = last_and_ending(&case.checked, counts, &run.crowd, run.end);
     let text = summary_of(alloc, case, run, last)?;
     Ok(Output::new(text, ending))
 }

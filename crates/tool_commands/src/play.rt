@@ -1,16 +1,17 @@
 //! The command `play`.
 
-ghost use Rattle.std.specs.Prelude.{◌≡◌, ◌≢◌, ◌<◌, ◌^◌, ◌++◌, ℕ, Option, length, IfOk, OnOk, option_map};
+ghost use Rattle.std.specs.Prelude.{◌≡◌, ◌≢◌, ◌+◌, ◌<◌, ◌≤◌, ◌^◌, ◌++◌, ℕ, Option, length, IfOk, OnOk, option_map};
 ghost use Rattle.serde_json.specs.View.{view};
 ghost use Rattle.pop_lines.specs.Lines.{lines_of};
 ghost use Rattle.pop_words.specs.Meetings.{meeting_of};
 ghost use Rattle.pop_net.specs.Lanes.{crowd_of, AreValid};
 ghost use Rattle.tool_texts.specs.Steps.{After, GivesStep, Obeys};
-ghost use Rattle.tool_commands.specs.Play.{paired, played, end_crowd, IsLast, end_line, play_output, OfEnd, PlayGives};
+ghost use Rattle.tool_commands.specs.Play.{paired, on_from, played, end_crowd, IsLast, end_line, play_output, OfEnd, PlayGives};
 
 use crate::start::net_and_start;
 use pop_crowd::Crowd;
 use pop_io::NoMemory;
+use pop_journal::short_pair;
 use pop_lines::{next_line, push_number};
 use pop_net::Net;
 use pop_words::{MeetingFault, read_meeting};
@@ -34,6 +35,27 @@ fn pair_of(line: &[u8], agents: u32, number: u64) -> Result<(u32, u32), Stop>
     }
 }
 
+/// Plays lines up to the first that `short_pair` doesn't take. The answer is what is left, and the number of its first line.
+fn play_short<'t>(net: &Net, crowd: &mut Crowd, lines: &'t [u8], number: u64) -> (&'t [u8], u64)
+    requires few { number + length (lines_of lines.now) < 2 ^ 33 }
+    requires valid { AreValid net.now crowd.old }
+    ensures same { on_from net.now (length crowd.old) result.1 (crowd_of net.now crowd.new) (lines_of result.0.now)
+        ≡ on_from net.now (length crowd.old) number (crowd_of net.now crowd.old) (lines_of lines.now) }
+    ensures valid { AreValid net.now crowd.new }
+    ensures agents { length crowd.new ≡ length crowd.old }
+    ensures later { number ≤ result.1 }
+    ensures counted { result.1 + length (lines_of result.0.now) ≡ number + length (lines_of lines.now) }
+{
+    let mut rest = lines;
+    let mut next = number;
+    'lines: while let Some(((a, b), more)) = short_pair(rest, crowd.len()) {
+        crowd.meet(net, a, b);
+        next += 1;
+        rest = more;
+    }
+    (rest, next)
+}
+
 /// The crowd after the meetings of all lines, of which the first has the number `MEETINGS_LINE`.
 #[tactic(auto, unfolding(crate::specs::Play::played))]
 fn end_of(net: &Net, crowd: Crowd, lines: &[u8]) -> Result<Crowd, Stop>
@@ -44,13 +66,13 @@ fn end_of(net: &Net, crowd: Crowd, lines: &[u8]) -> Result<Crowd, Stop>
     ensures valid { IfOk result (AreValid net.now) }
 {
     let mut crowd = crowd;
-    let mut rest = lines;
-    let mut number = MEETINGS_LINE;
+    let (mut rest, mut number) = play_short(net, &mut crowd, lines, MEETINGS_LINE);
     'lines: while let Some((line, more)) = next_line(rest) {
         let (a, b) = pair_of(line, crowd.len(), number)?;
         crowd.meet(net, a, b);
-        number += 1;
-        rest = more;
+        let (left, next) = play_short(net, &mut crowd, more, number + 1);
+        rest = left;
+        number = next;
     }
     Ok(crowd)
 }

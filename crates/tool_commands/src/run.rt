@@ -22,11 +22,11 @@ use crate::bundle::{begin, check_bundle};
 use crate::prepared::{PendingRun, Prepared, Setting};
 use crate::start::Start;
 use cert_json::Bundle;
-use pair_workers::{End, RunEnd, run_all, run_alone};
+use pair_workers::{End, RunEnd, run_all};
 use pop_checker::{CheckFault, Checked};
 use pop_crowd::Crowd;
 use pop_io::{Gate, List, NoMemory};
-use pop_journal::{Last, push_journal};
+use pop_journal::{Last, push_end, push_journal, push_run_alone};
 use pop_watch::run_watched;
 use pop_words::{RunKind, RunSpec};
 use std::alloc::{AllocError, Global};
@@ -42,20 +42,25 @@ pub(crate) fn is_by_one(spec: &RunSpec) -> bool
 }
 
 /// The journal's last line for the end of a run from these counts, and how the command ends.
-pub(crate) fn last_and_ending(checked: &Checked, counts: &[u64], run: &RunEnd) -> (Last, Ending)
+pub(crate) fn last_and_ending(
+    checked: &Checked,
+    counts: &[u64],
+    crowd: &Crowd,
+    end: End,
+) -> (Last, Ending)
     requires input { IsInput (length checked.now.net.variables) (number_of_helpers checked.now.net) counts.now }
-    requires valid { AreValid checked.now.net run.now.crowd }
+    requires valid { AreValid checked.now.net crowd.now }
     requires reached { Reachable (Step checked.now.net) (input_crowd checked.now.net counts.now)
-        (crowd_of checked.now.net run.now.crowd) }
-    requires last { IsLast checked.now.net (crowd_of checked.now.net run.now.crowd) (open_pair run.now.end) }
+        (crowd_of checked.now.net crowd.now) }
+    requires last { IsLast checked.now.net (crowd_of checked.now.net crowd.now) (open_pair end) }
     ensures { result ≡ (
-      journal_end (predicate_value checked.now.pred.tree counts.now) (open_pair run.now.end),
-      run_ending (open_pair run.now.end),
+      journal_end (predicate_value checked.now.pred.tree counts.now) (open_pair end),
+      run_ending (open_pair end),
     ) }
 {
-    match run.end {
+    match end {
         End::Terminal => {
-            let verdict = checked.verdict(counts, &run.crowd);
+            let verdict = checked.verdict(counts, crowd);
             (Last::Verdict(verdict), Ending::Done)
         }
         End::Open(a, b) => (Last::Undecided(a, b), Ending::Undecided),
@@ -83,14 +88,15 @@ fn run_output(
     requires { IsRunOfSetting setting.now run.now }
     ensures { IfOk result (IsOutputOfSetting setting.now lines) }
 {
-    let (last, ending) = last_and_ending(&setting.checked, setting.counts.as_slice(), run);
+    let counts = setting.counts.as_slice();
+    let (last, ending) = last_and_ending(&setting.checked, counts, &run.crowd, run.end);
     let (net, spec) = (setting.checked.net(), &setting.spec);
     let mut text = lines.into_vec();
     push_journal(alloc, &mut text, setting.kind, net, spec, run, last)?;
     Ok(Output::new(text, ending))
 }
 
-/// Makes a whole run by one worker. It waits for no thread.
+/// Makes a whole run by one worker, and writes it while it runs. It waits for no thread.
 pub fn make_alone<G: Gate>(alloc: Global, run: PendingRun, gate: &G) -> Result<Output, NoMemory>
     requires can { CanRun run }
     requires alone { run.setting.spec.workers ≡ 1 }
@@ -102,8 +108,13 @@ pub fn make_alone<G: Gate>(alloc: Global, run: PendingRun, gate: &G) -> Result<O
         setting,
         crowd,
     } = run;
-    let end = run_alone(alloc, setting.checked.net(), crowd, &setting.spec, gate)?;
-    run_output(alloc, lines, &setting, &end)
+    let (net, spec) = (setting.checked.net(), &setting.spec);
+    let mut text = lines.into_vec();
+    let (last_crowd, end) = push_run_alone(alloc, &mut text, net, crowd, spec, gate)?;
+    let counts = setting.counts.as_slice();
+    let (last, ending) = last_and_ending(&setting.checked, counts, &last_crowd, end);
+    push_end(alloc, &mut text, net, &last_crowd, last)?;
+    Ok(Output::new(text, ending))
 }
 
 /// A run of this setting by workers on threads.

@@ -28,7 +28,7 @@ last_and_ending-last-requires-clause-reached c =
     let case = c.args.case.now in
     let net = case.checked.net in
     let ran = c.args.run.now in
-    rw c.as_slice.ensures (run_reaches net case.counts c.requires.run.input.two_agents Whole (demo_spec case.number) ran.rounds (crowd_of net ran.crowd) c.requires.run.run)
+    rw c.as_slice-counts.ensures (run_reaches net case.counts c.requires.run.input.two_agents Whole (demo_spec case.number) ran.rounds (crowd_of net ran.crowd) c.requires.run.run)
 
 pub returns : goal.returns
 returns c =
@@ -45,7 +45,7 @@ returns c =
       pair = open_pair ran.end;
       last = subst (λ (n : NetModel). IsLast n end (open_pair ran.end)) is.net c.requires.run.last;
       text = ap (λ (o : Output). o.text) c.new.ensures ∙ c.in_ok-text.ensures
-          ∙ ap (λ (l : Last × Ending). text_of (summary_lines case.number ran.rounds l.0)) (rw c.as_slice.ensures at last)
+          ∙ ap (λ (l : Last × Ending). text_of (summary_lines case.number ran.rounds l.0)) (rw c.as_slice-counts.ensures at last)
           ∙ ap (λ (b : Bool). text_of (summary_lines case.number ran.rounds (journal_end b (open_pair ran.end)))) truth;
       ending = ap (λ (o : Output). o.ending) c.new.ensures ∙ ap (λ (l : Last × Ending). l.1) last;
     }

@@ -2,7 +2,8 @@ use Rattle.std.proofs.Common.{◌≡◌, length}
 use Rattle.pop_lines.specs.Lines.{lines_of}
 use Rattle.pop_net.specs.Lanes.{crowd_of, AreValid}
 use Rattle.tool_commands.specs.declared.play.TheConstants.{MEETINGS_LINE}
-use Rattle.tool_commands.proofs.Played.{on_from, Playing}
+use Rattle.tool_commands.specs.Play.{on_from}
+use Rattle.tool_commands.proofs.Played.{Playing}
 use Rattle.tool_commands.proofs.play.end_of.Given as goal
 
 abbrev pub invariant-lines : goal.invariant-lines

@@ -24,13 +24,13 @@ pub last_and_ending-last-requires-clause-reached : goal.last_and_ending-last-req
 last_and_ending-last-requires-clause-reached c =
     let net = c.args.setting.now.checked.net in
     let run = c.args.run.now in
-    rw c.as_slice.ensures (run_reaches net c.args.setting.now.counts c.requires.input.two_agents c.args.setting.now.kind c.args.setting.now.spec run.rounds (crowd_of net run.crowd) c.requires.run)
+    rw c.as_slice-counts.ensures (run_reaches net c.args.setting.now.counts c.requires.input.two_agents c.args.setting.now.kind c.args.setting.now.spec run.rounds (crowd_of net run.crowd) c.requires.run)
 
 pub returns : goal.returns
 returns c =
     let net = c.args.setting.now.checked.net in
     let run = c.args.run.now in
-    let last = rw c.as_slice.ensures at c.last_and_ending-last.ensures in record {
+    let last = rw c.as_slice-counts.ensures at c.last_and_ending-last.ensures in record {
       input = c.requires.input;
       rounds = run.rounds;
       end = crowd_of net run.crowd;

@@ -1,0 +1,29 @@
+-- A run by one worker that is being made and written.
+use Rattle.std.proofs.Common.{◌≡◌, ℕ, ◌+◌, ◌-◌, min, List, [], ◌∷◌, ◌++◌, length, refl, ap, sym, ◌∙◌, arith, append-nil, append_assoc, length-append}
+use Rattle.std.specs.Prelude.{codes}
+use Rattle.pop_lines.specs.Lines.{ended}
+use Rattle.pop_net.specs.NetModel.{NetModel, CrowdModel}
+use Rattle.pop_net.specs.Step.{Step}
+use Rattle.pop_net.specs.Terminal.{IsTerminal}
+use Rattle.pop_crowd.specs.declared.crowd.Meeting.{Meeting}
+use Rattle.pop_words.specs.declared.kind.RunKind.TheVariants.{Whole}
+use Rattle.pop_words.specs.declared.spec.RunSpec.{RunSpec}
+use Rattle.pair_workers.specs.Turns.{ArePlayed}
+use Rattle.pair_workers.proofs.ManyRounds.{AreOnTheRun, all_more_rounds}
+use Rattle.pop_journal.specs.Journal.{run_line, round_line, meeting_line, round_lines, run_lines, text_of}
+use Rattle.pop_journal.proofs.Texts.{round_pushed, run_text}
+
+-- some rounds were made, and their lines stand behind the run's first
+pub record Made (net : NetModel) (start : CrowdModel) (spec : RunSpec) (before text : List ℕ) (crowd : CrowdModel) (picker : List ℕ) (left number : ℕ) : Type 0 where
+  pub rounds : List (List Meeting)
+  pub run : AreOnTheRun net start spec rounds crowd (picker ∷ []) left
+  pub written : text ≡ (before ++ ended (run_line Whole spec)) ++ text_of (round_lines 1 rounds)
+  pub next : number ≡ length rounds + 1
+
+-- the run's lines up to `end`
+pub ended_text : (spec : RunSpec) (before text after : List ℕ) (rounds : List (List Meeting)) → text ≡ (before ++ ended (run_line Whole spec)) ++ text_of (round_lines 1 rounds) → after ≡ text ++ codes "end\n"
+    → after ≡ before ++ text_of (run_lines Whole spec rounds)
+ended_text spec before text after rounds so_far last =
+    let line = ended (run_line Whole spec) in
+    let lines = text_of (round_lines 1 rounds) in
+    last ∙ ap (λ (t : List ℕ). t ++ codes "end\n") (so_far ∙ append_assoc before line lines) ∙ append_assoc before (line ++ lines) (codes "end\n") ∙ ap (λ (t : List ℕ). before ++ t) (run_text Whole spec rounds)

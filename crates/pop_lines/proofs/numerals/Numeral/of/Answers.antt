@@ -1,0 +1,7 @@
+use Rattle.std.proofs.Common.{◌≡◌, ◌≤◌, length, ap, arith}
+use Rattle.std.proofs.lemmas.Fmt.{length-decimal-le}
+use Rattle.pop_lines.proofs.numerals.Numeral.of.Goals as goal
+
+pub put_bytes-len-requires : goal.put_bytes-len-requires
+put_bytes-len-requires c =
+    omega (arith, length-decimal-le 5 c.args.n (omega arith) (omega (arith, c.requires)) (omega (arith, c.requires)), ap length c.format.ensures.text, ap length c.as_bytes-digits.ensures.value)
