@@ -1,2 +1,6 @@
 mod Behind
 mod Items
+mod Readable
+mod TextBytes
+mod WrittenData
+pub mod ReadBack

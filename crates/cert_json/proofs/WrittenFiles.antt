@@ -68,7 +68,7 @@ layer_is layer fits =
     }
 
 module _ (names : List (List ℕ)) (named : AreNames variable_name names) where
-  pred_is : (p : PredModel) → p.variables ≡ length names → IsPred (length names) p.tree → IsPredText names p (string (tree_text names p.tree))
+  pub pred_is : (p : PredModel) → p.variables ≡ length names → IsPred (length names) p.tree → IsPredText names p (string (tree_text names p.tree))
   pred_is p over limits = (
     tree_text names p.tree,
     refl,
@@ -88,12 +88,14 @@ module _ (names : List (List ℕ)) (named : AreNames variable_name names) where
         on_false = (nodes_data part.on_false, refl, nodes_are part.on_false fits.0.on_false);
       }
 
+  pub proof_is : (proof : Proof) → All Fits proof.leaves → IsList (IsLeafProofFile names) proof.leaves (proof_data names proof)
+  unfolding proof_data
+  proof_is proof fits = written_list Fits (IsLeafProofFile names) (leaf_proof_data names) leaf_proof_is proof.leaves fits
+
   pub written_again : (proof : Proof) → All (λ part. IsPred (length names) part.pred.tree) proof.leaves → (bundle : Data) → get (codes "proof") bundle ≡ Some (proof_data names proof)
       → IsProofWithin (length names) (length proof.leaves) proof → proof_at names (length proof.leaves) bundle ≡ Ok proof
-  unfolding proof_data
   written_again proof preds bundle has fits =
-      let each_one : All Fits proof.leaves = λ i part within. (fits.parts i part within, preds i part within) in
-      proof_again names (length proof.leaves) bundle proof (list_data (map (leaf_proof_data names) proof.leaves), has, written_list Fits (IsLeafProofFile names) (leaf_proof_data names) leaf_proof_is proof.leaves each_one) fits
+      proof_again names (length proof.leaves) bundle proof (proof_data names proof, has, proof_is proof (λ i part within. (fits.parts i part within, preds i part within))) fits
 
   pub result_again : (proof : Proof) (r : Result Value NoMemory) → IfOk r (λ v. view v ≡ proof_data names proof) → IfOk r (λ v. All (λ part. IsPred (length names) part.pred.tree) proof.leaves)
       → IfOk r (λ v. (bundle : Data) → get (codes "proof") bundle ≡ Some (view v) → IsProofWithin (length names) (length proof.leaves) proof → proof_at names (length proof.leaves) bundle ≡ Ok proof)

@@ -5,19 +5,23 @@ use Rattle.std.proofs.lemmas.Bool.{le-ltb, cases_lt, false≢true}
 use Rattle.std.proofs.lemmas.List.{length-map}
 use Rattle.std.proofs.lemmas.List.Folds.{list_any_none}
 use Rattle.std.proofs.lemmas.List.FromFn.{length-map-range_with_len}
-use Rattle.std.proofs.lemmas.List.Elements.{All-nil, All-cons, All-tail, All-append, All-map, All-weaker}
+use Rattle.std.proofs.lemmas.List.Elements.{All-nil, All-cons, All-head, All-tail, All-append, All-map, All-weaker}
 use Rattle.pop_io.specs.Names.{AreNames, variable_name}
+use Rattle.pop_io.specs.declared.names.TheConstants.{VARIABLE_LIMIT}
 use Rattle.pop_net.specs.declared.limits.TheConstants.{NARROW_STATE_LIMIT, WIDE_LEAF_LIMIT, DEPTH_LIMIT}
 use Rattle.pop_net.specs.declared.net.Item.{Item}
 use Rattle.pop_net.specs.LeafModel.{LeafModel, IsLeaf}
 use Rattle.pop_net.specs.NetModel.{NetModel, IsNet, depth_operators, number_of_helpers, helpers_of, is_wide_leaf, is_wide}
 use Rattle.pop_net.specs.Reaction.{Differ, IsSingle}
+use Rattle.pop_net.proofs.Quiet.{All-slice_get}
 use Rattle.pres_ast.specs.PredTree.{PredTree, LessThan, Congruent, Negation, Conjunction, Disjunction}
 use Rattle.pres_ast.specs.PredModel.{HasAtoms, IsPred}
 use Rattle.cert_base.specs.FactsAndCases.{over_count}
 use Rattle.cert_base.specs.declared.proof.LeafProof.{LeafProof}
 use Rattle.cert_base.specs.ValidProof.{trees, ValidLeafProof, ValidProof}
 use Rattle.cert_base.specs.ProofLimits.{IsLeafProofWithin, IsProofWithin}
+use Rattle.pop_checker.specs.Sound.{IsRight}
+use Rattle.pop_checker.proofs.RightEnds.{sound}
 use Rattle.comp_threshold_leaf.specs.ThresholdLeaf.{threshold_width, place_of_value, threshold_state_count, threshold_state_name}
 use Rattle.comp_threshold_leaf.proofs.Formed.{threshold-formed}
 use Rattle.comp_threshold_leaf.proofs.Single.{moves-single as threshold_single}
@@ -151,6 +155,42 @@ proof-within choice names n tree parts h is none = record {
   one_each = parts-long choice (atoms tree) parts h ∙ sym (length-map (atoms tree) (leaf_of choice));
   parts = parts-within choice n (atoms tree) parts h (pred_built choice n tree is none);
 }
+
+-- each atom is a predicate, and so is that of its proof
+atom_preds : (n : ℕ) (tree : PredTree) → 1 ≤ n → n ≤ VARIABLE_LIMIT → HasAtoms n tree → All (IsPred n) (atoms tree)
+atom_preds n (LessThan coefs bound) some few has =
+    All-cons (IsPred n) (LessThan coefs bound) [] (record { some_variable = some; variables = few; atoms = has; weight = omega arith }) (All-nil (IsPred n))
+atom_preds n (Congruent coefs m rest) some few has =
+    All-cons (IsPred n) (Congruent coefs m rest) [] (record { some_variable = some; variables = few; atoms = has; weight = omega arith }) (All-nil (IsPred n))
+atom_preds n (Negation p) some few has = atom_preds n p some few has
+atom_preds n (Conjunction p q) some few has = All-append (IsPred n) (atoms p) (atoms q) (atom_preds n p some few has.0) (atom_preds n q some few has.1)
+atom_preds n (Disjunction p q) some few has = All-append (IsPred n) (atoms p) (atoms q) (atom_preds n p some few has.0) (atom_preds n q some few has.1)
+
+abbrev IsPart : ℕ → LeafProof → Type 0
+IsPart n part = IsPred n part.pred.tree
+
+part_preds : (choice : LeafChoice) (n : ℕ) (xs : List PredTree) (parts : List LeafProof) → AreAtomProofs choice xs parts → All (IsPred n) xs → All (IsPart n) parts
+part_preds choice n [] [] h preds = All-nil (IsPart n)
+part_preds choice n [] (part ∷ parts) h preds = absurd h
+part_preds choice n (a ∷ xs) [] h preds = absurd h
+part_preds choice n (a ∷ xs) (part ∷ parts) h preds =
+    All-cons (IsPart n) part parts (subst (IsPred n) (sym h.0.tree_is) (All-head (IsPred n) a xs preds)) (part_preds choice n xs parts h.1 (All-tail (IsPred n) a xs preds))
+
+pub proof-preds : (choice : LeafChoice) (n : ℕ) (tree : PredTree) (parts : List LeafProof) → AreAtomProofs choice (atoms tree) parts → IsPred n tree → All (IsPart n) parts
+proof-preds choice n tree parts h is = part_preds choice n (atoms tree) parts h (atom_preds n tree is.some_variable is.variables is.atoms)
+
+-- so the net is right
+pub net-right : (choice : LeafChoice) (names : List (List ℕ)) (tree : PredTree) (parts : List LeafProof) → AreAtomProofs choice (atoms tree) parts → AreNames variable_name names → IsPred (length names) tree
+    → fault_with choice tree ≡ None → IsRight (net_with choice names tree) (over_count (length names) tree) (record { leaves = parts })
+net-right choice names tree parts h formed is none =
+    let n = length names in
+    let within = (proof-within choice names n tree parts h is none).parts in
+    let preds = proof-preds choice n tree parts h is in
+    sound (net_with choice names tree) (over_count n tree) (record { leaves = parts }) (net-formed choice names tree formed is none)
+    (λ i part at.
+        let over = (All-slice_get (IsLeafProofWithin n) parts i part within at).pred in
+        (over, subst (λ k. HasAtoms k part.pred.tree) (sym over) (All-slice_get (IsPart n) parts i part preds at).atoms))
+    (proof-valid choice names n tree parts h)
 
 -- no leaf has two moves for the same states
 pub net-single : (choice : LeafChoice) (names : List (List ℕ)) (n : ℕ) (tree : PredTree) → IsPred n tree → fault_with choice tree ≡ None → IsSingle (net_with choice names tree)

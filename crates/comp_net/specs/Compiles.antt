@@ -1,11 +1,12 @@
 -- Compiles: what the compiler says of a predicate, by the leaves that its atoms get.
-use Rattle.std.specs.Prelude.{◌≡◌, ℕ, List, length, None, Result, IfOk, IfErr}
-use Rattle.pres_ast.specs.PredModel.{PredModel}
-use Rattle.pop_net.specs.NetModel.{NetModel}
+use Rattle.std.specs.Prelude.{◌≡◌, ℕ, List, length, All, None, Result, IfOk, IfErr}
+use Rattle.pres_ast.specs.PredModel.{PredModel, IsPred}
+use Rattle.pop_net.specs.NetModel.{NetModel, IsNet}
 use Rattle.pop_net.specs.Reaction.{IsSingle}
 use Rattle.cert_base.specs.declared.proof.Proof.{Proof}
 use Rattle.cert_base.specs.ProofLimits.{IsProofWithin}
 use Rattle.cert_base.specs.ValidProof.{ValidProof}
+use Rattle.pop_checker.specs.Sound.{IsRight}
 use Rattle.comp_net.specs.declared.choice.LeafChoice.{LeafChoice}
 use Rattle.comp_net.specs.declared.fault.CompileFault.{CompileFault}
 use Rattle.comp_net.specs.BuiltNet.{net_with}
@@ -16,7 +17,12 @@ pub record Compiles (choice : LeafChoice) (names : List (List ℕ)) (pred : Pred
   pub net : IfOk result (λ both. both.0 ≡ net_with choice names pred.tree)
   pub valid : IfOk result (λ both. ValidProof both.0 pred both.1)
   pub within : IfOk result (λ both. IsProofWithin pred.variables (length both.0.leaves) both.1)
+  -- the net is in form, and the leaves' predicates are over its variables
+  pub formed : IfOk result (λ both. IsNet both.0)
+  pub preds : IfOk result (λ both. All (λ part. IsPred pred.variables part.pred.tree) both.1.leaves)
   -- no leaf has two moves for the same states
   pub single : IfOk result (λ both. IsSingle both.0)
+  -- the net computes the predicate, and can be led to its end by meetings
+  pub right : IfOk result (λ both. IsRight both.0 pred both.1)
   pub accepted : IfOk result (λ both. fault_with choice pred.tree ≡ None)
   pub refused : IfErr result (RefusesWith choice pred.tree)

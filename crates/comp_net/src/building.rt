@@ -1,13 +1,16 @@
 //! The net and its proof, put together.
 
-ghost use Rattle.std.specs.Prelude.{◌≡◌, ◌≤◌, ◌<◌, ◌+◌, Some, None, length, OnOk, IfOk};
+ghost use Rattle.std.specs.Prelude.{◌≡◌, ◌≤◌, ◌<◌, ◌+◌, Some, None, All, length, OnOk, IfOk};
 ghost use Rattle.pop_io.specs.Names.{AreNames, variable_name};
 ghost use Rattle.pres_ast.specs.TreeOf.{tree_of};
 ghost use Rattle.pres_ast.specs.PredTree.{LessThan, Congruent};
+ghost use Rattle.pres_ast.specs.PredModel.{IsPred};
 ghost use Rattle.pop_net.specs.declared.limits.TheConstants.{LEAF_LIMIT};
+ghost use Rattle.pop_net.specs.NetModel.{IsNet};
 ghost use Rattle.pop_net.specs.Reaction.{IsSingle};
 ghost use Rattle.cert_base.specs.ProofLimits.{IsProofWithin};
 ghost use Rattle.cert_base.specs.ValidProof.{ValidProof};
+ghost use Rattle.pop_checker.specs.Sound.{IsRight};
 ghost use Rattle.comp_net.specs.Atoms.{atoms, flock_of_atom, AreBuildable};
 ghost use Rattle.comp_net.specs.BuiltNet.{net_with};
 ghost use Rattle.comp_net.specs.Building.{AddsLeaf, AddsTree};
@@ -169,7 +172,10 @@ pub(crate) fn build(
     ensures net { IfOk result (λ both. both.0 ≡ net_with choice names.now pred.now.tree) }
     ensures valid { IfOk result (λ both. ValidProof both.0 pred.now both.1) }
     ensures within { IfOk result (λ both. IsProofWithin pred.now.variables (length both.0.leaves) both.1) }
+    ensures formed { IfOk result (λ both. IsNet both.0) }
+    ensures preds { IfOk result (λ both. All (λ part. IsPred pred.now.variables part.pred.tree) both.1.leaves) }
     ensures single { IfOk result (λ both. IsSingle both.0) }
+    ensures right { IfOk result (λ both. IsRight both.0 pred.now both.1) }
 {
     let mut built = Built {
         leaves: Vec::new(alloc),

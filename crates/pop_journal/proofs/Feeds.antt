@@ -10,8 +10,8 @@ use Rattle.std.proofs.lemmas.Str.Parse.{IsNumeralModel, numerals_by_value, tells
 use Rattle.std.proofs.lemmas.List.Folds.{list_any-append}
 use Rattle.std.proofs.lemmas.List.Elements.{All-head, All-tail}
 use Rattle.std.proofs.lemmas.List.Splits.{slice_split-cons_no, length-slice_split}
-use Rattle.pop_lines.specs.Lines.{pieces, without_last_empty, lines_of, ended}
-use Rattle.pop_lines.proofs.Pieces.{goes_on}
+use Rattle.pop_lines.specs.Lines.{lines_of, ended}
+use Rattle.pop_lines.proofs.Unbroken.{IsUnbroken, line_first, both_unbroken, decimal_unbroken}
 use Rattle.pop_crowd.specs.declared.crowd.Meeting.{Meeting}
 use Rattle.pop_words.specs.declared.spec.RunSpec.{RunSpec}
 use Rattle.pop_words.specs.declared.kind.RunKind.{RunKind}
@@ -23,29 +23,9 @@ use Rattle.pop_journal.specs.Journal.{run_line, round_line, meeting_line, round_
 use Rattle.pop_journal.proofs.Spelled.{IsSmall, mark_of}
 use Rattle.pop_journal.proofs.Holds.{all_parts}
 
-abbrev feed : ℕ → Bool
-feed b = b == 10
-
--- no line feed stands in these bytes
-abbrev pub IsUnbroken : List ℕ → Type 0
-IsUnbroken line = list_any feed line ≡ false
-
 abbrev pub AreUnbroken : List (List ℕ) → Type 0
 AreUnbroken [] = Unit {0}
 AreUnbroken (line ∷ lines) = IsUnbroken line × AreUnbroken lines
-
-piece_ended : (line rest : List ℕ) → IsUnbroken line → pieces 10 (line ++ 10 ∷ rest) ≡ line ∷ pieces 10 rest
-piece_ended [] rest none = refl
-piece_ended (b ∷ line) rest none =
-    let parts = or_parts (feed b) (list_any feed line) none in
-    slice_split-cons_no feed b (line ++ 10 ∷ rest) parts.0 ∙ ap (onto_first b) (piece_ended line rest parts.1)
-
-pub line_first : (line rest : List ℕ) → IsUnbroken line → lines_of (ended line ++ rest) ≡ line ∷ lines_of rest
-unfolding lines_of
-line_first line rest none =
-    ap (λ (t : List ℕ). without_last_empty (pieces 10 t)) (append_assoc line (10 ∷ []) rest)
-    ∙ ap without_last_empty (piece_ended line rest none)
-    ∙ goes_on line (pieces 10 rest) (let l = length-slice_split feed rest in omega (arith, l))
 
 -- the lines of a text are those that it was made of
 pub lines_text : (lines : List (List ℕ)) (rest : List ℕ) → AreUnbroken lines → lines_of (text_of lines ++ rest) ≡ lines ++ lines_of rest
@@ -57,21 +37,6 @@ lines_text (line ∷ lines) rest all =
 pub unbroken_append : (xs ys : List (List ℕ)) → AreUnbroken xs → AreUnbroken ys → AreUnbroken (xs ++ ys)
 unbroken_append [] ys all more = more
 unbroken_append (x ∷ xs) ys all more = (all.0, unbroken_append xs ys all.1 more)
-
-pub both_unbroken : (xs ys : List ℕ) → IsUnbroken xs → IsUnbroken ys → IsUnbroken (xs ++ ys)
-both_unbroken xs ys none more = list_any-append feed xs ys ∙ or_from (list_any feed xs) (list_any feed ys) none more
-
-own : IsNumeralModel (λ ds. all_ascii_digits ds ≡ true) (digits_value 10)
-own = numerals_by_value (λ ds. all_ascii_digits ds ≡ true) tells_all_ascii_digits
-
-digits_unbroken : (text : List ℕ) → all_ascii_digits text ≡ true → IsUnbroken text
-digits_unbroken [] digits = refl
-digits_unbroken (c ∷ text) digits =
-    let both = and_parts (is_ascii_digit c) (all_ascii_digits text) digits in
-    or_from (feed c) (list_any feed text) (ne_eqb c 10 (λ same. false≢true (subst (λ (x : ℕ). is_ascii_digit x ≡ true) same both.0))) (digits_unbroken text both.1)
-
-pub decimal_unbroken : (n : ℕ) → n < 2 ^ 64 → IsUnbroken (decimal n)
-decimal_unbroken n small = digits_unbroken (decimal n) (digits_decimal own n small)
 
 mark_unbroken : (mark : Bool) → IsUnbroken (if mark then codes " *" else [])
 mark_unbroken true = refl

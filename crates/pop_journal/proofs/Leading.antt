@@ -15,7 +15,8 @@ use Rattle.pop_lines.specs.Lines.{lines_of}
 use Rattle.pop_journal.specs.Form.{Tells}
 use Rattle.pop_journal.specs.Journal.{meeting_line}
 use Rattle.pop_journal.proofs.Spelled.{IsSmall, joined_right}
-use Rattle.pop_journal.proofs.Feeds.{line_first, meeting_unbroken}
+use Rattle.pop_lines.proofs.Unbroken.{line_first}
+use Rattle.pop_journal.proofs.Feeds.{meeting_unbroken}
 use Rattle.pop_journal.proofs.ReadBack.{told_back}
 
 abbrev AreDigits : List ℕ → Type 0

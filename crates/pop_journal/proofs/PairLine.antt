@@ -10,7 +10,7 @@ use Rattle.pop_words.specs.Meetings.{meeting_of, two_agents_of, pair_of}
 use Rattle.pop_journal.specs.FirstPair.{IsFirstPair}
 use Rattle.pop_journal.proofs.Spelled.{decimal_no_space}
 use Rattle.pop_journal.proofs.RunLine.{cut_number, test}
-use Rattle.pop_journal.proofs.Feeds.{IsUnbroken, line_first, both_unbroken, decimal_unbroken}
+use Rattle.pop_lines.proofs.Unbroken.{IsUnbroken, line_first, both_unbroken, decimal_unbroken}
 
 number_back : (n : ℕ) → n < 2 ^ 64 → number_of (decimal n) ≡ Some n
 number_back n small = (test (has_no_leading_zero (decimal n)) (number_of (decimal n)) n (printed_number_of-decimal n small)).1

@@ -3,3 +3,4 @@ pub mod Joined
 pub mod Digits
 pub mod Printed
 pub mod Places
+pub mod Unbroken

@@ -6,9 +6,8 @@ use Rattle.cert_json.specs.declared.bundle.Bundle.{Bundle}
 use Rattle.cert_json.specs.BundleFile.{IsBundleFile}
 use Rattle.cert_json.proofs.BundleLaws.{bundle_takes, bundle_again}
 use Rattle.cert_json.proofs.ReadPreds.{file_net, file_preds}
-use Rattle.pop_net.specs.Step.{Step}
-use Rattle.pop_fair.specs.FairlyComputes.{FairlyComputes}
 use Rattle.pop_checker.specs.Computes.{Computes}
+use Rattle.pop_checker.specs.Sound.{IsRight}
 use Rattle.pop_checker.proofs.RightEnds.{sound}
 use Rattle.tool_texts.specs.Steps.{◌>>=◌}
 use Rattle.tool_texts.proofs.Goes.{bind_ok, same_ok}
@@ -38,11 +37,8 @@ input_begins first second bundle counts input =
     (Some input.value, input.reads, rw (bundle_again input.value bundle input.file, input.fits) refl)
 
 -- the net of a file whose proof is valid computes the predicate
-pub file_computes : (bundle : Bundle) (d : Data) → IsBundleFile bundle d → HasValidProof bundle → Computes bundle.net bundle.pred.tree (proof_bound bundle.proof)
-file_computes bundle d file valid =
-    (sound bundle.net bundle.pred bundle.proof (file_net bundle d file) (file_preds bundle d file) valid).computes
+pub file_right : (bundle : Bundle) (d : Data) → IsBundleFile bundle d → HasValidProof bundle → IsRight bundle.net bundle.pred bundle.proof
+file_right bundle d file valid = sound bundle.net bundle.pred bundle.proof (file_net bundle d file) (file_preds bundle d file) valid
 
--- and does so in every fair execution
-pub file_fair : (bundle : Bundle) (d : Data) → IsBundleFile bundle d → HasValidProof bundle → FairlyComputes (Step bundle.net) bundle.net bundle.pred.tree
-file_fair bundle d file valid =
-    (sound bundle.net bundle.pred bundle.proof (file_net bundle d file) (file_preds bundle d file) valid).fair
+pub file_computes : (bundle : Bundle) (d : Data) → IsBundleFile bundle d → HasValidProof bundle → Computes bundle.net bundle.pred.tree (proof_bound bundle.proof)
+file_computes bundle d file valid = (file_right bundle d file valid).computes

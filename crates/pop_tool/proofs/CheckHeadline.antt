@@ -27,7 +27,7 @@ use Rattle.tool_commands.specs.Check.{certified_text, judgement, OfBundle, OfLin
 use Rattle.tool_commands.proofs.Certified.{some_value}
 use Rattle.pop_tool.specs.Answer.{InputGives}
 use Rattle.pop_tool.specs.Headline.{IsBundleLine, HasValidProof, CheckSays, IsValidLine}
-use Rattle.pop_tool.proofs.BundleInput.{file_computes, file_fair}
+use Rattle.pop_tool.proofs.BundleInput.{file_right}
 use Rattle.pop_tool.proofs.FirstBytes.{first_byte, refusal_begins, rejection_begins}
 
 -- a refusal begins with an f, a rejection with an r, and `certified` with a c
@@ -46,10 +46,10 @@ module _ (text : List ℕ) (bundle : Bundle) where
   judged_says : (value : Data) → IsBundleFile bundle value → (judged : Option Rejected) → IsJudged bundle judged → text ≡ (judgement bundle judged).text
       → CheckSays bundle text (status_of (judgement bundle judged).ending)
   judged_says value file None is printed =
-      record { certified = ((λ p. is), (λ valid. (printed, refl))); computes = file_computes bundle value file; fair = file_fair bundle value file }
+      record { certified = ((λ p. is), (λ valid. (printed, refl))); right = file_right bundle value file }
   judged_says value file (Some rejected) is printed =
       let never : HasValidProof bundle → ⊥ = λ valid. none_rejected bundle.net bundle.pred bundle.proof rejected valid is in
-      record { certified = ((λ p. absurd (cc (p.1))), (λ valid. absurd (never valid))); computes = file_computes bundle value file; fair = file_fair bundle value file }
+      record { certified = ((λ p. absurd (cc (p.1))), (λ valid. absurd (never valid))); right = file_right bundle value file }
 
   judged_valid : (judged : Option Rejected) → IsJudged bundle judged → (k : ℕ) → (judgement bundle judged).text ≡ ended (certified_text k) → HasValidProof bundle
   judged_valid None is k e = is

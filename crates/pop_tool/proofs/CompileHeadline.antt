@@ -1,9 +1,13 @@
 -- What a printed line of `compile` says.
-use Rattle.std.proofs.Common.{◌≡◌, ℕ, Bool, true, false, nat_lt, List, length, Result, Ok, Err, refl, ap, subst}
+use Rattle.std.proofs.Common.{◌≡◌, ℕ, Bool, true, false, nat_lt, List, length, ◌≤◌, Result, Ok, Err, refl, ap, subst, ◌∙◌}
 use Rattle.std.specs.Prelude.{MatchBool}
 use Rattle.pop_io.specs.declared.whole.TheConstants.{INPUT_LIMIT}
 use Rattle.pop_lines.specs.Lines.{lines_of}
 use Rattle.pres_ast.specs.PredModel.{PredModel}
+use Rattle.serde_json.specs.Written.{compact_text}
+use Rattle.cert_json.specs.declared.bundle.Bundle.{Bundle}
+use Rattle.bundle_text.specs.Bundle.{bundle_data}
+use Rattle.bundle_text.proofs.ReadBack.{read_back}
 use Rattle.comp_net.specs.declared.choice.LeafChoice.{LeafChoice}
 use Rattle.tool_texts.specs.declared.refusal.Refusal.{Refusal}
 use Rattle.tool_texts.specs.declared.refusal.Refusal.TheVariants.{TooLong}
@@ -12,8 +16,8 @@ use Rattle.tool_texts.specs.declared.status.Status.TheVariants.{Done}
 use Rattle.tool_texts.specs.Statuses.{status_of}
 use Rattle.tool_texts.specs.Steps.{After}
 use Rattle.tool_texts.specs.Refusals.{output_for}
-use Rattle.tool_commands.specs.Compile.{asked_by, fits_its_leaves, OfFitting, OfAsked, CompileGives}
-use Rattle.pop_tool.specs.Headline.{CompileSays}
+use Rattle.tool_commands.specs.Compile.{bundle_line, IsCompiled, asked_by, fits_its_leaves, OfFitting, OfAsked, CompileGives}
+use Rattle.pop_tool.specs.Headline.{IsBundleLine, CompileSays}
 
 abbrev IsDone : Result Output Refusal → Type 0
 IsDone given = status_of (output_for given).ending ≡ Done
@@ -21,17 +25,33 @@ IsDone given = status_of (output_for given).ending ≡ Done
 refused : (refusal : Refusal) (given : Result Output Refusal) → given ≡ Err refusal → IsDone given → ⊥
 refused refusal given is done = let e = subst IsDone is done in cc e
 
+-- the line of a bundle that was compiled is that of the bundle
+compiled_line : (choice : LeafChoice) (names : List (List ℕ)) (pred : PredModel) (bundle : Bundle) → IsCompiled choice names pred bundle → (text : List ℕ) → text ≡ bundle_line bundle
+    → length text ≤ INPUT_LIMIT → IsBundleLine text bundle
+compiled_line choice names pred bundle is text printed short =
+    let back = read_back bundle is.writable in
+    record {
+      short = short;
+      line = compact_text (bundle_data bundle);
+      lines = ap lines_of printed ∙ back.line;
+      value = bundle_data bundle;
+      reads = (back.utf8, back.value);
+      file = back.file;
+    }
+
 module _ (choice : LeafChoice) (input : List ℕ) (given : Result Output Refusal) (done : IsDone given) where
   fitting_says : (names : List (List ℕ)) (pred : PredModel) → asked_by (lines_of input) ≡ Ok (names, pred) → (fits : Result (Unit {0}) Refusal) → After fits (OfFitting choice names pred) given → CompileSays choice input (output_for given).text
   fitting_says names pred tells (Err refusal) is = absurd (refused refusal given is done)
   fitting_says names pred tells (Ok u) is =
+      let printed = ap (λ (g : Result Output Refusal). (output_for g).text) is.2 in
       record {
         names = names;
         pred = pred;
         tells = tells;
         bundle = is.0;
         compiled = is.1;
-        printed = ap (λ (g : Result Output Refusal). (output_for g).text) is.2;
+        printed = printed;
+        line = λ short. compiled_line choice names pred is.0 is.1 (output_for given).text printed short;
       }
 
   asked_says : (found : Result (List (List ℕ) × PredModel) Refusal) → asked_by (lines_of input) ≡ found → After found (OfAsked choice) given → CompileSays choice input (output_for given).text

@@ -26,6 +26,7 @@ use Rattle.pop_tool.specs.Answer.{InputGives, OfMeaning, Answer}
 use Rattle.pop_tool.specs.Outcome.{HasLeft, Wrote, Outcome}
 use Rattle.comp_net.specs.declared.choice.LeafChoice.TheVariants as leaves
 use Rattle.pop_tool.specs.Headline.{IsBundleLine, CheckSays, IsValidLine, IsHeldInput, CompileSays, SettleSays, RunSays, SaysHolds, WasRun, Headline, IsHeadline}
+use Rattle.pop_tool.proofs.Replies.{given_for}
 use Rattle.pop_tool.proofs.CheckHeadline.{check_says, check_only}
 use Rattle.pop_tool.proofs.RunHeadline.{run_says}
 use Rattle.pop_tool.proofs.CompileHeadline.{compile_says}
@@ -33,28 +34,28 @@ use Rattle.pop_tool.proofs.SettleHeadline.{settle_says}
 use Rattle.pop_tool.proofs.ReplayHeadline.{held_given, replay_only}
 
 module _ (words : List (List ℕ)) (input : List ℕ) (output : Output) (answer : Answer words input output) where
-  given_for : (command : Command) → meaning_of words ≡ Ok command → (given : Result Output Refusal) × InputGives command input given × (output ≡ output_for given)
-  given_for command is = subst (λ (m : Result Command BadWord). OfMeaning m input output) is answer
+  given : (command : Command) → meaning_of words ≡ Ok command → (given : Result Output Refusal) × InputGives command input given × (output ≡ output_for given)
+  given command is = given_for words command input output is answer
 
   check_headline : (bundle : Bundle) → meaning_of words ≡ Ok Check → IsBundleLine input bundle → CheckSays bundle output.text (status_of output.ending)
   check_headline bundle is line =
-      let a = given_for Check is in
+      let a = given Check is in
       subst (λ (o : Output). CheckSays bundle o.text (status_of o.ending)) (sym a.2) (check_says input bundle a.0 line a.1)
 
   only_headline : meaning_of words ≡ Ok Check → (k : ℕ) → output.text ≡ ended (certified_text k) → IsValidLine input
   only_headline is k printed =
-      let a = given_for Check is in
+      let a = given Check is in
       check_only k input a.0 a.1 (subst (λ (o : Output). o.text ≡ ended (certified_text k)) a.2 printed)
 
   run_headline : (kind : RunKind) (spec : RunSpec) → meaning_of words ≡ Ok (run_command kind spec) → WasRun (status_of output.ending) → RunSays kind spec input output.text
   run_headline kind spec is ran =
-      let a = given_for (run_command kind spec) is in
+      let a = given (run_command kind spec) is in
       subst (λ (o : Output). RunSays kind spec input o.text) (sym a.2) (run_says kind spec input a.0 a.1 (subst (λ (o : Output). WasRun (status_of o.ending)) a.2 ran))
 
   replay_headline : (kind : RunKind) → meaning_of words ≡ Ok (replay_command kind) → (k : ℕ) → k < 2 ^ 64
       → SaysHolds k output.text (status_of output.ending) ↔ IsHeldInput kind input k
   replay_headline kind is k small =
-      let a = given_for (replay_command kind) is in (
+      let a = given (replay_command kind) is in (
         λ printed. replay_only k small kind input a.0 a.1 (subst (λ (o : Output). o.text ≡ ended (holds_text k)) a.2 printed.0),
         λ held.
             let out : output ≡ holds_output k = a.2 ∙ ap output_for (held_given kind input k held a.0 a.1) in
@@ -63,17 +64,17 @@ module _ (words : List (List ℕ)) (input : List ℕ) (output : Output) (answer 
 
   compile_headline : meaning_of words ≡ Ok Compile → status_of output.ending ≡ Done → CompileSays leaves.Plain input output.text
   compile_headline is done =
-      let a = given_for Compile is in
+      let a = given Compile is in
       subst (λ (o : Output). CompileSays leaves.Plain input o.text) (sym a.2) (compile_says leaves.Plain input a.0 a.1 (subst (λ (o : Output). status_of o.ending ≡ Done) a.2 done))
 
   flocks_headline : meaning_of words ≡ Ok Flocks → status_of output.ending ≡ Done → CompileSays leaves.Flocks input output.text
   flocks_headline is done =
-      let a = given_for Flocks is in
+      let a = given Flocks is in
       subst (λ (o : Output). CompileSays leaves.Flocks input o.text) (sym a.2) (compile_says leaves.Flocks input a.0 a.1 (subst (λ (o : Output). status_of o.ending ≡ Done) a.2 done))
 
   settle_headline : meaning_of words ≡ Ok Settle → status_of output.ending ≡ Done → SettleSays input output.text
   settle_headline is done =
-      let a = given_for Settle is in
+      let a = given Settle is in
       subst (λ (o : Output). SettleSays input o.text) (sym a.2) (settle_says input a.0 a.1 (subst (λ (o : Output). status_of o.ending ≡ Done) a.2 done))
 
   answer_says : Headline words input output.text (status_of output.ending)

@@ -8,6 +8,7 @@ mod RunHeadline
 mod ReplayHeadline
 mod RunHeld
 mod CompileHeadline
+mod CompileChecked
 mod SettleHeadline
 mod Headlines
 pub mod Complete

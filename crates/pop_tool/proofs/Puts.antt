@@ -10,8 +10,12 @@ use Rattle.tool_texts.specs.declared.status.Status.{Status}
 use Rattle.tool_texts.specs.declared.status.Status.TheVariants.{ReadFault, WriteFault, NoMemory}
 use Rattle.tool_texts.specs.Statuses.{status_of}
 use Rattle.pop_tool.specs.Outcome.{IsAnswer, IsReply, Outcome, IsAnswered}
-use Rattle.pop_tool.specs.Source.{IsReadToEnd, words_read}
+use Rattle.pop_tool.specs.Source.{HasSuffix, IsReadToEnd, words_read}
 use Rattle.pop_tool.specs.Written.{ReadFailed, IsRightOutput, IsWritten}
+use Rattle.pop_tool.specs.Call.{AcceptsReplies, IsCall}
+use Rattle.pop_tool.proofs.Complete.{not_refused}
+use Rattle.pop_tool.proofs.Headlines.{outcome_says}
+use Rattle.pop_tool.proofs.Replies.{IfOk-weaker}
 
 no_write_fault : (end : Ending) → status_of end ≡ WriteFault → ⊥
 no_write_fault ending.Done e = absurd cc
@@ -76,7 +80,7 @@ put_write output old new low high result (inl all) e = absurd (no_write_fault ou
 put_write output old new low high result (inr part) e = part.2
 
 module _ {E : Type 0} (old new : Option (List ℕ)) (low high : ℕ) (result : Status) where
-  abbrev WasWritten : Result Output E → Type 0
+  abbrev pub WasWritten : Result Output E → Type 0
   WasWritten output =
       MatchResult output (λ o. IsWritten o old new low high result) (λ _. (result ≡ NoMemory) × Keeps old new)
 
@@ -102,3 +106,36 @@ module _ {E : Type 0} (old new : Option (List ℕ)) (low high : ℕ) (result : S
     pub written_end : (output : Result Output E) → IfOk output (IsRightOutput words left rest before after) → WasWritten output → IsAnswered result → IsReadToEnd words left rest
     written_end (Ok output) right written whole = put_end words left rest old new output before after low high result right written whole
     written_end (Err e) right written whole = absurd (subst IsAnswered written.0 whole)
+
+-- ---- a whole call
+
+module _ {S K E : Type 0} (left : S → Option (List ℕ)) (read_faults : S → ℕ) (holds : K → Option (List ℕ)) (write_faults : K → ℕ) (words : List (List ℕ))
+    (source rest : S) (sink grown : K) (status : Status) (output : Result Output E) where
+  abbrev IsRight : Type 0
+  IsRight = IfOk output (IsRightOutput words (left source) (left rest) (read_faults source) (read_faults rest))
+
+  pub call_accepts : (accepts : List ℕ → Type 0) → AcceptsReplies accepts words (left source) → IsRight → IfOk output (λ o. accepts o.text)
+  call_accepts accepts room right =
+      IfOk-weaker _ _ (λ o is. room o (may_write words (left source) (left rest) (holds sink) (holds sink) o (read_faults source) (read_faults rest) is)) output right
+
+  pub call_made : IsRight → WasWritten (holds sink) (holds grown) (write_faults sink) (write_faults grown) status output → HasSuffix (left source) (left rest)
+      → (words_read words ≡ false → rest ≡ source) → IsCall left read_faults holds write_faults words source rest sink grown status
+  call_made right written suffix untouched =
+      let old = holds sink in
+      let new = holds grown in
+      let low = write_faults sink in
+      let high = write_faults grown in
+      let before = read_faults source in
+      let after = read_faults rest in
+      let outcome = written_outcome old new low high status words (left source) (left rest) before after output right written in
+      record {
+        outcome = outcome;
+        headline = outcome_says words (left source) old new status outcome;
+        complete = λ input tells. not_refused words input old new status (subst (λ (l : Option (List ℕ)). Outcome words l old new status) tells outcome);
+        read = written_read old new low high status words (left source) (left rest) before after output right written;
+        write = written_write old new low high status output written;
+        unread = written_unread old new low high status words (left source) (left rest) before after output right written;
+        suffix = suffix;
+        untouched = untouched;
+        end = written_end old new low high status words (left source) (left rest) before after output right written;
+      }

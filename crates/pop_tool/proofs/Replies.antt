@@ -98,3 +98,8 @@ long_input (Some left) taken long is = (left, refl, is)
 pub whole_input : (left : Option (List ℕ)) (input : List ℕ) → IfSome left (λ l. input ≡ l) → HasLeft left input
 whole_input None input is = tt
 whole_input (Some left) input is = sym is
+
+-- what the command of the words gives
+pub given_for : (words : List (List ℕ)) (command : Command) (input : List ℕ) (output : Output) → meaning_of words ≡ Ok command → Answer words input output
+    → (given : Result Output Refusal) × InputGives command input given × (output ≡ output_for given)
+given_for words command input output is answer = subst (λ (m : Result Command Usage). OfMeaning m input output) is answer

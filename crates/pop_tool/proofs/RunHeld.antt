@@ -33,7 +33,8 @@ use Rattle.pop_journal.specs.Ending.{common_output, ending_for, ending_of}
 use Rattle.pop_journal.specs.Expected.{whole_tail, Holds}
 use Rattle.pop_journal.specs.Laws.{IsReadBack}
 use Rattle.pop_journal.proofs.Looks.{least_some, least_of_terminal, common_some}
-use Rattle.pop_journal.proofs.Feeds.{IsUnbroken, lines_text}
+use Rattle.pop_lines.proofs.Unbroken.{IsUnbroken}
+use Rattle.pop_journal.proofs.Feeds.{lines_text}
 use Rattle.pop_journal.proofs.Written.{written_is_held}
 use Rattle.cert_base.specs.ProofBound.{proof_bound}
 use Rattle.pop_checker.specs.Computes.{Computes}
@@ -54,6 +55,7 @@ use Rattle.pop_tool.specs.Answer.{InputGives, OfMeaning, Answer}
 use Rattle.pop_tool.specs.Headline.{IsBundleInput, WasRun, IsHeldInput}
 use Rattle.pop_tool.specs.ReplayHeld.{replay_words, IsReplayHeld}
 use Rattle.pop_tool.proofs.BundleInput.{begins_input, file_computes}
+use Rattle.pop_tool.proofs.Replies.{given_for}
 use Rattle.pop_tool.proofs.RunHeadline.{IsMade, run_made}
 use Rattle.pop_tool.proofs.ReplayHeadline.{held_given}
 
@@ -152,9 +154,6 @@ module _ (kind : RunKind) (spec : RunSpec) (input : List ℕ) (output : Output) 
         holds = written.1;
         all = refl;
       }
-
-given_for : (words : List (List ℕ)) (command : Command) (input : List ℕ) (output : Output) → meaning_of words ≡ Ok command → Answer words input output → (given : Result Output Refusal) × InputGives command input given × (output ≡ output_for given)
-given_for words command input output is answer = subst (λ (m : Result Command Usage). OfMeaning m input output) is answer
 
 replay_means : (kind : RunKind) → meaning_of (replay_words kind) ≡ Ok (replay_command kind)
 replay_means Whole = refl

@@ -31,7 +31,7 @@ use Rattle.cert_json.specs.declared.bundle.Bundle.{Bundle}
 use Rattle.pop_settle.specs.declared.take.Take.{Take}
 use Rattle.pop_settle.specs.Settlement.{IsSettlement}
 use Rattle.pop_checker.specs.Computes.{Computes}
-use Rattle.pop_fair.specs.FairlyComputes.{FairlyComputes}
+use Rattle.pop_checker.specs.Sound.{IsRight}
 use Rattle.tool_texts.specs.declared.status.Status.{Status}
 use Rattle.tool_texts.specs.declared.status.Status.TheVariants.{Done, Undecided}
 use Rattle.tool_texts.specs.Json.{HasValue}
@@ -64,12 +64,15 @@ pub record IsBundleInput (first second : List ℕ) (bundle : Bundle) (counts : L
 abbrev pub HasValidProof : Bundle → Type 0
 HasValidProof bundle = ValidProof bundle.net bundle.pred bundle.proof
 
--- `certified` is printed, with the bound, exactly when the proof is valid; and then the net computes the predicate within it
+-- `certified` is printed, with this bound
+abbrev pub SaysCertified : ℕ → List ℕ → Status → Type 0
+SaysCertified bound text status = (text ≡ ended (certified_text bound)) × (status ≡ Done)
+
+-- `certified` is printed, with the bound, exactly when the proof is valid; and then the net computes the predicate within it, and every
+-- fair execution from an input stabilises with the predicate's value as every agent's output
 pub record CheckSays (bundle : Bundle) (text : List ℕ) (status : Status) : Type 0 where
-  pub certified : ((text ≡ ended (certified_text (proof_bound bundle.proof))) × (status ≡ Done)) ↔ HasValidProof bundle
-  pub computes : HasValidProof bundle → Computes bundle.net bundle.pred.tree (proof_bound bundle.proof)
-  -- in every fair execution from an input the crowd comes to rest, with the predicate's value as every agent's output
-  pub fair : HasValidProof bundle → FairlyComputes (Step bundle.net) bundle.net bundle.pred.tree
+  pub certified : SaysCertified (proof_bound bundle.proof) text status ↔ HasValidProof bundle
+  pub right : HasValidProof bundle → IsRight bundle.net bundle.pred bundle.proof
 
 -- the input is the line of some bundle whose proof is valid
 pub record IsValidLine (input : List ℕ) : Type 0 where
@@ -134,8 +137,8 @@ pub record IsHeldInput (kind : RunKind) (input : List ℕ) (meetings : ℕ) : Ty
 abbrev pub SaysHolds : ℕ → List ℕ → Status → Type 0
 SaysHolds meetings text status = (text ≡ ended (holds_text meetings)) × (status ≡ Done)
 
--- The input tells a predicate over some names, and the printed line is a bundle of its built net with these leaves, the predicate and a valid proof, so
--- that `check` accepts it.
+-- The input tells a predicate over some names, and the printed line is a bundle of its built net with these leaves, the predicate and a
+-- valid proof. Unless it is too long for an input, it is the line of this bundle, so that `check` answers it by `certified`.
 pub record CompileSays (choice : LeafChoice) (input text : List ℕ) : Type 0 where
   pub names : List (List ℕ)
   pub pred : PredModel
@@ -143,6 +146,7 @@ pub record CompileSays (choice : LeafChoice) (input text : List ℕ) : Type 0 wh
   pub bundle : Bundle
   pub compiled : IsCompiled choice names pred bundle
   pub printed : text ≡ bundle_line bundle
+  pub line : length text ≤ INPUT_LIMIT → IsBundleLine text bundle
 
 -- the run was made
 abbrev pub WasRun : Status → Type 0

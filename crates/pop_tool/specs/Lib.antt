@@ -6,4 +6,6 @@ pub mod Written
 pub mod OneAnswer
 pub mod Headline
 pub mod ReplayHeld
+pub mod CompileCertified
 pub mod Complete
+pub mod Call

@@ -1,9 +1,10 @@
 //! The top call over a source and a sink in memory that never fail.
 
-ghost use Rattle.std.specs.Prelude.{◌≢◌, ◌<◌, ◌≤◌, ◌^◌, length, map, Some};
-ghost use Rattle.tool_texts.specs.declared.output.Output.{Output as Written};
+ghost use Rattle.std.specs.Prelude.{◌≢◌, ◌<◌, ◌≤◌, ◌^◌, length, Some};
+ghost use Rattle.pop_words.specs.CommandLine.{texts_of};
 ghost use Rattle.pop_tool.specs.Plain.{ArePlain};
-ghost use Rattle.pop_tool.specs.Outcome.{IsReply, Outcome};
+ghost use Rattle.pop_tool.specs.Call.{AcceptsReplies};
+ghost use Rattle.pop_tool.specs.Outcome.{Outcome};
 ghost use Rattle.pop_tool.specs.Complete.{IsValidInput, IsCarriedOut};
 
 use crate::tool::run_plain;
@@ -20,13 +21,12 @@ pub fn run_calm<G: Gate>(
     gate: &G,
 ) -> Status
     requires few { length words.now < 2 ^ 32 }
-    requires plain { ArePlain (map (λ w. w.now) words.now) }
-    requires room { (output : Written) → IsReply (map (λ w. w.now) words.now) (Some source.old) output
-        → length output.text ≤ sink.old.spare }
-    ensures outcome { Outcome (map (λ w. w.now) words.now) (Some source.old)
+    requires plain { ArePlain (texts_of words.now) }
+    requires room { AcceptsReplies (λ text. length text ≤ sink.old.spare) (texts_of words.now) (Some source.old) }
+    ensures outcome { Outcome (texts_of words.now) (Some source.old)
         (Some sink.old.held) (Some sink.new.held) result }
     ensures calm { (result ≢ Status.ReadFault) × (result ≢ Status.WriteFault) }
-    ensures complete { IsValidInput (map (λ w. w.now) words.now) source.old → IsCarriedOut result }
+    ensures complete { IsValidInput (texts_of words.now) source.old → IsCarriedOut result }
 {
     run_plain(alloc, words, source, sink, gate)
 }

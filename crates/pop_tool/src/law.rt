@@ -1,6 +1,7 @@
 //! Laws of the definitions.
 
 ghost use Rattle.pop_tool.specs.OneAnswer.{IsOneAnswer};
+ghost use Rattle.pop_tool.specs.CompileCertified.{IsCompiledCertified};
 ghost use Rattle.pop_tool.specs.ReplayHeld.{IsReplayHeld};
 
 /// The output is a function of the words and the input, but for a run with two or more workers, for `watch` and for
@@ -13,4 +14,10 @@ pub fn one_answer()
 /// `watch` wrote for `replay --watched`. The call does nothing: it is its contract.
 pub fn replay_holds()
     ensures { IsReplayHeld }
+{}
+
+/// What `compile` wrote, with flocks or without, is certified by `check`, unless it is too long for an input. The call
+/// does nothing: it is its contract.
+pub fn compiled_is_certified()
+    ensures { IsCompiledCertified }
 {}

@@ -11,6 +11,6 @@ mod tool;
 mod write;
 
 pub use calm::run_calm;
-pub use law::{one_answer, replay_holds};
+pub use law::{compiled_is_certified, one_answer, replay_holds};
 pub use tool::{is_plain, run_plain, run_tool};
 pub use tool_texts::Status;

@@ -1,7 +1,8 @@
 //! From words and input to a text, or to a run that is still to be made.
 
-ghost use Rattle.std.specs.Prelude.{◌≡◌, ◌<◌, ◌^◌, length, map, false, IfOk};
+ghost use Rattle.std.specs.Prelude.{◌≡◌, ◌<◌, ◌^◌, length, false, IfOk};
 ghost use Rattle.pop_lines.specs.Lines.{lines_of};
+ghost use Rattle.pop_words.specs.CommandLine.{texts_of};
 ghost use Rattle.pop_words.specs.Words.{HasLimits};
 ghost use Rattle.tool_commands.specs.Prepared.{LeadsTo, NeedsNoThreads};
 ghost use Rattle.tool_commands.specs.Commands.{IsPlain};
@@ -37,11 +38,11 @@ pub(crate) fn prepare<S: Source>(
     source: &mut S,
 ) -> Result<Prepared, NoMemory>
     requires { length words.now < 2 ^ 32 }
-    ensures leads { IfOk result (LeadsTo (IsRightOutput (map (λ w. w.now) words.now)
+    ensures leads { IfOk result (LeadsTo (IsRightOutput (texts_of words.now)
         (S.left source.old) (S.left source.new) (S.faults source.old) (S.faults source.new))) }
-    ensures plain { ArePlain (map (λ w. w.now) words.now) → IfOk result NeedsNoThreads }
+    ensures plain { ArePlain (texts_of words.now) → IfOk result NeedsNoThreads }
     ensures suffix { HasSuffix (S.left source.old) (S.left source.new) }
-    ensures untouched { words_read (map (λ w. w.now) words.now) ≡ false → source.new ≡ source.old }
+    ensures untouched { words_read (texts_of words.now) ≡ false → source.new ≡ source.old }
 {
     let command = match read_words(words) {
         Ok(command) => command,

@@ -1,13 +1,11 @@
 //! The top call: words, then what they prepare, then what is still to be made, then one write.
 
-ghost use Rattle.std.specs.Prelude.{◌≡◌, ◌≢◌, ◌↔◌, ◌<◌, ◌^◌, length, map, false, IfOk, IsTrue};
-ghost use Rattle.pop_io.specs.Causes.{HasRisen};
-ghost use Rattle.tool_texts.specs.declared.output.Output.{Output as Written};
+ghost use Rattle.std.specs.Prelude.{◌≡◌, ◌↔◌, ◌<◌, ◌^◌, length, false, IfOk, IsTrue};
+ghost use Rattle.pop_words.specs.CommandLine.{texts_of};
 ghost use Rattle.pop_tool.specs.Plain.{ArePlain};
-ghost use Rattle.pop_tool.specs.Outcome.{IsReply, Outcome, IsAnswered};
-ghost use Rattle.pop_tool.specs.Source.{HasSuffix, IsReadToEnd, words_read};
+ghost use Rattle.pop_tool.specs.Call.{AcceptsReplies, IsCall};
+ghost use Rattle.pop_tool.specs.Source.{HasSuffix, words_read};
 ghost use Rattle.pop_tool.specs.Written.{IsRightOutput};
-ghost use Rattle.pop_tool.specs.Headline.{IsHeadline};
 
 use crate::perform::{perform, perform_alone};
 use crate::prepare::prepare;
@@ -31,25 +29,9 @@ pub fn run_plain<S: Source, K: Sink, G: Gate>(
 ) -> Status
     requires few { length words.now < 2 ^ 32 }
     // The words ask neither for a run with two or more workers nor for `watch`.
-    requires plain { ArePlain (map (λ w. w.now) words.now) }
-    // The sink accepts each text that might be written.
-    requires room { (output : Written) → IsReply (map (λ w. w.now) words.now) (S.left source.old) output
-        → K.accepts sink.old output.text }
-
-    // The sink grew by the answer to the words and to what the source had left, or as the status says.
-    ensures outcome { Outcome (map (λ w. w.now) words.now) (S.left source.old)
-        (K.holds sink.old) (K.holds sink.new) result }
-    ensures read { result ≡ Status.ReadFault → HasRisen (S.faults source.old) (S.faults source.new) }
-    ensures write { result ≡ Status.WriteFault → HasRisen (K.faults sink.old) (K.faults sink.new) }
-    // What `certified`, a journal and a verdict say of a bundle's net.
-    ensures headline { IsHeadline (map (λ w. w.now) words.now) (S.left source.old)
-        (K.holds sink.old) (K.holds sink.new) result }
-    ensures unread { words_read (map (λ w. w.now) words.now) ≡ false → result ≢ Status.ReadFault }
-    // The source has a suffix of what it had. Words without a command that reads leave it as it was.
-    ensures suffix { HasSuffix (S.left source.old) (S.left source.new) }
-    ensures untouched { words_read (map (λ w. w.now) words.now) ≡ false → source.new ≡ source.old }
-    // Where the whole answer was written, the source was read to its end, unless the input is too long.
-    ensures end { IsAnswered result → IsReadToEnd (map (λ w. w.now) words.now) (S.left source.old) (S.left source.new) }
+    requires plain { ArePlain (texts_of words.now) }
+    requires room { AcceptsReplies (K.accepts sink.old) (texts_of words.now) (S.left source.old) }
+    ensures { IsCall S.left S.faults K.holds K.faults (texts_of words.now) source.old source.new sink.old sink.new result }
 {
     let output = plain_output(alloc, words, source, gate);
     write(sink, output)
@@ -66,19 +48,12 @@ pub fn run_tool<R: Threads + Wait + Sync, S: Source, K: Sink, G: Gate>(
     gate: &G,
 ) -> Status
     requires few { length words.now < 2 ^ 32 }
-    requires room { (output : Written) → IsReply (map (λ w. w.now) words.now) (S.left source.old) output
-        → K.accepts sink.old output.text }
-    ensures outcome { Outcome (map (λ w. w.now) words.now) (S.left source.old)
-        (K.holds sink.old) (K.holds sink.new) result }
-    ensures read { result ≡ Status.ReadFault → HasRisen (S.faults source.old) (S.faults source.new) }
-    ensures write { result ≡ Status.WriteFault → HasRisen (K.faults sink.old) (K.faults sink.new) }
-    ensures headline { IsHeadline (map (λ w. w.now) words.now) (S.left source.old)
-        (K.holds sink.old) (K.holds sink.new) result }
-    ensures unread { words_read (map (λ w. w.now) words.now) ≡ false → result ≢ Status.ReadFault }
-    ensures suffix { HasSuffix (S.left source.old) (S.left source.new) }
-    ensures untouched { words_read (map (λ w. w.now) words.now) ≡ false → source.new ≡ source.old }
-    ensures end { IsAnswered result → IsReadToEnd (map (λ w. w.now) words.now) (S.left source.old) (S.left source.new) }
+    requires room { AcceptsReplies (K.accepts sink.old) (texts_of words.now) (S.left source.old) }
+    ensures { IsCall S.left S.faults K.holds K.faults (texts_of words.now) source.old source.new sink.old sink.new result }
 {
+    if is_plain(words) {
+        return run_plain(alloc, words, source, sink, gate);
+    }
     let output = any_output(rt, alloc, words, source, gate);
     write(sink, output)
 }
@@ -86,7 +61,7 @@ pub fn run_tool<R: Threads + Wait + Sync, S: Source, K: Sink, G: Gate>(
 /// Whether `run_plain` answers the words: they ask neither for a run with two or more workers nor for `watch`.
 pub fn is_plain(words: &[&str]) -> bool
     requires { length words.now < 2 ^ 32 }
-    ensures { IsTrue result ↔ ArePlain (map (λ w. w.now) words.now) }
+    ensures { IsTrue result ↔ ArePlain (texts_of words.now) }
 {
     match read_words(words) {
         Ok(command) => is_plain_command(&command),
@@ -102,11 +77,11 @@ fn plain_output<S: Source, G: Gate>(
     gate: &G,
 ) -> Result<Output, NoMemory>
     requires few { length words.now < 2 ^ 32 }
-    requires plain { ArePlain (map (λ w. w.now) words.now) }
-    ensures output { IfOk result (IsRightOutput (map (λ w. w.now) words.now) (S.left source.old) (S.left source.new)
+    requires plain { ArePlain (texts_of words.now) }
+    ensures output { IfOk result (IsRightOutput (texts_of words.now) (S.left source.old) (S.left source.new)
         (S.faults source.old) (S.faults source.new)) }
     ensures suffix { HasSuffix (S.left source.old) (S.left source.new) }
-    ensures untouched { words_read (map (λ w. w.now) words.now) ≡ false → source.new ≡ source.old }
+    ensures untouched { words_read (texts_of words.now) ≡ false → source.new ≡ source.old }
 {
     let prepared = prepare(alloc, words, source)?;
     perform_alone(alloc, prepared, gate)
@@ -121,10 +96,10 @@ fn any_output<R: Threads + Wait + Sync, S: Source, G: Gate>(
     gate: &G,
 ) -> Result<Output, NoMemory>
     requires { length words.now < 2 ^ 32 }
-    ensures output { IfOk result (IsRightOutput (map (λ w. w.now) words.now) (S.left source.old) (S.left source.new)
+    ensures output { IfOk result (IsRightOutput (texts_of words.now) (S.left source.old) (S.left source.new)
         (S.faults source.old) (S.faults source.new)) }
     ensures suffix { HasSuffix (S.left source.old) (S.left source.new) }
-    ensures untouched { words_read (map (λ w. w.now) words.now) ≡ false → source.new ≡ source.old }
+    ensures untouched { words_read (texts_of words.now) ≡ false → source.new ≡ source.old }
 {
     let prepared = prepare(alloc, words, source)?;
     perform(rt, alloc, prepared, gate)

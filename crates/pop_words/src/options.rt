@@ -4,6 +4,7 @@ ghost use Rattle.std.specs.Prelude.{◌≡◌, ◌<◌, ◌≤◌, ◌^◌, ◌+
 ghost use Rattle.std.specs.List.{list_any};
 ghost use Rattle.std.specs.Str.{bytes_eq};
 ghost use Rattle.pop_io.specs.declared.gate.TheConstants.{WORKER_LIMIT};
+ghost use Rattle.pop_words.specs.CommandLine.{texts_of};
 ghost use Rattle.pop_words.specs.declared.kind.RunKind.TheVariants.{Whole};
 ghost use Rattle.pop_words.specs.Kinds.{most_workers_of};
 ghost use Rattle.pop_words.specs.Options.{IsWithin, IsWithinLimits, name_of, option_value, spec_of, options_meaning};
@@ -76,7 +77,7 @@ impl RunOption {
 /// The run of this kind that the words behind the command's own ask for. The command's own is word 0.
 pub(crate) fn read_options(kind: RunKind, words: &[&str]) -> Result<RunSpec, Usage>
     requires { length words.now + 1 < 2 ^ 32 }
-    ensures meaning { result ≡ options_meaning kind (map (λ w. w.now) words.now) }
+    ensures meaning { result ≡ options_meaning kind (texts_of words.now) }
     ensures limits { IfOk result IsWithinLimits }
     ensures workers { IfOk result (λ spec. spec.workers ≤ most_workers_of kind) }
 {
@@ -104,7 +105,7 @@ fn behind(at: usize, why: UsageWhy) -> Usage
 }
 
 fn first_fault_of(kind: RunKind, words: &[&str]) -> Option<(usize, UsageWhy)>
-    ensures first { result ≡ first_fault kind (map (λ w. w.now) words.now) }
+    ensures first { result ≡ first_fault kind (texts_of words.now) }
     ensures place { IfSome result (λ fault. fault.0 < length words.now) }
 {
     for at in 0..words.len() {
@@ -118,7 +119,7 @@ fn first_fault_of(kind: RunKind, words: &[&str]) -> Option<(usize, UsageWhy)>
 /// Options and numbers take turns.
 fn fault_at(kind: RunKind, words: &[&str], at: usize) -> Option<UsageWhy>
     requires { at < length words.now }
-    ensures { result ≡ word_fault kind (map (λ w. w.now) words.now) at }
+    ensures { result ≡ word_fault kind (texts_of words.now) at }
 {
     if at % 2 == 0 {
         fault_of_name(&words[..at], words[at])
@@ -129,7 +130,7 @@ fn fault_at(kind: RunKind, words: &[&str], at: usize) -> Option<UsageWhy>
 
 #[tactic(auto, using(crate::proofs::Firsts::list_any_map))]
 fn fault_of_name(before: &[&str], word: &str) -> Option<UsageWhy>
-    ensures { result ≡ name_fault (map (λ w. w.now) before.now) word.now }
+    ensures { result ≡ name_fault (texts_of before.now) word.now }
 {
     if RunOption::named(word).is_none() {
         return Some(UsageWhy::Unknown);
@@ -165,7 +166,7 @@ fn fault_of_number(kind: RunKind, option: RunOption, word: &str) -> Option<Usage
 
 /// The spec of options without a fault.
 fn spec_in(kind: RunKind, words: &[&str]) -> RunSpec
-    ensures spec { result ≡ spec_of kind (map (λ w. w.now) words.now) }
+    ensures spec { result ≡ spec_of kind (texts_of words.now) }
     ensures limits { IsWithinLimits result }
     ensures workers { result.workers ≤ most_workers_of kind }
     ensures few { result.workers * result.turns ≤ WORKER_LIMIT * TURN_LIMIT }
@@ -181,7 +182,7 @@ fn spec_in(kind: RunKind, words: &[&str]) -> RunSpec
 /// The number behind an option's name, or its default.
 #[tactic(auto, using(crate::proofs::Firsts::position_map, crate::proofs::Limits::default_within, crate::proofs::Limits::within_whole))]
 fn value_in(kind: RunKind, words: &[&str], option: RunOption) -> u64
-    ensures value { result ≡ option_value kind (map (λ w. w.now) words.now) option }
+    ensures value { result ≡ option_value kind (texts_of words.now) option }
     ensures within { IsWithin kind option result }
     ensures whole { IsWithin Whole option result }
 {

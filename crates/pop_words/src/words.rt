@@ -1,6 +1,7 @@
 //! The words of the command line.
 
 ghost use Rattle.std.specs.Prelude.{◌≡◌, ◌<◌, ◌≤◌, ◌^◌, ◌+◌, length, map, Some, IfSome, IfOk};
+ghost use Rattle.pop_words.specs.CommandLine.{texts_of};
 ghost use Rattle.pop_words.specs.Kinds.{most_workers_of};
 ghost use Rattle.pop_words.specs.Options.{IsWithinLimits};
 ghost use Rattle.pop_words.specs.Words.{meaning_of, meaning_behind, form_named, run_command, demo_meaning};
@@ -69,7 +70,7 @@ impl Flag {
 /// The command that the words ask for. Allocates nothing.
 pub fn read_words(words: &[&str]) -> Result<Command, Usage>
     requires { length words.now < 2 ^ 32 }
-    ensures meaning { result ≡ meaning_of (map (λ w. w.now) words.now) }
+    ensures meaning { result ≡ meaning_of (texts_of words.now) }
     ensures limits { IfOk result HasLimits }
 {
     match words {
@@ -103,7 +104,7 @@ fn form_of(word: &str) -> Option<Form>
 fn read_behind(form: Form, words: &[&str]) -> Result<Command, Usage>
     requires few { length words.now + 1 < 2 ^ 32 }
     requires limits { FormHasLimits form }
-    ensures meaning { result ≡ meaning_behind (Some form) (map (λ w. w.now) words.now) }
+    ensures meaning { result ≡ meaning_behind (Some form) (texts_of words.now) }
     ensures limits { IfOk result HasLimits }
 {
     match form {
@@ -130,7 +131,7 @@ fn command_of(kind: RunKind, spec: RunSpec) -> Command
 
 /// One number of a demo case, and no more.
 fn read_number(words: &[&str]) -> Result<Command, Usage>
-    ensures meaning { result ≡ demo_meaning (map (λ w. w.now) words.now) }
+    ensures meaning { result ≡ demo_meaning (texts_of words.now) }
     ensures limits { IfOk result HasLimits }
 {
     let [first, rest @ ..] = words else {
@@ -147,7 +148,7 @@ fn read_number(words: &[&str]) -> Result<Command, Usage>
 
 /// The plain command where no word stands behind its own, and the other one behind the flag alone.
 fn read_flag(flag: Flag, words: &[&str]) -> Result<Command, Usage>
-    ensures meaning { result ≡ flag_meaning flag (map (λ w. w.now) words.now) }
+    ensures meaning { result ≡ flag_meaning flag (texts_of words.now) }
     ensures limits { IfOk result HasLimits }
 {
     match words {

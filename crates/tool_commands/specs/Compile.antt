@@ -1,5 +1,5 @@
 -- What `compile` and `compile --flocks` make of the lines of their input: a vars line and a predicate.
-use Rattle.std.specs.Prelude.{◌≡◌, ℕ, List, length, Option, Some, None, option_and_then, Result, Ok, Err}
+use Rattle.std.specs.Prelude.{◌≡◌, ℕ, List, Option, Some, None, option_and_then, Result, Ok, Err}
 use Rattle.pop_lines.specs.Lines.{ended}
 use Rattle.pres_ast.specs.PredTree.{PredTree}
 use Rattle.pres_ast.specs.PredModel.{PredModel}
@@ -7,10 +7,11 @@ use Rattle.pres_read.specs.Reading.{pred_read}
 use Rattle.pop_net.specs.Reaction.{IsSingle}
 use Rattle.pop_words.specs.Vars.{vars_of}
 use Rattle.serde_json.specs.Written.{compact_text}
-use Rattle.cert_base.specs.ProofLimits.{IsProofWithin}
 use Rattle.cert_base.specs.ValidProof.{ValidProof}
 use Rattle.cert_json.specs.declared.bundle.Bundle.{Bundle}
 use Rattle.bundle_text.specs.Bundle.{bundle_data}
+use Rattle.bundle_text.specs.ReadBack.{IsWritable}
+use Rattle.pop_checker.specs.Sound.{IsRight}
 use Rattle.comp_net.specs.declared.choice.LeafChoice.{LeafChoice}
 use Rattle.comp_net.specs.declared.fault.CompileFault.{CompileFault}
 use Rattle.comp_net.specs.declared.fault.CompileFault.TheVariants.{ManyAtoms, TooWide, WideNet, NoMemory}
@@ -47,14 +48,15 @@ unless_refused (Some refusal) = Err refusal
 abbrev pub fits_its_leaves : LeafChoice → PredTree → Result (Unit {0}) Refusal
 fits_its_leaves choice tree = unless_refused (option_and_then refusal_of (fault_with choice tree))
 
--- a bundle of the predicate's built net over these names, the predicate, and a valid proof within the limits of its file. No
--- leaf has two moves for the same states.
+-- A bundle of the predicate's built net over these names, the predicate, and a valid proof. It can be written, no leaf has two
+-- moves for the same states, and the net computes the predicate.
 pub record IsCompiled (choice : LeafChoice) (names : List (List ℕ)) (pred : PredModel) (bundle : Bundle) : Type 0 where
   pub net_is : bundle.net ≡ net_with choice names pred.tree
   pub pred_is : bundle.pred ≡ pred
   pub valid : ValidProof bundle.net bundle.pred bundle.proof
-  pub within : IsProofWithin (length bundle.net.variables) (length bundle.net.leaves) bundle.proof
+  pub writable : IsWritable bundle
   pub single : IsSingle bundle.net
+  pub right : IsRight bundle.net bundle.pred bundle.proof
 
 abbrev pub bundle_line : Bundle → List ℕ
 bundle_line bundle = ended (compact_text (bundle_data bundle))

@@ -61,6 +61,7 @@ fn bundle_of(
     ensures fits { GivesStep (λ _. tt) result (fits_its_leaves choice pred.tree) }
     ensures compiled { IfOk result (IsCompiled choice names.now pred) }
 {
+    let _limits = pred.vars();
     let refusal = match build_with(alloc, choice, &pred, names) {
         Ok((net, proof)) => return Ok(Bundle { net, pred, proof }),
         Err(CompileFault::ManyAtoms(atoms)) => Refusal::Atoms(atoms),

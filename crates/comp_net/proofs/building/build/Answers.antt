@@ -5,10 +5,13 @@ use Rattle.pres_ast.specs.PredTree.{PredTree}
 use Rattle.pres_ast.specs.PredModel.{IsPred}
 use Rattle.cert_base.specs.ProofLimits.{IsProofWithin}
 use Rattle.cert_base.specs.ValidProof.{ValidProof}
+use Rattle.cert_base.specs.FactsAndCases.{over_count}
+use Rattle.pop_checker.specs.Sound.{IsRight}
 use Rattle.comp_net.specs.Atoms.{atoms, AreBuildable}
+use Rattle.comp_net.specs.BuiltNet.{net_with}
 use Rattle.comp_net.specs.Building.{AreAtomProofs}
 use Rattle.comp_net.proofs.Adding.{IsWhole, whole}
-use Rattle.comp_net.proofs.Valid.{pred_buildable, proof-valid, proof-within, net-single, net-formed, net-as}
+use Rattle.comp_net.proofs.Valid.{pred_buildable, proof-valid, proof-within, proof-preds, net-right, net-single, net-formed, net-as}
 use Rattle.comp_net.proofs.building.build.Goals as goal
 
 pub push_tree-requires-clause-atoms : goal.push_tree-requires-clause-atoms
@@ -39,5 +42,10 @@ returns c =
       valid = subst (λ n. ValidProof n pred (record { leaves = c.from_vec-3.result })) (sym net) (proof-valid choice names pred.variables tree c.from_vec-3.result parts);
       within = subst (λ (n : NetModel). IsProofWithin pred.variables (length n.leaves) (record { leaves = c.from_vec-3.result })) (sym net)
           (proof-within choice names pred.variables tree c.from_vec-3.result parts c.tree.ensures.limits c.requires.none);
+      formed = subst IsNet (sym net) (net-formed choice names tree c.requires.formed (subst (λ n. IsPred n tree) (sym c.requires.count) c.tree.ensures.limits) c.requires.none);
+      preds = proof-preds choice pred.variables tree c.from_vec-3.result parts c.tree.ensures.limits;
       single = subst IsSingle (sym net) (net-single choice names pred.variables tree c.tree.ensures.limits c.requires.none);
+      right = subst (λ (n : NetModel). IsRight n pred (record { leaves = c.from_vec-3.result })) (sym net)
+          (subst (λ k. IsRight (net_with choice names tree) (over_count k tree) (record { leaves = c.from_vec-3.result })) c.requires.count
+          (net-right choice names tree c.from_vec-3.result parts c.requires.formed (subst (λ n. IsPred n tree) (sym c.requires.count) c.tree.ensures.limits) c.requires.none));
     }

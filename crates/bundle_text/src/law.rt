@@ -1,0 +1,9 @@
+//! The law of what is written.
+
+ghost use Rattle.bundle_text.specs.ReadBack.{BundlesAreReadBack};
+
+/// The text of a bundle within the limits of a file is read back to the bundle. The call does nothing: it is its
+/// contract.
+pub fn bundles_are_read_back()
+    ensures { BundlesAreReadBack }
+{}

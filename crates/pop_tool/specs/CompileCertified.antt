@@ -1,0 +1,27 @@
+-- That `check` certifies what was compiled.
+use Rattle.std.specs.Prelude.{◌≡◌, ℕ, ◌≤◌, List, [], ◌∷◌, length, codes}
+use Rattle.pop_io.specs.declared.whole.TheConstants.{INPUT_LIMIT}
+use Rattle.cert_base.specs.ProofBound.{proof_bound}
+use Rattle.cert_json.specs.declared.bundle.Bundle.{Bundle}
+use Rattle.comp_net.specs.declared.choice.LeafChoice.{LeafChoice}
+use Rattle.comp_net.specs.declared.choice.LeafChoice.TheVariants.{Plain, Flocks}
+use Rattle.tool_texts.specs.declared.output.Output.{Output}
+use Rattle.tool_texts.specs.declared.status.Status.TheVariants.{Done}
+use Rattle.tool_texts.specs.Statuses.{status_of}
+use Rattle.tool_commands.specs.Compile.{bundle_line}
+use Rattle.pop_tool.specs.Answer.{Answer}
+use Rattle.pop_tool.specs.Headline.{SaysCertified}
+
+-- the words that compile a predicate to these leaves
+abbrev pub compile_words : LeafChoice → List (List ℕ)
+compile_words Plain = codes "compile" ∷ []
+compile_words Flocks = codes "compile" ∷ codes "--flocks" ∷ []
+
+-- What was compiled is the line of a bundle. Unless it is too long for an input, `check` answers it by `certified`, with the bound of
+-- that bundle's proof.
+abbrev pub IsCompiledCertified : Type 0
+IsCompiledCertified =
+    (choice : LeafChoice) (input : List ℕ) (written answer : Output) → Answer (compile_words choice) input written
+    → status_of written.ending ≡ Done → length written.text ≤ INPUT_LIMIT → Answer (codes "check" ∷ []) written.text answer
+    → (bundle : Bundle) × (written.text ≡ bundle_line bundle)
+    × SaysCertified (proof_bound bundle.proof) answer.text (status_of answer.ending)
