@@ -179,19 +179,6 @@ part_preds choice n (a ∷ xs) (part ∷ parts) h preds =
 pub proof-preds : (choice : LeafChoice) (n : ℕ) (tree : PredTree) (parts : List LeafProof) → AreAtomProofs choice (atoms tree) parts → IsPred n tree → All (IsPart n) parts
 proof-preds choice n tree parts h is = part_preds choice n (atoms tree) parts h (atom_preds n tree is.some_variable is.variables is.atoms)
 
--- so the net is right
-pub net-right : (choice : LeafChoice) (names : List (List ℕ)) (tree : PredTree) (parts : List LeafProof) → AreAtomProofs choice (atoms tree) parts → AreNames variable_name names → IsPred (length names) tree
-    → fault_with choice tree ≡ None → IsRight (net_with choice names tree) (over_count (length names) tree) (record { leaves = parts })
-net-right choice names tree parts h formed is none =
-    let n = length names in
-    let within = (proof-within choice names n tree parts h is none).parts in
-    let preds = proof-preds choice n tree parts h is in
-    sound (net_with choice names tree) (over_count n tree) (record { leaves = parts }) (net-formed choice names tree formed is none)
-    (λ i part at.
-        let over = (All-slice_get (IsLeafProofWithin n) parts i part within at).pred in
-        (over, subst (λ k. HasAtoms k part.pred.tree) (sym over) (All-slice_get (IsPart n) parts i part preds at).atoms))
-    (proof-valid choice names n tree parts h)
-
 -- no leaf has two moves for the same states
 pub net-single : (choice : LeafChoice) (names : List (List ℕ)) (n : ℕ) (tree : PredTree) → IsPred n tree → fault_with choice tree ≡ None → IsSingle (net_with choice names tree)
 net-single choice names n tree is none =
@@ -229,6 +216,19 @@ net-formed choice names tree formed is none =
       helpers = All-map (λ leaf. length leaf.helpers ≡ number_of_helpers (net_with choice names tree)) (leaf_of choice) (atoms tree) (All-weaker (IsBuilt choice n) (λ a. length (leaf_of choice a).helpers ≡ number_of_helpers (net_with choice names tree)) (λ a b. ap length b.helpers ∙ sym (no_helpers choice n (atoms tree) built)) (atoms tree) built);
       wide = λ w. (let few = not-wide choice tree n built keeps w in omega (arith, long, few));
     }
+
+-- so the net is right
+pub net-right : (choice : LeafChoice) (names : List (List ℕ)) (tree : PredTree) (parts : List LeafProof) → AreAtomProofs choice (atoms tree) parts → AreNames variable_name names → IsPred (length names) tree
+    → fault_with choice tree ≡ None → IsRight (net_with choice names tree) (over_count (length names) tree) (record { leaves = parts })
+net-right choice names tree parts h formed is none =
+    let n = length names in
+    let within = (proof-within choice names n tree parts h is none).parts in
+    let preds = proof-preds choice n tree parts h is in
+    sound (net_with choice names tree) (over_count n tree) (record { leaves = parts }) (net-formed choice names tree formed is none)
+    (λ i part at.
+        let over = (All-slice_get (IsLeafProofWithin n) parts i part within at).pred in
+        (over, subst (λ k. HasAtoms k part.pred.tree) (sym over) (All-slice_get (IsPart n) parts i part preds at).atoms))
+    (proof-valid choice names n tree parts h)
 
 -- the net as the code puts it together
 pub net-as : (choice : LeafChoice) (names copies : List (List ℕ)) (tree : PredTree) (leaves : List LeafModel) (items : List Item) → copies ≡ names → leaves ≡ map (leaf_of choice) (atoms tree) → items ≡ postfix 0 tree → record { variables = copies; leaves = leaves; combine = items } ≡ net_with choice names tree
