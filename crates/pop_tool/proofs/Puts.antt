@@ -109,16 +109,16 @@ module _ {E : Type 0} (old new : Option (List ℕ)) (low high : ℕ) (result : S
 
 -- ---- a whole call
 
+-- a sink that accepts the replies accepts the output
+pub call_accepts : {E : Type 0} (accepts : List ℕ → Type 0) (words : List (List ℕ)) (left rest held : Option (List ℕ)) (before after : ℕ) (output : Result Output E)
+    → AcceptsReplies accepts words left → IfOk output (IsRightOutput words left rest before after) → IfOk output (λ o. accepts o.text)
+call_accepts accepts words left rest held before after output room right =
+    IfOk-weaker _ _ (λ o is. room o (may_write words left rest held held o before after is)) output right
+
 module _ {S K E : Type 0} (left : S → Option (List ℕ)) (read_faults : S → ℕ) (holds : K → Option (List ℕ)) (write_faults : K → ℕ) (words : List (List ℕ))
     (source rest : S) (sink grown : K) (status : Status) (output : Result Output E) where
-  abbrev IsRight : Type 0
-  IsRight = IfOk output (IsRightOutput words (left source) (left rest) (read_faults source) (read_faults rest))
-
-  pub call_accepts : (accepts : List ℕ → Type 0) → AcceptsReplies accepts words (left source) → IsRight → IfOk output (λ o. accepts o.text)
-  call_accepts accepts room right =
-      IfOk-weaker _ _ (λ o is. room o (may_write words (left source) (left rest) (holds sink) (holds sink) o (read_faults source) (read_faults rest) is)) output right
-
-  pub call_made : IsRight → WasWritten (holds sink) (holds grown) (write_faults sink) (write_faults grown) status output → HasSuffix (left source) (left rest)
+  pub call_made : IfOk output (IsRightOutput words (left source) (left rest) (read_faults source) (read_faults rest))
+      → WasWritten (holds sink) (holds grown) (write_faults sink) (write_faults grown) status output → HasSuffix (left source) (left rest)
       → (words_read words ≡ false → rest ≡ source) → IsCall left read_faults holds write_faults words source rest sink grown status
   call_made right written suffix untouched =
       let old = holds sink in

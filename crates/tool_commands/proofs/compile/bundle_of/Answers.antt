@@ -1,9 +1,29 @@
-use Rattle.std.proofs.Common.{◌≡◌, length, ap, sym, subst}
+use Rattle.std.proofs.Common.{◌≡◌, List, ℕ, length, refl, ap, sym, subst, ◌∙◌}
 use Rattle.std.specs.Prelude.{All}
+use Rattle.cert_base.specs.declared.proof.LeafProof.{LeafProof}
 use Rattle.cert_base.specs.ProofLimits.{IsProofWithin}
 use Rattle.pop_net.specs.NetModel.{NetModel}
 use Rattle.pres_ast.specs.PredModel.{IsPred}
 use Rattle.tool_commands.proofs.compile.bundle_of.Goals as goal
 
 pub returns-in-Ok-clause-compiled : goal.returns-in-Ok-clause-compiled
-returns-in-Ok-clause-compiled c = ?
+returns-in-Ok-clause-compiled c =
+    let built = c.in-Ok.ensures in
+    let net : NetModel = c.in-Ok.net in
+    let proof = c.in-Ok.proof in
+    let over : c.args.pred.variables ≡ length net.variables =
+        c.requires.count ∙ ap (λ (m : NetModel). length m.variables) (sym built.net) in
+    record {
+      net_is = built.net;
+      pred_is = refl;
+      valid = built.valid;
+      writable = record {
+        net = built.formed;
+        variables = over;
+        pred = subst (λ n. IsPred n c.args.pred.tree) over c.vars-limits.ensures.limits;
+        parts = subst (λ n. All (λ (part : LeafProof). IsPred n part.pred.tree) proof.leaves) over built.preds;
+        within = subst (λ n. IsProofWithin n (length net.leaves) proof) over built.within;
+      };
+      single = built.single;
+      right = built.right;
+    }
