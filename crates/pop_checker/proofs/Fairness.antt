@@ -20,11 +20,11 @@ use Rattle.pop_crowd.specs.declared.crowd.Meeting.{Meeting as Pair}
 use Rattle.pop_crowd.specs.Replay.{replay, IsMeeting, AreMeetings}
 use Rattle.pop_crowd.proofs.Reached.{length-after_meeting}
 use Rattle.cert_base.proofs.InRange.{end_in_range}
-use Rattle.pop_fair.specs.FairlyComputes.{Meeting, FairlyComputes}
+use Rattle.pop_fair.specs.StablyComputes.{MeetingStep, StablyComputes}
 use Rattle.pop_fair.proofs.Stable.{steps_compute, meetings_compute}
 use Rattle.pop_checker.specs.Computes.{Computes, EndsByMeetings}
 
-pub steps_fairly : (net : NetModel) (tree : PredTree) (k : ℕ) → Computes net tree k → FairlyComputes (Step net) net tree
+pub steps_fairly : (net : NetModel) (tree : PredTree) (k : ℕ) → Computes net tree k → StablyComputes (Step net) net tree
 steps_fairly net tree k computes =
     steps_compute net tree
     (λ counts crowd input r.
@@ -32,7 +32,7 @@ steps_fairly net tree k computes =
     record { ends = (way.ends.0, way.ends.1, (way.ends.2.0, way.ends.2.2)); right = way.right })
 
 -- meetings as steps
-meets : (net : NetModel) (m : Pair) (crowd : CrowdModel) → IsMeeting (length crowd) m → Meeting net crowd (after_meeting net m.a m.b crowd)
+meets : (net : NetModel) (m : Pair) (crowd : CrowdModel) → IsMeeting (length crowd) m → MeetingStep net crowd (after_meeting net m.a m.b crowd)
 meets net m crowd h =
     record {
       a = m.a;
@@ -48,7 +48,7 @@ meets net m crowd h =
       others_stay = refl;
     }
 
-meetings_lead : (net : NetModel) (meetings : List Pair) (crowd : CrowdModel) → AreMeetings (length crowd) meetings → (path : List CrowdModel) × Leads (Meeting net) crowd path (replay net meetings crowd)
+meetings_lead : (net : NetModel) (meetings : List Pair) (crowd : CrowdModel) → AreMeetings (length crowd) meetings → (path : List CrowdModel) × Leads (MeetingStep net) crowd path (replay net meetings crowd)
 meetings_lead net [] crowd h = ([], refl)
 meetings_lead net (m ∷ meetings) crowd h =
     let next = after_meeting net m.a m.b crowd in
@@ -73,7 +73,7 @@ reached_states net counts crowd is input r k d l i leaf h =
     All-slice_get (λ (q : ℕ). q < length leaf.states) (component i crowd) k (state_of (get_or crowd k d) i) range
     (slice_get-component i crowd k (get_or crowd k d) (slice_get-get_or crowd k d l))
 
-pub meetings_fairly : (net : NetModel) (tree : PredTree) (k : ℕ) → IsNet net → Computes net tree k → EndsByMeetings net k → FairlyComputes (Meeting net) net tree
+pub meetings_fairly : (net : NetModel) (tree : PredTree) (k : ℕ) → IsNet net → Computes net tree k → EndsByMeetings net k → StablyComputes (MeetingStep net) net tree
 meetings_fairly net tree k is computes settles =
     meetings_compute net tree
     (λ counts crowd input r.

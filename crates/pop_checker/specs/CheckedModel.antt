@@ -4,7 +4,7 @@ use Rattle.pres_ast.specs.PredModel.{PredModel}
 use Rattle.pop_net.specs.NetModel.{NetModel}
 use Rattle.pop_net.specs.Reaction.{IsSingle}
 use Rattle.pop_net.specs.Step.{Step}
-use Rattle.pop_fair.specs.FairlyComputes.{Meeting, FairlyComputes}
+use Rattle.pop_fair.specs.StablyComputes.{MeetingStep, StablyComputes}
 use Rattle.pop_checker.specs.Computes.{Computes, EndsByMeetings}
 
 pub record CheckedModel : Type 0 where
@@ -20,5 +20,5 @@ pub record IsChecked (checked : CheckedModel) : Type 0 where
   -- a net in which no two moves of a leaf are for the same states can be led to its end by meetings alone
   pub settles : IsSingle checked.net → EndsByMeetings checked.net checked.bound
   -- every fair execution from an input stabilises with the predicate's value, and of such a net every one by meetings
-  pub fair : FairlyComputes (Step checked.net) checked.net checked.pred.tree
-  pub fair_meetings : IsSingle checked.net → FairlyComputes (Meeting checked.net) checked.net checked.pred.tree
+  pub fair : StablyComputes (Step checked.net) checked.net checked.pred.tree
+  pub fair_meetings : IsSingle checked.net → StablyComputes (MeetingStep checked.net) checked.net checked.pred.tree

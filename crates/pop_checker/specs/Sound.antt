@@ -8,7 +8,7 @@ use Rattle.cert_base.specs.declared.proof.LeafProof.{LeafProof}
 use Rattle.cert_base.specs.ProofBound.{proof_bound}
 use Rattle.cert_base.specs.ValidProof.{ValidProof}
 use Rattle.pop_net.specs.Step.{Step}
-use Rattle.pop_fair.specs.FairlyComputes.{Meeting, FairlyComputes}
+use Rattle.pop_fair.specs.StablyComputes.{MeetingStep, StablyComputes}
 use Rattle.pop_checker.specs.Computes.{Computes, EndsByMeetings}
 
 -- the predicates of the leaves are over the net's variables, with coefficients for these alone
@@ -23,9 +23,9 @@ pub record IsRight (net : NetModel) (p : PredModel) (proof : Proof) : Type 0 whe
   pub computes : Computes net p.tree (proof_bound proof)
   pub settles : IsSingle net → EndsByMeetings net (proof_bound proof)
   -- in every fair execution from an input the crowd comes to rest, with the predicate's value as every agent's output
-  pub fair : FairlyComputes (Step net) net p.tree
+  pub fair : StablyComputes (Step net) net p.tree
   -- of a net that is single so do the fair executions by meetings
-  pub fair_meetings : IsSingle net → FairlyComputes (Meeting net) net p.tree
+  pub fair_meetings : IsSingle net → StablyComputes (MeetingStep net) net p.tree
 
 abbrev pub IsSound : Type 0
 IsSound = (net : NetModel) (p : PredModel) (proof : Proof) → IsNet net → ArePreds net proof → ValidProof net p proof → IsRight net p proof

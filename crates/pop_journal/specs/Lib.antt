@@ -9,3 +9,4 @@ pub mod Laws
 pub mod Reasons
 pub mod WrittenRun
 pub mod FirstPair
+pub mod Calls

@@ -1,10 +1,10 @@
 //! Journals read from their lines.
 
-ghost use Rattle.std.specs.Prelude.{◌≡◌, ◌+◌, ◌*◌, ◌<◌, ◌≤◌, ◌^◌, ℕ, List as Items, [], ◌∷◌, ◌++◌, length, codes, Some};
+ghost use Rattle.std.specs.Prelude.{◌≡◌, ◌+◌, ◌*◌, ◌<◌, ◌≤◌, ◌^◌, ℕ, List as Items, [], ◌++◌, length, Some};
 ghost use Rattle.std.specs.Prelude.{None, Ok, Err, IfOk, IfErr};
 ghost use Rattle.std.specs.Str.{bytes_eq};
-ghost use Rattle.pop_journal.specs.Journal.{run_line, round_line, round_lines};
-ghost use Rattle.pop_journal.specs.Rounds.{AreRoundsOf};
+ghost use Rattle.pop_journal.specs.Calls.{IsReadFrom};
+ghost use Rattle.pop_journal.specs.Journal.{round_line};
 ghost use Rattle.pop_lines.specs.Lines.{lines_of};
 ghost use Rattle.pop_words.specs.Kinds.{most_workers_of};
 ghost use Rattle.pop_words.specs.Options.{IsWithinLimits};
@@ -200,18 +200,8 @@ pub fn read_journal(
     first: u64,
     agents: u32,
 ) -> Result<Journal, JournalFault>
-    requires first { first ≤ LINE_LIMIT }
-    ensures read { ReadsJournal kind agents first (lines_of text.now) result }
-    ensures kind { IfOk result (λ journal. journal.kind ≡ kind) }
-    ensures first { IfOk result (λ journal. journal.first ≡ first) }
-    ensures limits { IfOk result (λ journal.
-        IsWithinLimits journal.spec × (journal.spec.workers ≤ most_workers_of kind)) }
-    // The rounds are what `verify` asks for.
-    ensures rounds { IfOk result (λ journal. AreRoundsOf kind journal.spec agents journal.rounds) }
-    // The lines of the text are those of the journal.
-    ensures spelled { IfOk result
-        (λ journal. lines_of text.now
-        ≡ run_line kind journal.spec ∷ (round_lines 1 journal.rounds ++ codes "end" ∷ journal.tail)) }
+    requires { first ≤ LINE_LIMIT }
+    ensures { IsReadFrom (lines_of text.now) kind first agents result }
 {
     read_lines(alloc, kind, text, first, agents)
 }

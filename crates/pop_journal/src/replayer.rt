@@ -83,7 +83,7 @@ impl Replayer {
     ghost use Rattle.pop_crowd.specs.Replay.{replay};
     ghost use Rattle.pop_journal.specs.Expected.{next_meeting, meetings_compared, tail_compared, both, line_between};
     ghost use Rattle.pop_journal.specs.Expected.{line_at_end, whole_tail};
-    ghost use Rattle.pop_journal.specs.Standing.{IsReplaying, IsForEnd, Passes};
+    ghost use Rattle.pop_journal.specs.Standing.{IsReplaying, IsForEnd, KeepsShape, Passes};
     ghost use Rattle.terminal_test.specs.TableNet.{table_net};
 
     /// The next meeting of a worker.
@@ -94,9 +94,7 @@ impl Replayer {
             → IsReplaying net.now start spec before self.old
             → (result ≡ next_meeting net.now start spec before worker)
             × IsReplaying net.now start spec (before ++ result ∷ []) self.new }
-        ensures valid { AreValid net.now self.new.crowd }
-        ensures agents { length self.new.crowd ≡ length self.old.crowd }
-        ensures workers { length self.new.pickers.items ≡ length self.old.pickers.items }
+        ensures shape { KeepsShape net.now self.old self.new }
     {
         let (a, b) = self.pickers[worker as usize].pick(self.crowd.len());
         let changed = self.crowd.meet(net, a, b);
@@ -125,9 +123,7 @@ impl Replayer {
             → IsReplaying net.now start spec before self.old
             → Passes line (meetings_compared net.now start spec before meetings.now) result
             × IfOk result (λ _. IsReplaying net.now start spec (before ++ meetings.now) self.new) }
-        ensures valid { AreValid net.now self.new.crowd }
-        ensures agents { length self.new.crowd ≡ length self.old.crowd }
-        ensures workers { length self.new.pickers.items ≡ length self.old.pickers.items }
+        ensures shape { KeepsShape net.now self.old self.new }
     {
         for (i, meeting) in meetings.iter().enumerate() {
             let found = self.meet_next(net, meeting.worker);
@@ -160,9 +156,7 @@ impl Replayer {
             (both (round_line round) (line_between net.now start spec before round)
             ∷ meetings_compared net.now start spec before meetings.now) result
             × IfOk result (λ _. IsReplaying net.now start spec (before ++ meetings.now) self.new) }
-        ensures valid { AreValid net.now self.new.crowd }
-        ensures agents { length self.new.crowd ≡ length self.old.crowd }
-        ensures workers { length self.new.pickers.items ≡ length self.old.pickers.items }
+        ensures shape { KeepsShape net.now self.old self.new }
     {
         if is_quiet(alloc, table, &self.crowd, &mut self.last)? {
             return Err(round_for_end(alloc, line, round)?);

@@ -1,15 +1,15 @@
 //! The check of a journal against the run that it tells.
 
-ghost use Rattle.std.specs.Prelude.{◌≡◌, ◌≤◌, ◌+◌, [], length, IfOk, IfErr};
+ghost use Rattle.std.specs.Prelude.{◌≡◌, ◌≤◌, ◌+◌, [], length, IfOk};
 ghost use Rattle.pop_net.specs.Lanes.{crowd_of, AreValid};
 ghost use Rattle.terminal_test.specs.TableNet.{table_net};
 ghost use Rattle.pop_words.specs.Options.{IsWithinLimits};
 ghost use Rattle.pair_workers.specs.CrowdSize.{IsCrowdSize};
 ghost use Rattle.pair_workers.specs.Run.{joined};
-ghost use Rattle.pop_journal.specs.Rounds.{AreWatchedRounds, AreRoundsOf};
-ghost use Rattle.pop_journal.specs.Expected.{journal_compared, Holds};
+ghost use Rattle.pop_journal.specs.Rounds.{AreWatchedRounds};
+ghost use Rattle.pop_journal.specs.Calls.{CanVerify, IsVerified};
+ghost use Rattle.pop_journal.specs.Expected.{journal_compared};
 ghost use Rattle.pop_journal.specs.Standing.{IsReplaying, Passes};
-ghost use Rattle.pop_journal.specs.declared.fault.VerifyFault.TheVariants.{NoMemory as OutOfMemory};
 
 use crate::fault::VerifyFault;
 use crate::journal::{Journal, LINE_LIMIT};
@@ -100,17 +100,8 @@ fn compare(alloc: Global, net: &Net, crowd: Crowd, journal: &Journal) -> Result<
 /// Compares the lines of a journal behind the first with the ones that are expected after the lines before them.
 /// The answer is the number of meetings.
 pub fn verify(alloc: Global, net: &Net, crowd: Crowd, journal: &Journal) -> Result<u64, VerifyFault>
-    requires valid { AreValid net.now crowd }
-    requires first { journal.now.first ≤ LINE_LIMIT }
-    requires spec { IsWithinLimits journal.now.spec }
-    requires rounds { AreRoundsOf journal.now.kind journal.now.spec (length crowd) journal.now.rounds }
-    // The first line that isn't the expected one is the refusal.
-    ensures passes { Passes (journal.now.first + 1)
-        (journal_compared net.now (crowd_of net.now crowd) journal.now) result }
-    ensures meetings { IfOk result (λ k. k ≡ length (joined journal.now.rounds)) }
-    // It passes exactly when the rounds are a run of the journal's kind and the tail has the lines of its end.
-    ensures holds { IfOk result (λ _. Holds net.now (crowd_of net.now crowd) journal.now) }
-    ensures accepts { Holds net.now (crowd_of net.now crowd) journal.now → IfErr result (λ fault. fault ≡ OutOfMemory) }
+    requires { CanVerify net.now crowd journal.now }
+    ensures { IsVerified net.now crowd journal.now result }
 {
     compare(alloc, net, crowd, journal)
 }

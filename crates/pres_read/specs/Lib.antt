@@ -12,3 +12,4 @@ pub mod Faults
 pub mod Canonical
 pub mod Sound
 pub mod Views
+pub mod Calls

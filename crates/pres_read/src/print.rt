@@ -8,6 +8,7 @@ ghost use Rattle.pop_io.specs.Names.{variable_name, AreNames};
 ghost use Rattle.pres_ast.specs.PredTree.{LessThan, Congruent};
 ghost use Rattle.pres_ast.specs.PredModel.{HasAtoms, IsPred};
 ghost use Rattle.pres_ast.specs.TreeOf.{tree_of};
+ghost use Rattle.pres_read.specs.Calls.{IsPrinted};
 ghost use Rattle.pres_read.specs.Grammar.{Derives};
 ghost use Rattle.pres_read.specs.Texts.{text_symbols};
 ghost use Rattle.pres_read.specs.Reading.{pred_read};
@@ -22,11 +23,7 @@ use std::alloc::{AllocError, Global};
 pub fn print_pred(alloc: Global, pred: &Pred, names: &List<Text>) -> Result<Text, NoMemory>
     requires count { length names.now ≡ pred.now.variables }
     requires names { AreNames variable_name names.now }
-    ensures canonical { IfOk result (λ text. text ≡ tree_text names.now pred.now.tree) }
-    // The grammar relates the text to the predicate's tree.
-    ensures derived { IfOk result (λ text. Derives names.now (text_symbols text) pred.now.tree) }
-    // Reading it gives the predicate again.
-    ensures again { IfOk result (λ text. pred_read names.now text ≡ Ok pred.now) }
+    ensures { IsPrinted names.now pred.now result }
 {
     canonical_text(alloc, pred.tree(), names)
 }

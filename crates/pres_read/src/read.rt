@@ -1,21 +1,16 @@
 //! Reading a predicate.
 
-ghost use Rattle.std.specs.Prelude.{◌≡◌, ◌≤◌, IfOk, IfErr, IfSome, length};
+ghost use Rattle.std.specs.Prelude.{◌≡◌, ◌≤◌, IfOk, IfErr, length};
 ghost use Rattle.pop_io.specs.Gives.{Fails};
-ghost use Rattle.pop_io.specs.Names.{variable_name, AreNames};
-ghost use Rattle.pres_ast.specs.PredTree.{PredTree};
 ghost use Rattle.pres_ast.specs.PredModel.{IsPred};
 ghost use Rattle.pres_ast.specs.TreeOf.{tree_of};
 ghost use Rattle.pres_tokens.specs.Tokens.{tokens_of};
 ghost use Rattle.pres_tokens.specs.Symbols.{token_of};
+ghost use Rattle.pres_read.specs.Calls.{AreVariableNames, IsReadFrom};
 ghost use Rattle.pres_read.specs.Outcome.{GivesParsed, text_fault_of};
 ghost use Rattle.pres_read.specs.Progress.{start};
 ghost use Rattle.pres_read.specs.Depth.{surface};
 ghost use Rattle.pres_read.specs.Reading.{run, finish, read_on, pred_read};
-ghost use Rattle.pres_read.specs.Grammar.{APred, Phrase, symbols, meaning, Derives};
-ghost use Rattle.pres_read.specs.Faults.{IsReadFault};
-ghost use Rattle.pres_read.specs.Texts.{text_symbols, IsReadAs, IsReadTo};
-ghost use Rattle.pres_read.specs.Rules.{Fits, IsShallow, KeepsRules};
 ghost use Rattle.pres_read.specs.Sound.{IsSoundProgress};
 ghost use Rattle.pres_read.specs.Views.{progress_of, depth_of};
 
@@ -32,25 +27,8 @@ pub const TEXT_LIMIT: usize = 1_048_576;
 
 /// Reads a predicate over the variables with these names.
 pub fn read_pred(alloc: Global, text: &[u8], names: &List<Text>) -> Result<Pred, ReadPred>
-    requires some { 1 ≤ length names.now }
-    requires few { length names.now ≤ VARIABLE_LIMIT }
-    requires names { AreNames variable_name names.now }
-    // Token by token, each fault and its place.
-    ensures exact { GivesParsed (λ pred. pred) result (pred_read names.now text.now) }
-    // The grammar relates the text to the tree that is read.
-    ensures derived { IfOk result (λ pred. Derives names.now (text_symbols text.now) pred.tree) }
-    // Its names are the variables', and its numbers, signs and parentheses are within the limits.
-    ensures kept_rules { IfOk result (λ pred. KeepsRules names.now (text_symbols text.now)) }
-    // A text that the grammar relates to a tree is read to no other one, and is no fault of syntax.
-    ensures only { (tree : PredTree) → Derives names.now (text_symbols text.now) tree → IsReadAs tree result }
-    // A text of the grammar is read where it is short, its names are known, and its numbers and depth are within the
-    // limits.
-    ensures kept { (phrase : Phrase APred) → symbols phrase ≡ text_symbols text.now → length text.now ≤ TEXT_LIMIT
-        → Fits names.now phrase → IsShallow surface (text_symbols text.now)
-        → IsReadTo (meaning names.now phrase) result }
-    // The tokens before the place begin a text of the grammar and keep all rules, and this one breaks that of the
-    // fault.
-    ensures faults { IfErr result (λ fault. IfSome (text_fault_of fault) (IsReadFault names.now text.now)) }
+    requires { AreVariableNames names.now }
+    ensures { IsReadFrom text.now names.now result }
 {
     read_exactly(alloc, text, names)
 }

@@ -73,9 +73,9 @@ loop-k-preserved c =
     let lacks : lacking journal.spec (k + 1) r ≡ lacking_behind journal.spec rounds (k + 1) = lacking_next journal.spec (length c.args.replayer.now.crowd) rounds c.requires.rounds k less r is in
     let told = c.in_ok-compare_round.ensures.passes start journal.spec before was.stands round.some_turn in
     record {
-      valid = c.compare_round.ensures.valid;
-      agents = c.compare_round.ensures.agents ∙ was.agents;
-      workers = c.compare_round.ensures.workers ∙ was.workers;
+      valid = c.compare_round.ensures.shape.valid;
+      agents = c.compare_round.ensures.shape.agents ∙ was.agents;
+      workers = c.compare_round.ensures.shape.workers ∙ was.workers;
       lines = omega (arith, was.lines, long);
       total = ap (λ (n : ℕ). n + length r) was.total ∙ sym (length-append before r) ∙ ap (length {A = Meeting}) (sym more);
       few = omega (arith, was.few, long);

@@ -1,0 +1,47 @@
+-- Calls: what the calls on journals ask for and promise.
+use Rattle.std.specs.Prelude.{◌≡◌, ℕ, ◌+◌, ◌≤◌, List, ◌∷◌, ◌++◌, length, codes, Result, IfOk, IfErr}
+use Rattle.pop_net.specs.NetModel.{NetModel}
+use Rattle.pop_net.specs.declared.net.Word.{Word}
+use Rattle.pop_net.specs.Lanes.{crowd_of, AreValid}
+use Rattle.pop_words.specs.declared.kind.RunKind.{RunKind}
+use Rattle.pop_words.specs.Kinds.{most_workers_of}
+use Rattle.pop_words.specs.Options.{IsWithinLimits}
+use Rattle.pair_workers.specs.Run.{joined}
+use Rattle.pop_journal.specs.declared.fault.JournalFault.{JournalFault}
+use Rattle.pop_journal.specs.declared.fault.VerifyFault.{VerifyFault}
+use Rattle.pop_journal.specs.declared.fault.VerifyFault.TheVariants.{NoMemory as OutOfMemory}
+use Rattle.pop_journal.specs.declared.journal.Journal.{Journal}
+use Rattle.pop_journal.specs.declared.journal.TheConstants.{LINE_LIMIT}
+use Rattle.pop_journal.specs.Journal.{run_line, round_lines}
+use Rattle.pop_journal.specs.Rounds.{AreRoundsOf}
+use Rattle.pop_journal.specs.ReadLines.{ReadsJournal}
+use Rattle.pop_journal.specs.Expected.{journal_compared, Holds}
+use Rattle.pop_journal.specs.Standing.{Passes}
+
+-- what was read of these lines, the first of which has this number, as the journal of a run of this kind for so many agents
+pub record IsReadFrom (lines : List (List ℕ)) (run : RunKind) (number agents : ℕ) (result : Result Journal JournalFault) : Type 0 where
+  pub read : ReadsJournal run agents number lines result
+  pub kind : IfOk result (λ journal. journal.kind ≡ run)
+  pub first : IfOk result (λ journal. journal.first ≡ number)
+  pub limits : IfOk result (λ journal. IsWithinLimits journal.spec × (journal.spec.workers ≤ most_workers_of run))
+  -- the rounds are what `verify` asks for
+  pub rounds : IfOk result (λ journal. AreRoundsOf run journal.spec agents journal.rounds)
+  -- the lines of the text are those of the journal
+  pub spelled : IfOk result
+      (λ journal. lines ≡ run_line run journal.spec ∷ (round_lines 1 journal.rounds ++ codes "end" ∷ journal.tail))
+
+-- what `verify` asks of a journal, for a crowd of this net
+pub record CanVerify (net : NetModel) (crowd : List Word) (journal : Journal) : Type 0 where
+  pub valid : AreValid net crowd
+  pub first : journal.first ≤ LINE_LIMIT
+  pub spec : IsWithinLimits journal.spec
+  pub rounds : AreRoundsOf journal.kind journal.spec (length crowd) journal.rounds
+
+-- the journal was compared with the run that it tells from this crowd
+pub record IsVerified (net : NetModel) (crowd : List Word) (journal : Journal) (result : Result ℕ VerifyFault) : Type 0 where
+  -- the first line that isn't the expected one is the refusal
+  pub passes : Passes (journal.first + 1) (journal_compared net (crowd_of net crowd) journal) result
+  pub meetings : IfOk result (λ k. k ≡ length (joined journal.rounds))
+  -- it passes exactly when the rounds are a run of the journal's kind and the tail has the lines of its end
+  pub holds : IfOk result (λ _. Holds net (crowd_of net crowd) journal)
+  pub accepts : Holds net (crowd_of net crowd) journal → IfErr result (λ fault. fault ≡ OutOfMemory)
