@@ -13,7 +13,8 @@ use Rattle.json_shape.proofs.Fresh.{EachFrom-All, All-EachFrom}
 use Rattle.pres_ast.specs.PredTree.{PredTree}
 use Rattle.pres_ast.specs.PredModel.{PredModel}
 use Rattle.pres_read.specs.TextFault.{TextFault}
-use Rattle.pres_read.specs.Reading.{over_names, tree_read, pred_read}
+use Rattle.pres_read.specs.Reading.{pred_read}
+use Rattle.pres_read.proofs.PredTexts.{read_meant, meant_read}
 use Rattle.cert_base.specs.declared.layer.Layer.{Layer}
 use Rattle.cert_base.specs.declared.node.Node.{Node}
 use Rattle.cert_base.specs.declared.proof.Proof.{Proof}
@@ -28,21 +29,17 @@ read_ok : (path : List ℕ) (r : Result PredModel TextFault) (p : PredModel) →
 read_ok path (Ok q) p e = ap (λ (m : PredModel). Ok m) (same_ok q p e)
 read_ok path (Err f) p e = absurd cc
 
-over_variables : (n : ℕ) (r : Result PredTree TextFault) (p : PredModel) → over_names n r ≡ Ok p → p.variables ≡ n
-over_variables n (Ok tree) p e = let same : (let m : PredModel = record { variables = n; tree = tree } in m) ≡ p = cc in ap (λ (m : PredModel). m.variables) (sym same)
-over_variables n (Err f) p e = absurd cc
-
 module _ (names : List (List ℕ)) where
   pub pred_takes : (path : List ℕ) (d : Data) (p : PredModel) → pred_at names path d ≡ Ok p → IsPredText names p d × (p.variables ≡ length names)
   unfolding pred_at
   pred_takes path d p e =
       let a = bind_ok (text_at path d) (λ s. pred_or_why path (pred_read names s)) p e in
       let r = read_ok path (pred_read names a.0) p a.2 in
-      ((a.0, Readers.text_at-takes path d a.0 a.1, r), over_variables (length names) (tree_read names a.0) p r)
+      let meant = read_meant names a.0 p r in ((a.0, Readers.text_at-takes path d a.0 a.1, meant), meant.variables)
 
   pub pred_again : (path : List ℕ) (d : Data) (p : PredModel) → IsPredText names p d → pred_at names path d ≡ Ok p
   unfolding pred_at
-  pred_again path d p is = rw (Readers.text_at-again path d is.0 is.1, is.2) refl
+  pred_again path d p is = rw (Readers.text_at-again path d is.0 is.1, meant_read names is.0 p is.2) refl
 
   abbrev Parted : Data → LeafProof → Type 0
   Parted d part = IsLeafProofFile names part d × IsLeafProofWithin (length names) part

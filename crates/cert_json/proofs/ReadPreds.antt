@@ -21,6 +21,7 @@ use Rattle.pres_read.specs.Depth.{Depth, surface, deeper, sunk}
 use Rattle.pres_read.specs.Reading.{step, with_progress, run, tree_read, over_names, pred_read}
 use Rattle.pres_read.specs.Sound.{IsSoundProgress}
 use Rattle.pres_read.proofs.Ends.{sound_further, finish_fits}
+use Rattle.pres_read.proofs.PredTexts.{meant_read}
 use Rattle.cert_base.specs.declared.proof.LeafProof.{LeafProof}
 use Rattle.cert_json.specs.declared.bundle.Bundle.{Bundle}
 use Rattle.cert_json.specs.ProofFile.{IsPredText, IsLeafProofFile}
@@ -83,7 +84,7 @@ module _ (names : List (List ℕ)) (one : 1 ≤ length names) (most : length nam
   -- ---- the predicates of a proof
 
   text_over : (p : PredModel) (d : Data) → IsPredText names p d → IsOver p
-  text_over p d is = subst (λ (r : Result PredModel TextFault). IfOk r IsOver) is.2 (read_fits is.0)
+  text_over p d is = subst (λ (r : Result PredModel TextFault). IfOk r IsOver) (meant_read names is.0 p is.2) (read_fits is.0)
 
   both_some : {A : Type 0} {x y : A} → Some x ≡ Some y → x ≡ y
   both_some e = cc

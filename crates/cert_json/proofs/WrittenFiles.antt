@@ -12,6 +12,7 @@ use Rattle.json_shape.specs.Parts.{IsNumber, IsInteger, IsList}
 use Rattle.pres_ast.specs.PredModel.{PredModel, IsPred}
 use Rattle.pres_read.specs.Canonical.{tree_text}
 use Rattle.pres_read.proofs.Again.{printed_read}
+use Rattle.pres_read.proofs.PredTexts.{read_meant}
 use Rattle.net_json.specs.Written.{number_data, list_data, numbers_data}
 use Rattle.net_json.proofs.Writes.{written_list}
 use Rattle.cert_base.specs.declared.fact.Term.{Term}
@@ -72,7 +73,8 @@ module _ (names : List (List ℕ)) (named : AreNames variable_name names) where
   pred_is p over limits = (
     tree_text names p.tree,
     refl,
-    printed_read names p.tree named limits (text_short names p.tree named limits) ∙ ap (λ (n : ℕ). Ok (record { variables = n; tree = p.tree })) (sym over),
+    read_meant names (tree_text names p.tree) p
+    (printed_read names p.tree named limits (text_short names p.tree named limits) ∙ ap (λ (n : ℕ). Ok (record { variables = n; tree = p.tree })) (sym over)),
   )
 
   abbrev Fits : LeafProof → Type 0

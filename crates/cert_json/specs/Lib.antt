@@ -4,3 +4,4 @@ pub mod Examined
 pub mod Written
 pub mod Bundles
 pub mod BundleFile
+pub mod Calls

@@ -1,9 +1,9 @@
 -- ProofFile: which JSON value is the file of which proof. Members may stand in any order, and others may stand beside them.
-use Rattle.std.specs.Prelude.{◌≡◌, ℕ, List, codes, Ok}
+use Rattle.std.specs.Prelude.{ℕ, List, codes}
 use Rattle.serde_json.specs.Data.{Data}
 use Rattle.json_shape.specs.Parts.{IsNumber, IsInteger, IsText, HasItems, IsOnly, AreBoth, BeginsWith, HasMember, IsList}
 use Rattle.pres_ast.specs.PredModel.{PredModel}
-use Rattle.pres_read.specs.Reading.{pred_read}
+use Rattle.pres_read.specs.PredText.{IsTextOf}
 use Rattle.cert_base.specs.declared.fact.Term.{Term}
 use Rattle.cert_base.specs.declared.layer.Layer.{Layer}
 use Rattle.cert_base.specs.declared.node.Node.{Node}
@@ -11,9 +11,9 @@ use Rattle.cert_base.specs.declared.node.Node.TheVariants.{Linear, Residue, Spli
 use Rattle.cert_base.specs.declared.proof.Proof.{Proof}
 use Rattle.cert_base.specs.declared.proof.LeafProof.{LeafProof}
 
--- a text that is read to this predicate over these names
+-- a text that means this predicate over these names
 abbrev pub IsPredText : List (List ℕ) → PredModel → Data → Type 0
-IsPredText names p d = (s : List ℕ) × IsText s d × (pred_read names s ≡ Ok p)
+IsPredText names p d = (s : List ℕ) × IsText s d × IsTextOf names s p
 
 -- a term is a list of its number and its coefficient or multiplier
 abbrev pub IsTerm : Term → Data → Type 0

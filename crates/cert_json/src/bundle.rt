@@ -1,14 +1,13 @@
 //! Reading a whole bundle: a net, a predicate, and the proof that the net computes it.
 
-ghost use Rattle.std.specs.Prelude.{◌≡◌, ◌≢◌, codes, length, IfErr, IfOk};
+ghost use Rattle.std.specs.Prelude.{◌≡◌, codes, length, IfOk};
 ghost use Rattle.serde_json.specs.View.{view};
 ghost use Rattle.json_shape.specs.Faults.{GivesRead};
 ghost use Rattle.json_shape.specs.Paths.{path_text};
 ghost use Rattle.json_shape.specs.Shapes.{member_by};
 ghost use Rattle.net_json.specs.Examined.{net_at};
-ghost use Rattle.cert_base.specs.ProofLimits.{IsProofWithin};
-ghost use Rattle.cert_json.specs.BundleFile.{IsBundleFile};
 ghost use Rattle.cert_json.specs.Bundles.{claim_at, bundle_at};
+ghost use Rattle.cert_json.specs.Calls.{IsReadBundle};
 
 use crate::read::{pred_of, read_proof};
 use cert_base::Proof;
@@ -61,15 +60,7 @@ fn bundle_of(alloc: Global, value: &Value) -> Result<Bundle, FormatFault>
 /// The members are examined in the order `net`, `pred`, `proof`, each whole before the next is looked for. Other
 /// members are ignored.
 pub fn read_bundle(alloc: Global, value: &Value) -> Result<Bundle, FormatFault>
-    ensures exact { GivesRead (λ bundle. bundle) result (bundle_at (view value.now)) }
-    ensures variables { IfOk result (λ bundle. bundle.pred.variables ≡ length bundle.net.variables) }
-    ensures within { IfOk result (λ bundle.
-        IsProofWithin (length bundle.net.variables) (length bundle.net.leaves) bundle.proof) }
-
-    // Just the files of bundles are read, and each to its bundle.
-    ensures file { IfOk result (λ bundle. IsBundleFile bundle (view value.now)) }
-    ensures no_file { IfErr result (λ fault. fault ≢ FormatFault.NoMemory → (bundle : Bundle)
-        → IsBundleFile bundle (view value.now) → ⊥) }
+    ensures { IsReadBundle (view value.now) result }
 {
     bundle_of(alloc, value)
 }

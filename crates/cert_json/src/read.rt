@@ -8,7 +8,7 @@ ghost use Rattle.json_shape.specs.Paths.{path_text};
 ghost use Rattle.json_shape.specs.Shapes.{member_by};
 ghost use Rattle.cert_base.specs.declared.proof.Proof.{Proof};
 ghost use Rattle.cert_base.specs.ProofLimits.{IsProofWithin};
-ghost use Rattle.cert_json.specs.ProofFile.{IsProofFile};
+ghost use Rattle.cert_json.specs.Calls.{IsReadProof};
 ghost use Rattle.pres_read.specs.Outcome.{text_fault_of};
 ghost use Rattle.cert_json.specs.Examined.{pred_at, why_of, leaf_proofs_at, proof_at};
 
@@ -157,15 +157,7 @@ fn proof_of(alloc: Global, value: &Value, net: &Net) -> Result<Proof, FormatFaul
 /// `false`; of a layer `moves`, `weights`; of a node its word, then how many items it has, then each of them. Each is
 /// examined whole before the next is looked for. Other members are ignored.
 pub fn read_proof(alloc: Global, value: &Value, net: &Net) -> Result<Proof, FormatFault>
-    ensures exact { GivesRead (λ proof. proof) result
-        (proof_at net.now.variables (length net.now.leaves) (view value.now)) }
-    ensures within { IfOk result (λ proof. IsProofWithin (length net.now.variables) (length net.now.leaves) proof) }
-
-    // Just the files of proofs within the limits are read, and each to its proof.
-    ensures file { IfOk result (λ proof. IsProofFile net.now.variables proof (view value.now)) }
-    ensures no_file { IfErr result (λ fault. fault ≢ FormatFault.NoMemory → (proof : Proof)
-        → IsProofFile net.now.variables proof (view value.now)
-        → IsProofWithin (length net.now.variables) (length net.now.leaves) proof → ⊥) }
+    ensures { IsReadProof net.now (view value.now) result }
 {
     proof_of(alloc, value, net)
 }

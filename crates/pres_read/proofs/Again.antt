@@ -17,7 +17,8 @@ use Rattle.pres_tokens.specs.Symbols.{Symbol, Number, Compare, And, Or, Open, Cl
 use Rattle.pres_read.specs.Numbers.{value_of_digits}
 use Rattle.pres_read.specs.Atoms.{signed_number}
 use Rattle.pres_read.specs.Depth.{Depth, surface, symbol_charge, parentheses_after, deeper}
-use Rattle.pres_read.specs.Reading.{zero_coefs, pred_read}
+use Rattle.pres_read.specs.Reading.{pred_read}
+use Rattle.pres_read.specs.Atoms.{zero_coefs}
 use Rattle.pres_read.specs.Grammar.{Term, bare, times, Sum, first, further, conj, unit, term_symbols, minus_if, plus_or_minus, sum_symbols, constant_symbols, symbols, term_name, term_number}
 use Rattle.pres_read.specs.Rules.{CoefFits, TermFits, SumFits, Fits, IsShallow}
 use Rattle.pres_read.specs.Canonical.{is_negative, is_zero, tree_text}

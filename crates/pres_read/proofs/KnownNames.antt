@@ -7,7 +7,8 @@ use Rattle.pres_tokens.specs.Symbols.{Symbol, Name, Minus, Not, Open, Placed}
 use Rattle.pres_read.specs.TextFault.{TextFault}
 use Rattle.pres_read.specs.Atoms.{Factor, lone, with_term}
 use Rattle.pres_read.specs.Progress.{Span, Around, Next, AUnit, ATerm, AStar, AName, ARelation, AConstant, ANumber, AModulo, AModulus, ASign, Progress}
-use Rattle.pres_read.specs.Reading.{zero_coefs, after_sum, term_step, unit_step, star_step, name_step, relation_step, number_step, constant_step, modulus_step, sign_step, modulo_step, by_next, step}
+use Rattle.pres_read.specs.Reading.{after_sum, term_step, unit_step, star_step, name_step, relation_step, number_step, constant_step, modulus_step, sign_step, modulo_step, by_next, step}
+use Rattle.pres_read.specs.Atoms.{zero_coefs}
 use Rattle.pres_read.specs.Rules.{IsKnown}
 
 abbrev pub Known : List (List ℕ) → Symbol → Result Progress TextFault → Type 0

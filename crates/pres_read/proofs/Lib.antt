@@ -22,3 +22,4 @@ mod Whole
 mod Breaks
 mod Says
 mod Explained
+pub mod PredTexts

@@ -14,7 +14,8 @@ use Rattle.pres_tokens.specs.declared.token.Relation.TheVariants.{Less, AtMost, 
 use Rattle.pres_read.specs.TextFault.{TextFault, TooLarge}
 use Rattle.pres_read.specs.Numbers.{value_within, value_of_digits}
 use Rattle.pres_read.specs.Atoms.{signed_number, turned, negation_if, equality_tree, compared_tree, remainder, congruent_tree, limit_of, Factor, with_coef_at, with_number, with_term, added}
-use Rattle.pres_read.specs.Reading.{negation, conjunction, disjunction, zero_coefs}
+use Rattle.pres_read.specs.Reading.{negation, conjunction, disjunction}
+use Rattle.pres_read.specs.Atoms.{zero_coefs}
 use Rattle.pres_read.specs.Sound.{option_weight, HasOption, IsConstant}
 
 pub weight-negated : (k : ℕ) (p : PredTree) → weight_of (negation k p) ≡ weight_of p + k

@@ -19,7 +19,7 @@ use Rattle.pres_tokens.specs.declared.token.Relation.TheVariants.{Less, Equal}
 use Rattle.pres_tokens.specs.Symbols.{Number, Minus, Compare, And, Or, Not, Open, Close, Mod}
 use Rattle.pres_read.specs.Numbers.{value_of_digits}
 use Rattle.pres_read.specs.Atoms.{signed_number}
-use Rattle.pres_read.specs.Reading.{zero_coefs}
+use Rattle.pres_read.specs.Atoms.{zero_coefs}
 use Rattle.pres_read.specs.Grammar.{Term, Sum, conj, unit, sum_symbols, constant_symbols, symbols, term_name, term_number, raised, with_a_term, coefs_of, meaning, Derives}
 use Rattle.pres_read.specs.Texts.{text_symbols}
 use Rattle.pres_read.specs.Canonical.{is_negative, is_zero, sum_text, tree_text}

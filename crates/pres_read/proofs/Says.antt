@@ -12,7 +12,8 @@ use Rattle.pres_read.specs.TextFault.{TextFault, Syntax, UnknownName, TooLarge, 
 use Rattle.pres_read.specs.Numbers.{value_of_digits, value_within}
 use Rattle.pres_read.specs.Atoms.{signed_number, negation_if, equality_tree, congruent_tree, limit_of, Factor, lone, with_coef_at, with_number, with_term, added}
 use Rattle.pres_read.specs.Progress.{Span, Around, Next, AUnit, ATerm, AStar, AName, ARelation, AConstant, ANumber, AModulo, AModulus, ASign, Progress}
-use Rattle.pres_read.specs.Reading.{progress_after_unit, after_sum, term_step, unit_step, star_step, name_step, relation_step, progress_after_constant, given_constant, number_step, constant_step, given_modulus, modulus_step, close_step, sign_step, tree_up_to_unit, disjunction, modulo_step, by_next, step, zero_coefs}
+use Rattle.pres_read.specs.Reading.{progress_after_unit, after_sum, term_step, unit_step, star_step, name_step, relation_step, progress_after_constant, given_constant, number_step, constant_step, given_modulus, modulus_step, close_step, sign_step, tree_up_to_unit, disjunction, modulo_step, by_next, step}
+use Rattle.pres_read.specs.Atoms.{zero_coefs}
 use Rattle.pres_read.specs.Grammar.{coefs_of, meaning}
 use Rattle.pres_read.specs.Rules.{CoefFits, IsKnown}
 use Rattle.pres_read.proofs.Traces.{Lead, begin, IUnit, ITerm, IStar, IName, IRelation, IConstant, INumber, IModulo, IModulus, Trace, Inside, Done}

@@ -13,7 +13,8 @@ use Rattle.pres_read.specs.Numbers.{value_within, value_of_digits}
 use Rattle.pres_read.specs.Atoms.{signed_number, negation_if, equality_tree, compared_tree, congruent_tree, limit_of, Factor, lone, added}
 use Rattle.pres_read.specs.Progress.{Span, Around, Next, AUnit, ATerm, AStar, AName, ARelation, AConstant, ANumber, AModulo, AModulus, ASign, Progress}
 use Rattle.pres_read.specs.Depth.{symbol_charge, charge_of_relation}
-use Rattle.pres_read.specs.Reading.{negation, disjunction, zero_coefs, progress_after_unit, going_on, after_sum, term_step, unit_step, star_step, name_step, relation_step, progress_after_constant, given_constant, number_step, constant_step, given_modulus, modulus_step, close_step, sign_step, tree_up_to_unit, equality_step, modulo_step, by_next, step}
+use Rattle.pres_read.specs.Reading.{negation, disjunction, progress_after_unit, going_on, after_sum, term_step, unit_step, star_step, name_step, relation_step, progress_after_constant, given_constant, number_step, constant_step, given_modulus, modulus_step, close_step, sign_step, tree_up_to_unit, equality_step, modulo_step, by_next, step}
+use Rattle.pres_read.specs.Atoms.{zero_coefs}
 use Rattle.pres_read.specs.Sound.{option_weight, span_weight, spans_weight, equality_weight, next_weight, HasOption, HasSpan, HasSpans, IsConstant, HasNext, LeavesNoOperator, IsSoundProgress}
 use Rattle.pres_read.proofs.Limits.{weight-negated, weight-conjoined, weight-disjoined, HasAtoms-negated, HasAtoms-conjoined, HasAtoms-disjoined, HasAtoms-negated_if, HasAtoms-equality, HasAtoms-compared, HasAtoms-congruent, AreCoefs-zeros, abs-signed, within_limit, added_fits}
 

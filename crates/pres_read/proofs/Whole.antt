@@ -5,7 +5,7 @@ use Rattle.pres_tokens.specs.declared.token.Relation.{Relation}
 use Rattle.pres_tokens.specs.Symbols.{Symbol, Name, Number, Plus, Minus, Star, Compare, Close, Mod}
 use Rattle.pres_read.specs.Numbers.{value_of_digits}
 use Rattle.pres_read.specs.Atoms.{limit_of}
-use Rattle.pres_read.specs.Reading.{zero_coefs}
+use Rattle.pres_read.specs.Atoms.{zero_coefs}
 use Rattle.pres_read.specs.Grammar.{Term, bare, times, Sum, first, further, APred, AConj, Phrase, term_symbols, minus_if, plus_or_minus, sum_symbols, constant_symbols, coefs_of}
 use Rattle.pres_read.specs.Rules.{TermFits, SumFits, NumbersFit, last_is, opens}
 use Rattle.pres_read.proofs.Traces.{Lead, IUnit, ITerm, IStar, IName, IRelation, IConstant, INumber, IModulo, IModulus, Side, Trace, Inside, Done, begun, trace_sign, trace_term, trace_unit, trace_star, trace_name, trace_relation, trace_number, trace_constant, equality_conj, trace_modulo, trace_modulus, trace_step, trace_goes_by, trace_run}

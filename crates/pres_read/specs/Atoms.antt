@@ -1,6 +1,6 @@
 -- The trees of atoms, from their sum, relation and constant.
 use Rattle.std.specs.Prelude.{ℕ, ◌-◌, Bool, true, false, if◌then◌else◌, nat_lt, List, Option, Some, None, Result, Ok, Err, map, position}
-use Rattle.std.specs.Prelude.{slice_set, slice_index_or, ℤ, pos, ◌+ℤ◌, ◌-ℤ◌, neg_ℤ, nat_abs, codes}
+use Rattle.std.specs.Prelude.{slice_set, slice_index_or, ℤ, pos, ◌+ℤ◌, ◌-ℤ◌, neg_ℤ, nat_abs, codes, length, replicate}
 use Rattle.std.specs.Int.{int_rem_euclid}
 use Rattle.std.specs.Str.{bytes_eq}
 use Rattle.pres_ast.specs.declared.limits.TheConstants.{COEFFICIENT_LIMIT, BOUND_LIMIT}
@@ -9,6 +9,9 @@ use Rattle.pres_tokens.specs.declared.token.Relation.{Relation}
 use Rattle.pres_tokens.specs.declared.token.Relation.TheVariants.{Less, AtMost, Greater, AtLeast, Equal, Unequal}
 use Rattle.pres_read.specs.Numbers.{value_of_digits, value_within}
 use Rattle.pres_read.specs.TextFault.{TextFault, UnknownName, TooLarge}
+
+abbrev pub zero_coefs : List (List ℕ) → List ℤ
+zero_coefs names = replicate (length names) (pos 0)
 
 abbrev pub signed_number : Bool → ℕ → ℤ
 signed_number false n = pos n

@@ -13,6 +13,7 @@ use Rattle.pres_read.specs.Depth.{surface}
 use Rattle.pres_read.specs.Reading.{pred_read}
 use Rattle.pres_read.specs.Grammar.{APred, Phrase, symbols, meaning, Derives}
 use Rattle.pres_read.specs.Faults.{IsReadFault}
+use Rattle.pres_read.specs.PredText.{IsTextOf}
 use Rattle.pres_read.specs.Texts.{text_symbols, IsReadAs, IsReadTo}
 use Rattle.pres_read.specs.Rules.{Fits, IsShallow, KeepsRules}
 
@@ -26,7 +27,8 @@ pub record AreVariableNames (variables : List (List ℕ)) : Type 0 where
 pub record IsReadFrom (text : List ℕ) (variables : List (List ℕ)) (result : Result PredModel ReadPred) : Type 0 where
   -- token by token, each fault and its place
   pub exact : GivesParsed (λ pred. pred) result (pred_read variables text)
-  -- the grammar relates the text to the tree that is read
+  -- the grammar gives the text this meaning, and no other
+  pub meant : IfOk result (IsTextOf variables text)
   pub derived : IfOk result (λ pred. Derives variables (text_symbols text) pred.tree)
   -- its names are the variables', and its numbers, signs and parentheses are within the limits
   pub kept_rules : IfOk result (λ pred. KeepsRules variables (text_symbols text))

@@ -14,7 +14,7 @@ use Rattle.pres_tokens.specs.declared.token.Relation.TheVariants.{Equal, Unequal
 use Rattle.pres_tokens.specs.Symbols.{Symbol, Name, Number, Plus, Minus, Star, Compare, And, Or, Not, Open, Close, Mod}
 use Rattle.pres_read.specs.Numbers.{value_of_digits}
 use Rattle.pres_read.specs.Atoms.{signed_number, compared_tree, congruent_tree}
-use Rattle.pres_read.specs.Reading.{zero_coefs}
+use Rattle.pres_read.specs.Atoms.{zero_coefs}
 
 pub data Term : Type 0 where
   bare : (name : List ℕ) → Term

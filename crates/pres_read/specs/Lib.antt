@@ -12,4 +12,5 @@ pub mod Faults
 pub mod Canonical
 pub mod Sound
 pub mod Views
+pub mod PredText
 pub mod Calls

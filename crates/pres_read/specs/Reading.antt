@@ -12,7 +12,7 @@ use Rattle.pres_tokens.specs.Symbols.{Symbol, Name, Number, Plus, Minus, Star, C
 use Rattle.pres_tokens.specs.Tokens.{tokens_of}
 use Rattle.pres_read.specs.TextFault.{TextFault, Syntax, TooLarge, LongText}
 use Rattle.pres_read.specs.Outcome.{◌>>=◌}
-use Rattle.pres_read.specs.Atoms.{signed_number, equality_tree, negation_if, compared_tree, congruent_tree, limit_of, Factor, lone, added}
+use Rattle.pres_read.specs.Atoms.{zero_coefs, signed_number, equality_tree, negation_if, compared_tree, congruent_tree, limit_of, Factor, lone, added}
 use Rattle.pres_read.specs.Numbers.{value_of_digits, value_within}
 use Rattle.pres_read.specs.Progress.{Span, clear, Around, Next, AUnit, ATerm, AStar, AName, ARelation, AConstant, ANumber, AModulo}
 use Rattle.pres_read.specs.Progress.{AModulus, ASign, Progress, start}
@@ -49,9 +49,6 @@ term_step names a coefs negative place (Name word) = after_sum a (added names co
 term_step names a coefs negative place (Number digits) =
     Ok (going_on a (AStar coefs (record { negative = negative; digits = digits; place = place })))
 term_step names a coefs negative place s = Err (Syntax place)
-
-abbrev pub zero_coefs : List (List ℕ) → List ℤ
-zero_coefs names = replicate (length names) (pos 0)
 
 -- the first token of a sum
 abbrev pub first_step : List (List ℕ) → Around → ℕ → Symbol → Result Progress TextFault

@@ -9,7 +9,7 @@ use Rattle.pres_tokens.specs.Symbols.{Symbol, Name, Number, Plus, Minus, Star, C
 use Rattle.pres_read.specs.Numbers.{value_of_digits}
 use Rattle.pres_read.specs.Atoms.{signed_number, limit_of}
 use Rattle.pres_read.specs.Depth.{Depth, surface, deeper}
-use Rattle.pres_read.specs.Reading.{zero_coefs}
+use Rattle.pres_read.specs.Atoms.{zero_coefs}
 use Rattle.pres_read.specs.Grammar.{Term, Sum, first, further, Atom, plain, modular, Part, Phrase, conj, either, unit, both, negate, group}
 use Rattle.pres_read.specs.Grammar.{atom, sum_symbols, equal_or_not, constant_symbols, term_name, term_number, coefs_of}
 

@@ -2,6 +2,7 @@ use Rattle.pres_read.specs.Grammar.{meaning}
 use Rattle.pres_read.proofs.Explained.{given_rules, given_fault}
 use Rattle.pres_read.proofs.KeptRuns.{given_kept, kept_read}
 use Rattle.pres_read.proofs.Outcomes.{given_laws}
+use Rattle.pres_read.proofs.PredTexts.{given_meant}
 use Rattle.pres_read.proofs.read.read_pred.Goals as goal
 
 pub returns : goal.returns
@@ -12,6 +13,7 @@ returns c =
     let laws = given_laws names text c.read_exactly.result given in
     record {
       exact = given;
+      meant = given_meant names text c.read_exactly.result given;
       derived = laws.derived;
       kept_rules = given_rules names text c.read_exactly.result given;
       only = laws.only;
