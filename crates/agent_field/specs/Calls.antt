@@ -4,6 +4,10 @@ use Rattle.std.specs.Prelude.{Some, None, Result, OnOk, OnErr, IfOk, IfErr}
 use Rattle.pop_io.specs.declared.fault.NoMemory.{NoMemory}
 use Rattle.pop_net.specs.declared.net.Word.{Word}
 use Rattle.pop_net.specs.NetModel.{NetModel}
+use Rattle.pop_net.specs.Lanes.{AreValid}
+use Rattle.pop_io.specs.declared.gate.TheConstants.{SHARD_LIMIT}
+use Rattle.pop_crowd.specs.declared.limits.TheConstants.{AGENT_LEAST, AGENT_LIMIT}
+use Rattle.agent_field.specs.declared.limits.TheConstants.{SEAT_LIMIT}
 use Rattle.agent_field.specs.declared.field.Field.{Field}
 use Rattle.agent_field.specs.declared.field.FieldSeat.{FieldSeat}
 use Rattle.agent_field.specs.declared.field.Met.{Met}
@@ -11,6 +15,13 @@ use Rattle.agent_field.specs.History.{logged}
 use Rattle.agent_field.specs.Steps.{look_of}
 use Rattle.agent_field.specs.Seats.{opening_of, seat_number, log_of, spare_of, next_of, left_of, taken_of, looks_of, spare_looks_of}
 use Rattle.agent_field.specs.Seats.{IsOpened, IsSeatOf, IsFresh, IsNewestOf, IsMoment, IsGlance, KeepsField, KeepsRest, KeepsOwn, KeepsLogs}
+
+-- a field can be opened with these
+pub record CanOpen (net : NetModel) (words : List Word) (shards seats : ℕ) : Type 0 where
+  pub valid : AreValid net words
+  pub agents : (AGENT_LEAST ≤ length words) × (length words ≤ AGENT_LIMIT)
+  pub few_shards : (1 ≤ shards) × (shards ≤ SHARD_LIMIT)
+  pub few_seats : (1 ≤ seats) × (seats ≤ SEAT_LIMIT)
 
 -- a field with these words, and its number 0, which has made nothing and taken in nobody
 pub record IsOpening (f : Field) (s : FieldSeat) (net : NetModel) (words : List Word) (shards seats : ℕ) : Type 0 where

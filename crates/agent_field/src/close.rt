@@ -126,13 +126,13 @@ impl<'n> Field<'n> {
         requires whole { IsWhole seat }
         ensures { IfOk result (IsRoundOf self.entry seat) }
     {
-        let room = Vec::with_capacity(alloc, self.agents as usize)?;
         let Field {
             table,
             net: _,
             shards,
             seats: _,
             agents,
+            room,
         } = self;
         let FieldSeat {
             seat: token,

@@ -19,12 +19,15 @@ pub struct Field<'n> {
     pub(crate) shards: u32,
     pub(crate) seats: u16,
     pub(crate) agents: u32,
+    /// Empty, with room for all agents: the words at the end come into it.
+    pub(crate) room: Vec<Word>,
     ghost net_is: { table.shared.key.net.value ≡ net.now },
     ghost shards_are: { table.shared.key.shards ≡ shards },
     ghost seats_are: { table.shared.key.seats ≡ seats },
     ghost agents_are: { length table.shared.key.opening.value ≡ agents },
     ghost words_are: { table.shared.table_id.words ≡ HEAD_WORDS + shards + agents },
     ghost no_slots: { table.shared.table_id.slots ≡ 0 },
+    ghost room_fits: { (room.items ≡ []) × (agents ≤ vec_capacity room) },
     ghost limits: { (0 < shards) × (0 < seats) × (seats ≤ SEAT_LIMIT) },
 }
 

@@ -16,6 +16,7 @@ mod view;
 
 pub use close::Round;
 pub use field::{Field, FieldSeat, Met};
+pub use life::Layout;
 pub use limits::{LOG_LIMIT, LOOK_LIMIT, SEAT_LIMIT};
 pub use moments::each_moment_stands;
 pub use view::{Logged, Look};

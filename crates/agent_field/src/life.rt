@@ -1,30 +1,45 @@
 //! How a field begins, and how its seats are dealt and taken in.
 
-ghost use Rattle.std.specs.Prelude.{◌≡◌, ◌≤◌, length, map, ◌∷◌, IfOk, None, replicate};
+ghost use Rattle.std.specs.Prelude.{◌≡◌, ◌≤◌, length, map, ◌∷◌, IfOk, OnOk, None, replicate};
 ghost use Rattle.agent_field.specs.Standing.{in_turns};
 
 use crate::field::{Field, FieldSeat};
-use crate::limits::SEAT_LIMIT;
 use crate::places::{FOUNDER, HEAD_WORDS, place_of_agent};
 use crate::view::{Deal, Found, Logged, Rule, Setup, View};
 use atomic_table::Table;
-use pop_crowd::{AGENT_LEAST, AGENT_LIMIT};
-use pop_io::{List, NoMemory, SHARD_LIMIT};
+use pop_crowd::AGENT_LIMIT;
+use pop_io::{List, NoMemory};
 use pop_net::{Net, Word};
 use std::alloc::Global;
 use std::snapshot::Snapshot;
 use std::sync::Wait;
 
-/// The words of a table before its field is founded.
-fn layout(alloc: Global, words: &[Word], shards: u32) -> Result<Vec<u64>, NoMemory>
+/// Where the words of a field are laid out before they go into its table. One layout serves any number of fields.
+#[derive(Drop)]
+pub struct Layout {
+    words: Vec<u64>,
+}
+
+impl Layout {
+    /// A layout without room. It allocates nothing.
+    pub fn new(alloc: Global) -> Layout {
+        Layout {
+            words: Vec::new(alloc),
+        }
+    }
+}
+
+/// Lays out the words of a table before its field is founded.
+fn lay_out(all: &mut Vec<u64>, words: &[Word], shards: u32) -> Result<(), NoMemory>
     requires { length words.now ≤ AGENT_LIMIT }
-    ensures { IfOk result (λ all. all.items ≡ 0 ∷ 0 ∷ in_turns (replicate shards 0) (map (λ w. w.0) words.now)) }
+    ensures { OnOk result (all.new.items ≡ 0 ∷ 0 ∷ in_turns (replicate shards 0) (map (λ w. w.0) words.now)) }
 {
-    let mut all = vec![in alloc; 0u64; HEAD_WORDS + shards as usize + words.len()]?;
+    all.clear();
+    all.resize(HEAD_WORDS + shards as usize + words.len(), 0)?;
     for (a, word) in words.iter().enumerate() {
         all[place_of_agent(a as u32, shards)] = word.0;
     }
-    Ok(all)
+    Ok(())
 }
 
 fn no_logs(alloc: Global, seats: u16) -> Result<Vec<Option<List<Logged>>>, NoMemory>
@@ -38,9 +53,8 @@ fn no_logs(alloc: Global, seats: u16) -> Result<Vec<Option<List<Logged>>>, NoMem
 }
 
 impl<'n> Field<'n> {
-    ghost use Rattle.pop_net.specs.Lanes.{AreValid};
     ghost use Rattle.agent_field.specs.Seats.{IsFirstOf, IsSeatOf, left_of};
-    ghost use Rattle.agent_field.specs.Calls.{IsOpening, HasSplit, HasJoined};
+    ghost use Rattle.agent_field.specs.Calls.{CanOpen, IsOpening, HasSplit, HasJoined};
 
     /// A field with these words, and its seat with the number 0.
     pub fn open<R: Wait>(
@@ -51,16 +65,30 @@ impl<'n> Field<'n> {
         shards: u32,
         seats: u16,
     ) -> Result<(Field<'n>, FieldSeat), NoMemory>
-        requires valid { AreValid net.now words }
-        requires agents { (AGENT_LEAST ≤ length words) × (length words ≤ AGENT_LIMIT) }
-        requires shards { (1 ≤ shards) × (shards ≤ SHARD_LIMIT) }
-        requires seats { (1 ≤ seats) × (seats ≤ SEAT_LIMIT) }
+        requires { CanOpen net.now words shards seats }
+        ensures { IfOk result (λ r. IsOpening r.0 r.1 net.now words shards seats) }
+    {
+        let mut layout = Layout::new(alloc);
+        Field::open_on(rt, alloc, net, words, shards, seats, &mut layout)
+    }
+
+    /// The same, with a layout that other fields had before.
+    pub fn open_on<R: Wait>(
+        rt: &R,
+        alloc: Global,
+        net: &'n Net,
+        words: List<Word>,
+        shards: u32,
+        seats: u16,
+        layout: &mut Layout,
+    ) -> Result<(Field<'n>, FieldSeat), NoMemory>
+        requires { CanOpen net.now words shards seats }
         ensures { IfOk result (λ r. IsOpening r.0 r.1 net.now words shards seats) }
     {
         // No other seat can have founded the field, so there is nobody to wait for.
         let _ = rt;
         let agents = words.as_slice().len() as u32;
-        let all = layout(alloc, words.as_slice(), shards)?;
+        lay_out(&mut layout.words, words.as_slice(), shards)?;
         let taken = no_logs(alloc, seats)?;
         let setup = Setup {
             net: Snapshot::of(net),
@@ -70,16 +98,19 @@ impl<'n> Field<'n> {
         };
         let (table, mut seat) = Table::<(), View, Setup, Rule, Global>::of_words(
             alloc,
-            all.as_slice(),
+            layout.words.as_slice(),
             &setup,
         )?;
         table.shared.swap::<Found>(&mut seat, FOUNDER, 1);
+        let mut room = words.into_vec();
+        room.clear();
         let field = Field {
             table,
             net,
             shards,
             seats,
             agents,
+            room,
         };
         let first = FieldSeat {
             seat,

@@ -1,6 +1,6 @@
 -- From ready workers to the picks in the history of the field.
-use Rattle.std.proofs.Common.{◌≡◌, ℕ, zero, suc, ◌+◌, ◌<◌, Bool, true, false, cond, eqb, List, [], ◌∷◌, ◌++◌, length, get_or, set, take, drop, refl, sym, ap, ◌∙◌, subst, arith, Some, None, get_or-set_same, get_or-set_other}
-use Rattle.std.proofs.lemmas.List.{append-nil, drop_all, take_all, length-map}
+use Rattle.std.proofs.Common.{◌≡◌, ℕ, zero, suc, ◌+◌, ◌<◌, ◌≤◌, Bool, true, false, cond, eqb, List, [], ◌∷◌, ◌++◌, length, map, get_or, take, drop, refl, sym, ap, ◌∙◌, subst, arith, Some, None}
+use Rattle.std.proofs.lemmas.List.{append-nil, drop_all, take_all, length-map, get_or-map}
 use Rattle.pop_net.specs.declared.net.Word.{Word}
 use Rattle.pop_net.specs.NetModel.{NetModel}
 use Rattle.pop_net.specs.Lanes.{crowd_of, tuple_of}
@@ -15,7 +15,7 @@ use Rattle.agent_field.proofs.Histories.{length-replay}
 use Rattle.pair_workers.specs.declared.work.Worker.{Worker}
 use Rattle.pair_workers.specs.Run.{meetings_of, pairs}
 use Rattle.pair_workers.specs.Turns.{HasPicked, ArePlayed}
-use Rattle.pair_workers.specs.Work.{HasWorked, IsReady, IsDone, AreReady, AreDone, HasAll, agents_of_field, pairs_of}
+use Rattle.pair_workers.specs.Work.{HasMade, HasWorked, IsReady, IsDone, AreReady, AreDone, HasAll, agents_of_field, pairs_of}
 
 -- a whole slice that was lent and written
 pub whole_written : {A : Type 0} (n : ℕ) (new old : List A) → length new ≡ length old → n ≡ length old → take n (new ++ drop (length new) old) ≡ new
@@ -24,45 +24,65 @@ whole_written {A = A} n new old same all =
     ∙ ap (take n) (append-nil new)
     ∙ take_all n new (omega (arith, same, all))
 
-is_done : (f : Field) (turns number : ℕ) (picker : List ℕ) (before after : Worker) → IsReady f turns number picker before → HasWorked f turns before after → IsDone f turns number picker after
-is_done f turns number picker before after ready worked = record {
+-- the first of a list and the others
+pub front : {A : Type 0} (xs ys : List A) (x : A) → 0 < length xs → x ≡ get_or xs 0 x → ys ≡ take 0 xs ++ drop 1 xs → xs ≡ x ∷ ys
+front [] ys x some is rest = absurd (omega (arith, some))
+front {A = A} (z ∷ zs) ys x some is rest = ap (λ (w : A). w ∷ zs) (sym is) ∙ ap (λ (l : List A). x ∷ l) (sym rest)
+
+-- so many turns were made
+pub has_made : (f : Field) (turns made : ℕ) (before after : List ℕ) (log : List Logged) → made ≤ turns → HasPicked (agents_of_field f) made before after (pairs_of log) → HasMade f turns before after log
+has_made f turns made before after log few picked =
+    let long : made ≡ length log = sym picked.long ∙ length-map log (λ (e : Logged). (e.a, e.b)) in
+    record {
+      few = subst (λ (n : ℕ). n ≤ turns) long few;
+      picked = subst (λ (n : ℕ). HasPicked (agents_of_field f) n before after (pairs_of log)) long picked;
+    }
+
+is_done : (f : Field) (turns : ℕ) (observed : Bool) (number : ℕ) (picker : List ℕ) (before after : Worker) → IsReady f turns number picker before → HasWorked f turns observed before after → IsDone f turns observed number picker after
+is_done f turns observed number picker before after ready worked = record {
   ours = worked.ours;
   numbered = worked.kept.0 ∙ ready.numbered;
-  picked = subst (λ (p : List ℕ). HasPicked (agents_of_field f) turns p after.picker (pairs_of (log_of after.seat))) ready.picker_is worked.picked;
+  made = subst (λ (p : List ℕ). HasMade f turns p after.picker (log_of after.seat)) ready.picker_is worked.made;
+  all = worked.all;
 }
 
-pub are_done : (f : Field) (turns : ℕ) (pickers : List (List ℕ)) (before after : List Worker) → AreReady f turns pickers before → length after ≡ length before
-    → ((i : ℕ) (d : Worker) → i < length before → HasWorked f turns (get_or before i d) (get_or after i d)) → AreDone f turns pickers after
-are_done f turns pickers before after ready same worked =
-    (ap (λ (n : ℕ). n + 1) same ∙ ready.0, λ i d e h. let within = subst (λ (n : ℕ). i < n) same h in is_done f turns (i + 1) (get_or pickers (i + 1) e) (get_or before i d) (get_or after i d) (ready.1 i d e within) (worked i d within))
+-- the workers of a slice that stands for the list, after their turns
+pub are_done : (f : Field) (turns : ℕ) (observed : Bool) (pickers : List (List ℕ)) (before slice after : List Worker) → slice ≡ before → AreReady f turns pickers before → length after ≡ length slice
+    → ((i : ℕ) (d : Worker) → i < length slice → HasWorked f turns observed (get_or slice i d) (get_or after i d)) → AreDone f turns observed pickers after
+are_done f turns observed pickers before slice after value ready same worked =
+    let long = same ∙ ap (length {A = Worker}) value in (
+      long ∙ ready.0,
+      λ i d e h.
+          let within = subst (λ (n : ℕ). i < n) long h in
+          let made = subst (λ (l : List Worker). HasWorked f turns observed (get_or l i d) (get_or after i d)) value (worked i d (subst (λ (n : ℕ). i < n) same h)) in
+          is_done f turns observed (i + 1) (get_or pickers i e) (get_or before i d) (get_or after i d) (ready.1 i d e within) made,
+    )
 
 pairs_if : (b : Bool) (m : Meeting) (t : ℕ) (es : List Logged) (ms : List Meeting) → pairs ms ≡ pairs_of es → pairs (cond b (m ∷ ms) ms) ≡ pairs_of (listed_if b (logged t m.a m.b m.changed) es)
 pairs_if true m t es ms h = ap (λ (ps : List (ℕ × ℕ)). (m.a, m.b) ∷ ps) h
 pairs_if false m t es ms h = h
 
 -- a number's meetings have the pairs of its log
-pairs_called : (w t : ℕ) (ms : List Meeting) → pairs (meetings_of w ms) ≡ pairs_of (calls_from w t ms)
+pub pairs_called : (w t : ℕ) (ms : List Meeting) → pairs (meetings_of w ms) ≡ pairs_of (calls_from w t ms)
 pairs_called w t [] = refl
 pairs_called w t (m ∷ ms) = pairs_if (eqb m.worker w) m t (calls_from w (t + 1) ms) (meetings_of w ms) (pairs_called w (t + 1) ms)
 
-module _ (f : Field) (turns : ℕ) (pickers moved : List (List ℕ)) (done : List Worker) (first : Worker) (s : FieldSeat) (meetings : List Meeting) where
-  -- each worker's meetings are its next picks
-  pub all_picked : ((d : List ℕ) → HasPicked (agents_of_field f) turns (get_or pickers 0 d) first.picker (pairs_of (log_of first.seat))) → AreDone f turns pickers done → HasAll f done first.seat s
-      → length moved ≡ length pickers → ((i : ℕ) (d : Worker) (e : List ℕ) → i < length done → get_or moved (i + 1) e ≡ (get_or done i d).picker)
+module _ (f : Field) (turns : ℕ) (own : List ℕ) (pickers : List (List ℕ)) (done : List Worker) (first : Worker) (s : FieldSeat) (meetings : List Meeting) where
+  -- each worker's meetings are its next picks, also those of number 0
+  pub all_picked : HasPicked (agents_of_field f) turns own first.picker (pairs_of (log_of first.seat)) → AreDone f turns false pickers done → HasAll f done first.seat s
       → calls 0 meetings ≡ log_of s → ((w : ℕ) (l : List Logged) → get_or (taken_of s) w None ≡ Some l → calls w meetings ≡ l)
-      → (w : ℕ) (d : List ℕ) → w < length pickers → HasPicked (agents_of_field f) turns (get_or pickers w d) (get_or (set moved 0 first.picker) w d) (pairs (meetings_of w meetings))
-  all_picked mine others all long moves own taken zero d h =
-      let made : pairs_of (log_of first.seat) ≡ pairs (meetings_of 0 meetings) = ap pairs_of (sym all.own ∙ sym own) ∙ sym (pairs_called 0 0 meetings) in
-      let stands : first.picker ≡ get_or (set moved 0 first.picker) 0 d = sym (get_or-set_same moved 0 first.picker d (omega (arith, long, h))) in
-      subst (λ (t : List ℕ × List (ℕ × ℕ)). HasPicked (agents_of_field f) turns (get_or pickers 0 d) t.0 t.1) (λ i. (stands i, made i)) (mine d)
-  all_picked mine others all long moves own taken (suc i) d h =
+      → (w : ℕ) (d : List ℕ) → w < length pickers + 1
+      → HasPicked (agents_of_field f) turns (get_or (own ∷ pickers) w d) (get_or (first.picker ∷ map (λ (v : Worker). v.picker) done) w d) (pairs (meetings_of w meetings))
+  all_picked mine others all logs taken zero d h =
+      let made : pairs_of (log_of first.seat) ≡ pairs (meetings_of 0 meetings) = ap pairs_of (sym all.own ∙ sym logs) ∙ sym (pairs_called 0 0 meetings) in
+      subst (HasPicked (agents_of_field f) turns own first.picker) made mine
+  all_picked mine others all logs taken (suc i) d h =
       let within : i < length done = omega (arith, others.0, h) in
       let is = others.1 i first d within in
-      let made : pairs_of (log_of (get_or done i first).seat) ≡ pairs (meetings_of (suc i) meetings) = ap pairs_of (sym (taken (suc i) _ (ap (λ (k : ℕ). get_or (taken_of s) k None) (let e : suc i ≡ i + 1 = omega arith in e) ∙ all.taken i first within))) ∙ sym (pairs_called (suc i) 0 meetings) in
-      let apart : suc i ≡ 0 → ⊥ = (λ e. omega (arith, e)) in
-      let stands : (get_or done i first).picker ≡ get_or (set moved 0 first.picker) (suc i) d = sym (get_or-set_other moved 0 (suc i) first.picker d apart ∙ ap (λ (k : ℕ). get_or moved k d) (let e : suc i ≡ i + 1 = omega arith in e) ∙ moves i first d within) in
-      let place : get_or pickers (i + 1) d ≡ get_or pickers (suc i) d = ap (λ (k : ℕ). get_or pickers k d) (let e : i + 1 ≡ suc i = omega arith in e) in
-      subst (λ (t : List ℕ × List ℕ × List (ℕ × ℕ)). HasPicked (agents_of_field f) turns t.0 t.1 t.2) (λ j. (place j, stands j, made j)) is.picked
+      let next : suc i ≡ i + 1 = omega arith in
+      let made : pairs_of (log_of (get_or done i first).seat) ≡ pairs (meetings_of (suc i) meetings) = ap pairs_of (sym (taken (suc i) _ (ap (λ (k : ℕ). get_or (taken_of s) k None) next ∙ all.taken i first within))) ∙ sym (pairs_called (suc i) 0 meetings) in
+      let stands : (get_or done i first).picker ≡ get_or (map (λ (v : Worker). v.picker) done) i d = sym (get_or-map (λ (v : Worker). v.picker) done i first d within) in
+      subst (λ (t : ℕ × List ℕ × List (ℕ × ℕ)). HasPicked (agents_of_field f) t.0 (get_or pickers i d) t.1 t.2) (λ j. (is.all refl j, stands j, made j)) is.made.picked
 
 pub are_played : (net : NetModel) (opening words : List Word) (workers turns : ℕ) (before after : List (List ℕ)) (meetings : List Meeting) → crowd_of net words ≡ replay net meetings (crowd_of net opening)
     → IsHistory net workers opening meetings → ((w : ℕ) (d : List ℕ) → w < workers → HasPicked (length opening) turns (get_or before w d) (get_or after w d) (pairs (meetings_of w meetings)))

@@ -7,6 +7,7 @@ use Rattle.pop_crowd.specs.declared.crowd.Meeting.{Meeting}
 use Rattle.pop_crowd.specs.Replay.{replay, AreMarked}
 use Rattle.agent_field.specs.declared.close.Round.{Round}
 use Rattle.pair_workers.specs.declared.alone.TheConstants.{ROUND_TURNS}
+use Rattle.pair_workers.specs.declared.round_end.RoundEnd.{RoundEnd}
 use Rattle.pair_workers.specs.Picks.{picks_from, words_from}
 use Rattle.pair_workers.specs.Run.{meetings_of, pairs}
 
@@ -36,3 +37,8 @@ pub record IsRoundFrom (net : NetModel) (crowd : List Word) (workers turns : ℕ
   pub valid : AreValid net round.words
   pub agents : length round.words ≡ length crowd
   pub pickers : length after ≡ length before
+
+-- the same, where the crowd, the pickers and the meetings stand together
+abbrev pub IsWholeRound : NetModel → List Word → ℕ → ℕ → List (List ℕ) → RoundEnd → Type 0
+IsWholeRound net crowd workers turns before p =
+    IsRoundFrom net crowd workers turns before p.pickers.items (record { words = p.crowd; meetings = p.meetings.items })

@@ -5,6 +5,7 @@ ghost use Rattle.pair_workers.specs.CrowdSize.{IsCrowdSize};
 ghost use Rattle.pair_workers.specs.Work.{MayWork, HasWorked, HaveWorked, agents_of_field};
 
 use crate::picker::Picker;
+use crate::signals::Signals;
 use agent_field::{Field, FieldSeat};
 use pop_io::Gate;
 use std::sync::Wait;
@@ -13,41 +14,49 @@ use std::thread::Threads;
 
 /// A seat of the field, and who picks its meetings.
 #[derive(Drop)]
-pub(crate) struct Worker {
+pub struct Worker {
     pub(crate) seat: FieldSeat,
     pub(crate) picker: Picker,
 }
 
-/// The worker makes its next picks and meetings.
+/// The worker makes its next picks and meetings, until it is to stop.
 pub(crate) fn work<R: Wait, G: Gate>(
     rt: &R,
     field: &Field,
     worker: &mut Worker,
     turns: u64,
+    signals: &Signals,
     gate: &G,
 )
     requires agents { IsCrowdSize (agents_of_field field.now) }
     requires may { MayWork field.now turns worker.old }
-    ensures { HasWorked field.now turns worker.old worker.new }
+    ensures { HasWorked field.now turns signals.now.observed worker.old worker.new }
 {
+    let number = signals.worker_on(worker.seat.number());
     'turns: for turn in 0..turns {
-        gate.pass(worker.seat.number(), turn + 1);
+        signals.reach(turn);
+        gate.pass(number, turn + 1);
+        if signals.is_stopped() {
+            return;
+        }
         let (a, b) = worker.picker.pick(field.agents());
         field.meet(rt, &mut worker.seat, a, b, gate);
     }
+    signals.reach(turns);
 }
 
 /// All workers, beside each other.
-pub(crate) fn work_all<R: Threads + Wait + Sync, G: Gate>(
+pub fn work_all<R: Threads + Wait + Sync, G: Gate>(
     rt: &R,
     field: &Field,
     workers: &mut [Worker],
     turns: u64,
+    signals: &Signals,
     gate: &G,
 )
     requires agents { IsCrowdSize (agents_of_field field.now) }
     requires may { All (MayWork field.now turns) workers.old }
-    ensures { HaveWorked field.now turns workers.old workers.new }
+    ensures { HaveWorked field.now turns signals.now.observed workers.old workers.new }
 {
     let threads = workers.len().max(1);
     thread::for_each_mut(
@@ -56,7 +65,7 @@ pub(crate) fn work_all<R: Threads + Wait + Sync, G: Gate>(
         threads,
         &|_i: usize, worker: &mut Worker|
             requires { IsCrowdSize (agents_of_field field.now) × MayWork field.now turns worker.now }
-            ensures { HasWorked field.entry.now turns worker.entry.now worker.exit.now }
-        { work(rt, field, worker, turns, gate) },
+            ensures { HasWorked field.entry.now turns signals.entry.now.observed worker.entry.now worker.exit.now }
+        { work(rt, field, worker, turns, signals, gate) },
     );
 }

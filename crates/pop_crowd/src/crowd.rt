@@ -88,6 +88,16 @@ impl Crowd {
         }
     }
 
+    /// The words, to own. It allocates nothing.
+    pub fn into_words(self) -> List<Word>
+        ensures words { result ≡ self }
+        ensures some { AGENT_LEAST ≤ length result }
+        ensures few { length result ≤ AGENT_LIMIT }
+    {
+        let Crowd { words } = self;
+        List::from_vec(words)
+    }
+
     /// The number of agents.
     pub fn len(&self) -> u32
         ensures count { result ≡ length self.now }

@@ -1,4 +1,3 @@
-pub mod Seating
 pub mod Renumbered
 pub mod Parts
 pub mod MoreMeetings

@@ -13,7 +13,7 @@ use Rattle.pair_workers.specs.Turns.{HasPicked}
 use Rattle.pair_workers.specs.Run.{meetings_of, pairs, made_by}
 use Rattle.pair_workers.proofs.Played.{marked_append}
 use Rattle.pair_workers.proofs.Turns.{picked_more}
-use Rattle.pop_watch.specs.declared.played.Played.{Played}
+use Rattle.pair_workers.specs.declared.round_end.RoundEnd.{RoundEnd}
 use Rattle.pop_watch.specs.Playing.{ArePlaying, IsPlayedFrom, KeepsPlaying, HasMore}
 
 -- a meeting more, if it is the worker's
@@ -73,19 +73,19 @@ nothing_if : (b : Bool) (n : ℕ) → n ≡ n + (if b then 0 else 0)
 nothing_if true n = omega arith
 nothing_if false n = omega arith
 
-pub has_no_more : (w : ℕ) (p : Played) → HasMore w 0 p p
+pub has_no_more : (w : ℕ) (p : RoundEnd) → HasMore w 0 p p
 has_no_more w p v = nothing_if (v == w) (made_by v p.meetings.items)
 
-pub has_more_on : (w turns more : ℕ) (p q r : Played) → HasMore w turns p q → HasMore w more q r → HasMore w (turns + more) p r
+pub has_more_on : (w turns more : ℕ) (p q r : RoundEnd) → HasMore w turns p q → HasMore w more q r → HasMore w (turns + more) p r
 has_more_on w turns more p q r h k v =
     k v
     ∙ ap (λ (n : ℕ). n + (if v == w then more else 0)) (h v)
     ∙ sum_if (v == w) (made_by v p.meetings.items) turns more
 
-pub goes_on_none : (net : NetModel) (p : Played) → KeepsPlaying net p p
+pub goes_on_none : (net : NetModel) (p : RoundEnd) → KeepsPlaying net p p
 goes_on_none net p = record { more = λ start first h. h; pickers = refl; agents = refl }
 
-pub goes_on_more : (net : NetModel) (p q r : Played) → KeepsPlaying net p q → KeepsPlaying net q r → KeepsPlaying net p r
+pub goes_on_more : (net : NetModel) (p q r : RoundEnd) → KeepsPlaying net p q → KeepsPlaying net q r → KeepsPlaying net p r
 goes_on_more net p q r h k =
     record {
       more = λ start first is. subst (λ (n : ℕ). IsPlayedFrom net start n first r) h.pickers (k.more start first (subst (λ (n : ℕ). IsPlayedFrom net start n first q) (sym h.pickers) (h.more start first is)));
@@ -94,12 +94,12 @@ goes_on_more net p q r h k =
     }
 
 -- the worker's own meetings, and those of another
-pub has_mine : (w turns : ℕ) (p q : Played) → HasMore w turns p q → made_by w q.meetings.items ≡ made_by w p.meetings.items + turns
+pub has_mine : (w turns : ℕ) (p q : RoundEnd) → HasMore w turns p q → made_by w q.meetings.items ≡ made_by w p.meetings.items + turns
 has_mine w turns p q h =
     h w
     ∙ ap (λ (b : Bool). made_by w p.meetings.items + (if b then turns else 0)) (eq-eqb w w refl)
 
-pub has_others : (w turns v : ℕ) (p q : Played) → (v ≡ w → ⊥) → HasMore w turns p q → made_by v q.meetings.items ≡ made_by v p.meetings.items
+pub has_others : (w turns v : ℕ) (p q : RoundEnd) → (v ≡ w → ⊥) → HasMore w turns p q → made_by v q.meetings.items ≡ made_by v p.meetings.items
 has_others w turns v p q apart h =
     h v
     ∙ ap (λ (b : Bool). made_by v p.meetings.items + (if b then turns else 0)) (ne_eqb v w apart)

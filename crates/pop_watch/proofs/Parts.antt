@@ -1,5 +1,5 @@
 -- From the closed field to a part of a round.
-use Rattle.std.proofs.Common.{◌≡◌, ℕ, ◌+◌, ◌<◌, ◌≤◌, List, [], map, length, get_or, sym, ap, subst, ◌∙◌, Some, None}
+use Rattle.std.proofs.Common.{◌≡◌, ℕ, ◌+◌, ◌<◌, ◌≤◌, true, List, [], map, length, get_or, sym, ap, subst, ◌∙◌, Some, None}
 use Rattle.std.specs.Prelude.{All}
 use Rattle.std.proofs.lemmas.List.{length-map, get_or-map}
 use Rattle.pop_net.specs.declared.net.Word.{Word}
@@ -14,16 +14,16 @@ use Rattle.agent_field.specs.History.{IsHistory, calls}
 use Rattle.agent_field.specs.Seats.{log_of, taken_of}
 use Rattle.pair_workers.specs.Turns.{HasPicked}
 use Rattle.pair_workers.specs.Run.{meetings_of, pairs, made_by}
-use Rattle.pair_workers.specs.Work.{agents_of_field, pairs_of}
-use Rattle.pop_watch.specs.declared.work.Worker.{Worker}
-use Rattle.pop_watch.specs.Work.{HaveStopped, HasAllWatched}
+use Rattle.pair_workers.specs.Work.{AreDone, HasAll, agents_of_field, pairs_of}
+use Rattle.pair_workers.proofs.FieldRounds.{pairs_called}
+use Rattle.pair_workers.specs.declared.work.Worker.{Worker}
 use Rattle.pop_watch.specs.Playing.{ArePlaying, of_worker}
-use Rattle.pop_watch.proofs.Renumbered.{IsOfWorker, pairs_called, pairs_of_worker, replay_of_workers, marked_of_workers, numbers_of_workers}
+use Rattle.pop_watch.proofs.Renumbered.{IsOfWorker, pairs_of_worker, replay_of_workers, marked_of_workers, numbers_of_workers}
 
 pair : Meeting → ℕ × ℕ
 pair m = (m.a, m.b)
 
-module _ (f : Field) (turns : ℕ) (pickers : List (List ℕ)) (done : List Worker) (first s : FieldSeat) (meetings : List Meeting) (others : HaveStopped f turns pickers done) (all : HasAllWatched f done first s)
+module _ (f : Field) (turns : ℕ) (pickers : List (List ℕ)) (done : List Worker) (first s : FieldSeat) (meetings : List Meeting) (others : AreDone f turns true pickers done) (all : HasAll f done first s)
     (taken : (w : ℕ) (l : List Logged) → get_or (taken_of s) w None ≡ Some l → calls w meetings ≡ l) (some : All IsOfWorker meetings) where
   pairs_made : (w : ℕ) (d : Worker) → w < length done → pairs_of (log_of (get_or done w d).seat) ≡ pairs (meetings_of w (map of_worker meetings))
   pairs_made w d h =

@@ -16,15 +16,6 @@ use Rattle.pop_watch.specs.Playing.{of_worker}
 abbrev pub IsOfWorker : Meeting → Type 0
 IsOfWorker m = 1 ≤ m.worker
 
-pairs_if : (b : Bool) (m : Meeting) (t : ℕ) (es : List Logged) (ms : List Meeting) → pairs ms ≡ pairs_of es → pairs (cond b (m ∷ ms) ms) ≡ pairs_of (listed_if b (logged t m.a m.b m.changed) es)
-pairs_if true m t es ms h = ap (λ (ps : List (ℕ × ℕ)). (m.a, m.b) ∷ ps) h
-pairs_if false m t es ms h = h
-
--- a number's meetings have the pairs of its log
-pub pairs_called : (w t : ℕ) (ms : List Meeting) → pairs (meetings_of w ms) ≡ pairs_of (calls_from w t ms)
-pairs_called w t [] = refl
-pairs_called w t (m ∷ ms) = pairs_if (eqb m.worker w) m t (calls_from w (t + 1) ms) (meetings_of w ms) (pairs_called w (t + 1) ms)
-
 none_if : (b : Bool) (e : Logged) (es : List Logged) → listed_if b e es ≡ [] → (b ≡ false) × (es ≡ [])
 none_if true e es h = cc
 none_if false e es h = (refl, h)

@@ -9,7 +9,7 @@ use Rattle.pop_crowd.specs.declared.crowd.Meeting.{Meeting}
 use Rattle.pop_crowd.specs.Replay.{replay, AreMarked}
 use Rattle.pair_workers.specs.Turns.{HasPicked}
 use Rattle.pair_workers.specs.Run.{meetings_of, made_by, pairs}
-use Rattle.pop_watch.specs.declared.played.Played.{Played}
+use Rattle.pair_workers.specs.declared.round_end.RoundEnd.{RoundEnd}
 
 -- a meeting of a seat as one of its worker: worker w has the seat w + 1
 abbrev pub of_worker : Meeting → Meeting
@@ -25,19 +25,19 @@ pub record ArePlaying (net : NetModel) (start : CrowdModel) (workers : ℕ) (bef
   pub nobody_else : All (λ m. m.worker < workers) meetings
 
 -- the same, where the crowd, the pickers and the meetings stand together
-abbrev pub IsPlayedFrom : NetModel → CrowdModel → ℕ → List (List ℕ) → Played → Type 0
+abbrev pub IsPlayedFrom : NetModel → CrowdModel → ℕ → List (List ℕ) → RoundEnd → Type 0
 IsPlayedFrom net start workers before p =
     ArePlaying net start workers before p.pickers.items p.meetings.items (crowd_of net p.crowd)
 
 -- what was played from some crowd is still played from it
-pub record KeepsPlaying (net : NetModel) (before after : Played) : Type 0 where
+pub record KeepsPlaying (net : NetModel) (before after : RoundEnd) : Type 0 where
   pub more : (start : CrowdModel) (first : List (List ℕ)) → IsPlayedFrom net start (length before.pickers.items) first before
       → IsPlayedFrom net start (length before.pickers.items) first after
   pub pickers : length after.pickers.items ≡ length before.pickers.items
   pub agents : length after.crowd ≡ length before.crowd
 
 -- one worker has made so many more meetings, and nobody else any
-abbrev pub HasMore : ℕ → ℕ → Played → Played → Type 0
+abbrev pub HasMore : ℕ → ℕ → RoundEnd → RoundEnd → Type 0
 HasMore worker turns before after =
     (v : ℕ) → made_by v after.meetings.items ≡ made_by v before.meetings.items + (if v == worker then turns else 0)
 
@@ -46,7 +46,7 @@ abbrev pub AreAllMade : ℕ → ℕ → List Meeting → Type 0
 AreAllMade workers turns meetings = (w : ℕ) → w < workers → made_by w meetings ≡ turns
 
 -- a round from this crowd: each worker has made its turns at most
-pub record IsPartOfRound (net : NetModel) (crowd : List Word) (workers turns : ℕ) (before : List (List ℕ)) (p : Played) : Type 0 where
+pub record IsPartOfRound (net : NetModel) (crowd : List Word) (workers turns : ℕ) (before : List (List ℕ)) (p : RoundEnd) : Type 0 where
   pub played : IsPlayedFrom net (crowd_of net crowd) workers before p
   pub few : (w : ℕ) → w < workers → made_by w p.meetings.items ≤ turns
   pub valid : AreValid net p.crowd
@@ -54,6 +54,6 @@ pub record IsPartOfRound (net : NetModel) (crowd : List Word) (workers turns : �
   pub pickers : length p.pickers.items ≡ workers
 
 -- such a round, which is whole or leads to a terminal crowd
-pub record IsWatchedRoundFrom (net : NetModel) (crowd : List Word) (workers turns : ℕ) (before : List (List ℕ)) (p : Played) : Type 0 where
+pub record IsWatchedRoundFrom (net : NetModel) (crowd : List Word) (workers turns : ℕ) (before : List (List ℕ)) (p : RoundEnd) : Type 0 where
   pub part : IsPartOfRound net crowd workers turns before p
   pub ends : AreAllMade workers turns p.meetings.items ⊎ IsTerminal (Step net) (crowd_of net p.crowd)

@@ -9,12 +9,8 @@ mod laws;
 mod limits;
 mod missing;
 mod observe;
-mod played;
 mod round;
-mod seats;
-mod signals;
 mod watched;
-mod work;
 
 pub use journal::{read_watched, verify_watched, write_watched};
 pub use laws::whole_runs_are_watched;

@@ -5,14 +5,14 @@ ghost use Rattle.pop_net.specs.Lanes.{AreValid};
 ghost use Rattle.pair_workers.specs.Run.{made_by};
 ghost use Rattle.pop_watch.specs.Playing.{KeepsPlaying, HasMore, AreAllMade};
 
-use crate::played::Played;
+use pair_workers::RoundEnd;
 use pop_crowd::Meeting;
 use pop_io::NoMemory;
 use pop_net::Net;
 use pop_words::WATCHED_WORKERS;
 
 /// The next meeting of one worker.
-fn meet_next(net: &Net, played: &mut Played, worker: u16) -> Result<(), NoMemory>
+fn meet_next(net: &Net, played: &mut RoundEnd, worker: u16) -> Result<(), NoMemory>
     requires valid { AreValid net.now played.old.crowd }
     requires worker { worker < length played.old.pickers.items }
     ensures goes_on { OnOk result (KeepsPlaying net.now played.old played.new) }
@@ -31,7 +31,7 @@ fn meet_next(net: &Net, played: &mut Played, worker: u16) -> Result<(), NoMemory
 }
 
 /// The next meetings of one worker.
-fn make_turns(net: &Net, played: &mut Played, worker: u16, turns: u64) -> Result<(), NoMemory>
+fn make_turns(net: &Net, played: &mut RoundEnd, worker: u16, turns: u64) -> Result<(), NoMemory>
     requires valid { AreValid net.now played.old.crowd }
     requires worker { worker < length played.old.pickers.items }
     ensures goes_on { OnOk result (KeepsPlaying net.now played.old played.new) }
@@ -47,7 +47,7 @@ fn make_turns(net: &Net, played: &mut Played, worker: u16, turns: u64) -> Result
 /// All meetings that the workers have still to make, worker by worker.
 pub(crate) fn make_missing(
     net: &Net,
-    played: &mut Played,
+    played: &mut RoundEnd,
     made: &[u64],
     turns: u64,
 ) -> Result<(), NoMemory>

@@ -5,11 +5,11 @@ ghost use Rattle.pop_net.specs.Lanes.{AreValid};
 ghost use Rattle.agent_field.specs.Seats.{IsSeatOf, KeepsLogs, seat_number, opening_of, spare_looks_of, net_of};
 ghost use Rattle.terminal_test.specs.TableNet.{table_net};
 ghost use Rattle.pair_workers.specs.CrowdSize.{IsCrowdSize};
+ghost use Rattle.pop_watch.specs.Work.{CanObserve};
 
-use crate::limits::LOOKS_A_ROUND;
-use crate::signals::Signals;
+use crate::limits::{LOOKS_A_ROUND, POLLS_A_LOOK};
 use agent_field::{Field, FieldSeat};
-use pair_workers::ROUND_TURNS;
+use pair_workers::Signals;
 use pop_crowd::Crowd;
 use pop_io::{Gate, NoMemory};
 use pop_net::Net;
@@ -41,7 +41,7 @@ fn seen_crowd<R: Wait>(
     Ok(Crowd::of_words(net, words))
 }
 
-/// Looks spread over the turns, until one is terminal: then the workers are to stop. The answer is the number of looks.
+/// Looks spread over the turns, until one is terminal: then the workers are to stop.
 fn look_on<R: Wait, G: Gate>(
     rt: &R,
     alloc: Global,
@@ -53,35 +53,27 @@ fn look_on<R: Wait, G: Gate>(
     workers: u16,
     signals: &Signals,
     gate: &G,
-) -> Result<u64, NoMemory>
-    requires table { table_net table.now ≡ net.now }
-    requires net { net_of field.now ≡ net.now }
-    requires agents { IsCrowdSize (length (opening_of field.now)) }
-    requires ours { IsSeatOf field.now seat.old }
-    requires first { seat_number seat.old ≡ 0 }
-    requires room { LOOKS_A_ROUND ≤ spare_looks_of seat.old }
-    requires turns { turns ≤ ROUND_TURNS }
-    ensures few { IfOk result (λ looks. looks ≤ LOOKS_A_ROUND) }
-    ensures ours { IsSeatOf field.now seat.new }
-    ensures rest { KeepsLogs seat.old seat.new }
+) -> Result<(), NoMemory>
+    requires { CanObserve net.now (table_net table.now) field.now turns seat.old }
+    ensures { IsSeatOf field.now seat.new × KeepsLogs seat.old seat.new }
 {
     let mut last = None;
     'looks: for look in 0..LOOKS_A_ROUND {
         let due = turns * u64::from(look) / u64::from(LOOKS_A_ROUND);
-        if turns <= signals.turn_from(due) {
-            return Ok(u64::from(look));
+        if turns <= signals.turn_from(due, POLLS_A_LOOK) {
+            return Ok(());
         }
         gate.pass(workers, u64::from(look) + 1);
         let crowd = seen_crowd(rt, alloc, net, field, seat)?;
         if table.is_terminal(alloc, &crowd, &mut last)? {
             signals.stop();
-            return Ok(u64::from(look) + 1);
+            return Ok(());
         }
     }
-    Ok(u64::from(LOOKS_A_ROUND))
+    Ok(())
 }
 
-/// The observer's part of a round. It passes the gate once more behind its last look.
+/// The observer's part of a round. It passes the gate once more behind its last look, also where it lacked memory for it.
 pub(crate) fn observe<R: Wait, G: Gate>(
     rt: &R,
     alloc: Global,
@@ -94,19 +86,12 @@ pub(crate) fn observe<R: Wait, G: Gate>(
     signals: &Signals,
     gate: &G,
 ) -> Result<(), NoMemory>
-    requires table { table_net table.now ≡ net.now }
-    requires net { net_of field.now ≡ net.now }
-    requires agents { IsCrowdSize (length (opening_of field.now)) }
-    requires ours { IsSeatOf field.now seat.old }
-    requires first { seat_number seat.old ≡ 0 }
-    requires room { LOOKS_A_ROUND ≤ spare_looks_of seat.old }
-    requires turns { turns ≤ ROUND_TURNS }
-    ensures ours { IsSeatOf field.now seat.new }
-    ensures rest { KeepsLogs seat.old seat.new }
+    requires { CanObserve net.now (table_net table.now) field.now turns seat.old }
+    ensures { IsSeatOf field.now seat.new × KeepsLogs seat.old seat.new }
 {
-    let looks = look_on(
+    let observed = look_on(
         rt, alloc, net, table, field, seat, turns, workers, signals, gate,
-    )?;
-    gate.pass(workers, looks + 1);
-    Ok(())
+    );
+    gate.pass(workers, u64::from(seat.looks()) + 1);
+    observed
 }

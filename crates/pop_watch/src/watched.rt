@@ -4,8 +4,8 @@ ghost use Rattle.std.specs.Prelude.{◌≤◌, IfOk};
 ghost use Rattle.pair_workers.specs.Ends.{CanMakeRun};
 ghost use Rattle.pop_watch.specs.WatchedEnds.{IsWatchedRunFrom};
 
-use crate::played::Played;
 use crate::round::watched_round;
+use agent_field::Layout;
 use pair_workers::{ROUND_TURNS, RunEnd, end_of, first_pickers, goes_on};
 use pop_crowd::Crowd;
 use pop_io::{Gate, List, NoMemory};
@@ -35,18 +35,26 @@ pub fn run_watched<R: Threads + Wait + Sync, G: Gate>(
     let mut pickers = first_pickers(alloc, spec)?;
     let mut rounds = Vec::new(alloc);
     let mut left = spec.turns;
+    let mut layout = Layout::new(alloc);
     let table = PairTable::new(alloc, net)?;
     let mut last = None;
     'rounds: while goes_on(alloc, &table, &crowd, left, &mut last)? {
         let turns = ROUND_TURNS.min(left);
-        let Played {
-            crowd: after,
-            pickers: moved,
-            meetings,
-        } = watched_round(rt, alloc, net, &table, &crowd, spec, pickers, turns, gate)?;
-        crowd = after;
-        pickers = moved;
-        rounds.push(List::from_vec(meetings))?;
+        let played = watched_round(
+            rt,
+            alloc,
+            net,
+            &table,
+            crowd,
+            spec,
+            pickers,
+            turns,
+            &mut layout,
+            gate,
+        )?;
+        crowd = played.crowd;
+        pickers = played.pickers;
+        rounds.push(List::from_vec(played.meetings))?;
         left -= turns;
     }
     let end = end_of(alloc, &table, &crowd)?;

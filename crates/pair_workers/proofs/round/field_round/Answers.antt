@@ -1,112 +1,108 @@
-use Rattle.std.proofs.Common.{ℕ, ◌<◌, ◌≤◌, get_or, set, List, [], length, sym, ap, ◌∙◌, subst, arith, length-set}
+use Rattle.std.proofs.Common.{◌≡◌, ℕ, suc, ◌+◌, ◌<◌, ◌≤◌, Bool, false, get_or, List, [], ◌∷◌, ◌++◌, length, map, take, drop, sym, ap, ◌∙◌, subst, arith, rules}
 use Rattle.std.specs.Prelude.{All}
-use Rattle.std.proofs.lemmas.List.{get_or_default}
+use Rattle.std.proofs.lemmas.List.{length-map}
 use Rattle.pop_net.specs.declared.net.Word.{Word}
 use Rattle.pop_net.specs.NetModel.{NetModel}
 use Rattle.pop_net.specs.Lanes.{crowd_of, AreValid}
+use Rattle.pop_crowd.specs.declared.crowd.Meeting.{Meeting}
 use Rattle.agent_field.specs.Seats.{net_of, opening_of, seats_of, log_of}
 use Rattle.pair_workers.specs.declared.work.Worker.{Worker}
 use Rattle.pair_workers.specs.Turns.{HasPicked, ArePlayed}
-use Rattle.pair_workers.specs.Work.{MayWork, HaveWorked, AreDone, agents_of_field, pairs_of}
-use Rattle.pair_workers.proofs.FieldRounds.{whole_written, are_done, all_picked, are_played, as_long}
+use Rattle.pair_workers.specs.Work.{MayWork, HasWorked, AreDone, HasAll, agents_of_field, pairs_of}
+use Rattle.pair_workers.proofs.FieldRounds.{front, whole_written, are_done, all_picked, are_played, as_long}
 use Rattle.pair_workers.proofs.round.field_round.Goals as goal
-
-pub open-requires-clause-agents : goal.open-requires-clause-agents
-open-requires-clause-agents g c =
-    let e = c.in_ok-words.ensures in
-    subst (λ (l : List Word). (2 ≤ length l) × (length l ≤ 65536)) (sym e.words) e.agents
 
 pub work_beside-requires-clause-agents : goal.work_beside-requires-clause-agents
 work_beside-requires-clause-agents g c κs within =
-    let e = c.in_ok-words.ensures in
-    subst (λ (l : List Word). (2 ≤ length l) × (length l ≤ 65536)) (sym (c.in_ok-field.ensures.field.opening_is ∙ e.words)) e.agents
+    let e = c.in_ok-field.ensures in
+    subst (λ (l : List Word). (2 ≤ length l) × (length l ≤ 65536)) (sym e.field.opening_is) e.agents
 
 pub work_beside-requires-clause-may : goal.work_beside-requires-clause-may
 work_beside-requires-clause-may g c κs within =
-    let ready = c.in_ok-others.ensures.ready in
-    let reserved = c.in_ok-reserve.ensures in (
+    let e = c.in_ok-field.ensures in
+    let r = c.in_ok-reserve.ensures in (
       record {
-        ours = (reserved.field.0 ∙ c.in_ok-others.ensures.ours.0, reserved.field.1 ∙ c.in_ok-others.ensures.ours.1);
-        room = reserved.room;
-        log = reserved.own ∙ c.in_ok-others.ensures.own.1 ∙ c.in_ok-field.ensures.fresh.0.0;
+        ours = (r.field.0 ∙ e.ours.0, r.field.1 ∙ e.ours.1);
+        room = r.room;
+        log = r.own ∙ e.fresh.0;
       },
-      subst (λ (l : List Worker). All (MayWork c.in_ok-field.field c.args.turns) l) (sym c.as_mut_slice.ensures.value) (λ k d h. (ready.1 k d [] h).may),
+      subst (λ (l : List Worker). All (MayWork c.in_ok-field.field c.args.turns) l) (sym c.as_mut_slice-workers.ensures.value) (λ k d h. (e.ready.1 k d [] h).may),
     )
 
 pub take_in-requires : goal.take_in-requires
 take_in-requires g c =
     let f = c.in_ok-field.field in
+    let turns = c.args.turns in
+    let rest = c.remove-picker.new.self.items in
     let new = c.work_beside.new.others in
-    let old = c.in_ok-others.others.items in
-    let value = c.as_mut_slice.ensures.value in
-    let same = c.work_beside.auto.others ∙ ap (length {A = Worker}) value in
-    let worked = subst (λ (l : List Worker). HaveWorked f c.args.turns l new) value c.work_beside.ensures.1 in
-    let done = subst (AreDone f c.args.turns c.args.pickers.now) (sym (whole_written c.in_ok-others.others.len new old same (omega arith)))
-    (are_done f c.args.turns c.args.pickers.now old new c.in_ok-others.ensures.ready same worked) in
-    let kept = c.work_beside.ensures.0.kept in
-    let reserved = c.in_ok-reserve.ensures in
-    let next = kept.1 ∙ reserved.rest.1 ∙ c.in_ok-others.ensures.dealt in
+    let old = c.in_ok-field.others.items in
+    let e = c.in_ok-field.ensures in
+    let done = subst (λ (b : Bool). AreDone f turns b rest new) c.new-signals.ensures
+    (are_done f turns c.new-signals.result.observed rest old _ new c.as_mut_slice-workers.ensures.value e.ready c.work_beside.auto.others c.work_beside.ensures.others) in
+    let list = whole_written c.in_ok-field.others.len new old (done.0 ∙ sym e.ready.0) (omega arith) in
+    let first = c.work_beside.new.first in
+    let worked = c.work_beside.ensures.first in
+    let made = subst (AreDone f turns false rest) (sym list) done in
+    let r = c.in_ok-reserve.ensures in
+    let next = worked.kept.1 ∙ r.rest.1 ∙ e.dealt in
     record {
-      ours = c.work_beside.ensures.0.ours;
-      number = kept.0 ∙ reserved.rest.0 ∙ c.in_ok-others.ensures.own.0 ∙ c.in_ok-field.ensures.first.0;
-      next = next ∙ sym done.0;
-      within = omega (arith, next, c.in_ok-field.ensures.field.seats_are, c.requires.round.pickers);
-      each = λ i d h. ((done.1 i d [] h).ours, (done.1 i d [] h).numbered);
-      all = done.0;
+      ours = worked.ours;
+      number = worked.kept.0 ∙ r.rest.0 ∙ e.first;
+      next = next ∙ ap (λ (n : ℕ). n + 1) (sym made.0);
+      within = omega (arith, next, e.field.seats_are);
+      each = λ i d h. ((made.1 i d [] h).ours, (made.1 i d [] h).numbered);
     }
+
+pub of_words-requires-clause-some : goal.of_words-requires-clause-some
+of_words-requires-clause-some g c =
+    let e = c.in_ok-field.ensures in
+    let f = c.in_ok-field.field in
+    let round = c.in_ok-round.round in
+    let long = as_long (net_of f) (opening_of f) round.words round.meetings c.in_ok-round.ensures.words ∙ ap (length {A = Word}) e.field.opening_is in
+    omega (arith, long, e.agents.0)
+
+pub of_words-requires-clause-few : goal.of_words-requires-clause-few
+of_words-requires-clause-few g c =
+    let e = c.in_ok-field.ensures in
+    let f = c.in_ok-field.field in
+    let round = c.in_ok-round.round in
+    let long = as_long (net_of f) (opening_of f) round.words round.meetings c.in_ok-round.ensures.words ∙ ap (length {A = Word}) e.field.opening_is in
+    omega (arith, long, e.agents.1)
 
 pub returns : goal.returns
 returns g c =
     let f = c.in_ok-field.field in
     let turns = c.args.turns in
-    let pickers = c.args.pickers.now in
+    let rest = c.remove-picker.new.self.items in
     let new = c.work_beside.new.others in
-    let old = c.in_ok-others.others.items in
-    let value = c.as_mut_slice.ensures.value in
-    let same = c.work_beside.auto.others ∙ ap (length {A = Worker}) value in
-    let worked = subst (λ (l : List Worker). HaveWorked f turns l new) value c.work_beside.ensures.1 in
-    let done = subst (AreDone f turns pickers) (sym (whole_written c.in_ok-others.others.len new old same (omega arith)))
-    (are_done f turns pickers old new c.in_ok-others.ensures.ready same worked) in
+    let old = c.in_ok-field.others.items in
+    let e = c.in_ok-field.ensures in
+    let done = subst (λ (b : Bool). AreDone f turns b rest new) c.new-signals.ensures
+    (are_done f turns c.new-signals.result.observed rest old _ new c.as_mut_slice-workers.ensures.value e.ready c.work_beside.auto.others c.work_beside.ensures.others) in
+    let list = whole_written c.in_ok-field.others.len new old (done.0 ∙ sym e.ready.0) (omega arith) in
     let first = c.work_beside.new.first in
-    let is = c.in_ok-field.ensures.field in
-    let some : 0 < length pickers = omega (arith, c.requires.round.pickers, c.requires.limits.workers.0) in
-    let mine : (d : List ℕ) → HasPicked (agents_of_field f) turns (get_or pickers 0 d) first.picker (pairs_of (log_of first.seat)) = (λ d.
-    subst (λ (p : List ℕ). HasPicked (agents_of_field f) turns p first.picker (pairs_of (log_of first.seat))) (c.in_ok-picker.ensures ∙ get_or_default pickers 0 c.index-pickers-0.result d some) c.work_beside.ensures.0.picked) in
+    let worked = c.work_beside.ensures.first in
+    let net = c.args.net.now in
+    let pickers = c.args.pickers.items in
+    let own = c.remove-picker.result in
+    let all = subst (λ (l : List Worker). HasAll f l first.seat c.in_ok-whole.whole) list c.in_ok-whole.ensures.all in
     let closed = c.in_ok-round.ensures in
-    let taken = c.in_ok-whole.ensures in
     let round = c.in_ok-round.round in
-    let opening = is.opening_is ∙ c.in_ok-words.ensures.words in
-    let after : List (List ℕ) = set c.take_in.new.pickers 0 first.picker in
+    let some : 0 < length pickers = omega (arith, c.requires.round.pickers, c.requires.limits.workers.0) in
+    let split : pickers ≡ own ∷ rest = front pickers rest own some c.remove-picker.ensures.value c.remove-picker.ensures.by_index.2 in
+    let many : length rest + 1 ≡ c.args.spec.now.workers = (let long = ap (length {A = List ℕ}) (sym split) ∙ c.requires.round.pickers in omega (arith, long)) in
+    let after : List (List ℕ) = first.picker ∷ map (λ (v : Worker). v.picker) new in
+    let moved : c.in_ok-whole.pickers.items ≡ after = c.in_ok-whole.ensures.pickers ∙ (λ i. c.in_ok-push.ensures.items i ++ map (λ (v : Worker). v.picker) (list i)) ∙ search rules in
+    let mine : HasPicked (agents_of_field f) turns own first.picker (pairs_of (log_of first.seat)) = subst (λ (n : ℕ). HasPicked (agents_of_field f) n own first.picker (pairs_of (log_of first.seat))) (worked.all c.new-signals.ensures) worked.made.picked in
+    let words : round.words ≡ c.of_words.result = sym c.of_words.ensures in
+    let meetings : round.meetings ≡ c.into_vec.result.items = sym c.into_vec.ensures in
+    let seats : seats_of f ≡ c.args.spec.now.workers = e.field.seats_are ∙ many in
+    let played = are_played (net_of f) (opening_of f) round.words (seats_of f) turns (own ∷ rest) after round.meetings closed.words closed.history
+    (λ w d h. all_picked f turns own rest new first c.in_ok-whole.whole round.meetings mine done all closed.own closed.taken w d (omega (arith, h, seats, many))) in
     record {
-      played =
-          subst (λ (t : NetModel × List Word × ℕ). ArePlayed t.0 (crowd_of t.0 t.1) t.2 turns pickers after round.meetings (crowd_of t.0 round.words)) (λ i. (is.net_is i, opening i, is.seats_are i))
-          (are_played (net_of f) (opening_of f) round.words (seats_of f) turns pickers after round.meetings closed.words closed.history
-          (λ w d h. all_picked f turns pickers _ _ first _ round.meetings mine done taken.all c.take_in.auto.pickers taken.back closed.own closed.taken w d (omega (arith, h, is.seats_are, c.requires.round.pickers))));
-      valid = subst (λ (n : NetModel). AreValid n round.words) is.net_is closed.valid;
-      agents =
-          as_long (net_of f) (opening_of f) round.words round.meetings closed.words
-          ∙ ap (length {A = Word}) (is.opening_is ∙ c.in_ok-words.ensures.words);
-      pickers = length-set c.take_in.new.pickers 0 first.picker ∙ c.take_in.auto.pickers;
+      played = subst (λ (t : NetModel × List Word × ℕ × List (List ℕ) × List (List ℕ) × List Meeting × List Word). ArePlayed t.0 (crowd_of t.0 t.1) t.2 turns t.3 t.4 t.5 (crowd_of t.0 t.6))
+          (λ i. (e.field.net_is i, e.field.opening_is i, seats i, sym split i, sym moved i, meetings i, words i)) played;
+      valid = subst (λ (t : NetModel × List Word). AreValid t.0 t.1) (λ i. (e.field.net_is i, words i)) closed.valid;
+      agents = ap (length {A = Word}) (sym words) ∙ as_long (net_of f) (opening_of f) round.words round.meetings closed.words ∙ ap (length {A = Word}) e.field.opening_is;
+      pickers = ap (length {A = List ℕ}) moved ∙ ap suc (length-map new (λ (v : Worker). v.picker) ∙ done.0) ∙ ap (length {A = List ℕ}) (sym split);
     }
-
-pub open-requires-clause-valid : goal.open-requires-clause-valid
-open-requires-clause-valid g c = subst (AreValid c.args.net.now) (sym c.in_ok-words.ensures.words) c.requires.round.valid
-
-pub open-requires-clause-shards : goal.open-requires-clause-shards
-open-requires-clause-shards g c = c.requires.limits.shards
-
-pub open-requires-clause-seats : goal.open-requires-clause-seats
-open-requires-clause-seats g c = c.requires.limits.workers
-
-pub seat_others-requires-clause-first : goal.seat_others-requires-clause-first
-seat_others-requires-clause-first g c =
-    let opened = c.in_ok-field.ensures in
-    record {
-      ours = opened.ours;
-      number = opened.first.0;
-      next = opened.first.1;
-      left = opened.first.2 ∙ sym c.requires.round.pickers;
-    }
-
-pub seat_others-requires-clause-turns : goal.seat_others-requires-clause-turns
-seat_others-requires-clause-turns g c = c.requires.round.few

@@ -1,9 +1,7 @@
-use Rattle.std.proofs.Common.{List, refl, sym, subst, ◌∙◌, arith}
-use Rattle.agent_field.specs.declared.view.Logged.{Logged}
+use Rattle.std.proofs.Common.{◌∙◌, arith}
 use Rattle.agent_field.specs.Seats.{log_of}
-use Rattle.pair_workers.specs.Turns.{HasPicked}
-use Rattle.pair_workers.specs.Work.{agents_of_field, pairs_of}
-use Rattle.pair_workers.proofs.Turns.{turn_more, picked_none}
+use Rattle.pair_workers.specs.Work.{agents_of_field}
+use Rattle.pair_workers.proofs.Turns.{turn_more}
 use Rattle.pair_workers.proofs.work.work.Goals as goal
 
 pub turns-preserved : goal.turns-preserved
@@ -16,16 +14,4 @@ turns-preserved g c =
       kept = (m.rest.0 ∙ k.0, m.rest.1 ∙ k.1, m.rest.2 ∙ k.2, m.rest.3 ∙ k.3, m.rest.4 ∙ k.4, m.rest.5 ∙ k.5);
       picked = turn_more (agents_of_field c.args.field.now) _ c.turns.turn _ _ _ (log_of c.turns.worker.seat) (log_of c.meet.new.seat) c.meet.result.ticket c.pick-a.result c.meet.result.changed was.picked m.logged c.agents.ensures c.pick-a.ensures.next.in_row;
       room = let r = was.room in let s = m.spare in omega arith;
-    }
-
-pub turns-init : goal.turns-init
-turns-init g c =
-    let agents = agents_of_field c.args.field.now in
-    let picker = c.args.worker.now.picker in
-    let may = c.requires.may in
-    record {
-      ours = may.ours;
-      kept = (refl, refl, refl, refl, refl, refl);
-      picked = subst (λ (log : List Logged). HasPicked agents 0 picker picker (pairs_of log)) (sym may.log) (picked_none agents picker);
-      room = let r = may.room in omega arith;
     }

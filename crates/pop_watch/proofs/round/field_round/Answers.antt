@@ -1,48 +1,69 @@
-use Rattle.std.proofs.Common.{◌≡◌, ℕ, ◌<◌, ◌≤◌, List, [], length, map, sym, ap, ◌∙◌, subst, arith}
+use Rattle.std.proofs.Common.{◌≡◌, ℕ, ◌+◌, ◌<◌, ◌≤◌, true, List, [], ◌++◌, length, map, sym, ap, ◌∙◌, subst, arith}
 use Rattle.std.specs.Prelude.{All}
 use Rattle.std.proofs.lemmas.List.{length-map}
 use Rattle.pop_net.specs.declared.net.Word.{Word}
 use Rattle.pop_net.specs.NetModel.{NetModel}
 use Rattle.pop_net.specs.Lanes.{crowd_of, AreValid}
 use Rattle.pop_crowd.specs.declared.crowd.Meeting.{Meeting}
+use Rattle.agent_field.specs.declared.view.Look.{Look}
 use Rattle.agent_field.specs.History.{calls}
 use Rattle.agent_field.specs.Seats.{net_of, opening_of, seats_of, log_of}
-use Rattle.pair_workers.proofs.FieldRounds.{whole_written, as_long}
+use Rattle.pair_workers.proofs.FieldRounds.{whole_written, are_done, as_long}
 use Rattle.pair_workers.specs.Run.{made_by}
-use Rattle.pop_watch.specs.declared.work.Worker.{Worker}
-use Rattle.pop_watch.specs.Work.{MayPlay, HaveStopped, HasAllWatched}
+use Rattle.pair_workers.specs.declared.work.Worker.{Worker}
+use Rattle.pair_workers.specs.Work.{MayWork, AreDone, HasAll}
 use Rattle.pop_watch.specs.Playing.{ArePlaying, of_worker}
-use Rattle.pop_watch.proofs.Seating.{are_done}
 use Rattle.pop_watch.proofs.Renumbered.{IsOfWorker, all_of_workers}
 use Rattle.pop_watch.proofs.Parts.{are_playing, all_picked, few_made, made_each}
 use Rattle.pop_watch.proofs.round.field_round.Goals as goal
 
-pub watch_beside-requires-clause-agents : goal.watch_beside-requires-clause-agents
-watch_beside-requires-clause-agents g c κs within =
+pub reserve_looks-requires-clause-limit : goal.reserve_looks-requires-clause-limit
+reserve_looks-requires-clause-limit g c = let none = ap (length {A = Look}) c.in_ok-field.ensures.fresh.2 in omega (arith, none)
+
+pub watch_beside-requires-clause-observer : goal.watch_beside-requires-clause-observer
+watch_beside-requires-clause-observer g c κs within =
     let e = c.in_ok-field.ensures in
-    subst (λ (l : List Word). (2 ≤ length l) × (length l ≤ 65536)) (sym e.field.opening_is) e.agents
+    let r = c.in_ok-reserve_looks.ensures in
+    record {
+      table = c.requires.table;
+      field = e.field.net_is;
+      agents = subst (λ (l : List Word). (2 ≤ length l) × (length l ≤ 65536)) (sym e.field.opening_is) e.agents;
+      ours = r.ours;
+      first = r.rest.0 ∙ e.first;
+      room = r.room;
+      few = c.requires.round.few;
+    }
 
 pub watch_beside-requires-clause-workers : goal.watch_beside-requires-clause-workers
 watch_beside-requires-clause-workers g c κs within =
-    let ready = c.in_ok-field.ensures.workers.1 in
-    subst (λ (l : List Worker). All (MayPlay c.in_ok-field.field c.args.turns) l) (sym c.as_mut_slice.ensures.value) (λ k d h. (ready k d [] h).may)
+    let ready = c.in_ok-field.ensures.ready.1 in
+    subst (λ (l : List Worker). All (MayWork c.in_ok-field.field c.args.turns) l) (sym c.as_mut_slice.ensures.value) (λ k d h. (ready k d [] h).may)
 
-pub take_in-requires-clause-workers : goal.take_in-requires-clause-workers
-take_in-requires-clause-workers g c =
+pub take_in-requires : goal.take_in-requires
+take_in-requires g c =
+    let e = c.in_ok-field.ensures in
     let f = c.in_ok-field.field in
     let turns = c.args.turns in
     let pickers = c.args.pickers.items in
     let new = c.watch_beside.new.workers in
     let old = c.in_ok-field.workers.items in
-    let ready = c.in_ok-field.ensures.workers in
-    let done = are_done f turns pickers old _ new c.as_mut_slice.ensures.value ready c.watch_beside.auto.workers c.watch_beside.ensures.workers in
-    let list = whole_written c.in_ok-field.workers.len new old (done.0 ∙ sym ready.0) (omega arith) in
-    let made = subst (HaveStopped f turns pickers) (sym list) done in
-    λ i d h. ((made.1 i d [] h).ours, (made.1 i d [] h).numbered)
+    let done = are_done f turns true pickers old _ new c.as_mut_slice.ensures.value e.ready c.watch_beside.auto.workers c.watch_beside.ensures.workers in
+    let list = whole_written c.in_ok-field.workers.len new old (done.0 ∙ sym e.ready.0) (omega arith) in
+    let made = subst (AreDone f turns true pickers) (sym list) done in
+    let kept = c.watch_beside.ensures.seat.1 in
+    let r = c.in_ok-reserve_looks.ensures in
+    let next = kept.1 ∙ r.rest.1 ∙ e.dealt in
+    record {
+      ours = c.watch_beside.ensures.seat.0;
+      number = kept.0 ∙ r.rest.0 ∙ e.first;
+      next = next ∙ ap (λ (n : ℕ). n + 1) (sym made.0);
+      within = omega (arith, next, e.field.seats_are);
+      each = λ i d h. ((made.1 i d [] h).ours, (made.1 i d [] h).numbered);
+    }
 
 pub by_workers-requires : goal.by_workers-requires
 by_workers-requires g c =
-    let own : calls 0 c.in_ok-round.round.meetings ≡ [] = c.in_ok-round.ensures.own ∙ c.in_ok-whole.ensures.all.own ∙ c.watch_beside.ensures.seat.1.4 ∙ c.in_ok-field.ensures.observer.log in
+    let own : calls 0 c.in_ok-round.round.meetings ≡ [] = c.in_ok-round.ensures.own ∙ c.in_ok-whole.ensures.all.own ∙ c.watch_beside.ensures.seat.1.4 ∙ (c.in_ok-reserve_looks.ensures.rest.4 ∙ c.in_ok-field.ensures.fresh.0) in
     subst (λ (l : List Meeting). All IsOfWorker l) (sym c.as_slice-2.ensures) (all_of_workers 0 c.in_ok-round.round.meetings own)
 
 pub of_words-crowd-requires-clause-some : goal.of_words-crowd-requires-clause-some
@@ -64,13 +85,13 @@ returns-clause-made g c =
     let pickers = c.args.pickers.items in
     let new = c.watch_beside.new.workers in
     let old = c.in_ok-field.workers.items in
-    let ready = c.in_ok-field.ensures.workers in
-    let done = are_done f turns pickers old _ new c.as_mut_slice.ensures.value ready c.watch_beside.auto.workers c.watch_beside.ensures.workers in
+    let ready = c.in_ok-field.ensures.ready in
+    let done = are_done f turns true pickers old _ new c.as_mut_slice.ensures.value ready c.watch_beside.auto.workers c.watch_beside.ensures.workers in
     let list = whole_written c.in_ok-field.workers.len new old (done.0 ∙ sym ready.0) (omega arith) in
-    let all = subst (λ (l : List Worker). HasAllWatched f l c.watch_beside.new.seat c.in_ok-whole.whole) list c.in_ok-whole.ensures.all in
+    let all = subst (λ (l : List Worker). HasAll f l c.watch_beside.new.seat c.in_ok-whole.whole) list c.in_ok-whole.ensures.all in
     let closed = c.in_ok-round.ensures in
     let meetings = c.in_ok-round.round.meetings in
-    let own : calls 0 meetings ≡ [] = closed.own ∙ all.own ∙ c.watch_beside.ensures.seat.1.4 ∙ c.in_ok-field.ensures.observer.log in
+    let own : calls 0 meetings ≡ [] = closed.own ∙ all.own ∙ c.watch_beside.ensures.seat.1.4 ∙ (c.in_ok-reserve_looks.ensures.rest.4 ∙ c.in_ok-field.ensures.fresh.0) in
     let some = all_of_workers 0 meetings own in
     let mine : c.in_ok-meetings.meetings.items ≡ map of_worker meetings = c.in_ok-meetings.ensures ∙ ap (map of_worker) c.as_slice-2.ensures in
     let any : Worker = record { seat = c.watch_beside.new.seat; picker = [] } in
@@ -91,23 +112,23 @@ returns-clause-part g c =
     let pickers = c.args.pickers.items in
     let new = c.watch_beside.new.workers in
     let old = c.in_ok-field.workers.items in
-    let ready = c.in_ok-field.ensures.workers in
-    let done = are_done f turns pickers old _ new c.as_mut_slice.ensures.value ready c.watch_beside.auto.workers c.watch_beside.ensures.workers in
+    let ready = c.in_ok-field.ensures.ready in
+    let done = are_done f turns true pickers old _ new c.as_mut_slice.ensures.value ready c.watch_beside.auto.workers c.watch_beside.ensures.workers in
     let list = whole_written c.in_ok-field.workers.len new old (done.0 ∙ sym ready.0) (omega arith) in
-    let all = subst (λ (l : List Worker). HasAllWatched f l c.watch_beside.new.seat c.in_ok-whole.whole) list c.in_ok-whole.ensures.all in
+    let all = subst (λ (l : List Worker). HasAll f l c.watch_beside.new.seat c.in_ok-whole.whole) list c.in_ok-whole.ensures.all in
     let closed = c.in_ok-round.ensures in
     let meetings = c.in_ok-round.round.meetings in
-    let own : calls 0 meetings ≡ [] = closed.own ∙ all.own ∙ c.watch_beside.ensures.seat.1.4 ∙ c.in_ok-field.ensures.observer.log in
+    let own : calls 0 meetings ≡ [] = closed.own ∙ all.own ∙ c.watch_beside.ensures.seat.1.4 ∙ (c.in_ok-reserve_looks.ensures.rest.4 ∙ c.in_ok-field.ensures.fresh.0) in
     let some = all_of_workers 0 meetings own in
     let mine : c.in_ok-meetings.meetings.items ≡ map of_worker meetings = c.in_ok-meetings.ensures ∙ ap (map of_worker) c.as_slice-2.ensures in
     let any : Worker = record { seat = c.watch_beside.new.seat; picker = [] } in
     let after = c.in_ok-whole.pickers.items in
-    let moved : after ≡ map (λ (v : Worker). v.picker) new = c.in_ok-whole.ensures.pickers ∙ ap (map (λ (v : Worker). v.picker)) list in
+    let moved : after ≡ map (λ (v : Worker). v.picker) new = c.in_ok-whole.ensures.pickers ∙ (λ i. c.new.ensures.items i ++ map (λ (v : Worker). v.picker) (list i)) in
     let words = c.in_ok-round.round.words in
     let crowd : words ≡ c.of_words-crowd.result = sym c.of_words-crowd.ensures in
     let long = as_long (net_of f) (opening_of f) words meetings closed.words ∙ ap (length {A = Word}) is.opening_is in
     let within : (w : ℕ) → w < workers → w < length new = (λ w l. omega (arith, l, done.0, c.requires.round.pickers)) in
-    let playing = are_playing (net_of f) (opening_of f) words workers (seats_of f) pickers after meetings closed.words closed.history is.seats_are some
+    let playing = are_playing (net_of f) (opening_of f) words workers (seats_of f) pickers after meetings closed.words closed.history (is.seats_are ∙ ap (λ (n : ℕ). n + 1) c.requires.round.pickers) some
     (λ w d l. all_picked f turns pickers new c.watch_beside.new.seat c.in_ok-whole.whole meetings done all closed.taken some after moved w d any (within w l)) in
     record {
       played =

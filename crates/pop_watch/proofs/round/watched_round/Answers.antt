@@ -27,7 +27,7 @@ returns-then-branch g c =
 pub returns : goal.returns
 returns g c =
     let net = c.args.net.now in
-    let start = crowd_of net c.args.crowd.now in
+    let start = crowd_of net c.args.crowd in
     let pickers = c.args.pickers.items in
     let before = c.in_ok-played.played in
     let after = c.make_missing.new.played in

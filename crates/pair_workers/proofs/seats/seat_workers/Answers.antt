@@ -2,10 +2,10 @@ use Rattle.std.proofs.Common.{ℕ, ◌+◌, get_or, length, arith, sym, ap, ◌�
 use Rattle.std.proofs.lemmas.List.{get_or_default}
 use Rattle.std.proofs.lemmas.Iterator.Adapters.{YieldsList-from_vec}
 use Rattle.std.proofs.lemmas.Iterator.Consumers.{YieldsList-turn, YieldsList-end}
-use Rattle.pop_watch.specs.declared.work.Worker.{Worker}
-use Rattle.pop_watch.specs.Work.{IsSeated}
+use Rattle.pair_workers.specs.declared.work.Worker.{Worker}
+use Rattle.pair_workers.specs.Work.{IsReady}
 use Rattle.pair_workers.proofs.Turns.{each-push_is}
-use Rattle.pop_watch.proofs.seats.seat_workers.Goals as goal
+use Rattle.pair_workers.proofs.seats.seat_workers.Goals as goal
 
 pub split-requires-clause-left : goal.split-requires-clause-left
 split-requires-clause-left c =
@@ -35,14 +35,13 @@ pickers-preserved c =
       next = s.dealt.0 ∙ ap more (was.next ∙ sym longer);
       left = let l = was.left in let n = s.dealt.1 in omega (arith, longer);
       count = let n = was.count in let long = ap (length {A = Worker}) items in omega (arith, long, longer, length-append workers (worker ∷ []));
-      ready = λ i d e h. each-push_is (λ (k : ℕ) (w : Worker). (p : List ℕ) → IsSeated c.args.field.now c.args.turns (k + 1) (get_or pickers k p) w) workers c.push.new.self.items worker items
+      ready = λ i d e h. each-push_is (λ (k : ℕ) (w : Worker). (p : List ℕ) → IsReady c.args.field.now c.args.turns (k + 1) (get_or pickers k p) w) workers c.push.new.self.items worker items
           (λ k w within p. was.ready k w p within)
           (λ p. record {
             may = record {
               ours = (r.field.0 ∙ s.theirs.0, r.field.1 ∙ s.theirs.1);
               room = r.room;
               log = r.own ∙ s.new.2.0;
-              numbered = let n = r.rest.0 ∙ s.new.0 ∙ was.next in omega (arith, n);
             };
             numbered = r.rest.0 ∙ s.new.0 ∙ was.next ∙ ap more (sym was.count);
             picker_is = turn.1 ∙ get_or_default pickers at picker p turn.0 ∙ ap (λ (k : ℕ). get_or pickers k p) (sym was.count);
@@ -50,9 +49,15 @@ pickers-preserved c =
           i d h e;
     }
 
-pub returns-clause-ready : goal.returns-clause-ready
-returns-clause-ready c =
+pub returns : goal.returns
+returns c =
     let was = c.pickers.invariant in
     let all = YieldsList-from_vec {s = c.into_iter-picker-iterator.result} c.args.pickers.items (search rules) (search rules) in
     let end = YieldsList-end all c.pickers.yielded c.pickers.picker-iterator c.pickers.yielded_by c.next.result c.next.new.self c.in-None.is c.next.ensures.steps in
-    (was.next ∙ ap (λ (n : ℕ). n + 1) end.1, (was.count ∙ end.1, was.ready))
+    record {
+      ours = was.ours;
+      own = was.own.0;
+      taken = was.own.1;
+      dealt = was.next ∙ ap (λ (n : ℕ). n + 1) end.1;
+      ready = (was.count ∙ end.1, was.ready);
+    }

@@ -2,13 +2,13 @@ use Rattle.std.proofs.Common.{◌≡◌, ℕ, suc, ◌+◌, List, ◌∷◌, len
 use Rattle.std.proofs.Math.ListN.{replicate, length-replicate}
 use Rattle.agent_field.specs.Standing.{packed, in_turns}
 use Rattle.agent_field.proofs.InTurns.{in_turns-replicate, set-opening, one_more_written, all_written}
-use Rattle.agent_field.proofs.life.layout.Goals as goal
+use Rattle.agent_field.proofs.life.lay_out.Goals as goal
 
 pub loop-a-init : goal.loop-a-init
 loop-a-init c =
     let shards = c.args.shards in
     let count = length c.args.words.now in
-    let zeros : c.in_ok-all.all.items ≡ replicate (2 + shards + count) 0 = search rules in record {
+    let zeros : c.resize.new.self.items ≡ replicate (2 + shards + count) 0 = search rules in record {
       numbers = replicate count 0;
       laid = zeros
           ∙ ap (λ (n : ℕ). replicate n 0) (let e : 2 + shards + count ≡ suc (suc (shards + count)) = omega arith in e)

@@ -1,7 +1,7 @@
 use Rattle.std.proofs.Common.{◌≡◌, map, take, length}
 use Rattle.agent_field.specs.Seats.{log_of}
-use Rattle.pop_watch.specs.declared.work.Worker.{Worker}
-use Rattle.pop_watch.proofs.seats.meetings_made.Given as goal
+use Rattle.pair_workers.specs.declared.work.Worker.{Worker}
+use Rattle.pair_workers.proofs.seats.meetings_made.Given as goal
 
 abbrev pub invariant-workers : goal.invariant-workers
 invariant-workers l = record {

@@ -5,7 +5,7 @@ use Rattle.agent_field.specs.Standing.{founder}
 use Rattle.agent_field.specs.Steps.{Mine}
 use Rattle.agent_field.proofs.InTurns.{length-opening}
 use Rattle.agent_field.proofs.Moves.{founds}
-use Rattle.agent_field.proofs.field.Field.open.Goals as goal
+use Rattle.agent_field.proofs.field.Field.open_on.Goals as goal
 
 pub swap-requires : goal.swap-requires
 swap-requires g c =
@@ -16,6 +16,6 @@ pub invariant_of-field-clause-words_are : goal.invariant_of-field-clause-words_a
 invariant_of-field-clause-words_are g c =
     let words = c.as_slice-2.result.now in
     c.in_ok-table.ensures.0
-    ∙ ap (length {A = ℕ}) (c.as_slice-3.ensures.value ∙ c.in_ok-all.ensures)
+    ∙ ap (length {A = ℕ}) (c.as_slice-3.ensures.value ∙ c.in_ok-lay_out.ensures)
     ∙ length-opening (map (λ (w : Word). w.0) words) c.args.shards (length c.as_slice.result.now)
     (length-map words (λ (w : Word). w.0) ∙ ap (length {A = Word}) (c.as_slice-2.ensures ∙ sym c.as_slice.ensures))

@@ -1,7 +1,7 @@
 use Rattle.std.proofs.Common.{◌≡◌, ℕ, List, ◌∷◌, length, replicate}
 use Rattle.agent_field.specs.Standing.{in_turns}
 use Rattle.agent_field.proofs.InTurns.{AreWrittenTo}
-use Rattle.agent_field.proofs.life.layout.Given as goal
+use Rattle.agent_field.proofs.life.lay_out.Given as goal
 
 abbrev pub invariant-loop-a : goal.invariant-loop-a
 invariant-loop-a l = record {

@@ -1,4 +1,4 @@
-use Rattle.std.proofs.Common.{◌≡◌, ℕ, zero, suc, ◌+◌, ◌<◌, get_or, set, length, map, arith, sym, ap, ◌∙◌, subst, ⊎_elim, length-append, List, [], ◌∷◌, ◌++◌, Some, None, Option, get_or-set_same, get_or-set_other, rules}
+use Rattle.std.proofs.Common.{◌≡◌, ℕ, zero, suc, ◌+◌, ◌<◌, get_or, set, length, map, arith, sym, ap, ◌∙◌, subst, ⊎_elim, length-append, append_assoc, List, [], ◌∷◌, ◌++◌, Some, None, Option, get_or-set_same, get_or-set_other, rules}
 use Rattle.std.proofs.lemmas.Bool.{cases_eq}
 use Rattle.std.proofs.lemmas.List.{get_or_default, map-append, map-id}
 use Rattle.std.proofs.lemmas.Iterator.Adapters.{YieldsList-from_vec}
@@ -7,8 +7,8 @@ use Rattle.std.specs.Prelude.{is_some, IsSome}
 use Rattle.agent_field.specs.declared.view.Setup.{Setup}
 use Rattle.agent_field.specs.declared.view.Logged.{Logged}
 use Rattle.agent_field.specs.Seats.{IsSeatOf, seat_number, next_of, log_of, taken_of}
-use Rattle.pop_watch.specs.declared.work.Worker.{Worker}
-use Rattle.pop_watch.proofs.seats.take_in.Goals as goal
+use Rattle.pair_workers.specs.declared.work.Worker.{Worker}
+use Rattle.pair_workers.proofs.seats.take_in.Goals as goal
 
 pub join-requires-clause-theirs : goal.join-requires-clause-theirs
 join-requires-clause-theirs c =
@@ -16,7 +16,7 @@ join-requires-clause-theirs c =
     let worker = c.in-Some.worker in
     let all = YieldsList-from_vec {s = c.into_iter-worker-iterator.result} init (search rules) (search rules) in
     let turn = YieldsList-turn all c.workers.yielded c.workers.worker-iterator c.workers.yielded_by c.next.result c.next.new.self worker c.in-Some.is c.next.ensures.steps in
-    subst (λ (v : Worker). IsSeatOf c.args.field.now v.seat) (sym turn.1) (c.requires.workers (length c.workers.yielded) worker turn.0).0
+    subst (λ (v : Worker). IsSeatOf c.args.field.now v.seat) (sym turn.1) (c.requires.each (length c.workers.yielded) worker turn.0).0
 
 pub workers-preserved : goal.workers-preserved
 workers-preserved c =
@@ -30,11 +30,12 @@ workers-preserved c =
     let j = c.in-Ok.ensures in
     let within = turn.0 in
     let found : (d : Worker) → get_or init at d ≡ worker = (λ d. sym (turn.1 ∙ get_or_default init at worker d within)) in
-    let mine : IsSeatOf f worker.seat × (seat_number worker.seat ≡ at + 1) = subst (λ (v : Worker). IsSeatOf f v.seat × (seat_number v.seat ≡ at + 1)) (found worker) (c.requires.workers at worker within) in
+    let mine : IsSeatOf f worker.seat × (seat_number worker.seat ≡ at + 1) = subst (λ (v : Worker). IsSeatOf f v.seat × (seat_number v.seat ≡ at + 1)) (found worker) (c.requires.each at worker within) in
     let number = worker.seat.number in
     let log = log_of worker.seat in
     let before = taken_of c.workers.first in
     let longer = length-append c.workers.yielded (worker ∷ []) in
+    let given = c.args.pickers.items in
     let fits : number < length before = (let places = c.workers.first.places was.number in subst (λ (n : ℕ). number < n) (sym places.2 ∙ search rules) (subst (λ (k : Setup). number < k.seats) (mine.0.1 ∙ sym was.ours.1) worker.seat.known)) in
     record {
       ours = j.ours;
@@ -42,7 +43,8 @@ workers-preserved c =
       next = j.rest.1 ∙ was.next;
       log = j.rest.0.1 ∙ was.log;
       pickers = c.in_ok-push.ensures.items ∙ ap (λ (l : List (List ℕ)). l ++ worker.picker ∷ []) was.pickers
-          ∙ sym (map-append (λ (w : Worker). w.picker) c.workers.yielded (worker ∷ []));
+          ∙ append_assoc given (map (λ (w : Worker). w.picker) c.workers.yielded) (worker.picker ∷ [])
+          ∙ ap (λ (l : List (List ℕ)). given ++ l) (sym (map-append (λ (w : Worker). w.picker) c.workers.yielded (worker ∷ [])));
       taken = λ i d early. ⊎_elim
           (λ (is : i ≡ at).
           ap (λ (l : List (Option (List Logged))). get_or l (i + 1) None) j.taken
@@ -62,7 +64,7 @@ returns-clause-pickers c =
     let all = YieldsList-from_vec {s = c.into_iter-worker-iterator.result} c.args.workers.items (search rules) (search rules) in
     let end = YieldsList-end all c.workers.yielded c.workers.worker-iterator c.workers.yielded_by c.next.result c.next.new.self c.in-None.is c.next.ensures.steps in
     c.workers.invariant.pickers
-    ∙ ap (map (λ (w : Worker). w.picker)) (sym (map-id c.workers.yielded) ∙ end.0)
+    ∙ ap (λ (l : List Worker). c.args.pickers.items ++ map (λ (w : Worker). w.picker) l) (sym (map-id c.workers.yielded) ∙ end.0)
 
 pub returns-clause-all : goal.returns-clause-all
 returns-clause-all c =
