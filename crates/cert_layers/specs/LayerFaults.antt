@@ -1,5 +1,5 @@
 -- The first place at which the layers of a leaf fail.
-use Rattle.std.specs.Prelude.{◌≡◌, ◌≢◌, ℕ, ◌+◌, ◌<◌, ◌≤◌, ◌*◌, false, ℤ, nat_abs, List, Some, slice_get, length, take, All, AllPairs, Contains}
+use Rattle.std.specs.Prelude.{◌≡◌, ◌≢◌, ℕ, ◌+◌, ◌<◌, ◌≤◌, ◌*◌, false, ℤ, nat_abs, List, Some, slice_get, length, take, All, AllPairs, Contains, Result, IfOk, IfErr}
 use Rattle.pop_net.specs.declared.leaf.Move.{Move}
 use Rattle.pop_net.specs.LeafModel.{LeafModel, silent_move}
 use Rattle.pop_net.specs.Step.{LeafStep}
@@ -7,7 +7,8 @@ use Rattle.pop_net.specs.Reachable.{ReachedWithin}
 use Rattle.pop_net.specs.Terminal.{IsTerminal}
 use Rattle.cert_base.specs.declared.limits.TheConstants.{SIZE_LIMIT}
 use Rattle.cert_base.specs.declared.layer.Layer.{Layer}
-use Rattle.cert_base.specs.ValidLayers.{moves_of_layers, IsInLayer, IsLower, IsEnabledBefore}
+use Rattle.cert_base.specs.ProofBound.{layers_bound}
+use Rattle.cert_base.specs.ValidLayers.{moves_of_layers, IsInLayer, IsLower, IsEnabledBefore, ValidLayers}
 use Rattle.cert_layers.specs.declared.fault.LayerFault.{LayerFault}
 use Rattle.cert_layers.specs.declared.fault.LayerFault.TheVariants.{Shape, NoLayer, NotLower, Wakes, NoMemory}
 
@@ -64,3 +65,11 @@ abbrev pub EndsWithin : LeafModel → ℕ → Type 0
 EndsWithin leaf k =
     (crowd : List ℕ) → 2 ≤ length crowd → All (λ q. q < length leaf.states) crowd → (end : List ℕ) × IsTerminal (LeafStep leaf) end
     × ReachedWithin (LeafStep leaf) (k * length crowd) crowd end
+
+-- what `check_layers` says: the layers are valid, with their bound; or this is where they fail first
+pub record ChecksLayers (leaf : LeafModel) (layers : List Layer) (result : Result ℕ LayerFault) : Type 0 where
+  pub valid : IfOk result (λ bound. ValidLayers leaf layers × (bound ≡ layers_bound layers))
+  pub fault : IfErr result (IsLayerFault leaf layers)
+  pub accepts : ValidLayers leaf layers → IfErr result (λ fault. fault ≡ NoMemory)
+  -- every crowd of the leaf can be brought to an end, within so many steps for each agent
+  pub ends : IfOk result (EndsWithin leaf)

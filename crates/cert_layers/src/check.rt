@@ -5,7 +5,7 @@ ghost use Rattle.pop_net.specs.LeafModel.{IsLeaf};
 ghost use Rattle.cert_layers.specs.MoveLayers.{AreMoveLayers};
 ghost use Rattle.cert_base.specs.ValidLayers.{ValidLayers};
 ghost use Rattle.cert_base.specs.ProofBound.{layers_bound};
-ghost use Rattle.cert_layers.specs.LayerFaults.{IsLayerFault, IsWeight, EndsWithin};
+ghost use Rattle.cert_layers.specs.LayerFaults.{IsLayerFault, IsWeight, ChecksLayers};
 
 use crate::bound::bound_of;
 use crate::fault::LayerFault;
@@ -24,11 +24,7 @@ use std::alloc::Global;
 pub fn check_layers(alloc: Global, leaf: &Leaf, layers: &List<Layer>) -> Result<u64, LayerFault>
     requires few { length layers.now ≤ LAYER_LIMIT }
     requires small { All (λ layer. All IsWeight layer.weights) layers.now }
-    ensures valid { IfOk result (λ bound. ValidLayers leaf.now layers.now × (bound ≡ layers_bound layers.now)) }
-    ensures fault { IfErr result (IsLayerFault leaf.now layers.now) }
-    ensures accepts { ValidLayers leaf.now layers.now → IfErr result (λ fault. fault ≡ LayerFault.NoMemory) }
-    // Every crowd of the leaf can be brought to an end, within so many steps for each agent.
-    ensures ends { IfOk result (EndsWithin leaf.now) }
+    ensures { ChecksLayers leaf.now layers.now result }
 {
     checked(alloc, leaf, layers.as_slice())
 }

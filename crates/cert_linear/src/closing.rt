@@ -1,6 +1,6 @@
 //! Whether a combination of facts refutes them.
 
-ghost use Rattle.std.specs.Prelude.{◌≡◌, ◌≤◌, ◌<◌, length, nat_abs, All, MatchOption, IfOk, IsTrue, OnOk, true};
+ghost use Rattle.std.specs.Prelude.{◌≡◌, ◌<◌, length, All, MatchOption, IfOk, IsTrue, OnOk, true};
 ghost use Rattle.std.specs.Prelude.{false, negsuc, Some, None};
 ghost use Rattle.std.specs.List.{list_any};
 ghost use Rattle.cert_base.specs.declared.fact.Row.{Row};

@@ -1,6 +1,6 @@
 //! What a terminal end says of one state.
 
-ghost use Rattle.std.specs.Prelude.{◌≡◌, ◌<◌, ◌≤◌, ◌^◌, ◌∷◌, ◌++◌, ◌==◌, ◌&&◌, not, [], length, map, filter};
+ghost use Rattle.std.specs.Prelude.{◌≡◌, ◌<◌, ◌∷◌, ◌++◌, ◌==◌, ◌&&◌, not, [], length, map, filter};
 ghost use Rattle.std.specs.Prelude.{if◌then◌else◌, slice_index_or, false, Some, None, IfOk, OnOk, IfSome};
 ghost use Rattle.cert_base.specs.FactsAndCases.{states_of, can_meet_in, absent_fact, occurs_fact};
 ghost use Rattle.cert_base.specs.FactsAndCases.{alone_fact, not_twice, cases_of_present, case_of_twin};

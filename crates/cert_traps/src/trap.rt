@@ -1,6 +1,6 @@
 //! A trap: a set of states that stays marked once it is.
 
-ghost use Rattle.std.specs.Prelude.{◌≡◌, ◌≤◌, ◌^◌, ◌++◌, ◌∷◌, [], pos, negsuc, length, map, IfOk, OnOk};
+ghost use Rattle.std.specs.Prelude.{◌≡◌, ◌++◌, ◌∷◌, [], pos, negsuc, IfOk, OnOk};
 ghost use Rattle.pop_net.specs.LeafModel.{IsLeaf};
 ghost use Rattle.cert_base.specs.declared.fact.Fact.TheVariants.{Ge, Eq};
 ghost use Rattle.cert_base.specs.FactsAndCases.{no_moves, no_start_facts, no_helper_facts};

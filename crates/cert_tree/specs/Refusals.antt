@@ -1,6 +1,6 @@
 -- Refusals: which node of a tree is the first that is refused, and why.
 use Rattle.std.specs.Prelude.{◌≡◌, ℕ, ◌+◌, Bool, true, false, not, if◌then◌else◌, nat_lt, nat_le, List}
-use Rattle.std.specs.Prelude.{[], ◌∷◌, ◌++◌, map, length, Option, Some, None, unwrap_or, slice_get}
+use Rattle.std.specs.Prelude.{[], ◌∷◌, ◌++◌, map, length, Option, Some, None, unwrap_or, slice_get, Result, OnOk, IfErr}
 use Rattle.std.specs.List.{list_all}
 use Rattle.pres_ast.specs.PredModel.{PredModel}
 use Rattle.pop_net.specs.LeafModel.{LeafModel}
@@ -11,7 +11,8 @@ use Rattle.cert_base.specs.declared.node.Node.{Node}
 use Rattle.cert_base.specs.declared.node.Node.TheVariants.{Linear, Residue, Split, Present, Twin, Trap, Siphon, Open}
 use Rattle.cert_base.specs.Rows.{variable_count}
 use Rattle.cert_base.specs.FactsAndCases.{base_list, can_meet_in}
-use Rattle.cert_base.specs.Closes.{name_below, refutes, cases_of}
+use Rattle.cert_base.specs.Closes.{name_below, refutes, cases_of, Closes}
+use Rattle.cert_base.specs.Ends.{EndsRight}
 use Rattle.cert_tree.specs.declared.fault.TreeWhy.{TreeWhy}
 use Rattle.cert_tree.specs.declared.fault.TreeWhy.TheVariants.{Missing, TooDeep, BadIndex, NoTwin, NotOpen, NotClosed, TooManyFacts, Rest}
 use Rattle.cert_tree.specs.declared.fault.TreeFault.{TreeFault}
@@ -103,3 +104,11 @@ first_refused leaf p value nodes = first_from leaf ((0, base_list leaf p value) 
 abbrev pub IsTreeFault : LeafModel → PredModel → Bool → List Node → TreeFault → Type 0
 IsTreeFault leaf p value nodes (Broken number why) = first_refused leaf p value nodes ≡ Some (number, why)
 IsTreeFault leaf p value nodes NoMemory = Unit {0}
+
+-- what `check_tree` says: the nodes close the base facts; or this is the first that is refused
+pub record ChecksTree (leaf : LeafModel) (p : PredModel) (value : Bool) (nodes : List Node) (result : Result (Unit {0}) TreeFault) : Type 0 where
+  pub closes : OnOk result (Closes leaf (base_list leaf p value) nodes [])
+  pub fault : IfErr result (IsTreeFault leaf p value nodes)
+  pub accepts : Closes leaf (base_list leaf p value) nodes [] → IfErr result (λ fault. fault ≡ NoMemory)
+  -- for every input at which the predicate has the value, each agent of each terminal crowd outputs it
+  pub right : OnOk result (EndsRight leaf p.tree value)

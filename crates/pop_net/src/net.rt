@@ -164,8 +164,8 @@ impl Net {
         ensures state { result ≡ state_of (tuple_of self.now word) leaf }
         ensures bound { IfSome (slice_get self.now.leaves leaf) (λ l. result < length l.states) }
     {
-        // A net has at most as many leaves as a word has lanes.
-        let _ = &self.leaves;
+        // What the invariant says is known from here on: a word has a lane for each leaf.
+        let _formed = &self.leaves;
         self.lanes.state(word.0, leaf as usize)
     }
 

@@ -41,3 +41,10 @@ abbrev pub AreTerminal : Type 0
 AreTerminal =
     (net : NetModel) (proof : Proof) (crowd end : CrowdModel) (takes : List Take) → AreLayersValid net proof → All (IsTuple net) crowd
     → IsSettlement net proof crowd takes end → IsTerminal (Step net) end
+
+-- what settlements are: steps of the model, one from each crowd, short, and with a terminal end
+pub record SettlementsEnd : Type 0 where
+  pub steps : AreSteps
+  pub one : AreOne
+  pub short : AreShort
+  pub terminal : AreTerminal
