@@ -6,7 +6,7 @@ ghost use Rattle.pres_ast.specs.PredTree.{LessThan, Congruent};
 ghost use Rattle.pres_ast.specs.TreeOf.{tree_of};
 ghost use Rattle.cert_base.specs.declared.fact.Fact.TheVariants.{Holds};
 ghost use Rattle.cert_base.specs.FactsAndCases.{open_tree, cases_of_open, connective_cases, over_count};
-ghost use Rattle.cert_base.specs.Ends.{CoverValue};
+ghost use Rattle.cert_base.specs.Ends.{CoverValue, AreCasesBy};
 
 use crate::fact::{Fact, Row, only};
 use pop_io::{List, NoMemory, VARIABLE_LIMIT};
@@ -15,9 +15,8 @@ use std::alloc::Global;
 
 /// One case with a linear fact for an atom; else the values of the parts, in one case or in two.
 pub fn open_cases(alloc: Global, pred: &Pred, value: bool) -> Result<List<List<Fact>>, NoMemory>
-    ensures cases { IfOk result (λ cases. cases ≡ cases_of_open pred.now value) }
     // Counts at which the predicate has the value meet all facts of one of the cases.
-    ensures cover { IfOk result (CoverValue pred.now value) }
+    ensures { IfOk result (AreCasesBy (CoverValue pred.now value) (cases_of_open pred.now value)) }
 {
     tree_cases(alloc, pred.vars(), pred.tree(), value)
 }

@@ -3,7 +3,7 @@
 ghost use Rattle.std.specs.Prelude.{◌≡◌, ◌≤◌, ◌∷◌, [], nat_abs, negsuc, All, IfOk};
 ghost use Rattle.cert_base.specs.declared.fact.Fact.TheVariants.{Ge, Eq};
 ghost use Rattle.cert_base.specs.FactsAndCases.{plus, negated_row, signs_of, without_zeros, cases_of_split};
-ghost use Rattle.cert_base.specs.Ends.{CoverAll};
+ghost use Rattle.cert_base.specs.Ends.{CoverAll, AreCasesBy};
 
 use crate::fact::{Fact, Row, Term, only};
 use crate::limits::SIZE_LIMIT;
@@ -14,9 +14,8 @@ use std::alloc::Global;
 pub fn split_cases(alloc: Global, row: &Row) -> Result<List<List<Fact>>, NoMemory>
     requires coefs { All (λ term. nat_abs term.by ≤ SIZE_LIMIT) row.now.terms }
     requires constant { nat_abs row.now.constant ≤ SIZE_LIMIT }
-    ensures cases { IfOk result (λ cases. cases ≡ cases_of_split row.now) }
     // All counts meet all facts of one of the cases.
-    ensures cover { IfOk result CoverAll }
+    ensures { IfOk result (AreCasesBy CoverAll (cases_of_split row.now)) }
 {
     let named = without_zeros(alloc, row)?;
     signs(alloc, &named)

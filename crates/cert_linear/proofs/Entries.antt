@@ -6,7 +6,7 @@ use Rattle.std.proofs.lemmas.Int.{ints}
 use Rattle.std.proofs.lemmas.Bool.Decides.{eqb_tells}
 use Rattle.std.proofs.lemmas.List.{length-append, get_or-set_same, get_or-set_other, get_or_default}
 use Rattle.std.proofs.lemmas.Option.{slice_get_read}
-use Rattle.std.proofs.lemmas.List.Elements.{Contains-append_left, Contains-append_right, All-push}
+use Rattle.std.proofs.lemmas.List.Elements.{Contains-append_left, All-push}
 use Rattle.std.proofs.lemmas.List.Sums.{AllPass-from_list_all, list_all-from_AllPass}
 use Rattle.std.proofs.Math.ListN.{length-set}
 use Rattle.cert_base.specs.declared.fact.Row.{Row}
@@ -23,13 +23,6 @@ use Rattle.cert_linear.specs.declared.sum.TheConstants.{PRODUCT_LIMIT, ENTER_LIM
 
 abbrev Tells : ℕ → ℕ → Type 0
 Tells m n = ((m == n) ≡ true) × (m ≡ n) ⊎ ((m == n) ≡ false) × (m ≢ n)
-
-only : (x q : ℕ) → Contains (x ∷ []) q → x ≡ q
-only x q (zero, l, is) = is
-only x q (suc k, l, is) = absurd (omega (arith, l))
-
-last : (xs : List ℕ) (x : ℕ) → Contains (xs ++ x ∷ []) x
-last xs x = Contains-append_right xs (x ∷ []) x (0, (let l : 0 < 1 = omega arith in l), refl)
 
 pub push-at : (entries : List Entry) (q : ℕ) → entry_at (entries ++ blank ∷ []) q ≡ entry_at entries q
 push-at [] zero = refl

@@ -45,12 +45,14 @@ pub record IsSum (row : Row) (sum : Sum) : Type 0 where
 
 -- both sums together have the coefficients and the constant of the row
 pub record AreSum (row : Row) (sum other : Sum) : Type 0 where
-  pub terms : (variable : ℕ) → (coefficient_of sum variable +ℤ coefficient_of other variable) ≡ coefficient_in row.terms variable
+  pub terms : (variable : ℕ)
+      → (coefficient_of sum variable +ℤ coefficient_of other variable) ≡ coefficient_in row.terms variable
   pub constant : (sum.constant +ℤ other.constant) ≡ row.constant
 
 -- the second sum is the first plus the row
 pub record IsPlus (row : Row) (sum more : Sum) : Type 0 where
-  pub terms : (variable : ℕ) → coefficient_of more variable ≡ (coefficient_of sum variable +ℤ coefficient_in row.terms variable)
+  pub terms : (variable : ℕ)
+      → coefficient_of more variable ≡ (coefficient_of sum variable +ℤ coefficient_in row.terms variable)
   pub constant : more.constant ≡ (sum.constant +ℤ row.constant)
 
 -- both sums are the same rows
@@ -65,7 +67,8 @@ pub record IsSumWithin (size : ℕ) (sum : Sum) : Type 0 where
 
 -- a variable whose coefficient is above 0 is in the list
 abbrev pub IsListedIfPositive : Sum → List ℕ → ℕ → Type 0
-IsListedIfPositive sum variables variable = int_le (coefficient_of sum variable) (pos 0) ≡ false → Contains variables variable
+IsListedIfPositive sum variables variable =
+    int_le (coefficient_of sum variable) (pos 0) ≡ false → Contains variables variable
 
 -- all variables whose coefficient is above 0 are in the list
 abbrev pub HasAllPositive : Sum → List ℕ → Type 0

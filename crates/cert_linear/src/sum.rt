@@ -1,6 +1,6 @@
 //! A sum of rows.
 
-ghost use Rattle.std.specs.Prelude.{◌≡◌, ◌≤◌, ◌<◌, ◌+◌, ◌^◌, ◌+ℤ◌, ◌*ℤ◌, ℕ, ◌&&◌, not, ◌==◌, if◌then◌else◌, pos};
+ghost use Rattle.std.specs.Prelude.{◌≡◌, ◌≤◌, ◌<◌, ◌+◌, ◌+ℤ◌, ◌*ℤ◌, ℕ, ◌&&◌, not, ◌==◌, if◌then◌else◌, pos};
 ghost use Rattle.std.specs.Prelude.{negsuc, nat_abs, int_le, length, true, OnOk, IfSome, All, Contains};
 ghost use Rattle.std.specs.List.{list_all};
 ghost use Rattle.pres_ast.specs.PredicateValue.{is_multiple};
@@ -103,7 +103,8 @@ impl Sum {
         requires small { nat_abs by ≤ SIZE_LIMIT }
         requires room { IsSumWithin ROOM_LIMIT self.old }
         ensures plus { OnOk result (IsPlus (times by row.now) self.old self.new) }
-        ensures size { (size : ℕ) → IsSumWithin size self.old → OnOk result (IsSumWithin (size + PRODUCT_LIMIT) self.new) }
+        ensures size { (size : ℕ) → IsSumWithin size self.old
+            → OnOk result (IsSumWithin (size + PRODUCT_LIMIT) self.new) }
         ensures tidy { IsTidy self.new }
     {
         for term in row.terms.as_slice() {

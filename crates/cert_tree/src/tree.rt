@@ -1,13 +1,12 @@
 //! The check of a tree.
 
-ghost use Rattle.std.specs.Prelude.{◌≡◌, ◌≤◌, length, All, IfOk};
-ghost use Rattle.cert_tree.specs.Format.{IsWithinFormat};
-ghost use Rattle.cert_tree.specs.Refusals.{ChecksTree};
+ghost use Rattle.std.specs.Prelude.{◌≡◌, length, IfOk};
+ghost use Rattle.cert_tree.specs.Refusals.{AreNodesOf, ChecksTree};
 ghost use Rattle.cert_tree.specs.Frames.{IsWalkStart};
 
 use crate::fault::{TreeFault, TreeWhy};
 use crate::walk::Walk;
-use cert_base::{NODE_LIMIT, Node, base_facts};
+use cert_base::{Node, base_facts};
 use pop_io::{List, NoMemory};
 use pop_net::Leaf;
 use pres_ast::Pred;
@@ -24,9 +23,7 @@ pub fn check_tree(
     value: bool,
     nodes: &List<Node>,
 ) -> Result<(), TreeFault>
-    requires variables { pred.now.variables ≡ length leaf.now.inputs }
-    requires few { length nodes.now ≤ NODE_LIMIT }
-    requires within { All IsWithinFormat nodes.now }
+    requires { AreNodesOf leaf.now pred.now nodes.now }
     ensures { ChecksTree leaf.now pred.now value nodes.now result }
 {
     let mut walk = start(alloc, leaf, pred, value)?;

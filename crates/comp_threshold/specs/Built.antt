@@ -1,5 +1,5 @@
 -- Built: what `threshold` gives.
-use Rattle.std.specs.Prelude.{◌≡◌, ◌<◌, List, ℤ, length}
+use Rattle.std.specs.Prelude.{◌≡◌, ◌<◌, ◌≤◌, List, ℤ, length, Result, IfOk, IfErr}
 use Rattle.pop_net.specs.LeafModel.{LeafModel}
 use Rattle.pres_ast.specs.PredTree.{LessThan}
 use Rattle.cert_base.specs.declared.proof.LeafProof.{LeafProof}
@@ -18,3 +18,10 @@ IsThreshold coefs bound =
 abbrev pub IsWidthFault : List ℤ → ℤ → ThresholdFault → Type 0
 IsWidthFault coefs bound (TooWide s) = (s ≡ threshold_width coefs bound) × (WIDTH_LIMIT < s)
 IsWidthFault coefs bound NoMemory = Unit {0}
+
+-- the leaf and its proof, where the width is within the limit
+pub record BuildsThreshold (coefs : List ℤ) (bound : ℤ) (result : Result (LeafModel × LeafProof) ThresholdFault)
+    : Type 0 where
+  pub built : IfOk result (λ both. IsThreshold coefs bound both.0 both.1)
+  pub narrow : IfOk result (λ both. threshold_width coefs bound ≤ WIDTH_LIMIT)
+  pub wide : IfErr result (IsWidthFault coefs bound)

@@ -1,12 +1,12 @@
 //! The leaf with its proof.
 
-ghost use Rattle.std.specs.Prelude.{◌≡◌, ◌≤◌, nat_abs, AllPairs, length, IfOk, IfErr};
+ghost use Rattle.std.specs.Prelude.{◌≡◌, ◌≤◌, nat_abs, AllPairs, length, IfOk};
 ghost use Rattle.pop_net.specs.Reaction.{Differ};
 ghost use Rattle.pres_ast.specs.PredTree.{LessThan};
 ghost use Rattle.pres_ast.specs.declared.limits.TheConstants.{BOUND_LIMIT};
 ghost use Rattle.pres_ast.specs.PredModel.{IsAtomSum};
 ghost use Rattle.comp_threshold_leaf.specs.ThresholdLeaf.{threshold_leaf_of, threshold_width};
-ghost use Rattle.comp_threshold.specs.Built.{IsThreshold, IsWidthFault};
+ghost use Rattle.comp_threshold.specs.Built.{IsThreshold, BuildsThreshold};
 
 use crate::fault::ThresholdFault;
 use crate::node::both_trees;
@@ -59,7 +59,12 @@ fn leaf_proof(
 }
 
 /// A leaf of this width.
-fn narrow(alloc: Global, coefs: &[i64], bound: i64, s: u16) -> Result<(Leaf, LeafProof), NoMemory>
+fn leaf_of_width(
+    alloc: Global,
+    coefs: &[i64],
+    bound: i64,
+    s: u16,
+) -> Result<(Leaf, LeafProof), NoMemory>
     requires width { s ≡ threshold_width coefs.now bound }
     requires narrow { s ≤ WIDTH_LIMIT }
     requires sum { IsAtomSum coefs.now }
@@ -79,13 +84,11 @@ pub fn threshold(
 ) -> Result<(Leaf, LeafProof), ThresholdFault>
     requires sum { IsAtomSum coefs.now }
     requires bound { nat_abs bound ≤ BOUND_LIMIT }
-    ensures built { IfOk result (λ both. IsThreshold coefs.now bound both.0 both.1) }
-    ensures narrow { IfOk result (λ both. threshold_width coefs.now bound ≤ WIDTH_LIMIT) }
-    ensures wide { IfErr result (IsWidthFault coefs.now bound) }
+    ensures { BuildsThreshold coefs.now bound result }
 {
     let s = width(coefs, bound);
     if WIDTH_LIMIT < s {
         return Err(ThresholdFault::TooWide(s));
     }
-    Ok(narrow(alloc, coefs, bound, s as u16)?)
+    Ok(leaf_of_width(alloc, coefs, bound, s as u16)?)
 }

@@ -12,7 +12,8 @@ use Rattle.pop_checker.specs.Rejections.{IsCheckFault}
 use Rattle.pop_checker.specs.Sound.{IsRight}
 
 -- the proof is valid, and the answer keeps the net; or this is the first part that fails
-pub record Checks (net : NetModel) (p : PredModel) (proof : Proof) (result : Result CheckedModel CheckFault) : Type 0 where
+pub record Checks (net : NetModel) (p : PredModel) (proof : Proof) (result : Result CheckedModel CheckFault)
+    : Type 0 where
   pub valid : OnOk result (ValidProof net p proof)
   -- the net computes the predicate, and meetings alone lead a net to its end that has no two moves for the same states
   pub right : OnOk result (IsRight net p proof)

@@ -4,3 +4,4 @@ pub mod Rejections
 pub mod Parts
 pub mod Sound
 pub mod Checks
+pub mod Majority

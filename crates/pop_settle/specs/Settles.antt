@@ -15,7 +15,8 @@ use Rattle.pop_settle.specs.Settlement.{IsSettlement}
 use Rattle.pop_settle.specs.Laws.{IsOnlySettlement}
 use Rattle.pop_settle.specs.Settling.{RefusesSettle}
 
-pub record Settles (net : NetModel) (proof : Proof) (words : List Word) (result : Result Settled SettleFault) : Type 0 where
+pub record Settles (net : NetModel) (proof : Proof) (words : List Word) (result : Result Settled SettleFault)
+    : Type 0 where
   pub settled : IfOk result (λ s. IsSettlement net proof (crowd_of net words) s.takes (crowd_of net s.crowd))
   -- there is no other settlement
   pub only : IfOk result (λ s. IsOnlySettlement net proof (crowd_of net words) s.takes (crowd_of net s.crowd))

@@ -33,7 +33,8 @@ pub fn settle(alloc: Global, net: &Net, proof: &Proof, crowd: Crowd) -> Result<S
     requires valid { AreValid net.now crowd }
     ensures { Settles net.now proof.now crowd result }
 {
-    let _leaves = net.leaf_count();
+    // What the invariant says is known from here on.
+    let _formed = net.leaf_count();
     let most = most_takes(proof, crowd.len());
     if TAKE_LIMIT < most {
         return Err(SettleFault::Long(most));

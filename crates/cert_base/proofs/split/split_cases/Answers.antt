@@ -20,9 +20,10 @@ signs-requires-clause-coefs c =
 pub signs-requires-clause-constant : goal.signs-requires-clause-constant
 signs-requires-clause-constant c = subst (λ (row : Row). nat_abs row.constant ≤ SIZE_LIMIT) (sym c.in_ok-named.ensures) c.requires.constant
 
-pub returns-clause-cases : goal.returns-clause-cases
-returns-clause-cases c = IfOk-weaker c.signs.result _ _ (λ cases e. e ∙ ap signs_of c.in_ok-named.ensures) c.signs.ensures
-
-pub returns-clause-cover : goal.returns-clause-cover
-returns-clause-cover c =
-    IfOk-weaker c.signs.result _ _ (λ cases e. subst (λ (cs : List (List Fact)). CoverAll cs) (sym (e ∙ ap signs_of c.in_ok-named.ensures)) (split_cases-cover c.args.row.now)) c.signs.ensures
+pub returns : goal.returns
+returns c =
+    IfOk-weaker c.signs.result _ _
+    (λ cases e.
+    let is = e ∙ ap signs_of c.in_ok-named.ensures in
+    record { cases = is; cover = subst (λ (cs : List (List Fact)). CoverAll cs) (sym is) (split_cases-cover c.args.row.now) })
+    c.signs.ensures

@@ -14,3 +14,6 @@ returns c =
       within = subst (IsLeafProofWithin (length coefs)) (sym c.in_ok-proof.ensures) (flock-within coefs c.args.power c.requires);
       single = c.in_ok-leaf.ensures.single;
     }
+
+pub flock_leaf-requires-clause-inputs : goal.flock_leaf-requires-clause-inputs
+flock_leaf-requires-clause-inputs c = record { some = c.requires.some; few = c.requires.few }

@@ -16,3 +16,6 @@ returns-clause-built c =
       within = subst (IsLeafProofWithin (length coefs)) (sym c.in_ok-proof.ensures) (remainder-within coefs c.args.modulus c.args.rest sum.some sum.few modulus.low modulus.high modulus.left);
       single = c.in_ok-leaf.ensures.single;
     }
+
+pub remainder_leaf-requires-clause-inputs : goal.remainder_leaf-requires-clause-inputs
+remainder_leaf-requires-clause-inputs c = record { some = c.requires.sum.some; few = c.requires.sum.few }

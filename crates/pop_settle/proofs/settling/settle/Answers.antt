@@ -40,7 +40,7 @@ returns c =
     record {
       settled = is;
       only = are_one net proof start end takes is;
-      short = rw (← length-map c.args.crowd (tuple_of net)) (are_short net proof start end takes c.leaf_count-leaves.ensures.formed c.requires.layers.layers crowd is.leads);
+      short = rw (← length-map c.args.crowd (tuple_of net)) (are_short net proof start end takes c.leaf_count-formed.ensures.formed c.requires.layers.layers crowd is.leads);
       reached = (way.0, (let l : length way.0 ≤ length takes = omega (arith, way.1) in l), way.2);
       terminal = are_terminal net proof start end takes c.requires.layers.layers crowd.0 is;
       valid = search rules;
