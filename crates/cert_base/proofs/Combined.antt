@@ -11,7 +11,7 @@ use Rattle.pop_net.proofs.Trees.{after_items-append}
 use Rattle.cert_base.specs.declared.proof.LeafProof.{LeafProof}
 use Rattle.cert_base.specs.Combination.{leaf_trees, open_after, IsBegin}
 
-alone : {A : Type 0} (o : Option A) → option_and_then (λ x. (let p : Option A = Some x in p)) o ≡ o
+pub alone : {A : Type 0} (o : Option A) → option_and_then (λ x. (let p : Option A = Some x in p)) o ≡ o
 alone None = refl
 alone (Some x) = refl
 

@@ -1,13 +1,12 @@
 -- The counts of an execution meet the flow facts: what a row over all variables says, and the base facts of the states.
-use Rattle.std.proofs.Common.{◌≡◌, ◌≢◌, inl, inr, ℕ, zero, suc, pred, ◌+◌, ◌*◌, ◌<◌, Bool, true, false, List, [], ◌∷◌, ◌++◌, length, map, replicate, refl, ap, sym, ◌∙◌, zero-add, arith}
+use Rattle.std.proofs.Common.{◌≡◌, ◌≢◌, ℕ, zero, suc, pred, ◌+◌, ◌*◌, ◌<◌, Bool, true, false, List, [], ◌∷◌, ◌++◌, length, map, replicate, refl, ap, sym, ◌∙◌, zero-add, arith}
 use Rattle.std.specs.Prelude.{ℤ, pos, negsuc, neg_ℤ, ◌+ℤ◌, ◌-ℤ◌, ◌*ℤ◌, ◌==◌, if◌then◌else◌, slice_index}
 use Rattle.std.specs.List.{range_with_len}
 use Rattle.std.specs.Ordering.{int_eq}
 use Rattle.std.proofs.Math.IntN.{*ℤ-zero, zero-*ℤ, pos-*ℤ-pos}
 use Rattle.std.proofs.Math.Nat.{mul_comm, mul-zero, mul-suc}
-use Rattle.std.proofs.lemmas.Bool.{eq-eqb}
+use Rattle.std.proofs.lemmas.Bool.{eq-eqb, ne_eqb}
 use Rattle.std.proofs.lemmas.Int.{ints}
-use Rattle.std.proofs.lemmas.Bool.Decides.{eqb_tells, Decides-int_eq}
 use Rattle.std.proofs.lemmas.List.{length-map, length-append}
 use Rattle.std.proofs.lemmas.List.FromFn.{length-range_with_len}
 use Rattle.std.proofs.lemmas.List.Folds.{sum_by-replicate}
@@ -21,7 +20,7 @@ use Rattle.cert_base.specs.declared.fact.Term.{Term}
 use Rattle.cert_base.specs.Rows.{terms_from}
 use Rattle.cert_base.specs.Valuation.{Valuation, terms_value, MeetsFact, times_taken, IsOfExecution}
 use Rattle.cert_base.specs.FactsAndCases.{indicator, states_of, flow}
-use Rattle.cert_base.proofs.Integers.{mul-pos_suc}
+use Rattle.cert_base.proofs.Integers.{mul-pos_suc, int_eq-true}
 use Rattle.cert_base.proofs.Equations.{sum_times, flow_of_way}
 use Rattle.cert_base.proofs.Numbers.{number_in}
 
@@ -32,9 +31,6 @@ dot count k (a ∷ coefs) = (a *ℤ pos (count k)) +ℤ dot count (k + 1) coefs
 
 zero_term : (a : ℤ) (n : ℕ) → a ≡ pos 0 → a *ℤ pos n ≡ pos 0
 zero_term a n e = rw e (zero-*ℤ (pos n))
-
-int_eq-true : (a b : ℤ) → int_eq a b ≡ true → a ≡ b
-int_eq-true a b e = (Decides-int_eq a b).0 e
 
 terms_step : (count : Valuation) (k : ℕ) (a : ℤ) (rest : List Term) (d : ℤ) (b : Bool) → int_eq a (pos 0) ≡ b → terms_value count rest ≡ d → terms_value count (if b then rest else (record { at = k; by = a } ∷ rest)) ≡ ((a *ℤ pos (count k)) +ℤ d)
 terms_step count k a rest d true e h =
@@ -90,13 +86,10 @@ coef_same q z c e = rw e (minus_times c)
 coef_other : (q z c : ℕ) → (z == q) ≡ false → (neg_ℤ (indicator (z == q)) *ℤ pos c) ≡ pos 0
 coef_other q z c e = rw e (zero-*ℤ (pos c))
 
-differs : (a q : ℕ) → a ≢ q → (a == q) ≡ false
-differs a q ne = elim (eqb_tells a q) [ inl h ↦ absurd (ne h.1) | inr h ↦ h.0 ]
-
 dot-states_past : (count : Valuation) (q k a n : ℕ) → q < a → dot count k (map (λ z. neg_ℤ (indicator (z == q))) (range_with_len a n)) ≡ pos 0
 dot-states_past count q k a zero l = refl
 dot-states_past count q k a (suc n) l =
-    let here = coef_other q a (count k) (differs a q (above a q l)) in
+    let here = coef_other q a (count k) (ne_eqb a q (above a q l)) in
     let rest = dot-states_past count q (k + 1) (a + 1) n (omega arith) in
     omega (arith, ints, here, rest)
   where
@@ -111,7 +104,7 @@ dot-states count q k a (suc n) zero e l =
     let same = shift_none count k in
     omega (arith, ints, here, rest, same)
 dot-states count q k a (suc n) (suc d) e l =
-    let here = coef_other q a (count k) (differs a q (apart a q d e)) in
+    let here = coef_other q a (count k) (ne_eqb a q (apart a q d e)) in
     let rest = dot-states count q (k + 1) (a + 1) n d (omega arith) (omega arith) in
     let same = shift_right count k d in
     omega (arith, ints, here, rest, same)

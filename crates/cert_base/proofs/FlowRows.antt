@@ -1,12 +1,12 @@
 -- The rows of the flow facts, move by move.
-use Rattle.std.proofs.Common.{◌≡◌, ◌≢◌, ◌⊎◌, inl, inr, ℕ, zero, suc, pred, ◌+◌, ◌<◌, ◌≤◌, Bool, true, false, List, [], ◌∷◌, ◌++◌, length, map, take, get_or, append_assoc, refl, ap, sym, ◌∙◌, zero-add, arith, drop, w64, to_z, of_z}
+use Rattle.std.proofs.Common.{◌≡◌, ◌≢◌, ◌⊎◌, inl, inr, ℕ, zero, suc, ◌+◌, ◌<◌, ◌≤◌, Bool, true, false, List, [], ◌∷◌, ◌++◌, length, map, take, get_or, append_assoc, refl, ap, sym, ◌∙◌, zero-add, arith, drop, w64, to_z, of_z}
 use Rattle.std.specs.Prelude.{ℤ, pos, negsuc, neg_ℤ, option_map, ◌-ℤ◌, Some, slice_get, ◌==◌, ◌||◌, if◌then◌else◌}
 use Rattle.std.specs.List.{range_with_len, slice_set, zip}
 use Rattle.std.proofs.Math.ListN.{length-set}
-use Rattle.std.proofs.lemmas.List.{append-nil, length-map, take_more, take_all}
-use Rattle.std.proofs.lemmas.List.FromFn.{length-map-range_with_len, get_or-map-range_with_len, length-range_with_len}
+use Rattle.std.proofs.lemmas.List.{append-nil, length-map, take_all}
+use Rattle.std.proofs.lemmas.List.FromFn.{length-map-range_with_len, length-range_with_len}
 use Rattle.std.proofs.lemmas.Bool.Decides.{eqb_tells}
-use Rattle.std.proofs.lemmas.Option.{slice_get-map, slice_get-get_or, slice_get_within, get_or_from_slice_get}
+use Rattle.std.proofs.lemmas.Option.{slice_get-map, slice_get_within, get_or_from_slice_get}
 use mir.Val.{bool_byte}
 use Rattle.pop_net.specs.declared.leaf.Move.{Move}
 use Rattle.pop_net.specs.LeafModel.{LeafModel, IsLeaf, IsMoveBelow, pre, post}
@@ -19,41 +19,15 @@ use Rattle.cert_base.specs.FactsAndCases.{indicator, states_of, helpers_starting
 use Rattle.cert_base.specs.Parts.{term_of, change_at, flow_terms, flow_rows_after, entered_rows}
 use Rattle.cert_base.proofs.Numbers.{slice_get-set_other}
 use Rattle.cert_base.proofs.TermLists.{terms_from-cons, terms_from-append, terms_from-next, minus_one_at, terms_from-state}
+use Rattle.list_laws.proofs.Lists.{map-one, get-set_same, take_one_more, same_lists}
+use Rattle.list_laws.proofs.Ranges.{get-range}
 
 -- ---- lists
-
-pub same_lists : {A : Type 0} (xs ys : List A) → length xs ≡ length ys → ((i : ℕ) → i < length xs → slice_get xs i ≡ slice_get ys i) → xs ≡ ys
-same_lists [] [] l e = refl
-same_lists [] (y ∷ ys) l e = cc
-same_lists (x ∷ xs) [] l e = cc
-same_lists (x ∷ xs) (y ∷ ys) l e =
-    let first = e 0 (omega arith) in
-    let same : x ≡ y = cc in
-    let rest = same_lists xs ys (ap pred l) (λ i k. e (suc i) (omega arith)) in
-    cc
-
-pub take_one_more : {A : Type 0} (xs : List A) (k : ℕ) (x : A) → slice_get xs k ≡ Some x → take (k + 1) xs ≡ take k xs ++ x ∷ []
-take_one_more xs k x h =
-    take_more xs k x (slice_get_within xs k x h) ∙ ap (λ z. take k xs ++ z ∷ []) (get_or_from_slice_get xs k x x h)
 
 length-take_short : {A : Type 0} (xs : List A) (k : ℕ) → k ≤ length xs → length (take k xs) ≡ k
 length-take_short xs zero l = refl
 length-take_short [] (suc k) l = absurd (omega arith)
 length-take_short (x ∷ xs) (suc k) l = ap suc (length-take_short xs k (omega arith))
-
-map-more : {A B : Type 0} (f : A → B) (xs : List A) (x : A) → map f (xs ++ x ∷ []) ≡ map f xs ++ f x ∷ []
-map-more f [] x = refl
-map-more f (y ∷ xs) x = ap (λ zs. f y ∷ zs) (map-more f xs x)
-
-pub get-range : {A : Type 0} (f : ℕ → A) (n z : ℕ) → z < n → slice_get (map f (range_with_len 0 n)) z ≡ Some (f z)
-get-range f n z l =
-    slice_get-get_or (map f (range_with_len 0 n)) z (f z) (let m : z < length (map f (range_with_len 0 n)) = omega (arith, length-map-range_with_len f 0 n) in m)
-    ∙ ap Some (get_or-map-range_with_len f 0 n z z (f z) l (zero-add z))
-
-get-set_same : {A : Type 0} (xs : List A) (a : ℕ) (y : A) → a < length xs → slice_get (slice_set xs a y) a ≡ Some y
-get-set_same [] a y l = absurd (omega arith)
-get-set_same (x ∷ xs) zero y l = refl
-get-set_same (x ∷ xs) (suc a) y l = get-set_same xs a y (omega arith)
 
 -- ---- one more move
 
@@ -68,7 +42,7 @@ flow_terms-more leaf t q taken h =
     let k = move_variable leaf 0 in
     let long : length before ≡ t = length-map (take t leaf.moves) (change_at q) ∙ length-take_short leaf.moves t (let l : t ≤ length leaf.moves = omega (arith, slice_get_within leaf.moves t taken h) in l) in
     let all : terms_from k (map (change_at q) (take (t + 1) leaf.moves)) ≡ terms_from k before ++ term_of (move_variable leaf t) (change_at q taken) =
-    ap (terms_from k) (ap (map (change_at q)) (take_one_more leaf.moves t taken h) ∙ map-more (change_at q) (take t leaf.moves) taken)
+    ap (terms_from k) (ap (map (change_at q)) (take_one_more leaf.moves t taken h) ∙ map-one (change_at q) (take t leaf.moves) taken)
     ∙ terms_from-append k before (change_at q taken ∷ [])
     ∙ ap (λ ts. terms_from k before ++ ts) (ap (λ n. terms_from n (change_at q taken ∷ [])) (let e : k + length before ≡ move_variable leaf t = omega (arith, long) in e) ∙ terms_from-one (move_variable leaf t) (change_at q taken)) in
     append_assoc start (own ∷ terms_from k before) (term_of (move_variable leaf t) (change_at q taken))

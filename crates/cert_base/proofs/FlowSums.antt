@@ -1,13 +1,12 @@
 -- The sum of the states' flow facts, each times the value of its state, variable by variable.
-use Rattle.std.proofs.Common.{◌≡◌, ◌≢◌, ◌⊎◌, ◌-◌, subst, inl, inr, ℕ, zero, suc, ◌+◌, ◌<◌, ◌≤◌, Bool, true, false, List, [], ◌∷◌, ◌++◌, length, map, get_or, refl, ap, sym, ◌∙◌, zero-add, arith}
+use Rattle.std.proofs.Common.{◌≡◌, ◌⊎◌, ◌-◌, subst, inl, inr, ℕ, zero, suc, ◌+◌, ◌<◌, ◌≤◌, Bool, true, false, List, [], ◌∷◌, ◌++◌, length, map, get_or, refl, ap, sym, ◌∙◌, zero-add, arith}
 use Rattle.std.specs.Prelude.{ℤ, pos, neg_ℤ, ◌+ℤ◌, ◌-ℤ◌, ◌*ℤ◌, if◌then◌else◌, ◌==◌}
 use Rattle.std.specs.Ordering.{int_eq}
 use Rattle.std.specs.List.{range_with_len}
 use Rattle.std.proofs.lemmas.Int.{ints}
 use Rattle.std.proofs.Math.IntN.{*ℤ-zero, *ℤ_comm}
 use Rattle.std.proofs.Math.ListN.{get_or-append}
-use Rattle.std.proofs.lemmas.Bool.{eq-eqb, cases_lt}
-use Rattle.std.proofs.lemmas.Bool.Decides.{eqb_tells, Decides-int_eq}
+use Rattle.std.proofs.lemmas.Bool.{eq-eqb, cases_lt, ne_eqb}
 use Rattle.std.proofs.lemmas.List.{length-map, length-append, get_or-append-add, get_or-map, get_or_past}
 use Rattle.std.proofs.lemmas.List.FromFn.{get_or-map-range_with_len, length-map-range_with_len}
 use Rattle.pop_net.specs.declared.leaf.Move.{Move}
@@ -16,16 +15,10 @@ use Rattle.cert_base.specs.declared.fact.Fact.{Fact}
 use Rattle.cert_base.specs.Rows.{terms_from}
 use Rattle.cert_base.specs.ClosingTests.{coefficient_in}
 use Rattle.cert_base.specs.FactsAndCases.{indicator, states_of, helpers_starting, flow}
-use Rattle.cert_base.proofs.Integers.{mul-add}
+use Rattle.cert_base.proofs.Integers.{mul-add, int_eq-true}
 use Rattle.cert_base.specs.WeightedSums.{sum_of_facts, coefficient, constant_of, total}
 
 -- ---- the coefficients of a dense row
-
-int_eq-true : (a b : ℤ) → int_eq a b ≡ true → a ≡ b
-int_eq-true a b e = (Decides-int_eq a b).0 e
-
-pub unlike : (a b : ℕ) → a ≢ b → (a == b) ≡ false
-unlike a b ne = elim (eqb_tells a b) [ inl h ↦ absurd (ne h.1) | inr h ↦ h.0 ]
 
 pub like : (a b : ℕ) → a ≡ b → (a == b) ≡ true
 like a b e = eq-eqb a b e
@@ -33,7 +26,7 @@ like a b e = eq-eqb a b e
 coefficient-below : (k : ℕ) (cs : List ℤ) (x : ℕ) → x < k → coefficient_in (terms_from k cs) x ≡ pos 0
 coefficient-below k [] x l = refl
 coefficient-below k (c ∷ cs) x l =
-    step (int_eq c (pos 0)) (coefficient-below (k + 1) cs x (omega arith)) (unlike k x (λ e. omega arith))
+    step (int_eq c (pos 0)) (coefficient-below (k + 1) cs x (omega arith)) (ne_eqb k x (λ e. omega arith))
   where
     step : (b : Bool) → coefficient_in (terms_from (k + 1) cs) x ≡ pos 0 → (k == x) ≡ false → coefficient_in (if b then terms_from (k + 1) cs else (record { at = k; by = c } ∷ terms_from (k + 1) cs)) x ≡ pos 0
     step true rest other = rest
@@ -48,7 +41,7 @@ coefficient-at k (c ∷ cs) zero =
     step true e rest same = rest ∙ sym (int_eq-true c (pos 0) e)
     step false e rest same = rw (same, rest) (omega (arith, ints))
 coefficient-at k (c ∷ cs) (suc j) =
-    step (int_eq c (pos 0)) (ap (coefficient_in (terms_from (k + 1) cs)) (let e : k + suc j ≡ k + 1 + j = omega arith in e) ∙ coefficient-at (k + 1) cs j) (unlike k (k + suc j) (λ e. omega arith))
+    step (int_eq c (pos 0)) (ap (coefficient_in (terms_from (k + 1) cs)) (let e : k + suc j ≡ k + 1 + j = omega arith in e) ∙ coefficient-at (k + 1) cs j) (ne_eqb k (k + suc j) (λ e. omega arith))
   where
     step : (b : Bool) → coefficient_in (terms_from (k + 1) cs) (k + suc j) ≡ get_or cs j (pos 0) → (k == k + suc j) ≡ false → coefficient_in (if b then terms_from (k + 1) cs else (record { at = k; by = c } ∷ terms_from (k + 1) cs)) (k + suc j) ≡ get_or cs j (pos 0)
     step true rest other = rest
@@ -103,7 +96,7 @@ times-one a = *ℤ_comm a (pos 1) ∙ one a
 total-past : (w : ℕ → ℤ) (z a n : ℕ) → z < a → total (λ q. w q *ℤ indicator (z == q)) (range_with_len a n) ≡ pos 0
 total-past w z a zero l = refl
 total-past w z a (suc n) l =
-    let other = unlike z a (λ e. omega arith) in
+    let other = ne_eqb z a (λ e. omega arith) in
     let here : (w a *ℤ indicator (z == a)) ≡ pos 0 = rw other (*ℤ-zero (w a)) in
     let rest = total-past w z (a + 1) n (omega arith) in
     omega (arith, ints, here, rest)
@@ -117,7 +110,7 @@ total-one_from w a (suc n) zero l =
     let at : w (a + 0) ≡ w a = ap w (let e : a + 0 ≡ a = omega arith in e) in
     omega (arith, ints, here, rest, at)
 total-one_from w a (suc n) (suc d) l =
-    let other = unlike (a + suc d) a (λ e. omega arith) in
+    let other = ne_eqb (a + suc d) a (λ e. omega arith) in
     let here : (w a *ℤ indicator ((a + suc d) == a)) ≡ pos 0 = rw other (*ℤ-zero (w a)) in
     let e : a + suc d ≡ a + 1 + d = omega arith in
     let rest : total (λ q. w q *ℤ indicator ((a + suc d) == q)) (range_with_len (a + 1) n) ≡ w (a + suc d) = rw e (total-one_from w (a + 1) n d (omega arith)) in

@@ -78,3 +78,12 @@ all_places {A} P test k (x ∷ xs) f = step (test x) refl (all_places P test (k 
     step true h rest =
         All-cons P k (places_from (k + 1) test xs) (let n : k + 0 ≡ k = omega arith in rw (← n) (f 0 x refl h)) rest
     step false h rest = rest
+
+-- one item more
+pub places_from-one : {A : Type 0} (k : ℕ) (test : A → Bool) (xs : List A) (x : A) → places_from k test (xs ++ x ∷ []) ≡ places_from k test xs ++ (if test x then ((k + length xs) ∷ []) else [])
+places_from-one k test [] x = ap (λ n. if test x then (n ∷ []) else []) (let e : k ≡ k + 0 = omega arith in e)
+places_from-one {A} k test (y ∷ xs) x = go (test y) (places_from-one (k + 1) test xs x)
+  where
+    go : (b : Bool) → places_from (k + 1) test (xs ++ x ∷ []) ≡ places_from (k + 1) test xs ++ (if test x then ((k + 1 + length xs) ∷ []) else []) → (if b then (k ∷ places_from (k + 1) test (xs ++ x ∷ [])) else places_from (k + 1) test (xs ++ x ∷ [])) ≡ (if b then (k ∷ places_from (k + 1) test xs) else places_from (k + 1) test xs) ++ (if test x then ((k + suc (length xs)) ∷ []) else [])
+    go true e = ap (λ ys. k ∷ ys) (e ∙ ap (λ n. places_from (k + 1) test xs ++ (if test x then (n ∷ []) else [])) (let f : k + 1 + length xs ≡ k + suc (length xs) = omega arith in f))
+    go false e = e ∙ ap (λ n. places_from (k + 1) test xs ++ (if test x then (n ∷ []) else [])) (let f : k + 1 + length xs ≡ k + suc (length xs) = omega arith in f)

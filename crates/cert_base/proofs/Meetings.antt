@@ -9,6 +9,7 @@ use Rattle.pop_net.specs.Reaction.{takes_states, after_move, by_move, leaf_react
 use Rattle.pop_net.proofs.Found.{find_some}
 use Rattle.pop_net.proofs.Reactions.{and_left, and_right, or_right, not_true}
 use Rattle.cert_base.specs.FactsAndCases.{can_meet_in}
+use Rattle.pop_net.proofs.Silent.{stays-silent}
 
 any-find : (test : Move → Bool) (moves : List Move) → list_any test moves ≡ is_some (find test moves)
 any-find test [] = refl
@@ -17,10 +18,6 @@ any-find test (t ∷ moves) = go (test t) (any-find test moves)
     go : (b : Bool) → list_any test moves ≡ is_some (find test moves) → (b || list_any test moves) ≡ is_some (cond b (Some t) (find test moves))
     go true e = refl
     go false e = e
-
--- a move that isn't silent changes its two states
-silent-same : (t : Move) → t.r ≡ t.p → t.s ≡ t.q → silent_move t ≡ true
-silent-same t e f = let a = eq-eqb t.p t.r (sym e) in let b = eq-eqb t.q t.s (sym f) in rw (a, b) refl
 
 changed : (x y p q : ℕ) → ((x ≡ p) → (y ≡ q) → ⊥) → (not (x == p) || not (y == q)) ≡ true
 changed x y p q h = go (x == p) (y == q) refl refl
@@ -38,13 +35,13 @@ after-changes p q t true e h =
     let loud = not_true (silent_move t) (and_left (not (silent_move t)) (same_pair p q t.p t.q) h) in
     let first = eqb-true p t.p (and_left (p == t.p) (q == t.q) e) in
     let second = eqb-true q t.q (and_right (p == t.p) (q == t.q) e) in
-    changed t.r t.s p q (λ f g. loud-contradicts t (silent-same t (f ∙ first) (g ∙ second)) loud)
+    changed t.r t.s p q (λ f g. loud-contradicts t (stays-silent t (f ∙ first) (g ∙ second)) loud)
 after-changes p q t false e h =
     let loud = not_true (silent_move t) (and_left (not (silent_move t)) (same_pair p q t.p t.q) h) in
     let other = or_right ((p == t.p) && (q == t.q)) ((p == t.q) && (q == t.p)) (and_right (not (silent_move t)) (same_pair p q t.p t.q) h) e in
     let first = eqb-true p t.q (and_left (p == t.q) (q == t.p) other) in
     let second = eqb-true q t.p (and_right (p == t.q) (q == t.p) other) in
-    changed t.s t.r p q (λ f g. loud-contradicts t (silent-same t (g ∙ second) (f ∙ first)) loud)
+    changed t.s t.r p q (λ f g. loud-contradicts t (stays-silent t (g ∙ second) (f ∙ first)) loud)
 
 found-changes : (p q : ℕ) (moves : List Move) (found : Option Move) → find (takes_states p q) moves ≡ found → is_some found ≡ (not ((by_move p q found).0 == p) || not ((by_move p q found).1 == q))
 found-changes p q moves None e =

@@ -17,10 +17,11 @@ use Rattle.cert_base.specs.declared.fact.Fact.{Fact}
 use Rattle.cert_base.specs.declared.fact.Fact.TheVariants.{Ge, Eq, Cong, NotCong, Holds}
 use Rattle.cert_base.specs.Rows.{input_row}
 use Rattle.cert_base.specs.Valuation.{Valuation, terms_value, row_value, MeetsFact, input_counts}
-use Rattle.cert_base.specs.FactsAndCases.{plus, negated_row, cases_of_split, both_of, one_of, over_count, open_tree, cases_of_open}
+use Rattle.cert_base.specs.FactsAndCases.{plus, negated_row, signs_of, without_zeros, cases_of_split, both_of, one_of, over_count, open_tree, cases_of_open}
 use Rattle.cert_base.specs.Ends.{MeetsOne, MeetsAll, CoverValue, CoverAll}
 use Rattle.cert_base.proofs.Integers.{mul-pos_suc}
 use Rattle.cert_base.proofs.FlowFacts.{dot, terms_value-terms_from}
+use Rattle.std.proofs.lemmas.Bool.{or_cases}
 
 -- ---- which case
 
@@ -112,10 +113,6 @@ one_met : (count : Valuation) (f g : Fact) → MeetsFact count f ⊎ MeetsFact c
 one_met count f g (inl m) = in_first count (f ∷ []) ((g ∷ []) ∷ []) (one_fact count f m)
 one_met count f g (inr m) = in_rest count (f ∷ []) ((g ∷ []) ∷ []) (in_first count (g ∷ []) [] (one_fact count g m))
 
-or_cases : (a b : Bool) → a || b ≡ true → (a ≡ true) ⊎ (b ≡ true)
-or_cases true b e = inl refl
-or_cases false b e = inr e
-
 or_none : (a b : Bool) → a || b ≡ false → (a ≡ false) × (b ≡ false)
 or_none true b e = cc
 or_none false b e = (refl, e)
@@ -158,7 +155,7 @@ module _ (count : Valuation) (row : Row) where
   abbrev below : List Fact
   below = Ge (plus (negated_row row) (negsuc 0)) ∷ []
 
-  split_at : (z : ℤ) → row_value count row ≡ z → MeetsOne count (cases_of_split row)
+  split_at : (z : ℤ) → row_value count row ≡ z → MeetsOne count (signs_of row)
   split_at (pos zero) e =
       in_rest count above (at ∷ below ∷ []) (in_first count at (below ∷ []) (one_fact count (Eq row) e))
   split_at (pos (suc n)) e =
@@ -168,4 +165,4 @@ module _ (count : Valuation) (row : Row) where
       in_rest count above (at ∷ below ∷ []) (in_rest count at (below ∷ []) (in_first count below [] (one_fact count (Ge (plus (negated_row row) (negsuc 0))) (omega (arith, ints, e, turned)))))
 
 pub split_cases-cover : (row : Row) → CoverAll (cases_of_split row)
-split_cases-cover row count = split_at count row (row_value count row) refl
+split_cases-cover row count = split_at count (without_zeros row) (row_value count (without_zeros row)) refl

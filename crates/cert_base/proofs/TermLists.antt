@@ -1,13 +1,12 @@
 -- The terms of rows, variable by variable.
-use Rattle.std.proofs.Common.{◌≡◌, ◌≢◌, inl, inr, ℕ, zero, suc, ◌+◌, ◌<◌, ◌≤◌, Bool, true, false, List, [], ◌∷◌, ◌++◌, length, map, drop, get_or, append_assoc, refl, ap, sym, ◌∙◌, zero-add, arith, w64, to_z, of_z, SFits}
+use Rattle.std.proofs.Common.{◌≡◌, ℕ, zero, suc, ◌+◌, ◌<◌, ◌≤◌, Bool, true, false, List, [], ◌∷◌, ◌++◌, length, map, drop, get_or, append_assoc, refl, ap, sym, ◌∙◌, zero-add, arith, w64, to_z, of_z, SFits}
 use Rattle.std.specs.Prelude.{ℤ, pos, negsuc, neg_ℤ, ◌==◌, if◌then◌else◌}
 use Rattle.std.specs.List.{range_with_len}
 use Rattle.std.proofs.lemmas.Int.{to_z-of_z}
 use Rattle.cert_base.specs.declared.fact.Row.{Row}
 use Rattle.std.specs.Ordering.{int_eq}
 use Rattle.std.proofs.lemmas.List.{drop_more, append-nil, drop_all}
-use Rattle.std.proofs.lemmas.Bool.{eq-eqb}
-use Rattle.std.proofs.lemmas.Bool.Decides.{eqb_tells}
+use Rattle.std.proofs.lemmas.Bool.{eq-eqb, ne_eqb}
 use Rattle.cert_base.specs.declared.fact.Term.{Term}
 use Rattle.cert_base.specs.Rows.{terms_from, zeros, dense_row}
 use Rattle.cert_base.specs.FactsAndCases.{indicator}
@@ -51,14 +50,11 @@ term_of-same k q z e = rw e refl
 term_of-other : (k q z : ℕ) → (z == q) ≡ false → term_of k (minus_one_at q z) ≡ []
 term_of-other k q z e = rw e refl
 
-apart : (a q : ℕ) → a ≢ q → (a == q) ≡ false
-apart a q ne = elim (eqb_tells a q) [ inl h ↦ absurd (ne h.1) | inr h ↦ h.0 ]
-
 terms_from-past : (q k a n : ℕ) → q < a → terms_from k (map (minus_one_at q) (range_with_len a n)) ≡ []
 terms_from-past q k a zero l = refl
 terms_from-past q k a (suc n) l =
     terms_from-cons k (minus_one_at q a) (map (minus_one_at q) (range_with_len (a + 1) n))
-    ∙ ap (λ ts. ts ++ terms_from (k + 1) (map (minus_one_at q) (range_with_len (a + 1) n))) (term_of-other k q a (apart a q (λ e. omega arith)))
+    ∙ ap (λ ts. ts ++ terms_from (k + 1) (map (minus_one_at q) (range_with_len (a + 1) n))) (term_of-other k q a (ne_eqb a q (λ e. omega arith)))
     ∙ terms_from-past q (k + 1) (a + 1) n (omega arith)
 
 pub terms_from-state : (q k a n d : ℕ) → q ≡ a + d → d < n → terms_from k (map (minus_one_at q) (range_with_len a n)) ≡ record { at = k + d; by = negsuc 0 } ∷ []
@@ -70,7 +66,7 @@ terms_from-state q k a (suc n) zero e l =
     ∙ ap (λ m. record { at = m; by = negsuc 0 } ∷ []) (let f : k ≡ k + 0 = omega arith in f)
 terms_from-state q k a (suc n) (suc d) e l =
     terms_from-cons k (minus_one_at q a) (map (minus_one_at q) (range_with_len (a + 1) n))
-    ∙ ap (λ ts. ts ++ terms_from (k + 1) (map (minus_one_at q) (range_with_len (a + 1) n))) (term_of-other k q a (apart a q (λ f. omega arith)))
+    ∙ ap (λ ts. ts ++ terms_from (k + 1) (map (minus_one_at q) (range_with_len (a + 1) n))) (term_of-other k q a (ne_eqb a q (λ f. omega arith)))
     ∙ terms_from-state q (k + 1) (a + 1) n d (omega arith) (omega arith)
     ∙ ap (λ m. record { at = m; by = negsuc 0 } ∷ []) (let f : k + 1 + d ≡ k + suc d = omega arith in f)
 

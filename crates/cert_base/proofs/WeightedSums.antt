@@ -9,25 +9,17 @@ use Rattle.cert_base.specs.declared.fact.Fact.TheVariants.{NotCong}
 use Rattle.std.specs.List.{list_any}
 use Rattle.std.proofs.lemmas.Int.{ints}
 use Rattle.std.proofs.Math.IntN.{*ℤ-zero, zero-*ℤ}
-use Rattle.std.proofs.lemmas.Bool.Decides.{Decides-int_eq}
 use Rattle.std.proofs.lemmas.List.Sums.{list_all-from_AllPass}
 use Rattle.cert_base.specs.declared.fact.Term.{Term}
 use Rattle.cert_base.specs.declared.fact.Row.{Row}
 use Rattle.cert_base.specs.declared.fact.Fact.{Fact}
 use Rattle.cert_base.specs.Rows.{terms_from, zeros}
 use Rattle.cert_base.specs.ClosingTests.{row_of, times, add_rows, scaled, sum_of, coefficient_in, each_coefficient, may_have, all_named, may_add, closes_by_sum, may_add_modulo, closes_by_residue, denies}
-use Rattle.cert_base.proofs.Integers.{mul-add}
+use Rattle.cert_base.proofs.Integers.{mul-add, int_eq-true}
 use Rattle.cert_base.specs.WeightedSums.{sum_of_facts, coefficient, constant_of, may_weigh, StandFrom}
+use Rattle.pop_net.proofs.Reactions.{and_left, and_right}
 
-and_left : (a b : Bool) → a && b ≡ true → a ≡ true
-and_left true b e = refl
-and_left false b e = e
-
-and_right : (a b : Bool) → a && b ≡ true → b ≡ true
-and_right true b e = e
-and_right false b e = cc
-
-abbrev multiplied : ℤ → List Term → List Term
+abbrev pub multiplied : ℤ → List Term → List Term
 multiplied a ts = map (λ t. record { at = t.at; by = a *ℤ t.by }) ts
 
 pub coefficient-append : (ts us : List Term) (q : ℕ) → coefficient_in (ts ++ us) q ≡ (coefficient_in ts q +ℤ coefficient_in us q)
@@ -45,9 +37,6 @@ coefficient-times a (t ∷ ts) q =
     of_term-times : (same : Bool) → (if same then (a *ℤ t.by) else pos 0) ≡ (a *ℤ (if same then t.by else pos 0))
     of_term-times true = refl
     of_term-times false = sym (*ℤ-zero a)
-
-int_eq-true : (a b : ℤ) → int_eq a b ≡ true → a ≡ b
-int_eq-true a b e = (Decides-int_eq a b).0 e
 
 pub none_weighted : (value : Fact → ℤ) (facts : List Fact) → sum_of_facts value facts [] ≡ pos 0
 none_weighted value [] = refl

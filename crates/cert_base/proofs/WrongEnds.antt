@@ -19,13 +19,7 @@ use Rattle.cert_base.proofs.Dead.{one_there}
 use Rattle.cert_base.proofs.FlowFacts.{dot, terms_value-terms_from, flow_met}
 use Rattle.cert_base.proofs.Indicators.{sum_if, row_value-behind, sum_if-none}
 use Rattle.cert_base.proofs.InRange.{end_in_range}
-use Rattle.cert_base.proofs.FlowRows.{get-range}
-
--- what holds of each number of a range
-pub all_range : (P : ℕ → Type 0) (a n : ℕ) → ((z : ℕ) → a ≤ z → z < a + n → P z) → All P (range_with_len a n)
-all_range P a zero f = All-nil P
-all_range P a (suc n) f =
-    All-cons P a (range_with_len (a + 1) n) (f a (omega arith) (omega arith)) (all_range P (a + 1) n (λ z l m. f z (omega arith) (omega arith)))
+use Rattle.list_laws.proofs.Ranges.{get-range, all_range}
 
 -- the state z of the range
 pub range_get : (n z : ℕ) → z < n → slice_get (range_with_len 0 n) z ≡ Some z

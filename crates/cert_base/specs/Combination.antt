@@ -24,7 +24,8 @@ open_after parts items k = after_items (leaf_trees parts) (take k items) []
 -- the items before `end` end with this tree just where those before k are closed
 pub record BeginsAt (parts : List LeafProof) (items : List Item) (end : ℕ) (tree : PredTree) (k : ℕ) : Type 0 where
   pub before : k < end
-  pub same : (rest : List PredTree) → (open_after parts items end ≡ Some (tree ∷ rest)) ↔ (open_after parts items k ≡ Some rest)
+  pub same : (rest : List PredTree)
+      → (open_after parts items end ≡ Some (tree ∷ rest)) ↔ (open_after parts items k ≡ Some rest)
 
 -- where the tree begins that the items before `end` end with, or None where they end with another one
 abbrev pub IsBegin : List LeafProof → List Item → ℕ → PredTree → Option ℕ → Type 0

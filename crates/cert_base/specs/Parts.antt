@@ -1,5 +1,6 @@
 -- The parts of which rows are made.
-use Rattle.std.specs.Prelude.{ℕ, if◌then◌else◌, List, [], ◌∷◌, ◌++◌, ℤ, pos, negsuc, ◌-ℤ◌, map, take, slice_index_or, ◌==◌}
+use Rattle.std.specs.Prelude.{ℕ, if◌then◌else◌, List, [], ◌∷◌, ◌++◌, ℤ, pos, negsuc, ◌-ℤ◌, map, take, slice_index_or}
+use Rattle.std.specs.Prelude.{◌==◌}
 use Rattle.std.specs.Ordering.{int_eq}
 use Rattle.pop_net.specs.declared.leaf.Move.{Move}
 use Rattle.pop_net.specs.LeafModel.{LeafModel, pre, post}
@@ -24,7 +25,8 @@ input_terms_from leaf q i starts = terms_from i (map (λ start. indicator (start
 abbrev pub flow_terms : LeafModel → ℕ → ℕ → List Term
 flow_terms leaf k q =
     input_terms_from leaf q 0 leaf.inputs
-    ++ (record { at = state_variable leaf q; by = negsuc 0 } ∷ terms_from (move_variable leaf 0) (map (change_at q) (take k leaf.moves)))
+    ++ (record { at = state_variable leaf q; by = negsuc 0 }
+    ∷ terms_from (move_variable leaf 0) (map (change_at q) (take k leaf.moves)))
 
 -- the same for each state
 abbrev pub flow_rows_after : LeafModel → ℕ → List (List Term)

@@ -1,6 +1,6 @@
 //! Whether a net combines its leaves' predicates to a given one.
 
-ghost use Rattle.std.specs.Prelude.{◌≡◌, ◌↔◌, ◌≤◌, ◌<◌, length, map, Some, IsTrue, All, slice_get};
+ghost use Rattle.std.specs.Prelude.{◌≡◌, ◌↔◌, ◌≤◌, ◌<◌, length, Some, IsTrue, All};
 ghost use Rattle.pres_ast.specs.TreeOf.{tree_of};
 ghost use Rattle.pop_net.specs.NetModel.{IsNet};
 ghost use Rattle.cert_base.specs.ValidProof.{CombinesTo};

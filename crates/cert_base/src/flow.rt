@@ -1,10 +1,10 @@
 //! The flow facts of a leaf, in one walk over its moves.
 
-ghost use Rattle.std.specs.Prelude.{◌≡◌, ◌<◌, ◌+◌, ◌++◌, length, map, slice_index_or, IfOk, OnOk, pos, []};
+ghost use Rattle.std.specs.Prelude.{◌≡◌, ◌<◌, ◌+◌, length, map, IfOk, OnOk, pos, []};
 ghost use Rattle.std.specs.List.{zip};
 ghost use Rattle.pop_net.specs.LeafModel.{IsLeaf, times_in_pair};
 ghost use Rattle.cert_base.specs.FactsAndCases.{flow, states_of, helpers_starting};
-ghost use Rattle.cert_base.specs.Parts.{term_of, change_at, input_terms_from, flow_terms};
+ghost use Rattle.cert_base.specs.Parts.{change_at, input_terms_from, flow_terms};
 ghost use Rattle.cert_base.specs.Parts.{flow_rows_after, entered_rows};
 ghost use Rattle.cert_base.specs.declared.fact.Fact.TheVariants.{Eq};
 

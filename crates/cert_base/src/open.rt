@@ -1,12 +1,12 @@
 //! What it means that a predicate has a value.
 
-ghost use Rattle.std.specs.Prelude.{◌≡◌, ◌≤◌, ◌∷◌, [], not, nat_abs, length, map, neg_ℤ, if◌then◌else◌, IfOk};
-ghost use Rattle.pres_ast.specs.PredModel.{AreCoefs, HasAtoms, IsPred};
+ghost use Rattle.std.specs.Prelude.{◌≡◌, ◌≤◌, ◌∷◌, [], nat_abs, length, IfOk};
+ghost use Rattle.pres_ast.specs.PredModel.{AreCoefs, IsPred};
 ghost use Rattle.pres_ast.specs.PredTree.{LessThan, Congruent};
 ghost use Rattle.pres_ast.specs.TreeOf.{tree_of};
 ghost use Rattle.cert_base.specs.declared.fact.Fact.TheVariants.{Holds};
-ghost use Rattle.cert_base.specs.FactsAndCases.{open_tree, cases_of_open, both_of, one_of, over_count};
-ghost use Rattle.cert_base.specs.Ends.{CoverValue};
+ghost use Rattle.cert_base.specs.FactsAndCases.{open_tree, cases_of_open, connective_cases, over_count};
+ghost use Rattle.cert_base.specs.Ends.{CoverValue, AreCasesBy};
 
 use crate::fact::{Fact, Row, only};
 use pop_io::{List, NoMemory, VARIABLE_LIMIT};
@@ -15,9 +15,8 @@ use std::alloc::Global;
 
 /// One case with a linear fact for an atom; else the values of the parts, in one case or in two.
 pub fn open_cases(alloc: Global, pred: &Pred, value: bool) -> Result<List<List<Fact>>, NoMemory>
-    ensures cases { IfOk result (λ cases. cases ≡ cases_of_open pred.now value) }
     // Counts at which the predicate has the value meet all facts of one of the cases.
-    ensures cover { IfOk result (CoverValue pred.now value) }
+    ensures { IfOk result (AreCasesBy (CoverValue pred.now value) (cases_of_open pred.now value)) }
 {
     tree_cases(alloc, pred.vars(), pred.tree(), value)
 }
@@ -46,8 +45,8 @@ fn tree_cases(
             )
         }
         Tree::Not(p) => one_case(alloc, holds(alloc, vars, p, !value)?),
-        Tree::And(p, q) => two(alloc, vars, p, q, value, value),
-        Tree::Or(p, q) => two(alloc, vars, p, q, value, !value),
+        Tree::And(p, q) => connective_cases(alloc, vars, p, q, value, value),
+        Tree::Or(p, q) => connective_cases(alloc, vars, p, q, value, !value),
     }
 }
 
@@ -93,7 +92,7 @@ fn congruent(
 }
 
 /// One case where both trees have the value, or one case for each.
-fn two(
+fn connective_cases(
     alloc: Global,
     vars: u16,
     p: &Tree,
@@ -103,9 +102,8 @@ fn two(
 ) -> Result<List<List<Fact>>, NoMemory>
     requires first { IsPred vars (tree_of p.now) }
     requires second { IsPred vars (tree_of q.now) }
-    ensures { IfOk result (λ cases. cases ≡ (if both
-        then both_of (Holds (over_count vars (tree_of p.now)) value) (Holds (over_count vars (tree_of q.now)) value)
-        else one_of (Holds (over_count vars (tree_of p.now)) value) (Holds (over_count vars (tree_of q.now)) value))) }
+    ensures { IfOk result (λ cases. cases ≡ connective_cases both
+        (Holds (over_count vars (tree_of p.now)) value) (Holds (over_count vars (tree_of q.now)) value)) }
 {
     let mut cases = Vec::new(alloc);
     if both {

@@ -13,7 +13,7 @@ use Rattle.cert_layers.specs.MoveLayers.{layer_of}
 use Rattle.cert_layers.specs.Search.{some_move, some_layer}
 use Rattle.cert_layers.specs.Waking.{first_at, is_early, IsEarly, IsWakingTable, brings_state, wakes_with_state, wakes_states, wakes_early, wakes_beside_state, may_wake_any, wakes_numbered, wakes_at, FindsFirst}
 use Rattle.cert_layers.proofs.Firsts.{first_below-Some, list_any-none}
-use Rattle.cert_layers.proofs.NotLower.{move_small}
+use Rattle.pop_net.proofs.Within.{move_small}
 
 pub right_false : (a b : Bool) → a ≡ true → (a && b) ≡ false → b ≡ false
 right_false true b is e = e

@@ -6,6 +6,7 @@ use Rattle.std.proofs.lemmas.Bool.Decides.{eqb_tells}
 use Rattle.pop_net.specs.declared.leaf.Move.{Move}
 use Rattle.pop_net.specs.LeafModel.{one_at, times_in_pair, post}
 use Rattle.cert_layers.specs.Waking.{brings_state, brings_two_states}
+use Rattle.pop_net.proofs.Silent.{one_self}
 
 -- a state is the same, once, or another, not at all
 abbrev One : ℕ → ℕ → Type 0
@@ -13,9 +14,6 @@ One x z = ((x ≡ z) × (one_at x z ≡ 1)) ⊎ ((x ≢ z) × (one_at x z ≡ 0)
 
 one : (x z : ℕ) → One x z
 one x z = elim (eqb_tells x z) [ inl h ↦ inl (h.1, rw h.0 refl) | inr h ↦ inr (h.1, rw h.0 refl) ]
-
-self : (x : ℕ) → one_at x x ≡ 1
-self x = rw (eq-eqb x x refl) refl
 
 at_equal : (x z : ℕ) → x ≡ z → one_at x z ≡ 1
 at_equal x z e = rw (eq-eqb x z e) refl
@@ -37,10 +35,10 @@ within_two a b p q each = by_a (one p a)
   where
     by_q : p ≢ a → q ≡ a → Like a b p q
     by_q ne e = elim (one q b) as (λ _. Like a b p q) [
-      | inl f ↦ absurd (omega (arith, each a, self a, at_equal b a (sym f.0 ∙ e), at_other p a ne, at_equal q a e))
+      | inl f ↦ absurd (omega (arith, each a, one_self a, at_equal b a (sym f.0 ∙ e), at_other p a ne, at_equal q a e))
       | inr g ↦ elim (one p b) as (λ _. Like a b p q) [
         | inl h ↦ inr (h.0, e)
-        | inr h ↦ absurd (omega (arith, each b, self b, g.1, h.1))
+        | inr h ↦ absurd (omega (arith, each b, one_self b, g.1, h.1))
       ]
     ]
 
@@ -48,13 +46,13 @@ within_two a b p q each = by_a (one p a)
     by_a (inl e) = elim (one q b) as (λ _. Like a b p q) [
       | inl f ↦ inl (e.0, f.0)
       | inr g ↦ elim (one p b) as (λ _. Like a b p q) [
-        | inl h ↦ absurd (omega (arith, each b, self b, at_equal a b (sym e.0 ∙ h.0), g.1, h.1))
-        | inr h ↦ absurd (omega (arith, each b, self b, g.1, h.1))
+        | inl h ↦ absurd (omega (arith, each b, one_self b, at_equal a b (sym e.0 ∙ h.0), g.1, h.1))
+        | inr h ↦ absurd (omega (arith, each b, one_self b, g.1, h.1))
       ]
     ]
     by_a (inr ne) = elim (one q a) as (λ _. Like a b p q) [
       | inl f ↦ by_q ne.0 f.0
-      | inr g ↦ absurd (omega (arith, each a, self a, ne.1, g.1))
+      | inr g ↦ absurd (omega (arith, each a, one_self a, ne.1, g.1))
     ]
 
 -- a pair that is within three states is two of them
@@ -71,8 +69,8 @@ within_three a b p q o each = by_a (one p a)
       | inr g ↦ elim (one o b) as (λ _. TwoOf a b p q o) [
         | inl f ↦ inr (inl (inl (e, f.0)))
         | inr h ↦ elim (one p b) as (λ _. TwoOf a b p q o) [
-          | inl k ↦ absurd (omega (arith, each b, self b, at_equal a b (sym e ∙ k.0), g.1, h.1, k.1))
-          | inr k ↦ absurd (omega (arith, each b, self b, g.1, h.1, k.1))
+          | inl k ↦ absurd (omega (arith, each b, one_self b, at_equal a b (sym e ∙ k.0), g.1, h.1, k.1))
+          | inr k ↦ absurd (omega (arith, each b, one_self b, g.1, h.1, k.1))
         ]
       ]
     ]
@@ -84,8 +82,8 @@ within_three a b p q o each = by_a (one p a)
       | inr g ↦ elim (one o b) as (λ _. TwoOf a b p q o) [
         | inl f ↦ inr (inr (inl (e, f.0)))
         | inr h ↦ elim (one q b) as (λ _. TwoOf a b p q o) [
-          | inl k ↦ absurd (omega (arith, each b, self b, at_equal a b (sym e ∙ k.0), g.1, h.1, k.1))
-          | inr k ↦ absurd (omega (arith, each b, self b, g.1, h.1, k.1))
+          | inl k ↦ absurd (omega (arith, each b, one_self b, at_equal a b (sym e ∙ k.0), g.1, h.1, k.1))
+          | inr k ↦ absurd (omega (arith, each b, one_self b, g.1, h.1, k.1))
         ]
       ]
     ]
@@ -97,8 +95,8 @@ within_three a b p q o each = by_a (one p a)
       | inr g ↦ elim (one q b) as (λ _. TwoOf a b p q o) [
         | inl f ↦ inr (inr (inr (f.0, e)))
         | inr h ↦ elim (one o b) as (λ _. TwoOf a b p q o) [
-          | inl k ↦ absurd (omega (arith, each b, self b, at_equal a b (sym e ∙ k.0), g.1, h.1, k.1))
-          | inr k ↦ absurd (omega (arith, each b, self b, g.1, h.1, k.1))
+          | inl k ↦ absurd (omega (arith, each b, one_self b, at_equal a b (sym e ∙ k.0), g.1, h.1, k.1))
+          | inr k ↦ absurd (omega (arith, each b, one_self b, g.1, h.1, k.1))
         ]
       ]
     ]
@@ -109,7 +107,7 @@ within_three a b p q o each = by_a (one p a)
       | inl f ↦ second ne.0 f.0
       | inr g ↦ elim (one o a) as (λ _. TwoOf a b p q o) [
         | inl f ↦ third f.0
-        | inr h ↦ absurd (omega (arith, each a, self a, ne.1, g.1, h.1))
+        | inr h ↦ absurd (omega (arith, each a, one_self a, ne.1, g.1, h.1))
       ]
     ]
 

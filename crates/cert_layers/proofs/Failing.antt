@@ -1,35 +1,19 @@
 -- Which layer_of_move fail, by what the searches found.
 use Rattle.std.proofs.Common.{◌≡◌, ℕ, ◌≤◌, List, length, arith}
-use Rattle.std.specs.Prelude.{Option, Some, None, Result, Ok, Err, IfErr}
-use Rattle.std.specs.Result.{IsErrAnd}
+use Rattle.std.specs.Prelude.{Option, Some, None}
 use Rattle.std.proofs.lemmas.Option.{slice_get_within}
 use Rattle.cert_base.specs.declared.limits.TheConstants.{LAYER_LIMIT}
 use Rattle.pop_net.specs.LeafModel.{LeafModel, IsLeaf}
 use Rattle.pop_net.specs.FirstFault.{first_below}
 use Rattle.pop_net.proofs.FirstFault.{none_below}
 use Rattle.cert_base.specs.declared.layer.Layer.{Layer}
-use Rattle.cert_layers.specs.LayerFaults.{ListedAt, LowerAt, SleepsAt, Each, IsFirstFailing, IsLayerFault}
-use Rattle.cert_layers.specs.MoveLayers.{AreMoveLayers, FindsMoveLayers}
+use Rattle.cert_layers.specs.LayerFaults.{ListedAt, LowerAt, SleepsAt, Each, IsFirstFailing}
+use Rattle.cert_layers.specs.MoveLayers.{AreMoveLayers}
 use Rattle.cert_layers.specs.Search.{is_unlisted_move, not_lower}
 use Rattle.cert_layers.specs.Waking.{IsWakingTable, FindsWaking}
-use Rattle.cert_layers.specs.declared.fault.LayerFault.{LayerFault}
-use Rattle.cert_layers.specs.declared.fault.LayerFault.TheVariants.{Shape, NoLayer, NotLower, Wakes, NoMemory}
 use Rattle.cert_layers.proofs.Firsts.{first_below-Some}
 use Rattle.cert_layers.proofs.NotLower.{unlisted-no, unlisted-yes, not_lower-no, not_lower-yes}
 use Rattle.cert_layers.proofs.Woken.{sleeps-no, sleeps-yes}
-
--- a fault of the layer_of_move is a fault of the layers
-pub placed-fault : (leaf : LeafModel) (layers : List Layer) (fault : LayerFault) → FindsMoveLayers leaf layers (Err fault) → IsLayerFault leaf layers fault
-placed-fault leaf layers (Shape n) f = f
-placed-fault leaf layers (NoLayer n) f = absurd f
-placed-fault leaf layers (NotLower n) f = absurd f
-placed-fault leaf layers (Wakes n m) f = absurd f
-placed-fault leaf layers NoMemory f = tt
-
--- a fault that is handed on
-pub handed : {X : Type 0} (r : Result X LayerFault) (fault : LayerFault) (P : LayerFault → Type 0) → IsErrAnd r (λ e. e ≡ fault) → P fault → IfErr r P
-handed (Ok x) fault P is h = tt
-handed (Err e) fault P is h = rw is h
 
 module _ (leaf : LeafModel) (layers : List Layer) (layer_of_move : List (Option ℕ)) (p : AreMoveLayers leaf layers layer_of_move) where
   pub all_listed : first_below (length leaf.moves) (is_unlisted_move leaf layer_of_move) ≡ None → Each (ListedAt leaf layers)

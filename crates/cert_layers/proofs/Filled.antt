@@ -1,8 +1,8 @@
 -- The moves of the layers, entered layer by layer.
-use Rattle.std.proofs.Common.{◌≡◌, ◌≢◌, ◌⊎◌, inl, inr, ℕ, zero, suc, ◌+◌, ◌<◌, ◌≤◌, Bool, true, false, List, [], ◌∷◌, ◌++◌, length, map, take, get_or, replicate, refl, ap, sym, ◌∙◌, subst, arith, append_assoc, append-nil, add-one, zero-add}
+use Rattle.std.proofs.Common.{◌≡◌, ◌≢◌, ◌⊎◌, inl, inr, ℕ, zero, suc, ◌+◌, ◌<◌, ◌≤◌, Bool, true, false, List, [], ◌∷◌, ◌++◌, length, map, take, get_or, refl, ap, sym, ◌∙◌, subst, arith, append_assoc, append-nil, add-one, zero-add}
 use Rattle.std.specs.Prelude.{Option, Some, None, AllPairs, Contains, slice_get, ◌==◌, if◌then◌else◌}
 use Rattle.std.proofs.lemmas.Bool.{eqb-true, eq-eqb, cases_lt}
-use Rattle.std.proofs.lemmas.List.{get_or_default, get_or-map, map-append, length-map, length-take-le, length-replicate}
+use Rattle.std.proofs.lemmas.List.{get_or_default, get_or-map, map-append, length-map, length-take-le}
 use Rattle.std.proofs.lemmas.List.Elements.{Contains-append_left, Contains-append_right, Contains-append_cases}
 use Rattle.std.proofs.Math.Seq.{take-suc, take-length}
 use Rattle.std.proofs.lemmas.Option.{get_or_from_slice_get, slice_get_within}
@@ -102,28 +102,10 @@ pub record Filled (leaf : LeafModel) (layers : List Layer) (i : ℕ) (layer_of_m
   pub holds : Holds (length leaf.moves) layer_of_move (tags 0 (take i layers))
   pub shaped : (k : ℕ) → k < i → ShapedAt leaf layers k
 
-none_there : (count n : ℕ) → layer_of (replicate count None) n ≡ None
-none_there zero n = refl
-none_there (suc count) zero = refl
-none_there (suc count) (suc n) = none_there count n
-
 place_within : (layer_of_move : List (Option ℕ)) (n i : ℕ) → layer_of layer_of_move n ≡ Some i → n < length layer_of_move
 place_within [] n i is = cc
 place_within (p ∷ layer_of_move) zero i is = omega arith
 place_within (p ∷ layer_of_move) (suc n) i is = omega (arith, place_within layer_of_move n i is)
-
--- no layer yet
-pub filled-none : (leaf : LeafModel) (layers : List Layer) → Filled leaf layers 0 (replicate (length leaf.moves) None)
-filled-none leaf layers =
-    record {
-      holds = record {
-        long = length-replicate (length leaf.moves) None;
-        each = λ n i is. absurd (let clash : None ≡ Some i = sym (none_there (length leaf.moves) n) ∙ is in let no : ⊥ = cc in no);
-        all = λ e c. absurd (omega (arith, c.1));
-        once = λ i j d before within. absurd (omega arith);
-      };
-      shaped = λ k l. absurd (omega arith);
-    }
 
 layer_entered : (states : ℕ) (layer_of_move : List (Option ℕ)) (i : ℕ) (layer : Layer) (more : List (Option ℕ)) → entered_layer states layer_of_move i layer ≡ Some more → (length layer.weights ≡ states) × (enter_all layer_of_move i layer.moves ≡ Some more)
 layer_entered states layer_of_move i layer more is = by_test (length layer.weights == states) refl is

@@ -2,7 +2,7 @@
 use Rattle.std.proofs.Common.{◌≡◌, ℕ, ◌<◌, Bool, true, not, List, length, refl}
 use Rattle.std.specs.Prelude.{Option, Some, None, Contains, slice_get}
 use Rattle.std.specs.List.{list_any}
-use Rattle.std.proofs.lemmas.Option.{get_or_from_slice_get, slice_get_within, slice_get-get_or}
+use Rattle.std.proofs.lemmas.Option.{slice_get-get_or}
 use Rattle.pop_net.specs.declared.leaf.Move.{Move}
 use Rattle.pop_net.specs.LeafModel.{LeafModel, silent_move}
 use Rattle.pop_net.proofs.Reactions.{and_left, and_right, not_true}
@@ -16,12 +16,6 @@ abbrev pub any_move : LeafModel → List Layer → ℕ → (Move → Bool) → B
 any_move leaf layers i test = list_any (λ n. some_move test (slice_get leaf.moves n)) (layer_at layers i).moves
 
 module _ (leaf : LeafModel) (layers : List Layer) where
-  pub layer-is : (i : ℕ) (t : Move) (at : IsInLayer leaf layers i t) → layer_at layers i ≡ at.layer
-  layer-is i t at = get_or_from_slice_get layers i at.layer no_layer at.layer_is
-
-  layer-in : (i : ℕ) (t : Move) → IsInLayer leaf layers i t → i < length layers
-  layer-in i t at = slice_get_within layers i at.layer at.layer_is
-
   pub any_move-at : (i : ℕ) (test : Move → Bool) → i < length layers → any_move leaf layers i test ≡ true → (t : Move) × IsInLayer leaf layers i t × (test t ≡ true)
   any_move-at i test l e =
       let s = list_any-contains (λ n. some_move test (slice_get leaf.moves n)) (layer_at layers i).moves e in

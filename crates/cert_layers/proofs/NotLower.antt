@@ -8,7 +8,6 @@ use Rattle.std.proofs.lemmas.Bool.{not-true, not-false, and_parts, false≢true}
 use Rattle.std.proofs.lemmas.List.{get_or_default}
 use Rattle.std.proofs.lemmas.List.Elements.{Contains-append_left, Contains-append_right}
 use Rattle.std.proofs.lemmas.Option.{get_or_from_slice_get, slice_get_within}
-use Rattle.pop_net.specs.declared.limits.TheConstants.{STATE_LIMIT}
 use Rattle.pop_net.specs.declared.leaf.Move.{Move}
 use Rattle.pop_net.specs.LeafModel.{LeafModel, IsLeaf, IsMoveBelow, silent_move}
 use Rattle.pop_net.proofs.Quiet.{All-slice_get}
@@ -35,13 +34,6 @@ pub not_lower_at : (leaf : LeafModel) (layers : List Layer) (layer_of_move : Lis
 not_lower_at leaf layers layer_of_move n i t d p move is loud =
     let within = slice_get_within layers i (get_or layers i d) (placed_layer leaf layers layer_of_move n i d p is) in
     rw (move, is, loud, get_or_default layers i no_layer d within) refl
-
--- the states of a move have numbers below STATE_LIMIT
-pub move_small : (leaf : LeafModel) (n : ℕ) (t : Move) → IsLeaf leaf → slice_get leaf.moves n ≡ Some t → IsMoveBelow STATE_LIMIT t
-move_small leaf n t formed move =
-    let below = All-slice_get (IsMoveBelow (length leaf.states)) leaf.moves n t formed.moves move in
-    let few = formed.states in
-    (omega (arith, below.0, few), omega (arith, below.1, few), omega (arith, below.2, few), omega (arith, below.3, few))
 
 -- a placed move that is not silent stands in its layer
 abbrev pub in_layer : (leaf : LeafModel) (layers : List Layer) (layer_of_move : List (Option ℕ)) (n i : ℕ) (t : Move) → AreMoveLayers leaf layers layer_of_move → slice_get leaf.moves n ≡ Some t → silent_move t ≡ false → layer_of layer_of_move n ≡ Some i → IsInLayer leaf layers i t

@@ -15,7 +15,8 @@ use Rattle.cert_layers.specs.Search.{some_layer}
 use Rattle.cert_layers.specs.Waking.{first_at, is_early, IsPair, IsWakingTable, brings_state, brings_two_states, wakes_with_state, wakes_states, wakes_numbered, wakes_at}
 use Rattle.cert_layers.proofs.Asleep.{wakes_at-placed, wakes-brought, wakes-other, right_false}
 use Rattle.cert_layers.proofs.Covers.{Like, times-like, within_two, within_three, left_none, left_one, left_both}
-use Rattle.cert_layers.proofs.NotLower.{in_layer, in_place, move_small, some_move-true}
+use Rattle.cert_layers.proofs.NotLower.{in_layer, in_place, some_move-true}
+use Rattle.pop_net.proofs.Within.{move_small}
 
 -- a move of an earlier layer that takes x and y
 abbrev EarlyMove : LeafModel → List Layer → ℕ → ℕ → ℕ → Type 0

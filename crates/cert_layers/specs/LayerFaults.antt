@@ -1,13 +1,15 @@
 -- The first place at which the layers of a leaf fail.
-use Rattle.std.specs.Prelude.{◌≡◌, ◌≢◌, ℕ, ◌+◌, ◌<◌, ◌≤◌, ◌*◌, false, ℤ, nat_abs, List, Some, slice_get, length, take, All, AllPairs, Contains}
+use Rattle.std.specs.Prelude.{◌≡◌, ◌≢◌, ℕ, ◌+◌, ◌<◌, ◌≤◌, ◌*◌, false, ℤ, nat_abs, List, Some, slice_get, length, take}
+use Rattle.std.specs.Prelude.{All, AllPairs, Contains, Result, IfOk, IfErr}
 use Rattle.pop_net.specs.declared.leaf.Move.{Move}
 use Rattle.pop_net.specs.LeafModel.{LeafModel, silent_move}
 use Rattle.pop_net.specs.Step.{LeafStep}
 use Rattle.pop_net.specs.Reachable.{ReachedWithin}
 use Rattle.pop_net.specs.Terminal.{IsTerminal}
-use Rattle.cert_base.specs.declared.limits.TheConstants.{SIZE_LIMIT}
+use Rattle.cert_base.specs.declared.limits.TheConstants.{LAYER_LIMIT, SIZE_LIMIT}
 use Rattle.cert_base.specs.declared.layer.Layer.{Layer}
-use Rattle.cert_base.specs.ValidLayers.{moves_of_layers, IsInLayer, IsLower, IsEnabledBefore}
+use Rattle.cert_base.specs.ProofBound.{layers_bound}
+use Rattle.cert_base.specs.ValidLayers.{moves_of_layers, IsInLayer, IsLower, IsEnabledBefore, ValidLayers}
 use Rattle.cert_layers.specs.declared.fault.LayerFault.{LayerFault}
 use Rattle.cert_layers.specs.declared.fault.LayerFault.TheVariants.{Shape, NoLayer, NotLower, Wakes, NoMemory}
 
@@ -22,7 +24,8 @@ ShapedAt leaf layers n = (layer : Layer) → slice_get layers n ≡ Some layer �
 
 -- a non-silent move with number n is listed
 abbrev pub ListedAt : LeafModel → List Layer → ℕ → Type 0
-ListedAt leaf layers n = (t : Move) → slice_get leaf.moves n ≡ Some t → silent_move t ≡ false → Contains (moves_of_layers layers) n
+ListedAt leaf layers n =
+    (t : Move) → slice_get leaf.moves n ≡ Some t → silent_move t ≡ false → Contains (moves_of_layers layers) n
 
 -- a non-silent move with number n lowers the weights of its layer
 abbrev pub LowerAt : LeafModel → List Layer → ℕ → Type 0
@@ -35,7 +38,8 @@ WakesNone leaf layers i t u = (k : ℕ) × (u' : Move) × (k < i) × IsInLayer l
 -- the move with number n wakes not the move with number m, where m stands in an earlier layer
 abbrev pub SleepsAt : LeafModel → List Layer → ℕ → ℕ → Type 0
 SleepsAt leaf layers n m =
-    (i j : ℕ) (t u : Move) → j < i → (at : IsInLayer leaf layers i t) → at.number ≡ n → (earlier : IsInLayer leaf layers j u) → earlier.number ≡ m
+    (i j : ℕ) (t u : Move) → j < i → (at : IsInLayer leaf layers i t) → at.number ≡ n
+    → (earlier : IsInLayer leaf layers j u) → earlier.number ≡ m
     → WakesNone leaf layers i t u
 
 abbrev pub Each : (ℕ → Type 0) → Type 0
@@ -49,9 +53,11 @@ IsFirstFailing P n = ¬ (P n) × ((k : ℕ) → k < n → P k)
 abbrev pub IsLayerFault : LeafModel → List Layer → LayerFault → Type 0
 IsLayerFault leaf layers (Shape n) = IsFirstFailing (ShapedAt leaf layers) n
 IsLayerFault leaf layers (NoLayer n) = Each (ShapedAt leaf layers) × IsFirstFailing (ListedAt leaf layers) n
-IsLayerFault leaf layers (NotLower n) = Each (ShapedAt leaf layers) × Each (ListedAt leaf layers) × IsFirstFailing (LowerAt leaf layers) n
+IsLayerFault leaf layers (NotLower n) =
+    Each (ShapedAt leaf layers) × Each (ListedAt leaf layers) × IsFirstFailing (LowerAt leaf layers) n
 IsLayerFault leaf layers (Wakes n m) =
-    Each (ShapedAt leaf layers) × Each (ListedAt leaf layers) × Each (LowerAt leaf layers) × IsFirstFailing (λ t. Each (SleepsAt leaf layers t)) n
+    Each (ShapedAt leaf layers) × Each (ListedAt leaf layers) × Each (LowerAt leaf layers)
+    × IsFirstFailing (λ t. Each (SleepsAt leaf layers t)) n
     × IsFirstFailing (SleepsAt leaf layers n) m
 IsLayerFault leaf layers NoMemory = Unit {0}
 
@@ -59,8 +65,22 @@ IsLayerFault leaf layers NoMemory = Unit {0}
 abbrev pub IsWeight : ℤ → Type 0
 IsWeight w = nat_abs w ≤ SIZE_LIMIT
 
+-- layers within the limits of a proof
+pub record AreLayersWithin (layers : List Layer) : Type 0 where
+  pub few : length layers ≤ LAYER_LIMIT
+  pub small : All (λ layer. All IsWeight layer.weights) layers
+
 -- from every crowd of at least two agents, a terminal crowd is reached within k steps for each agent
 abbrev pub EndsWithin : LeafModel → ℕ → Type 0
 EndsWithin leaf k =
-    (crowd : List ℕ) → 2 ≤ length crowd → All (λ q. q < length leaf.states) crowd → (end : List ℕ) × IsTerminal (LeafStep leaf) end
+    (crowd : List ℕ) → 2 ≤ length crowd → All (λ q. q < length leaf.states) crowd
+    → (end : List ℕ) × IsTerminal (LeafStep leaf) end
     × ReachedWithin (LeafStep leaf) (k * length crowd) crowd end
+
+-- what `check_layers` says: the layers are valid, with their bound; or this is where they fail first
+pub record ChecksLayers (leaf : LeafModel) (layers : List Layer) (result : Result ℕ LayerFault) : Type 0 where
+  pub valid : IfOk result (λ bound. ValidLayers leaf layers × (bound ≡ layers_bound layers))
+  pub fault : IfErr result (IsLayerFault leaf layers)
+  pub accepts : ValidLayers leaf layers → IfErr result (λ fault. fault ≡ NoMemory)
+  -- every crowd of the leaf can be brought to an end, within so many steps for each agent
+  pub ends : IfOk result (EndsWithin leaf)

@@ -14,7 +14,8 @@ layer_of layer_of_move n = slice_index_or layer_of_move n None
 -- the layers of the moves so far, with move n in one more, unless there is no such move or it has a layer
 abbrev pub enter : List (Option ℕ) → ℕ → ℕ → Option (List (Option ℕ))
 enter layer_of_move layer n =
-    if nat_lt n (length layer_of_move) && not (is_some (layer_of layer_of_move n)) then Some (slice_set layer_of_move n (Some layer)) else None
+    if nat_lt n (length layer_of_move)
+    && not (is_some (layer_of layer_of_move n)) then Some (slice_set layer_of_move n (Some layer)) else None
 
 abbrev pub enter_all : List (Option ℕ) → ℕ → List ℕ → Option (List (Option ℕ))
 enter_all layer_of_move layer [] = Some layer_of_move
@@ -22,13 +23,16 @@ enter_all layer_of_move layer (n ∷ ns) = option_and_then (λ more. enter_all m
 
 -- the layers of the moves, where all layers have their shape, or the first layer that hasn't
 abbrev pub entered_layer : ℕ → List (Option ℕ) → ℕ → Layer → Option (List (Option ℕ))
-entered_layer states layer_of_move i layer = if length layer.weights == states then enter_all layer_of_move i layer.moves else None
+entered_layer states layer_of_move i layer =
+    if length layer.weights == states then enter_all layer_of_move i layer.moves else None
 
 -- each move's layer, if one lists it; all layers have their shape
 pub record AreMoveLayers (leaf : LeafModel) (layers : List Layer) (layer_of_move : List (Option ℕ)) : Type 0 where
   pub long : length layer_of_move ≡ length leaf.moves
-  pub listed_in : (n i : ℕ) → layer_of layer_of_move n ≡ Some i → (layer : Layer) × (slice_get layers i ≡ Some layer) × Contains layer.moves n
-  pub placed : (n i : ℕ) (layer : Layer) → slice_get layers i ≡ Some layer → Contains layer.moves n → layer_of layer_of_move n ≡ Some i
+  pub listed_in : (n i : ℕ) → layer_of layer_of_move n ≡ Some i
+      → (layer : Layer) × (slice_get layers i ≡ Some layer) × Contains layer.moves n
+  pub placed : (n i : ℕ) (layer : Layer) → slice_get layers i ≡ Some layer → Contains layer.moves n
+      → layer_of layer_of_move n ≡ Some i
   pub shaped : Each (ShapedAt leaf layers)
 
 abbrev pub FindsMoveLayers : LeafModel → List Layer → Result (List (Option ℕ)) LayerFault → Type 0

@@ -1,5 +1,6 @@
 -- Tests of the moves of a leaf with layers.
-use Rattle.std.specs.Prelude.{ℕ, Bool, false, not, ◌&&◌, List, [], ℤ, ◌+ℤ◌, int_lt, Option, Some, None, is_some, slice_get}
+use Rattle.std.specs.Prelude.{ℕ, Bool, false, not, ◌&&◌, List, [], ℤ, ◌+ℤ◌, int_lt, Option, Some, None, is_some}
+use Rattle.std.specs.Prelude.{slice_get}
 use Rattle.std.specs.List.{slice_index_or}
 use Rattle.pop_net.specs.declared.leaf.Move.{Move}
 use Rattle.pop_net.specs.LeafModel.{LeafModel, silent_move}
@@ -26,7 +27,8 @@ some_layer test (Some i) = test i
 
 -- whether a non-silent move has number n and stands in no layer
 abbrev pub is_unlisted_move : LeafModel → List (Option ℕ) → ℕ → Bool
-is_unlisted_move leaf layer_of_move n = some_move (λ t. not (is_some (layer_of layer_of_move n))) (slice_get leaf.moves n)
+is_unlisted_move leaf layer_of_move n =
+    some_move (λ t. not (is_some (layer_of layer_of_move n))) (slice_get leaf.moves n)
 
 -- whether a move weighs less after it than before
 abbrev pub is_lower_after : List ℤ → Move → Bool
@@ -35,4 +37,5 @@ is_lower_after w t = int_lt (weight_at w t.r +ℤ weight_at w t.s) (weight_at w 
 -- whether a non-silent move has number n, stands in a layer, and doesn't lower its weights
 abbrev pub not_lower : LeafModel → List Layer → List (Option ℕ) → ℕ → Bool
 not_lower leaf layers layer_of_move n =
-    some_move (λ t. some_layer (λ i. not (is_lower_after (layer_at layers i).weights t)) (layer_of layer_of_move n)) (slice_get leaf.moves n)
+    some_move (λ t. some_layer (λ i. not (is_lower_after (layer_at layers i).weights t)) (layer_of layer_of_move n))
+    (slice_get leaf.moves n)

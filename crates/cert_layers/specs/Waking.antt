@@ -1,6 +1,7 @@
 -- Which moves wake moves of earlier layers, by a table of pairs of states.
 use Rattle.std.specs.Prelude.{◌≡◌, ℕ, ◌+◌, ◌*◌, ◌^◌, ◌<◌, ◌⊎◌, ◌==◌, ◌&&◌, ◌||◌, not, Bool}
-use Rattle.std.specs.Prelude.{true, false, nat_lt, List, length, Option, Some, None, slice_get, replicate, if◌then◌else◌}
+use Rattle.std.specs.Prelude.{true, false, nat_lt, List, length, Option, Some, None, slice_get, replicate}
+use Rattle.std.specs.Prelude.{if◌then◌else◌}
 use Rattle.std.specs.List.{slice_index_or, list_any, range_with_len}
 use Rattle.pop_net.specs.declared.leaf.Move.{Move}
 use Rattle.pop_net.specs.declared.limits.TheConstants.{STATE_LIMIT}
@@ -36,8 +37,10 @@ pub record IsEarly (leaf : LeafModel) (layer_of_move : List (Option ℕ)) (n i x
 -- the table has, for each two states, the least layer with a non-silent move below number n that takes them
 pub record IsWakingTable (leaf : LeafModel) (layer_of_move : List (Option ℕ)) (n : ℕ) (table : List ℕ) : Type 0 where
   pub long : length table ≡ PAIR_COUNT
-  pub sound : (i x y : ℕ) → i < 2 ^ 16 → x < STATE_LIMIT → y < STATE_LIMIT → first_at table x y < i → IsEarly leaf layer_of_move n i x y
-  pub complete : (i x y : ℕ) → i < 2 ^ 16 → x < STATE_LIMIT → y < STATE_LIMIT → IsEarly leaf layer_of_move n i x y → first_at table x y < i
+  pub sound : (i x y : ℕ) → i < 2 ^ 16 → x < STATE_LIMIT → y < STATE_LIMIT → first_at table x y < i
+      → IsEarly leaf layer_of_move n i x y
+  pub complete : (i x y : ℕ) → i < 2 ^ 16 → x < STATE_LIMIT → y < STATE_LIMIT → IsEarly leaf layer_of_move n i x y
+      → first_at table x y < i
 
 -- whether a layer before i has a non-silent move that takes x and y
 abbrev pub is_early : List ℕ → ℕ → ℕ → ℕ → Bool
@@ -57,17 +60,20 @@ wakes_with_state early t m o = not (early t.p t.q || (not (brings_two_states t m
 
 -- whether t wakes a move that takes x and y
 abbrev pub wakes_states : (ℕ → ℕ → Bool) → Move → ℕ → ℕ → Bool
-wakes_states early t x y = if brings_state t x then wakes_with_state early t x y else (brings_state t y && wakes_with_state early t y x)
+wakes_states early t x y =
+    if brings_state t x then wakes_with_state early t x y else (brings_state t y && wakes_with_state early t y x)
 
 -- whether t, in layer i, wakes the move with number m, of an earlier layer
 abbrev pub wakes_numbered : LeafModel → List (Option ℕ) → List ℕ → ℕ → Move → ℕ → Bool
 wakes_numbered leaf layer_of_move table i t m =
-    some_move (λ u. some_layer (λ j. nat_lt j i && wakes_states (is_early table i) t u.p u.q) (layer_of layer_of_move m)) (slice_get leaf.moves m)
+    some_move (λ u. some_layer (λ j. nat_lt j i
+    && wakes_states (is_early table i) t u.p u.q) (layer_of layer_of_move m)) (slice_get leaf.moves m)
 
 -- whether the move with number n wakes the move with number m, of an earlier layer
 abbrev pub wakes_at : LeafModel → List (Option ℕ) → List ℕ → ℕ → ℕ → Bool
 wakes_at leaf layer_of_move table n m =
-    some_move (λ t. some_layer (λ i. wakes_numbered leaf layer_of_move table i t m) (layer_of layer_of_move n)) (slice_get leaf.moves n)
+    some_move (λ t. some_layer (λ i. wakes_numbered leaf layer_of_move table i t m) (layer_of layer_of_move n))
+    (slice_get leaf.moves n)
 
 -- whether t wakes an early move that takes x and y
 abbrev pub wakes_early : (ℕ → ℕ → Bool) → Move → ℕ → ℕ → Bool

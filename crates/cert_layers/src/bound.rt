@@ -1,16 +1,15 @@
 //! The bound of the layers.
 
-ghost use Rattle.std.specs.Prelude.{◌≡◌, ◌≤◌, ◌*◌, length, All, fold};
+ghost use Rattle.std.specs.Prelude.{◌≡◌, ◌≤◌, ◌*◌, All, fold};
 ghost use Rattle.std.specs.Int.{int_max, int_min};
 ghost use Rattle.cert_base.specs.ProofBound.{weights_spread, layers_bound};
-ghost use Rattle.cert_layers.specs.LayerFaults.{IsWeight};
+ghost use Rattle.cert_layers.specs.LayerFaults.{IsWeight, AreLayersWithin};
 
-use cert_base::{LAYER_LIMIT, Layer, SIZE_LIMIT};
+use cert_base::{Layer, SIZE_LIMIT};
 
 /// The sum, over the layers, of the greatest weight less the least.
 pub fn bound_of(layers: &[Layer]) -> u64
-    requires few { length layers.now ≤ LAYER_LIMIT }
-    requires small { All (λ layer. All IsWeight layer.weights) layers.now }
+    requires { AreLayersWithin layers.now }
     ensures { result ≡ layers_bound layers.now }
 {
     let mut bound = 0u64;

@@ -1,11 +1,11 @@
 //! The check of the layers of a leaf.
 
-ghost use Rattle.std.specs.Prelude.{◌≡◌, ◌≤◌, length, All, IfOk, IfErr, OnOk};
+ghost use Rattle.std.specs.Prelude.{◌≡◌, IfOk, IfErr, OnOk};
 ghost use Rattle.pop_net.specs.LeafModel.{IsLeaf};
 ghost use Rattle.cert_layers.specs.MoveLayers.{AreMoveLayers};
 ghost use Rattle.cert_base.specs.ValidLayers.{ValidLayers};
 ghost use Rattle.cert_base.specs.ProofBound.{layers_bound};
-ghost use Rattle.cert_layers.specs.LayerFaults.{IsLayerFault, IsWeight, EndsWithin};
+ghost use Rattle.cert_layers.specs.LayerFaults.{IsLayerFault, AreLayersWithin, ChecksLayers};
 
 use crate::bound::bound_of;
 use crate::fault::LayerFault;
@@ -13,7 +13,7 @@ use crate::lower::{first_not_lower, first_unlisted};
 use crate::move_layers::layers_of_moves;
 use crate::pairs::pair_table;
 use crate::waking::first_waking;
-use cert_base::{LAYER_LIMIT, Layer};
+use cert_base::Layer;
 use pop_io::List;
 use pop_net::Leaf;
 use std::alloc::Global;
@@ -22,20 +22,14 @@ use std::alloc::Global;
 /// Esparza, Jaax, Meyer 2017). A move wakes another only where it brings one of its states, so pairs of
 /// moves are looked at by their states.
 pub fn check_layers(alloc: Global, leaf: &Leaf, layers: &List<Layer>) -> Result<u64, LayerFault>
-    requires few { length layers.now ≤ LAYER_LIMIT }
-    requires small { All (λ layer. All IsWeight layer.weights) layers.now }
-    ensures valid { IfOk result (λ bound. ValidLayers leaf.now layers.now × (bound ≡ layers_bound layers.now)) }
-    ensures fault { IfErr result (IsLayerFault leaf.now layers.now) }
-    ensures accepts { ValidLayers leaf.now layers.now → IfErr result (λ fault. fault ≡ LayerFault.NoMemory) }
-    // Every crowd of the leaf can be brought to an end, within so many steps for each agent.
-    ensures ends { IfOk result (EndsWithin leaf.now) }
+    requires { AreLayersWithin layers.now }
+    ensures { ChecksLayers leaf.now layers.now result }
 {
     checked(alloc, leaf, layers.as_slice())
 }
 
 fn checked(alloc: Global, leaf: &Leaf, layers: &[Layer]) -> Result<u64, LayerFault>
-    requires few { length layers.now ≤ LAYER_LIMIT }
-    requires small { All (λ layer. All IsWeight layer.weights) layers.now }
+    requires { AreLayersWithin layers.now }
     ensures valid { IfOk result (λ bound. ValidLayers leaf.now layers.now × (bound ≡ layers_bound layers.now)) }
     ensures fault { IfErr result (IsLayerFault leaf.now layers.now) }
     ensures formed { IsLeaf leaf.now }
@@ -52,8 +46,7 @@ fn check_moves(
     layers: &[Layer],
     layer_of_move: &[Option<u16>],
 ) -> Result<(), LayerFault>
-    requires few { length layers.now ≤ LAYER_LIMIT }
-    requires small { All (λ layer. All IsWeight layer.weights) layers.now }
+    requires within { AreLayersWithin layers.now }
     requires formed { IsLeaf leaf.now }
     requires placed { AreMoveLayers leaf.now layers.now layer_of_move.now }
     ensures valid { OnOk result (ValidLayers leaf.now layers.now) }

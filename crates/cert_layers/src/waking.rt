@@ -4,7 +4,7 @@
 //! wakes u unless a move of a layer before i was enabled on the states that t takes and those of u that t doesn't
 //! bring: one that takes both states of t, or, where t doesn't bring o beside m, one that takes o and a state of t.
 
-ghost use Rattle.std.specs.Prelude.{◌≡◌, ◌<◌, ◌≤◌, length, Option, Some, slice_get};
+ghost use Rattle.std.specs.Prelude.{◌≡◌, ◌<◌, ◌≤◌, length, Some};
 ghost use Rattle.std.specs.List.{list_any, range_with_len};
 ghost use Rattle.pop_net.specs.FirstFault.{first_below};
 ghost use Rattle.pop_net.specs.LeafModel.{IsLeaf, IsMoveBelow};

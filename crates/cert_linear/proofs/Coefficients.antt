@@ -1,12 +1,10 @@
 -- The coefficients of a row whose terms are entered one by one, and of a sum of rows.
-use Rattle.std.proofs.Common.{◌≡◌, ◌≢◌, ◌⊎◌, inl, inr, ℕ, zero, suc, ◌+◌, ◌<◌, ◌≤◌, Bool, true, false, List, [], ◌∷◌, ◌++◌, map, length, get_or, take, ◌^◌, add-one, refl, ap, sym, ◌∙◌, arith}
+use Rattle.std.proofs.Common.{◌≡◌, ◌≢◌, ◌⊎◌, inl, inr, ℕ, zero, suc, ◌+◌, ◌<◌, ◌≤◌, true, false, List, [], ◌∷◌, length, get_or, take, add-one, refl, ap, sym, ◌∙◌, arith}
 use Rattle.std.specs.Prelude.{ℤ, pos, negsuc, ◌+ℤ◌, ◌*ℤ◌, ◌==◌, if◌then◌else◌, nat_abs, slice_get}
 use Rattle.std.proofs.lemmas.Int.{ints, to_z-of_z}
 use mir.Val.{SFits, of_z, to_z}
 use mir.Syntax.{w128}
-use Rattle.std.proofs.Math.IntN.{*ℤ-zero}
 use Rattle.std.proofs.lemmas.List.{take_all}
-use Rattle.cert_base.proofs.Integers.{mul-add}
 use Rattle.std.proofs.lemmas.Bool.Decides.{eqb_tells}
 use Rattle.cert_base.specs.declared.fact.Term.{Term}
 use Rattle.cert_base.specs.declared.fact.Row.{Row}
@@ -15,18 +13,13 @@ use Rattle.cert_base.specs.ClosingTests.{times, add_rows, coefficient_in, scaled
 use Rattle.cert_linear.specs.declared.sum.Sum.{Sum}
 use Rattle.cert_linear.specs.Conditions.{AreAscending}
 use Rattle.cert_linear.specs.Sums.{coefficient_of, IsSum, IsPlus, IsSame, IsSumWithin}
-
--- the terms, each times a number
-abbrev pub multiplied : ℤ → List Term → List Term
-multiplied a ts = map (λ t. record { at = t.at; by = a *ℤ t.by }) ts
+use Rattle.cert_base.proofs.WeightedSums.{multiplied, coefficient-append, coefficient-times}
+use Rattle.list_laws.proofs.Numbers.{size-add}
+use Rattle.cert_linear.specs.declared.sum.TheConstants.{PRODUCT_LIMIT, ROOM_LIMIT, ENTER_LIMIT, REST_LIMIT, ENTRY_LIMIT}
 
 -- what a term brings to the coefficient of a variable
 abbrev pub of_term : ℕ → ℤ → ℕ → ℤ
 of_term variable by q = if variable == q then by else pos 0
-
-pub coefficient-append : (ts us : List Term) (q : ℕ) → coefficient_in (ts ++ us) q ≡ (coefficient_in ts q +ℤ coefficient_in us q)
-coefficient-append [] us q = omega (arith, ints)
-coefficient-append (t ∷ ts) us q = let e = coefficient-append ts us q in omega (arith, ints, e)
 
 more_at : (a : ℤ) (ts : List Term) (k : ℕ) (d : Term) → k < length ts → (q : ℕ) → coefficient_in (multiplied a (take (suc k) ts)) q ≡ (coefficient_in (multiplied a (take k ts)) q +ℤ of_term (get_or ts k d).at (a *ℤ (get_or ts k d).by) q)
 more_at a [] k d l q = absurd (omega arith)
@@ -48,18 +41,6 @@ coefficient-before a (t ∷ ts) (suc k) d up l =
     other : ((t.at == (get_or ts k d).at) ≡ true) × (t.at ≡ (get_or ts k d).at) ⊎ ((t.at == (get_or ts k d).at) ≡ false) × (t.at ≢ (get_or ts k d).at) → t.at < (get_or ts k d).at → coefficient_in (multiplied a (take k ts)) (get_or ts k d).at ≡ pos 0 → coefficient_in (multiplied a (t ∷ take k ts)) (get_or ts k d).at ≡ pos 0
     other (inl h) below rest = absurd (omega (arith, h.1))
     other (inr h) below rest = rw (h.0, rest) refl
-
-pub coefficient-times : (a : ℤ) (ts : List Term) (q : ℕ) → coefficient_in (multiplied a ts) q ≡ (a *ℤ coefficient_in ts q)
-coefficient-times a [] q = sym (*ℤ-zero a)
-coefficient-times a (t ∷ ts) q =
-    let e = coefficient-times a ts q in
-    let f = mul-add a (of_term t.at t.by q) (coefficient_in ts q) in
-    let g = of_term-times (t.at == q) in
-    omega (arith, ints, e, f, g)
-  where
-    of_term-times : (same : Bool) → (if same then (a *ℤ t.by) else pos 0) ≡ (a *ℤ (if same then t.by else pos 0))
-    of_term-times true = refl
-    of_term-times false = sym (*ℤ-zero a)
 
 -- a sum plus a row is the sum of both rows
 pub plus_row : (row other : Row) (sum more : Sum) → IsSum row sum → IsPlus other sum more → IsSum (add_rows row other) more
@@ -102,30 +83,17 @@ sum_step facts ts k d sum more l is plus =
 pub record IsEntered (a : ℤ) (entered : List Term) (sum more : Sum) : Type 0 where
   pub terms : (q : ℕ) → coefficient_of more q ≡ (coefficient_of sum q +ℤ coefficient_in (multiplied a entered) q)
   pub constant : more.constant ≡ sum.constant
-  pub size : (size : ℕ) → IsSumWithin size sum → (q : ℕ) → nat_abs (coefficient_of more q) ≤ size + 2 ^ 103
-
-pub size-add : (a b : ℤ) → nat_abs (a +ℤ b) ≤ nat_abs a + nat_abs b
-size-add (pos a) (pos b) = omega arith
-size-add (pos a) (negsuc b) = omega (arith, ints)
-size-add (negsuc a) (pos b) = omega (arith, ints)
-size-add (negsuc a) (negsuc b) = omega arith
-
-none_entered : (a : ℤ) (sum : Sum) → IsEntered a [] sum sum
-none_entered a sum = record {
-  terms = λ q. omega (arith, ints);
-  constant = refl;
-  size = λ size is q. omega (arith, is.terms q);
-}
+  pub size : (size : ℕ) → IsSumWithin size sum → (q : ℕ) → nat_abs (coefficient_of more q) ≤ size + PRODUCT_LIMIT
 
 -- one more term is entered
-pub entered_more : (a : ℤ) (ts : List Term) (k : ℕ) (d : Term) (sum mid more : Sum) → AreAscending ts → k < length ts → nat_abs (a *ℤ (get_or ts k d).by) ≤ 2 ^ 103 → IsEntered a (take k ts) sum mid → ((q : ℕ) → coefficient_of more q ≡ (coefficient_of mid q +ℤ of_term (get_or ts k d).at (a *ℤ (get_or ts k d).by) q)) → more.constant ≡ mid.constant → IsEntered a (take (k + 1) ts) sum more
+pub entered_more : (a : ℤ) (ts : List Term) (k : ℕ) (d : Term) (sum mid more : Sum) → AreAscending ts → k < length ts → nat_abs (a *ℤ (get_or ts k d).by) ≤ PRODUCT_LIMIT → IsEntered a (take k ts) sum mid → ((q : ℕ) → coefficient_of more q ≡ (coefficient_of mid q +ℤ of_term (get_or ts k d).at (a *ℤ (get_or ts k d).by) q)) → more.constant ≡ mid.constant → IsEntered a (take (k + 1) ts) sum more
 entered_more a ts k d sum mid more up l small is step same = record {
   terms = λ q. let e = coefficient-more a ts k d l q in let f = step q in let g = is.terms q in omega (arith, ints, e, f, g);
   constant = same ∙ is.constant;
   size = λ size within q. size_at q size within (eqb_tells (get_or ts k d).at q);
 }
   where
-    size_at : (q size : ℕ) → IsSumWithin size sum → (((get_or ts k d).at == q) ≡ true) × ((get_or ts k d).at ≡ q) ⊎ (((get_or ts k d).at == q) ≡ false) × ((get_or ts k d).at ≢ q) → nat_abs (coefficient_of more q) ≤ size + 2 ^ 103
+    size_at : (q size : ℕ) → IsSumWithin size sum → (((get_or ts k d).at == q) ≡ true) × ((get_or ts k d).at ≡ q) ⊎ (((get_or ts k d).at == q) ≡ false) × ((get_or ts k d).at ≢ q) → nat_abs (coefficient_of more q) ≤ size + PRODUCT_LIMIT
     size_at q size within (inl h) =
         let before = coefficient-before a ts k d up l in
         let there : coefficient_in (multiplied a (take k ts)) q ≡ pos 0 = rw (← h.1) before in
@@ -142,27 +110,27 @@ entered_more a ts k d sum mid more up l small is step same = record {
         let whole : coefficient_of more q ≡ coefficient_of mid q = omega (arith, ints, term_is, f) in
         rw whole (is.size size within q)
 
-pub entered_step : (a : ℤ) (ts : List Term) (k : ℕ) (d : Term) (sum mid more : Sum) (by : ℤ) → AreAscending ts → k < length ts → by ≡ (a *ℤ (get_or ts k d).by) → nat_abs by ≤ 2 ^ 103 → IsEntered a (take k ts) sum mid → ((q : ℕ) → coefficient_of more q ≡ (coefficient_of mid q +ℤ of_term (get_or ts k d).at by q)) → more.constant ≡ mid.constant → IsEntered a (take (k + 1) ts) sum more
+pub entered_step : (a : ℤ) (ts : List Term) (k : ℕ) (d : Term) (sum mid more : Sum) (by : ℤ) → AreAscending ts → k < length ts → by ≡ (a *ℤ (get_or ts k d).by) → nat_abs by ≤ PRODUCT_LIMIT → IsEntered a (take k ts) sum mid → ((q : ℕ) → coefficient_of more q ≡ (coefficient_of mid q +ℤ of_term (get_or ts k d).at by q)) → more.constant ≡ mid.constant → IsEntered a (take (k + 1) ts) sum more
 entered_step a ts k d sum mid more by up l same small is step constant =
     entered_more a ts k d sum mid more up l (rw (← same) small) is (λ q. step q ∙ ap (λ z. coefficient_of mid q +ℤ of_term (get_or ts k d).at z q) same) constant
 
-fits_small : (z : ℤ) → nat_abs z ≤ 2 ^ 122 → SFits w128 z
+fits_small : (z : ℤ) → nat_abs z ≤ REST_LIMIT → SFits w128 z
 fits_small (pos n) l = record { sfits = omega arith }
 fits_small (negsuc n) l = record { sfits = omega arith }
 
-pub sum_fits : (x y : ℤ) → nat_abs x ≤ 2 ^ 120 → nat_abs y ≤ 2 ^ 103 → to_z w128 (of_z w128 (to_z w128 (of_z w128 x) +ℤ to_z w128 (of_z w128 y))) ≡ (x +ℤ y)
+pub sum_fits : (x y : ℤ) → nat_abs x ≤ ROOM_LIMIT → nat_abs y ≤ PRODUCT_LIMIT → to_z w128 (of_z w128 (to_z w128 (of_z w128 x) +ℤ to_z w128 (of_z w128 y))) ≡ (x +ℤ y)
 sum_fits x y l m =
     let bound = size-add x y in
     let both = to_z-of_z w128 (x +ℤ y) (fits_small (x +ℤ y) (omega (arith, bound))) in
     rw (to_z-of_z w128 x (fits_small x (omega arith)), to_z-of_z w128 y (fits_small y (omega arith))) both
 
-pub rest_fits : (x y : ℤ) → nat_abs x ≤ 2 ^ 121 + 2 ^ 31 → nat_abs y ≤ 2 ^ 103 → to_z w128 (of_z w128 (to_z w128 (of_z w128 x) +ℤ to_z w128 (of_z w128 y))) ≡ (x +ℤ y)
+pub rest_fits : (x y : ℤ) → nat_abs x ≤ ENTER_LIMIT + ENTRY_LIMIT → nat_abs y ≤ PRODUCT_LIMIT → to_z w128 (of_z w128 (to_z w128 (of_z w128 x) +ℤ to_z w128 (of_z w128 y))) ≡ (x +ℤ y)
 rest_fits x y l m =
     let bound = size-add x y in
     let both = to_z-of_z w128 (x +ℤ y) (fits_small (x +ℤ y) (omega (arith, bound))) in
     rw (to_z-of_z w128 x (fits_small x (omega arith)), to_z-of_z w128 y (fits_small y (omega arith))) both
 
-pub rest_in_range : (x y : ℤ) → nat_abs x ≤ 2 ^ 121 + 2 ^ 31 → nat_abs y ≤ 2 ^ 103 → SFits w128 (to_z w128 (of_z w128 x) +ℤ to_z w128 (of_z w128 y))
+pub rest_in_range : (x y : ℤ) → nat_abs x ≤ ENTER_LIMIT + ENTRY_LIMIT → nat_abs y ≤ PRODUCT_LIMIT → SFits w128 (to_z w128 (of_z w128 x) +ℤ to_z w128 (of_z w128 y))
 rest_in_range x y l m =
     let bound = size-add x y in
     rw (to_z-of_z w128 x (fits_small x (omega arith)), to_z-of_z w128 y (fits_small y (omega arith))) (fits_small (x +ℤ y) (omega (arith, bound)))
@@ -174,7 +142,7 @@ entered_all a row sum mid more k l is same constant = record {
   constant = constant ∙ ap (λ z. z +ℤ (a *ℤ row.constant)) is.constant;
 }
 
-pub entered_size : (a : ℤ) (entered : List Term) (sum mid more : Sum) (by : ℤ) → IsEntered a entered sum mid → ((q : ℕ) → coefficient_of more q ≡ coefficient_of mid q) → more.constant ≡ (mid.constant +ℤ by) → nat_abs by ≤ 2 ^ 103 → (size : ℕ) → IsSumWithin size sum → IsSumWithin (size + 2 ^ 103) more
+pub entered_size : (a : ℤ) (entered : List Term) (sum mid more : Sum) (by : ℤ) → IsEntered a entered sum mid → ((q : ℕ) → coefficient_of more q ≡ coefficient_of mid q) → more.constant ≡ (mid.constant +ℤ by) → nat_abs by ≤ PRODUCT_LIMIT → (size : ℕ) → IsSumWithin size sum → IsSumWithin (size + PRODUCT_LIMIT) more
 entered_size a entered sum mid more by is same constant small size within = record {
   terms = λ q. rw (same q) (is.size size within q);
   constant = let bound = size-add mid.constant by in let e = is.constant in let f = within.constant in rw constant (omega (arith, bound, small, ap nat_abs e, f));

@@ -1,37 +1,28 @@
 -- Entries of which the touched ones are listed.
 use Rattle.std.proofs.Common.{◌≡◌, ◌≢◌, ◌⊎◌, inl, inr, ℕ, zero, suc, ◌+◌, ◌<◌, ◌≤◌, Bool, true, false, List, [], ◌∷◌, ◌++◌, length, take, refl, ap, sym, ◌∙◌, subst, arith}
-use Rattle.std.specs.Prelude.{ℤ, pos, ◌+ℤ◌, nat_abs, int_le, slice_get, Some, ◌^◌, ◌==◌, if◌then◌else◌, ◌&&◌, All, Contains, slice_index_or, slice_set}
+use Rattle.std.specs.Prelude.{ℤ, pos, ◌+ℤ◌, nat_abs, int_le, slice_get, Some, ◌==◌, if◌then◌else◌, ◌&&◌, All, Contains, slice_index_or, slice_set}
 use Rattle.std.specs.List.{list_all}
 use Rattle.std.proofs.lemmas.Int.{ints}
 use Rattle.std.proofs.lemmas.Bool.Decides.{eqb_tells}
-use Rattle.std.proofs.lemmas.List.{length-append, get_or-set_same, get_or-set_other, get_or_past, get_or_append_left, get_or_default}
+use Rattle.std.proofs.lemmas.List.{length-append, get_or-set_same, get_or-set_other, get_or_default}
 use Rattle.std.proofs.lemmas.Option.{slice_get_read}
-use Rattle.std.proofs.lemmas.List.Elements.{Contains-append_left, Contains-append_right, Contains-append_cases, All-push}
+use Rattle.std.proofs.lemmas.List.Elements.{Contains-append_left, All-push}
 use Rattle.std.proofs.lemmas.List.Sums.{AllPass-from_list_all, list_all-from_AllPass}
 use Rattle.std.proofs.Math.ListN.{length-set}
 use Rattle.cert_base.specs.declared.fact.Row.{Row}
 use Rattle.cert_base.specs.ClosingTests.{coefficient_in, each_coefficient}
-use Rattle.cert_base.proofs.FlowRows.{take_one_more}
 use Rattle.cert_linear.specs.declared.sum.Entry.{Entry}
 use Rattle.cert_linear.specs.declared.sum.Sum.{Sum}
 use Rattle.cert_linear.specs.Sums.{blank, entry_at, rest_at, coefficient_of, AreTidy, AreRests, IsTidy, IsSum, AreSum, IsListedIfPositive, HasAllPositive}
 use Rattle.pop_net.proofs.Reactions.{and_left, and_right}
 use Rattle.cert_linear.proofs.RowValues.{each_coefficient-at}
-use Rattle.cert_linear.proofs.Coefficients.{size-add}
+use Rattle.list_laws.proofs.Lists.{take_one_more}
+use Rattle.list_laws.proofs.Numbers.{size-add}
+use Rattle.list_laws.proofs.Truth.{both_ways}
+use Rattle.cert_linear.specs.declared.sum.TheConstants.{PRODUCT_LIMIT, ENTER_LIMIT, REST_LIMIT, ENTRY_LIMIT}
 
 abbrev Tells : ℕ → ℕ → Type 0
 Tells m n = ((m == n) ≡ true) × (m ≡ n) ⊎ ((m == n) ≡ false) × (m ≢ n)
-
-only : (x q : ℕ) → Contains (x ∷ []) q → x ≡ q
-only x q (zero, l, is) = is
-only x q (suc k, l, is) = absurd (omega (arith, l))
-
-last : (xs : List ℕ) (x : ℕ) → Contains (xs ++ x ∷ []) x
-last xs x = Contains-append_right xs (x ∷ []) x (0, (let l : 0 < 1 = omega arith in l), refl)
-
--- an entry past the end is blank
-pub at_past : (entries : List Entry) (q : ℕ) → length entries ≤ q → entry_at entries q ≡ blank
-at_past entries q l = get_or_past entries q blank l
 
 pub push-at : (entries : List Entry) (q : ℕ) → entry_at (entries ++ blank ∷ []) q ≡ entry_at entries q
 push-at [] zero = refl
@@ -52,53 +43,6 @@ set-same entries x e l = get_or-set_same entries x e blank l
 
 pub set-other : (entries : List Entry) (x q : ℕ) (e : Entry) → x ≢ q → entry_at (slice_set entries x e) q ≡ entry_at entries q
 set-other entries x q e ne = get_or-set_other entries x q e blank (λ same. ne (sym same))
-
--- the last that was touched is blank again
-pub tidy-blank : (entries : List Entry) (rest : List ℕ) (x : ℕ) → AreTidy entries (rest ++ x ∷ []) → AreTidy (slice_set entries x blank) rest
-tidy-blank entries rest x t = record {
-  within = λ k d l. let h = within_rest k d l in omega (arith, h, length-set entries x blank);
-  zero = λ q e. zero_at q e (eqb_tells x q);
-  listed = λ q e. listed_at q e (eqb_tells x q);
-}
-  where
-    inside : x < length entries
-    inside = at (last rest x)
-      where
-        at : Contains (rest ++ x ∷ []) x → x < length entries
-        at (k, l, is) = subst (λ (n : ℕ). n < length entries) is (t.within k x l)
-
-    within_rest : All (λ q. q < length entries) rest
-    within_rest k d l =
-        let before : slice_index_or (rest ++ x ∷ []) k d ≡ slice_index_or rest k d = get_or_append_left rest (x ∷ []) d k l in
-        subst (λ (n : ℕ). n < length entries) before (t.within k d (let m : k < length (rest ++ x ∷ []) = omega (arith, l, length-append rest (x ∷ [])) in m))
-
-    zero_at : (q : ℕ) → (entry_at (slice_set entries x blank) q).touched ≡ false → Tells x q → (entry_at (slice_set entries x blank) q).sum ≡ pos 0
-    zero_at q e (inl h) = ap (λ n. (entry_at (slice_set entries x blank) n).sum) (sym h.1) ∙ ap (λ (f : Entry). f.sum) (set-same entries x blank inside)
-    zero_at q e (inr h) =
-        let same = set-other entries x q blank h.1 in
-        ap (λ (f : Entry). f.sum) same ∙ t.zero q (sym (ap (λ (f : Entry). f.touched) same) ∙ e)
-
-    listed_at : (q : ℕ) → (entry_at (slice_set entries x blank) q).touched ≡ true → Tells x q → Contains rest q
-    listed_at q e (inl h) =
-        let clash : false ≡ true = sym (ap (λ n. (entry_at (slice_set entries x blank) n).touched) (sym h.1) ∙ ap (λ (f : Entry). f.touched) (set-same entries x blank inside)) ∙ e in
-        cc
-    listed_at q e (inr h) =
-        let same = set-other entries x q blank h.1 in
-        elim (Contains-append_cases rest (x ∷ []) q (t.listed q (sym (ap (λ (f : Entry). f.touched) same) ∙ e))) [
-          | inl c ↦ c
-          | inr c ↦ absurd (h.1 (only x q c))
-        ]
-
--- where nothing is listed, all is 0
-pub none-touched : (entries : List Entry) → AreTidy entries [] → (q : ℕ) → (entry_at entries q).sum ≡ pos 0
-none-touched entries t q = go (entry_at entries q).touched refl
-  where
-    none : Contains [] q → ⊥
-    none (k, l, is) = omega (arith, l)
-
-    go : (b : Bool) → (entry_at entries q).touched ≡ b → (entry_at entries q).sum ≡ pos 0
-    go false e = t.zero q e
-    go true e = absurd (none (t.listed q e))
 
 -- an entry is written that is listed
 pub tidy-set : (entries : List Entry) (touched : List ℕ) (x : ℕ) (e : Entry) → AreTidy entries touched → x < length entries → e.touched ≡ true → Contains touched x → AreTidy (slice_set entries x e) touched
@@ -141,14 +85,6 @@ sum-grown entries x e by inside grown q = go (eqb_tells x q)
         let same = ap (λ (f : Entry). f.sum) (set-other entries x q e h.1) in
         rw h.0 (omega (arith, ints, same))
 
--- the sums stay where an entry's sum does
-pub sum-kept : (entries : List Entry) (x : ℕ) (e : Entry) → x < length entries → e.sum ≡ (entry_at entries x).sum → (q : ℕ) → (entry_at (slice_set entries x e) q).sum ≡ (entry_at entries q).sum
-sum-kept entries x e inside kept q = go (eqb_tells x q)
-  where
-    go : Tells x q → (entry_at (slice_set entries x e) q).sum ≡ (entry_at entries q).sum
-    go (inl h) = rw (← h.1) (ap (λ (f : Entry). f.sum) (set-same entries x e inside) ∙ kept)
-    go (inr h) = ap (λ (f : Entry). f.sum) (set-other entries x q e h.1)
-
 -- an entry that is listed grows
 pub entry_grows : (entries : List Entry) (touched : List ℕ) (x : ℕ) (here e : Entry) (by total : ℤ) → AreTidy entries touched → x < length entries → here ≡ entry_at entries x → here.touched ≡ true → e ≡ record { sum = total; touched = here.touched } → total ≡ (here.sum +ℤ by) → AreTidy (slice_set entries x e) touched × ((q : ℕ) → (entry_at (slice_set entries x e) q).sum ≡ ((entry_at entries q).sum +ℤ (if x == q then by else pos 0)))
 entry_grows entries touched x here e by total t inside is marked e_is total_is =
@@ -163,17 +99,6 @@ entry_grows entries touched x here e by total t inside is marked e_is total_is =
 pub untouched-zero : (sum : Sum) (q : ℕ) → IsTidy sum → (entry_at sum.entries.items q).touched ≡ false → coefficient_of sum q ≡ pos 0
 untouched-zero sum q tidy f =
     let e = tidy.0.zero q f in let r = tidy.1.zero q f in omega (arith, ints, e, r)
-
--- where nothing is listed, all rests are 0
-pub no-rests : (entries : List Entry) (rests : List ℤ) → AreTidy entries [] → AreRests entries rests → (q : ℕ) → rest_at rests q ≡ pos 0
-no-rests entries rests t r q = go (entry_at entries q).touched refl
-  where
-    none : Contains [] q → ⊥
-    none (k, l, is) = omega (arith, l)
-
-    go : (b : Bool) → (entry_at entries q).touched ≡ b → rest_at rests q ≡ pos 0
-    go false e = r.zero q e
-    go true e = absurd (none (t.listed q e))
 
 -- one more blank entry
 pub rests-push : (entries : List Entry) (rests : List ℤ) → AreRests entries rests → AreRests (entries ++ blank ∷ []) rests
@@ -195,24 +120,8 @@ rests-set entries rests x e r inside marked = record {
         cc
     zero_at q h (inr k) = r.zero q (sym (ap (λ (f : Entry). f.touched) (set-other entries x q e k.1)) ∙ h)
 
--- an entry is blank again, and so is its rest
-pub rests-blank : (entries : List Entry) (rests after : List ℤ) (x : ℕ) → AreRests entries rests → x < length entries → ((q : ℕ) → rest_at after q ≡ (if x == q then pos 0 else rest_at rests q)) → AreRests (slice_set entries x blank) after
-rests-blank entries rests after x r inside is = record {
-  zero = λ q h. zero_at q h (eqb_tells x q);
-  small = λ q. small_at q (eqb_tells x q);
-}
-  where
-    zero_at : (q : ℕ) → (entry_at (slice_set entries x blank) q).touched ≡ false → Tells x q → rest_at after q ≡ pos 0
-    zero_at q h (inl k) = is q ∙ ap (λ b. if b then pos 0 else rest_at rests q) k.0
-    zero_at q h (inr k) =
-        is q ∙ ap (λ b. if b then pos 0 else rest_at rests q) k.0 ∙ r.zero q (sym (ap (λ (f : Entry). f.touched) (set-other entries x q blank k.1)) ∙ h)
-
-    small_at : (q : ℕ) → Tells x q → nat_abs (rest_at after q) ≤ 2 ^ 122
-    small_at q (inl k) = rw (is q ∙ ap (λ b. if b then pos 0 else rest_at rests q) k.0) (omega arith)
-    small_at q (inr k) = rw (is q ∙ ap (λ b. if b then pos 0 else rest_at rests q) k.0) (r.small q)
-
 -- the rest of a touched entry grows
-pub rests-grown : (entries : List Entry) (rests after : List ℤ) (x : ℕ) (by : ℤ) → AreRests entries rests → (entry_at entries x).touched ≡ true → ((q : ℕ) → rest_at after q ≡ (rest_at rests q +ℤ (if x == q then by else pos 0))) → nat_abs (rest_at after x) ≤ 2 ^ 122 → AreRests entries after
+pub rests-grown : (entries : List Entry) (rests after : List ℤ) (x : ℕ) (by : ℤ) → AreRests entries rests → (entry_at entries x).touched ≡ true → ((q : ℕ) → rest_at after q ≡ (rest_at rests q +ℤ (if x == q then by else pos 0))) → nat_abs (rest_at after x) ≤ REST_LIMIT → AreRests entries after
 rests-grown entries rests after x by r marked is bound = record {
   zero = λ q h. zero_at q h (eqb_tells x q);
   small = λ q. small_at q (eqb_tells x q);
@@ -227,12 +136,12 @@ rests-grown entries rests after x by r marked is bound = record {
         cc
     zero_at q h (inr k) = other q k.0 ∙ r.zero q h
 
-    small_at : (q : ℕ) → Tells x q → nat_abs (rest_at after q) ≤ 2 ^ 122
+    small_at : (q : ℕ) → Tells x q → nat_abs (rest_at after q) ≤ REST_LIMIT
     small_at q (inl k) = rw (← k.1) bound
     small_at q (inr k) = rw (other q k.0) (r.small q)
 
 -- what is added to a rest is added to the coefficient
-pub rest_grows : (entries after : List Entry) (rests mid : List ℤ) (x : ℕ) (here by total : ℤ) → AreRests entries rests → after ≡ entries → ((q : ℕ) → rest_at mid q ≡ rest_at rests q) → x < length mid → here ≡ rest_at mid x → total ≡ (here +ℤ by) → (entry_at entries x).touched ≡ true → nat_abs by ≤ 2 ^ 103 → nat_abs (rest_at rests x) ≤ 2 ^ 121 + 2 ^ 31 → ((q : ℕ) → ((entry_at after q).sum +ℤ rest_at (slice_set mid x total) q) ≡ (((entry_at entries q).sum +ℤ rest_at rests q) +ℤ (if x == q then by else pos 0))) × AreRests after (slice_set mid x total)
+pub rest_grows : (entries after : List Entry) (rests mid : List ℤ) (x : ℕ) (here by total : ℤ) → AreRests entries rests → after ≡ entries → ((q : ℕ) → rest_at mid q ≡ rest_at rests q) → x < length mid → here ≡ rest_at mid x → total ≡ (here +ℤ by) → (entry_at entries x).touched ≡ true → nat_abs by ≤ PRODUCT_LIMIT → nat_abs (rest_at rests x) ≤ ENTER_LIMIT + ENTRY_LIMIT → ((q : ℕ) → ((entry_at after q).sum +ℤ rest_at (slice_set mid x total) q) ≡ (((entry_at entries q).sum +ℤ rest_at rests q) +ℤ (if x == q then by else pos 0))) × AreRests after (slice_set mid x total)
 rest_grows entries after rests mid x here by total r same kept inside is grown marked small room =
     (λ q. let e = grows q in let f = ap (λ es. (entry_at es q).sum) same in omega (arith, ints, e, f), subst (λ es. AreRests es (slice_set mid x total)) (sym same) (rests-grown entries rests (slice_set mid x total) x by r marked grows bound))
   where
@@ -242,11 +151,11 @@ rest_grows entries after rests mid x here by total r same kept inside is grown m
     at_x : rest_at (slice_set mid x total) x ≡ total
     at_x = get_or-set_same mid x total (pos 0) inside
 
-    bound : nat_abs (rest_at (slice_set mid x total) x) ≤ 2 ^ 122
+    bound : nat_abs (rest_at (slice_set mid x total) x) ≤ REST_LIMIT
     bound =
         let add = size-add here by in
         let whole : rest_at (slice_set mid x total) x ≡ (here +ℤ by) = at_x ∙ grown in
-        let old : nat_abs here ≤ 2 ^ 121 + 2 ^ 31 = rw here_is room in
+        let old : nat_abs here ≤ ENTER_LIMIT + ENTRY_LIMIT = rw here_is room in
         rw whole (omega (arith, add, old, small))
 
     grows_at : (q : ℕ) → Tells x q → rest_at (slice_set mid x total) q ≡ (rest_at rests q +ℤ (if x == q then by else pos 0))
@@ -264,11 +173,6 @@ coefficient_grows sum x here e by total tidy inside is marked e_is total_is =
     let grows = entry_grows sum.entries.items sum.touched.items x here e by total tidy.0 inside is marked e_is total_is in
     let e_marked : e.touched ≡ true = ap (λ (f : Entry). f.touched) e_is ∙ marked in
     ((grows.0, rests-set sum.entries.items sum.rests.items x e tidy.1 inside e_marked), λ q. let g = grows.1 q in omega (arith, ints, g))
-
-both_ways : (a b : Bool) → (a ≡ true → b ≡ true) → (b ≡ true → a ≡ true) → a ≡ b
-both_ways true b f g = sym (f refl)
-both_ways false true f g = g refl
-both_ways false false f g = refl
 
 -- the touched entries pass a test that 0 passes exactly when the coefficients of the row do
 pub each-touched : (test : ℤ → Bool) (row : Row) (sum : Sum) → IsSum row sum → IsTidy sum → test (pos 0) ≡ true → list_all (λ q. test (coefficient_of sum q)) sum.touched.items ≡ each_coefficient test row

@@ -1,11 +1,11 @@
 -- Multiples of a modulus, and residues that no counts have.
-use Rattle.std.proofs.Common.{◌≡◌, ◌⊎◌, inl, inr, ℕ, zero, suc, ◌*◌, ◌/◌, ◌%◌, Bool, true, false, not, ◌&&◌, ◌||◌, List, [], ◌∷◌, refl, ap, sym, ◌∙◌, arith}
+use Rattle.std.proofs.Common.{◌≡◌, inl, inr, ℕ, zero, suc, ◌*◌, ◌/◌, ◌%◌, Bool, true, false, not, ◌&&◌, List, [], ◌∷◌, refl, ap, sym, ◌∙◌, arith}
 use Rattle.std.specs.Prelude.{ℤ, pos, negsuc, neg_ℤ, ◌+ℤ◌, ◌*ℤ◌, ◌==◌, nat_abs, slice_get, All, Option, Some, None}
 use Rattle.std.specs.List.{list_any}
 use Rattle.std.proofs.Math.Nat.{div-add-mod, mul-mod_left}
 use Rattle.std.proofs.Math.IntN.{*ℤ-zero, zero-*ℤ, *ℤ_comm}
 use Rattle.std.proofs.lemmas.Int.{ints}
-use Rattle.std.proofs.lemmas.Bool.{eqb-true, eq-eqb}
+use Rattle.std.proofs.lemmas.Bool.{eqb-true, eq-eqb, or_cases}
 use Rattle.pop_net.proofs.Reactions.{and_left, and_right}
 use Rattle.pop_net.proofs.Quiet.{All-slice_get}
 use Rattle.pres_ast.specs.PredicateValue.{is_multiple}
@@ -17,18 +17,15 @@ use Rattle.cert_base.specs.Valuation.{Valuation, row_value, MeetsFact}
 use Rattle.cert_base.specs.ClosingTests.{row_of, times, add_rows, scaled, sum_of, coefficient_in, each_coefficient, may_have, all_named, may_add_modulo, is_zero_row, denies, closes_by_residue}
 use Rattle.cert_base.proofs.Integers.{add-mul, mul-mul-pos}
 use Rattle.cert_linear.proofs.RowValues.{row_value-add_rows, row_value-times, total, terms_value-total, each_coefficient-at, end_of}
+use Rattle.list_laws.proofs.Numbers.{size-neg}
 
 -- z is a whole number times m
 abbrev pub Multiple : ℕ → ℤ → Type 0
 Multiple m z = (k : ℤ) × (z ≡ (k *ℤ pos m))
 
-size_negative : (n : ℕ) → nat_abs (neg_ℤ (pos n)) ≡ n
-size_negative zero = refl
-size_negative (suc n) = refl
-
 size_times : (k : ℤ) (m : ℕ) → nat_abs (k *ℤ pos m) ≡ nat_abs k * m
 size_times (pos k) m = refl
-size_times (negsuc k) m = size_negative (suc k * m)
+size_times (negsuc k) m = size-neg (suc k * m)
 
 pub multiple-divides : (m : ℕ) (z : ℤ) → Multiple m z → is_multiple m z ≡ true
 multiple-divides m z h =
@@ -138,14 +135,10 @@ denied_at count m sum (NotCong row n) h e meets =
     twice z = omega (arith, ints)
 denied_at count m sum (Holds p b) h e meets = cc
 
-or_either : (a b : Bool) → a || b ≡ true → (a ≡ true) ⊎ (b ≡ true)
-or_either true b e = inl refl
-or_either false b e = inr e
-
 denied : (count : Valuation) (m : ℕ) (sum : Row) (facts : List Fact) → Multiple m (row_value count sum) → list_any (denies m sum) facts ≡ true → All (MeetsFact count) facts → ⊥
 denied count m sum [] h e meets = cc
 denied count m sum (fact ∷ facts) h e meets =
-    elim (or_either (denies m sum fact) (list_any (denies m sum) facts) e) [
+    elim (or_cases (denies m sum fact) (list_any (denies m sum) facts) e) [
       | inl here ↦ denied_at count m sum fact h here (meets 0 fact (omega arith))
       | inr rest ↦ denied count m sum facts h rest (λ k d l. meets (suc k) d (omega arith))
     ]
@@ -160,7 +153,7 @@ residue_closes-none count facts m terms e meets =
     let sum = sum_of facts terms in
     let by_constant = each_coefficient (is_multiple m) sum && not (is_multiple m sum.constant) in
     let h = sum_of-multiple count m facts terms meets (and_left (all_named (may_add_modulo m) facts terms) _ e) in
-    elim (or_either by_constant (list_any (denies m sum) facts) (and_right (all_named (may_add_modulo m) facts terms) _ e)) [
+    elim (or_cases by_constant (list_any (denies m sum) facts) (and_right (all_named (may_add_modulo m) facts terms) _ e)) [
       | inl here ↦ not_true (is_multiple m sum.constant) (and_right (each_coefficient (is_multiple m) sum) _ here) (multiple-divides m sum.constant (constant_multiple count m sum (and_left _ _ here) h))
       | inr rest ↦ denied count m sum facts h rest meets
     ]

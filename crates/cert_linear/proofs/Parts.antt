@@ -9,7 +9,6 @@ use Rattle.std.proofs.lemmas.Option.{slice_get_read}
 use Rattle.std.proofs.lemmas.Bool.{eq-eqb, eqb-true}
 use Rattle.std.proofs.lemmas.Bool.Decides.{Decides-int_eq}
 use Rattle.pop_net.proofs.Reactions.{and_left, and_right}
-use Rattle.cert_base.proofs.FlowRows.{take_one_more}
 use Rattle.cert_base.specs.declared.limits.TheConstants.{FACT_LIMIT}
 use Rattle.cert_base.specs.declared.fact.Term.{Term}
 use Rattle.cert_base.specs.declared.fact.Row.{Row}
@@ -19,7 +18,8 @@ use Rattle.cert_linear.specs.declared.sum.Sum.{Sum}
 use Rattle.cert_linear.specs.declared.tally.Tally.{Tally}
 use Rattle.cert_linear.specs.Sums.{IsSum, AreSum, SumsUp}
 use Rattle.cert_linear.specs.Kept.{IsKept, Keeps}
-use Rattle.cert_linear.proofs.Coefficients.{coefficient-append}
+use Rattle.list_laws.proofs.Lists.{take_one_more}
+use Rattle.cert_base.proofs.WeightedSums.{coefficient-append}
 
 terms-parts : (facts : List Fact) (ts us : List Term) (q : ℕ) → coefficient_in (sum_of facts (ts ++ us)).terms q ≡ (coefficient_in (sum_of facts ts).terms q +ℤ coefficient_in (sum_of facts us).terms q)
 terms-parts facts [] us q = omega (arith, ints)

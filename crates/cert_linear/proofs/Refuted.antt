@@ -13,6 +13,7 @@ use Rattle.cert_base.specs.declared.fact.Row.{Row}
 use Rattle.cert_base.specs.Ends.{AreRefuted}
 use Rattle.cert_linear.proofs.Linear.{linear_closes-none}
 use Rattle.cert_linear.proofs.Multiples.{residue_closes-none}
+use Rattle.cert_linear.specs.Conditions.{TellsRefuted}
 
 false_true : false ≡ true → ⊥
 false_true e = cc
@@ -31,3 +32,7 @@ residue-refuted facts m terms (Ok false) is = λ no. absurd (false_true no)
 pub residue_by_facts : (facts : List Fact) (m : ℕ) (terms : List Term) (sum : Sum) (r : Result Bool NoMemory) → all_named (may_add_modulo m) facts terms ≡ true → IsSum (sum_of facts terms) sum → (each_coefficient (is_multiple m) (sum_of facts terms) && not (is_multiple m (sum_of facts terms).constant)) ≡ false → IfOk r (λ denied. (row : Row) → IsSum row sum → denied ≡ list_any (denies m row) facts) → IfOk r (λ closes. closes ≡ closes_by_residue facts m terms)
 residue_by_facts facts m terms sum (Err e) named is fails d = tt
 residue_by_facts facts m terms sum (Ok closes) named is fails d = d (sum_of facts terms) is ∙ rw (named, fails) refl
+
+pub told : (facts : List Fact) (test : Bool) (r : Result Bool NoMemory) → IfOk r (λ closes. closes ≡ test) → IfOk r (λ closes. IsTrue closes → AreRefuted facts) → IfOk r (TellsRefuted facts test)
+told facts test (Err e) is refutes = tt
+told facts test (Ok closes) is refutes = record { closes = is; refutes = refutes }

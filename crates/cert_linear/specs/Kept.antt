@@ -7,7 +7,8 @@ use Rattle.cert_linear.specs.declared.sum.TheConstants.{SUM_LIMIT}
 use Rattle.cert_linear.specs.declared.tally.Tally.{Tally}
 use Rattle.cert_linear.specs.Sums.{IsTidy, IsSum, IsSumWithin, HasAllPositive}
 
--- the lead is the sum of the kept terms, which name facts below a number and may have their multipliers; its positive variables are listed
+-- the lead is the sum of the kept terms, which name facts below a number and may have their multipliers; its positive
+-- variables are listed
 pub record IsKept (stable : ℕ) (facts : List Fact) (tally : Tally) : Type 0 where
   pub named : All (λ t. t.at < stable) tally.kept.items
   pub may : all_named may_add facts tally.kept.items ≡ true

@@ -1,3 +1,4 @@
 pub mod Conditions
 pub mod Kept
 pub mod Sums
+pub mod Trails

@@ -1,5 +1,5 @@
 -- Sums of rows, with one coefficient for each variable.
-use Rattle.std.specs.Prelude.{◌≡◌, ℕ, ◌<◌, ◌≤◌, ◌^◌, length, All, Contains, slice_index_or, true, false}
+use Rattle.std.specs.Prelude.{◌≡◌, ℕ, ◌<◌, ◌≤◌, length, All, Contains, slice_index_or, true, false}
 use Rattle.std.specs.Prelude.{List, ℤ, pos, ◌+ℤ◌, nat_abs, int_le, Bool, Option, Some, None}
 use Rattle.cert_base.specs.declared.fact.Term.{Term}
 use Rattle.cert_base.specs.declared.fact.Row.{Row}
@@ -7,7 +7,7 @@ use Rattle.cert_base.specs.declared.fact.Fact.{Fact}
 use Rattle.cert_base.specs.ClosingTests.{coefficient_in, may_add, may_add_modulo, all_named, sum_of}
 use Rattle.cert_linear.specs.declared.sum.Entry.{Entry}
 use Rattle.cert_linear.specs.declared.sum.Sum.{Sum}
-use Rattle.cert_linear.specs.declared.sum.TheConstants.{SUM_LIMIT}
+use Rattle.cert_linear.specs.declared.sum.TheConstants.{SUM_LIMIT, REST_LIMIT}
 
 -- the entry of a variable; one that the list doesn't reach is blank
 abbrev pub blank : Entry
@@ -33,7 +33,7 @@ pub record AreTidy (entries : List Entry) (touched : List ℕ) : Type 0 where
 -- only touched variables have a rest that isn't 0, and none is too great to be added to
 pub record AreRests (entries : List Entry) (rests : List ℤ) : Type 0 where
   pub zero : (variable : ℕ) → (entry_at entries variable).touched ≡ false → rest_at rests variable ≡ pos 0
-  pub small : (variable : ℕ) → nat_abs (rest_at rests variable) ≤ 2 ^ 122
+  pub small : (variable : ℕ) → nat_abs (rest_at rests variable) ≤ REST_LIMIT
 
 abbrev pub IsTidy : Sum → Type 0
 IsTidy sum = AreTidy sum.entries.items sum.touched.items × AreRests sum.entries.items sum.rests.items
@@ -45,12 +45,14 @@ pub record IsSum (row : Row) (sum : Sum) : Type 0 where
 
 -- both sums together have the coefficients and the constant of the row
 pub record AreSum (row : Row) (sum other : Sum) : Type 0 where
-  pub terms : (variable : ℕ) → (coefficient_of sum variable +ℤ coefficient_of other variable) ≡ coefficient_in row.terms variable
+  pub terms : (variable : ℕ)
+      → (coefficient_of sum variable +ℤ coefficient_of other variable) ≡ coefficient_in row.terms variable
   pub constant : (sum.constant +ℤ other.constant) ≡ row.constant
 
 -- the second sum is the first plus the row
 pub record IsPlus (row : Row) (sum more : Sum) : Type 0 where
-  pub terms : (variable : ℕ) → coefficient_of more variable ≡ (coefficient_of sum variable +ℤ coefficient_in row.terms variable)
+  pub terms : (variable : ℕ)
+      → coefficient_of more variable ≡ (coefficient_of sum variable +ℤ coefficient_in row.terms variable)
   pub constant : more.constant ≡ (sum.constant +ℤ row.constant)
 
 -- both sums are the same rows
@@ -65,7 +67,8 @@ pub record IsSumWithin (size : ℕ) (sum : Sum) : Type 0 where
 
 -- a variable whose coefficient is above 0 is in the list
 abbrev pub IsListedIfPositive : Sum → List ℕ → ℕ → Type 0
-IsListedIfPositive sum variables variable = int_le (coefficient_of sum variable) (pos 0) ≡ false → Contains variables variable
+IsListedIfPositive sum variables variable =
+    int_le (coefficient_of sum variable) (pos 0) ≡ false → Contains variables variable
 
 -- all variables whose coefficient is above 0 are in the list
 abbrev pub HasAllPositive : Sum → List ℕ → Type 0

@@ -1,13 +1,13 @@
 //! Whether a combination of facts refutes them.
 
-ghost use Rattle.std.specs.Prelude.{◌≡◌, ◌≤◌, ◌<◌, length, nat_abs, All, MatchOption, IfOk, IsTrue, OnOk, true};
+ghost use Rattle.std.specs.Prelude.{◌≡◌, ◌<◌, length, All, MatchOption, IfOk, OnOk, true};
 ghost use Rattle.std.specs.Prelude.{false, negsuc, Some, None};
 ghost use Rattle.std.specs.List.{list_any};
 ghost use Rattle.cert_base.specs.declared.fact.Row.{Row};
 ghost use Rattle.cert_base.specs.ClosingTests.{closes_by_sum, closes_by_residue};
 ghost use Rattle.cert_base.specs.ClosingTests.{row_of, denies, is_zero_row, add_rows, times};
-ghost use Rattle.cert_base.specs.Ends.{AreRefuted};
 ghost use Rattle.cert_linear.specs.Conditions.{AreAscending, IsOrdered, AreMultipliers, AreNamed};
+ghost use Rattle.cert_linear.specs.Conditions.{IsCombination, TellsRefuted};
 ghost use Rattle.cert_linear.specs.Sums.{may_by, SumsUp, IsTidy, IsSum, IsSame, IsSumWithin};
 
 use crate::sum::{SUM_LIMIT, Sum};
@@ -23,11 +23,8 @@ pub fn linear_closes(
     facts: &List<Fact>,
     terms: &List<Term>,
 ) -> Result<bool, NoMemory>
-    requires named { AreNamed (length facts.now) terms.now }
-    requires multipliers { AreMultipliers terms.now }
-    requires ordered { All IsOrdered facts.now }
-    ensures closes { IfOk result (λ closes. closes ≡ closes_by_sum facts.now terms.now) }
-    ensures refutes { IfOk result (λ closes. IsTrue closes → AreRefuted facts.now) }
+    requires { IsCombination facts.now terms.now }
+    ensures { IfOk result (TellsRefuted facts.now (closes_by_sum facts.now terms.now)) }
 {
     Tally::new(alloc).closes(facts.as_slice(), 0, terms.as_slice())
 }
@@ -40,12 +37,9 @@ pub fn residue_closes(
     modulus: u32,
     terms: &List<Term>,
 ) -> Result<bool, NoMemory>
-    requires named { AreNamed (length facts.now) terms.now }
-    requires multipliers { AreMultipliers terms.now }
+    requires combination { IsCombination facts.now terms.now }
     requires modulus { 0 < modulus }
-    requires ordered { All IsOrdered facts.now }
-    ensures closes { IfOk result (λ closes. closes ≡ closes_by_residue facts.now modulus terms.now) }
-    ensures refutes { IfOk result (λ closes. IsTrue closes → AreRefuted facts.now) }
+    ensures { IfOk result (TellsRefuted facts.now (closes_by_residue facts.now modulus terms.now)) }
 {
     residue(
         &mut Sum::new(alloc),

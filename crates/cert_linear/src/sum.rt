@@ -1,6 +1,6 @@
 //! A sum of rows.
 
-ghost use Rattle.std.specs.Prelude.{◌≡◌, ◌≤◌, ◌<◌, ◌+◌, ◌^◌, ◌+ℤ◌, ◌*ℤ◌, ℕ, ◌&&◌, not, ◌==◌, if◌then◌else◌, pos};
+ghost use Rattle.std.specs.Prelude.{◌≡◌, ◌≤◌, ◌<◌, ◌+◌, ◌+ℤ◌, ◌*ℤ◌, ℕ, ◌&&◌, not, ◌==◌, if◌then◌else◌, pos};
 ghost use Rattle.std.specs.Prelude.{negsuc, nat_abs, int_le, length, true, OnOk, IfSome, All, Contains};
 ghost use Rattle.std.specs.List.{list_all};
 ghost use Rattle.pres_ast.specs.PredicateValue.{is_multiple};
@@ -14,9 +14,23 @@ use cert_base::{Row, SIZE_LIMIT};
 use pop_io::NoMemory;
 use std::alloc::Global;
 
-/// The greatest size of a coefficient or the constant in a sum of `TERM_LIMIT` rows: each product of a multiplier and
-/// an `i64` is within 2^103.
+/// The greatest size of a multiplier times an `i64`.
+pub(crate) const PRODUCT_LIMIT: u128 = 1 << 103;
+
+/// The greatest size of a coefficient or the constant in a sum of `TERM_LIMIT` rows with multipliers.
 pub(crate) const SUM_LIMIT: u128 = 1 << 119;
+
+/// The greatest size of a coefficient or the constant where one more row may be added.
+pub(crate) const ROOM_LIMIT: u128 = 1 << 120;
+
+/// The greatest size of a coefficient while a row's terms are added.
+pub(crate) const ENTER_LIMIT: u128 = 1 << 121;
+
+/// The greatest size of what an entry holds.
+pub(crate) const ENTRY_LIMIT: u128 = 1 << 31;
+
+/// The greatest size of what did not fit into an entry.
+pub(crate) const REST_LIMIT: u128 = 1 << 122;
 
 /// What fits of the coefficient of a variable, and whether it is listed as touched.
 #[derive(Clone, Copy)]
@@ -87,9 +101,10 @@ impl Sum {
         requires tidy { IsTidy self.old }
         requires ascending { AreAscending row.now.terms }
         requires small { nat_abs by ≤ SIZE_LIMIT }
-        requires room { IsSumWithin (2 ^ 120) self.old }
+        requires room { IsSumWithin ROOM_LIMIT self.old }
         ensures plus { OnOk result (IsPlus (times by row.now) self.old self.new) }
-        ensures size { (size : ℕ) → IsSumWithin size self.old → OnOk result (IsSumWithin (size + 2 ^ 103) self.new) }
+        ensures size { (size : ℕ) → IsSumWithin size self.old
+            → OnOk result (IsSumWithin (size + PRODUCT_LIMIT) self.new) }
         ensures tidy { IsTidy self.new }
     {
         for term in row.terms.as_slice() {
@@ -102,8 +117,8 @@ impl Sum {
     /// Adds to the coefficient of one variable.
     fn enter(&mut self, variable: u32, by: i128) -> Result<(), NoMemory>
         requires tidy { IsTidy self.old }
-        requires small { nat_abs by ≤ 2 ^ 103 }
-        requires room { nat_abs (coefficient_of self.old variable) ≤ 2 ^ 121 }
+        requires small { nat_abs by ≤ PRODUCT_LIMIT }
+        requires room { nat_abs (coefficient_of self.old variable) ≤ ENTER_LIMIT }
         ensures terms { OnOk result
             ((q : ℕ)
             → coefficient_of self.new q ≡ (coefficient_of self.old q +ℤ (if variable == q then by else pos 0))) }
@@ -120,8 +135,8 @@ impl Sum {
         requires tidy { IsTidy self.old }
         requires reached { variable < length self.old.entries.items }
         requires touched { (entry_at self.old.entries.items variable).touched ≡ true }
-        requires small { nat_abs by ≤ 2 ^ 103 }
-        requires room { nat_abs (coefficient_of self.old variable) ≤ 2 ^ 121 }
+        requires small { nat_abs by ≤ PRODUCT_LIMIT }
+        requires room { nat_abs (coefficient_of self.old variable) ≤ ENTER_LIMIT }
         ensures terms { OnOk result
             ((q : ℕ)
             → coefficient_of self.new q ≡ (coefficient_of self.old q +ℤ (if variable == q then by else pos 0))) }
@@ -142,8 +157,8 @@ impl Sum {
     fn enter_rest(&mut self, variable: u32, by: i128) -> Result<(), NoMemory>
         requires tidy { IsTidy self.old }
         requires touched { (entry_at self.old.entries.items variable).touched ≡ true }
-        requires small { nat_abs by ≤ 2 ^ 103 }
-        requires room { nat_abs (rest_at self.old.rests.items variable) ≤ 2 ^ 121 + 2 ^ 31 }
+        requires small { nat_abs by ≤ PRODUCT_LIMIT }
+        requires room { nat_abs (rest_at self.old.rests.items variable) ≤ ENTER_LIMIT + ENTRY_LIMIT }
         ensures terms { OnOk result
             ((q : ℕ)
             → coefficient_of self.new q ≡ (coefficient_of self.old q +ℤ (if variable == q then by else pos 0))) }
@@ -212,7 +227,7 @@ impl Sum {
 
     fn fitting(&self, variable: u32) -> i128
         ensures value { result ≡ (entry_at self.now.entries.items variable).sum }
-        ensures size { nat_abs result ≤ 2 ^ 31 }
+        ensures size { nat_abs result ≤ ENTRY_LIMIT }
     {
         match self.entries.get(variable as usize) {
             Some(entry) => i128::from(entry.sum),
@@ -361,7 +376,7 @@ impl Sum {
 
 /// The sum, if it fits into an entry.
 fn small_sum(sum: i32, by: i128) -> Option<i32>
-    requires { nat_abs by ≤ 2 ^ 103 }
+    requires { nat_abs by ≤ PRODUCT_LIMIT }
     ensures { IfSome result (λ total. total ≡ (sum +ℤ by)) }
 {
     i32::try_from(i128::from(sum) + by).ok()
@@ -370,7 +385,7 @@ fn small_sum(sum: i32, by: i128) -> Option<i32>
 fn product(a: i64, b: i64) -> i128
     requires { nat_abs a ≤ SIZE_LIMIT }
     ensures value { result ≡ a *ℤ b }
-    ensures size { nat_abs result ≤ 2 ^ 103 }
+    ensures size { nat_abs result ≤ PRODUCT_LIMIT }
 {
     i128::from(a) * i128::from(b)
 }

@@ -38,11 +38,10 @@ impl Model for Trail {
 }
 
 impl Trail {
-    ghost use Rattle.std.specs.Prelude.{◌≡◌, ◌≤◌, ◌<◌, ◌+◌, ◌++◌, [], ◌∷◌, take, length, Some, slice_get, All, IfOk, IfErr};
-    ghost use Rattle.std.specs.Prelude.{OnOk, OnErr, IsTrue};
+    ghost use Rattle.std.specs.Prelude.{◌≡◌, ◌≤◌, ◌<◌, ◌+◌, take, length, Some, slice_get, IfOk};
     ghost use Rattle.cert_base.specs.ClosingTests.{closes_by_sum, closes_by_residue};
-    ghost use Rattle.cert_base.specs.Ends.{AreRefuted};
-    ghost use Rattle.cert_linear.specs.Conditions.{IsOrdered, AreMultipliers, AreNamed};
+    ghost use Rattle.cert_linear.specs.Conditions.{IsCombination, TellsRefuted};
+    ghost use Rattle.cert_linear.specs.Trails.{AddsFact, AppendsFacts};
 
     /// It allocates nothing.
     pub fn new(alloc: Global, facts: List<Fact>) -> Trail
@@ -75,9 +74,7 @@ impl Trail {
     /// Adds a fact at the end. A refusal hands the fact back, and the trail is as before.
     pub fn add(&mut self, fact: Fact) -> Result<(), (Fact, NoMemory)>
         requires { length self.old < FACT_LIMIT }
-        ensures added { OnOk result (self.new ≡ self.old ++ fact ∷ []) }
-        ensures refused { IfErr result (λ refusal. refusal.0 ≡ fact) }
-        ensures unchanged { OnErr result (self.new ≡ self.old) }
+        ensures { AddsFact fact self.old self.new result }
     {
         match self.facts.push(fact) {
             Ok(()) => Ok(()),
@@ -88,8 +85,7 @@ impl Trail {
     /// Adds facts at the end. A refusal leaves the trail as before.
     pub fn append(&mut self, facts: List<Fact>) -> Result<(), NoMemory>
         requires { length self.old + length facts ≤ FACT_LIMIT }
-        ensures appended { OnOk result (self.new ≡ self.old ++ facts) }
-        ensures unchanged { OnErr result (self.new ≡ self.old) }
+        ensures { AppendsFacts facts self.old self.new result }
     {
         let mut facts = facts.into_vec();
         self.facts.append(&mut facts)?;
@@ -107,11 +103,8 @@ impl Trail {
 
     /// Whether the facts are refuted as by `linear_closes`.
     pub fn linear(&mut self, terms: &List<Term>) -> Result<bool, NoMemory>
-        requires named { AreNamed (length self.old) terms.now }
-        requires multipliers { AreMultipliers terms.now }
-        requires ordered { All IsOrdered self.old }
-        ensures closes { IfOk result (λ closes. closes ≡ closes_by_sum self.old terms.now) }
-        ensures refutes { IfOk result (λ closes. IsTrue closes → AreRefuted self.old) }
+        requires { IsCombination self.old terms.now }
+        ensures answer { IfOk result (TellsRefuted self.old (closes_by_sum self.old terms.now)) }
         ensures unchanged { self.new ≡ self.old }
     {
         self.tally
@@ -120,12 +113,9 @@ impl Trail {
 
     /// Whether the facts are refuted as by `residue_closes`.
     pub fn residue(&mut self, modulus: u32, terms: &List<Term>) -> Result<bool, NoMemory>
-        requires named { AreNamed (length self.old) terms.now }
-        requires multipliers { AreMultipliers terms.now }
+        requires combination { IsCombination self.old terms.now }
         requires modulus { 0 < modulus }
-        requires ordered { All IsOrdered self.old }
-        ensures closes { IfOk result (λ closes. closes ≡ closes_by_residue self.old modulus terms.now) }
-        ensures refutes { IfOk result (λ closes. IsTrue closes → AreRefuted self.old) }
+        ensures answer { IfOk result (TellsRefuted self.old (closes_by_residue self.old modulus terms.now)) }
         ensures unchanged { self.new ≡ self.old }
     {
         residue(

@@ -1,29 +1,22 @@
 -- Lists that grow by one item, and flags.
-use Rattle.std.proofs.Common.{◌≡◌, ℕ, zero, suc, ◌+◌, ◌<◌, ◌≤◌, min, Bool, true, false, cond, List, [], ◌∷◌, ◌++◌, length, map, take, get_or, append_assoc, refl, ap, sym, ◌∙◌, zero-add, arith}
+use Rattle.std.proofs.Common.{◌≡◌, ℕ, suc, ◌+◌, ◌<◌, ◌≤◌, min, Bool, true, false, cond, List, [], ◌∷◌, ◌++◌, length, map, take, get_or, append_assoc, refl, ap, sym, ◌∙◌, zero-add, arith}
 use Rattle.std.specs.Prelude.{ℤ, pos, Some, None, slice_get, filter, if◌then◌else◌, not, ◌&&◌, ◌==◌}
 use Rattle.std.specs.List.{range_with_len}
-use Rattle.std.proofs.lemmas.List.{take_all, length-map, length-take}
+use Rattle.std.proofs.lemmas.List.{take_all, length-map, length-take, map-append}
 use Rattle.std.proofs.lemmas.Option.{slice_get_within, get_or_from_slice_get, slice_get_read}
 use Rattle.std.proofs.lemmas.List.FromFn.{get_or-map-range_with_len, length-range_with_len}
 use Rattle.cert_base.specs.declared.fact.Fact.{Fact}
 use Rattle.cert_base.specs.declared.fact.Fact.TheVariants.{Eq}
 use Rattle.cert_base.specs.Rows.{single_row, move_variable, state_variable}
 use Rattle.cert_base.specs.FactsAndCases.{indicator, places_from, states_of, is_in, can_meet_in, absent_fact, occurs_fact, alone_fact, not_twice, case_of_twin, no_moves, no_start_facts}
-use Rattle.cert_base.proofs.FlowRows.{take_one_more}
 use Rattle.cert_traps.specs.Facts.{zero_if, alone_if}
 use Rattle.cert_traps.specs.Partners.{ArePartners}
 use Rattle.pop_net.specs.declared.limits.TheConstants.{STATE_LIMIT}
 use Rattle.pop_net.specs.declared.leaf.Move.{Move}
-use Rattle.pop_net.specs.LeafModel.{LeafModel, IsLeaf, IsMoveBelow}
-use Rattle.pop_net.proofs.Quiet.{All-slice_get}
-
-map-one : {A B : Type 0} (f : A → B) (xs : List A) (x : A) → map f (xs ++ x ∷ []) ≡ map f xs ++ f x ∷ []
-map-one f [] x = refl
-map-one f (y ∷ xs) x = ap (λ zs. f y ∷ zs) (map-one f xs x)
-
-map-append : {A B : Type 0} (f : A → B) (xs ys : List A) → map f (xs ++ ys) ≡ map f xs ++ map f ys
-map-append f [] ys = refl
-map-append f (x ∷ xs) ys = ap (λ zs. f x ∷ zs) (map-append f xs ys)
+use Rattle.pop_net.specs.LeafModel.{LeafModel}
+use Rattle.list_laws.proofs.Lists.{take_one_more, map-one}
+use Rattle.list_laws.proofs.Ranges.{range_next}
+use Rattle.cert_base.proofs.Indicators.{places_from-one}
 
 -- one more item of a list that is mapped
 pub map-take_more : {A B : Type 0} (f : A → B) (xs : List A) (k : ℕ) (x : A) (before after : List B) → slice_get xs k ≡ Some x → before ≡ map f (take k xs) → after ≡ before ++ f x ∷ [] → after ≡ map f (take (k + 1) xs)
@@ -35,14 +28,6 @@ map-map_list f g [] = refl
 map-map_list f g (x ∷ xs) = ap (λ ys. f (g x) ∷ ys) (map-map_list f g xs)
 
 -- ---- places
-
-places_from-one : {A : Type 0} (k : ℕ) (test : A → Bool) (xs : List A) (x : A) → places_from k test (xs ++ x ∷ []) ≡ places_from k test xs ++ (if test x then ((k + length xs) ∷ []) else [])
-places_from-one k test [] x = ap (λ n. if test x then (n ∷ []) else []) (let e : k ≡ k + 0 = omega arith in e)
-places_from-one {A} k test (y ∷ xs) x = go (test y) (places_from-one (k + 1) test xs x)
-  where
-    go : (b : Bool) → places_from (k + 1) test (xs ++ x ∷ []) ≡ places_from (k + 1) test xs ++ (if test x then ((k + 1 + length xs) ∷ []) else []) → (if b then (k ∷ places_from (k + 1) test (xs ++ x ∷ [])) else places_from (k + 1) test (xs ++ x ∷ [])) ≡ (if b then (k ∷ places_from (k + 1) test xs) else places_from (k + 1) test xs) ++ (if test x then ((k + suc (length xs)) ∷ []) else [])
-    go true e = ap (λ ys. k ∷ ys) (e ∙ ap (λ n. places_from (k + 1) test xs ++ (if test x then (n ∷ []) else [])) (let f : k + 1 + length xs ≡ k + suc (length xs) = omega arith in f))
-    go false e = e ∙ ap (λ n. places_from (k + 1) test xs ++ (if test x then (n ∷ []) else [])) (let f : k + 1 + length xs ≡ k + suc (length xs) = omega arith in f)
 
 -- the places of the flags that are set are those of the items that pass
 pub places_from-flags : {A : Type 0} (k : ℕ) (test : A → Bool) (xs : List A) → places_from k (λ (flag : Bool). flag) (map test xs) ≡ places_from k test xs
@@ -104,13 +89,8 @@ inputs_zero leaf set first flags start facts z e f =
     ∙ ap (λ fs. map (λ t. Eq (single_row t (pos 1) (pos 0))) (places_from 0 (λ flag. flag) fs)) e
     ∙ ap (map (λ t. Eq (single_row t (pos 1) (pos 0)))) (places_from-flags 0 (is_in set) leaf.inputs))
 
-range-suc : (a n : ℕ) → range_with_len a (suc n) ≡ range_with_len a n ++ (a + n) ∷ []
-range-suc a zero = ap (λ z. z ∷ []) (let e : a ≡ a + 0 = omega arith in e)
-range-suc a (suc n) =
-    ap (λ zs. a ∷ zs) (range-suc (a + 1) n ∙ ap (λ z. range_with_len (a + 1) n ++ z ∷ []) (let e : a + 1 + n ≡ a + suc n = omega arith in e))
-
 range-one : (a n : ℕ) → range_with_len a (n + 1) ≡ range_with_len a n ++ (a + n) ∷ []
-range-one a n = ap (range_with_len a) (let e : n + 1 ≡ suc n = omega arith in e) ∙ range-suc a n
+range-one a n = ap (range_with_len a) (let e : n + 1 ≡ suc n = omega arith in e) ∙ range_next a n
 
 -- ---- partners
 
@@ -159,13 +139,6 @@ unmet_all leaf p q flag table before after are l all is b e =
     ∙ ap (λ fs. fs ++ alone_if leaf p flag) b
     ∙ ap (λ n. (occurs_fact leaf p ∷ map (absent_fact leaf) (filter (λ q. not (q == p) && can_meet_in leaf p q) (range_with_len 0 n))) ++ alone_if leaf p flag) all
     ∙ ap (λ b. (occurs_fact leaf p ∷ map (absent_fact leaf) (filter (λ q. not (q == p) && can_meet_in leaf p q) (states_of leaf))) ++ alone_if leaf p b) (is ∙ are.each p l)
-
--- the states of a move are below the greatest number that a leaf may have
-pub move_small : (leaf : LeafModel) (t : ℕ) (taken : Move) → IsLeaf leaf → slice_get leaf.moves t ≡ Some taken → IsMoveBelow STATE_LIMIT taken
-move_small leaf t taken is h =
-    let below = All-slice_get (IsMoveBelow (length leaf.states)) leaf.moves t taken is.moves h in
-    let few = is.states in
-    (omega (arith, few, below.0), omega (arith, few, below.1), omega (arith, few, below.2), omega (arith, few, below.3))
 
 -- what is read at an index that the code computes
 pub read_is : (xs : List Bool) (i j : ℕ) (b : Bool) → b ≡ get_or xs i b → i ≡ j → j < length xs → b ≡ get_or xs j false

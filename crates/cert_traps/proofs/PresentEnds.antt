@@ -1,14 +1,14 @@
 -- At a terminal end the counts meet all facts of one of the cases of a `Present` or a `Twin` node.
-use Rattle.std.proofs.Common.{◌≡◌, ◌≢◌, ◌⊎◌, inl, inr, ℕ, zero, suc, ◌+◌, ◌*◌, ◌<◌, ◌≤◌, Bool, true, false, cond, not, ◌&&◌, ◌||◌, List, [], ◌∷◌, ◌++◌, length, map, get_or, refl, ap, sym, ◌∙◌, arith}
+use Rattle.std.proofs.Common.{◌≡◌, ◌≢◌, ◌⊎◌, inl, inr, ℕ, zero, suc, ◌+◌, ◌*◌, ◌<◌, ◌≤◌, Bool, true, false, cond, not, ◌&&◌, List, [], ◌∷◌, ◌++◌, length, map, get_or, refl, ap, sym, ◌∙◌, arith}
 use Rattle.std.specs.Prelude.{Some, pos, negsuc, ◌+ℤ◌, ◌≤ℤ◌, ◌*ℤ◌, ◌==◌, if◌then◌else◌, slice_get, slice_set, filter, All}
 use Rattle.std.specs.List.{range_with_len}
 use Rattle.std.proofs.Math.IntN.{pos-*ℤ-pos, *ℤ-zero}
 use Rattle.std.proofs.lemmas.Int.{ints}
-use Rattle.std.proofs.lemmas.Bool.{eq-eqb, eqb-true, cases_lt}
+use Rattle.std.proofs.lemmas.Bool.{eq-eqb, cases_lt}
 use Rattle.std.proofs.lemmas.Bool.Decides.{eqb_tells}
 use Rattle.std.proofs.lemmas.List.Elements.{All-nil, All-cons, All-map, All-append, All-head, All-tail}
 use Rattle.pop_net.specs.declared.leaf.Move.{Move}
-use Rattle.pop_net.specs.LeafModel.{LeafModel, one_at, pre, silent_move, same_pair}
+use Rattle.pop_net.specs.LeafModel.{LeafModel, one_at, pre, silent_move}
 use Rattle.pop_net.specs.Step.{LeafStep}
 use Rattle.pop_net.specs.Terminal.{IsTerminal}
 use Rattle.pop_net.specs.Reaction.{takes_states}
@@ -22,17 +22,9 @@ use Rattle.cert_base.proofs.Numbers.{number_in, slice_get-set_other}
 use Rattle.cert_base.proofs.Openings.{in_first, in_rest}
 use Rattle.cert_base.specs.Ends.{MeetsOne}
 use Rattle.cert_base.proofs.ListTests.{list_any-contains}
-
-pub slice_get-set_same : {A : Type 0} (xs : List A) (a : ℕ) (x y : A) → slice_get xs a ≡ Some x → slice_get (slice_set xs a y) a ≡ Some y
-slice_get-set_same [] a x y h = cc
-slice_get-set_same (z ∷ xs) zero x y h = refl
-slice_get-set_same (z ∷ xs) (suc a) x y h = slice_get-set_same xs a x y h
-
-same_some : {A : Type 0} (x y : A) → Some x ≡ Some y → x ≡ y
-same_some x y e = cc
-
-unchanged_silent : (t : Move) → t.r ≡ t.p → t.s ≡ t.q → silent_move t ≡ true
-unchanged_silent t e f = rw (eq-eqb t.p t.r (sym e), eq-eqb t.q t.s (sym f)) refl
+use Rattle.list_laws.proofs.Lists.{slice_get-set_same}
+use Rattle.std.proofs.lemmas.Option.{same_Some}
+use Rattle.pop_net.proofs.Silent.{stays-silent, same_pair_cases}
 
 -- at a terminal crowd no non-silent move is enabled
 pub terminal_dead : (leaf : LeafModel) (crowd : List ℕ) → IsTerminal (LeafStep leaf) crowd → (n : ℕ) (t : Move) → slice_get leaf.moves n ≡ Some t → silent_move t ≡ false → IsEnabledIn crowd t → ⊥
@@ -43,19 +35,11 @@ terminal_dead leaf crowd terminal n t m s enabled =
     let after = slice_set (slice_set crowd a t.r) b t.s in
     let stays : after ≡ crowd = terminal after (move_step leaf crowd n t a b m s two.2 two.3 two.4) in
     let there : slice_get (slice_set crowd a t.r) b ≡ Some t.q = slice_get-set_other crowd a b t.r t.q two.2 two.4 in
-    let second : t.s ≡ t.q = same_some t.s t.q (sym (slice_get-set_same (slice_set crowd a t.r) b t.q t.s there) ∙ ap (λ c. slice_get c b) stays ∙ two.4) in
+    let second : t.s ≡ t.q = same_Some t.s t.q (sym (slice_get-set_same (slice_set crowd a t.r) b t.q t.s there) ∙ ap (λ c. slice_get c b) stays ∙ two.4) in
     let here : slice_get after a ≡ Some t.r = slice_get-set_other (slice_set crowd a t.r) b a t.s t.r (λ e. two.2 (sym e)) (slice_get-set_same crowd a t.p t.r two.3) in
-    let first : t.r ≡ t.p = same_some t.r t.p (sym here ∙ ap (λ c. slice_get c a) stays ∙ two.3) in
-    let f : true ≡ false = sym (unchanged_silent t first second) ∙ s in
+    let first : t.r ≡ t.p = same_Some t.r t.p (sym here ∙ ap (λ c. slice_get c a) stays ∙ two.3) in
+    let f : true ≡ false = sym (stays-silent t first second) ∙ s in
     cc
-
--- p and q are the states before the move, in one order or the other
-pair_cases : (p q u v : ℕ) → same_pair p q u v ≡ true → ((p ≡ u) × (q ≡ v)) ⊎ ((p ≡ v) × (q ≡ u))
-pair_cases p q u v e = go ((p == u) && (q == v)) refl e
-  where
-    go : (b : Bool) → (p == u) && (q == v) ≡ b → b || (p == v) && (q == u) ≡ true → ((p ≡ u) × (q ≡ v)) ⊎ ((p ≡ v) × (q ≡ u))
-    go true h e = inl (eqb-true p u (and_left _ _ h), eqb-true q v (and_right (p == u) _ h))
-    go false h e = inr (eqb-true p v (and_left _ _ e), eqb-true q u (and_right (p == v) _ e))
 
 pre_pair : (t : Move) (p q z : ℕ) → ((p ≡ t.p) × (q ≡ t.q)) ⊎ ((p ≡ t.q) × (q ≡ t.p)) → pre t z ≡ one_at p z + one_at q z
 pre_pair t p q z (inl e) = rw (e.0, e.1) refl
@@ -66,7 +50,7 @@ pub cannot_meet : (leaf : LeafModel) (crowd : List ℕ) (p q : ℕ) → IsTermin
 cannot_meet leaf crowd p q terminal e there =
     let found = list_any-contains (takes_states p q) leaf.moves e in
     let t = found.0 in
-    let pair = pair_cases p q t.p t.q (and_right (not (silent_move t)) _ found.2) in
+    let pair = same_pair_cases p q t.p t.q (and_right (not (silent_move t)) _ found.2) in
     terminal_dead leaf crowd terminal found.1.0 t (listed leaf.moves found.1.0 t found.1.1 found.1.2) (not_true _ (and_left _ _ found.2)) (λ z. rw (pre_pair t p q z pair) (there z))
   where
     listed : (moves : List Move) (k : ℕ) (t : Move) → k < length moves → get_or moves k t ≡ t → slice_get moves k ≡ Some t
@@ -116,9 +100,6 @@ in_range a (suc n) =
 -- the counts of the states are those of a crowd
 abbrev pub CountsStates : LeafModel → Valuation → List ℕ → Type 0
 CountsStates leaf count end = (q : ℕ) → q < length leaf.states → count (state_variable leaf q) ≡ number_in q end
-
-one_self : (p : ℕ) → one_at p p ≡ 1
-one_self p = rw (eq-eqb p p refl) refl
 
 two_kinds : (crowd : List ℕ) (p q : ℕ) → p ≢ q → 1 ≤ number_in p crowd → 1 ≤ number_in q crowd → (z : ℕ) → one_at p z + one_at q z ≤ number_in z crowd
 two_kinds crowd p q ne lp lq z = go (eqb_tells p z) (eqb_tells q z)

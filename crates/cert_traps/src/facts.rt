@@ -1,6 +1,6 @@
 //! Facts on one variable, and rows of those that are flagged.
 
-ghost use Rattle.std.specs.Prelude.{◌≡◌, ◌≤◌, ◌<◌, ◌+◌, ◌^◌, ◌∷◌, ◌++◌, [], length, map, pos, IfOk, OnOk};
+ghost use Rattle.std.specs.Prelude.{◌≡◌, ◌≤◌, ◌+◌, ◌^◌, ◌++◌, length, map, pos, IfOk, OnOk};
 ghost use Rattle.cert_base.specs.declared.fact.Fact.TheVariants.{Eq};
 ghost use Rattle.cert_base.specs.FactsAndCases.{indicator, places_from};
 ghost use Rattle.cert_base.specs.Rows.{single_row};

@@ -1,10 +1,10 @@
 //! What a terminal end says of one state.
 
-ghost use Rattle.std.specs.Prelude.{◌≡◌, ◌<◌, ◌≤◌, ◌^◌, ◌∷◌, ◌++◌, ◌==◌, ◌&&◌, not, [], length, map, filter};
+ghost use Rattle.std.specs.Prelude.{◌≡◌, ◌<◌, ◌∷◌, ◌++◌, ◌==◌, ◌&&◌, not, [], length, map, filter};
 ghost use Rattle.std.specs.Prelude.{if◌then◌else◌, slice_index_or, false, Some, None, IfOk, OnOk, IfSome};
 ghost use Rattle.cert_base.specs.FactsAndCases.{states_of, can_meet_in, absent_fact, occurs_fact};
 ghost use Rattle.cert_base.specs.FactsAndCases.{alone_fact, not_twice, cases_of_present, case_of_twin};
-ghost use Rattle.cert_base.specs.Ends.{Cover};
+ghost use Rattle.cert_base.specs.Ends.{Cover, AreCasesBy};
 ghost use Rattle.cert_traps.specs.Facts.{alone_if};
 
 use crate::facts::{is_zero, push_zero};
@@ -17,13 +17,12 @@ use std::alloc::Global;
 /// The state is absent; or it occurs, and nothing does that could meet it.
 pub fn present_cases(alloc: Global, leaf: &Leaf, state: u16) -> Result<List<List<Fact>>, NoMemory>
     requires { state < length leaf.now.states }
-    ensures cases { IfOk result (λ cases. cases ≡ cases_of_present leaf.now state) }
     // Every terminal end meets all facts of one of the cases.
-    ensures cover { IfOk result (Cover leaf.now) }
+    ensures { IfOk result (AreCasesBy (Cover leaf.now) (cases_of_present leaf.now state)) }
 {
     let mut cases = Vec::new(alloc);
-    cases.push(only(alloc, absent(alloc, leaf, state)?)?)?;
-    cases.push(unmet(alloc, leaf, state)?)?;
+    cases.push(only(alloc, absence_of(alloc, leaf, state)?)?)?;
+    cases.push(presence_case(alloc, leaf, state)?)?;
     Ok(List::from_vec(cases))
 }
 
@@ -48,7 +47,8 @@ fn twin(alloc: Global, leaf: &Leaf, state: u16, meets: bool) -> Result<Option<Li
     Ok(Some(only(alloc, Fact::Ge(row))?))
 }
 
-fn unmet(alloc: Global, leaf: &Leaf, state: u16) -> Result<List<Fact>, NoMemory>
+/// The state occurs, and nothing does that could meet it.
+fn presence_case(alloc: Global, leaf: &Leaf, state: u16) -> Result<List<Fact>, NoMemory>
     requires { state < length leaf.now.states }
     ensures { IfOk result (λ facts. facts ≡ occurs_fact leaf.now state
         ∷ map
@@ -58,7 +58,7 @@ fn unmet(alloc: Global, leaf: &Leaf, state: u16) -> Result<List<Fact>, NoMemory>
 {
     let partners = partners(alloc, leaf, state)?;
     let mut facts = Vec::with_capacity(alloc, partners.len())?;
-    facts.push(occurs(alloc, leaf, state)?)?;
+    facts.push(presence_of(alloc, leaf, state)?)?;
     for q in 0..leaf.state_count() {
         let meets = meets_other(partners.as_slice(), state, q);
         push_zero(alloc, &mut facts, variable_of_state(leaf, q), meets)?;
@@ -75,13 +75,13 @@ fn meets_other(partners: &[bool], state: u16, q: u16) -> bool
     q != state && partners[usize::from(q)]
 }
 
-fn absent(alloc: Global, leaf: &Leaf, q: u16) -> Result<Fact, NoMemory>
+fn absence_of(alloc: Global, leaf: &Leaf, q: u16) -> Result<Fact, NoMemory>
     ensures { IfOk result (λ fact. fact ≡ absent_fact leaf.now q) }
 {
     is_zero(alloc, variable_of_state(leaf, q))
 }
 
-fn occurs(alloc: Global, leaf: &Leaf, q: u16) -> Result<Fact, NoMemory>
+fn presence_of(alloc: Global, leaf: &Leaf, q: u16) -> Result<Fact, NoMemory>
     ensures { IfOk result (λ fact. fact ≡ occurs_fact leaf.now q) }
 {
     Ok(Fact::Ge(Row::single(alloc, variable_of_state(leaf, q), 1, -1)?))

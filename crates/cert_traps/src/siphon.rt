@@ -1,12 +1,12 @@
 //! A siphon: a set of states that stays unmarked once it is.
 
-ghost use Rattle.std.specs.Prelude.{◌≡◌, ◌++◌, ◌∷◌, [], pos, ◌-ℤ◌, length, map, IfOk};
+ghost use Rattle.std.specs.Prelude.{◌≡◌, ◌++◌, ◌∷◌, [], pos, ◌-ℤ◌, map, IfOk};
 ghost use Rattle.pop_net.specs.LeafModel.{IsLeaf};
 ghost use Rattle.cert_base.specs.declared.fact.Fact.TheVariants.{Ge, Eq};
 ghost use Rattle.cert_base.specs.Rows.{input_row};
 ghost use Rattle.cert_base.specs.FactsAndCases.{indicator, is_in, helpers_among, takes_from, no_moves};
 ghost use Rattle.cert_base.specs.FactsAndCases.{some_taken_fact, count_row, cases_of_siphon};
-ghost use Rattle.cert_base.specs.Ends.{Cover};
+ghost use Rattle.cert_base.specs.Ends.{Cover, AreCasesBy};
 ghost use Rattle.cert_traps.specs.Roles.{passes_role};
 ghost use Rattle.cert_traps.specs.declared.role.Role.TheVariants.{Enters};
 
@@ -25,11 +25,11 @@ pub fn siphon_cases(
     leaf: &Leaf,
     set: &List<u16>,
 ) -> Result<List<List<Fact>>, NoMemory>
-    ensures cases { IfOk result (λ cases. cases ≡ cases_of_siphon leaf.now set.now) }
     // Every terminal end meets all facts of one of the cases.
-    ensures cover { IfOk result (Cover leaf.now) }
+    ensures { IfOk result (AreCasesBy (Cover leaf.now) (cases_of_siphon leaf.now set.now)) }
 {
     let set = StateSet::new(alloc, set)?;
+    // What the invariant says is known from here on.
     let _formed = leaf.state_count();
     let cases = cases_of(alloc, leaf, &set)?;
     Ok(cases)

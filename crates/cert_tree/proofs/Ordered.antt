@@ -4,7 +4,7 @@ use Rattle.std.specs.Prelude.{ℤ, pos, negsuc, neg_ℤ, ◌-ℤ◌, ◌==◌, A
 use Rattle.std.specs.List.{list_all, filter}
 use Rattle.std.specs.Ordering.{int_eq}
 use Rattle.std.proofs.lemmas.List.Elements.{All-nil, All-cons, All-map}
-use Rattle.std.proofs.lemmas.List.Kept.{AllPairs-cons}
+use Rattle.std.proofs.lemmas.List.Kept.{AllPairs-cons, AllPairs-filter}
 use Rattle.pop_net.specs.declared.leaf.Move.{Move}
 use Rattle.pop_net.specs.LeafModel.{LeafModel, pre, post}
 use Rattle.pres_ast.specs.PredTree.{PredTree, LessThan, Congruent, Negation, Conjunction, Disjunction}
@@ -16,7 +16,7 @@ use Rattle.cert_base.specs.declared.fact.Fact.TheVariants.{Ge, Eq, Cong, NotCong
 use Rattle.cert_base.specs.declared.node.Node.{Node}
 use Rattle.cert_base.specs.declared.node.Node.TheVariants.{Linear, Residue, Split, Present, Twin, Trap, Siphon, Open}
 use Rattle.cert_base.specs.Rows.{constant_row, terms_from, single_row, input_row, state_row, zeros, input_variable, state_variable, move_variable, variable_count}
-use Rattle.cert_base.specs.FactsAndCases.{helpers_starting, helpers_among, no_helper_facts, indicator, states_of, flow, two_agents_fact, differs, wrong_output_fact, base_list, absent_fact, occurs_fact, alone_fact, not_twice, can_meet_in, cases_of_present, is_in, takes_from, puts_into, places_from, no_moves, no_start_facts, some_taken_fact, count_row, cases_of_trap, cases_of_siphon, plus, negated_row, cases_of_split, over_count, open_tree}
+use Rattle.cert_base.specs.FactsAndCases.{helpers_starting, helpers_among, no_helper_facts, indicator, states_of, flow, two_agents_fact, differs, wrong_output_fact, base_list, absent_fact, occurs_fact, alone_fact, not_twice, can_meet_in, cases_of_present, is_in, takes_from, puts_into, places_from, no_moves, no_start_facts, some_taken_fact, count_row, cases_of_trap, cases_of_siphon, plus, negated_row, signs_of, without_zeros, cases_of_split, over_count, open_tree}
 use Rattle.cert_base.specs.Closes.{name_below, where_in_range, opened, only_case}
 use Rattle.cert_linear.specs.Conditions.{AreAscending, IsOrdered}
 use Rattle.cert_tree.specs.Refusals.{cases_at}
@@ -82,11 +82,6 @@ pub data CasesOrdered : List (List Fact) → Type 0 where
 pub all_of : {facts : List Fact} → AllOrdered facts → All IsOrdered facts
 all_of no_fact = All-nil IsOrdered
 all_of (more_facts f facts h rest) = All-cons IsOrdered f facts h.ascending (all_of rest)
-
-pub case_of : {cases : List (List Fact)} → CasesOrdered cases → All (λ own. All IsOrdered own) cases
-case_of no_case = All-nil (λ own. All IsOrdered own)
-case_of (more_cases own cases h rest) =
-    All-cons (λ own. All IsOrdered own) own cases (all_of h) (case_of rest)
 
 abbrev pub FirstCase : List (List Fact) → Type 0
 FirstCase [] = Unit {0}
@@ -227,12 +222,15 @@ siphon_ordered leaf set =
     (append_ordered (no_moves leaf (takes_from set)) (Eq (count_row leaf set (pos 0)) ∷ []) (none_taken_ordered leaf (takes_from set))
     (one_fact (Eq (count_row leaf set (pos 0))) (zero_over_states leaf (marks leaf set) (pos 0))))
 
-split_ordered : (row : Row) → AreAscending row.terms → CasesOrdered (cases_of_split row)
-split_ordered row up =
+signs_ordered : (row : Row) → AreAscending row.terms → CasesOrdered (signs_of row)
+signs_ordered row up =
     three_cases (Ge (plus row (negsuc 0)) ∷ []) (Eq row ∷ []) (Ge (plus (negated_row row) (negsuc 0)) ∷ [])
     (one_fact (Ge (plus row (negsuc 0))) (record { ascending = up }))
     (one_fact (Eq row) (record { ascending = up }))
     (one_fact (Ge (plus (negated_row row) (negsuc 0))) (record { ascending = turned_ascending row.terms up }))
+
+split_ordered : (row : Row) → AreAscending row.terms → CasesOrdered (cases_of_split row)
+split_ordered row up = signs_ordered (without_zeros row) (AllPairs-filter (λ (t u : Term). t.at < u.at) (λ (t : Term). not (int_eq t.by (pos 0))) row.terms up)
 
 both_ordered : (p q : PredModel) (b : Bool) → CasesOrdered ((Holds p b ∷ Holds q b ∷ []) ∷ [])
 both_ordered p q b =

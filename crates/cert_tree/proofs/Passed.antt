@@ -1,5 +1,5 @@
 -- What nodes that pass are.
-use Rattle.std.proofs.Common.{◌≡◌, ℕ, ◌<◌, Bool, true, false, List, [], ◌∷◌, length, refl, sym, ◌∙◌}
+use Rattle.std.proofs.Common.{◌≡◌, ℕ, ◌<◌, Bool, true, false, List, [], ◌∷◌, length, get_or, refl, sym, ◌∙◌}
 use Rattle.std.specs.Prelude.{Some, None, nat_lt}
 use Rattle.std.specs.List.{list_all}
 use Rattle.std.proofs.lemmas.Bool.{lt-ltb}
@@ -14,6 +14,13 @@ use Rattle.cert_base.specs.ClosingTests.{closes_by_sum, closes_by_residue}
 use Rattle.cert_base.specs.Closes.{name_below}
 use Rattle.cert_base.specs.Ends.{AreRefuted, Cover, CoverAll}
 use Rattle.cert_tree.specs.Frames.{IsPassed}
+use Rattle.std.proofs.lemmas.Bool.{ltb-true}
+use Rattle.std.proofs.lemmas.List.Sums.{AllPass-from_list_all}
+use Rattle.cert_linear.specs.Conditions.{AreNamed}
+
+-- terms that pass the test name facts
+pub all_named : (n : ℕ) (terms : List Term) → name_below n terms ≡ true → AreNamed n terms
+all_named n terms e k d l = ltb-true (get_or terms k d).at n (AllPass-from_list_all (λ (t : Term). nat_lt t.at n) terms e k d l)
 
 pub linear_passed : (facts : List Fact) (terms : List Term) (cases : List (List Fact)) → name_below (length facts) terms ≡ true → closes_by_sum facts terms ≡ true → AreRefuted facts → cases ≡ [] → (leaf : LeafModel) → IsPassed leaf facts (Linear terms) cases
 linear_passed facts terms cases named closes refuted none leaf = record {

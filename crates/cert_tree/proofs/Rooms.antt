@@ -1,16 +1,11 @@
 -- Cases with few enough facts.
-use Rattle.std.proofs.Common.{◌≡◌, ℕ, ◌+◌, ◌-◌, ◌≤◌, Bool, true, false, List, [], ◌∷◌, length, refl, arith}
+use Rattle.std.proofs.Common.{◌≡◌, ℕ, ◌+◌, ◌-◌, ◌≤◌, List, [], ◌∷◌, length, refl, arith}
 use Rattle.std.specs.Prelude.{nat_le}
 use Rattle.std.specs.List.{list_all}
 use Rattle.std.proofs.lemmas.Bool.{leb-true, le-leb}
 use Rattle.cert_base.specs.declared.fact.Fact.{Fact}
 use Rattle.cert_tree.specs.Refusals.{all_fit}
-
-both_ways : (a b : Bool) → (a ≡ true → b ≡ true) → (b ≡ true → a ≡ true) → a ≡ b
-both_ways true true f g = refl
-both_ways true false f g = let h = f refl in cc
-both_ways false true f g = let h = g refl in cc
-both_ways false false f g = refl
+use Rattle.list_laws.proofs.Truth.{both_ways}
 
 same_room : (n k : ℕ) → n ≤ 65536 → nat_le k (65536 - n) ≡ nat_le (n + k) 65536
 same_room n k l =

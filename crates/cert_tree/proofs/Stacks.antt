@@ -45,9 +45,6 @@ under_same n t u (frame ∷ frames) nested e =
 
 -- ---- the first case of the latest node is entered
 
-abbrev after_first : List (List Fact) → List (List Fact)
-after_first cases = remove cases 0
-
 pub first_and_rest : (cases : List (List Fact)) (d : List Fact) → 0 < length cases → cases ≡ slice_index_or cases 0 d ∷ remove cases 0
 first_and_rest [] d l = absurd (omega arith)
 first_and_rest (own ∷ cases) d l = refl

@@ -1,8 +1,8 @@
 -- One step of the walk: the next node is passed or refused.
-use Rattle.std.proofs.Common.{◌≡◌, ℕ, zero, suc, ◌+◌, ◌<◌, ◌≤◌, true, false, List, [], ◌∷◌, ◌++◌, length, map, take, reverse, refl, ap, ◌∙◌, length-append, arith}
-use Rattle.std.specs.Prelude.{None, All, Contains, nat_lt, nat_le}
+use Rattle.std.proofs.Common.{◌≡◌, ℕ, zero, suc, ◌+◌, true, List, [], ◌∷◌, ◌++◌, length, map, take, reverse, ap, ◌∙◌, length-append, arith}
+use Rattle.std.specs.Prelude.{All, Contains, nat_le}
 use Rattle.std.proofs.Math.Seq.{take-length}
-use Rattle.std.proofs.lemmas.Bool.{lt-ltb, le-ltb, leb-true}
+use Rattle.std.proofs.lemmas.Bool.{leb-true}
 use Rattle.std.proofs.lemmas.List.{length-reverse}
 use Rattle.std.proofs.lemmas.List.Elements.{All-nil, All-cons, All-append, Contains-append_left, Contains-append_right}
 use Rattle.pop_net.proofs.Reactions.{and_left, and_right}
@@ -12,46 +12,14 @@ use Rattle.cert_base.specs.declared.node.Node.{Node}
 use Rattle.cert_base.specs.Valuation.{MeetsFact}
 use Rattle.cert_base.specs.Ends.{MeetsAll}
 use Rattle.cert_linear.specs.Conditions.{IsOrdered}
-use Rattle.cert_tree.specs.declared.fault.TreeWhy.TheVariants.{TooDeep, TooManyFacts, Rest}
-use Rattle.cert_tree.specs.declared.halt.Halt.{Halt}
-use Rattle.cert_tree.specs.declared.halt.Halt.TheVariants.{Refused, NoMemory}
 use Rattle.cert_tree.specs.declared.walk.Frame.{Frame}
 use Rattle.cert_tree.specs.declared.walk.Walk.{Walk}
 use Rattle.cert_tree.specs.Format.{IsWithinFormat}
-use Rattle.cert_tree.specs.Refusals.{Waiting, cases_at, cases_below, all_fit, own_refusal}
-use Rattle.cert_tree.specs.Frames.{waiting_under, waiting, IsNested, IsFit, StandsAtFirst, MeetsWaiting, StillCover, IsPassed, HaltsBy, GoesOn, HaltsAt}
+use Rattle.cert_tree.specs.Refusals.{Waiting, cases_at, cases_below, all_fit}
+use Rattle.cert_tree.specs.Frames.{waiting_under, waiting, IsFit, StandsAtFirst, MeetsWaiting, StillCover, IsPassed}
 use Rattle.cert_tree.proofs.Stacks.{turned}
 use Rattle.cert_tree.proofs.Ordered.{CasesOrdered, all_of, cases_ordered, first_case}
-
--- ---- refused
-
-pub rest_refused : (leaf : LeafModel) (before : List Waiting) (node : Node) → before ≡ [] → HaltsAt leaf before node (Refused Rest)
-rest_refused leaf before node e number nodes = rw e refl
-
-module _ (leaf : LeafModel) (before : List Waiting) (node : Node) (walk : Walk) (at : StandsAtFirst before walk) where
-  pub deep_refused : 4096 < length walk.frames.items → HaltsAt leaf before node (Refused TooDeep)
-  deep_refused deep number nodes =
-      let depth = at.depth in
-      let test = le-ltb at.above 4096 (omega (arith, depth, deep)) in
-      rw (at.first, test) refl
-
-  shallow : length walk.frames.items ≤ 4096 → nat_lt at.above 4096 ≡ true
-  shallow few = let depth = at.depth in lt-ltb at.above 4096 (omega (arith, depth, few))
-
-  pub own_refused : (halt : Halt) → length walk.frames.items ≤ 4096 → HaltsBy (own_refusal leaf walk.trail node) halt → HaltsAt leaf before node halt
-  own_refused (Refused why) few own = λ number nodes. rw (at.first, shallow few, own) refl
-  own_refused NoMemory few own = tt
-
-  pub many_refused : length walk.frames.items ≤ 4096 → own_refusal leaf walk.trail node ≡ None → all_fit walk.trail (cases_at leaf walk.trail node) ≡ false → HaltsAt leaf before node (Refused TooManyFacts)
-  many_refused few own many number nodes = rw (at.first, shallow few, own, many) refl
-
--- ---- passed
-
-contains_map : {A B : Type 0} (f : A → B) (xs : List A) (x : A) → Contains xs x → Contains (map f xs) (f x)
-contains_map f [] x (k, l, e) = absurd (omega arith)
-contains_map f (y ∷ xs) x (zero, l, e) = (0, omega arith, ap f e)
-contains_map f (y ∷ xs) x (suc k, l, e) =
-    let rest = contains_map f xs x (k, omega arith, e) in (suc rest.0, omega arith, rest.2)
+use Rattle.list_laws.proofs.Lists.{has_map}
 
 pub below_fit : (above : ℕ) (facts : List Fact) (cases : List (List Fact)) → All IsOrdered facts → all_fit facts cases ≡ true → CasesOrdered cases → All IsFit (map {B = Waiting} (λ own. (above, facts ++ own)) cases)
 below_fit above facts [] ordered fit h = All-nil IsFit
@@ -78,15 +46,6 @@ module _ (leaf : LeafModel) (before : List Waiting) (node : Node) (walk more : W
       ∙ ap (λ facts. map {B = Waiting} (λ own. (at.above + 1, facts ++ own)) frame.cases.items ++ waiting walk) whole
       ∙ ap (λ cases. map {B = Waiting} (λ own. (at.above + 1, walk.trail ++ own)) cases ++ waiting walk) passed.cases_are
 
-  pub passed_on : length walk.frames.items ≤ 4096 → all_fit walk.trail (cases_at leaf walk.trail node) ≡ true → GoesOn leaf before node (waiting more)
-  passed_on few fit number nodes =
-      let depth = at.depth in
-      let test = lt-ltb at.above 4096 (omega (arith, depth, few)) in
-      rw (at.first, waits_then, test, passed.unrefused, fit) refl
-
-  pub passed_nested : IsNested more
-  passed_nested = rw (trail, top) (omega (arith, len), rw len at.nested)
-
   pub passed_fit : IsWithinFormat node → All IsFit before → all_fit walk.trail (cases_at leaf walk.trail node) ≡ true → All IsFit (waiting more)
   passed_fit within all fit =
       let all' = rw at.first at all in
@@ -103,7 +62,7 @@ module _ (leaf : LeafModel) (before : List Waiting) (node : Node) (walk more : W
       covered (zero, l, e) =
           let all : MeetsAll count walk.trail = rw (← e) at meets in
           let case = passed.cover count end all in
-          let below = contains_map {B = Waiting} (λ own. (at.above + 1, walk.trail ++ own)) frame.cases.items case.0 case.1 in
+          let below = has_map {B = Waiting} (λ own. (at.above + 1, walk.trail ++ own)) frame.cases.items case.0 case.1 in
           let below' = rw passed.cases_are at below in
           ((at.above + 1, walk.trail ++ case.0), Contains-append_left (cases_below leaf (at.above, walk.trail) node) (waiting walk) (at.above + 1, walk.trail ++ case.0) below', All-append (MeetsFact count) walk.trail case.0 all case.2)
       covered (suc k, l, e) =

@@ -6,7 +6,8 @@ use Rattle.cert_base.specs.declared.node.Node.{Node}
 use Rattle.cert_base.specs.declared.node.Node.TheVariants.{Linear, Residue, Split, Present, Twin, Trap, Siphon, Open}
 use Rattle.cert_linear.specs.Conditions.{AreAscending, AreMultipliers}
 
--- few and small multipliers, a modulus within its limits, ascending variables with small coefficients and a small constant
+-- few and small multipliers, a modulus within its limits, ascending variables with small coefficients and a small
+-- constant
 abbrev pub IsWithinFormat : Node → Type 0
 IsWithinFormat (Linear terms) = AreMultipliers terms
 IsWithinFormat (Residue m terms) = (2 ≤ m) × (m ≤ MODULUS_LIMIT) × AreMultipliers terms

@@ -1,5 +1,6 @@
 -- The stack of the nodes whose cases are being closed.
-use Rattle.std.specs.Prelude.{◌≡◌, ℕ, ◌+◌, ◌≤◌, ◌<◌, true, false, Bool, List, [], ◌∷◌, ◌++◌, map, length, take, All, Contains, Option, Some, None, reverse}
+use Rattle.std.specs.Prelude.{◌≡◌, ℕ, ◌+◌, ◌≤◌, ◌<◌, true, false, Bool, List, [], ◌∷◌, ◌++◌, map, length, take, All}
+use Rattle.std.specs.Prelude.{Contains, Option, Some, None, reverse}
 use Rattle.pop_net.specs.LeafModel.{LeafModel}
 use Rattle.cert_base.specs.declared.limits.TheConstants.{FACT_LIMIT}
 use Rattle.cert_base.specs.declared.fact.Fact.{Fact}
@@ -76,7 +77,8 @@ CoverUnder leaf facts cases = (count : Valuation) → IsEnd leaf count → Meets
 
 -- every end that meets a case which waited before meets one that waits now
 abbrev pub StillCover : LeafModel → List Waiting → List Waiting → Type 0
-StillCover leaf before after = (count : Valuation) → IsEnd leaf count → MeetsWaiting count before → MeetsWaiting count after
+StillCover leaf before after =
+    (count : Valuation) → IsEnd leaf count → MeetsWaiting count before → MeetsWaiting count after
 
 -- the node is passed, and these are its cases
 pub record IsPassed (leaf : LeafModel) (facts : List Fact) (node : Node) (cases : List (List Fact)) : Type 0 where
@@ -91,11 +93,14 @@ HaltsBy why NoMemory = Unit {0}
 
 -- a node is passed: what comes first is the same before it and after it
 abbrev pub GoesOn : LeafModel → List Waiting → Node → List Waiting → Type 0
-GoesOn leaf before node after = (number : ℕ) (nodes : List Node) → first_from leaf before number (node ∷ nodes) ≡ first_from leaf after (number + 1) nodes
+GoesOn leaf before node after =
+    (number : ℕ) (nodes : List Node)
+    → first_from leaf before number (node ∷ nodes) ≡ first_from leaf after (number + 1) nodes
 
 -- a node is the first that is refused
 abbrev pub HaltsAt : LeafModel → List Waiting → Node → Halt → Type 0
-HaltsAt leaf before node (Refused why) = (number : ℕ) (nodes : List Node) → first_from leaf before number (node ∷ nodes) ≡ Some (number, why)
+HaltsAt leaf before node (Refused why) =
+    (number : ℕ) (nodes : List Node) → first_from leaf before number (node ∷ nodes) ≡ Some (number, why)
 HaltsAt leaf before node NoMemory = Unit {0}
 
 -- the fault of a halt at a node

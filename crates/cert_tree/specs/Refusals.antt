@@ -1,19 +1,23 @@
 -- Refusals: which node of a tree is the first that is refused, and why.
-use Rattle.std.specs.Prelude.{◌≡◌, ℕ, ◌+◌, Bool, true, false, not, if◌then◌else◌, nat_lt, nat_le, List}
-use Rattle.std.specs.Prelude.{[], ◌∷◌, ◌++◌, map, length, Option, Some, None, unwrap_or, slice_get}
+use Rattle.std.specs.Prelude.{◌≡◌, ◌≤◌, ℕ, ◌+◌, Bool, true, false, not, if◌then◌else◌, nat_lt, nat_le, List}
+use Rattle.std.specs.Prelude.{[], ◌∷◌, ◌++◌, map, length, Option, Some, None, unwrap_or, slice_get, All, Result, OnOk}
+use Rattle.std.specs.Prelude.{IfErr}
 use Rattle.std.specs.List.{list_all}
 use Rattle.pres_ast.specs.PredModel.{PredModel}
 use Rattle.pop_net.specs.LeafModel.{LeafModel}
-use Rattle.cert_base.specs.declared.limits.TheConstants.{FACT_LIMIT, PATH_LIMIT}
+use Rattle.cert_base.specs.declared.limits.TheConstants.{FACT_LIMIT, NODE_LIMIT, PATH_LIMIT}
 use Rattle.cert_base.specs.declared.fact.Fact.{Fact}
 use Rattle.cert_base.specs.declared.fact.Fact.TheVariants.{Holds}
 use Rattle.cert_base.specs.declared.node.Node.{Node}
 use Rattle.cert_base.specs.declared.node.Node.TheVariants.{Linear, Residue, Split, Present, Twin, Trap, Siphon, Open}
 use Rattle.cert_base.specs.Rows.{variable_count}
 use Rattle.cert_base.specs.FactsAndCases.{base_list, can_meet_in}
-use Rattle.cert_base.specs.Closes.{name_below, refutes, cases_of}
+use Rattle.cert_base.specs.Closes.{name_below, refutes, cases_of, Closes}
+use Rattle.cert_base.specs.Ends.{EndsRight}
+use Rattle.cert_tree.specs.Format.{IsWithinFormat}
 use Rattle.cert_tree.specs.declared.fault.TreeWhy.{TreeWhy}
-use Rattle.cert_tree.specs.declared.fault.TreeWhy.TheVariants.{Missing, TooDeep, BadIndex, NoTwin, NotOpen, NotClosed, TooManyFacts, Rest}
+use Rattle.cert_tree.specs.declared.fault.TreeWhy.TheVariants.{Missing, TooDeep, BadIndex, NoTwin, NotOpen, NotClosed}
+use Rattle.cert_tree.specs.declared.fault.TreeWhy.TheVariants.{TooManyFacts, Rest}
 use Rattle.cert_tree.specs.declared.fault.TreeFault.{TreeFault}
 use Rattle.cert_tree.specs.declared.fault.TreeFault.TheVariants.{Broken, NoMemory}
 
@@ -74,7 +78,8 @@ or_else (Some why) other = Some why
 abbrev pub refusal : LeafModel → ℕ → List Fact → Node → Option TreeWhy
 refusal leaf above facts node =
     if not (nat_lt above PATH_LIMIT) then Some TooDeep
-    else or_else (own_refusal leaf facts node) (if all_fit facts (cases_at leaf facts node) then None else Some TooManyFacts)
+    else or_else (own_refusal leaf facts node) (if all_fit facts (cases_at leaf facts node) then None
+    else Some TooManyFacts)
 
 -- a case that waits for its nodes: how many nodes are above it, and its facts
 abbrev pub Waiting : Type 0
@@ -94,7 +99,8 @@ first_from leaf [] number [] = None
 first_from leaf [] number (node ∷ nodes) = Some (number, Rest)
 first_from leaf (at ∷ waiting) number [] = Some (number, Missing)
 first_from leaf (at ∷ waiting) number (node ∷ nodes) =
-    go_on (refusal leaf at.0 at.1 node) number (first_from leaf (cases_below leaf at node ++ waiting) (number + 1) nodes)
+    go_on (refusal leaf at.0 at.1 node) number (first_from leaf (cases_below leaf at node
+    ++ waiting) (number + 1) nodes)
 
 abbrev pub first_refused : LeafModel → PredModel → Bool → List Node → Option (ℕ × TreeWhy)
 first_refused leaf p value nodes = first_from leaf ((0, base_list leaf p value) ∷ []) 0 nodes
@@ -103,3 +109,18 @@ first_refused leaf p value nodes = first_from leaf ((0, base_list leaf p value) 
 abbrev pub IsTreeFault : LeafModel → PredModel → Bool → List Node → TreeFault → Type 0
 IsTreeFault leaf p value nodes (Broken number why) = first_refused leaf p value nodes ≡ Some (number, why)
 IsTreeFault leaf p value nodes NoMemory = Unit {0}
+
+-- what is asked of the nodes of a tree for a predicate of a leaf
+pub record AreNodesOf (leaf : LeafModel) (p : PredModel) (nodes : List Node) : Type 0 where
+  pub variables : p.variables ≡ length leaf.inputs
+  pub few : length nodes ≤ NODE_LIMIT
+  pub within : All IsWithinFormat nodes
+
+-- what `check_tree` says: the nodes close the base facts; or this is the first that is refused
+pub record ChecksTree (leaf : LeafModel) (p : PredModel) (value : Bool) (nodes : List Node)
+    (result : Result (Unit {0}) TreeFault) : Type 0 where
+  pub closes : OnOk result (Closes leaf (base_list leaf p value) nodes [])
+  pub fault : IfErr result (IsTreeFault leaf p value nodes)
+  pub accepts : Closes leaf (base_list leaf p value) nodes [] → IfErr result (λ fault. fault ≡ NoMemory)
+  -- for every input at which the predicate has the value, each agent of each terminal crowd outputs it
+  pub right : OnOk result (EndsRight leaf p.tree value)

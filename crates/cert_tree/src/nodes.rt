@@ -1,6 +1,6 @@
 //! The cases of a node.
 
-ghost use Rattle.std.specs.Prelude.{◌≡◌, ◌<◌, ◌≤◌, ◌^◌, nat_abs, nat_lt, length, All, IfOk, IfErr};
+ghost use Rattle.std.specs.Prelude.{◌≡◌, ◌<◌, ◌≤◌, nat_abs, nat_lt, All, IfOk, IfErr};
 ghost use Rattle.std.specs.List.{list_all};
 ghost use Rattle.pop_net.specs.LeafModel.{LeafModel};
 ghost use Rattle.cert_base.specs.declared.fact.Fact.{Fact};

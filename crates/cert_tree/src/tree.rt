@@ -1,16 +1,12 @@
 //! The check of a tree.
 
-ghost use Rattle.std.specs.Prelude.{◌≡◌, ◌≤◌, length, [], All, IfOk, IfErr, OnOk};
-ghost use Rattle.cert_base.specs.FactsAndCases.{base_list};
-ghost use Rattle.cert_base.specs.Closes.{Closes};
-ghost use Rattle.cert_base.specs.Ends.{EndsRight};
-ghost use Rattle.cert_tree.specs.Format.{IsWithinFormat};
-ghost use Rattle.cert_tree.specs.Refusals.{IsTreeFault};
+ghost use Rattle.std.specs.Prelude.{◌≡◌, length, IfOk};
+ghost use Rattle.cert_tree.specs.Refusals.{AreNodesOf, ChecksTree};
 ghost use Rattle.cert_tree.specs.Frames.{IsWalkStart};
 
 use crate::fault::{TreeFault, TreeWhy};
 use crate::walk::Walk;
-use cert_base::{NODE_LIMIT, Node, base_facts};
+use cert_base::{Node, base_facts};
 use pop_io::{List, NoMemory};
 use pop_net::Leaf;
 use pres_ast::Pred;
@@ -27,15 +23,8 @@ pub fn check_tree(
     value: bool,
     nodes: &List<Node>,
 ) -> Result<(), TreeFault>
-    requires variables { pred.now.variables ≡ length leaf.now.inputs }
-    requires few { length nodes.now ≤ NODE_LIMIT }
-    requires within { All IsWithinFormat nodes.now }
-    ensures closes { OnOk result (Closes leaf.now (base_list leaf.now pred.now value) nodes.now []) }
-    ensures fault { IfErr result (IsTreeFault leaf.now pred.now value nodes.now) }
-    ensures accepts { Closes leaf.now (base_list leaf.now pred.now value) nodes.now []
-        → IfErr result (λ fault. fault ≡ TreeFault.NoMemory) }
-    // For every input at which the predicate has the value, each agent of each terminal crowd outputs it.
-    ensures right { OnOk result (EndsRight leaf.now pred.now.tree value) }
+    requires { AreNodesOf leaf.now pred.now nodes.now }
+    ensures { ChecksTree leaf.now pred.now value nodes.now result }
 {
     let mut walk = start(alloc, leaf, pred, value)?;
     for (number, node) in nodes.as_slice().iter().enumerate() {
@@ -57,6 +46,7 @@ fn start(alloc: Global, leaf: &Leaf, pred: &Pred, value: bool) -> Result<Walk, N
     requires { pred.now.variables ≡ length leaf.now.inputs }
     ensures start { IfOk result (IsWalkStart leaf.now pred.now value) }
 {
+    // What the invariant says is known from here on.
     let _formed = leaf.state_count();
     Walk::new(alloc, base_facts(alloc, leaf, pred, value)?)
 }

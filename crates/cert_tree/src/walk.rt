@@ -1,6 +1,6 @@
 //! Where a walk over the nodes of a tree stands.
 
-ghost use Rattle.std.specs.Prelude.{◌≡◌, ◌≤◌, ◌<◌, ◌+◌, ◌++◌, ◌∷◌, [], true, length, reverse, take, All, IfOk, IfErr};
+ghost use Rattle.std.specs.Prelude.{◌≡◌, ◌≤◌, ◌<◌, ◌∷◌, [], true, length, reverse, All, IfOk, IfErr};
 ghost use Rattle.std.specs.Prelude.{OnOk, MatchOption, nat_le};
 ghost use Rattle.std.specs.List.{list_all};
 ghost use Rattle.cert_base.specs.declared.fact.Fact.{Fact};

@@ -1,6 +1,6 @@
 -- Both trees of a built leaf of a flock atom close.
 use Rattle.std.proofs.Common.{◌≡◌, ◌∙◌, subst, ℕ, zero, suc, ◌+◌, ◌<◌, ◌≤◌, Bool, true, false, ◌&&◌, List, [], ◌∷◌, ◌++◌, length, map, append_assoc, length-append, refl, ap, sym, zero-add, arith}
-use Rattle.std.specs.Prelude.{ℤ, pos, neg_ℤ, ◌-ℤ◌, if◌then◌else◌, ◌==◌, not, Some, slice_get, nat_lt, filter, All}
+use Rattle.std.specs.Prelude.{ℤ, pos, neg_ℤ, ◌-ℤ◌, if◌then◌else◌, ◌==◌, not, Some, nat_lt, filter, All}
 use Rattle.std.specs.List.{range_with_len, list_all}
 use Rattle.std.proofs.lemmas.Bool.{lt-ltb, eq-eqb, ne_eqb}
 use Rattle.std.proofs.lemmas.List.{append-nil}
@@ -16,18 +16,14 @@ use Rattle.cert_base.specs.Rows.{input_row}
 use Rattle.cert_base.specs.FactsAndCases.{states_of, flow, base_list, two_agents_fact, wrong_output_fact, absent_fact, occurs_fact, alone_fact, not_twice, can_meet_in, cases_of_open}
 use Rattle.cert_base.specs.Closes.{cases_of, ClosesUnder, refuted, by_cases, no_case, next_case, Closes}
 use Rattle.comp_trees.specs.LeaderTree.{weighed_node}
-use Rattle.comp_layers.proofs.Members.{all_range, range_one_more}
 use Rattle.comp_flock_leaf.specs.FlockLeaf.{is_flock_coefficient, flock_bound, flock_leaf_of}
 use Rattle.comp_flock.specs.FlockProof.{few_mix, converted_mix, first_mix, start_mix, never_mix, flock_true_tree, flock_false_tree, flock_pred_of}
 use Rattle.comp_flock_leaf.proofs.MoveLists.{doubles, converts}
 use Rattle.comp_flock_leaf.proofs.Formed.{states-long}
 use Rattle.comp_flock.proofs.TrueNodes.{few_facts, few_closes, converted_facts, converted_closes}
 use Rattle.comp_flock.proofs.FalseNodes.{full, first_facts, first_closes, start_facts, start_closes, never_facts, never_long, never_closes}
-
-at_end : {A : Type 0} (xs ys : List A) (n k : ℕ) → length xs ≡ n → slice_get (xs ++ ys) (n + k) ≡ slice_get ys k
-at_end [] ys n k e = ap (slice_get ys) (let f : n + k ≡ k = omega arith in f)
-at_end (x ∷ xs) ys zero k e = absurd (omega arith)
-at_end (x ∷ xs) ys (suc n) k e = ap (slice_get (x ∷ (xs ++ ys))) (let f : suc n + k ≡ suc (n + k) = omega arith in f) ∙ at_end xs ys n k (omega arith)
+use Rattle.list_laws.proofs.Ranges.{all_range, range_one_more}
+use Rattle.list_laws.proofs.Lists.{at_end}
 
 filter-all : {A : Type 0} (test : A → Bool) (xs : List A) → All (λ x. test x ≡ true) xs → filter test xs ≡ xs
 filter-all test [] all = refl

@@ -15,7 +15,7 @@ use Rattle.comp_flock_leaf.specs.FlockLeaf.{doubling_move, conversion_move, floc
 use Rattle.comp_flock.specs.FlockProof.{flock_weight, flock_layers_of}
 use Rattle.comp_flock_leaf.proofs.MoveLists.{all_moves, moves-long}
 use Rattle.comp_flock_leaf.proofs.Formed.{states-long}
-use Rattle.comp_flock.proofs.OwnFacts.{places-all}
+use Rattle.comp_trees.proofs.TrapNodes.{places-all}
 
 abbrev weights : ℕ → List ℤ
 weights k = map (flock_weight k) (range_with_len 0 (k + 2))

@@ -13,8 +13,9 @@ use Rattle.cert_base.specs.Rows.{terms_from, zeros}
 use Rattle.cert_base.specs.FactsAndCases.{indicator, not_twice, some_taken_fact, places_from}
 use Rattle.cert_base.specs.ClosingTests.{coefficient_in}
 use Rattle.cert_base.specs.WeightedSums.{coefficient, total}
-use Rattle.cert_base.proofs.FlowSums.{coefficient-dense, total-same, total-none_range, total-one, unlike}
+use Rattle.cert_base.proofs.FlowSums.{coefficient-dense, total-same, total-none_range, total-one}
 use Rattle.comp_trees.proofs.LeaderEnds.{shifted}
+use Rattle.std.proofs.lemmas.Bool.{ne_eqb}
 
 pub not_twice-at : (leaf : LeafModel) (q x : ℕ) → coefficient x (not_twice leaf q) ≡ neg_ℤ (indicator ((length leaf.inputs + q) == x))
 not_twice-at leaf q x = go ((length leaf.inputs + q) == x)
@@ -60,13 +61,6 @@ places-none k test (x ∷ xs) ys all =
     let shift : places_from (k + 1 + length xs) test ys ≡ places_from (k + suc (length xs)) test ys = ap (λ n. places_from n test ys) (let e : k + 1 + length xs ≡ k + suc (length xs) = omega arith in e) in
     rw here (rest ∙ shift)
 
-pub places-all : {A : Type 0} (k : ℕ) (test : A → Bool) (xs : List A) → All (λ x. test x ≡ true) xs → places_from k test xs ≡ range_with_len k (length xs)
-places-all k test [] all = refl
-places-all k test (x ∷ xs) all =
-    let here = All-head (λ x. test x ≡ true) x xs all in
-    let rest = places-all (k + 1) test xs (All-tail (λ x. test x ≡ true) x xs all) in
-    rw here (ap (λ ks. k ∷ ks) rest)
-
 -- ---- totals over the states
 
 pub total-append : {A : Type 0} (f : A → ℤ) (xs ys : List A) → total f (xs ++ ys) ≡ (total f xs +ℤ total f ys)
@@ -81,4 +75,4 @@ total-counts n w m z l =
 
 pub total-others : (n : ℕ) (w : ℕ → ℤ) (m x : ℕ) → ((q : ℕ) → q < m → (n + q) ≢ x) → total (λ q. w q *ℤ indicator ((n + q) == x)) (range_with_len 0 m) ≡ pos 0
 total-others n w m x ne =
-    total-none_range (λ q. w q *ℤ indicator ((n + q) == x)) 0 m (λ q l. ap (λ c. w q *ℤ indicator c) (unlike (n + q) x (ne q (omega arith))) ∙ *ℤ-zero (w q))
+    total-none_range (λ q. w q *ℤ indicator ((n + q) == x)) 0 m (λ q l. ap (λ c. w q *ℤ indicator c) (ne_eqb (n + q) x (ne q (omega arith))) ∙ *ℤ-zero (w q))

@@ -1,7 +1,6 @@
 -- The proof of a built leaf of a flock atom is valid.
-use Rattle.std.proofs.Common.{◌≡◌, ◌∙◌, subst, true, ℕ, ◌≤◌, List, length, refl, ap, sym, arith}
+use Rattle.std.proofs.Common.{◌≡◌, ◌∙◌, subst, ℕ, List, length, refl, ap, sym, arith}
 use Rattle.std.specs.Prelude.{ℤ}
-use Rattle.std.specs.List.{list_all}
 use Rattle.pop_net.specs.LeafModel.{LeafModel}
 use Rattle.pres_ast.specs.PredModel.{PredModel}
 use Rattle.cert_base.specs.declared.layer.Layer.{Layer}
@@ -9,20 +8,12 @@ use Rattle.cert_base.specs.declared.node.Node.{Node}
 use Rattle.cert_base.specs.declared.proof.LeafProof.{LeafProof}
 use Rattle.cert_base.specs.ValidProof.{ValidLeafProof}
 use Rattle.cert_base.specs.ProofLimits.{IsLeafProofWithin}
-use Rattle.comp_flock_leaf.specs.FlockLeaf.{is_flock_coefficient, flock_leaf_of}
+use Rattle.comp_flock_leaf.specs.FlockLeaf.{IsFlock, flock_leaf_of}
 use Rattle.comp_flock.specs.FlockProof.{flock_layers_of, flock_true_tree, flock_false_tree, flock_pred_of, flock_part}
 use Rattle.comp_flock_leaf.proofs.Formed.{flock-formed}
 use Rattle.comp_flock.proofs.Layers.{layers-valid}
 use Rattle.comp_flock.proofs.Closing.{tree-true, tree-false}
 use Rattle.comp_flock.proofs.Within.{layers-within, true-within, false-within}
-
--- the conditions on a flock atom
-pub record IsFlock (coefs : List ℤ) (k : ℕ) : Type 0 where
-  pub some : 1 ≤ length coefs
-  pub few : length coefs ≤ 16
-  pub are : list_all is_flock_coefficient coefs ≡ true
-  pub low : 1 ≤ k
-  pub high : k ≤ 39
 
 pub flock-valid : (coefs : List ℤ) (k : ℕ) → IsFlock coefs k → ValidLeafProof (flock_leaf_of coefs k) (flock_part coefs k)
 flock-valid coefs k is =

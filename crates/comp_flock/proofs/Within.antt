@@ -10,12 +10,12 @@ use Rattle.cert_base.specs.declared.node.Node.TheVariants.{Present, Twin, Siphon
 use Rattle.cert_base.specs.Rows.{zeros}
 use Rattle.cert_base.specs.ProofLimits.{IsSmall, IsSetWithin, IsNodeWithin, AreNodesWithin, IsLayerWithin}
 use Rattle.comp_trees.specs.LeaderTree.{weighed_node}
-use Rattle.comp_trees.proofs.Limits.{weighed-within, all-zeros}
-use Rattle.comp_layers.proofs.Members.{all_range}
+use Rattle.comp_trees.proofs.Limits.{weighed-within, all-zeros, one}
 use Rattle.comp_flock_leaf.specs.FlockLeaf.{size_in}
 use Rattle.comp_flock.specs.FlockProof.{flock_weight, flock_layers_of, flock_mix, lesser_size, few_mix, converted_mix, first_mix, start_mix, never_mix, flock_true_tree, flock_false_tree}
 use Rattle.comp_flock_leaf.proofs.Powers.{size-le, power_small}
-use Rattle.comp_flock.proofs.Small.{abs-neg}
+use Rattle.list_laws.proofs.Ranges.{all_range}
+use Rattle.list_laws.proofs.Numbers.{size-neg}
 
 weight-small : (k q : ℕ) → IsSmall (flock_weight k q)
 weight-small k q = go (q == 0) (q == k + 1)
@@ -31,9 +31,6 @@ below-small k q n l = go (q == k + 1)
     go : (b : Bool) → IsSmall (if b then pos 0 else pos n)
     go true = omega arith
     go false = omega arith
-
-one : (a : ℤ) → IsSmall a → All IsSmall (a ∷ [])
-one a h = All-cons IsSmall a [] h (All-nil IsSmall)
 
 mix-long : (flows : List ℤ) (wrong opened : ℤ) (own : List ℤ) → length (flock_mix flows wrong opened own) ≡ length flows + length own + 4
 mix-long flows wrong opened own =
@@ -98,9 +95,9 @@ module _ (k : ℕ) (high : k ≤ 39) where
       let minus : ℕ → ℤ = λ q. neg_ℤ (pos (size_in q)) in
       mix-within (map minus (range_with_len 0 (k + 2))) (pos 0) (pos 1) (neg_ℤ (pos (2 ^ k)) ∷ map size (range_with_len 1 k)) (k + 2) (k + 2)
       (omega (arith, length-map-range_with_len minus 0 (k + 2))) (omega (arith, length-map-range_with_len size 1 k)) (omega arith)
-      (All-map IsSmall minus (range_with_len 0 (k + 2)) (all_range (λ q. IsSmall (minus q)) 0 (k + 2) (λ q l m. let a = size-small q (omega arith) in let b = abs-neg (size_in q) in omega (arith, a, b))))
+      (All-map IsSmall minus (range_with_len 0 (k + 2)) (all_range (λ q. IsSmall (minus q)) 0 (k + 2) (λ q l m. let a = size-small q (omega arith) in let b = size-neg (size_in q) in omega (arith, a, b))))
       (omega arith) (omega arith)
-      (All-cons IsSmall (neg_ℤ (pos (2 ^ k))) (map size (range_with_len 1 k)) (let a = top-small in let b = abs-neg (2 ^ k) in omega (arith, a, b))
+      (All-cons IsSmall (neg_ℤ (pos (2 ^ k))) (map size (range_with_len 1 k)) (let a = top-small in let b = size-neg (2 ^ k) in omega (arith, a, b))
       (All-map IsSmall size (range_with_len 1 k) (all_range (λ q. IsSmall (size q)) 1 k (λ q l m. let a = size-small q (omega arith) in omega (arith, a)))))
 
   first-within : IsNodeWithin (weighed_node (first_mix k))

@@ -1,5 +1,6 @@
 -- FlockProof: the layer, the trees and the whole proof for a built leaf of a flock atom. The state 2^k is state k + 1.
-use Rattle.std.specs.Prelude.{ℕ, ◌+◌, ◌^◌, ◌==◌, if◌then◌else◌, List, [], ◌∷◌, ◌++◌, map, length, replicate, ℤ, pos, negsuc, neg_ℤ}
+use Rattle.std.specs.Prelude.{ℕ, ◌+◌, ◌^◌, ◌==◌, if◌then◌else◌, List, [], ◌∷◌, ◌++◌, map, length, replicate, ℤ, pos}
+use Rattle.std.specs.Prelude.{negsuc, neg_ℤ}
 use Rattle.std.specs.List.{range_with_len}
 use Rattle.pres_ast.specs.PredTree.{LessThan}
 use Rattle.pres_ast.specs.PredModel.{PredModel}
@@ -58,7 +59,8 @@ start_mix k = flock_mix (zeros (flock_state_count k)) (pos 0) (pos 0) (pos 1 ∷
 abbrev pub never_mix : ℕ → List ℤ
 never_mix k = flock_mix (zeros (flock_state_count k)) (pos 1) (pos 0) (zeros (k + 1) ++ negsuc 0 ∷ [])
 
--- ---- the trees: 2^k is absent at the end, or present; 2^k was put in without being there, or was there at the start, or never came
+-- ---- the trees: 2^k is absent at the end, or present; 2^k was put in without being there, or was there at the start,
+-- or never came
 abbrev pub flock_true_tree : ℕ → List Node
 flock_true_tree k =
     (Open (flock_state_count k + 1) ∷ Present (k + 1) ∷ map Twin (range_with_len 1 k))
@@ -66,7 +68,8 @@ flock_true_tree k =
 
 abbrev pub flock_false_tree : ℕ → List Node
 flock_false_tree k =
-    Open (flock_state_count k + 1) ∷ Siphon ((k + 1) ∷ []) ∷ weighed_node (first_mix k) ∷ weighed_node (start_mix k) ∷ weighed_node (never_mix k) ∷ []
+    Open (flock_state_count k + 1) ∷ Siphon ((k + 1) ∷ []) ∷ weighed_node (first_mix k) ∷ weighed_node (start_mix k)
+    ∷ weighed_node (never_mix k) ∷ []
 
 -- ---- the whole proof of the leaf
 

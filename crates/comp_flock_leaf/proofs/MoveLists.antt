@@ -2,7 +2,7 @@
 use Rattle.std.proofs.Common.{◌≡◌, ◌≢◌, inl, inr, ℕ, ◌+◌, ◌<◌, ◌≤◌, true, false, List, length, map, refl, arith}
 use Rattle.std.specs.Prelude.{◌==◌, All, Contains}
 use Rattle.std.specs.List.{range_with_len, list_any}
-use Rattle.std.proofs.lemmas.Bool.{eq-eqb, ne_eqb}
+use Rattle.std.proofs.lemmas.Bool.{ne_eqb}
 use Rattle.std.proofs.lemmas.List.{length-append}
 use Rattle.std.proofs.lemmas.List.FromFn.{length-map-range_with_len}
 use Rattle.std.proofs.lemmas.List.Elements.{All-append, All-map, Contains-append_left, Contains-append_right}
@@ -10,9 +10,13 @@ use Rattle.pop_net.specs.declared.leaf.Move.{Move}
 use Rattle.pop_net.specs.LeafModel.{silent_move, same_pair}
 use Rattle.pop_net.specs.Reaction.{takes_states}
 use Rattle.cert_base.proofs.WeightedSums.{list_any-from}
-use Rattle.comp_layers.proofs.Members.{all_range, range_has, has_map}
-use Rattle.comp_layers.proofs.Single.{and_no, differ-by}
+use Rattle.comp_layers.proofs.Members.{range_has}
+use Rattle.comp_layers.proofs.Single.{differ-by}
 use Rattle.comp_flock_leaf.specs.FlockLeaf.{doubling_move, conversion_move, flock_moves}
+use Rattle.list_laws.proofs.Ranges.{all_range}
+use Rattle.list_laws.proofs.Lists.{has_map}
+use Rattle.list_laws.proofs.Truth.{and_false}
+use Rattle.pop_net.proofs.Silent.{takes-own}
 
 abbrev doublings : ℕ → List Move
 doublings k = map doubling_move (range_with_len 0 k)
@@ -51,12 +55,9 @@ pub doubling-loud : (i : ℕ) → silent_move (doubling_move i) ≡ false
 doubling-loud i = differ_pair (i + 1) (i + 1) (i + 2) 0 (λ e. omega arith) (λ e. omega arith)
 
 pub conversion-loud : (k q : ℕ) → q ≤ k → silent_move (conversion_move k q) ≡ false
-conversion-loud k q l = let first = ne_eqb q (k + 1) (λ e. omega arith) in let none = and_no ((k + 1) == (k + 1)) in rw (first, none) refl
+conversion-loud k q l = let first = ne_eqb q (k + 1) (λ e. omega arith) in let none = and_false ((k + 1) == (k + 1)) in rw (first, none) refl
 
 -- ---- which states can meet
-
-takes-own : (t : Move) → silent_move t ≡ false → takes_states t.p t.q t ≡ true
-takes-own t loud = let a = eq-eqb t.p t.p refl in let b = eq-eqb t.q t.q refl in rw (loud, a, b) refl
 
 pub doubles : (k i : ℕ) → i < k → list_any (takes_states (i + 1) (i + 1)) (flock_moves k) ≡ true
 doubles k i l = list_any-from (takes_states (i + 1) (i + 1)) (flock_moves k) (doubling_move i) (has_doubling k i l) (takes-own (doubling_move i) (doubling-loud i))

@@ -1,8 +1,10 @@
 -- FlockLeaf: the atoms that say `x >= 2^k`, and their built leaf with k + 2 states (Blondin, Esparza, Jaax 2018).
-use Rattle.std.specs.Prelude.{ℕ, ◌+◌, ◌-◌, ◌^◌, Bool, ◌||◌, ◌==◌, if◌then◌else◌, List, [], ◌++◌, map, ℤ, pos, negsuc, ◌-ℤ◌, Option, None, find}
+use Rattle.std.specs.Prelude.{◌≡◌, ◌≤◌, ℕ, ◌+◌, ◌-◌, ◌^◌, Bool, true, ◌||◌, ◌==◌, if◌then◌else◌, List, [], ◌++◌, length}
+use Rattle.std.specs.Prelude.{map, ℤ, pos, negsuc, ◌-ℤ◌, Option, None, find}
 use Rattle.std.specs.List.{range_with_len, list_all}
 use Rattle.std.specs.Ordering.{int_eq}
 use Rattle.std.specs.Fmt.{decimal}
+use Rattle.pop_io.specs.declared.names.TheConstants.{VARIABLE_LIMIT}
 use Rattle.pop_net.specs.declared.leaf.Move.{Move}
 use Rattle.pop_net.specs.LeafModel.{LeafModel}
 use Rattle.comp_flock_leaf.specs.declared.limits.TheConstants.{POWER_LIMIT}
@@ -18,7 +20,16 @@ flock_bound k = pos 1 -ℤ pos (2 ^ k)
 -- the power k of a flock atom, from 1 to the limit
 abbrev pub power_of : List ℤ → ℤ → Option ℕ
 power_of coefs bound =
-    if list_all is_flock_coefficient coefs then find (λ k. int_eq bound (flock_bound k)) (range_with_len 1 POWER_LIMIT) else None
+    if list_all is_flock_coefficient coefs then find (λ k. int_eq bound (flock_bound k)) (range_with_len 1 POWER_LIMIT)
+    else None
+
+-- the coefficients of a flock atom, over one variable at least, and its power
+pub record IsFlock (coefs : List ℤ) (k : ℕ) : Type 0 where
+  pub some : 1 ≤ length coefs
+  pub few : length coefs ≤ VARIABLE_LIMIT
+  pub are : list_all is_flock_coefficient coefs ≡ true
+  pub low : 1 ≤ k
+  pub high : k ≤ POWER_LIMIT
 
 -- how many agents a state stands for: `0` is state 0, and 2^i is state i + 1
 abbrev pub size_in : ℕ → ℕ

@@ -1,9 +1,8 @@
 //! The whole leaf.
 
-ghost use Rattle.std.specs.Prelude.{◌≡◌, ◌≤◌, ◌==◌, ◌+◌, AllPairs, map, length, IfOk};
+ghost use Rattle.std.specs.Prelude.{◌≡◌, ◌≤◌, ◌==◌, ◌+◌, map, IfOk};
 ghost use Rattle.std.specs.List.{range_with_len};
-ghost use Rattle.pop_io.specs.declared.names.TheConstants.{VARIABLE_LIMIT};
-ghost use Rattle.pop_net.specs.Reaction.{Differ};
+ghost use Rattle.comp_layers.specs.DefinedLeaf.{HasInputs, IsDefined};
 ghost use Rattle.comp_flock_leaf.specs.declared.limits.TheConstants.{POWER_LIMIT};
 ghost use Rattle.comp_flock_leaf.specs.FlockLeaf.{flock_start, flock_state_count, flock_leaf_of};
 
@@ -41,13 +40,10 @@ fn inputs(alloc: Global, coefs: &[i64]) -> Result<Vec<u16>, NoMemory>
 
 /// The leaf of the flock atom with these coefficients and this power. It has no helpers.
 pub fn flock_leaf(alloc: Global, coefs: &[i64], power: u16) -> Result<Leaf, NoMemory>
-    requires some { 1 ≤ length coefs.now }
-    requires few { length coefs.now ≤ VARIABLE_LIMIT }
+    requires inputs { HasInputs coefs.now }
     requires low { 1 ≤ power }
     requires high { power ≤ POWER_LIMIT }
-    ensures built { IfOk result (λ leaf. leaf ≡ flock_leaf_of coefs.now power) }
-    // No two of its moves take the same states.
-    ensures single { IfOk result (λ leaf. AllPairs Differ leaf.moves) }
+    ensures { IfOk result (IsDefined (flock_leaf_of coefs.now power)) }
 {
     let names = names(alloc, power)?;
     let moves = List::from_vec(moves(alloc, power)?);

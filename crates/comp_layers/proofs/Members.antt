@@ -6,11 +6,8 @@ use Rattle.std.proofs.lemmas.List.{append-nil}
 use Rattle.std.proofs.lemmas.List.Concat.{flat_map-append}
 use Rattle.std.proofs.lemmas.List.Elements.{All-append, All-nil, All-cons, Contains-append_left, Contains-append_right}
 use Rattle.std.proofs.lemmas.List.FromFn.{length-range_with_len, get_or-range_with_len, map-range_with_len_more}
-
-pub all_range : (P : ℕ → Type 0) (a n : ℕ) → ((q : ℕ) → a ≤ q → q < a + n → P q) → All P (range_with_len a n)
-all_range P a zero f = All-nil P
-all_range P a (suc n) f =
-    All-cons P a (range_with_len (a + 1) n) (f a (omega arith) (omega arith)) (all_range P (a + 1) n (λ q l m. f q (omega arith) (omega arith)))
+use Rattle.list_laws.proofs.Ranges.{range_next}
+use Rattle.list_laws.proofs.Lists.{has_later, has_first}
 
 pub all_flat : {A B : Type 0} (P : B → Type 0) (f : A → List B) (xs : List A) → All (λ x. All P (f x)) xs → All P (flat_map f xs)
 all_flat P f [] all = All-nil P
@@ -20,17 +17,6 @@ all_flat {A} {B} P f (x ∷ xs) all =
 pub range_has : (a n q : ℕ) → a ≤ q → q < a + n → Contains (range_with_len a n) q
 range_has a n q l m =
     (q - a, (let e : q - a < length (range_with_len a n) = omega (arith, length-range_with_len a n) in e), get_or-range_with_len a n (q - a) q (omega arith) ∙ (let e : a + (q - a) ≡ q = omega arith in e))
-
-pub has_first : {A : Type 0} (x : A) (xs : List A) → Contains (x ∷ xs) x
-has_first x xs = (0, (let e : 0 < length (x ∷ xs) = omega arith in e), refl)
-
-pub has_later : {A : Type 0} (x y : A) (xs : List A) → Contains xs x → Contains (y ∷ xs) x
-has_later x y xs c = (suc c.0, (let l = c.1 in let e : suc c.0 < length (y ∷ xs) = omega arith in e), c.2)
-
-pub has_map : {A B : Type 0} (g : A → B) (xs : List A) (x : A) → Contains xs x → Contains (map g xs) (g x)
-has_map g [] x c = absurd (omega (arith, c.1))
-has_map g (y ∷ xs) x (zero, l, e) = subst (λ b. Contains (g y ∷ map g xs) b) (ap g e) (has_first (g y) (map g xs))
-has_map g (y ∷ xs) x (suc k, l, e) = has_later (g x) (g y) (map g xs) (has_map g xs x (k, (omega (arith, l)), e))
 
 pub has_filter : {A : Type 0} (test : A → Bool) (xs : List A) (x : A) → Contains xs x → test x ≡ true → Contains (filter test xs) x
 has_filter test [] x c h = absurd (omega (arith, c.1))
@@ -55,11 +41,6 @@ all_filtered {A} test P (x ∷ xs) all = go (test x) refl (all_filtered test P x
     go true e rest = All-cons P x (filter test xs) (all 0 x (omega arith) e) rest
     go false e rest = rest
 
-range_next : (a n : ℕ) → range_with_len a (suc n) ≡ range_with_len a n ++ (a + n) ∷ []
-range_next a zero = ap (λ z. z ∷ []) (let e : a ≡ a + 0 = omega arith in e)
-range_next a (suc n) =
-    ap (λ zs. a ∷ zs) (range_next (a + 1) n ∙ ap (λ z. range_with_len (a + 1) n ++ z ∷ []) (let e : a + 1 + n ≡ a + suc n = omega arith in e))
-
 -- one more piece of a list of pieces
 pub flat_range_more : {A : Type 0} (f : ℕ → List A) (n : ℕ) (start before own after : List A) → before ≡ start ++ flat_map f (range_with_len 0 n) → own ≡ f n → after ≡ before ++ own → after ≡ start ++ flat_map f (range_with_len 0 (n + 1))
 flat_range_more f n start before own after b o e =
@@ -67,10 +48,6 @@ flat_range_more f n start before own after b o e =
     ∙ ap (λ xs. xs ++ own) b
     ∙ append_assoc start (flat_map f (range_with_len 0 n)) own
     ∙ ap (λ xs. start ++ xs) (ap (λ xs. flat_map f (range_with_len 0 n) ++ xs) (o ∙ sym (append-nil (f n))) ∙ sym (flat_map-append f (range_with_len 0 n) (n ∷ [])) ∙ ap (flat_map f) (ap (λ k. range_with_len 0 n ++ k ∷ []) (sym (zero-add n)) ∙ sym (range_next 0 n) ∙ ap (range_with_len 0) (let k : suc n ≡ n + 1 = omega arith in k)))
-
-pub range_one_more : (n : ℕ) → range_with_len 0 (n + 1) ≡ range_with_len 0 n ++ n ∷ []
-range_one_more n =
-    ap (range_with_len 0) (let k : n + 1 ≡ suc n = omega arith in k) ∙ range_next 0 n ∙ ap (λ k. range_with_len 0 n ++ k ∷ []) (zero-add n)
 
 -- one more item of a list by index
 pub map_range_push : {A : Type 0} (f : ℕ → A) (n : ℕ) (before after : List A) (x : A) → before ≡ map f (range_with_len 0 n) → x ≡ f n → after ≡ before ++ x ∷ [] → after ≡ map f (range_with_len 0 (n + 1))

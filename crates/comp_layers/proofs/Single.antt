@@ -1,13 +1,15 @@
 -- Lists made of ranges, of which each two items are related; pairs that are not the same.
-use Rattle.std.proofs.Common.{◌≡◌, ◌≢◌, ◌⊎◌, inl, inr, ℕ, zero, suc, ◌+◌, ◌<◌, ◌≤◌, Bool, true, false, ◌&&◌, List, map, get_or, refl, arith}
+use Rattle.std.proofs.Common.{◌≡◌, ◌≢◌, ◌⊎◌, inl, inr, ℕ, zero, suc, ◌+◌, ◌<◌, ◌≤◌, false, ◌&&◌, List, map, get_or, refl, arith}
 use Rattle.std.specs.Prelude.{All, AllPairs, flat_map, ◌==◌}
 use Rattle.std.specs.List.{range_with_len}
 use Rattle.std.proofs.lemmas.Bool.{ne_eqb}
 use Rattle.std.proofs.lemmas.List.Elements.{All-map}
 use Rattle.std.proofs.lemmas.List.Kept.{AllPairs-cons}
 use Rattle.pop_net.specs.LeafModel.{same_pair}
-use Rattle.comp_layers.proofs.Members.{all_range, all_flat}
+use Rattle.comp_layers.proofs.Members.{all_flat}
 use Rattle.comp_layers.proofs.SortedLayers.{AllPairs-append}
+use Rattle.list_laws.proofs.Ranges.{all_range}
+use Rattle.list_laws.proofs.Truth.{and_false}
 
 pub pairs_map : {A : Type 0} (R : A → A → Type 0) (g : ℕ → A) (a n : ℕ) → ((i j : ℕ) → a ≤ i → i < j → j < a + n → R (g i) (g j)) → AllPairs R (map g (range_with_len a n))
 pairs_map R g a zero f = λ i j d l m. absurd (omega (arith, m))
@@ -23,10 +25,6 @@ pairs_flat R g a (suc n) f h =
     (pairs_flat R g (a + 1) n (λ i l m. f i (omega arith) (omega arith)) (λ i j l m k. h i j (omega arith) m (omega arith)))
     (λ k d l. all_flat (R (get_or (g a) k d)) g (range_with_len (a + 1) n) (all_range (λ j. All (R (get_or (g a) k d)) (g j)) (a + 1) n (λ j p q. h a j (omega arith) (omega arith) (omega arith) k d l)))
 
-pub and_no : (a : Bool) → (a && false) ≡ false
-and_no true = refl
-and_no false = refl
-
 -- no pair in one order, and none in the other
 pub differ-by : (p q u v : ℕ) → (p ≢ u) ⊎ (q ≢ v) → (p ≢ v) ⊎ (q ≢ u) → same_pair p q u v ≡ false
 differ-by p q u v a b =
@@ -36,4 +34,4 @@ differ-by p q u v a b =
   where
     one : (p q u v : ℕ) → (p ≢ u) ⊎ (q ≢ v) → ((p == u) && (q == v)) ≡ false
     one p q u v (inl n) = let e = ne_eqb p u n in rw e refl
-    one p q u v (inr n) = let e = ne_eqb q v n in rw e (and_no (p == u))
+    one p q u v (inr n) = let e = ne_eqb q v n in rw e (and_false (p == u))

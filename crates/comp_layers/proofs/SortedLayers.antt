@@ -3,7 +3,7 @@ use Rattle.std.proofs.Common.{◌≡◌, ◌≢◌, ◌⊎◌, inl, inr, subst, 
 use Rattle.std.specs.Prelude.{ℤ, if◌then◌else◌, ◌==◌, All, AllPairs, Contains, Some, slice_get}
 use Rattle.std.proofs.lemmas.Bool.{eq-eqb, eqb-true, cases_lt}
 use Rattle.std.proofs.lemmas.Option.{slice_get_within, get_or_from_slice_get, slice_get-get_or}
-use Rattle.std.proofs.lemmas.List.Elements.{All-nil, All-cons, All-append, All-contains, Contains-append_left, Contains-append_right}
+use Rattle.std.proofs.lemmas.List.Elements.{All-nil, All-cons, All-append, All-contains, Contains-append_left, Contains-append_right, All-weaker}
 use Rattle.std.proofs.lemmas.List.Kept.{AllPairs-cons}
 use Rattle.pop_net.specs.declared.leaf.Move.{Move}
 use Rattle.pop_net.specs.LeafModel.{LeafModel, silent_move}
@@ -63,15 +63,12 @@ module _ (moves : List Move) (kind : Move → ℕ) where
     pub above : i ≤ kind_of
     pub of : IsOfKind kind_of number
 
-  all_of : {A : Type 0} (P Q : A → Type 0) → ((x : A) → P x → Q x) → (xs : List A) → All P xs → All Q xs
-  all_of P Q f xs all = λ k d l. f (get_or xs k d) (all k d l)
-
   from_kind : (i : ℕ) (ws : List (List ℤ)) → All (IsFromKind i) (moves_of_layers (sorted_layers moves kind i ws))
   from_kind i [] = All-nil (IsFromKind i)
   from_kind i (w ∷ ws) =
       All-append (IsFromKind i) (places_from 0 (λ t. kind t == i) moves) (moves_of_layers (sorted_layers moves kind (i + 1) ws))
-      (all_of (IsOfKind i) (IsFromKind i) (λ number is. record { kind_of = i; above = omega arith; of = is }) (places_from 0 (λ t. kind t == i) moves) (of_kind i))
-      (all_of (IsFromKind (i + 1)) (IsFromKind i) (λ number is. record { kind_of = is.kind_of; above = (let a = is.above in omega arith); of = is.of }) (moves_of_layers (sorted_layers moves kind (i + 1) ws)) (from_kind (i + 1) ws))
+      (All-weaker (IsOfKind i) (IsFromKind i) (λ number is. record { kind_of = i; above = omega arith; of = is }) (places_from 0 (λ t. kind t == i) moves) (of_kind i))
+      (All-weaker (IsFromKind (i + 1)) (IsFromKind i) (λ number is. record { kind_of = is.kind_of; above = (let a = is.above in omega arith); of = is.of }) (moves_of_layers (sorted_layers moves kind (i + 1) ws)) (from_kind (i + 1) ws))
 
   other_kinds : (i k a b : ℕ) → i < k → IsOfKind i a → IsOfKind k b → a ≢ b
   other_kinds i k a b l x y e =
@@ -86,7 +83,7 @@ module _ (moves : List Move) (kind : Move → ℕ) where
   once i [] = λ i j d l m. absurd (omega (arith, m))
   once i (w ∷ ws) =
       AllPairs-append ◌≢◌ (places_from 0 (λ t. kind t == i) moves) (moves_of_layers (sorted_layers moves kind (i + 1) ws)) (places-apart 0 (λ t. kind t == i) moves) (once (i + 1) ws)
-      (all_of (IsOfKind i) (λ a. All (λ b. a ≢ b) (moves_of_layers (sorted_layers moves kind (i + 1) ws))) (λ a x. all_of (IsFromKind (i + 1)) (λ b. a ≢ b) (λ b y. other_kinds i y.kind_of a b (let l = y.above in omega arith) x y.of) (moves_of_layers (sorted_layers moves kind (i + 1) ws)) (from_kind (i + 1) ws)) (places_from 0 (λ t. kind t == i) moves) (of_kind i))
+      (All-weaker (IsOfKind i) (λ a. All (λ b. a ≢ b) (moves_of_layers (sorted_layers moves kind (i + 1) ws))) (λ a x. All-weaker (IsFromKind (i + 1)) (λ b. a ≢ b) (λ b y. other_kinds i y.kind_of a b (let l = y.above in omega arith) x y.of) (moves_of_layers (sorted_layers moves kind (i + 1) ws)) (from_kind (i + 1) ws)) (places_from 0 (λ t. kind t == i) moves) (of_kind i))
 
   -- the layer of a kind
   layer_at : (i k : ℕ) (ws : List (List ℤ)) → k < length ws → slice_get (sorted_layers moves kind i ws) k ≡ Some (sorted_layer moves kind (i + k) (get_or ws k []))
@@ -159,7 +156,7 @@ module _ (leaf : LeafModel) (kind : Move → ℕ) (ws : List (List ℤ)) (are : 
   pub sorted_layers-valid : ValidLayers leaf layers
   sorted_layers-valid = record {
     weights = weights_all leaf.moves kind (λ w. length w ≡ length leaf.states) 0 ws are.long;
-    in_range = all_of leaf.moves kind (IsFromKind leaf.moves kind 0) (λ number. number < length leaf.moves) (λ number is. slice_get_within leaf.moves number is.of.taken is.of.move_is) (moves_of_layers layers) (from_kind leaf.moves kind 0 ws);
+    in_range = All-weaker (IsFromKind leaf.moves kind 0) (λ number. number < length leaf.moves) (λ number is. slice_get_within leaf.moves number is.of.taken is.of.move_is) (moves_of_layers layers) (from_kind leaf.moves kind 0 ws);
     once = once leaf.moves kind 0 ws;
     all = λ number t h loud. lists_move leaf.moves kind 0 ws number t h (omega arith) (let within = All-contains (λ t. kind t < length ws) leaf.moves t are.kinds (got_contains number t h) in omega arith);
     lower = λ i t at. (

@@ -1,1 +1,2 @@
 pub mod SortedLayers
+pub mod DefinedLeaf

@@ -1,6 +1,8 @@
--- SortedLayers: layers by the kinds of moves, and the layers of a leaf with leaders: first what changes a leader, then the turns
+-- SortedLayers: layers by the kinds of moves, and the layers of a leaf with leaders: first what changes a leader, then
+-- the turns
 -- from lower followers to higher ones, then the other turns.
-use Rattle.std.specs.Prelude.{◌≡◌, ◌≢◌, ◌<◌, ◌≤◌, ℕ, ◌+◌, false, ◌==◌, nat_lt, if◌then◌else◌, List, [], ◌∷◌, ℤ, All, Contains}
+use Rattle.std.specs.Prelude.{◌≡◌, ◌≢◌, ◌<◌, ◌≤◌, ℕ, ◌+◌, false, ◌==◌, nat_lt, if◌then◌else◌, List, [], ◌∷◌, ℤ, All}
+use Rattle.std.specs.Prelude.{Contains}
 use mathlib.Core.Logic.{◌⊎◌}
 use Rattle.pop_net.specs.declared.leaf.Move.{Move}
 use Rattle.pop_net.specs.LeafModel.{LeafModel, silent_move}
@@ -16,7 +18,8 @@ abbrev pub sorted_layers : List Move → (Move → ℕ) → ℕ → List (List �
 sorted_layers moves kind i [] = []
 sorted_layers moves kind i (weights ∷ rest) = sorted_layer moves kind i weights ∷ sorted_layers moves kind (i + 1) rest
 
--- with n leaders: 0 where it changes a leader or its follower's value, 1 where it turns a follower to a higher one, 2 elsewhere
+-- with n leaders: 0 where it changes a leader or its follower's value, 1 where it turns a follower to a higher one, 2
+-- elsewhere
 abbrev pub leader_kind : ℕ → Move → ℕ
 leader_kind n t = if nat_lt t.q n then 0 else (if t.r == t.p then (if nat_lt t.q t.s then 1 else 2) else 0)
 
@@ -27,6 +30,8 @@ pub record IsLeaderProtocol (leaf : LeafModel) (n : ℕ) : Type 0 where
   pub leads : All (λ t. t.p < n) leaf.moves
   pub follows : All (λ t. n ≤ t.s) leaf.moves
   -- two leaders meet
-  pub meet : (p q : ℕ) → p < n → q < n → p ≢ q → (u : Move) × Contains leaf.moves u × (u.q < n) × ((u.p ≡ p) × (u.q ≡ q) ⊎ (u.p ≡ q) × (u.q ≡ p))
+  pub meet : (p q : ℕ) → p < n → q < n → p ≢ q
+      → (u : Move) × Contains leaf.moves u × (u.q < n) × ((u.p ≡ p) × (u.q ≡ q) ⊎ (u.p ≡ q) × (u.q ≡ p))
   -- a leader that turned a follower doesn't change it again
-  pub settled : (t u : Move) → Contains leaf.moves t → Contains leaf.moves u → n ≤ t.q → t.r ≡ t.p → u.q ≡ t.s → u.p ≢ t.p
+  pub settled : (t u : Move) → Contains leaf.moves t → Contains leaf.moves u → n ≤ t.q → t.r ≡ t.p → u.q ≡ t.s
+      → u.p ≢ t.p

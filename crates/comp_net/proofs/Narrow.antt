@@ -1,24 +1,22 @@
 -- Where nothing is wrong with a predicate, its atoms can be built, and they are few enough, also for a wide leaf.
-use Rattle.std.proofs.Common.{◌≡◌, ℕ, ◌+◌, ◌<◌, ◌≤◌, Bool, true, false, not, List, ◌++◌, length, map, subst, refl, ap, sym, ◌∙◌, arith}
-use Rattle.std.specs.Prelude.{None, All, nat_lt, if◌then◌else◌, position}
+use Rattle.std.proofs.Common.{◌≡◌, ℕ, ◌<◌, ◌≤◌, Bool, true, false, not, List, length, map, subst, refl, ap, sym, ◌∙◌, arith}
+use Rattle.std.specs.Prelude.{None, All, nat_lt, if◌then◌else◌, position, ℤ}
 use Rattle.std.proofs.lemmas.Bool.{ltb-true, ltb-false, le-ltb, not-true}
-use Rattle.std.proofs.lemmas.List.{length-append, length-map, get_or-map, get_or_append_left, get_or-append-add}
+use Rattle.std.proofs.lemmas.List.{length-map, get_or-map}
 use Rattle.pop_net.specs.declared.limits.TheConstants.{LEAF_LIMIT, WIDE_LEAF_LIMIT}
 use Rattle.pop_io.specs.declared.names.TheConstants.{VARIABLE_LIMIT}
 use Rattle.pop_net.proofs.FirstFault.{NoneIff, first_of-nil, first_of-cons, none_unless, none_map, none_position}
 use Rattle.pop_net.proofs.LeafFaults.{Decides-le}
 use Rattle.pres_ast.specs.PredTree.{PredTree, LessThan, Congruent, Negation, Conjunction, Disjunction}
-use Rattle.pres_ast.specs.PredModel.{HasAtoms}
+use Rattle.pres_ast.specs.PredModel.{AreCoefs, HasAtoms, IsAtomSum}
 use Rattle.comp_threshold_leaf.specs.declared.limits.TheConstants.{WIDTH_LIMIT}
 use Rattle.comp_net.specs.declared.limits.TheConstants.{NARROW_WIDTH_LIMIT}
 use Rattle.comp_net.specs.declared.fault.CompileFault.TheVariants as fault
 use Rattle.comp_net.specs.declared.choice.LeafChoice.{LeafChoice}
 use Rattle.comp_net.specs.Atoms.{atoms, atom_width, AreBuildable}
 use Rattle.comp_net.specs.CompileFaults.{widths_of, first_width_over, first_wide_width, fault_of_widths, fault_with}
-
-twice : (b : Bool) → not (not b) ≡ b
-twice true = refl
-twice false = refl
+use Rattle.list_laws.proofs.Truth.{not_not}
+use Rattle.list_laws.proofs.Lists.{all_front, all_back}
 
 -- no width is over the limit
 none_over : (limit : ℕ) (ws : List ℕ) → NoneIff (first_width_over limit ws) (All (λ w. w ≤ limit) ws)
@@ -28,7 +26,7 @@ none_over limit ws = (λ e. all.0 (same ∙ e), λ h. sym same ∙ all.1 h)
     all = none_position (λ w. not (nat_lt limit w)) (λ w. w ≤ limit) (λ w. (λ e. ltb-false limit w (not-true _ e), λ l. ap not (le-ltb limit w l))) ws
 
     same : position (λ w. not (not (nat_lt limit w))) ws ≡ position (λ w. nat_lt limit w) ws
-    same = ap (λ p. position p ws) (λ i w. twice (nat_lt limit w) i)
+    same = ap (λ p. position p ws) (λ i w. not_not (nat_lt limit w) i)
 
 none_wide : (ws : List ℕ) → NoneIff (first_wide_width ws) (WIDE_LEAF_LIMIT < length ws → All (λ w. w ≤ NARROW_WIDTH_LIMIT) ws)
 none_wide ws = go (nat_lt WIDE_LEAF_LIMIT (length ws)) refl
@@ -67,19 +65,16 @@ keeps_widths choice tree e =
       not_wide = λ many. of_atoms choice NARROW_WIDTH_LIMIT (atoms tree) (keeps.1.1.0 (omega (arith, long, many)));
     }
 
-all_left : {A : Type 0} (P : A → Type 0) (xs ys : List A) → All P (xs ++ ys) → All P xs
-all_left P xs ys h k d l = subst P (get_or_append_left xs ys d k l) (h k d (omega (arith, length-append xs ys)))
-
-all_right : {A : Type 0} (P : A → Type 0) (xs ys : List A) → All P (xs ++ ys) → All P ys
-all_right P xs ys h k d l = subst P (get_or-append-add xs ys k d) (h (length xs + k) d (omega (arith, length-append xs ys)))
+atom_sum : (n : ℕ) (coefs : List ℤ) → 1 ≤ n → n ≤ VARIABLE_LIMIT → AreCoefs n coefs → IsAtomSum coefs
+atom_sum n coefs some few are = let long = are.0 in record { some = omega arith; few = omega arith; small = are.1 }
 
 pub buildable : (choice : LeafChoice) (n : ℕ) (tree : PredTree) → 1 ≤ n → n ≤ VARIABLE_LIMIT → HasAtoms n tree → All (λ a. atom_width choice a ≤ WIDTH_LIMIT) (atoms tree) → AreBuildable choice tree
 buildable choice n (LessThan coefs bound) some few has narrow =
-    let long = has.0.0 in (((omega arith), (omega arith), has.0.1), has.1, narrow 0 (LessThan coefs bound) (omega arith))
+    (atom_sum n coefs some few has.0, has.1, narrow 0 (LessThan coefs bound) (omega arith))
 buildable choice n (Congruent coefs m rest) some few has narrow =
-    let long = has.0.0 in (((omega arith), (omega arith), has.0.1), has.1, has.2, has.3)
+    (atom_sum n coefs some few has.0, record { low = has.1; high = has.2; left = has.3 })
 buildable choice n (Negation p) some few has narrow = buildable choice n p some few has narrow
 buildable choice n (Conjunction p q) some few has narrow =
-    (buildable choice n p some few has.0 (all_left (λ a. atom_width choice a ≤ WIDTH_LIMIT) (atoms p) (atoms q) narrow), buildable choice n q some few has.1 (all_right (λ a. atom_width choice a ≤ WIDTH_LIMIT) (atoms p) (atoms q) narrow))
+    (buildable choice n p some few has.0 (all_front (λ a. atom_width choice a ≤ WIDTH_LIMIT) (atoms p) (atoms q) narrow), buildable choice n q some few has.1 (all_back (λ a. atom_width choice a ≤ WIDTH_LIMIT) (atoms p) (atoms q) narrow))
 buildable choice n (Disjunction p q) some few has narrow =
-    (buildable choice n p some few has.0 (all_left (λ a. atom_width choice a ≤ WIDTH_LIMIT) (atoms p) (atoms q) narrow), buildable choice n q some few has.1 (all_right (λ a. atom_width choice a ≤ WIDTH_LIMIT) (atoms p) (atoms q) narrow))
+    (buildable choice n p some few has.0 (all_front (λ a. atom_width choice a ≤ WIDTH_LIMIT) (atoms p) (atoms q) narrow), buildable choice n q some few has.1 (all_back (λ a. atom_width choice a ≤ WIDTH_LIMIT) (atoms p) (atoms q) narrow))

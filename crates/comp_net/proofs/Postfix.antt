@@ -1,25 +1,16 @@
 -- The tree in postfix is the tree again, and is within the limits of combinations.
 use Rattle.std.proofs.Common.{◌≡◌, ℕ, ◌+◌, ◌<◌, ◌≤◌, List, [], ◌∷◌, ◌++◌, length, get_or, refl, ap, ◌∙◌, arith}
-use Rattle.std.specs.Prelude.{pos, Option, Some, None, All, option_and_then}
+use Rattle.std.specs.Prelude.{pos, Some, All, option_and_then}
 use Rattle.std.proofs.lemmas.List.{length-append, get_or-append-add}
 use Rattle.std.proofs.Math.ListN.{get_or-append}
 use Rattle.std.proofs.lemmas.List.Elements.{All-nil, All-cons, All-append}
-use Rattle.pop_net.specs.declared.net.Item.{Item}
 use Rattle.pop_net.specs.declared.net.Item.TheVariants.{Leaf, Not, And, Or}
-use Rattle.pop_net.specs.NetModel.{Operators, after_item, after_items, only_one, combined, depth_operators, NamesBelow}
+use Rattle.pop_net.specs.NetModel.{Operators, after_items, only_one, combined, depth_operators, NamesBelow}
 use Rattle.pres_ast.specs.PredTree.{PredTree, LessThan, Congruent, Negation, Conjunction, Disjunction}
 use Rattle.pres_ast.specs.PredModel.{weight_of}
 use Rattle.cert_base.specs.ValidProof.{trees}
 use Rattle.comp_net.specs.Atoms.{atoms, postfix}
-
-along : {A : Type 0} (f g h : List A → Option (List A)) (same : (zs : List A) → f zs ≡ option_and_then h (g zs)) (o : Option (List A)) → option_and_then f o ≡ option_and_then h (option_and_then g o)
-along f g h same None = refl
-along f g h same (Some zs) = same zs
-
-after_items-append : {A : Type 0} (ops : Operators A) (xs ys : List Item) (operands : List A) → after_items ops (xs ++ ys) operands ≡ option_and_then (after_items ops ys) (after_items ops xs operands)
-after_items-append ops [] ys operands = refl
-after_items-append ops (x ∷ xs) ys operands =
-    along (after_items ops (xs ++ ys)) (after_items ops xs) (after_items ops ys) (after_items-append ops xs ys) (after_item ops x operands)
+use Rattle.pop_net.proofs.Trees.{after_items-append}
 
 -- the value of a tree, where leaf n + i is given
 module _ {A : Type 0} (ops : Operators A) where

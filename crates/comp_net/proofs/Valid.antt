@@ -15,7 +15,7 @@ use Rattle.pop_net.specs.NetModel.{NetModel, IsNet, depth_operators, number_of_h
 use Rattle.pop_net.specs.Reaction.{Differ, IsSingle}
 use Rattle.pop_net.proofs.Quiet.{All-slice_get}
 use Rattle.pres_ast.specs.PredTree.{PredTree, LessThan, Congruent, Negation, Conjunction, Disjunction}
-use Rattle.pres_ast.specs.PredModel.{HasAtoms, IsPred}
+use Rattle.pres_ast.specs.PredModel.{HasAtoms, IsAtomSum, IsPred}
 use Rattle.cert_base.specs.FactsAndCases.{over_count}
 use Rattle.cert_base.specs.declared.proof.LeafProof.{LeafProof}
 use Rattle.cert_base.specs.ValidProof.{trees, ValidLeafProof, ValidProof}
@@ -36,7 +36,7 @@ use Rattle.comp_flock_leaf.proofs.PowerFound.{IsPower, power_is}
 use Rattle.comp_net.specs.declared.choice.LeafChoice.{LeafChoice}
 use Rattle.comp_net.specs.declared.choice.LeafChoice.TheVariants.{Plain, Flocks}
 use Rattle.comp_net.specs.declared.limits.TheConstants.{NARROW_WIDTH_LIMIT}
-use Rattle.comp_net.specs.Atoms.{atoms, postfix, flock_of_atom, less_width, atom_width, IsAtomSum, AreBuildable}
+use Rattle.comp_net.specs.Atoms.{atoms, postfix, flock_of_atom, less_width, atom_width, AreBuildable}
 use Rattle.comp_net.specs.BuiltNet.{less_leaf, leaf_of, net_with}
 use Rattle.comp_net.specs.Building.{AreAtomProofs}
 use Rattle.comp_net.specs.CompileFaults.{fault_with}
@@ -63,7 +63,7 @@ flock_found Flocks coefs bound k e = power_is coefs bound k e
 
 less_built : (choice : LeafChoice) (coefs : List ℤ) (bound : ℤ) (o : Option ℕ) → flock_of_atom choice coefs bound ≡ o → IsAtomSum coefs → less_width coefs bound o ≤ WIDTH_LIMIT → IsBuiltLeaf (length coefs) (less_width coefs bound o) (less_leaf coefs bound o)
 less_built choice coefs bound None e sum few = record {
-  formed = threshold-formed coefs bound sum.0 sum.1 few;
+  formed = threshold-formed coefs bound sum.some sum.few few;
   inputs = length-map coefs (place_of_value (threshold_width coefs bound));
   helpers = refl;
   narrow = λ l. le-ltb NARROW_STATE_LIMIT _ (omega (arith, length-map-range_with_len (threshold_state_name (threshold_width coefs bound)) 0 (threshold_state_count (threshold_width coefs bound)), l));
@@ -72,7 +72,7 @@ less_built choice coefs bound None e sum few = record {
 less_built choice coefs bound (Some k) e sum few =
     let is = flock_found choice coefs bound k e in
     record {
-      formed = flock-formed coefs k sum.0 sum.1 is.low is.high;
+      formed = flock-formed coefs k sum.some sum.few is.low is.high;
       inputs = length-map coefs flock_start;
       helpers = refl;
       narrow = λ l. le-ltb NARROW_STATE_LIMIT _ (let high = is.high in omega (arith, length-map-range_with_len flock_state_name 0 (k + 2), high));
@@ -90,10 +90,10 @@ all_built choice n (Congruent coefs m rest) has can =
     All-cons (IsBuilt choice n) (Congruent coefs m rest) []
     (subst (λ k. IsBuilt choice k (Congruent coefs m rest)) long
     (record {
-      formed = remainder-formed coefs m rest can.0.0 can.0.1 (let low = can.1 in omega arith) can.2;
+      formed = remainder-formed coefs m rest can.0.some can.0.few (let low = can.1.low in omega arith) can.1.high;
       inputs = length-map coefs _;
       helpers = refl;
-      narrow = λ l. le-ltb NARROW_STATE_LIMIT _ (let high = can.2 in omega (arith, length-map-range_with_len (remainder_state_name m) 0 (m + 2), high));
+      narrow = λ l. le-ltb NARROW_STATE_LIMIT _ (let high = can.1.high in omega (arith, length-map-range_with_len (remainder_state_name m) 0 (m + 2), high));
       single = remainder_single m rest;
     }))
     (All-nil (IsBuilt choice n))

@@ -1,9 +1,9 @@
 -- Atoms: the atoms of a predicate's tree from left to right, and the tree in postfix.
-use Rattle.std.specs.Prelude.{ℕ, ◌+◌, ◌<◌, ◌≤◌, List, [], ◌∷◌, ◌++◌, ℤ, nat_abs, length, All, Option, Some, None}
-use Rattle.pop_io.specs.declared.names.TheConstants.{VARIABLE_LIMIT}
+use Rattle.std.specs.Prelude.{ℕ, ◌+◌, ◌≤◌, List, [], ◌∷◌, ◌++◌, ℤ, nat_abs, length, Option, Some, None}
 use Rattle.pop_net.specs.declared.net.Item.{Item}
 use Rattle.pop_net.specs.declared.net.Item.TheVariants.{Leaf, Not, And, Or}
-use Rattle.pres_ast.specs.declared.limits.TheConstants.{COEFFICIENT_LIMIT, BOUND_LIMIT, MODULUS_LIMIT}
+use Rattle.pres_ast.specs.declared.limits.TheConstants.{BOUND_LIMIT}
+use Rattle.pres_ast.specs.PredModel.{IsAtomSum, IsResidue}
 use Rattle.pres_ast.specs.PredTree.{PredTree, LessThan, Congruent, Negation, Conjunction, Disjunction}
 use Rattle.comp_threshold_leaf.specs.declared.limits.TheConstants.{WIDTH_LIMIT}
 use Rattle.comp_threshold_leaf.specs.ThresholdLeaf.{threshold_width}
@@ -44,15 +44,11 @@ atom_width choice (Negation p) = 0
 atom_width choice (Conjunction p q) = 0
 atom_width choice (Disjunction p q) = 0
 
--- a sum over one variable at least, within the limits of a predicate
-abbrev pub IsAtomSum : List ℤ → Type 0
-IsAtomSum coefs = (1 ≤ length coefs) × (length coefs ≤ VARIABLE_LIMIT) × All (λ a. nat_abs a ≤ COEFFICIENT_LIMIT) coefs
-
 -- each atom is within the limits of its built leaf
 abbrev pub AreBuildable : LeafChoice → PredTree → Type 0
 AreBuildable choice (LessThan coefs bound) =
     IsAtomSum coefs × (nat_abs bound ≤ BOUND_LIMIT) × (atom_width choice (LessThan coefs bound) ≤ WIDTH_LIMIT)
-AreBuildable choice (Congruent coefs m rest) = IsAtomSum coefs × (2 ≤ m) × (m ≤ MODULUS_LIMIT) × (rest < m)
+AreBuildable choice (Congruent coefs m rest) = IsAtomSum coefs × IsResidue m rest
 AreBuildable choice (Negation p) = AreBuildable choice p
 AreBuildable choice (Conjunction p q) = AreBuildable choice p × AreBuildable choice q
 AreBuildable choice (Disjunction p q) = AreBuildable choice p × AreBuildable choice q

@@ -13,7 +13,8 @@ use Rattle.comp_net.specs.BuiltNet.{net_with}
 use Rattle.comp_net.specs.CompileFaults.{fault_with, RefusesWith}
 
 -- the built net over these names with a valid proof, or the first fault of the predicate
-pub record Compiles (choice : LeafChoice) (names : List (List ℕ)) (pred : PredModel) (result : Result (NetModel × Proof) CompileFault) : Type 0 where
+pub record Compiles (choice : LeafChoice) (names : List (List ℕ)) (pred : PredModel)
+    (result : Result (NetModel × Proof) CompileFault) : Type 0 where
   pub net : IfOk result (λ both. both.0 ≡ net_with choice names pred.tree)
   pub valid : IfOk result (λ both. ValidProof both.0 pred both.1)
   pub within : IfOk result (λ both. IsProofWithin pred.variables (length both.0.leaves) both.1)

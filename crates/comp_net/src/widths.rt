@@ -9,7 +9,7 @@ ghost use Rattle.comp_net.specs.CompileFaults.{first_width_over, first_wide_widt
 
 use crate::choice::{LeafChoice, flock_in};
 use crate::fault::CompileFault;
-use crate::limits::NARROW_WIDTH_LIMIT;
+use crate::limits::{COUNT_LIMIT, NARROW_WIDTH_LIMIT};
 use comp_threshold_leaf::{WIDTH_LIMIT, width};
 use pop_io::NoMemory;
 use pop_net::{LEAF_LIMIT, WIDE_LEAF_LIMIT};
@@ -61,7 +61,7 @@ fn push_widths(widths: &mut Vec<u64>, choice: LeafChoice, tree: &Tree) -> Result
 
 /// What is wrong with atoms of these widths.
 fn fault_by(widths: &[u64]) -> Option<CompileFault>
-    requires { length widths.now ≤ 4294967295 }
+    requires { length widths.now ≤ COUNT_LIMIT }
     ensures { result ≡ fault_of_widths widths.now }
 {
     if LEAF_LIMIT < widths.len() {

@@ -35,10 +35,6 @@ lower-pair m rest p q l k =
     let s_is = weight-is m test (remainder_follower m bit) false (follower-below m bit) (le-ltb (remainder_follower m bit) m (follower-above m bit)) in
     lower_of m (leader_meeting m rest p q) 0 (indicator_weights m test) (kind-pair m (leader_meeting m rest p q) k) refl (omega (arith, ints, p_is, q_is, r_is, s_is))
 
--- a turn
-a_turn : ℕ → ℕ → Bool → Move
-a_turn m p bit = record { p = p; q = remainder_follower m (not bit); r = p; s = remainder_follower m bit }
-
 lower-turn : (m p : ℕ) (bit : Bool) → p < m → IsLower (get_or (all_weights m) (leader_kind m (record { p = p; q = remainder_follower m (not bit); r = p; s = remainder_follower m bit })) []) (record { p = p; q = remainder_follower m (not bit); r = p; s = remainder_follower m bit })
 lower-turn m p true l =
     let test : ℕ → Bool = λ q. q == m in

@@ -1,7 +1,7 @@
 -- Which states of a built leaf of `Rest` can meet: two leaders, and a leader and a follower that answers otherwise.
-use Rattle.std.proofs.Common.{◌≡◌, ◌⊎◌, inl, inr, ℕ, ◌<◌, ◌≤◌, Bool, true, false, ◌&&◌, ◌||◌, List, refl, arith}
+use Rattle.std.proofs.Common.{◌≡◌, ◌⊎◌, inl, inr, ℕ, ◌<◌, ◌≤◌, true, false, List, refl, arith}
 use Rattle.std.specs.Prelude.{ℤ, not, ◌==◌}
-use Rattle.std.proofs.lemmas.Bool.{cases_lt, eq-eqb}
+use Rattle.std.proofs.lemmas.Bool.{cases_lt}
 use Rattle.pop_net.specs.declared.leaf.Move.{Move}
 use Rattle.pop_net.specs.LeafModel.{silent_move, same_pair}
 use Rattle.pop_net.specs.Reaction.{takes_states}
@@ -9,16 +9,7 @@ use Rattle.cert_base.specs.FactsAndCases.{can_meet_in}
 use Rattle.cert_base.proofs.WeightedSums.{list_any-from}
 use Rattle.comp_remainder_leaf.specs.RemainderLeaf.{remainder_follower, leader_meeting, follower_turn, remainder_moves, remainder_leaf_of}
 use Rattle.comp_remainder_leaf.proofs.MoveLists.{has_pair, has_turn, pair-loud, turn-loud}
-
-same-self : (p q : ℕ) → same_pair p q p q ≡ true
-same-self p q = rw (eq-eqb p p refl, eq-eqb q q refl) refl
-
-same-other : (p q : ℕ) → same_pair p q q p ≡ true
-same-other p q = rw (eq-eqb p p refl, eq-eqb q q refl) (or_yes ((p == q) && (q == p)))
-  where
-    or_yes : (b : Bool) → (b || true) ≡ true
-    or_yes true = refl
-    or_yes false = refl
+use Rattle.pop_net.proofs.Silent.{same-self, same-other}
 
 -- a loud move takes its states
 takes-by : (p q : ℕ) (t : Move) → silent_move t ≡ false → same_pair p q t.p t.q ≡ true → takes_states p q t ≡ true

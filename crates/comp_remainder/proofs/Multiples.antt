@@ -1,11 +1,12 @@
 -- Remainders and multiples of a modulus.
-use Rattle.std.proofs.Common.{◌≡◌, ◌≢◌, ◌⊎◌, inl, inr, ℕ, zero, suc, ◌+◌, ◌-◌, ◌*◌, ◌/◌, ◌%◌, ◌<◌, ◌≤◌, true, false, refl, ap, sym, ◌∙◌, arith}
-use Rattle.std.specs.Prelude.{ℤ, pos, negsuc, neg_ℤ, ◌+ℤ◌, ◌-ℤ◌, ◌==◌, nat_abs}
+use Rattle.std.proofs.Common.{◌≡◌, ◌≢◌, ◌⊎◌, inl, inr, ℕ, ◌+◌, ◌-◌, ◌*◌, ◌/◌, ◌%◌, ◌<◌, ◌≤◌, true, false, ap, sym, ◌∙◌, arith}
+use Rattle.std.specs.Prelude.{ℤ, pos, negsuc, neg_ℤ, ◌+ℤ◌, ◌-ℤ◌, ◌==◌}
 use Rattle.std.proofs.lemmas.Int.{ints}
 use Rattle.std.proofs.lemmas.Bool.{eq-eqb, ne_eqb, cases_lt}
 use Rattle.std.proofs.Math.Nat.{mul-mod_left, mod-add-div', mod-lt, mod-eq_of_lt, add-mul, one-mul, zero-mul}
 use Rattle.pres_ast.specs.PredicateValue.{is_multiple}
 use Rattle.comp_remainder_leaf.specs.RemainderLeaf.{residue_of}
+use Rattle.list_laws.proofs.Numbers.{size-neg}
 
 pub divides-multiple : (m k : ℕ) → is_multiple m (pos (k * m)) ≡ true
 divides-multiple m k = eq-eqb _ 0 (mul-mod_left k m)
@@ -13,12 +14,8 @@ divides-multiple m k = eq-eqb _ 0 (mul-mod_left k m)
 pub divides-zero : (m : ℕ) → is_multiple m (pos 0) ≡ true
 divides-zero m = ap (λ n. is_multiple m (pos n)) (sym (zero-mul m)) ∙ divides-multiple m 0
 
-abs-neg : (n : ℕ) → nat_abs (neg_ℤ (pos n)) ≡ n
-abs-neg zero = refl
-abs-neg (suc n) = refl
-
 pub divides-neg : (m n : ℕ) → is_multiple m (neg_ℤ (pos n)) ≡ is_multiple m (pos n)
-divides-neg m n = ap (λ k. (k % m) == 0) (abs-neg n)
+divides-neg m n = ap (λ k. (k % m) == 0) (size-neg n)
 
 -- a number and its remainder
 pub residue-even : (m : ℕ) (a : ℤ) → 0 < m → is_multiple m (pos (residue_of m a) -ℤ a) ≡ true

@@ -1,6 +1,6 @@
 -- The proof of a built leaf of `Rest` is within the limits.
 use Rattle.std.proofs.Common.{◌≡◌, ◌⊎◌, inl, inr, ℕ, ◌+◌, ◌<◌, ◌≤◌, Bool, true, false, List, [], ◌∷◌, length, arith}
-use Rattle.std.specs.Prelude.{ℤ, neg_ℤ, All, if◌then◌else◌, nat_lt, ◌==◌, slice_index_or}
+use Rattle.std.specs.Prelude.{ℤ, All, if◌then◌else◌, nat_lt, ◌==◌, slice_index_or}
 use Rattle.std.specs.List.{range_with_len}
 use Rattle.std.proofs.lemmas.Bool.{lt-ltb, le-ltb, cases_lt}
 use Rattle.std.proofs.lemmas.List.FromFn.{length-map-range_with_len}
@@ -13,13 +13,13 @@ use Rattle.cert_base.specs.FactsAndCases.{differs, indicator}
 use Rattle.cert_base.specs.ProofLimits.{IsSmall, IsNodeWithin, IsLayerWithin, AreNodesWithin}
 use Rattle.comp_trees.specs.LeaderTree.{company_of, mix_of_leader, value_mix, wrong_mix, weighed_node}
 use Rattle.comp_layers.specs.SortedLayers.{leader_kind, sorted_layer}
-use Rattle.comp_layers.proofs.Members.{all_range}
-use Rattle.comp_trees.proofs.Limits.{mix-small, leader-within, leader-within_terms, tree-within}
+use Rattle.comp_trees.proofs.Limits.{mix-small, leader-within, leader-within_terms, tree-within, sign-small}
 use Rattle.comp_layers.proofs.LayerLimits.{layer-within}
 use Rattle.comp_remainder_leaf.specs.RemainderLeaf.{remainder_output, remainder_state_name, remainder_leaf_of}
 use Rattle.comp_remainder.proofs.Trees.{is_led}
 use Rattle.comp_remainder.specs.RemainderProof.{remainder_value, opened_by, remainder_leader_node, remainder_tree}
 use Rattle.comp_remainder.specs.RemainderLayers.{indicator_weights, remainder_layers}
+use Rattle.list_laws.proofs.Ranges.{all_range}
 
 value-small : (m q : ℕ) → m ≤ 200 → IsSmall (remainder_value m q)
 value-small m q few = go (cases_lt q m)
@@ -31,10 +31,6 @@ value-small m q few = go (cases_lt q m)
 opened-small : (b : Bool) → IsSmall (opened_by b)
 opened-small true = omega arith
 opened-small false = omega arith
-
-sign-small : (b : Bool) → IsSmall (neg_ℤ (indicator b))
-sign-small true = omega arith
-sign-small false = omega arith
 
 bit-small : (b : Bool) → IsSmall (indicator b)
 bit-small true = omega arith

@@ -14,7 +14,8 @@ indicator_weights m test = map (λ q. indicator (test q)) (range_with_len 0 (rem
 -- first the meetings of leaders, then the turns from false to true, then those from true to false
 abbrev pub all_weights : ℕ → List (List ℤ)
 all_weights m =
-    indicator_weights m (λ q. nat_lt q m) ∷ indicator_weights m (λ q. q == m) ∷ indicator_weights m (λ q. q == m + 1) ∷ []
+    indicator_weights m (λ q. nat_lt q m) ∷ indicator_weights m (λ q. q == m) ∷ indicator_weights m (λ q. q == m + 1)
+    ∷ []
 
 abbrev pub remainder_layers : LeafModel → ℕ → List Layer
 remainder_layers leaf m = sorted_layers leaf.moves (leader_kind m) 0 (all_weights m)

@@ -1,4 +1,5 @@
--- RemainderProof: the trees and the whole proof for a built leaf of `Rest`. A leader counts for its remainder, and a follower for nothing.
+-- RemainderProof: the trees and the whole proof for a built leaf of `Rest`. A leader counts for its remainder, and a
+-- follower for nothing.
 use Rattle.std.specs.Prelude.{ℕ, Bool, true, false, nat_lt, if◌then◌else◌, List, ℤ, pos, negsuc, length}
 use Rattle.pop_net.specs.LeafModel.{LeafModel}
 use Rattle.pres_ast.specs.PredTree.{Congruent}
@@ -20,7 +21,8 @@ remainder_value m q = if nat_lt q m then pos q else pos 0
 abbrev pub opened_by : Bool → ℤ
 opened_by b = if b then negsuc 0 else pos 0
 
--- the node of the leader p in the tree for b: its remainder doesn't agree with the opened predicate, or no state with another output is left
+-- the node of the leader p in the tree for b: its remainder doesn't agree with the opened predicate, or no state with
+-- another output is left
 abbrev pub remainder_value_node : LeafModel → ℕ → Bool → ℕ → Node
 remainder_value_node leaf m b p =
     Residue m (terms_from 0 (mix_of_leader leaf (company_of leaf p) (value_mix (remainder_value m) (opened_by b) p) p))
@@ -29,7 +31,8 @@ abbrev pub remainder_wrong_node : LeafModel → Bool → ℕ → Node
 remainder_wrong_node leaf b p = weighed_node (mix_of_leader leaf (company_of leaf p) (wrong_mix leaf b) p)
 
 abbrev pub remainder_leader_node : LeafModel → (m rest : ℕ) → Bool → ℕ → Node
-remainder_leader_node leaf m rest b p = if differs b (remainder_output m rest p) then remainder_value_node leaf m b p else remainder_wrong_node leaf b p
+remainder_leader_node leaf m rest b p =
+    if differs b (remainder_output m rest p) then remainder_value_node leaf m b p else remainder_wrong_node leaf b p
 
 abbrev pub remainder_tree : LeafModel → (m rest : ℕ) → Bool → List Node
 remainder_tree leaf m rest b = leader_tree leaf m (remainder_leader_node leaf m rest b)

@@ -1,11 +1,8 @@
 //! The leaf with its proof.
 
-ghost use Rattle.std.specs.Prelude.{◌≡◌, ◌<◌, ◌≤◌, All, AllPairs, nat_abs, length, IfOk};
-ghost use Rattle.pop_io.specs.declared.names.TheConstants.{VARIABLE_LIMIT};
-ghost use Rattle.pres_ast.specs.declared.limits.TheConstants.{COEFFICIENT_LIMIT, MODULUS_LIMIT};
-ghost use Rattle.pop_net.specs.Reaction.{Differ};
-ghost use Rattle.cert_base.specs.ValidProof.{ValidLeafProof};
-ghost use Rattle.cert_base.specs.ProofLimits.{IsLeafProofWithin};
+ghost use Rattle.std.specs.Prelude.{◌≡◌, IfOk};
+ghost use Rattle.pres_ast.specs.PredModel.{IsAtomSum, IsResidue};
+ghost use Rattle.comp_trees.specs.BuiltLeaf.{IsBuilt};
 ghost use Rattle.comp_remainder_leaf.specs.RemainderLeaf.{remainder_leaf_of};
 ghost use Rattle.comp_remainder.specs.RemainderProof.{congruence, remainder_part};
 
@@ -19,12 +16,8 @@ use pres_ast::{Pred, Tree};
 use std::alloc::Global;
 
 fn congruent(alloc: Global, coefs: &[i64], modulus: u32, rest: u32) -> Result<Pred, NoMemory>
-    requires some { 1 ≤ length coefs.now }
-    requires few { length coefs.now ≤ VARIABLE_LIMIT }
-    requires coefs { All (λ a. nat_abs a ≤ COEFFICIENT_LIMIT) coefs.now }
-    requires low { 2 ≤ modulus }
-    requires high { modulus ≤ MODULUS_LIMIT }
-    requires rest { rest < modulus }
+    requires sum { IsAtomSum coefs.now }
+    requires modulus { IsResidue modulus rest }
     ensures { IfOk result (λ pred. pred ≡ congruence coefs.now modulus rest) }
 {
     let tree = Tree::Rest {
@@ -44,12 +37,8 @@ fn leaf_proof(
     leaf: &Leaf,
 ) -> Result<LeafProof, NoMemory>
     requires built { leaf.now ≡ remainder_leaf_of coefs.now modulus rest }
-    requires some { 1 ≤ length coefs.now }
-    requires few { length coefs.now ≤ VARIABLE_LIMIT }
-    requires coefs { All (λ a. nat_abs a ≤ COEFFICIENT_LIMIT) coefs.now }
-    requires low { 2 ≤ modulus }
-    requires high { modulus ≤ MODULUS_LIMIT }
-    requires rest { rest < modulus }
+    requires sum { IsAtomSum coefs.now }
+    requires modulus { IsResidue modulus rest }
     ensures { IfOk result (λ part. part ≡ remainder_part coefs.now modulus rest) }
 {
     let pred = congruent(alloc, coefs, modulus, rest)?;
@@ -70,18 +59,11 @@ pub fn remainder(
     modulus: u32,
     rest: u32,
 ) -> Result<(Leaf, LeafProof), NoMemory>
-    requires some { 1 ≤ length coefs.now }
-    requires few { length coefs.now ≤ VARIABLE_LIMIT }
-    requires coefs { All (λ a. nat_abs a ≤ COEFFICIENT_LIMIT) coefs.now }
-    requires low { 2 ≤ modulus }
-    requires high { modulus ≤ MODULUS_LIMIT }
-    requires rest { rest < modulus }
-    ensures leaf { IfOk result (λ both. both.0 ≡ remainder_leaf_of coefs.now modulus rest) }
+    requires sum { IsAtomSum coefs.now }
+    requires modulus { IsResidue modulus rest }
+    ensures built { IfOk result
+        (λ both. IsBuilt (remainder_leaf_of coefs.now modulus rest) (congruence coefs.now modulus rest) both.0 both.1) }
     ensures part { IfOk result (λ both. both.1 ≡ remainder_part coefs.now modulus rest) }
-    ensures valid { IfOk result (λ both. ValidLeafProof both.0 both.1) }
-    ensures within { IfOk result (λ both. IsLeafProofWithin (length coefs.now) both.1) }
-    // No two moves of the leaf take the same states.
-    ensures single { IfOk result (λ both. AllPairs Differ both.0.moves) }
 {
     let leaf = remainder_leaf(alloc, coefs, modulus as u16, rest as u16)?;
     let proof = leaf_proof(alloc, coefs, modulus, rest, &leaf)?;

@@ -12,16 +12,7 @@ use Rattle.comp_remainder_leaf.specs.RemainderLeaf.{residue_of, leader_meeting, 
 use Rattle.comp_remainder_leaf.proofs.MoveLists.{all_moves, follower-below}
 use Rattle.comp_remainder_leaf.proofs.Remainders.{residue-below}
 use Rattle.comp_remainder_leaf.proofs.StateNames.{names-formed}
-
--- the number of pairs of n leaders, each with itself and those after it
-abbrev triangle : ℕ → ℕ
-triangle zero = 0
-triangle (suc n) = suc n + triangle n
-
-triangle-le : (n k : ℕ) → n ≤ k → triangle n ≤ triangle k
-triangle-le zero k l = omega arith
-triangle-le (suc n) zero l = absurd (omega arith)
-triangle-le (suc n) (suc k) l = let e = triangle-le n k (omega arith) in omega (arith, e)
+use Rattle.list_laws.proofs.Numbers.{triangle, triangle-le}
 
 triangle-most : triangle 200 ≡ 20100
 triangle-most = refl

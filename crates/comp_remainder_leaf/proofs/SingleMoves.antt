@@ -4,11 +4,12 @@ use Rattle.std.specs.Prelude.{All, AllPairs, flat_map, not, ◌==◌}
 use Rattle.std.specs.List.{range_with_len}
 use Rattle.std.proofs.lemmas.List.Elements.{All-map}
 use Rattle.pop_net.specs.Reaction.{Differ}
-use Rattle.comp_layers.proofs.Members.{all_range, all_flat}
+use Rattle.comp_layers.proofs.Members.{all_flat}
 use Rattle.comp_layers.proofs.SortedLayers.{AllPairs-append}
 use Rattle.comp_layers.proofs.Single.{pairs_map, pairs_flat, differ-by}
 use Rattle.comp_remainder_leaf.specs.RemainderLeaf.{remainder_follower, leader_meeting, follower_turn, remainder_pairs, remainder_moves}
 use Rattle.comp_remainder_leaf.proofs.MoveLists.{follower-above}
+use Rattle.list_laws.proofs.Ranges.{all_range}
 
 apart : (m p q : ℕ) → p < m → m ≤ q → p ≢ q
 apart m p q l k e = omega arith

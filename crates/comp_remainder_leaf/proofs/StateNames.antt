@@ -1,5 +1,5 @@
 -- The names of the states of a built leaf of `Rest` are in form, and no two are equal.
-use Rattle.std.proofs.Common.{◌≡◌, subst, ℕ, ◌+◌, ◌<◌, ◌≤◌, Bool, true, false, ◌&&◌, List, [], ◌∷◌, length, map, refl, sym, ◌∙◌, arith}
+use Rattle.std.proofs.Common.{◌≡◌, subst, ℕ, ◌+◌, ◌<◌, ◌≤◌, Bool, true, false, ◌&&◌, [], ◌∷◌, length, map, refl, sym, ◌∙◌, arith}
 use Rattle.std.specs.Prelude.{if◌then◌else◌, nat_le, IsTrue}
 use Rattle.std.specs.List.{range_with_len}
 use Rattle.std.specs.Fmt.{decimal}
@@ -9,6 +9,7 @@ use Rattle.pop_io.specs.Names.{state_name, AreNames}
 use Rattle.comp_layers.proofs.StateNames.{decimal-printed, named-apart}
 use Rattle.comp_remainder_leaf.specs.RemainderLeaf.{remainder_follower, remainder_state_name}
 use Rattle.comp_remainder_leaf.proofs.StateKinds.{Kind, a_leader, a_follower, kind_of}
+use Rattle.list_laws.proofs.Lists.{heads}
 
 -- the name of a leader
 number-name : (q : ℕ) → q < 1000 → IsTrue (state_name (78 ∷ decimal q))
@@ -37,9 +38,6 @@ name-form : (m q : ℕ) → m ≤ 200 → Kind m q → IsTrue (state_name (remai
 name-form m _ few (a_leader q l) = subst (λ name. IsTrue (state_name name)) (sym (name-leader m q l)) (number-name q (omega arith))
 name-form m _ few (a_follower true) = subst (λ name. IsTrue (state_name name)) (sym (name-follower m true)) refl
 name-form m _ few (a_follower false) = subst (λ name. IsTrue (state_name name)) (sym (name-follower m false)) refl
-
-heads : (x y : ℕ) (xs ys : List ℕ) → x ∷ xs ≡ y ∷ ys → x ≡ y
-heads x y xs ys e = cc
 
 name-injective : (m p q : ℕ) → m ≤ 200 → Kind m p → Kind m q → remainder_state_name m p ≡ remainder_state_name m q → p ≡ q
 name-injective m _ _ few (a_leader p l) (a_leader q k) e =

@@ -1,6 +1,8 @@
--- RemainderLeaf: the built leaf of `Rest`. A leader `N(n)` has a remainder n; the followers `F(false)` and `F(true)` come after the leaders
+-- RemainderLeaf: the built leaf of `Rest`. A leader `N(n)` has a remainder n; the followers `F(false)` and `F(true)`
+-- come after the leaders
 -- (Angluin, Aspnes, Diamadi, Fischer, Peralta 2006).
-use Rattle.std.specs.Prelude.{ℕ, ◌+◌, ◌-◌, ◌%◌, Bool, not, ◌==◌, nat_lt, if◌then◌else◌, List, [], ◌∷◌, ◌++◌, map, flat_map, ℤ, pos, nat_abs}
+use Rattle.std.specs.Prelude.{ℕ, ◌+◌, ◌-◌, ◌%◌, Bool, not, ◌==◌, nat_lt, if◌then◌else◌, List, [], ◌∷◌, ◌++◌, map}
+use Rattle.std.specs.Prelude.{flat_map, ℤ, pos, nat_abs}
 use Rattle.std.specs.List.{range_with_len}
 use Rattle.std.specs.Int.{int_rem_euclid}
 use Rattle.std.specs.Fmt.{decimal}
@@ -20,7 +22,8 @@ leader_meeting m rest p q = record { p = p; q = q; r = (p + q) % m; s = remainde
 
 -- a leader turns a follower
 abbrev pub follower_turn : (m rest p : ℕ) → Move
-follower_turn m rest p = record { p = p; q = remainder_follower m (not (p == rest)); r = p; s = remainder_follower m (p == rest) }
+follower_turn m rest p =
+    record { p = p; q = remainder_follower m (not (p == rest)); r = p; s = remainder_follower m (p == rest) }
 
 -- each leader meets each leader from itself on; then each leader turns the followers that answer otherwise
 abbrev pub remainder_pairs : (m rest p : ℕ) → List Move

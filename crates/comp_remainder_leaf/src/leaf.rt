@@ -1,10 +1,9 @@
 //! The whole leaf.
 
-ghost use Rattle.std.specs.Prelude.{◌≡◌, ◌<◌, ◌≤◌, AllPairs, map, length, IfOk};
+ghost use Rattle.std.specs.Prelude.{◌≡◌, ◌<◌, ◌≤◌, map, IfOk};
 ghost use Rattle.std.specs.List.{range_with_len};
-ghost use Rattle.pop_io.specs.declared.names.TheConstants.{VARIABLE_LIMIT};
 ghost use Rattle.pres_ast.specs.declared.limits.TheConstants.{MODULUS_LIMIT};
-ghost use Rattle.pop_net.specs.Reaction.{Differ};
+ghost use Rattle.comp_layers.specs.DefinedLeaf.{HasInputs, IsDefined};
 ghost use Rattle.comp_remainder_leaf.specs.RemainderLeaf.{residue_of, remainder_state_count, remainder_output};
 ghost use Rattle.comp_remainder_leaf.specs.RemainderLeaf.{remainder_leaf_of};
 
@@ -64,13 +63,10 @@ pub fn remainder_leaf(
     modulus: u16,
     rest: u16,
 ) -> Result<Leaf, NoMemory>
-    requires some { 1 ≤ length coefs.now }
-    requires few { length coefs.now ≤ VARIABLE_LIMIT }
+    requires inputs { HasInputs coefs.now }
     requires low { 1 ≤ modulus }
     requires high { modulus ≤ MODULUS_LIMIT }
-    ensures built { IfOk result (λ leaf. leaf ≡ remainder_leaf_of coefs.now modulus rest) }
-    // No two of its moves take the same states.
-    ensures single { IfOk result (λ leaf. AllPairs Differ leaf.moves) }
+    ensures { IfOk result (IsDefined (remainder_leaf_of coefs.now modulus rest)) }
 {
     let names = names(alloc, modulus)?;
     let moves = List::from_vec(moves(alloc, modulus, rest)?);

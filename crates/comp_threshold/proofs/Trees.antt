@@ -171,20 +171,11 @@ module _ (coefs : List ℤ) (bound : ℤ) (formed : IsLeaf (threshold_leaf_of co
 
   -- ---- the nodes by values
 
-  opened_true : Fact
-  opened_true = Ge (input_row (map neg_ℤ coefs) (bound -ℤ pos 1))
-
-  opened_false : Fact
-  opened_false = Ge (input_row coefs (neg_ℤ bound))
-
   all_values : All (λ m. (threshold_value s m.r +ℤ threshold_value s m.s) ≡ (threshold_value s m.p +ℤ threshold_value s m.q)) leaf.moves
   all_values = all_moves s t (λ m. (threshold_value s m.r +ℤ threshold_value s m.s) ≡ (threshold_value s m.p +ℤ threshold_value s m.q)) (λ p q l m. leader_move-value s t p q l m)
 
   abbrev value_terms : Bool → ℕ → List ℤ
   value_terms b p = mix_of_leader leaf (company_of leaf p) (value_mix (signed_value b s) (pos 1) p) p
-
-  low_inputs : All (λ q. q < length leaf.states) leaf.inputs
-  low_inputs = formed.inputs
 
   value-true : (p : ℕ) → p < span_of s → nat_lt p t ≡ false → closes_by_sum (facts_of_leader leaf (facts_of_trap leaf (base_list leaf pred true) (Ge (input_row (map neg_ℤ coefs) (bound -ℤ pos 1))) (span_of s)) p) (terms_from 0 (value_terms true p)) ≡ true
   value-true p l above =

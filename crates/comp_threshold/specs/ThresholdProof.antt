@@ -1,5 +1,6 @@
 -- ThresholdProof: the trees and layers for a built leaf of `Less`.
-use Rattle.std.specs.Prelude.{length, ℕ, ◌+◌, ◌-◌, Bool, true, false, nat_lt, if◌then◌else◌, List, [], ◌∷◌, ℤ, pos, neg_ℤ, map}
+use Rattle.std.specs.Prelude.{length, ℕ, ◌+◌, ◌-◌, Bool, true, false, nat_lt, if◌then◌else◌, List, [], ◌∷◌, ℤ, pos}
+use Rattle.std.specs.Prelude.{neg_ℤ, map}
 use Rattle.std.specs.List.{range_with_len}
 use Rattle.cert_base.specs.declared.layer.Layer.{Layer}
 use Rattle.comp_layers.specs.SortedLayers.{sorted_layers, leader_kind}
@@ -7,7 +8,8 @@ use Rattle.pop_net.specs.LeafModel.{LeafModel}
 use Rattle.cert_base.specs.declared.node.Node.{Node}
 use Rattle.cert_base.specs.FactsAndCases.{differs, indicator}
 use Rattle.comp_trees.specs.LeaderTree.{company_of, mix_of_leader, wrong_mix, value_mix, weighed_node, leader_tree}
-use Rattle.comp_threshold_leaf.specs.ThresholdLeaf.{span_of, place_of_value, threshold_place, threshold_output, threshold_state_count}
+use Rattle.comp_threshold_leaf.specs.ThresholdLeaf.{span_of, place_of_value, threshold_place, threshold_output}
+use Rattle.comp_threshold_leaf.specs.ThresholdLeaf.{threshold_state_count}
 use Rattle.comp_threshold_leaf.specs.ThresholdLeaf.{threshold_width, threshold_value, threshold_leaf_of}
 use Rattle.pres_ast.specs.PredTree.{LessThan}
 use Rattle.cert_base.specs.declared.proof.LeafProof.{LeafProof}
@@ -18,7 +20,8 @@ signed_value b s q = if b then threshold_value s q else neg_ℤ (threshold_value
 
 -- the node of the leader p in the tree for b, by values and by a wrong output
 abbrev pub threshold_value_node : LeafModel → ℕ → Bool → ℕ → Node
-threshold_value_node leaf s b p = weighed_node (mix_of_leader leaf (company_of leaf p) (value_mix (signed_value b s) (pos 1) p) p)
+threshold_value_node leaf s b p =
+    weighed_node (mix_of_leader leaf (company_of leaf p) (value_mix (signed_value b s) (pos 1) p) p)
 
 abbrev pub threshold_wrong_node : LeafModel → Bool → ℕ → Node
 threshold_wrong_node leaf b p = weighed_node (mix_of_leader leaf (company_of leaf p) (wrong_mix leaf b) p)
@@ -39,11 +42,13 @@ threshold_distance a b = (a - b) + (b - a)
 
 -- s + 1 for a leader, and the size of a follower's value
 abbrev pub threshold_first_weight : ℕ → ℕ → ℤ
-threshold_first_weight s q = if nat_lt q (span_of s) then pos (s + 1) else pos (threshold_distance s (threshold_place s q))
+threshold_first_weight s q =
+    if nat_lt q (span_of s) then pos (s + 1) else pos (threshold_distance s (threshold_place s q))
 
 -- 1 for each follower with the bit false, and for each with the bit true
 abbrev pub threshold_false_weight : ℕ → ℕ → ℤ
-threshold_false_weight s q = if nat_lt q (span_of s) then pos 0 else (if nat_lt q (span_of s + span_of s) then pos 1 else pos 0)
+threshold_false_weight s q =
+    if nat_lt q (span_of s) then pos 0 else (if nat_lt q (span_of s + span_of s) then pos 1 else pos 0)
 
 abbrev pub threshold_true_weight : ℕ → ℕ → ℤ
 threshold_true_weight s q = if nat_lt q (span_of s + span_of s) then pos 0 else pos 1

@@ -1,12 +1,12 @@
 //! The leaf with its proof.
 
-ghost use Rattle.std.specs.Prelude.{◌≡◌, ◌≤◌, nat_abs, All, AllPairs, length, IfOk, IfErr};
-ghost use Rattle.pop_io.specs.declared.names.TheConstants.{VARIABLE_LIMIT};
+ghost use Rattle.std.specs.Prelude.{◌≡◌, ◌≤◌, nat_abs, AllPairs, length, IfOk};
 ghost use Rattle.pop_net.specs.Reaction.{Differ};
 ghost use Rattle.pres_ast.specs.PredTree.{LessThan};
-ghost use Rattle.pres_ast.specs.declared.limits.TheConstants.{COEFFICIENT_LIMIT, BOUND_LIMIT};
+ghost use Rattle.pres_ast.specs.declared.limits.TheConstants.{BOUND_LIMIT};
+ghost use Rattle.pres_ast.specs.PredModel.{IsAtomSum};
 ghost use Rattle.comp_threshold_leaf.specs.ThresholdLeaf.{threshold_leaf_of, threshold_width};
-ghost use Rattle.comp_threshold.specs.Built.{IsThreshold, IsWidthFault};
+ghost use Rattle.comp_threshold.specs.Built.{IsThreshold, BuildsThreshold};
 
 use crate::fault::ThresholdFault;
 use crate::node::both_trees;
@@ -19,9 +19,7 @@ use pres_ast::{Pred, Tree};
 use std::alloc::Global;
 
 fn less(alloc: Global, coefs: &[i64], bound: i64) -> Result<Pred, NoMemory>
-    requires some { 1 ≤ length coefs.now }
-    requires few { length coefs.now ≤ VARIABLE_LIMIT }
-    requires coefs { All (λ a. nat_abs a ≤ COEFFICIENT_LIMIT) coefs.now }
+    requires sum { IsAtomSum coefs.now }
     requires bound { nat_abs bound ≤ BOUND_LIMIT }
     ensures { IfOk result (λ pred. pred ≡ record { variables = length coefs.now; tree = LessThan coefs.now bound }) }
 {
@@ -42,9 +40,7 @@ fn leaf_proof(
 ) -> Result<LeafProof, NoMemory>
     requires width { s ≡ threshold_width coefs.now bound }
     requires narrow { s ≤ WIDTH_LIMIT }
-    requires some { 1 ≤ length coefs.now }
-    requires few { length coefs.now ≤ VARIABLE_LIMIT }
-    requires coefs { All (λ a. nat_abs a ≤ COEFFICIENT_LIMIT) coefs.now }
+    requires sum { IsAtomSum coefs.now }
     requires bound { nat_abs bound ≤ BOUND_LIMIT }
     requires built { leaf.now ≡ threshold_leaf_of coefs.now bound }
     requires single { AllPairs Differ leaf.now.moves }
@@ -63,12 +59,15 @@ fn leaf_proof(
 }
 
 /// A leaf of this width.
-fn narrow(alloc: Global, coefs: &[i64], bound: i64, s: u16) -> Result<(Leaf, LeafProof), NoMemory>
+fn leaf_of_width(
+    alloc: Global,
+    coefs: &[i64],
+    bound: i64,
+    s: u16,
+) -> Result<(Leaf, LeafProof), NoMemory>
     requires width { s ≡ threshold_width coefs.now bound }
     requires narrow { s ≤ WIDTH_LIMIT }
-    requires some { 1 ≤ length coefs.now }
-    requires few { length coefs.now ≤ VARIABLE_LIMIT }
-    requires coefs { All (λ a. nat_abs a ≤ COEFFICIENT_LIMIT) coefs.now }
+    requires sum { IsAtomSum coefs.now }
     requires bound { nat_abs bound ≤ BOUND_LIMIT }
     ensures { IfOk result (λ both. IsThreshold coefs.now bound both.0 both.1) }
 {
@@ -83,17 +82,13 @@ pub fn threshold(
     coefs: &[i64],
     bound: i64,
 ) -> Result<(Leaf, LeafProof), ThresholdFault>
-    requires some { 1 ≤ length coefs.now }
-    requires few { length coefs.now ≤ VARIABLE_LIMIT }
-    requires coefs { All (λ a. nat_abs a ≤ COEFFICIENT_LIMIT) coefs.now }
+    requires sum { IsAtomSum coefs.now }
     requires bound { nat_abs bound ≤ BOUND_LIMIT }
-    ensures built { IfOk result (λ both. IsThreshold coefs.now bound both.0 both.1) }
-    ensures narrow { IfOk result (λ both. threshold_width coefs.now bound ≤ WIDTH_LIMIT) }
-    ensures wide { IfErr result (IsWidthFault coefs.now bound) }
+    ensures { BuildsThreshold coefs.now bound result }
 {
     let s = width(coefs, bound);
     if WIDTH_LIMIT < s {
         return Err(ThresholdFault::TooWide(s));
     }
-    Ok(narrow(alloc, coefs, bound, s as u16)?)
+    Ok(leaf_of_width(alloc, coefs, bound, s as u16)?)
 }

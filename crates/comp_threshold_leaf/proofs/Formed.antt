@@ -16,16 +16,7 @@ use Rattle.comp_threshold_leaf.specs.ThresholdLeaf.{threshold_width, span_of, pl
 use Rattle.comp_threshold_leaf.proofs.Places.{place-most, width-coef}
 use Rattle.comp_threshold_leaf.proofs.MoveLists.{all_moves, leader_move-below}
 use Rattle.comp_threshold_leaf.proofs.StateNames.{names-formed}
-
--- the number of pairs of n leaders, each with itself and those after it
-abbrev triangle : ℕ → ℕ
-triangle zero = 0
-triangle (suc n) = suc n + triangle n
-
-triangle-le : (n k : ℕ) → n ≤ k → triangle n ≤ triangle k
-triangle-le zero k l = omega arith
-triangle-le (suc n) zero l = absurd (omega arith)
-triangle-le (suc n) (suc k) l = let e = triangle-le n k (omega arith) in omega (arith, e)
+use Rattle.list_laws.proofs.Numbers.{triangle, triangle-le}
 
 triangle-most : triangle 161 ≡ 13041
 triangle-most = refl

@@ -1,17 +1,21 @@
 -- The moves of a built leaf: what holds of each meeting holds of each move, and which of them are moves.
-use Rattle.std.proofs.Common.{◌≡◌, ◌⊎◌, inl, inr, ℕ, ◌+◌, ◌-◌, ◌<◌, ◌≤◌, Bool, true, false, ◌&&◌, ◌||◌, List, map, refl, ap, sym, ◌∙◌, arith}
+use Rattle.std.proofs.Common.{◌≡◌, ◌⊎◌, inl, inr, ℕ, ◌+◌, ◌-◌, ◌<◌, ◌≤◌, Bool, true, false, ◌&&◌, List, map, refl, ap, sym, ◌∙◌, arith}
 use Rattle.std.specs.Prelude.{◌==◌, nat_lt, All, Contains, flat_map}
 use Rattle.std.specs.List.{range_with_len}
 use Rattle.std.proofs.lemmas.Bool.{cases_lt, eq-eqb, ne_eqb, not-true}
 use Rattle.std.proofs.lemmas.List.Elements.{All-append, All-map, All-filter, Contains-append_left, Contains-append_right}
 use Rattle.pop_net.specs.declared.leaf.Move.{Move}
-use Rattle.pop_net.specs.LeafModel.{silent_move, same_pair, IsMoveBelow}
+use Rattle.pop_net.specs.LeafModel.{silent_move, IsMoveBelow}
 use Rattle.pop_net.specs.Reaction.{takes_states}
 use Rattle.cert_base.specs.FactsAndCases.{can_meet_in}
 use Rattle.cert_base.proofs.WeightedSums.{list_any-from}
-use Rattle.comp_layers.proofs.Members.{all_range, all_flat, range_has, has_map, has_filter, has_flat, all_filtered}
+use Rattle.comp_layers.proofs.Members.{all_flat, range_has, has_filter, has_flat, all_filtered}
 use Rattle.comp_threshold_leaf.specs.ThresholdLeaf.{span_of, threshold_place, threshold_follower, joined_value, leftover, threshold_leader_move, alters_states, threshold_pairs, threshold_turns, threshold_moves, threshold_state_count, built}
 use Rattle.comp_threshold_leaf.proofs.Places.{IsCut, cut, Kind, kind_of, place-below, follower-above, follower-below}
+use Rattle.list_laws.proofs.Ranges.{all_range}
+use Rattle.list_laws.proofs.Lists.{has_map}
+use Rattle.list_laws.proofs.Truth.{and_false}
+use Rattle.pop_net.proofs.Silent.{same-self, same-other}
 
 -- ---- moves
 
@@ -57,17 +61,13 @@ leader_move-below s t p q l m =
 pub not-leader : (s v p : ℕ) (bit : Bool) → p < span_of s → (p == threshold_follower s bit v) ≡ false
 not-leader s v p bit l = let m = follower-above s v bit in ne_eqb p (threshold_follower s bit v) (λ e. omega arith)
 
-and_no : (a : Bool) → (a && false) ≡ false
-and_no true = refl
-and_no false = refl
-
 -- a meeting of two leaders is not silent, and one with a follower is silent where nothing changes
 pub pair-loud : (s t p q : ℕ) → p < span_of s → q < span_of s → silent_move (threshold_leader_move s t p q) ≡ false
 pair-loud s t p q l m =
     let bit = nat_lt (joined_value s p (threshold_place s q)) t in
     let first = not-leader s (leftover s p (threshold_place s q)) q bit m in
     let second = not-leader s (leftover s p (threshold_place s q)) p bit l in
-    let left_side : ((p == joined_value s p (threshold_place s q)) && false) ≡ false = and_no (p == joined_value s p (threshold_place s q)) in
+    let left_side : ((p == joined_value s p (threshold_place s q)) && false) ≡ false = and_false (p == joined_value s p (threshold_place s q)) in
     rw (first, second, left_side) refl
 
 same_turned : (a b : ℕ) → (a == b) ≡ (b == a)
@@ -88,16 +88,6 @@ turn-loud s t p q l c =
     rw (first, second) refl
 
 -- ---- who can meet
-
-same-self : (p q : ℕ) → same_pair p q p q ≡ true
-same-self p q = rw (eq-eqb p p refl, eq-eqb q q refl) refl
-
-same-other : (p q : ℕ) → same_pair p q q p ≡ true
-same-other p q = rw (eq-eqb p p refl, eq-eqb q q refl) (or_yes ((p == q) && (q == p)))
-  where
-    or_yes : (b : Bool) → (b || true) ≡ true
-    or_yes true = refl
-    or_yes false = refl
 
 pub leaders-meet : (s t p q : ℕ) (inputs : List ℕ) → p < span_of s → q < span_of s → can_meet_in (built s t inputs) p q ≡ true
 leaders-meet s t p q inputs l m = go (cases_lt q p)

@@ -5,10 +5,11 @@ use Rattle.std.specs.List.{range_with_len}
 use Rattle.std.proofs.lemmas.List.Elements.{All-map, All-filter}
 use Rattle.std.proofs.lemmas.List.Kept.{AllPairs-filter}
 use Rattle.pop_net.specs.Reaction.{Differ}
-use Rattle.comp_layers.proofs.Members.{all_range, all_flat}
+use Rattle.comp_layers.proofs.Members.{all_flat}
 use Rattle.comp_layers.proofs.SortedLayers.{AllPairs-append}
 use Rattle.comp_layers.proofs.Single.{pairs_map, pairs_flat, differ-by}
 use Rattle.comp_threshold_leaf.specs.ThresholdLeaf.{span_of, threshold_leader_move, alters_states, threshold_pairs, threshold_turns, threshold_moves}
+use Rattle.list_laws.proofs.Ranges.{all_range}
 
 pub moves-single : (s t : ℕ) → AllPairs Differ (threshold_moves s t)
 moves-single s t =

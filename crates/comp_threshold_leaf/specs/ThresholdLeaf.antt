@@ -1,5 +1,7 @@
--- ThresholdLeaf: the built leaf of `Less`. With s as its width, a leader `L(u)` or a follower `F(bit,v)` has a value from -s to s;
--- the value u stands at place u + s. The leaders come first, then the followers with the bit false, then those with the bit true
+-- ThresholdLeaf: the built leaf of `Less`. With s as its width, a leader `L(u)` or a follower `F(bit,v)` has a value
+-- from -s to s;
+-- the value u stands at place u + s. The leaders come first, then the followers with the bit false, then those with the
+-- bit true
 -- (Angluin, Aspnes, Diamadi, Fischer, Peralta 2006).
 use Rattle.std.specs.Prelude.{ℕ, ◌+◌, ◌-◌, Bool, not, ◌&&◌, ◌==◌, nat_lt, if◌then◌else◌, List, []}
 use Rattle.std.specs.Prelude.{◌∷◌, ◌++◌, map, filter, flat_map, fold, ℤ, pos, ◌+ℤ◌, ◌-ℤ◌, nat_abs}
@@ -28,7 +30,9 @@ place_of_value s u = nat_abs (u +ℤ pos s)
 
 -- the place of a state's value
 abbrev pub threshold_place : ℕ → ℕ → ℕ
-threshold_place s q = if nat_lt q (span_of s) then q else (if nat_lt q (span_of s + span_of s) then q - span_of s else q - (span_of s + span_of s))
+threshold_place s q =
+    if nat_lt q (span_of s) then q
+    else (if nat_lt q (span_of s + span_of s) then q - span_of s else q - (span_of s + span_of s))
 
 -- the value of a state
 abbrev pub threshold_value : ℕ → ℕ → ℤ
@@ -63,11 +67,13 @@ abbrev pub threshold_pairs : (s t p : ℕ) → List Move
 threshold_pairs s t p = map (threshold_leader_move s t p) (range_with_len p (span_of s - p))
 
 abbrev pub threshold_turns : (s t p : ℕ) → List Move
-threshold_turns s t p = filter alters_states (map (threshold_leader_move s t p) (range_with_len (span_of s) (span_of s + span_of s)))
+threshold_turns s t p =
+    filter alters_states (map (threshold_leader_move s t p) (range_with_len (span_of s) (span_of s + span_of s)))
 
 abbrev pub threshold_moves : (s t : ℕ) → List Move
 threshold_moves s t =
-    flat_map (threshold_pairs s t) (range_with_len 0 (span_of s)) ++ flat_map (threshold_turns s t) (range_with_len 0 (span_of s))
+    flat_map (threshold_pairs s t) (range_with_len 0 (span_of s))
+    ++ flat_map (threshold_turns s t) (range_with_len 0 (span_of s))
 
 abbrev pub threshold_state_count : ℕ → ℕ
 threshold_state_count s = span_of s + span_of s + span_of s
@@ -94,4 +100,5 @@ built s t inputs =
 
 abbrev pub threshold_leaf_of : List ℤ → ℤ → LeafModel
 threshold_leaf_of coefs bound =
-    built (threshold_width coefs bound) (place_of_value (threshold_width coefs bound) bound) (map (place_of_value (threshold_width coefs bound)) coefs)
+    built (threshold_width coefs bound) (place_of_value (threshold_width coefs bound) bound)
+    (map (place_of_value (threshold_width coefs bound)) coefs)

@@ -1,10 +1,9 @@
 //! The leaf.
 
-ghost use Rattle.std.specs.Prelude.{◌≡◌, ◌≤◌, map, nat_abs, All, AllPairs, length, IfOk};
+ghost use Rattle.std.specs.Prelude.{◌≡◌, ◌≤◌, map, nat_abs, All, IfOk};
 ghost use Rattle.std.specs.List.{range_with_len};
-ghost use Rattle.pop_io.specs.declared.names.TheConstants.{VARIABLE_LIMIT};
 ghost use Rattle.pop_net.specs.LeafModel.{IsLeaf};
-ghost use Rattle.pop_net.specs.Reaction.{Differ};
+ghost use Rattle.comp_layers.specs.DefinedLeaf.{HasInputs, IsDefined};
 ghost use Rattle.comp_threshold_leaf.specs.ThresholdLeaf.{threshold_width, place_of_value, threshold_output};
 ghost use Rattle.comp_threshold_leaf.specs.ThresholdLeaf.{threshold_state_count, built, threshold_leaf_of};
 ghost use Rattle.comp_threshold_leaf.specs.declared.limits.TheConstants.{WIDTH_LIMIT};
@@ -65,11 +64,8 @@ fn built_leaf(alloc: Global, s: u16, t: u16, coefs: &[i64]) -> Result<Leaf, NoMe
 pub fn threshold_leaf(alloc: Global, coefs: &[i64], bound: i64, s: u16) -> Result<Leaf, NoMemory>
     requires width { s ≡ threshold_width coefs.now bound }
     requires narrow { s ≤ WIDTH_LIMIT }
-    requires some { 1 ≤ length coefs.now }
-    requires few { length coefs.now ≤ VARIABLE_LIMIT }
-    ensures leaf { IfOk result (λ leaf. leaf ≡ threshold_leaf_of coefs.now bound) }
-    // No two of its moves take the same states.
-    ensures single { IfOk result (λ leaf. AllPairs Differ leaf.moves) }
+    requires inputs { HasInputs coefs.now }
+    ensures { IfOk result (IsDefined (threshold_leaf_of coefs.now bound)) }
 {
     let t = place(s, bound);
     built_leaf(alloc, s, t, coefs)

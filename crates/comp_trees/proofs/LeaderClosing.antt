@@ -1,6 +1,6 @@
 -- The whole tree of a leaf with leaders closes its base facts, where the node of each leader closes.
 use Rattle.std.proofs.Common.{◌≡◌, subst, ℕ, zero, suc, ◌+◌, ◌<◌, ◌≤◌, Bool, true, false, ◌&&◌, List, [], ◌∷◌, ◌++◌, length, map, append_assoc, refl, ap, sym, ◌∙◌, zero-add, arith, length-append}
-use Rattle.std.specs.Prelude.{pos, negsuc, if◌then◌else◌, not, ◌==◌, Some, slice_get, nat_lt, count_by}
+use Rattle.std.specs.Prelude.{pos, negsuc, if◌then◌else◌, not, ◌==◌, Some, nat_lt, count_by}
 use Rattle.std.specs.List.{range_with_len, list_all}
 use Rattle.std.proofs.lemmas.Bool.{lt-ltb}
 use Rattle.std.proofs.lemmas.List.{length-map, append-nil}
@@ -17,6 +17,7 @@ use Rattle.cert_base.specs.Rows.{constant_row}
 use Rattle.cert_base.specs.Closes.{refutes, cases_of, ClosesUnder, refuted, by_cases, no_case, next_case, Closes}
 use Rattle.comp_trees.specs.LeaderTree.{leaders, company_of, facts_of_trap, facts_without, facts_of_leader, leader_nodes, leader_tree, weighed_node, no_leader_mix, no_leak_mix, no_start_mix, IsLed}
 use Rattle.comp_trees.proofs.TrapNodes.{no_leak_closes, no_start_closes, no_leader_closes, length_opened, length_taken, length_started}
+use Rattle.list_laws.proofs.Lists.{at_end}
 
 -- the second case of a leader
 abbrev present_case : LeafModel → ℕ → List Fact
@@ -28,11 +29,6 @@ all_below a (suc n) m l =
     let here : nat_lt a m ≡ true = lt-ltb a m (omega arith) in
     let rest = all_below (a + 1) n m (omega arith) in
     rw (here, rest) refl
-
-at_end : {A : Type 0} (xs ys : List A) (n k : ℕ) → length xs ≡ n → slice_get (xs ++ ys) (n + k) ≡ slice_get ys k
-at_end [] ys n k e = ap (slice_get ys) (let f : n + k ≡ k = omega arith in f)
-at_end (x ∷ xs) ys zero k e = absurd (omega arith)
-at_end (x ∷ xs) ys (suc n) k e = ap (slice_get (x ∷ (xs ++ ys))) (let f : suc n + k ≡ suc (n + k) = omega arith in f) ∙ at_end xs ys n k (omega arith)
 
 -- no helper is in a set
 no_helps : (leaf : LeafModel) (set : List ℕ) → leaf.helpers ≡ [] → no_helper_facts leaf set ≡ []

@@ -22,8 +22,9 @@ use Rattle.cert_base.specs.WeightedSums.{sum_of_facts, coefficient, constant_of,
 use Rattle.cert_base.specs.WeightedSums.{total}
 use Rattle.comp_trees.specs.LeaderTree.{leaders, company_of, facts_of_trap, facts_without, facts_of_leader, LeaderMix, mix_of_trap, mix_of_leader, wrong_mix, value_mix}
 use Rattle.cert_base.proofs.WeightedSums.{may_weigh-append, may_weigh-zeros, linear_closes-weighted}
-use Rattle.cert_base.proofs.FlowSums.{coefficient-dense, total-same, total-none, total-none_range, total-one, weighted_sum-map, valued, law-input, law-state, law-move, law-past, each_variable, unlike, like, times-one, mul-neg}
+use Rattle.cert_base.proofs.FlowSums.{coefficient-dense, total-same, total-none, total-none_range, total-one, weighted_sum-map, valued, law-input, law-state, law-move, law-past, each_variable, like, times-one, mul-neg}
 use Rattle.comp_trees.proofs.LeaderSums.{leader_sum}
+use Rattle.std.proofs.lemmas.Bool.{ne_eqb}
 
 -- ---- totals over a filtered list
 
@@ -53,7 +54,7 @@ shifted n q z = go (eqb_tells z q)
   where
     go : ((z == q) ≡ true) × (z ≡ q) ⊎ ((z == q) ≡ false) × (z ≢ q) → ((n + q) == (n + z)) ≡ (z == q)
     go (inl h) = like (n + q) (n + z) (omega (arith, h.1)) ∙ sym h.0
-    go (inr h) = unlike (n + q) (n + z) (λ e. h.1 (omega arith)) ∙ sym h.0
+    go (inr h) = ne_eqb (n + q) (n + z) (λ e. h.1 (omega arith)) ∙ sym h.0
 
 -- a wrong output
 abbrev pub is_wrong : LeafModel → Bool → ℕ → Bool
@@ -95,7 +96,7 @@ none_out leaf p f x ne =
     ∙ total-none_range (λ q. if rules_out leaf p q then (f q *ℤ coefficient x (absent_fact leaf q)) else pos 0) 0 (length leaf.states) (λ q l. each q (rules_out leaf p q) (ne q (omega arith)))
   where
     each : (q : ℕ) (b : Bool) → (length leaf.inputs + q) ≢ x → (if b then (f q *ℤ coefficient x (absent_fact leaf q)) else pos 0) ≡ pos 0
-    each q true n = ap (λ c. f q *ℤ c) (absent-at leaf q x ∙ ap indicator (unlike (length leaf.inputs + q) x n)) ∙ *ℤ-zero (f q)
+    each q true n = ap (λ c. f q *ℤ c) (absent-at leaf q x ∙ ap indicator (ne_eqb (length leaf.inputs + q) x n)) ∙ *ℤ-zero (f q)
     each q false n = refl
 
 out-state : (leaf : LeafModel) (p : ℕ) (f : ℕ → ℤ) (z : ℕ) → z < length leaf.states → out_total leaf p f (length leaf.inputs + z) ≡ (if rules_out leaf p z then f z else pos 0)
@@ -165,7 +166,7 @@ flow-constant leaf q e = ap (λ (hs : List ℕ). pos (count_by (λ z. z == q) hs
 -- the alone fact of another variable
 alone-none : (leaf : LeafModel) (p x : ℕ) (a : ℤ) → (length leaf.inputs + p) ≢ x → (a *ℤ coefficient x (alone_fact leaf p)) ≡ pos 0
 alone-none leaf p x a ne =
-    ap (λ c. a *ℤ c) (alone-at leaf p x ∙ ap indicator (unlike (length leaf.inputs + p) x ne)) ∙ *ℤ-zero a
+    ap (λ c. a *ℤ c) (alone-at leaf p x ∙ ap indicator (ne_eqb (length leaf.inputs + p) x ne)) ∙ *ℤ-zero a
 
 pub apart : (n q i : ℕ) → i < n → (n + q) ≢ i
 apart n q i l e = omega arith

@@ -1,6 +1,6 @@
 -- The trees are within the limits of proofs.
 use Rattle.std.proofs.Common.{◌≡◌, ℕ, zero, suc, ◌+◌, ◌^◌, ◌<◌, ◌≤◌, Bool, true, false, List, [], ◌∷◌, ◌++◌, length, map, arith}
-use Rattle.std.specs.Prelude.{ℤ, pos, negsuc, All, if◌then◌else◌, replicate, not, ◌&&◌, ◌==◌}
+use Rattle.std.specs.Prelude.{ℤ, pos, negsuc, All, if◌then◌else◌, replicate, not, ◌&&◌, ◌==◌, neg_ℤ}
 use Rattle.std.specs.List.{range_with_len}
 use Rattle.std.specs.Ordering.{int_eq}
 use Rattle.std.proofs.lemmas.List.{length-append, length-replicate}
@@ -12,10 +12,10 @@ use Rattle.cert_base.specs.declared.node.Node.TheVariants.{Present, Trap, Open}
 use Rattle.cert_base.specs.declared.limits.TheConstants.{TERM_LIMIT}
 use Rattle.cert_base.specs.Rows.{terms_from, zeros}
 use Rattle.cert_base.specs.ProofLimits.{IsSmall, IsAscending, IsTermWithin, AreTermsWithin, IsSetWithin, IsNodeWithin, AreNodesWithin}
-use Rattle.cert_base.specs.FactsAndCases.{states_of, can_meet_in}
+use Rattle.cert_base.specs.FactsAndCases.{states_of, can_meet_in, indicator}
 use Rattle.comp_trees.specs.LeaderTree.{leaders, company_of, LeaderMix, mix_of_trap, mix_of_leader, leader_nodes, leader_tree, weighed_node, no_leader_mix, no_leak_mix, no_start_mix, IsLed}
 use Rattle.comp_trees.proofs.SameMix.{mix_short}
-use Rattle.comp_layers.proofs.Members.{all_range}
+use Rattle.list_laws.proofs.Ranges.{all_range}
 
 terms-long : (k : ℕ) (ms : List ℤ) → length (terms_from k ms) ≤ length ms
 terms-long k [] = omega arith
@@ -39,7 +39,7 @@ weighed-within ms l all = (let long = terms-long 0 ms in omega arith, terms-with
 pub all-zeros : (n : ℕ) → All IsSmall (zeros n)
 all-zeros n = All-replicate IsSmall n (pos 0) (omega arith)
 
-one : (a : ℤ) → IsSmall a → All IsSmall (a ∷ [])
+pub one : (a : ℤ) → IsSmall a → All IsSmall (a ∷ [])
 one a h = All-cons IsSmall a [] h (All-nil IsSmall)
 
 -- a leader's multipliers
@@ -101,3 +101,7 @@ leader-within leaf p mix formed l all =
 
 pub leader-within_terms : (leaf : LeafModel) (p : ℕ) (mix : LeaderMix) → IsLeaf leaf → p < length leaf.states → All IsSmall (mix_of_leader leaf (company_of leaf p) mix p) → AreTermsWithin (terms_from 0 (mix_of_leader leaf (company_of leaf p) mix p))
 leader-within_terms leaf p mix formed l all = leader-within leaf p mix formed l all
+
+pub sign-small : (b : Bool) → IsSmall (neg_ℤ (indicator b))
+sign-small true = omega arith
+sign-small false = omega arith

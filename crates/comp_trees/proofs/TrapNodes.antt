@@ -5,11 +5,11 @@ use Rattle.std.specs.List.{range_with_len}
 use Rattle.std.proofs.lemmas.Int.{ints}
 use Rattle.std.proofs.Math.IntN.{zero-*ℤ, *ℤ_comm}
 use Rattle.std.proofs.Math.ListN.{get_or-append}
-use Rattle.std.proofs.lemmas.Bool.{cases_lt}
+use Rattle.std.proofs.lemmas.Bool.{cases_lt, ne_eqb}
 use Rattle.std.proofs.lemmas.Bool.Decides.{eqb_tells}
 use Rattle.std.proofs.lemmas.List.{length-map, length-append, get_or-append-add, get_or_past, length-replicate, get_or-replicate, append-nil}
 use Rattle.std.proofs.lemmas.List.FromFn.{length-range_with_len, get_or-map-range_with_len, length-map-range_with_len}
-use Rattle.std.proofs.lemmas.List.Elements.{All-head, All-tail}
+use Rattle.std.proofs.lemmas.List.Elements.{All-head, All-tail, All-weaker}
 use Rattle.pop_net.specs.declared.leaf.Move.{Move}
 use Rattle.pop_net.specs.LeafModel.{LeafModel}
 use Rattle.pres_ast.specs.PredModel.{PredModel}
@@ -23,7 +23,7 @@ use Rattle.cert_base.specs.WeightedSums.{sum_of_facts, coefficient, constant_of,
 use Rattle.cert_base.specs.WeightedSums.{total}
 use Rattle.comp_trees.specs.LeaderTree.{leaders, facts_of_trap, facts_without, IsLed, no_leader_mix, no_leak_mix, no_start_mix}
 use Rattle.cert_base.proofs.WeightedSums.{weighted_sum-append, weighted_sum-zeros, may_weigh-append, may_weigh-zeros, linear_closes-weighted}
-use Rattle.cert_base.proofs.FlowSums.{coefficient-dense, total-same, total-none, total-none_range, total-one, weighted_sum-map, each_variable, unlike, like, times-one}
+use Rattle.cert_base.proofs.FlowSums.{coefficient-dense, total-same, total-none, total-none_range, total-one, weighted_sum-map, each_variable, like, times-one}
 use Rattle.comp_trees.proofs.LeaderEnds.{absent-at, shifted, may_weigh-eqs, apart, apart_past}
 
 -- ---- which states are leaders
@@ -39,7 +39,7 @@ is_in-yes_from a (suc n) q l m = go (eqb_tells a q) (λ k. is_in-yes_from (a + 1
 is_in-no_from : (a n q : ℕ) → (q < a) ⊎ (a + n ≤ q) → is_in (range_with_len a n) q ≡ false
 is_in-no_from a zero q l = refl
 is_in-no_from a (suc n) q l =
-    let here = unlike a q (out l) in
+    let here = ne_eqb a q (out l) in
     let rest = is_in-no_from (a + 1) n q (later l) in
     rw (here, rest) refl
   where
@@ -97,15 +97,12 @@ zeros-append (suc n) m = ap (λ zs. pos 0 ∷ zs) (zeros-append n m) ∙ ap zero
 no_terms : (n : ℕ) → terms_from 0 (zeros n) ≡ []
 no_terms n = ap (terms_from 0) (sym (append-nil (zeros n))) ∙ terms_from-zeros 0 n []
 
-places-all : {A : Type 0} (k : ℕ) (test : A → Bool) (xs : List A) → All (λ x. test x ≡ true) xs → places_from k test xs ≡ range_with_len k (length xs)
+pub places-all : {A : Type 0} (k : ℕ) (test : A → Bool) (xs : List A) → All (λ x. test x ≡ true) xs → places_from k test xs ≡ range_with_len k (length xs)
 places-all k test [] all = refl
 places-all k test (x ∷ xs) all =
     let here = All-head (λ x. test x ≡ true) x xs all in
     let rest = places-all (k + 1) test xs (All-tail (λ x. test x ≡ true) x xs all) in
     rw here (ap (λ ks. k ∷ ks) rest)
-
-all_of : {A : Type 0} (P Q : A → Type 0) → ((x : A) → P x → Q x) → (xs : List A) → All P xs → All Q xs
-all_of P Q f xs all = λ k d l. f (get_or xs k d) (all k d l)
 
 module _ (leaf : LeafModel) (pred : PredModel) (b : Bool) (opened : Fact) (n : ℕ) (is : IsLed leaf n) where
   abbrev base : List Fact
@@ -121,7 +118,7 @@ module _ (leaf : LeafModel) (pred : PredModel) (b : Bool) (opened : Fact) (n : �
   puts t l = let e = is_in-yes n t.r l in rw e refl
 
   all_put : All (λ t. puts_into (leaders n) t ≡ true) leaf.moves
-  all_put = all_of (λ t. t.r < n) (λ t. puts_into (leaders n) t ≡ true) puts leaf.moves is.moves
+  all_put = All-weaker (λ t. t.r < n) (λ t. puts_into (leaders n) t ≡ true) puts leaf.moves is.moves
 
   -- ---- no move leaks
 
@@ -129,7 +126,7 @@ module _ (leaf : LeafModel) (pred : PredModel) (b : Bool) (opened : Fact) (n : �
   leaks t = takes_from (leaders n) t && not (puts_into (leaders n) t)
 
   none_leaks : All (λ t. indicator (leaks t) ≡ pos 0) leaf.moves
-  none_leaks = all_of (λ t. t.r < n) (λ t. indicator (leaks t) ≡ pos 0) (λ t l. ap indicator (ap (λ (c : Bool). takes_from (leaders n) t && not c) (puts t l) ∙ and_no (takes_from (leaders n) t))) leaf.moves is.moves
+  none_leaks = All-weaker (λ t. t.r < n) (λ t. indicator (leaks t) ≡ pos 0) (λ t l. ap indicator (ap (λ (c : Bool). takes_from (leaders n) t && not c) (puts t l) ∙ and_no (takes_from (leaders n) t))) leaf.moves is.moves
     where
       and_no : (c : Bool) → (c && false) ≡ false
       and_no true = refl
@@ -177,7 +174,7 @@ module _ (leaf : LeafModel) (pred : PredModel) (b : Bool) (opened : Fact) (n : �
   taken_places = places-all 0 (puts_into (leaders n)) leaf.moves all_put
 
   started_places : places_from 0 (is_in (leaders n)) leaf.inputs ≡ range_with_len 0 (length leaf.inputs)
-  started_places = places-all 0 (is_in (leaders n)) leaf.inputs (all_of (λ q. q < n) (λ q. is_in (leaders n) q ≡ true) (λ q l. is_in-yes n q l) leaf.inputs is.inputs)
+  started_places = places-all 0 (is_in (leaders n)) leaf.inputs (All-weaker (λ q. q < n) (λ q. is_in (leaders n) q ≡ true) (λ q l. is_in-yes n q l) leaf.inputs is.inputs)
 
   abbrev started : ℕ → Fact
   started i = Eq (single_row (input_variable leaf i) (pos 1) (pos 0))
@@ -260,7 +257,7 @@ module _ (leaf : LeafModel) (pred : PredModel) (b : Bool) (opened : Fact) (n : �
     where
       go : ((i == x) ≡ true) × (i ≡ x) ⊎ ((i == x) ≡ false) × (i ≢ x) → (i == x) ≡ (x == i)
       go (inl h) = h.0 ∙ sym (like x i (sym h.1))
-      go (inr h) = h.0 ∙ sym (unlike x i (λ e. h.1 (sym e)))
+      go (inr h) = h.0 ∙ sym (ne_eqb x i (λ e. h.1 (sym e)))
 
   started_in : (i : ℕ) → i < length leaf.inputs → total (λ j. negsuc 0 *ℤ coefficient i (started j)) (range_with_len 0 (length leaf.inputs)) ≡ negsuc 0
   started_in i l =
@@ -272,7 +269,7 @@ module _ (leaf : LeafModel) (pred : PredModel) (b : Bool) (opened : Fact) (n : �
 
   started_out : (x : ℕ) → length leaf.inputs ≤ x → total (λ j. negsuc 0 *ℤ coefficient x (started j)) (range_with_len 0 (length leaf.inputs)) ≡ pos 0
   started_out x l =
-      total-none_range (λ j. negsuc 0 *ℤ coefficient x (started j)) 0 (length leaf.inputs) (λ j m. ap (λ c. negsuc 0 *ℤ c) (started-at j x ∙ ap indicator (unlike j x (apart_high (length leaf.inputs) j x (omega arith) l))))
+      total-none_range (λ j. negsuc 0 *ℤ coefficient x (started j)) 0 (length leaf.inputs) (λ j m. ap (λ c. negsuc 0 *ℤ c) (started-at j x ∙ ap indicator (ne_eqb j x (apart_high (length leaf.inputs) j x (omega arith) l))))
 
   start_low : (x : ℕ) → (x < length leaf.inputs) ⊎ (length leaf.inputs ≤ x) → sum_of_facts (coefficient x) start_facts (no_start_mix leaf) ≤ℤ pos 0
   start_low x (inl l) =
@@ -329,7 +326,7 @@ module _ (leaf : LeafModel) (pred : PredModel) (b : Bool) (opened : Fact) (n : �
 
   absents_none : (x : ℕ) → ((q : ℕ) → q < n → (length leaf.inputs + q) ≢ x) → total (λ q. negsuc 0 *ℤ coefficient x (absent_fact leaf q)) (leaders n) ≡ pos 0
   absents_none x ne =
-      total-none_range (λ q. negsuc 0 *ℤ coefficient x (absent_fact leaf q)) 0 n (λ q l. ap (λ c. negsuc 0 *ℤ c) (absent-at leaf q x ∙ ap indicator (unlike (length leaf.inputs + q) x (ne q (omega arith)))))
+      total-none_range (λ q. negsuc 0 *ℤ coefficient x (absent_fact leaf q)) 0 n (λ q l. ap (λ c. negsuc 0 *ℤ c) (absent-at leaf q x ∙ ap indicator (ne_eqb (length leaf.inputs + q) x (ne q (omega arith)))))
 
   absents_one : (z : ℕ) → z < n → total (λ q. negsuc 0 *ℤ coefficient (length leaf.inputs + z) (absent_fact leaf q)) (leaders n) ≡ negsuc 0
   absents_one z l =

@@ -1,7 +1,10 @@
--- LeaderTree: trees for a leaf with leaders, which are its first states: the predicate is opened; the leaders are a trap, so one of them
+-- LeaderTree: trees for a leaf with leaders, which are its first states: the predicate is opened; the leaders are a
+-- trap, so one of them
 -- is left; each leader in turn is absent, or it is the only one.
-use Rattle.std.specs.Prelude.{◌≡◌, ◌<◌, ◌≤◌, All, ℕ, zero, suc, ◌+◌, Bool, true, false, not, ◌&&◌, ◌==◌, if◌then◌else◌, List}
-use Rattle.std.specs.Prelude.{[], ◌∷◌, ◌++◌, map, filter, length, ℤ, pos, negsuc, neg_ℤ, reverse, replicate, slice_index_or}
+use Rattle.std.specs.Prelude.{◌≡◌, ◌<◌, ◌≤◌, All, ℕ, zero, suc, ◌+◌, Bool, true, false, not, ◌&&◌, ◌==◌, if◌then◌else◌}
+use Rattle.std.specs.Prelude.{List}
+use Rattle.std.specs.Prelude.{[], ◌∷◌, ◌++◌, map, filter, length, ℤ, pos, negsuc, neg_ℤ, reverse, replicate}
+use Rattle.std.specs.Prelude.{slice_index_or}
 use Rattle.std.specs.List.{range_with_len}
 use Rattle.pop_net.specs.LeafModel.{LeafModel}
 use Rattle.cert_base.specs.declared.limits.TheConstants.{FACT_LIMIT}
@@ -10,7 +13,8 @@ use Rattle.cert_base.specs.declared.fact.Fact.TheVariants.{Ge}
 use Rattle.cert_base.specs.declared.node.Node.{Node}
 use Rattle.cert_base.specs.declared.node.Node.TheVariants.{Linear, Present, Trap, Open}
 use Rattle.cert_base.specs.Rows.{terms_from, zeros}
-use Rattle.cert_base.specs.FactsAndCases.{indicator, differs, states_of, can_meet_in, absent_fact, occurs_fact, alone_fact, count_row}
+use Rattle.cert_base.specs.FactsAndCases.{indicator, differs, states_of, can_meet_in, absent_fact, occurs_fact}
+use Rattle.cert_base.specs.FactsAndCases.{alone_fact, count_row}
 
 -- the leaders
 abbrev pub leaders : ℕ → List ℕ
@@ -30,7 +34,8 @@ facts_without leaf facts p = facts ++ map (absent_fact leaf) (range_with_len 0 p
 abbrev pub facts_of_leader : LeafModel → List Fact → ℕ → List Fact
 facts_of_leader leaf facts p =
     facts_without leaf facts p
-    ++ ((occurs_fact leaf p ∷ map (absent_fact leaf) (company_of leaf p)) ++ (if can_meet_in leaf p p then (alone_fact leaf p ∷ []) else []))
+    ++ ((occurs_fact leaf p ∷ map (absent_fact leaf) (company_of leaf p))
+    ++ (if can_meet_in leaf p p then (alone_fact leaf p ∷ []) else []))
 
 -- the multipliers of a leader's node
 pub record LeaderMix : Type 0 where
@@ -43,7 +48,8 @@ pub record LeaderMix : Type 0 where
   pub alone : ℤ
 
 abbrev pub mix_of_trap : LeafModel → LeaderMix → List ℤ
-mix_of_trap leaf mix = ((map mix.flows (states_of leaf) ++ pos 0 ∷ pos 0 ∷ mix.wrong ∷ []) ++ mix.opened ∷ []) ++ pos 0 ∷ []
+mix_of_trap leaf mix =
+    ((map mix.flows (states_of leaf) ++ pos 0 ∷ pos 0 ∷ mix.wrong ∷ []) ++ mix.opened ∷ []) ++ pos 0 ∷ []
 
 -- those of a leader, where these states are ruled out
 abbrev pub mix_of_leader : LeafModel → List ℕ → LeaderMix → ℕ → List ℤ
@@ -73,7 +79,8 @@ weighed_node multipliers = Linear (terms_from 0 multipliers)
 
 abbrev pub leader_tree : LeafModel → ℕ → (ℕ → Node) → List Node
 leader_tree leaf n ends =
-    Open (length leaf.states + 1) ∷ Trap (leaders n) ∷ weighed_node (no_leak_mix leaf) ∷ weighed_node (no_start_mix leaf)
+    Open (length leaf.states + 1) ∷ Trap (leaders n) ∷ weighed_node (no_leak_mix leaf)
+    ∷ weighed_node (no_start_mix leaf)
     ∷ leader_nodes ends (weighed_node (no_leader_mix leaf n)) 0 n
 
 -- ---- the two kinds of nodes of a leader
@@ -100,7 +107,8 @@ value_mix value opened p =
       alone = value p;
     }
 
--- what a leaf with n leaders has: no helpers, each input is a leader, each move puts a leader first, and each leader can meet itself
+-- what a leaf with n leaders has: no helpers, each input is a leader, each move puts a leader first, and each leader
+-- can meet itself
 pub record IsLed (leaf : LeafModel) (n : ℕ) : Type 0 where
   pub helpers : leaf.helpers ≡ []
   pub leaders : n ≤ length leaf.states
@@ -126,12 +134,14 @@ mix_by flows wrong opened ruled_out alone =
 -- the nodes above the leaders'
 abbrev pub top_nodes : LeafModel → ℕ → List Node
 top_nodes leaf n =
-    Open (length leaf.states + 1) ∷ Trap (leaders n) ∷ weighed_node (no_leak_mix leaf) ∷ weighed_node (no_start_mix leaf) ∷ []
+    Open (length leaf.states + 1) ∷ Trap (leaders n) ∷ weighed_node (no_leak_mix leaf)
+    ∷ weighed_node (no_start_mix leaf) ∷ []
 
 -- the tree whose leaders' nodes are these, the first leader's node first
 abbrev pub tree_of_ends : LeafModel → List Node → List Node
 tree_of_ends leaf ends =
-    ((top_nodes leaf (length ends) ++ map Present (range_with_len 0 (length ends))) ++ weighed_node (no_leader_mix leaf (length ends)) ∷ []) ++ reverse ends
+    ((top_nodes leaf (length ends) ++ map Present (range_with_len 0 (length ends)))
+    ++ weighed_node (no_leader_mix leaf (length ends)) ∷ []) ++ reverse ends
 
 -- the multipliers before those of the leader's own facts
 abbrev pub mix_above : List ℤ → ℤ → ℤ → ℕ → List ℤ

@@ -1,1 +1,2 @@
 pub mod LeaderTree
+pub mod BuiltLeaf

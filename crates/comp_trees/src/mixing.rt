@@ -48,7 +48,8 @@ pub fn multipliers(
         ≡ mix_of_leader leaf.now (company_of leaf.now leader) (mix_by flows.now wrong opened out.now alone) leader) }
     ensures short { IfOk result (λ multipliers. length multipliers.items ≤ MULTIPLIER_LIMIT) }
 {
-    let _states = leaf.state_count();
+    // What the invariant says is known from here on.
+    let _formed = leaf.state_count();
     let mut multipliers = above(alloc, leader, flows, wrong, opened)?;
     let own = own(alloc, leaf, leader, out, alone)?;
     multipliers.extend_from_slice(own.as_slice())?;

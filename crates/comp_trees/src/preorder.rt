@@ -17,7 +17,8 @@ pub fn tree(alloc: Global, leaf: &Leaf, ends: Vec<Node>) -> Result<List<Node>, N
     requires { length ends.items ≤ length leaf.now.states }
     ensures { IfOk result (λ nodes. nodes ≡ tree_of_ends leaf.now ends.items) }
 {
-    let _states = leaf.state_count();
+    // What the invariant says is known from here on.
+    let _formed = leaf.state_count();
     let leaders = ends.len() as u16;
     let mut nodes = top(alloc, leaf, leaders)?;
     push_present(&mut nodes, leaders)?;
@@ -60,7 +61,8 @@ fn top(alloc: Global, leaf: &Leaf, leaders: u16) -> Result<Vec<Node>, NoMemory>
 fn no_leak(alloc: Global, leaf: &Leaf) -> Result<Node, NoMemory>
     ensures { IfOk result (λ node. node ≡ weighed_node (no_leak_mix leaf.now)) }
 {
-    let _states = leaf.state_count();
+    // What the invariant says is known from here on.
+    let _formed = leaf.state_count();
     let multipliers = no_leak_by(alloc, leaf)?;
     weighed(alloc, multipliers.as_slice())
 }
@@ -111,7 +113,8 @@ fn no_start_by(alloc: Global, leaf: &Leaf) -> Result<Vec<i64>, NoMemory>
 fn no_leader(alloc: Global, leaf: &Leaf, leaders: u16) -> Result<Node, NoMemory>
     ensures { IfOk result (λ node. node ≡ weighed_node (no_leader_mix leaf.now leaders)) }
 {
-    let _states = leaf.state_count();
+    // What the invariant says is known from here on.
+    let _formed = leaf.state_count();
     let mut multipliers = no_leak_by(alloc, leaf)?;
     let ones = vec![in alloc; -1i64; usize::from(leaders)]?;
     multipliers.extend_from_slice(ones.as_slice())?;

@@ -1,21 +1,18 @@
 -- A net that computes a predicate does so in every fair execution, and one that meetings lead to its end does so by meetings alone.
-use Rattle.std.proofs.Common.{◌≡◌, ℕ, ◌+◌, ◌<◌, ◌≤◌, List, [], ◌∷◌, length, map, get_or, refl, ap, sym, subst, ◌∙◌, arith}
-use Rattle.std.specs.Prelude.{slice_index_or, sum, All}
-use Rattle.std.specs.List.{range_with_len}
-use Rattle.std.proofs.lemmas.List.{length-append, length-map}
-use Rattle.std.proofs.lemmas.List.FromFn.{length-range_with_len}
+use Rattle.std.proofs.Common.{◌≡◌, ℕ, ◌<◌, ◌≤◌, List, [], ◌∷◌, length, get_or, refl, sym, subst, ◌∙◌, arith}
+use Rattle.std.specs.Prelude.{slice_index_or, All}
 use Rattle.std.proofs.lemmas.List.Elements.{All-head, All-tail}
 use Rattle.std.proofs.lemmas.Option.{slice_get-get_or}
 use Rattle.pres_ast.specs.PredTree.{PredTree}
 use Rattle.pop_net.specs.LeafModel.{LeafModel, IsLeaf}
 use Rattle.pop_net.specs.NetModel.{NetModel, CrowdModel, HasStates, IsNet, number_of_helpers, state_of}
-use Rattle.pop_net.specs.InputCrowd.{IsInput, starts_from, start_of, helper_of, input_crowd, leaf_input_crowd}
+use Rattle.pop_net.specs.InputCrowd.{IsInput, input_crowd, leaf_input_crowd}
 use Rattle.pop_net.specs.Step.{TupleChange, Step, LeafStep}
 use Rattle.pop_net.specs.Reachable.{Leads, Reachable}
 use Rattle.pop_net.specs.Reaction.{reaction, after_meeting}
 use Rattle.pop_net.proofs.Projection.{component, slice_get-component, input_component, reachable_component}
 use Rattle.pop_net.proofs.Quiet.{All-slice_get}
-use Rattle.pop_net.proofs.Tuples.{leads_length, reachable_tuples, input_tuples, length-starts_from}
+use Rattle.pop_net.proofs.Tuples.{leads_length, reachable_tuples, input_tuples}
 use Rattle.pop_crowd.specs.declared.crowd.Meeting.{Meeting as Pair}
 use Rattle.pop_crowd.specs.Replay.{replay, IsMeeting, AreMeetings}
 use Rattle.pop_crowd.proofs.Reached.{length-after_meeting}
@@ -23,6 +20,7 @@ use Rattle.cert_base.proofs.InRange.{end_in_range}
 use Rattle.pop_fair.specs.StablyComputes.{MeetingStep, StablyComputes}
 use Rattle.pop_fair.proofs.Stable.{steps_compute, meetings_compute}
 use Rattle.pop_checker.specs.Computes.{Computes, EndsByMeetings}
+use Rattle.pop_fair.proofs.Standing.{size_of_input}
 
 pub steps_fairly : (net : NetModel) (tree : PredTree) (k : ℕ) → Computes net tree k → StablyComputes (Step net) net tree
 steps_fairly net tree k computes =
@@ -57,12 +55,6 @@ meetings_lead net (m ∷ meetings) crowd h =
     (next ∷ more.0, (meets net m crowd (All-head (IsMeeting (length crowd)) m meetings h), more.1))
 
 -- ---- crowds on the way from an input
-
-size_of_input : (net : NetModel) (counts : List ℕ) → length (input_crowd net counts) ≡ sum counts + number_of_helpers net
-size_of_input net counts =
-    length-append (starts_from (start_of net) 0 counts) (map (helper_of net) (range_with_len 0 (number_of_helpers net)))
-    ∙ ap (λ n. n + length (map (helper_of net) (range_with_len 0 (number_of_helpers net)))) (length-starts_from (start_of net) 0 counts)
-    ∙ ap (λ n. sum counts + n) (length-map (range_with_len 0 (number_of_helpers net)) (helper_of net) ∙ length-range_with_len 0 (number_of_helpers net))
 
 reached_states : (net : NetModel) (counts : List ℕ) (crowd : CrowdModel) → IsNet net → IsInput (length net.variables) (number_of_helpers net) counts → Reachable (Step net) (input_crowd net counts) crowd → All (HasStates net) crowd
 reached_states net counts crowd is input r k d l i leaf h =

@@ -9,3 +9,4 @@ pub mod Settles
 pub mod Fairness
 pub mod Verdicts
 pub mod RightEnds
+pub mod MajorityProof

@@ -1,5 +1,5 @@
 -- In a single leaf each step of the leaf's crowd is made by a meeting, whatever the meeting does to the other leaves.
-use Rattle.std.proofs.Common.{◌≡◌, ◌≢◌, ◌⊎◌, inl, inr, ℕ, zero, suc, ◌<◌, ◌≤◌, Bool, true, false, not, ◌||◌, List, [], ◌∷◌, length, refl, ap, sym, subst, ◌∙◌, arith}
+use Rattle.std.proofs.Common.{◌≡◌, ◌≢◌, ◌⊎◌, inl, inr, ℕ, zero, suc, ◌<◌, ◌≤◌, Bool, true, false, not, List, [], ◌∷◌, length, refl, ap, sym, subst, ◌∙◌, arith}
 use Rattle.std.specs.Prelude.{Option, Some, None, find, cond, slice_get, slice_set, slice_index_or, All, AllPairs}
 use Rattle.std.proofs.lemmas.Bool.{eq-eqb, cases_lt}
 use Rattle.std.proofs.lemmas.List.{set_comm, length-map}
@@ -13,33 +13,24 @@ use Rattle.pop_net.specs.Reachable.{Leads}
 use Rattle.pop_net.specs.Reaction.{takes_states, by_move, leaf_reaction, reactions, reaction, Differ, after_meeting}
 use Rattle.pop_net.proofs.Found.{find_some}
 use Rattle.pop_net.proofs.Reactions.{and_left, and_right, not_true, get-reactions, state_of-map}
-use Rattle.pop_net.proofs.Silent.{same_pair_cases}
+use Rattle.pop_net.proofs.Silent.{same_pair_cases, same-self, takes-own}
 use Rattle.pop_net.proofs.Quiet.{set_same}
 use Rattle.pop_net.proofs.Projection.{component, component-set, slice_get-component}
 use Rattle.pop_crowd.specs.declared.crowd.Meeting.{Meeting}
 use Rattle.pop_crowd.specs.Replay.{replay, IsMeeting, AreMeetings}
 use Rattle.pop_crowd.proofs.Reached.{length-after_meeting, tuples_after_meeting}
+use Rattle.list_laws.proofs.Truth.{or_true}
 
 -- no two non-silent moves of the leaf have the same states before them
 abbrev pub IsSingleLeaf : LeafModel → Type 0
 IsSingleLeaf leaf = AllPairs Differ leaf.moves
 
-or_true : (b : Bool) → b || true ≡ true
-or_true true = refl
-or_true false = refl
-
-pair_itself : (x y : ℕ) → same_pair x y x y ≡ true
-pair_itself x y = rw (eq-eqb x x refl, eq-eqb y y refl) refl
-
 turned : (x y u v : ℕ) → same_pair x y u v ≡ true → same_pair u v x y ≡ true
 turned x y u v e = go (same_pair_cases x y u v e)
   where
     go : ((x ≡ u) × (y ≡ v)) ⊎ ((x ≡ v) × (y ≡ u)) → same_pair u v x y ≡ true
-    go (inl h) = rw (← h.0, ← h.1) (pair_itself x y)
+    go (inl h) = rw (← h.0, ← h.1) (same-self x y)
     go (inr h) = rw (eq-eqb u y (sym h.1), eq-eqb v x (sym h.0)) (or_true _)
-
-takes_own : (t : Move) → silent_move t ≡ false → takes_states t.p t.q t ≡ true
-takes_own t e = rw (e, pair_itself t.p t.q) refl
 
 finds_none : (p : Move → Bool) (moves : List Move) (n : ℕ) (t : Move) → slice_get moves n ≡ Some t → p t ≡ true → find p moves ≡ None → ⊥
 finds_none p [] n t h e f = cc
@@ -74,7 +65,7 @@ module _ (moves : List Move) (single : AllPairs Differ moves) where
       go (inr l) (inr m) = let at : k ≡ n = omega arith in let hu' : slice_get moves n ≡ Some u = rw at at hu in cc
 
   found_by : (n : ℕ) (t : Move) → slice_get moves n ≡ Some t → silent_move t ≡ false → (found : Option Move) → find (takes_states t.p t.q) moves ≡ found → found ≡ Some t
-  found_by n t h e None f = absurd (finds_none (takes_states t.p t.q) moves n t h (takes_own t e) f)
+  found_by n t h e None f = absurd (finds_none (takes_states t.p t.q) moves n t h (takes-own t e) f)
   found_by n t h e (Some u) f =
       let s = find_some (takes_states t.p t.q) moves u f in ap Some (the_only n s.0 t u h s.1 e s.2)
 

@@ -25,9 +25,7 @@ use Rattle.cert_tree.specs.Refusals.{IsTreeFault}
 use Rattle.cert_tree.proofs.Verdicts.{only_memory}
 use Rattle.pop_checker.specs.declared.fault.Rejected.{Rejected}
 use Rattle.pop_checker.specs.declared.fault.Rejected.TheVariants.{Layers, Tree, Predicate}
-use Rattle.pop_checker.specs.declared.fault.CheckFault.{CheckFault}
-use Rattle.pop_checker.specs.declared.fault.CheckFault.TheVariants.{Rejected as Rejects, NoMemory}
-use Rattle.pop_checker.specs.Rejections.{AreValidBefore, RejectsLayers, RejectsTree, IsFirstRejected, IsRejected, IsCheckFault}
+use Rattle.pop_checker.specs.Rejections.{AreValidBefore, RejectsLayers, RejectsTree, IsFirstRejected, IsRejected}
 use Rattle.pop_checker.proofs.Firsts.{all_valid}
 
 -- ---- the layers of a leaf
@@ -194,10 +192,3 @@ none_rejected net p proof (Layers i f) valid r =
 none_rejected net p proof (Tree i value f) valid r =
     none_before net proof i (λ leaf part. RejectsTree leaf part value f) (tree_refuses value f) r (all_valid net proof p valid)
 none_rejected net p proof Predicate valid r = r.1 valid.combination
-
--- two faults that are not out of memory are one
-pub one_check_fault : (net : NetModel) (p : PredModel) (proof : Proof) (fault other : CheckFault) → IsCheckFault net p proof fault → IsCheckFault net p proof other → fault ≢ NoMemory → other ≢ NoMemory → fault ≡ other
-one_check_fault net p proof (Rejects r) (Rejects s) f g some more =
-    ap (λ (x : Rejected). Rejects x) (one_rejected net p proof r s f g)
-one_check_fault net p proof (Rejects r) NoMemory f g some more = absurd (more refl)
-one_check_fault net p proof NoMemory other f g some more = absurd (some refl)

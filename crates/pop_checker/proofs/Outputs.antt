@@ -30,9 +30,6 @@ use Rattle.pop_checker.proofs.NetEnds.{valid_ends}
 -- ---- the combination of the leaves' outputs is the value of the combined tree
 
 module _ (counts : List ℕ) (parts : List PredTree) (outputs : List Bool) where
-  value : PredTree → Bool
-  value tree = predicate_value tree counts
-
   -- the leaf that an item names outputs its predicate's value
   abbrev Agrees : Item → Type 0
   Agrees (Leaf i) = slice_index_or outputs i false ≡ predicate_value (slice_index_or parts i (LessThan [] (pos 0))) counts

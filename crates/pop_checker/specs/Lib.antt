@@ -3,3 +3,5 @@ pub mod CheckedModel
 pub mod Rejections
 pub mod Parts
 pub mod Sound
+pub mod Checks
+pub mod Majority

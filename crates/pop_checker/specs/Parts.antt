@@ -23,7 +23,8 @@ pub record IsRightPart (leaf : LeafModel) (part : LeafProof) : Type 0 where
 -- each leaf before leaf n has a right proof
 abbrev pub AreRightBefore : NetModel → List LeafProof → ℕ → Type 0
 AreRightBefore net parts n =
-    (i : ℕ) (leaf : LeafModel) (part : LeafProof) → i < n → slice_get net.leaves i ≡ Some leaf → slice_get parts i ≡ Some part → IsRightPart leaf part
+    (i : ℕ) (leaf : LeafModel) (part : LeafProof) → i < n → slice_get net.leaves i ≡ Some leaf
+    → slice_get parts i ≡ Some part → IsRightPart leaf part
 
 -- the fault of the layers of the leaf with this number
 abbrev pub IsLayersFault : LeafModel → LeafProof → ℕ → CheckFault → Type 0

@@ -23,9 +23,11 @@ use Rattle.pop_checker.specs.declared.fault.CheckFault.TheVariants.{Rejected as 
 -- each leaf before leaf n has a valid proof
 abbrev pub AreValidBefore : NetModel → Proof → ℕ → Type 0
 AreValidBefore net proof n =
-    (i : ℕ) (leaf : LeafModel) (part : LeafProof) → i < n → slice_get net.leaves i ≡ Some leaf → slice_get proof.leaves i ≡ Some part → ValidLeafProof leaf part
+    (i : ℕ) (leaf : LeafModel) (part : LeafProof) → i < n → slice_get net.leaves i ≡ Some leaf
+    → slice_get proof.leaves i ≡ Some part → ValidLeafProof leaf part
 
--- the fault is the first of a leaf's proof: the layers come before the tree for true, and that before the tree for false
+-- the fault is the first of a leaf's proof: the layers come before the tree for true, and that before the tree for
+-- false
 abbrev pub RejectsLayers : LeafModel → LeafProof → LayerFault → Type 0
 RejectsLayers leaf part fault = IsLayerFault leaf part.layers fault × (fault ≢ LayerMemory)
 
@@ -33,11 +35,13 @@ abbrev pub RejectsTree : LeafModel → LeafProof → Bool → TreeFault → Type
 RejectsTree leaf part true fault =
     ValidLayers leaf part.layers × IsTreeFault leaf part.pred true part.on_true fault × (fault ≢ TreeMemory)
 RejectsTree leaf part false fault =
-    ValidLayers leaf part.layers × Closes leaf (base_list leaf part.pred true) part.on_true [] × IsTreeFault leaf part.pred false part.on_false fault
+    ValidLayers leaf part.layers × Closes leaf (base_list leaf part.pred true) part.on_true []
+    × IsTreeFault leaf part.pred false part.on_false fault
     × (fault ≢ TreeMemory)
 
 -- leaf i and its proof are the first that are rejected
-pub record IsFirstRejected (net : NetModel) (proof : Proof) (i : ℕ) (Rejects : LeafModel → LeafProof → Type 0) : Type 0 where
+pub record IsFirstRejected (net : NetModel) (proof : Proof) (i : ℕ) (Rejects : LeafModel → LeafProof → Type 0)
+    : Type 0 where
   pub before : AreValidBefore net proof i
   pub leaf : LeafModel
   pub part : LeafProof
@@ -47,7 +51,8 @@ pub record IsFirstRejected (net : NetModel) (proof : Proof) (i : ℕ) (Rejects :
 
 abbrev pub IsRejected : NetModel → PredModel → Proof → Rejected → Type 0
 IsRejected net p proof (Layers i fault) = IsFirstRejected net proof i (λ leaf part. RejectsLayers leaf part fault)
-IsRejected net p proof (Tree i value fault) = IsFirstRejected net proof i (λ leaf part. RejectsTree leaf part value fault)
+IsRejected net p proof (Tree i value fault) =
+    IsFirstRejected net proof i (λ leaf part. RejectsTree leaf part value fault)
 IsRejected net p proof Predicate = AreValidBefore net proof (length net.leaves) × ¬ (CombinesTo net proof p)
 
 -- the fault names the first part that is not valid: leaf by leaf its layers and its two trees, and last the predicate

@@ -17,7 +17,8 @@ ArePreds net proof =
     (i : ℕ) (part : LeafProof) → slice_get proof.leaves i ≡ Some part → (part.pred.variables ≡ length net.variables)
     × HasAtoms part.pred.variables part.pred.tree
 
--- The net computes the predicate within the proof's bound, and where no two moves of a leaf are for the same states, meetings alone lead to its end.
+-- The net computes the predicate within the proof's bound, and where no two moves of a leaf are for the same states,
+-- meetings alone lead to its end.
 -- So every fair execution stabilises.
 pub record IsRight (net : NetModel) (p : PredModel) (proof : Proof) : Type 0 where
   pub computes : Computes net p.tree (proof_bound proof)
@@ -28,4 +29,6 @@ pub record IsRight (net : NetModel) (p : PredModel) (proof : Proof) : Type 0 whe
   pub fair_meetings : IsSingle net → StablyComputes (MeetingStep net) net p.tree
 
 abbrev pub IsSound : Type 0
-IsSound = (net : NetModel) (p : PredModel) (proof : Proof) → IsNet net → ArePreds net proof → ValidProof net p proof → IsRight net p proof
+IsSound =
+    (net : NetModel) (p : PredModel) (proof : Proof) → IsNet net → ArePreds net proof → ValidProof net p proof
+    → IsRight net p proof

@@ -82,7 +82,8 @@ impl Checked {
         ensures outputs { All (λ tuple. output_of self.now.net tuple ≡ result) (crowd_of self.now.net crowd.now) }
     {
         let _ = counts;
-        let _size = crowd.len();
+        // What the invariant says is known from here on.
+        let _formed = crowd.len();
         self.net.output(crowd.word(0))
     }
 }

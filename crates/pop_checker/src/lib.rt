@@ -12,5 +12,5 @@ mod whole;
 
 pub use checked::Checked;
 pub use fault::{CheckFault, Rejected};
-pub use law::valid_is_right;
+pub use law::{majority_computes, valid_is_right};
 pub use whole::check;

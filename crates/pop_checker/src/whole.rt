@@ -5,10 +5,9 @@ ghost use Rattle.pres_ast.specs.PredModel.{PredModel};
 ghost use Rattle.pop_net.specs.NetModel.{IsNet};
 ghost use Rattle.cert_base.specs.ProofBound.{proof_bound};
 ghost use Rattle.cert_base.specs.ProofLimits.{IsProofWithin};
-ghost use Rattle.cert_base.specs.ValidProof.{ValidProof};
 ghost use Rattle.pop_checker.specs.Rejections.{AreValidBefore, IsCheckFault};
+ghost use Rattle.pop_checker.specs.Checks.{Checks};
 ghost use Rattle.pop_checker.specs.Parts.{AreRightBefore};
-ghost use Rattle.pop_checker.specs.Sound.{IsRight};
 
 use crate::checked::Checked;
 use crate::fault::{CheckFault, Rejected};
@@ -22,13 +21,7 @@ use std::alloc::Global;
 pub fn check(alloc: Global, net: Net, pred: Pred, proof: &Proof) -> Result<Checked, CheckFault>
     requires variables { pred.variables ≡ length net.variables }
     requires within { IsProofWithin (length net.variables) (length net.leaves) proof.now }
-    ensures valid { OnOk result (ValidProof net pred proof.now) }
-    // The net computes the predicate, and meetings alone lead a net to its end that has no two moves for the same
-    // states.
-    ensures right { OnOk result (IsRight net pred proof.now) }
-    ensures fault { IfErr result (IsCheckFault net pred proof.now) }
-    ensures accepts { ValidProof net pred proof.now → IfErr result (λ fault. fault ≡ CheckFault.NoMemory) }
-    ensures kept { IfOk result (λ checked. checked ≡ record { net = net; pred = pred; bound = proof_bound proof.now }) }
+    ensures { Checks net pred proof.now result }
 {
     let bound = check_parts(alloc, &net, proof)?;
     let same = net_pred_is(&net, proof, &pred);
@@ -48,7 +41,8 @@ fn check_parts(alloc: Global, net: &Net, proof: &Proof) -> Result<u64, CheckFaul
     ensures accepts { AreValidBefore net.now proof.now (length net.now.leaves)
         → IfErr result (λ fault. fault ≡ CheckFault.NoMemory) }
 {
-    let _leaves = net.leaf_count();
+    // What the invariant says is known from here on.
+    let _formed = net.leaf_count();
     let parts = proof.leaves.as_slice();
     let mut bound = 0;
     for (number, part) in parts.iter().enumerate() {

@@ -1,19 +1,10 @@
 -- A digit that is written anew.
 use Rattle.std.proofs.Common.{◌≡◌, ℕ, zero, suc, ◌+◌, ◌*◌, ◌/◌, ◌%◌, ◌^◌, ◌<◌, ◌≤◌, ◌∷◌, ap, sym, ◌∙◌, arith}
 use Rattle.std.specs.Prelude.{slice_set}
-use Rattle.std.proofs.Math.Nat.{pow-zero, pow-suc, mul_assoc, mul_comm, div-one, div-div-eq-div-mul, add-mul-mod_self_right, add-mul-div_right, mod-eq_of_lt, div-eq_of_lt, mul-le-mul_right}
+use Rattle.std.proofs.Math.Nat.{pow-zero, pow-suc, div-one, add-mul-mod_self_right, add-mul-div_right, mod-eq_of_lt, div-eq_of_lt, mul-le-mul_right}
 use Rattle.std.proofs.lemmas.Nat.{div_below, div-add-mod', mod_below}
 use Rattle.pop_net.specs.Lanes.{digits}
-
-low_part : (base word s p : ℕ) → (word + s * (p * base)) % base ≡ word % base
-low_part base word s p = ap (λ n. (word + n) % base) (sym (mul_assoc s p base)) ∙ add-mul-mod_self_right word (s * p) base
-
-high_part : (base word s p : ℕ) → 0 < base → (word + s * (p * base)) / base ≡ word / base + s * p
-high_part base word s p l = ap (λ n. (word + n) / base) (sym (mul_assoc s p base)) ∙ add-mul-div_right word (s * p) l
-
-shifted : (base number i : ℕ) → number / base ^ suc i ≡ number / base / base ^ i
-shifted base number i =
-    ap (λ n. number / n) (pow-suc base i ∙ mul_comm (base ^ i) base) ∙ sym (div-div-eq-div-mul number base (base ^ i))
+use Rattle.pop_net.proofs.Digits.{low_part, high_part, shifted}
 
 -- a quotient that is small enough makes a small number
 below_from : (base n x : ℕ) → 0 < base → x / base < base ^ n → x < base ^ suc n

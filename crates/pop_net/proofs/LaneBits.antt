@@ -3,13 +3,6 @@ use Rattle.std.proofs.Common.{◌≡◌, ℕ, zero, suc, ◌+◌, ◌-◌, ◌*�
 use Rattle.std.specs.Int.Bits.{bit_and}
 use Rattle.std.proofs.Math.Nat.{pow-zero, pow-suc, pow-le-pow_right, div-eq_of_lt}
 use Rattle.std.proofs.lemmas.Nat.{pow-add, and_mask, mul-add-lt, shl_whole, div-add-mod', mod_below, pow_pos}
-use Rattle.pop_net.specs.declared.lanes.LaneWidth.{LaneWidth}
-use Rattle.pop_net.specs.declared.lanes.LaneWidth.TheVariants.{Narrow, Wide}
-use Rattle.pop_net.specs.LaneWidth.{bits_of}
-
-pub width_bounds : (w : LaneWidth) → (8 ≤ bits_of w) × (bits_of w ≤ 16)
-width_bounds Narrow = (omega arith, omega arith)
-width_bounds Wide = (omega arith, omega arith)
 
 pub lane_pow : (b i : ℕ) → 2 ^ (b * i) ≡ (2 ^ b) ^ i
 lane_pow b zero = ap (λ n. 2 ^ n) (let s : b * 0 ≡ 0 = omega arith in s) ∙ sym (pow-zero (2 ^ b))

@@ -16,10 +16,7 @@ use Rattle.pop_net.specs.NetFaults.{fault_of_net, net_fault, first_wide_leaf, Is
 use Rattle.pop_net.proofs.FirstFault.{NoneIff, first_of-nil, first_of-cons, none_unless, none_map, none_position, none_bad}
 use Rattle.pop_net.proofs.LeafFaults.{within}
 use Rattle.pop_net.proofs.Whole.{none_broken}
-
-twice : (b : Bool) → not (not b) ≡ b
-twice true = refl
-twice false = refl
+use Rattle.list_laws.proofs.Truth.{not_not}
 
 -- the first wide leaf
 first_wide : (leaves : List LeafModel) → NoneIff (position is_wide_leaf leaves) (is_wide leaves ≡ false)
@@ -29,7 +26,7 @@ first_wide leaves = (there, back)
     all = none_position (λ leaf. not (is_wide_leaf leaf)) (λ leaf. is_wide_leaf leaf ≡ false) (λ leaf. (λ e. not-true _ e, λ e. ap not e)) leaves
 
     same : position (λ leaf. not (not (is_wide_leaf leaf))) leaves ≡ position is_wide_leaf leaves
-    same = ap (λ p. position p leaves) (λ i leaf. twice (is_wide_leaf leaf) i)
+    same = ap (λ p. position p leaves) (λ i leaf. not_not (is_wide_leaf leaf) i)
 
     there : position is_wide_leaf leaves ≡ None → is_wide leaves ≡ false
     there e = list_any_none is_wide_leaf leaves (all.0 (same ∙ e))

@@ -1,19 +1,13 @@
 -- Words that are packed lane by lane.
 use Rattle.std.proofs.Common.{◌≡◌, ℕ, zero, suc, ◌+◌, ◌*◌, ◌/◌, ◌%◌, ◌^◌, ◌<◌, ◌≤◌, List, [], ◌∷◌, ◌++◌, length, take, get_or, refl, ap, sym, ◌∙◌, arith}
-use Rattle.std.proofs.Math.Nat.{pow-zero, pow-suc, mul_assoc, add-mul-mod_self_right, add-mul-div_right, mod-eq_of_lt}
+use Rattle.std.proofs.Math.Nat.{pow-zero, pow-suc, mod-eq_of_lt}
 use Rattle.std.proofs.lemmas.Nat.{div_below, div-add-mod', pow_pos}
 use Rattle.std.proofs.lemmas.List.{take_more, take_all}
 use Rattle.pop_net.specs.declared.net.Word.{Word}
 use Rattle.pop_net.specs.NetModel.{NetModel, IsTuple, state_of}
 use Rattle.pop_net.specs.LaneWidth.{bits_of, width_of}
 use Rattle.pop_net.specs.Lanes.{digits, lane_size, tuple_of, IsValid}
-use Rattle.pop_net.proofs.Digits.{length-digits, get_or-digits}
-
-low_part : (base word s p : ℕ) → (word + s * (p * base)) % base ≡ word % base
-low_part base word s p = ap (λ n. (word + n) % base) (sym (mul_assoc s p base)) ∙ add-mul-mod_self_right word (s * p) base
-
-high_part : (base word s p : ℕ) → 0 < base → (word + s * (p * base)) / base ≡ word / base + s * p
-high_part base word s p l = ap (λ n. (word + n) / base) (sym (mul_assoc s p base)) ∙ add-mul-div_right word (s * p) l
+use Rattle.pop_net.proofs.Digits.{length-digits, get_or-digits, low_part, high_part}
 
 -- one more digit, the highest
 pub digits_more : (base i word s : ℕ) → 0 < base → word < base ^ i → s < base → digits base (suc i) (word + s * base ^ i) ≡ digits base i word ++ s ∷ []
@@ -32,9 +26,6 @@ digits_more base (suc i) word s l h k =
 pub record Packed (base i : ℕ) (states : List ℕ) (word : ℕ) : Type 0 where
   pub lanes : digits base i word ≡ take i states
   pub free : word < base ^ i
-
-pub packed_none : (base : ℕ) (states : List ℕ) → Packed base 0 states 0
-packed_none base states = record { lanes = refl; free = omega (arith, pow-zero base) }
 
 pub packed_more : (base i : ℕ) (states : List ℕ) (word s next : ℕ) → 0 < base → Packed base i states word → i < length states → s ≡ get_or states i 0 → s < base → next ≡ word + s * base ^ i → next < base ^ (i + 1) → Packed base (i + 1) states next
 packed_more base i states word s next pos p l e k sum free =

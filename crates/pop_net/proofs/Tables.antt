@@ -47,9 +47,6 @@ pub record IsStill (n k : ℕ) (table : List (ℕ × ℕ)) : Type 0 where
   pub size : length table ≡ k
   pub entry : (j : ℕ) → j < k → slice_get table j ≡ Some (j / n, j % n)
 
-pub still_none : (n : ℕ) → IsStill n 0 []
-still_none n = record { size = refl; entry = λ j l. absurd (omega arith) }
-
 pub still_more : (n k : ℕ) (table : List (ℕ × ℕ)) (x y : ℕ) → x ≡ k / n → y ≡ k % n → IsStill n k table → IsStill n (k + 1) (table ++ (x, y) ∷ [])
 still_more n k table x y ex ey h =
     record {

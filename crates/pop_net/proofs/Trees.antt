@@ -11,7 +11,7 @@ use Rattle.std.proofs.lemmas.List.Folds.{list_all-append}
 use Rattle.pop_net.specs.declared.fault.CombinationFault.TheVariants as combination
 use Rattle.pop_net.specs.FirstFault.{unless, first_of}
 use Rattle.pop_net.proofs.FirstFault.{none_below, found_below}
-use Rattle.std.proofs.lemmas.List.Elements.{All-head, All-tail, All-nil, All-drop}
+use Rattle.std.proofs.lemmas.List.Elements.{All-head, All-tail, All-drop}
 use Rattle.pop_net.specs.declared.net.Item.{Item}
 use Rattle.pop_net.specs.declared.net.Item.TheVariants.{Leaf, Not, And, Or}
 use Rattle.pop_net.specs.NetModel.{Operators, after_item, after_items, depth_operators}
@@ -68,10 +68,6 @@ pub record Walked (leaves : ℕ) (items : List Item) (k : ℕ) (operands : List 
   pub low : All (λ d. d ≤ 65) operands
   pub few : length operands ≤ k
   pub fine : (j : ℕ) → j < k → not (stands leaves (take (j + 1) items)) ≡ false
-
-pub walked_none : (leaves : ℕ) (items : List Item) → Walked leaves items 0 []
-walked_none leaves items =
-    record { found = refl; named = refl; low = All-nil (λ d. d ≤ 65); few = omega arith; fine = λ j l. absurd (omega arith) }
 
 module _ (leaves : ℕ) (items : List Item) (k : ℕ) (d : Item) (l : k < length items) (old : List ℕ) (w : Walked leaves items k old) where
   one_more : take (k + 1) items ≡ take k items ++ get_or items k d ∷ []

@@ -1,7 +1,7 @@
 -- The value of a combination, item by item.
 use Rattle.std.proofs.Common.{◌≡◌, ℕ, ◌+◌, ◌<◌, ◌≤◌, List, [], ◌∷◌, length, take, drop, get_or, refl, ap, sym, ◌∙◌, arith}
 use Rattle.std.specs.Prelude.{Option, Some, None, option_and_then, unwrap_or}
-use Rattle.std.proofs.lemmas.List.{take_more, take_all, take-append-drop}
+use Rattle.std.proofs.lemmas.List.{take_more, take-append-drop}
 use Rattle.pop_net.specs.declared.net.Item.{Item}
 use Rattle.pop_net.specs.NetModel.{Operators, after_item, after_items, only_one, combined}
 use Rattle.pop_net.proofs.Trees.{after_items-append}
@@ -11,9 +11,6 @@ module _ {A : Type 0} (ops : Operators A) (items : List Item) where
   pub record Valued (k : ℕ) (operands : List A) : Type 0 where
     pub found : after_items ops (take k items) [] ≡ Some operands
     pub few : length operands ≤ k
-
-  pub valued_none : Valued 0 []
-  valued_none = record { found = refl; few = omega arith }
 
   after_one : (k : ℕ) (d : Item) (operands : List A) → k < length items → Valued k operands → after_items ops (take (k + 1) items) [] ≡ after_item ops (get_or items k d) operands
   after_one k d operands l w =
@@ -32,16 +29,7 @@ module _ {A : Type 0} (ops : Operators A) (items : List Item) where
       ap (λ xs. unwrap_or (option_and_then only_one (after_items ops xs [])) other) (sym (take-append-drop (k + 1) items))
       ∙ ap (λ o. unwrap_or (option_and_then only_one o) other) (after_items-append ops (take (k + 1) items) (drop (k + 1) items) [] ∙ ap (option_and_then (after_items ops (drop (k + 1) items))) (after_one k d operands l w ∙ e))
 
-  pub value_left : (k : ℕ) (operands : List A) (other : A) → length items ≤ k → Valued k operands → unwrap_or (combined ops items) other ≡ unwrap_or (only_one operands) other
-  value_left k operands other l w =
-      ap (λ xs. unwrap_or (option_and_then only_one (after_items ops xs [])) other) (sym (take_all k items l)) ∙ ap (λ o. unwrap_or (option_and_then only_one o) other) w.found
-
 pub not_one : {A : Type 0} (operands : List A) (other : A) → (length operands ≡ 1 → ⊥) → unwrap_or (only_one operands) other ≡ other
 not_one [] other h = refl
 not_one (a ∷ []) other h = absurd (h refl)
 not_one (a ∷ b ∷ operands) other h = refl
-
-pub the_one : {A : Type 0} (operands rest : List A) (a other : A) → length operands ≡ 1 → operands ≡ a ∷ rest → unwrap_or (only_one operands) other ≡ a
-the_one [] rest a other h e = cc
-the_one (b ∷ []) rest a other h e = cc
-the_one (b ∷ c ∷ operands) rest a other h e = absurd (omega (arith, h))

@@ -59,7 +59,7 @@ low_before Or (b ∷ a ∷ old) new e h = both (same_Some _ _ e) h
         All-cons (λ d. d ≤ 65) b (a ∷ old) (omega (arith, top)) (All-cons (λ d. d ≤ 65) a old (omega (arith, top)) (All-tail (λ d. d ≤ 65) (max a b + 1) old g))
 
 -- what stands before something
-some_before : {A B : Type 0} (f : A → Option B) (o : Option A) (b : B) → option_and_then f o ≡ Some b → (a : A) × (o ≡ Some a) × (f a ≡ Some b)
+pub some_before : {A B : Type 0} (f : A → Option B) (o : Option A) (b : B) → option_and_then f o ≡ Some b → (a : A) × (o ≡ Some a) × (f a ≡ Some b)
 some_before f None b e = cc
 some_before f (Some a) b e = (a, refl, e)
 

@@ -1,6 +1,6 @@
 -- A reaction of states of a leaf gives states of the leaf, and of valid tuples valid tuples.
-use Rattle.std.proofs.Common.{◌≡◌, ℕ, ◌<◌, Bool, true, false, List, length, refl}
-use Rattle.std.specs.Prelude.{Option, Some, None, All, find, ◌==◌, ◌&&◌}
+use Rattle.std.proofs.Common.{◌≡◌, ℕ, ◌<◌, Bool, true, false, List, length, refl, arith}
+use Rattle.std.specs.Prelude.{Option, Some, None, All, find, ◌==◌, ◌&&◌, slice_get}
 use Rattle.pop_net.specs.declared.leaf.Move.{Move}
 use Rattle.pop_net.specs.LeafModel.{LeafModel, IsLeaf, IsMoveBelow}
 use Rattle.pop_net.specs.NetModel.{NetModel, Tuple, IsTuple, HasStates, state_of}
@@ -8,6 +8,7 @@ use Rattle.pop_net.specs.Reaction.{takes_states, after_move, by_move, leaf_react
 use Rattle.pop_net.proofs.Found.{find_some}
 use Rattle.pop_net.proofs.Quiet.{All-slice_get}
 use Rattle.pop_net.proofs.Reactions.{get-reactions, state_of-map}
+use Rattle.pop_net.specs.declared.limits.TheConstants.{STATE_LIMIT}
 
 after_within : (n : ℕ) (t : Move) (b : Bool) → IsMoveBelow n t → ((after_move b t).0 < n) × ((after_move b t).1 < n)
 after_within n t true h = (h.2, h.3)
@@ -21,6 +22,13 @@ by_move_within n x y moves (Some t) e h hx hy =
 
 pub reaction_within : (leaf : LeafModel) (x y : ℕ) → IsLeaf leaf → x < length leaf.states → y < length leaf.states → ((leaf_reaction leaf x y).0 < length leaf.states) × ((leaf_reaction leaf x y).1 < length leaf.states)
 reaction_within leaf x y h hx hy = by_move_within (length leaf.states) x y leaf.moves (find (takes_states x y) leaf.moves) refl h.moves hx hy
+
+-- the states of a move are below the greatest number that a leaf may have
+pub move_small : (leaf : LeafModel) (t : ℕ) (taken : Move) → IsLeaf leaf → slice_get leaf.moves t ≡ Some taken → IsMoveBelow STATE_LIMIT taken
+move_small leaf t taken is h =
+    let below = All-slice_get (IsMoveBelow (length leaf.states)) leaf.moves t taken is.moves h in
+    let few = is.states in
+    (omega (arith, few, below.0), omega (arith, few, below.1), omega (arith, few, below.2), omega (arith, few, below.3))
 
 -- a reaction of tuples with states of the leaves
 pub reaction_states : (net : NetModel) (x y : Tuple) → All IsLeaf net.leaves → IsTuple net x → IsTuple net y → HasStates net x → HasStates net y → HasStates net (reaction net x y).0 × HasStates net (reaction net x y).1

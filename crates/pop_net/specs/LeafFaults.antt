@@ -1,5 +1,6 @@
 -- The first rule that a leaf breaks.
-use Rattle.std.specs.Prelude.{◌≡◌, ◌⊎◌, ℕ, Bool, not, ◌&&◌, ◌==◌, nat_lt, nat_le, [], ◌∷◌, length, Option, Some, position}
+use Rattle.std.specs.Prelude.{◌≡◌, ◌⊎◌, ℕ, Bool, not, ◌&&◌, ◌==◌, nat_lt, nat_le, [], ◌∷◌, length, Option, Some}
+use Rattle.std.specs.Prelude.{position}
 use Rattle.std.specs.Option.{option_map}
 use Rattle.pop_io.specs.Names.{state_name}
 use Rattle.pop_io.specs.declared.names.TheConstants.{VARIABLE_LIMIT}

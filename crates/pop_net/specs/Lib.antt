@@ -13,3 +13,4 @@ pub mod Lanes
 pub mod ReactionTable
 pub mod ExampleNets
 pub mod Examples
+pub mod Promises

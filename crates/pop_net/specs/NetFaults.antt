@@ -13,7 +13,8 @@ use Rattle.pop_net.specs.declared.fault.NetFault.TheVariants as fault
 use Rattle.pop_io.specs.declared.names.TheConstants.{VARIABLE_LIMIT}
 use Rattle.pop_net.specs.declared.limits.TheConstants.{LEAF_LIMIT, ITEM_LIMIT, WIDE_LEAF_LIMIT, DEPTH_LIMIT}
 use Rattle.pop_net.specs.LeafModel.{LeafModel}
-use Rattle.pop_net.specs.NetModel.{NetModel, NamesBelow, number_of_helpers, is_wide_leaf, after_items, combined, depth_operators}
+use Rattle.pop_net.specs.NetModel.{NetModel, NamesBelow, number_of_helpers, is_wide_leaf, after_items, combined}
+use Rattle.pop_net.specs.NetModel.{depth_operators}
 use Rattle.pop_net.specs.FirstFault.{unless, first_of, first_below, first_bad_name}
 
 -- whether an item names one of n leaves, where it names one

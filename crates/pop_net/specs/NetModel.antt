@@ -1,12 +1,15 @@
 -- NetModel: protocols that run side by side on the same agents, and a combination of their outputs in postfix.
-use Rattle.std.specs.Prelude.{◌≡◌, ℕ, ◌+◌, max, ◌<◌, ◌≤◌, Bool, true, false, not, nat_lt, ◌&&◌, ◌||◌, List, [], ◌∷◌, length, All}
-use Rattle.std.specs.Prelude.{Option, Some, None, IsSomeAnd, option_and_then, unwrap_or, slice_get, slice_index, slice_index_or}
+use Rattle.std.specs.Prelude.{◌≡◌, ℕ, ◌+◌, max, ◌<◌, ◌≤◌, Bool, true, false, not, nat_lt, ◌&&◌, ◌||◌, List, [], ◌∷◌}
+use Rattle.std.specs.Prelude.{length, All}
+use Rattle.std.specs.Prelude.{Option, Some, None, IsSomeAnd, option_and_then, unwrap_or, slice_get, slice_index}
+use Rattle.std.specs.Prelude.{slice_index_or}
 use Rattle.pop_io.specs.Names.{AreNames, variable_name}
 use Rattle.pop_net.specs.declared.net.Item.{Item}
 use Rattle.pop_net.specs.declared.net.Item.TheVariants.{Leaf, Not, And, Or}
 use Rattle.std.specs.List.{list_any}
 use Rattle.pop_io.specs.declared.names.TheConstants.{VARIABLE_LIMIT}
-use Rattle.pop_net.specs.declared.limits.TheConstants.{LEAF_LIMIT, NARROW_STATE_LIMIT, WIDE_LEAF_LIMIT, ITEM_LIMIT, DEPTH_LIMIT}
+use Rattle.pop_net.specs.declared.limits.TheConstants.{LEAF_LIMIT, NARROW_STATE_LIMIT, WIDE_LEAF_LIMIT, ITEM_LIMIT}
+use Rattle.pop_net.specs.declared.limits.TheConstants.{DEPTH_LIMIT}
 use Rattle.pop_net.specs.LeafModel.{LeafModel, IsLeaf}
 
 pub record NetModel : Type 0 where
@@ -48,7 +51,8 @@ state_of tuple i = slice_index tuple i
 
 -- each state of a tuple is one of its leaf
 abbrev pub AreStates : List LeafModel → Tuple → Type 0
-AreStates leaves tuple = (i : ℕ) (leaf : LeafModel) → slice_get leaves i ≡ Some leaf → state_of tuple i < length leaf.states
+AreStates leaves tuple =
+    (i : ℕ) (leaf : LeafModel) → slice_get leaves i ≡ Some leaf → state_of tuple i < length leaf.states
 
 abbrev pub HasStates : NetModel → Tuple → Type 0
 HasStates net tuple = AreStates net.leaves tuple

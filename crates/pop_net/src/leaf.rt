@@ -1,6 +1,6 @@
 //! A population protocol: states, moves, start states, outputs and helpers (Angluin et al. 2006).
 
-ghost use Rattle.std.specs.Prelude.{◌≡◌, ◌<◌, [], length, Some, IfOk, IfErr, IfSome, slice_get};
+ghost use Rattle.std.specs.Prelude.{◌≡◌, ◌<◌, [], length, Some, IfOk, IfSome, slice_get};
 ghost use Rattle.pop_net.specs.LeafFaults.{is_move_below};
 
 use crate::copies::copy_texts;
@@ -85,11 +85,8 @@ impl Model for Leaf {
 
 impl Leaf {
     ghost use Rattle.pop_net.specs.LeafModel.{IsLeaf, silent_move};
-    ghost use Rattle.pop_net.specs.Reaction.{leaf_reaction};
     ghost use Rattle.pop_net.specs.NetModel.{is_wide_leaf};
-    ghost use Rattle.pop_net.specs.Step.{LeafChange};
-    ghost use Rattle.pop_net.specs.LeafFaults.{RefusesLeaf};
-    ghost use Rattle.pop_net.specs.declared.fault.LeafFault.TheVariants.{NoMemory as OutOfMemory};
+    ghost use Rattle.pop_net.specs.Promises.{MakesLeaf, LeafReacts};
 
     /// A leaf without helpers: the names of its states, its moves, the start state of each variable,
     /// and the output of each state. It answers neither `Helpers` nor `Helper`.
@@ -100,15 +97,9 @@ impl Leaf {
         inputs: List<u16>,
         outputs: List<bool>,
     ) -> Result<Leaf, LeafFault>
-        ensures kept { IfOk result
-            (λ leaf. leaf
-            ≡ record { states = states; moves = moves; inputs = inputs; outputs = outputs; helpers = [] }) }
-        ensures refused { IfErr result
-            (RefusesLeaf
-            (record { states = states; moves = moves; inputs = inputs; outputs = outputs; helpers = [] })) }
-        ensures accepts { IsLeaf
+        ensures { MakesLeaf
             (record { states = states; moves = moves; inputs = inputs; outputs = outputs; helpers = [] })
-            → IfErr result (λ fault. fault ≡ OutOfMemory) }
+            result }
     {
         let helpers = List::from_vec(Vec::new(alloc));
         Leaf::with_helpers(alloc, states, moves, inputs, outputs, helpers)
@@ -123,14 +114,9 @@ impl Leaf {
         outputs: List<bool>,
         helpers: List<u16>,
     ) -> Result<Leaf, LeafFault>
-        ensures kept { IfOk result (λ leaf. leaf
-            ≡ record { states = states; moves = moves; inputs = inputs; outputs = outputs; helpers = helpers }) }
-        ensures refused { IfErr result
-            (RefusesLeaf
-            (record { states = states; moves = moves; inputs = inputs; outputs = outputs; helpers = helpers })) }
-        ensures accepts { IsLeaf
+        ensures { MakesLeaf
             (record { states = states; moves = moves; inputs = inputs; outputs = outputs; helpers = helpers })
-            → IfErr result (λ fault. fault ≡ OutOfMemory) }
+            result }
     {
         match leaf_fault(
             states.as_slice(),
@@ -260,11 +246,7 @@ impl Leaf {
     pub fn react(&self, x: u16, y: u16) -> (u16, u16)
         requires x_in { x < length self.now.states }
         requires y_in { y < length self.now.states }
-        ensures reaction { result ≡ leaf_reaction self.now x y }
-        ensures first_in { result.0 < length self.now.states }
-        ensures second_in { result.1 < length self.now.states }
-        // It is a change that a step allows.
-        ensures change { LeafChange self.now x y result.0 result.1 }
+        ensures { LeafReacts self.now x y result }
     {
         self.table[x as usize * self.states.as_slice().len() + y as usize]
     }

@@ -1,6 +1,6 @@
 //! Protocols that run side by side on the same agents, and a combination of their outputs.
 
-ghost use Rattle.std.specs.Prelude.{◌≡◌, ◌<◌, ◌↔◌, length, Some, IfOk, IfErr, IfSome, IsTrue, slice_get, slice_set};
+ghost use Rattle.std.specs.Prelude.{◌≡◌, ◌<◌, ◌↔◌, length, Some, IfOk, IfSome, IsTrue, slice_get, slice_set};
 ghost use Rattle.pop_net.specs.NetFaults.{names_below};
 
 use crate::combination::value_of;
@@ -64,11 +64,8 @@ impl Model for Net {
 impl Net {
     ghost use Rattle.pop_net.specs.NetModel.{IsNet, state_of, output_of, number_of_helpers};
     ghost use Rattle.pop_net.specs.InputCrowd.{start_of, helper_of};
-    ghost use Rattle.pop_net.specs.Reaction.{reaction};
-    ghost use Rattle.pop_net.specs.Step.{TupleChange};
     ghost use Rattle.pop_net.specs.Lanes.{tuple_of, IsValid};
-    ghost use Rattle.pop_net.specs.NetFaults.{RefusesNet};
-    ghost use Rattle.pop_net.specs.declared.fault.NetFault.TheVariants.{NoMemory as OutOfMemory};
+    ghost use Rattle.pop_net.specs.Promises.{MakesNet, NetReacts, IsWordOf, StartsAs};
 
     /// The names of the variables, the leaves, and the combination in postfix. It allocates nothing.
     pub fn new(
@@ -77,10 +74,7 @@ impl Net {
         leaves: List<Leaf>,
         combine: List<Item>,
     ) -> Result<Net, NetFault>
-        ensures kept { IfOk result (λ net. net ≡ record { variables = vars; leaves = leaves; combine = combine }) }
-        ensures refused { IfErr result (RefusesNet (record { variables = vars; leaves = leaves; combine = combine })) }
-        ensures accepts { IsNet (record { variables = vars; leaves = leaves; combine = combine })
-            → IfErr result (λ fault. fault ≡ OutOfMemory) }
+        ensures { MakesNet (record { variables = vars; leaves = leaves; combine = combine }) result }
     {
         let _ = alloc;
         match net_fault(vars.as_slice(), leaves.as_slice(), combine.as_slice()) {
@@ -164,8 +158,8 @@ impl Net {
         ensures state { result ≡ state_of (tuple_of self.now word) leaf }
         ensures bound { IfSome (slice_get self.now.leaves leaf) (λ l. result < length l.states) }
     {
-        // A net has at most as many leaves as a word has lanes.
-        let _ = &self.leaves;
+        // What the invariant says is known from here on: a word has a lane for each leaf.
+        let _formed = &self.leaves;
         self.lanes.state(word.0, leaf as usize)
     }
 
@@ -174,8 +168,7 @@ impl Net {
         requires valid { IsValid self.now word }
         requires leaf_in { leaf < length self.now.leaves }
         requires state_in { IfSome (slice_get self.now.leaves leaf) (λ l. state < length l.states) }
-        ensures tuple { tuple_of self.now result ≡ slice_set (tuple_of self.now word) leaf state }
-        ensures valid { IsValid self.now result }
+        ensures { IsWordOf self.now (slice_set (tuple_of self.now word) leaf state) result }
     {
         let at = self.lanes.bits() * usize::from(leaf);
         let had = u64::from(self.lane(word, leaf)) << at;
@@ -187,13 +180,7 @@ impl Net {
     pub fn react(&self, a: Word, b: Word) -> (Word, Word)
         requires a_valid { IsValid self.now a }
         requires b_valid { IsValid self.now b }
-        ensures reaction { (tuple_of self.now result.0, tuple_of self.now result.1)
-            ≡ reaction self.now (tuple_of self.now a) (tuple_of self.now b) }
-        ensures first_valid { IsValid self.now result.0 }
-        ensures second_valid { IsValid self.now result.1 }
-        // It is a change that a step allows.
-        ensures change { TupleChange self.now (tuple_of self.now a) (tuple_of self.now b)
-            (tuple_of self.now result.0) (tuple_of self.now result.1) }
+        ensures { NetReacts self.now a b result }
     {
         let (first, second) = react_words(self.lanes, self.leaves.as_slice(), a.0, b.0);
         (Word(first), Word(second))
@@ -212,8 +199,7 @@ impl Net {
     /// The word in which an agent of a variable starts.
     pub fn start(&self, variable: u16) -> Word
         requires { variable < length self.now.variables }
-        ensures start { tuple_of self.now result ≡ start_of self.now variable }
-        ensures valid { IsValid self.now result }
+        ensures { StartsAs self.now (start_of self.now variable) result }
     {
         Word(start_word(self.lanes, self.leaves.as_slice(), variable))
     }
@@ -231,8 +217,7 @@ impl Net {
     /// The word in which a helper starts.
     pub fn helper(&self, helper: u32) -> Word
         requires { helper < number_of_helpers self.now }
-        ensures start { tuple_of self.now result ≡ helper_of self.now helper }
-        ensures valid { IsValid self.now result }
+        ensures { StartsAs self.now (helper_of self.now helper) result }
     {
         Word(helper_word(self.lanes, self.leaves.as_slice(), helper))
     }

@@ -1,8 +1,6 @@
 //! Which rule a leaf or a net breaks first.
 
 ghost use Rattle.std.specs.Prelude.{◌≡◌, ◌<◌, ◌==◌, not, nat_lt, length, All, IfSome, IfNone, position};
-ghost use Rattle.std.specs.List.{list_any};
-ghost use Rattle.std.specs.Str.{bytes_eq};
 ghost use Rattle.pop_io.specs.Names.{state_name, variable_name};
 ghost use Rattle.pop_net.specs.FirstFault.{is_bad_name, first_bad_name};
 ghost use Rattle.pop_net.specs.LeafModel.{IsLeaf};

@@ -1,6 +1,6 @@
 -- Groups of agents by their states, and what a move makes of them.
 use Rattle.std.proofs.Common.{◌≡◌, ◌≢◌, ◌⊎◌, inl, inr, ℕ, zero, suc, ◌<◌, ◌≤◌, Bool, true, false, cond, ◌&&◌, List, [], ◌∷◌, ◌++◌, length, refl, ap, sym, subst, ◌∙◌, arith}
-use Rattle.std.specs.Prelude.{Some, None, ◌==◌, ◌↔◌, if◌then◌else◌, slice_get, slice_set}
+use Rattle.std.specs.Prelude.{Some, ◌==◌, ◌↔◌, if◌then◌else◌, slice_get, slice_set}
 use Rattle.std.specs.Ordering.{nat_cmp}
 use Rattle.std.specs.BTreeSet.{BTreeSet, contains}
 use Rattle.std.specs.BTreeMap.{is_at}
@@ -12,12 +12,7 @@ use Rattle.pop_net.specs.declared.leaf.Move.{Move}
 use Rattle.pop_net.specs.LeafModel.{silent_move}
 use Rattle.pop_settle.specs.Settlement.{CanMake, Then}
 use Rattle.pop_settle.specs.Groups.{group_at, holds, AreAlike, AreGroups, IsEmptyGroup, IsLeastOf, Changes, Puts, Takes, IsLeastPairFor, states_after_move}
-
--- a write is found again
-pub slice_get-set_same : {A : Type 0} (xs : List A) (i : ℕ) (x y : A) → slice_get xs i ≡ Some x → slice_get (slice_set xs i y) i ≡ Some y
-slice_get-set_same [] i x y h = cc
-slice_get-set_same (z ∷ xs) zero x y h = refl
-slice_get-set_same (z ∷ xs) (suc i) x y h = slice_get-set_same xs i x y h
+use Rattle.list_laws.proofs.Lists.{slice_get-set_same}
 
 -- a write elsewhere changes nothing here
 pub slice_get-set_apart : {A : Type 0} (xs : List A) (a b : ℕ) (x : A) → a ≢ b → slice_get (slice_set xs a x) b ≡ slice_get xs b
@@ -128,10 +123,6 @@ slice_get_front [] y zero ne = absurd (ne refl)
 slice_get_front [] y (suc i) ne = refl
 slice_get_front (x ∷ xs) y zero ne = refl
 slice_get_front (x ∷ xs) y (suc i) ne = slice_get_front xs y i (λ e. ne (ap suc e))
-
-slice_get_end : {A : Type 0} (xs : List A) → slice_get xs (length xs) ≡ None
-slice_get_end [] = refl
-slice_get_end (x ∷ xs) = slice_get_end xs
 
 -- one more agent
 pub one_more : (states : List ℕ) (g : List (BTreeSet ℕ)) (q a : ℕ) (after : List (BTreeSet ℕ)) → AreGroups states g → a ≡ length states → length after ≡ length g → Puts g q a after → AreGroups (states ++ q ∷ []) after

@@ -95,11 +95,6 @@ module _ (net : NetModel) (proof : Proof) (crowd : CrowdModel) (tuples : All (Is
       not_dead net proof after layer layer' place' other c' m.1 dead''
 
 module _ (net : NetModel) (proof : Proof) (crowd : CrowdModel) where
-  -- nothing comes before the first layer of the first leaf
-  pub quiet_first : IsQuietBefore net proof crowd 0 0
-  quiet_first layer place take c (inl l) = absurd (omega arith)
-  quiet_first layer place take c (inr m) = absurd (let l = m.1 in omega arith)
-
   -- a layer whose moves are idle is done with
   pub quiet_layer : (i j : ℕ) (leaf : LeafModel) (part : LeafProof) (list : Layer) → slice_get net.leaves i ≡ Some leaf → slice_get proof.leaves i ≡ Some part → slice_get part.layers j ≡ Some list → IsQuietBefore net proof crowd i j → ((k : ℕ) → IsIdle leaf list.moves (states_in i crowd) k) → IsQuietBefore net proof crowd i (j + 1)
   quiet_layer i j leaf part list h k m quiet idle layer place take c (inl l) = quiet layer place take c (inl l)

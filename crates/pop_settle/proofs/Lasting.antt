@@ -48,9 +48,6 @@ module _ (net : NetModel) (proof : Proof) (are : All IsLeaf net.leaves) (crowd :
   abbrev next : CrowdModel
   next = crowd_after_take take.leaf c.move take.a take.b crowd
 
-  moved_states : List ℕ
-  moved_states = slice_set (slice_set (states_in take.leaf crowd) take.a c.move.r) take.b c.move.s
-
   long : length c.list.weights ≡ length c.leaf.states
   long = All-slice_get (λ (l : Layer). length l.weights ≡ length c.leaf.states) c.part.layers layer c.list v.weights c.layer_is
 

@@ -1,8 +1,7 @@
 -- One more take of a layer.
-use Rattle.std.proofs.Common.{◌≡◌, ℕ, zero, suc, ◌<◌, List, [], ◌∷◌, ◌++◌, length, sym, subst, arith}
+use Rattle.std.proofs.Common.{◌≡◌, ℕ, zero, suc, ◌<◌, List, [], ◌∷◌, length, sym, subst, arith}
 use Rattle.std.specs.Prelude.{Option, Some, None, IfSome, slice_get, All}
 use Rattle.std.specs.BTreeSet.{BTreeSet}
-use Rattle.std.proofs.lemmas.List.Elements.{All-nil, All-cons, All-head, All-tail}
 use Rattle.std.proofs.lemmas.Option.{slice_get_within}
 use Rattle.pop_net.specs.LeafModel.{LeafModel, IsLeaf}
 use Rattle.pop_net.specs.NetModel.{NetModel, CrowdModel}
@@ -22,6 +21,7 @@ use Rattle.pop_settle.proofs.Firsts.{can_first, next_first}
 use Rattle.pop_settle.proofs.Fuel.{fuel}
 use Rattle.pop_settle.proofs.Endings.{element}
 use Rattle.pop_settle.proofs.Lasting.{InRanges, uses_fuel}
+use Rattle.list_laws.proofs.Lists.{all_front, all_back}
 
 -- layer j of leaf i
 pub record AtLayer (net : NetModel) (proof : Proof) (j : ℕ) (layer : Layer) (leaf : LeafModel) (i : ℕ) : Type 0 where
@@ -41,14 +41,6 @@ at_layer net proof i j layer leaf v h k =
       layer_is = subst (λ (o : Option LeafProof). IfSome o (λ part. slice_get part.layers j ≡ Some layer)) part.1 k;
       valid = v.valid i leaf part.0 h part.1;
     }
-
-all_front : {A : Type 0} (P : A → Type 0) (xs ys : List A) → All P (xs ++ ys) → All P xs
-all_front P [] ys all = All-nil P
-all_front P (x ∷ xs) ys all = All-cons P x xs (All-head P x (xs ++ ys) all) (all_front P xs ys (All-tail P x (xs ++ ys) all))
-
-all_back : {A : Type 0} (P : A → Type 0) (xs ys : List A) → All P (xs ++ ys) → All P ys
-all_back P [] ys all = all
-all_back P (x ∷ xs) ys all = all_back P xs ys (All-tail P x (xs ++ ys) all)
 
 -- what all listed moves have, those of each layer have
 pub all_listed : (P : ℕ → Type 0) (layers : List Layer) (j : ℕ) (layer : Layer) → slice_get layers j ≡ Some layer → All P (moves_of_layers layers) → All P layer.moves

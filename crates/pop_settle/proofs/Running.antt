@@ -1,27 +1,21 @@
 -- Runs of moves with the same first state.
-use Rattle.std.proofs.Common.{◌≡◌, ◌⊎◌, inl, inr, ℕ, ◌+◌, ◌<◌, ◌≤◌, List, length, get_or, ap, sym, subst, ◌∙◌, arith}
-use Rattle.std.specs.Prelude.{Some, slice_get, slice_set}
+use Rattle.std.proofs.Common.{◌≡◌, ◌⊎◌, inl, inr, ℕ, ◌+◌, ◌<◌, ◌≤◌, List, length, get_or, ap, subst, ◌∙◌, arith}
+use Rattle.std.specs.Prelude.{Some, slice_get}
 use Rattle.std.specs.BTreeSet.{BTreeSet}
-use Rattle.std.proofs.lemmas.Bool.{cases_lt, cases_eq, both_ways}
-use Rattle.std.proofs.lemmas.Option.{same_Some, slice_get-get_or}
+use Rattle.std.proofs.lemmas.Bool.{cases_lt, both_ways}
+use Rattle.std.proofs.lemmas.Option.{slice_get-get_or}
 use Rattle.pop_net.specs.declared.leaf.Move.{Move}
 use Rattle.pop_net.specs.LeafModel.{LeafModel}
 use Rattle.pop_settle.specs.Groups.{holds, AreGroups, IsEmptyGroup}
 use Rattle.pop_settle.specs.Search.{IsIdle, BeginAlike, IsStretch}
 use Rattle.pop_settle.proofs.Taking.{same_value}
 use Rattle.pop_settle.proofs.Endings.{element}
-use Rattle.pop_settle.proofs.Grouping.{slice_get-set_apart, slice_get-set_same}
 
 alike_itself : (leaf : LeafModel) (moves : List ℕ) (k j : ℕ) → j ≡ k → BeginAlike leaf moves k j
 alike_itself leaf moves k j e step step' t t' h m h' m' =
     let same : step' ≡ step = same_value (slice_get moves k) step' step (subst (λ (n : ℕ). slice_get moves n ≡ Some step') e h') h in
     let one : t' ≡ t = same_value (slice_get leaf.moves step) t' t (subst (λ (n : ℕ). slice_get leaf.moves n ≡ Some t') same m') m in
     ap (λ (u : Move). u.p) one
-
--- one move alone
-pub run_of_one : (leaf : LeafModel) (moves : List ℕ) (k : ℕ) → k < length moves → IsStretch leaf moves k (k + 1)
-run_of_one leaf moves k l =
-    record { behind = (let m : k < k + 1 = omega arith in m); within = (let m : k + 1 ≤ length moves = omega arith in m); alike = λ j m n. alike_itself leaf moves k j (omega arith) }
 
 -- what is said of two moves by their numbers
 pub alike_next : (leaf : LeafModel) (moves : List ℕ) (k j one other : ℕ) → slice_get moves k ≡ Some one → slice_get moves j ≡ Some other
@@ -42,25 +36,6 @@ longer_run leaf moves k end l m alike run =
         let next = slice_get-get_or moves (k + 1) 0 l in
         let t = element leaf.moves (get_or moves (k + 1) 0) m in
         run.alike j (omega arith) n (get_or moves (k + 1) 0) s' t.0 u' next t.1 a' b' ∙ alike s (get_or moves (k + 1) 0) u t.0 a b next t.1
-
--- one more end is entered, before those that are right
-pub run_entered : (leaf : LeafModel) (moves ends : List ℕ) (place end : ℕ) → length ends ≡ length moves → place < length moves → IsStretch leaf moves place end
-    → ((k e : ℕ) → place + 1 ≤ k → slice_get ends k ≡ Some e → IsStretch leaf moves k e) → (k e : ℕ) → place ≤ k → slice_get (slice_set ends place end) k ≡ Some e → IsStretch leaf moves k e
-run_entered leaf moves ends place end long l run after k e m h = by_place (cases_eq k place)
-  where
-    later : (place < k) ⊎ (k ≤ place) → (k ≡ place → ⊥) → place + 1 ≤ k
-    later (inl n) ne = omega arith
-    later (inr n) ne = absurd (ne (omega arith))
-
-    by_place : (k ≡ place) ⊎ (k ≡ place → ⊥) → IsStretch leaf moves k e
-    by_place (inr ne) = after k e (later (cases_lt place k) ne) (sym (slice_get-set_apart ends place k end (λ f. ne (sym f))) ∙ h)
-    by_place (inl f) =
-        let here : slice_get (slice_set ends place end) place ≡ Some e = subst (λ (n : ℕ). slice_get (slice_set ends place end) n ≡ Some e) f h in
-        let same : end ≡ e = same_Some end e (sym (set_there ends place end (omega (arith, l, long))) ∙ here) in
-        subst (λ (n : ℕ). IsStretch leaf moves n e) (sym f) (subst (λ (n : ℕ). IsStretch leaf moves place n) same run)
-      where
-        set_there : (xs : List ℕ) (i y : ℕ) → i < length xs → slice_get (slice_set xs i y) i ≡ Some y
-        set_there xs i y n = slice_get-set_same xs i _ y (slice_get-get_or xs i 0 n)
 
 -- where nobody holds the first state of a run, all its moves are idle
 pub run_idle : (leaf : LeafModel) (moves states : List ℕ) (groups : List (BTreeSet ℕ)) (k end step : ℕ) (t : Move) → slice_get moves k ≡ Some step → slice_get leaf.moves step ≡ Some t → t.p < length groups → AreGroups states groups → IsEmptyGroup groups t.p → IsStretch leaf moves k end

@@ -1,6 +1,6 @@
 -- Takes that are made one after the other.
-use Rattle.std.proofs.Common.{◌≡◌, List, [], ◌∷◌, ◌++◌, length, refl, ap, sym, ◌∙◌}
-use Rattle.std.proofs.lemmas.List.{append-nil, append_assoc}
+use Rattle.std.proofs.Common.{◌≡◌, List, [], ◌∷◌, ◌++◌, length, ap, ◌∙◌}
+use Rattle.std.proofs.lemmas.List.{append_assoc}
 use Rattle.std.proofs.lemmas.List.Elements.{All-map, All-weaker}
 use Rattle.pop_net.specs.declared.net.Word.{Word}
 use Rattle.pop_net.specs.NetModel.{NetModel, IsTuple, HasStates}
@@ -23,10 +23,6 @@ valid_crowd net words valid = (
 
 pub valid_ranges : (net : NetModel) (words : List Word) → AreValid net words → InRanges net (crowd_of net words)
 valid_ranges net words valid = crowd_ranges net (crowd_of net words) (valid_crowd net words valid)
-
-pub walk_start : (net : NetModel) (proof : Proof) (walk : Walk) → AreValid net walk.words.items → WalksOn net proof walk walk
-walk_start net proof walk valid =
-    record { more = []; added = sym (append-nil walk.takes.items); leads = refl; valid = valid; agents = refl }
 
 pub walk_join : (net : NetModel) (proof : Proof) (first second third : Walk) → WalksOn net proof first second → WalksOn net proof second third → WalksOn net proof first third
 walk_join net proof first second third w v =

@@ -29,7 +29,8 @@ AreAlike groups after = (z x : ℕ) → holds after z x ≡ holds groups z x
 
 -- in the group of state q, agent a is now there or not, and all else is as it was
 abbrev pub Changes : Bool → List (BTreeSet ℕ) → ℕ → ℕ → List (BTreeSet ℕ) → Type 0
-Changes there groups q a after = (z x : ℕ) → holds after z x ≡ (if (z == q) && (x == a) then there else holds groups z x)
+Changes there groups q a after =
+    (z x : ℕ) → holds after z x ≡ (if (z == q) && (x == a) then there else holds groups z x)
 
 abbrev pub Puts : List (BTreeSet ℕ) → ℕ → ℕ → List (BTreeSet ℕ) → Type 0
 Puts groups q a after = Changes true groups q a after
@@ -48,4 +49,5 @@ states_after_move states t a b = slice_set (slice_set states a t.r) b t.s
 -- the least pair has made the move, or there is none that can
 abbrev pub IsMade : List ℕ → Move → Option (ℕ × ℕ) → List (BTreeSet ℕ) → Type 0
 IsMade states t None groups = AreGroups states groups × ((a b : ℕ) → CanMake states t a b → ⊥)
-IsMade states t (Some pair) groups = IsLeastPairFor states t pair.0 pair.1 × AreGroups (states_after_move states t pair.0 pair.1) groups
+IsMade states t (Some pair) groups =
+    IsLeastPairFor states t pair.0 pair.1 × AreGroups (states_after_move states t pair.0 pair.1) groups

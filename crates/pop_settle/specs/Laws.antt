@@ -17,27 +17,39 @@ IsCrowd net crowd = All (IsTuple net) crowd × All (HasStates net) crowd
 abbrev pub AreSteps : Type 0
 AreSteps =
     (net : NetModel) (proof : Proof) (crowd : CrowdModel) (layer place : ℕ) (take : Take) → All (IsTuple net) crowd
-    → (can : CanTake net proof crowd layer place take) → Step net crowd (crowd_after_take take.leaf can.move take.a take.b crowd)
+    → (can : CanTake net proof crowd layer place take)
+    → Step net crowd (crowd_after_take take.leaf can.move take.a take.b crowd)
 
 -- each settlement of the crowd has these takes and this end
 abbrev pub IsOnlySettlement : NetModel → Proof → CrowdModel → List Take → CrowdModel → Type 0
 IsOnlySettlement net proof crowd takes end =
-    (others : List Take) (last : CrowdModel) → IsSettlement net proof crowd others last → (others ≡ takes) × (last ≡ end)
+    (others : List Take) (last : CrowdModel) → IsSettlement net proof crowd others last
+    → (others ≡ takes) × (last ≡ end)
 
 -- there is at most one settlement
 abbrev pub AreOne : Type 0
 AreOne =
-    (net : NetModel) (proof : Proof) (crowd end : CrowdModel) (takes : List Take) → IsSettlement net proof crowd takes end
+    (net : NetModel) (proof : Proof) (crowd end : CrowdModel) (takes : List Take)
+    → IsSettlement net proof crowd takes end
     → IsOnlySettlement net proof crowd takes end
 
 -- it is no longer than the proof's bound for each agent
 abbrev pub AreShort : Type 0
 AreShort =
-    (net : NetModel) (proof : Proof) (crowd end : CrowdModel) (takes : List Take) → IsNet net → AreLayersValid net proof → IsCrowd net crowd
+    (net : NetModel) (proof : Proof) (crowd end : CrowdModel) (takes : List Take) → IsNet net → AreLayersValid net proof
+    → IsCrowd net crowd
     → LeadsBy net proof crowd takes end → length takes ≤ proof_bound proof * length crowd
 
 -- its last crowd is terminal
 abbrev pub AreTerminal : Type 0
 AreTerminal =
-    (net : NetModel) (proof : Proof) (crowd end : CrowdModel) (takes : List Take) → AreLayersValid net proof → All (IsTuple net) crowd
+    (net : NetModel) (proof : Proof) (crowd end : CrowdModel) (takes : List Take) → AreLayersValid net proof
+    → All (IsTuple net) crowd
     → IsSettlement net proof crowd takes end → IsTerminal (Step net) end
+
+-- what settlements are: steps of the model, one from each crowd, short, and with a terminal end
+pub record SettlementsEnd : Type 0 where
+  pub steps : AreSteps
+  pub one : AreOne
+  pub short : AreShort
+  pub terminal : AreTerminal

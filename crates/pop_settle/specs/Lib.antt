@@ -4,3 +4,4 @@ pub mod Search
 pub mod Settlement
 pub mod Settling
 pub mod Walks
+pub mod Settles

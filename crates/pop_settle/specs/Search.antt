@@ -10,12 +10,14 @@ use Rattle.pop_settle.specs.Groups.{AreGroups, IsLeastPairFor, states_after_move
 -- no agents can make the move at place k of a list
 abbrev pub IsIdle : LeafModel → List ℕ → List ℕ → ℕ → Type 0
 IsIdle leaf moves states k =
-    (step : ℕ) (t : Move) (a b : ℕ) → slice_get moves k ≡ Some step → slice_get leaf.moves step ≡ Some t → CanMake states t a b → ⊥
+    (step : ℕ) (t : Move) (a b : ℕ) → slice_get moves k ≡ Some step → slice_get leaf.moves step ≡ Some t
+    → CanMake states t a b → ⊥
 
 -- the moves at the places k and j have the same first state
 abbrev pub BeginAlike : LeafModel → List ℕ → ℕ → ℕ → Type 0
 BeginAlike leaf moves k j =
-    (step step' : ℕ) (t t' : Move) → slice_get moves k ≡ Some step → slice_get leaf.moves step ≡ Some t → slice_get moves j ≡ Some step'
+    (step step' : ℕ) (t t' : Move) → slice_get moves k ≡ Some step → slice_get leaf.moves step ≡ Some t
+    → slice_get moves j ≡ Some step'
     → slice_get leaf.moves step' ≡ Some t' → t'.p ≡ t.p
 
 -- from place k up to place end, which is behind it, all moves have the same first state
@@ -42,4 +44,5 @@ pub record IsFirstTake (leaf : LeafModel) (moves states : List ℕ) (take : Take
 abbrev pub FindsTake : LeafModel → ℕ → List ℕ → List ℕ → Option Take → List (BTreeSet ℕ) → Type 0
 FindsTake leaf number moves states None groups = AreGroups states groups × ((k : ℕ) → IsIdle leaf moves states k)
 FindsTake leaf number moves states (Some take) groups =
-    (take.leaf ≡ number) × (first : IsFirstTake leaf moves states take) × AreGroups (states_after_move states first.move take.a take.b) groups
+    (take.leaf ≡ number) × (first : IsFirstTake leaf moves states take)
+    × AreGroups (states_after_move states first.move take.a take.b) groups

@@ -1,5 +1,6 @@
 -- Settlement: the takes that lead by a proof's layers to a crowd in which none can be made.
-use Rattle.std.specs.Prelude.{◌≡◌, ◌≢◌, ◌⊎◌, ℕ, ◌<◌, false, List, [], ◌∷◌, map, Some, slice_get, slice_set, slice_index_or}
+use Rattle.std.specs.Prelude.{◌≡◌, ◌≢◌, ◌⊎◌, ℕ, ◌<◌, false, List, [], ◌∷◌, map, Some, slice_get, slice_set}
+use Rattle.std.specs.Prelude.{slice_index_or}
 use Rattle.pop_net.specs.declared.leaf.Move.{Move}
 use Rattle.pop_net.specs.LeafModel.{LeafModel, silent_move}
 use Rattle.pop_net.specs.NetModel.{NetModel, Tuple, CrowdModel, state_of}
@@ -38,7 +39,8 @@ tuple_with_state i agent state crowd = slice_set (slice_index_or crowd agent [])
 
 -- a gets the state r and b the state s in leaf i, and nothing else changes
 abbrev pub crowd_after_take : ℕ → Move → ℕ → ℕ → CrowdModel → CrowdModel
-crowd_after_take i t a b crowd = slice_set (slice_set crowd a (tuple_with_state i a t.r crowd)) b (tuple_with_state i b t.s crowd)
+crowd_after_take i t a b crowd =
+    slice_set (slice_set crowd a (tuple_with_state i a t.r crowd)) b (tuple_with_state i b t.s crowd)
 
 -- m comes before n; where they are the same, what is compared next decides
 abbrev pub Then : ℕ → ℕ → Type 0 → Type 0
@@ -54,15 +56,18 @@ pub record IsNext (net : NetModel) (proof : Proof) (crowd : CrowdModel) (take : 
   pub layer : ℕ
   pub place : ℕ
   pub can : CanTake net proof crowd layer place take
-  pub least : (layer' place' : ℕ) (other : Take) → CanTake net proof crowd layer' place' other → IsBefore layer' place' other layer place take → ⊥
+  pub least : (layer' place' : ℕ) (other : Take) → CanTake net proof crowd layer' place' other
+      → IsBefore layer' place' other layer place take → ⊥
 
 -- takes lead from a crowd to another one, and each is the least that can be made there
 abbrev pub LeadsBy : NetModel → Proof → CrowdModel → List Take → CrowdModel → Type 0
 LeadsBy net proof crowd [] end = end ≡ crowd
 LeadsBy net proof crowd (take ∷ takes) end =
-    (next : IsNext net proof crowd take) × LeadsBy net proof (crowd_after_take take.leaf next.can.move take.a take.b crowd) takes end
+    (next : IsNext net proof crowd take)
+    × LeadsBy net proof (crowd_after_take take.leaf next.can.move take.a take.b crowd) takes end
 
 -- no take can be made after the last one
-pub record IsSettlement (net : NetModel) (proof : Proof) (crowd : CrowdModel) (takes : List Take) (end : CrowdModel) : Type 0 where
+pub record IsSettlement (net : NetModel) (proof : Proof) (crowd : CrowdModel) (takes : List Take) (end : CrowdModel)
+    : Type 0 where
   pub leads : LeadsBy net proof crowd takes end
   pub ended : (layer place : ℕ) (take : Take) → CanTake net proof end layer place take → ⊥

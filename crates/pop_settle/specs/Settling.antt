@@ -15,13 +15,15 @@ use Rattle.pop_settle.specs.declared.fault.SettleFault.TheVariants.{Long, NoMemo
 -- each leaf has a proof with valid layers
 pub record AreLayersValid (net : NetModel) (proof : Proof) : Type 0 where
   pub one_each : length proof.leaves ≡ length net.leaves
-  pub valid : (i : ℕ) (leaf : LeafModel) (part : LeafProof) → slice_get net.leaves i ≡ Some leaf → slice_get proof.leaves i ≡ Some part
+  pub valid : (i : ℕ) (leaf : LeafModel) (part : LeafProof) → slice_get net.leaves i ≡ Some leaf
+      → slice_get proof.leaves i ≡ Some part
       → ValidLayers leaf part.layers
 
 -- the layers and their weights are within the limits
 abbrev pub AreFewLayers : Proof → Type 0
 AreFewLayers proof =
-    All (λ part. (length part.layers ≤ LAYER_LIMIT) × All (λ layer. All IsWeight layer.weights) part.layers) proof.leaves
+    All (λ part. (length part.layers ≤ LAYER_LIMIT)
+    × All (λ layer. All IsWeight layer.weights) part.layers) proof.leaves
 
 pub record HasLayers (net : NetModel) (proof : Proof) : Type 0 where
   pub layers : AreLayersValid net proof

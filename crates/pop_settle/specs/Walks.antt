@@ -12,7 +12,8 @@ use Rattle.pop_settle.specs.Settlement.{CanTake, Then, crowd_after_take, LeadsBy
 -- the crowd after a take, whose move is found by its number
 abbrev pub TakesTo : NetModel → Take → CrowdModel → CrowdModel → Type 0
 TakesTo net take before after =
-    (leaf : LeafModel) (move : Move) → slice_get net.leaves take.leaf ≡ Some leaf → slice_get leaf.moves take.step ≡ Some move
+    (leaf : LeafModel) (move : Move) → slice_get net.leaves take.leaf ≡ Some leaf
+    → slice_get leaf.moves take.step ≡ Some move
     → after ≡ crowd_after_take take.leaf move take.a take.b before
 
 -- no take can be made of a leaf before leaf i, and in leaf i none of a layer before layer j

@@ -1,12 +1,9 @@
 //! Laws of settlements.
 
-ghost use Rattle.pop_settle.specs.Laws.{AreSteps, AreShort, AreOne, AreTerminal};
+ghost use Rattle.pop_settle.specs.Laws.{SettlementsEnd};
 
 /// A settlement is made of steps, is the only one from its crowd, is no longer than the proof's bound for each agent,
 /// and leads to a terminal crowd. The call does nothing: it is its contract.
 pub fn settlements_end()
-    ensures steps { AreSteps }
-    ensures one { AreOne }
-    ensures short { AreShort }
-    ensures terminal { AreTerminal }
+    ensures { SettlementsEnd }
 {}

@@ -1,18 +1,14 @@
 //! Settling a crowd.
 
-ghost use Rattle.std.specs.Prelude.{◌≡◌, ℕ, ◌+◌, ◌*◌, ◌<◌, ◌≤◌, List, length, All, Some, IfOk, IfErr, IfSome, OnOk};
+ghost use Rattle.std.specs.Prelude.{◌≡◌, ℕ, ◌+◌, ◌<◌, ◌≤◌, List, length, All, Some, IfOk, IfSome, OnOk};
 ghost use Rattle.std.specs.Prelude.{slice_get};
 ghost use Rattle.pop_net.specs.LeafModel.{IsLeaf};
 ghost use Rattle.pop_net.specs.NetModel.{IsNet};
 ghost use Rattle.pop_net.specs.Lanes.{crowd_of, AreValid};
-ghost use Rattle.pop_net.specs.Step.{Step};
-ghost use Rattle.pop_net.specs.Reachable.{ReachedWithin};
-ghost use Rattle.pop_net.specs.Terminal.{IsTerminal};
 ghost use Rattle.pop_crowd.specs.declared.limits.TheConstants.{AGENT_LIMIT};
-ghost use Rattle.cert_base.specs.ProofBound.{proof_bound};
-ghost use Rattle.pop_settle.specs.Settlement.{states_in, IsSettlement};
-ghost use Rattle.pop_settle.specs.Laws.{IsOnlySettlement};
-ghost use Rattle.pop_settle.specs.Settling.{HasLayers, RefusesSettle};
+ghost use Rattle.pop_settle.specs.Settlement.{states_in};
+ghost use Rattle.pop_settle.specs.Settling.{HasLayers};
+ghost use Rattle.pop_settle.specs.Settles.{Settles};
 ghost use Rattle.pop_settle.specs.Groups.{AreGroups};
 ghost use Rattle.pop_settle.specs.Search.{AreRunEnds, FindsTake};
 ghost use Rattle.pop_settle.specs.Walks.{IsQuietBefore, WalksOn};
@@ -35,22 +31,10 @@ use std::alloc::Global;
 pub fn settle(alloc: Global, net: &Net, proof: &Proof, crowd: Crowd) -> Result<Settled, SettleFault>
     requires layers { HasLayers net.now proof.now }
     requires valid { AreValid net.now crowd }
-    ensures settled { IfOk result
-        (λ s. IsSettlement net.now proof.now (crowd_of net.now crowd) s.takes (crowd_of net.now s.crowd)) }
-    // There is no other settlement.
-    ensures only { IfOk result
-        (λ s. IsOnlySettlement net.now proof.now (crowd_of net.now crowd) s.takes (crowd_of net.now s.crowd)) }
-    ensures short { IfOk result (λ s. length s.takes ≤ proof_bound proof.now * length crowd) }
-    // The takes are steps of the model, and no step leads further.
-    ensures reached { IfOk result
-        (λ s. ReachedWithin (Step net.now) (length s.takes) (crowd_of net.now crowd) (crowd_of net.now s.crowd)) }
-    ensures terminal { IfOk result (λ s. IsTerminal (Step net.now) (crowd_of net.now s.crowd)) }
-    ensures valid { IfOk result (λ s. AreValid net.now s.crowd) }
-    ensures agents { IfOk result (λ s. length s.crowd ≡ length crowd) }
-    ensures accepts { IfOk result (λ s. proof_bound proof.now * length crowd ≤ TAKE_LIMIT) }
-    ensures refused { IfErr result (RefusesSettle proof.now (length crowd)) }
+    ensures { Settles net.now proof.now crowd result }
 {
-    let _leaves = net.leaf_count();
+    // What the invariant says is known from here on.
+    let _formed = net.leaf_count();
     let most = most_takes(proof, crowd.len());
     if TAKE_LIMIT < most {
         return Err(SettleFault::Long(most));

@@ -11,3 +11,9 @@ pub const MODULUS_LIMIT: u32 = 200;
 
 /// The greatest number of nodes other than `Less`.
 pub const WEIGHT_LIMIT: u32 = 64;
+
+/// The greatest size of a coefficient times a count, which is below 2^64.
+pub(crate) const PRODUCT_LIMIT: u128 = 1 << 95;
+
+/// The greatest size of the sum of `VARIABLE_LIMIT` such products.
+pub(crate) const VALUE_LIMIT: u128 = 1 << 99;

@@ -1,11 +1,11 @@
 //! The value of a predicate's tree at counts.
 
-ghost use Rattle.std.specs.Prelude.{◌≡◌, ◌≤◌, ◌<◌, ◌^◌, ◌-ℤ◌, ◌*ℤ◌, pos, length, nat_abs};
+ghost use Rattle.std.specs.Prelude.{◌≡◌, ◌≤◌, ◌<◌, ◌-ℤ◌, ◌*ℤ◌, pos, length, nat_abs};
 ghost use Rattle.pres_ast.specs.PredModel.{AreCoefs, HasAtoms};
 ghost use Rattle.pres_ast.specs.PredicateValue.{weighted_sum, is_multiple, predicate_value};
 ghost use Rattle.pres_ast.specs.TreeOf.{tree_of};
 
-use crate::limits::COEFFICIENT_LIMIT;
+use crate::limits::{COEFFICIENT_LIMIT, PRODUCT_LIMIT, VALUE_LIMIT};
 use crate::tree::Tree;
 use pop_io::VARIABLE_LIMIT;
 
@@ -28,12 +28,11 @@ pub(crate) fn value(tree: &Tree, counts: &[u64]) -> bool
     }
 }
 
-// Sixteen products of at most 2^31 by 2^64 stay below 2^100: no overflow.
 fn sum(coefs: &[i64], counts: &[u64]) -> i128
     requires few { length counts.now ≤ VARIABLE_LIMIT }
     requires coefs { AreCoefs (length counts.now) coefs.now }
     ensures value { result ≡ weighted_sum coefs.now counts.now }
-    ensures size { nat_abs result ≤ 2 ^ 99 }
+    ensures size { nat_abs result ≤ VALUE_LIMIT }
 {
     let mut total: i128 = 0;
     for (i, coef) in coefs.iter().enumerate() {
@@ -45,7 +44,7 @@ fn sum(coefs: &[i64], counts: &[u64]) -> i128
 fn product(coef: i64, count: u64) -> i128
     requires { nat_abs coef ≤ COEFFICIENT_LIMIT }
     ensures value { result ≡ coef *ℤ pos count }
-    ensures size { nat_abs result ≤ 2 ^ 95 }
+    ensures size { nat_abs result ≤ PRODUCT_LIMIT }
 {
     i128::from(coef) * i128::from(count)
 }

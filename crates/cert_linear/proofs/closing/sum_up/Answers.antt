@@ -1,4 +1,4 @@
-use Rattle.std.proofs.Common.{◌≡◌, ◌*◌, ◌+◌, ◌^◌, arith, get_or}
+use Rattle.std.proofs.Common.{◌≡◌, ◌*◌, ◌+◌, arith, get_or}
 use Rattle.std.specs.Prelude.{pos, slice_get, Some}
 use Rattle.cert_base.specs.declared.fact.Term.{Term}
 use Rattle.cert_linear.specs.Sums.{may_by}
@@ -7,6 +7,7 @@ use Rattle.std.proofs.lemmas.Int.{to_z-of_z}
 use mir.Syntax.{w64}
 use Rattle.cert_linear.proofs.Coefficients.{sum_step, wider}
 use Rattle.cert_linear.proofs.closing.sum_up.Goals as goal
+use Rattle.cert_linear.specs.declared.sum.TheConstants.{PRODUCT_LIMIT}
 
 abbrev d : Term
 d = record { at = 0; by = pos 0 }
@@ -27,6 +28,6 @@ loop-term-preserved c =
     record {
       named = all_named_more (may_by c.args.modulus) c.args.facts.now c.args.terms.now c.loop-term.term-index d c.index-facts-term.result (omega arith) is added.0 c.loop-term.invariant.named;
       sum = sum_step c.args.facts.now c.args.terms.now c.loop-term.term-index d c.loop-term.sum c.add.new.self (omega arith) c.loop-term.invariant.sum (scaled_plus c.args.facts.now t c.index-facts-term.result c.in-Some.row.now c.loop-term.sum c.add.new.self is added.1 (rw by at c.in_ok-add.ensures.plus));
-      size = wider (c.loop-term.term-index * 2 ^ 103 + 2 ^ 103) ((c.loop-term.term-index + 1) * 2 ^ 103) c.add.new.self (omega arith) (c.in_ok-add.ensures.size (c.loop-term.term-index * 2 ^ 103) c.loop-term.invariant.size);
+      size = wider (c.loop-term.term-index * PRODUCT_LIMIT + PRODUCT_LIMIT) ((c.loop-term.term-index + 1) * PRODUCT_LIMIT) c.add.new.self (omega arith) (c.in_ok-add.ensures.size (c.loop-term.term-index * PRODUCT_LIMIT) c.loop-term.invariant.size);
       tidy = c.in_ok-add.ensures.tidy;
     }

@@ -1,13 +1,15 @@
-use Rattle.std.proofs.Common.{◌∙◌, List, sym, subst, ap}
+use Rattle.std.proofs.Common.{◌≡◌, ◌∙◌, List, sym, subst, ap}
 use Rattle.cert_base.specs.declared.fact.Fact.{Fact}
 use Rattle.cert_base.specs.FactsAndCases.{cases_of_trap}
 use Rattle.cert_base.specs.Ends.{Cover}
 use Rattle.cert_traps.proofs.Covers.{trap-cover}
 use Rattle.cert_traps.proofs.trap.trap_cases.Goals as goal
 
-pub returns-clause-cases : goal.returns-clause-cases
-returns-clause-cases c = c.in_ok-cases.ensures ∙ ap (cases_of_trap c.args.leaf.now) c.in_ok-set.ensures
-
-pub returns-clause-cover : goal.returns-clause-cover
-returns-clause-cover c =
-    subst (λ (cases : List (List Fact)). Cover c.args.leaf.now cases) (sym (returns-clause-cases c)) (trap-cover c.args.leaf.now c.args.set.now c.state_count-formed.ensures.formed)
+pub returns : goal.returns
+returns c =
+    let leaf = c.args.leaf.now in
+    let is : c.in_ok-cases.cases ≡ cases_of_trap leaf c.args.set.now = c.in_ok-cases.ensures ∙ ap (cases_of_trap leaf) c.in_ok-set.ensures in
+    record {
+      cases = is;
+      cover = subst (λ (cases : List (List Fact)). Cover leaf cases) (sym is) (trap-cover leaf c.args.set.now c.state_count-formed.ensures.formed);
+    }

@@ -3,7 +3,7 @@ use Rattle.std.specs.Prelude.{Some}
 use Rattle.cert_base.specs.FactsAndCases.{base_list}
 use Rattle.cert_tree.specs.declared.fault.TreeWhy.TheVariants.{Missing}
 use Rattle.cert_tree.specs.declared.fault.TreeFault.TheVariants.{Broken}
-use Rattle.cert_tree.specs.Refusals.{Waiting, first_from}
+use Rattle.cert_tree.specs.Refusals.{Waiting, first_from, IsTreeFault}
 use Rattle.cert_tree.specs.Frames.{waiting, MeetsWaiting, StandsAtFirst}
 use Rattle.cert_tree.proofs.ClosedWalk.{unrefused-Closes}
 use Rattle.cert_tree.proofs.Verdicts.{broken_at, missing_at, none_at, only_memory, closed_right, cover_on, drop_all, item_at}
@@ -19,15 +19,18 @@ loop-number-init c =
       cover = λ count end meets. subst (MeetsWaiting count) (sym start.waits) meets;
     }
 
-pub returns-in-Err-clause-fault : goal.returns-in-Err-clause-fault
-returns-in-Err-clause-fault c =
+pub returns-in-Err : goal.returns-in-Err
+returns-in-Err c =
     let items = c.as_slice-node-items.ensures in
     let d = item_at c.args.nodes.now c.as_slice-node-items.result.now c.loop-number.number c.node-item.result items c.loop-number-test.true c.node-item.is in
-    rw c.at.ensures (broken_at c.args.leaf.now c.args.pred.now c.args.value c.args.nodes.now (drop (c.loop-number.number + 1) c.args.nodes.now) (waiting c.loop-number.walk) c.loop-number.number c.node-item.result c.in-Err.halt c.loop-number.invariant.same d c.in-Err.ensures.halts)
-
-pub returns-in-Err-clause-accepts : goal.returns-in-Err-clause-accepts
-returns-in-Err-clause-accepts c =
-    only_memory c.args.leaf.now c.args.pred.now c.args.value c.args.nodes.now c.at.result (returns-in-Err-clause-fault c)
+    let fault : IsTreeFault c.args.leaf.now c.args.pred.now c.args.value c.args.nodes.now c.at.result =
+    rw c.at.ensures (broken_at c.args.leaf.now c.args.pred.now c.args.value c.args.nodes.now (drop (c.loop-number.number + 1) c.args.nodes.now) (waiting c.loop-number.walk) c.loop-number.number c.node-item.result c.in-Err.halt c.loop-number.invariant.same d c.in-Err.ensures.halts) in
+    record {
+      closes = tt;
+      fault = fault;
+      accepts = only_memory c.args.leaf.now c.args.pred.now c.args.value c.args.nodes.now c.at.result fault;
+      right = tt;
+    }
 
 pub loop-number-preserved : goal.loop-number-preserved
 loop-number-preserved c =
@@ -40,25 +43,27 @@ loop-number-preserved c =
       cover = cover_on c.args.leaf.now ((0, base_list c.args.leaf.now c.args.pred.now c.args.value) ∷ []) (waiting c.loop-number.walk) (waiting c.visit.new.self) c.loop-number.invariant.cover c.in_default.ensures.cover;
     }
 
-pub returns-then-branch-clause-fault : goal.returns-then-branch-clause-fault
-returns-then-branch-clause-fault c =
+pub returns-then-branch : goal.returns-then-branch
+returns-then-branch c =
     let at : StandsAtFirst (waiting c.loop-number.walk) c.next_case.new.self = rw c.if-branch.true at c.in_ok-next_case.ensures in
     let past : length c.args.nodes.now ≤ c.loop-number.number = rw c.as_slice-node-items.ensures at c.loop-number-test.false in
     let missing = missing_at c.args.leaf.now c.args.pred.now c.args.value c.args.nodes.now (at.above, c.next_case.new.self.trail) (waiting c.loop-number.walk) (waiting c.next_case.new.self) c.loop-number.number c.loop-number.invariant.same (drop_all c.args.nodes.now c.loop-number.number past) at.first in
     let end : c.loop-number.number ≡ length c.as_slice.result.now = omega (arith, past, c.loop-number.auto.number-end, ap length c.as_slice-node-items.ensures, ap length c.as_slice.ensures) in
-    missing ∙ ap (λ n. Some (n, Missing)) end
+    let fault : IsTreeFault c.args.leaf.now c.args.pred.now c.args.value c.args.nodes.now (Broken (length c.as_slice.result.now) Missing) = missing ∙ ap (λ n. Some (n, Missing)) end in
+    record {
+      closes = tt;
+      fault = fault;
+      accepts = only_memory c.args.leaf.now c.args.pred.now c.args.value c.args.nodes.now (Broken (length c.as_slice.result.now) Missing) fault;
+      right = tt;
+    }
 
-pub returns-then-branch-clause-accepts : goal.returns-then-branch-clause-accepts
-returns-then-branch-clause-accepts c =
-    only_memory c.args.leaf.now c.args.pred.now c.args.value c.args.nodes.now (Broken (length c.as_slice.result.now) Missing) (returns-then-branch-clause-fault c)
-
-pub returns-clause-closes : goal.returns-clause-closes
-returns-clause-closes c =
+pub returns : goal.returns
+returns c =
     let none : waiting c.loop-number.walk ≡ [] = rw c.if-branch.false at c.in_ok-next_case.ensures in
     let past : length c.args.nodes.now ≤ c.loop-number.number = rw c.as_slice-node-items.ensures at c.loop-number-test.false in
-    unrefused-Closes c.args.leaf.now c.args.pred.now c.args.value c.args.nodes.now c.in_ok-walk.ensures.start.few (none_at c.args.leaf.now c.args.pred.now c.args.value c.args.nodes.now (waiting c.loop-number.walk) c.loop-number.number c.loop-number.invariant.same (drop_all c.args.nodes.now c.loop-number.number past) none)
-
-pub returns-clause-right : goal.returns-clause-right
-returns-clause-right c =
-    let none : waiting c.loop-number.walk ≡ [] = rw c.if-branch.false at c.in_ok-next_case.ensures in
-    closed_right c.args.leaf.now c.args.pred.now c.args.value (waiting c.loop-number.walk) c.in_ok-walk.ensures.start.met c.loop-number.invariant.cover none
+    record {
+      closes = unrefused-Closes c.args.leaf.now c.args.pred.now c.args.value c.args.nodes.now c.in_ok-walk.ensures.start.few (none_at c.args.leaf.now c.args.pred.now c.args.value c.args.nodes.now (waiting c.loop-number.walk) c.loop-number.number c.loop-number.invariant.same (drop_all c.args.nodes.now c.loop-number.number past) none);
+      fault = tt;
+      accepts = λ closed. tt;
+      right = closed_right c.args.leaf.now c.args.pred.now c.args.value (waiting c.loop-number.walk) c.in_ok-walk.ensures.start.met c.loop-number.invariant.cover none;
+    }

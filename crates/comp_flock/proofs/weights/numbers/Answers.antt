@@ -1,6 +1,6 @@
 use Rattle.std.proofs.Common.{◌∙◌, ◌++◌, ◌∷◌, [], ap, sym}
-use Rattle.comp_layers.proofs.Members.{range_one_more}
 use Rattle.comp_flock.proofs.weights.numbers.Goals as goal
+use Rattle.list_laws.proofs.Ranges.{range_one_more}
 
 pub loop-number-preserved : goal.loop-number-preserved
 loop-number-preserved c =

@@ -13,7 +13,7 @@ new-requires c =
     let row : c.from_vec.result ≡ coefs = c.from_vec.ensures ∙ c.in_ok-from_slice.ensures.items in
     let bound = to_z-of_z w64 c.bound_of.result fits ∙ c.bound_of.ensures in
     subst (λ (xs : List ℤ). IsPred (length coefs) (LessThan xs (to_z w64 (of_z w64 c.bound_of.result)))) (sym row)
-    (subst (λ z. IsPred (length coefs) (LessThan coefs z)) (sym bound) (flock_is_pred coefs c.args.power c.requires.some c.requires.few c.requires.coefs c.requires.high))
+    (subst (λ z. IsPred (length coefs) (LessThan coefs z)) (sym bound) (flock_is_pred coefs c.args.power c.requires.some c.requires.few c.requires.are c.requires.high))
 
 pub returns : goal.returns
 returns c = search rules

@@ -5,12 +5,12 @@ use Rattle.std.proofs.lemmas.Result.{IfOk-weaker}
 use Rattle.std.proofs.lemmas.List.FromFn.{length-map-range_with_len, get_or-map-range_with_len}
 use Rattle.cert_base.specs.FactsAndCases.{states_of, indicator, differs}
 use Rattle.comp_trees.specs.LeaderTree.{weighed_node}
-use Rattle.comp_layers.proofs.Members.{all_range}
 use Rattle.comp_trees.proofs.SameMix.{listed_mix, map-same}
 use Rattle.comp_trees.proofs.TrapNodes.{range-constant}
 use Rattle.comp_threshold_leaf.specs.ThresholdLeaf.{threshold_state_count, threshold_output}
 use Rattle.comp_threshold.specs.ThresholdProof.{wrong_sign}
 use Rattle.comp_threshold.proofs.node.wrong_node.Goals as goal
+use Rattle.list_laws.proofs.Ranges.{all_range}
 
 -- the signs, by the outputs of the leaf
 signs-are : (s t : ℕ) (b : Bool) (outputs : List Bool) (n : ℕ) → n ≡ threshold_state_count s → outputs ≡ map (threshold_output s t) (range_with_len 0 (threshold_state_count s)) → map (wrong_sign s t b) (range_with_len 0 (threshold_state_count s)) ≡ map (λ q. neg_ℤ (indicator (differs b (get_or outputs q false)))) (range_with_len 0 n)

@@ -28,4 +28,4 @@ pub returns : goal.returns
 returns c =
     let fits : SFits w64 c.args.bound = search rules in
     whole-valid c.args.coefs.now c.args.bound c.args.s c.place-t.result c.args.leaf.now c.in_ok-pred.pred c.in_ok-layers.layers c.in_ok-on_true.on_true c.in_ok-on_true.on_false
-    c.requires.width (c.place-t.ensures ∙ ap (place_of_value c.args.s) (to_z-of_z w64 c.args.bound fits)) c.requires.built c.requires.single (c.in_ok-pred.ensures ∙ ap (λ z. record { variables = length c.args.coefs.now; tree = LessThan c.args.coefs.now z }) (to_z-of_z w64 c.args.bound fits)) c.in_ok-layers.ensures c.in_ok-on_true.ensures.on_true c.in_ok-on_true.ensures.on_false c.requires.some c.requires.few c.requires.narrow
+    c.requires.width (c.place-t.ensures ∙ ap (place_of_value c.args.s) (to_z-of_z w64 c.args.bound fits)) c.requires.built c.requires.single (c.in_ok-pred.ensures ∙ ap (λ z. record { variables = length c.args.coefs.now; tree = LessThan c.args.coefs.now z }) (to_z-of_z w64 c.args.bound fits)) c.in_ok-layers.ensures c.in_ok-on_true.ensures.on_true c.in_ok-on_true.ensures.on_false c.requires.sum.some c.requires.sum.few c.requires.narrow

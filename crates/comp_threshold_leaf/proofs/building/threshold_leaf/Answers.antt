@@ -25,8 +25,13 @@ built_leaf-requires-clause-within c =
 pub built_leaf-requires-clause-formed : goal.built_leaf-requires-clause-formed
 built_leaf-requires-clause-formed c =
     let fits : SFits w64 c.args.bound = search rules in
-    built-formed c.args.coefs.now c.args.bound c.args.s c.place-t.result c.requires.width (c.place-t.ensures ∙ ap (place_of_value c.args.s) (to_z-of_z w64 c.args.bound fits)) c.requires.some c.requires.few c.requires.narrow
+    built-formed c.args.coefs.now c.args.bound c.args.s c.place-t.result c.requires.width (c.place-t.ensures ∙ ap (place_of_value c.args.s) (to_z-of_z w64 c.args.bound fits)) c.requires.inputs.some c.requires.inputs.few c.requires.narrow
 
-pub returns-clause-single : goal.returns-clause-single
-returns-clause-single c =
-    IfOk-weaker c.built_leaf.result _ _ (λ leaf e. subst (λ (l : LeafModel). AllPairs Differ l.moves) (sym e) (moves-single c.args.s c.place-t.result)) c.built_leaf.ensures
+pub returns : goal.returns
+returns c =
+    IfOk-weaker c.built_leaf.result _ _
+    (λ leaf e. record {
+      built = search rules;
+      single = subst (λ (l : LeafModel). AllPairs Differ l.moves) (sym e) (moves-single c.args.s c.place-t.result);
+    })
+    c.built_leaf.ensures

@@ -25,7 +25,7 @@ returns-clause-mix c =
 pub returns-clause-short : goal.returns-clause-short
 returns-clause-short c =
     let leaf = c.args.leaf.now in
-    let few = c.state_count-states.ensures.formed.states in
+    let few = c.state_count-formed.ensures.formed.states in
     let mix = mix_by c.args.flows.now c.args.wrong c.args.opened c.args.out.now c.args.alone in
     let short = mix_short leaf c.args.leader mix c.requires.leader (omega (arith, few)) in
     omega (arith, ap length (returns-clause-mix c), short)

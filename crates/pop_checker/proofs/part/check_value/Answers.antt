@@ -2,8 +2,9 @@ use Rattle.pop_checker.proofs.Formats.{nodes_format}
 use Rattle.std.proofs.Common.{rules}
 use Rattle.pop_checker.proofs.part.check_value.Goals as goal
 
-pub check_tree-requires-clause-within : goal.check_tree-requires-clause-within
-check_tree-requires-clause-within c = nodes_format c.args.nodes.now c.requires.within
+pub check_tree-requires : goal.check_tree-requires
+check_tree-requires c =
+    record { variables = c.requires.variables; few = c.requires.within.0; within = nodes_format c.args.nodes.now c.requires.within }
 
 pub returns-in-Ok-clause-closes : goal.returns-in-Ok-clause-closes
 returns-in-Ok-clause-closes c = search rules

@@ -1,4 +1,4 @@
-use Rattle.std.proofs.Common.{◌≡◌, ◌≤◌, List, ◌++◌, length, ap, sym, subst, ◌∙◌, arith}
+use Rattle.std.proofs.Common.{rules, ◌≡◌, ◌≤◌, List, ◌++◌, length, ap, sym, subst, ◌∙◌, arith}
 use Rattle.std.proofs.lemmas.List.{length-map}
 use Rattle.pop_net.specs.declared.net.Word.{Word}
 use Rattle.pop_net.specs.Lanes.{tuple_of, crowd_of}
@@ -27,26 +27,24 @@ settled c =
     (subst (λ (ts : List Take). IsSettlement net proof (crowd_of net c.args.crowd) ts (crowd_of net end.words.items)) (sym takes)
     (record { leads = leads; ended = quiet_all net proof (crowd_of net end.words.items) c.in_ok-settle_leaves.ensures.quiet }))
 
-pub returns-clause-settled : goal.returns-clause-settled
-returns-clause-settled c = settled (goal.at.returns-clause-settled c).After-of_words
-
-pub returns-clause-only : goal.returns-clause-only
-returns-clause-only c =
-    are_one c.args.net.now c.args.proof.now (crowd_of c.args.net.now c.args.crowd) (crowd_of c.args.net.now c.of_words.result) c.from_vec.result (settled (goal.at.returns-clause-only c).After-of_words)
-
-pub returns-clause-short : goal.returns-clause-short
-returns-clause-short c =
+pub returns : goal.returns
+returns c =
     let net = c.args.net.now in
-    let short = are_short net c.args.proof.now (crowd_of net c.args.crowd) (crowd_of net c.of_words.result) c.from_vec.result c.leaf_count-leaves.ensures.formed c.requires.layers.layers (valid_crowd net c.args.crowd c.requires.valid) (settled (goal.at.returns-clause-short c).After-of_words).leads in
-    rw (← length-map c.args.crowd (tuple_of net)) short
-
-pub returns-clause-reached : goal.returns-clause-reached
-returns-clause-reached c =
-    let net = c.args.net.now in
-    let way = leads_reached net c.args.proof.now (crowd_of net c.args.crowd) (crowd_of net c.of_words.result) c.from_vec.result (valid_crowd net c.args.crowd c.requires.valid).0 (settled (goal.at.returns-clause-reached c).After-of_words).leads in
-    (way.0, (let l : length way.0 ≤ length c.from_vec.result = omega (arith, way.1) in l), way.2)
-
-pub returns-clause-terminal : goal.returns-clause-terminal
-returns-clause-terminal c =
-    let net = c.args.net.now in
-    are_terminal net c.args.proof.now (crowd_of net c.args.crowd) (crowd_of net c.of_words.result) c.from_vec.result c.requires.layers.layers (valid_crowd net c.args.crowd c.requires.valid).0 (settled (goal.at.returns-clause-terminal c).After-of_words)
+    let proof = c.args.proof.now in
+    let start = crowd_of net c.args.crowd in
+    let end = crowd_of net c.of_words.result in
+    let takes = c.from_vec.result in
+    let is = settled (goal.at.returns c).After-of_words in
+    let crowd = valid_crowd net c.args.crowd c.requires.valid in
+    let way = leads_reached net proof start end takes crowd.0 is.leads in
+    record {
+      settled = is;
+      only = are_one net proof start end takes is;
+      short = rw (← length-map c.args.crowd (tuple_of net)) (are_short net proof start end takes c.leaf_count-formed.ensures.formed c.requires.layers.layers crowd is.leads);
+      reached = (way.0, (let l : length way.0 ≤ length takes = omega (arith, way.1) in l), way.2);
+      terminal = are_terminal net proof start end takes c.requires.layers.layers crowd.0 is;
+      valid = search rules;
+      agents = search rules;
+      accepts = search rules;
+      refused = tt;
+    }

@@ -4,6 +4,7 @@ use Rattle.std.proofs.lemmas.Nat.{mul-le}
 use mir.Syntax.{w128}
 use mir.Val.{SFits}
 use Rattle.pres_ast.proofs.value.product.Goals as goal
+use Rattle.pres_ast.specs.declared.limits.TheConstants.{PRODUCT_LIMIT}
 
 -- the factors, as the code has them
 factors : (a r s : ℤ) (n : ℕ) → SFits w64 a → SFits w128 r → SFits w128 s → r ≡ to_z w64 (of_z w64 a) → s ≡ pos n
@@ -13,7 +14,7 @@ factors a r s n fa fr fs e f = rw (to_z-of_z w128 r fr, to_z-of_z w128 s fs, e, 
 fits : (a : ℤ) (n : ℕ) → nat_abs a ≤ 2 ^ 31 → n < 2 ^ 64 → FitsSigned w128 (a *ℤ pos n)
 fits a n small below = fits_signed_mul w128 a (pos n) (2 ^ 31) (2 ^ 64) small (omega arith) (lit< tt)
 
-size : (a : ℤ) (n : ℕ) → nat_abs a ≤ 2 ^ 31 → n < 2 ^ 64 → nat_abs (a *ℤ pos n) ≤ 2 ^ 95
+size : (a : ℤ) (n : ℕ) → nat_abs a ≤ 2 ^ 31 → n < 2 ^ 64 → nat_abs (a *ℤ pos n) ≤ PRODUCT_LIMIT
 size a n small below = rw (unsigned_abs-mul a (pos n)) (mul-le (nat_abs a) n (2 ^ 31) (2 ^ 64) small (omega arith))
 
 module _ (c : goal.After-from-2) where

@@ -3,23 +3,21 @@ use Rattle.std.proofs.lemmas.Int.{ints, to_z-of_z, fits_signed_from_abs}
 use Rattle.std.proofs.lemmas.List.{drop_all, get_or_default}
 use mir.Syntax.{w128}
 use Rattle.pop_io.specs.declared.names.TheConstants.{VARIABLE_LIMIT}
-use Rattle.pres_ast.specs.declared.limits.TheConstants.{COEFFICIENT_LIMIT}
+use Rattle.pres_ast.specs.declared.limits.TheConstants.{COEFFICIENT_LIMIT, PRODUCT_LIMIT}
 use Rattle.pres_ast.proofs.Sums.{sum_step}
 use Rattle.pres_ast.proofs.value.sum.Goals as goal
-
-size-add : (a b : ℤ) → nat_abs (a +ℤ b) ≤ nat_abs a + nat_abs b
-size-add a b = omega (arith, ints)
+use Rattle.list_laws.proofs.Numbers.{size-add}
 
 coef_fits : (a : ℤ) → nat_abs a ≤ COEFFICIENT_LIMIT → SFits w64 a
 coef_fits a small = fits_signed_from_abs w64 a (omega arith)
 
-product_fits : (a : ℤ) → nat_abs a ≤ 2 ^ 95 → SFits w128 a
+product_fits : (a : ℤ) → nat_abs a ≤ PRODUCT_LIMIT → SFits w128 a
 product_fits a small = fits_signed_from_abs w128 a (omega arith)
 
-more : (i n : ℕ) (a b : ℤ) → i < n → n ≤ VARIABLE_LIMIT → nat_abs a ≤ i * 2 ^ 95 → nat_abs b ≤ 2 ^ 95
-    → SFits w128 (a +ℤ b) × (nat_abs (a +ℤ b) ≤ (i + 1) * 2 ^ 95)
+more : (i n : ℕ) (a b : ℤ) → i < n → n ≤ VARIABLE_LIMIT → nat_abs a ≤ i * PRODUCT_LIMIT → nat_abs b ≤ PRODUCT_LIMIT
+    → SFits w128 (a +ℤ b) × (nat_abs (a +ℤ b) ≤ (i + 1) * PRODUCT_LIMIT)
 more i n a b l few before here =
-    let size : nat_abs (a +ℤ b) ≤ (i + 1) * 2 ^ 95 = omega (arith, size-add a b) in
+    let size : nat_abs (a +ℤ b) ≤ (i + 1) * PRODUCT_LIMIT = omega (arith, size-add a b) in
     (fits_signed_from_abs w128 (a +ℤ b) (omega (arith, size)), size)
 
 pub product-total-requires : goal.product-total-requires
@@ -33,7 +31,7 @@ module _ (c : goal.After-product-total) where
   within = rw (← c.requires.coefs.0) c.loop-i-test.true
 
   grown : SFits w128 (to_z w128 c.loop-i.total-bits +ℤ c.product-total.result)
-      × (nat_abs (to_z w128 c.loop-i.total-bits +ℤ c.product-total.result) ≤ (c.loop-i.i + 1) * 2 ^ 95)
+      × (nat_abs (to_z w128 c.loop-i.total-bits +ℤ c.product-total.result) ≤ (c.loop-i.i + 1) * PRODUCT_LIMIT)
   grown = more c.loop-i.i (length c.args.counts.now) (to_z w128 c.loop-i.total-bits) c.product-total.result within c.requires.few c.loop-i.invariant.size c.product-total.ensures.size
 
   stored : to_z w128 (of_z w128 c.product-total.result) ≡ c.product-total.result

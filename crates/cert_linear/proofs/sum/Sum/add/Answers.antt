@@ -1,4 +1,4 @@
-use Rattle.std.proofs.Common.{◌^◌, refl, ap, ◌∙◌, arith, rules, get_or, w64, to_z, of_z}
+use Rattle.std.proofs.Common.{refl, ap, ◌∙◌, arith, rules, get_or, w64, to_z, of_z}
 use Rattle.std.specs.Prelude.{pos, ◌*ℤ◌, ◌+ℤ◌}
 use mir.Val.{SFits}
 use mir.Syntax.{w128}
@@ -6,13 +6,14 @@ use Rattle.std.proofs.lemmas.Int.{to_z-of_z}
 use Rattle.cert_base.specs.declared.fact.Term.{Term}
 use Rattle.cert_linear.proofs.Coefficients.{entered_step, entered_all, entered_size, sum_fits}
 use Rattle.cert_linear.proofs.sum.Sum.add.Goals as goal
+use Rattle.cert_linear.specs.declared.sum.TheConstants.{ROOM_LIMIT}
 
 abbrev d : Term
 d = record { at = 0; by = pos 0 }
 
 pub enter-requires-clause-room : goal.enter-requires-clause-room
 enter-requires-clause-room c =
-    let h = c.loop-term.invariant.entered.size (2 ^ 120) c.requires.room (get_or c.as_slice-term-items.result.now c.loop-term.term-index d).at in
+    let h = c.loop-term.invariant.entered.size ROOM_LIMIT c.requires.room (get_or c.as_slice-term-items.result.now c.loop-term.term-index d).at in
     omega (arith, h)
 
 pub loop-term-preserved : goal.loop-term-preserved

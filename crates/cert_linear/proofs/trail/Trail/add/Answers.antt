@@ -15,8 +15,5 @@ invariant_of-self c = elim c.match-push.branch [
       kept_equal c.self.inside.stable c.self.inside.facts.items c.push.new.self.items c.self.inside.tally same c.self.invariant.0 c.self.invariant.1 c.self.invariant.2
 ]
 
-pub returns-clause-added : goal.returns-clause-added
-returns-clause-added c = search rules
-
-pub returns-clause-unchanged : goal.returns-clause-unchanged
-returns-clause-unchanged c = search rules
+pub returns : goal.returns
+returns c = record { added = search rules; refused = search rules; unchanged = search rules }

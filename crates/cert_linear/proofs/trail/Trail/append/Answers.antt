@@ -16,8 +16,8 @@ invariant_of-self-2 c =
     let more : c.append.new.self.items ≡ facts ++ c.args.facts = search rules in
     kept_append c.self.inside.stable facts c.args.facts c.append.new.self.items c.self.inside.tally more room c.self.invariant.1 c.self.invariant.2
 
-pub returns-in_err-append-clause-unchanged : goal.returns-in_err-append-clause-unchanged
-returns-in_err-append-clause-unchanged c = search rules
+pub returns-in_err-append : goal.returns-in_err-append
+returns-in_err-append c = record { appended = search rules; unchanged = search rules }
 
-pub returns-clause-appended : goal.returns-clause-appended
-returns-clause-appended c = search rules
+pub returns : goal.returns
+returns c = record { appended = search rules; unchanged = tt }

@@ -5,19 +5,16 @@ use Rattle.comp_net.proofs.Adding.{flock_is, flock_proof, one_added}
 use Rattle.comp_net.proofs.Valid.{flock_found}
 use Rattle.comp_net.proofs.building.Built.push_flock.Goals as goal
 
-pub flock-requires-clause-coefs : goal.flock-requires-clause-coefs
-flock-requires-clause-coefs c = (flock_found c.args.choice c.args.coefs.now c.args.bound c.args.power c.requires.power).are
-
-pub flock-requires-clause-low : goal.flock-requires-clause-low
-flock-requires-clause-low c = (flock_found c.args.choice c.args.coefs.now c.args.bound c.args.power c.requires.power).low
-
-pub flock-requires-clause-high : goal.flock-requires-clause-high
-flock-requires-clause-high c = (flock_found c.args.choice c.args.coefs.now c.args.bound c.args.power c.requires.power).high
+pub flock-requires : goal.flock-requires
+flock-requires c =
+    let found = flock_found c.args.choice c.args.coefs.now c.args.bound c.args.power c.requires.power in
+    let sum = c.requires.atom.0 in
+    record { some = sum.some; few = sum.few; are = found.are; low = found.low; high = found.high }
 
 pub returns : goal.returns
 returns c =
     let e = c.in_ok-leaf.ensures in
     let found = flock_found c.args.choice c.args.coefs.now c.args.bound c.args.power c.requires.power in
-    let leaf_is = flock_is c.args.choice c.args.coefs.now c.args.bound c.args.power c.in_ok-leaf.leaf c.requires.power e.leaf in
-    let proof = flock_proof c.args.choice c.args.coefs.now c.args.bound c.args.power c.in_ok-leaf.leaf c.in_ok-leaf.part c.requires.power found.bound_is e.leaf e.pred e.valid e.within in
+    let leaf_is = flock_is c.args.choice c.args.coefs.now c.args.bound c.args.power c.in_ok-leaf.leaf c.requires.power e.leaf_is in
+    let proof = flock_proof c.args.choice c.args.coefs.now c.args.bound c.args.power c.in_ok-leaf.leaf c.in_ok-leaf.part c.requires.power found.bound_is e.leaf_is e.pred_is e.valid e.within in
     on_ok_weaker c.push_atom.result (one_added c.args.choice (LessThan c.args.coefs.now c.args.bound) c.in_ok-leaf.leaf c.in_ok-leaf.part _ _ refl (λ n. refl) leaf_is proof) c.push_atom.ensures

@@ -1,4 +1,4 @@
-use Rattle.std.proofs.Common.{◌≡◌, length, ap, ◌∙◌, arith}
+use Rattle.std.proofs.Common.{◌≡◌, refl, length, ap, ◌∙◌, arith}
 use Rattle.pop_net.specs.LeafModel.{LeafModel, IsLeaf}
 use Rattle.pop_net.specs.Reaction.{leaf_reaction}
 use Rattle.pop_net.proofs.Tables.{entry_read}
@@ -17,13 +17,8 @@ same c =
 formed : (c : goal.After-result-1) → IsLeaf c.args.self.now
 formed c = rw c.self.view_is at c.self.invariant.0
 
-pub returns-clause-first_in : goal.returns-clause-first_in
-returns-clause-first_in c =
-    rw (same c) (reaction_within c.args.self.now c.args.x c.args.y (formed c) c.requires.x_in c.requires.y_in).0
-
-pub returns-clause-second_in : goal.returns-clause-second_in
-returns-clause-second_in c =
-    rw (same c) (reaction_within c.args.self.now c.args.x c.args.y (formed c) c.requires.x_in c.requires.y_in).1
-
-pub returns-clause-change : goal.returns-clause-change
-returns-clause-change c = rw (same c) (leaf_reaction_change c.args.self.now c.args.x c.args.y)
+pub returns : goal.returns
+returns c =
+    let leaf = c.args.self.now in
+    let within = reaction_within leaf c.args.x c.args.y (formed c) c.requires.x_in c.requires.y_in in
+    rw (same c) (record { reaction = refl; first_in = within.0; second_in = within.1; change = leaf_reaction_change leaf c.args.x c.args.y })

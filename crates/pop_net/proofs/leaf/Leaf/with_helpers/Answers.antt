@@ -1,4 +1,4 @@
-use Rattle.std.proofs.Common.{◌≡◌, inr, sym, ◌∙◌}
+use Rattle.std.proofs.Common.{rules, ◌≡◌, inr, sym, ◌∙◌}
 use Rattle.pop_net.specs.LeafModel.{IsLeaf}
 use Rattle.pop_net.specs.declared.fault.LeafFault.TheVariants.{NoMemory}
 use Rattle.pop_net.proofs.LeafFaults.{unbroken_leaf, right_leaf}
@@ -9,7 +9,11 @@ of_valid-requires c =
     let right : IsLeaf (record { states = c.as_slice.result.now; moves = c.as_slice-2.result.now; inputs = c.as_slice-3.result.now; outputs = c.as_slice-4.result.now; helpers = c.as_slice-5.result.now }) = unbroken_leaf _ (sym c.leaf_fault.ensures ∙ c.in-None.is) in
     rw (c.as_slice.ensures, c.as_slice-2.ensures, c.as_slice-3.ensures, c.as_slice-4.ensures, c.as_slice-5.ensures) at right
 
-pub returns-in-Some-clause-accepts : goal.returns-in-Some-clause-accepts
-returns-in-Some-clause-accepts c =
+pub returns-in-Some : goal.returns-in-Some
+returns-in-Some c =
     let refused : IsLeaf (record { states = c.as_slice.result.now; moves = c.as_slice-2.result.now; inputs = c.as_slice-3.result.now; outputs = c.as_slice-4.result.now; helpers = c.as_slice-5.result.now }) → c.in-Some.fault ≡ NoMemory = right_leaf _ _ (inr (sym c.leaf_fault.ensures ∙ c.in-Some.is)) in
-    rw (c.as_slice.ensures, c.as_slice-2.ensures, c.as_slice-3.ensures, c.as_slice-4.ensures, c.as_slice-5.ensures) at refused
+    record {
+      kept = tt;
+      refused = search rules;
+      accepts = rw (c.as_slice.ensures, c.as_slice-2.ensures, c.as_slice-3.ensures, c.as_slice-4.ensures, c.as_slice-5.ensures) at refused;
+    }

@@ -1,4 +1,4 @@
-use Rattle.std.proofs.Common.{◌≡◌, inr, sym, ◌∙◌}
+use Rattle.std.proofs.Common.{rules, ◌≡◌, inr, sym, ◌∙◌}
 use Rattle.std.specs.Prelude.{All}
 use Rattle.pop_net.specs.LeafModel.{IsLeaf}
 use Rattle.pop_net.specs.NetModel.{IsNet}
@@ -12,7 +12,11 @@ of_valid-requires c =
     let right : IsNet (record { variables = c.as_slice.result.now; leaves = c.as_slice-2.result.now; combine = c.as_slice-3.result.now }) = unbroken_net _ leaves (sym c.net_fault.ensures.first ∙ c.in-None.is) in
     rw (c.as_slice.ensures, c.as_slice-2.ensures, c.as_slice-3.ensures) at right
 
-pub returns-in-Some-clause-accepts : goal.returns-in-Some-clause-accepts
-returns-in-Some-clause-accepts c =
+pub returns-in-Some : goal.returns-in-Some
+returns-in-Some c =
     let refused : IsNet (record { variables = c.as_slice.result.now; leaves = c.as_slice-2.result.now; combine = c.as_slice-3.result.now }) → c.in-Some.fault ≡ NoMemory = right_net _ _ (inr (sym c.net_fault.ensures.first ∙ c.in-Some.is)) in
-    rw (c.as_slice.ensures, c.as_slice-2.ensures, c.as_slice-3.ensures) at refused
+    record {
+      kept = tt;
+      refused = search rules;
+      accepts = rw (c.as_slice.ensures, c.as_slice-2.ensures, c.as_slice-3.ensures) at refused;
+    }

@@ -42,23 +42,22 @@ in_range c word l =
     subst (λ (base : ℕ). word < base ^ length c.args.self.now.leaves) (the_base c)
     (subst (λ (ls : List LeafModel). word < (2 ^ bits_of c.self.inside.lanes) ^ length ls) (the_leaves c) l)
 
-pub returns-clause-first_valid : goal.returns-clause-first_valid
-returns-clause-first_valid c =
-    record {
-      states = subst (HasStates c.args.self.now) (sym (first c)) (states c).0;
-      rest = in_range c c.react_words-first.result.0 c.react_words-first.ensures.first_ends;
-    }
-
-pub returns-clause-second_valid : goal.returns-clause-second_valid
-returns-clause-second_valid c =
-    record {
-      states = subst (HasStates c.args.self.now) (sym (second c)) (states c).1;
-      rest = in_range c c.react_words-first.result.1 c.react_words-first.ensures.second_ends;
-    }
-
-pub returns-clause-change : goal.returns-clause-change
-returns-clause-change c =
+pub returns : goal.returns
+returns c =
     let net = c.args.self.now in
-    subst (λ (y' : Tuple). TupleChange net (tuple_of net c.args.a) (tuple_of net c.args.b) (tuple_of net (record { 0 = c.react_words-first.result.0 })) y') (sym (second c))
-    (subst (λ (x' : Tuple). TupleChange net (tuple_of net c.args.a) (tuple_of net c.args.b) x' (reaction net (tuple_of net c.args.a) (tuple_of net c.args.b)).1) (sym (first c))
-    (reaction_change net (tuple_of net c.args.a) (tuple_of net c.args.b) (length-digits (lane_size net) (length net.leaves) c.args.a.0) (length-digits (lane_size net) (length net.leaves) c.args.b.0)))
+    let x = tuple_of net c.args.a in
+    let y = tuple_of net c.args.b in
+    let changed = reaction_change net x y (length-digits (lane_size net) (length net.leaves) c.args.a.0) (length-digits (lane_size net) (length net.leaves) c.args.b.0) in
+    record {
+      reaction = λ i. (first c i, second c i);
+      first_valid = record {
+        states = subst (HasStates net) (sym (first c)) (states c).0;
+        rest = in_range c c.react_words-first.result.0 c.react_words-first.ensures.first_ends;
+      };
+      second_valid = record {
+        states = subst (HasStates net) (sym (second c)) (states c).1;
+        rest = in_range c c.react_words-first.result.1 c.react_words-first.ensures.second_ends;
+      };
+      change = subst (λ (y' : Tuple). TupleChange net x y (tuple_of net (record { 0 = c.react_words-first.result.0 })) y') (sym (second c))
+          (subst (λ (x' : Tuple). TupleChange net x y x' (reaction net x y).1) (sym (first c)) changed);
+    }

@@ -97,15 +97,15 @@ overflow_add-result c =
     let l = (is_set a).1 in
     omega (arith, l, fits (bits a) (length c.args.self.now.leaves) (lanes_in_word c.args.self.now (formed a)))
 
-pub returns-clause-tuple : goal.returns-clause-tuple
-returns-clause-tuple c = (is_set (goal.at.returns-clause-tuple c).After-from-3).0
-
-pub returns-clause-valid : goal.returns-clause-valid
-returns-clause-valid c =
-    let a = (goal.at.returns-clause-valid c).After-from-3 in
+pub returns : goal.returns
+returns c =
+    let a = (goal.at.returns c).After-from-3 in
     let net = c.args.self.now in
     let s = is_set a in
     record {
-      states = rw s.0 (states_set net.leaves (tuple_of net c.args.word) c.args.leaf c.args.state (leaf a) (leaf_is a) (let w : c.args.leaf < length (tuple_of net c.args.word) = omega (arith, c.requires.leaf_in, is_tuple net c.args.word) in w) (state_in a) c.requires.valid.states);
-      rest = s.1;
+      tuple = s.0;
+      valid = record {
+        states = rw s.0 (states_set net.leaves (tuple_of net c.args.word) c.args.leaf c.args.state (leaf a) (leaf_is a) (let w : c.args.leaf < length (tuple_of net c.args.word) = omega (arith, c.requires.leaf_in, is_tuple net c.args.word) in w) (state_in a) c.requires.valid.states);
+        rest = s.1;
+      };
     }

@@ -1,7 +1,7 @@
 use Rattle.std.proofs.Common.{◌≡◌, ◌<◌, ◌∙◌, false, get_or, length, ap, arith}
 use Rattle.std.specs.Prelude.{not, ◌&&◌, ◌==◌}
 use Rattle.cert_traps.proofs.Lists.{unmet_more, unmet_all, read_is}
-use Rattle.cert_traps.proofs.present.unmet.Goals as goal
+use Rattle.cert_traps.proofs.present.presence_case.Goals as goal
 
 pub loop-q-preserved : goal.loop-q-preserved
 loop-q-preserved c =

@@ -1,0 +1,71 @@
+-- Laws of lists: their ends, one item more, one item written anew.
+use Rattle.std.proofs.Common.{◌≡◌, ℕ, zero, suc, pred, ◌+◌, ◌<◌, ◌≤◌, List, [], ◌∷◌, ◌++◌, length, map, take, subst, refl, ap, ◌∙◌, arith}
+use Rattle.std.specs.Prelude.{Some, slice_get, slice_set, All, Contains}
+use Rattle.std.proofs.lemmas.List.{length-append, get_or-append-add, get_or_append_left, take_more}
+use Rattle.std.proofs.lemmas.Option.{slice_get_within, get_or_from_slice_get}
+
+-- lists that are the same begin and go on alike
+pub heads : {A : Type 0} (x y : A) (xs ys : List A) → x ∷ xs ≡ y ∷ ys → x ≡ y
+heads x y xs ys e = cc
+
+pub tails : {A : Type 0} (x y : A) (xs ys : List A) → x ∷ xs ≡ y ∷ ys → xs ≡ ys
+tails x y xs ys e = cc
+
+-- lists of the same items are the same
+pub same_lists : {A : Type 0} (xs ys : List A) → length xs ≡ length ys → ((i : ℕ) → i < length xs → slice_get xs i ≡ slice_get ys i) → xs ≡ ys
+same_lists [] [] l e = refl
+same_lists [] (y ∷ ys) l e = cc
+same_lists (x ∷ xs) [] l e = cc
+same_lists (x ∷ xs) (y ∷ ys) l e =
+    let first = e 0 (omega arith) in
+    let same : x ≡ y = cc in
+    let rest = same_lists xs ys (ap pred l) (λ i k. e (suc i) (omega arith)) in
+    cc
+
+-- ---- one item more
+
+pub take_one_more : {A : Type 0} (xs : List A) (k : ℕ) (x : A) → slice_get xs k ≡ Some x → take (k + 1) xs ≡ take k xs ++ x ∷ []
+take_one_more xs k x h =
+    take_more xs k x (slice_get_within xs k x h) ∙ ap (λ z. take k xs ++ z ∷ []) (get_or_from_slice_get xs k x x h)
+
+pub map-one : {A B : Type 0} (f : A → B) (xs : List A) (x : A) → map f (xs ++ x ∷ []) ≡ map f xs ++ f x ∷ []
+map-one f [] x = refl
+map-one f (y ∷ xs) x = ap (λ zs. f y ∷ zs) (map-one f xs x)
+
+-- ---- one item written anew
+
+pub get-set_same : {A : Type 0} (xs : List A) (a : ℕ) (y : A) → a < length xs → slice_get (slice_set xs a y) a ≡ Some y
+get-set_same [] a y l = absurd (omega arith)
+get-set_same (x ∷ xs) zero y l = refl
+get-set_same (x ∷ xs) (suc a) y l = get-set_same xs a y (omega arith)
+
+pub slice_get-set_same : {A : Type 0} (xs : List A) (a : ℕ) (x y : A) → slice_get xs a ≡ Some x → slice_get (slice_set xs a y) a ≡ Some y
+slice_get-set_same xs a x y h = get-set_same xs a y (slice_get_within xs a x h)
+
+-- ---- two lists in one
+
+-- what stands behind the first list
+pub at_end : {A : Type 0} (xs ys : List A) (n k : ℕ) → length xs ≡ n → slice_get (xs ++ ys) (n + k) ≡ slice_get ys k
+at_end [] ys n k e = ap (slice_get ys) (let f : n + k ≡ k = omega arith in f)
+at_end (x ∷ xs) ys zero k e = absurd (omega arith)
+at_end (x ∷ xs) ys (suc n) k e = ap (slice_get (x ∷ (xs ++ ys))) (let f : suc n + k ≡ suc (n + k) = omega arith in f) ∙ at_end xs ys n k (omega arith)
+
+-- what holds of both holds of each
+pub all_front : {A : Type 0} (P : A → Type 0) (xs ys : List A) → All P (xs ++ ys) → All P xs
+all_front P xs ys h k d l = subst P (get_or_append_left xs ys d k l) (h k d (omega (arith, length-append xs ys)))
+
+pub all_back : {A : Type 0} (P : A → Type 0) (xs ys : List A) → All P (xs ++ ys) → All P ys
+all_back P xs ys h k d l = subst P (get_or-append-add xs ys k d) (h (length xs + k) d (omega (arith, length-append xs ys)))
+
+-- ---- what a list contains
+
+pub has_first : {A : Type 0} (x : A) (xs : List A) → Contains (x ∷ xs) x
+has_first x xs = (0, (let e : 0 < length (x ∷ xs) = omega arith in e), refl)
+
+pub has_later : {A : Type 0} (x y : A) (xs : List A) → Contains xs x → Contains (y ∷ xs) x
+has_later x y xs c = (suc c.0, (let l = c.1 in let e : suc c.0 < length (y ∷ xs) = omega arith in e), c.2)
+
+pub has_map : {A B : Type 0} (g : A → B) (xs : List A) (x : A) → Contains xs x → Contains (map g xs) (g x)
+has_map g [] x c = absurd (omega (arith, c.1))
+has_map g (y ∷ xs) x (zero, l, e) = subst (λ b. Contains (g y ∷ map g xs) b) (ap g e) (has_first (g y) (map g xs))
+has_map g (y ∷ xs) x (suc k, l, e) = has_later (g x) (g y) (map g xs) (has_map g xs x (k, (omega (arith, l)), e))

@@ -1,0 +1,22 @@
+-- Laws of numbers.
+use Rattle.std.proofs.Common.{◌≡◌, ℕ, zero, suc, ◌+◌, ◌≤◌, refl, arith}
+use Rattle.std.specs.Prelude.{ℤ, pos, neg_ℤ, ◌+ℤ◌, nat_abs}
+use Rattle.std.proofs.lemmas.Int.{ints}
+
+-- a sum is no greater than both parts
+pub size-add : (a b : ℤ) → nat_abs (a +ℤ b) ≤ nat_abs a + nat_abs b
+size-add a b = omega (arith, ints)
+
+pub size-neg : (n : ℕ) → nat_abs (neg_ℤ (pos n)) ≡ n
+size-neg zero = refl
+size-neg (suc n) = refl
+
+-- how many pairs n things make, each with itself and those after it
+abbrev pub triangle : ℕ → ℕ
+triangle zero = 0
+triangle (suc n) = suc n + triangle n
+
+pub triangle-le : (n k : ℕ) → n ≤ k → triangle n ≤ triangle k
+triangle-le zero k l = omega arith
+triangle-le (suc n) zero l = absurd (omega arith)
+triangle-le (suc n) (suc k) l = let e = triangle-le n k (omega arith) in omega (arith, e)

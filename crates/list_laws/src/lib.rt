@@ -1,0 +1,4 @@
+//! Laws on lists, ranges, truth values and numbers that several crates cite, and std lacks. It has no code.
+//! It stands on std.
+//! The layer above uses: the lemmas of `proofs/`, each of which stands here alone.
+#![tactic(auto)]

@@ -1,0 +1,172 @@
+#!/usr/bin/env python3
+"""Names that nothing uses: lemmas and definitions that stand nowhere else, and names of `ghost use` that their scope doesn't name.
+
+Run it at the top of the repository, or give the folders of crates. It prints a line for each name, and ends with the status 1
+where there is one."""
+
+import re
+import sys
+from collections.abc import Iterator
+from dataclasses import dataclass
+from pathlib import Path
+
+NAME = re.compile(r"\[\]|[^\s(){}\[\],;.`]+")
+BEHIND_MODULE = re.compile(r"\b[A-Z]\w*(?:\.|::)([^\s(){}\[\],;.`:]+)")
+IMPORT = re.compile(r"\buse ([\w.'+-]+)\.\{([^}]*)\}")
+GHOST_USE = re.compile(r"^( *)ghost use [\w.'+-]+\.\{([^}]*)\};")
+DECLARED = re.compile(r"^( *)((?:abbrev |unfoldable |pub |record |data )*)([^\s:(){}.]+)(?= :| [({])")
+PLACED = re.compile(r"^( *)([^\s:(){}.]+) ")
+WORDS = {"use", "mod", "module", "where", "let", "in", "case", "unfolding", "syntax", "ruleset"}
+
+
+@dataclass
+class Unused:
+    """A name that nothing uses, and where it stands."""
+
+    path: Path
+    line: int
+    kind: str
+    name: str
+
+    def __str__(self) -> str:
+        return f"{self.path}:{self.line}: {self.kind} {self.name}"
+
+
+def is_made(path: Path) -> bool:
+    return "out" in path.parts
+
+
+def sources(crates: list[Path], suffix: str) -> Iterator[Path]:
+    for crate in crates:
+        for path in sorted(crate.rglob(f"*{suffix}")):
+            if not is_made(path.relative_to(crate)):
+                yield path
+
+
+def imported(listed: str) -> Iterator[tuple[str, str]]:
+    """The names between the braces of a `use`: each with the one that the file knows it by."""
+    for item in filter(None, (part.strip() for part in listed.split(","))):
+        name, _, alias = item.partition(" as ")
+        yield name.strip(), (alias or name).strip()
+
+
+def without_comment(line: str, sign: str) -> str:
+    return re.sub(rf"(^|\s){sign}.*$", "", line)
+
+
+# ---- lemmas and definitions
+
+
+@dataclass
+class Declaration:
+    """A name that a file declares, and the lines that say what it is."""
+
+    name: str
+    first: int
+    last: int
+
+
+def declarations(lines: list[str]) -> list[Declaration]:
+    """Those at the head of the file and of its nameless modules. What answers a goal of the check is none of them."""
+    found: list[Declaration] = []
+    indents = {0}
+    for number, line in enumerate(lines):
+        if line[:1].strip():
+            indents = {0, 2} if line.startswith("module _") else {0}
+        match = DECLARED.match(line)
+        if not match or len(match[1]) not in indents:
+            continue
+        if match[3] in WORDS or (not match[2] and " : " not in line):
+            continue
+        if "goal." not in line:
+            found.append(Declaration(match[3], number, end_of(lines, number, match[3])))
+    return found
+
+
+def end_of(lines: list[str], first: int, name: str) -> int:
+    """The last line of a declaration: it goes on while lines are indented deeper or define the same name."""
+    indent = len(lines[first]) - len(lines[first].lstrip())
+    last = first
+    for number in range(first + 1, len(lines)):
+        line = lines[number]
+        if not line.strip() or line.lstrip().startswith(("--", "unfolding ")):
+            continue
+        head = PLACED.match(line + " ")
+        same = head is not None and head[2] == name
+        closes = line.lstrip().startswith(("}", ")", "]"))
+        if len(line) - len(line.lstrip()) <= indent and not same and not closes:
+            return last
+        last = number
+    return last
+
+
+def names_outside(lines: list[str], declared: Declaration) -> set[str]:
+    return {name for number, line in enumerate(lines) if not declared.first <= number <= declared.last for name in NAME.findall(line)}
+
+
+def names_elsewhere(texts: list[str]) -> set[str]:
+    """What some file imports, or names behind its module's name."""
+    found: set[str] = set()
+    for text in texts:
+        for match in IMPORT.finditer(text):
+            found.update(name for name, _ in imported(match[2]))
+        found.update(BEHIND_MODULE.findall(text))
+    return found
+
+
+def sign_of(name: str) -> str:
+    """By what a name is seen: an operator by its first sign, as `then` for `if◌then◌else◌`."""
+    parts = [part for part in name.split("◌") if part and part != "if"]
+    return parts[0] if "◌" in name and parts else name
+
+
+def unused_declarations(crates: list[Path]) -> Iterator[Unused]:
+    antt = {path: path.read_text() for path in sources(crates, ".antt")}
+    used = names_elsewhere([*antt.values(), *(path.read_text() for path in sources(crates, ".rt"))])
+    for path, text in antt.items():
+        lines = [without_comment(line, "--") for line in text.split("\n")]
+        for declared in declarations(lines):
+            if declared.name in used:
+                continue
+            if sign_of(declared.name) not in names_outside(lines, declared):
+                yield Unused(path, declared.first + 1, "nothing names", declared.name)
+
+
+# ---- names of `ghost use`
+
+
+def scope_end(lines: list[str], number: int, indent: int) -> int:
+    """Where the block that an import stands in ends: the file's end for one at its head."""
+    if indent == 0:
+        return len(lines)
+    for after in range(number + 1, len(lines)):
+        if lines[after].startswith(" " * (indent - 4) + "}"):
+            return after
+    return len(lines)
+
+
+def unused_imports(crates: list[Path]) -> Iterator[Unused]:
+    for path in sources(crates, ".rt"):
+        lines = [without_comment(line, "//") for line in path.read_text().split("\n")]
+        body = ["" if GHOST_USE.match(line) else line for line in lines]
+        for number, line in enumerate(lines):
+            match = GHOST_USE.match(line)
+            if not match:
+                continue
+            scope = body[number : scope_end(lines, number, len(match[1]))]
+            named = {name for each in scope for name in NAME.findall(each)}
+            for _, name in imported(match[2]):
+                if sign_of(name) not in named:
+                    yield Unused(path, number + 1, "the source doesn't use", name)
+
+
+def main() -> int:
+    crates = [Path(given) for given in sys.argv[1:]] or sorted(Path("crates").iterdir())
+    found = [*unused_declarations(crates), *unused_imports(crates)]
+    for each in found:
+        print(each)
+    return 1 if found else 0
+
+
+if __name__ == "__main__":
+    sys.exit(main())
