@@ -39,7 +39,7 @@ held_again m held locks due i = (
 )
 
 -- all words were read under all locks
-pub saw_all : (k : Setup) (t t₁ t₂ : SeatToken) (shards agents : ℕ) (words : List Word) → t.me.0.number ≡ 0 → Becomes t t₁ (with_locks (below shards) t.me.0) → HasReadAll agents words t₁ t₂ → k.shards ≡ shards → agents_opened k ≡ agents → HasSeenAll k t₂.me.0
+pub saw_all : (k : Setup) (t t₁ t₂ : SeatToken) (shards agents : ℕ) (words : List Word) → t.me.0.number ≡ 0 → Becomes t t₁ (with_locks (below shards) t.me.0) → HasReadAll agents words t₁ t₂ → k.shards ≡ shards → agents_opened k ≡ agents → HasSeenAll k t₂.me.0 (seen t₂.me.0.known)
 saw_all k t t₁ t₂ shards agents words zeroth locked h all_shards all_agents =
     let now : t₂.me ≡ (with_known h.known (with_locks (below shards) t.me.0), t.me.1) = h.read.me ∙ ap (λ (n : Mine). (with_known h.known n.0, n.1)) locked.me in
     let same : seen t₂.me.0.known ≡ words = ap (λ (n : Mine). seen n.0.known) now ∙ h.these in record {

@@ -18,7 +18,8 @@ use Rattle.agent_field.specs.declared.view.Setup.{Setup}
 use Rattle.agent_field.specs.declared.view.View.{View}
 use Rattle.agent_field.specs.History.{IsHistory, logged, calls, made}
 use Rattle.agent_field.specs.Standing.{agents_opened, lock_at, agent_at, shard_of, packed, crowd_after, tuple_after, In, locks_of, joined_away, IsFirst, IsLook, LooksPart, Agrees, IsHeldBySome, StandsAt}
-use Rattle.agent_field.specs.Steps.{IsReaction, meeting_made, IsNewest, IsDrawnAt}
+use Rattle.agent_field.specs.Steps.{IsReaction, without, meeting_made, IsNewest, IsDrawnAt}
+use Rattle.agent_field.proofs.Without.{in_without}
 use Rattle.agent_field.proofs.Histories.{length-replay, replay-push, history-push, calls-push_mine, calls-push_other, calls_from-below, length-most, after_meeting-first, after_meeting-second, after_meeting-other}
 use Rattle.agent_field.proofs.InTurns.{lock_behind, agent_behind}
 use Rattle.agent_field.proofs.Views.{at_length, set_each, one_seat, one_holder, owed_back, held_after, sits_set, not_dead}
@@ -93,9 +94,9 @@ module _ (k : Setup) (words : List ℕ) (views : List View) (history : List Meet
         known = λ a x h. subst (λ (z : Setup). tuple_after z history a ≡ tuple_of z.net.value x) (sym f.setup) (known_after none_due a x h);
       }
 
-  pub draws_keep : (a b : ℕ) (x y x' y' : Word) → v.known ≡ (b, y) ∷ (a, x) ∷ [] → IsReaction v.setup.net.value x y x' y' → v.due ≡ [] → a ≢ b → length v.log < 2 ^ 40 → v.held ≡ locks_of k a b
+  pub draws_keep : (a b : ℕ) (x y x' y' : Word) → In (a, x) v.known → In (b, y) v.known → IsReaction v.setup.net.value x y x' y' → v.due ≡ [] → a ≢ b → length v.log < 2 ^ 40 → v.held ≡ locks_of k a b
       → StandsAt k (set words 0 (length history + 1)) (set views id (meeting_made (length history) a b x y x' y' v)) (history ++ made v.number a b (reacts v.setup.net.value (tuple_of v.setup.net.value x) (tuple_of v.setup.net.value y)) ∷ []) seat
-  draws_keep a b x y x' y' known reacted none_due apart room exactly =
+  draws_keep a b x y x' y' in_a in_b reacted none_due apart room exactly =
       let net = k.net.value in
       let f = mine in
       let same_net : v.setup.net.value ≡ net = ap (λ (z : Setup). z.net.value) f.setup in
@@ -106,8 +107,6 @@ module _ (k : Setup) (words : List ℕ) (views : List View) (history : List Meet
       let words' = set words 0 (ticket + 1) in
       let later = history ++ m ∷ [] in
       let crowd = crowd_after k history in
-      let in_a : In (a, x) v.known = subst (In (a, x)) (sym known) (inr (inl refl)) in
-      let in_b : In (b, y) v.known = subst (In (b, y)) (sym known) (inl refl) in
       let know_a = f.knows a x in_a in
       let know_b = f.knows b y in_b in
       let is_a : tuple_after k history a ≡ tuple_of net x = known_after none_due a x in_a in
@@ -134,7 +133,18 @@ module _ (k : Setup) (words : List ℕ) (views : List View) (history : List Meet
         first = λ zeroth. first_later m refl v.next v.taken (f.first zeroth);
         logs = ap (λ (l : List Logged). l ++ logged ticket a b changed ∷ []) f.logs ∙ sym longer;
         locks = λ s h. ((f.locks s h).0, clock_only (lock_at k s) (λ e. lock_behind k 0 s (omega arith) (sym e)) ∙ (f.locks s h).1);
-        knows = λ c z h. absurd h;
+        knows = λ c z h.
+            let i = in_without a c z (without b v.known) h in
+            let j = in_without b c z v.known i.0 in
+            let was = f.knows c z j.0 in (
+              was.0,
+              was.1,
+              ap packed (no_agent c) ∙ was.2,
+              λ u due. ⊎_elim
+                  (λ (same : (c, u) ≡ (a, x')). i.1 (ap (λ (p : ℕ × Word). p.0) same))
+                  (λ (rest : In (c, u) ((b, y') ∷ [])). ⊎_elim (λ (same : (c, u) ≡ (b, y')). j.1 (ap (λ (p : ℕ × Word). p.0) same)) (λ (none : ⊥). none) rest)
+                  due,
+            );
         owes = λ c z h. ⊎_elim (owes_a (c, z)) (λ (rest : In (c, z) ((b, y') ∷ [])). ⊎_elim (owes_b (c, z)) (λ (none : ⊥). absurd none) rest) h;
         tight = λ c z h. (
           v.log,

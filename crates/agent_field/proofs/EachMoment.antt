@@ -51,33 +51,31 @@ module _ (k : Setup) where
       (λ (un : IsUnfounded k words views × (history ≡ [])). let t = founds_keep k words views un.0 id at in inr (t.0, subst (λ (ms : List Meeting). StandsAt k (set words 1 1) (set views id (first_seat k)) ms t.0) (sym un.1) t.1))
       (λ (t : At k words views history). absurd (true≢false (ap (λ (v : View). v.founding) (t.1.others id (founder k) at refl))))
       h
-  quiet _ _ _ _ history (locks words views id v s is inside none_due free) h =
-      let t = is_founded words views history id v h is in inr (t.0, locks_keep k words views history t.0 t.1 id v is.at is.live s inside free none_due)
-  quiet _ _ _ _ history (finds_locked words views id v s is inside taken) h = h
-  quiet _ _ _ _ history (reads words views id v a is in_range held not_due) h =
-      let t = is_founded words views history id v h is in inr (t.0, reads_keep k words views history t.0 t.1 id v is.at is.live a in_range held not_due)
-  quiet _ _ _ _ history (writes words views id v a y due is owed once) h =
-      let t = is_founded words views history id v h is in inr (t.0, writes_keep k words views history t.0 t.1 id v is.at is.live a y due owed once)
-  quiet _ _ _ _ history (unlocks words views id v s held is last once none_due) h =
-      let t = is_founded words views history id v h is in inr (t.0, releases_keep k words views history t.0 t.1 id v is.at is.live s held last once none_due)
+  quiet _ _ _ _ history (locks words views id v s is may free) h =
+      let t = is_founded words views history id v h is in inr (t.0, locks_keep k words views history t.0 t.1 id v is.at is.live s may.inside free may.due)
+  quiet _ _ _ _ history (finds_locked words views id v s is may taken) h = h
+  quiet _ _ _ _ history (reads words views id v a is may) h =
+      let t = is_founded words views history id v h is in inr (t.0, reads_keep k words views history t.0 t.1 id v is.at is.live a may.inside may.locked may.due)
+  quiet _ _ _ _ history (writes words views id v a y is owed) h =
+      let t = is_founded words views history id v h is in inr (t.0, writes_keep k words views history t.0 t.1 id v is.at is.live a y owed)
+  quiet _ _ _ _ history (unlocks words views id v s is may) h =
+      let t = is_founded words views history id v h is in inr (t.0, releases_keep k words views history t.0 t.1 id v is.at is.live s may.before may.last may.once may.due)
   quiet _ _ _ _ history (splits words views id v is zeroth room) h =
       let t = is_founded words views history id v h is in inr (splits_keep k words views history t.0 t.1 id v is.at is.live zeroth room)
   quiet _ _ _ _ history (joins words views id other v w is zeroth away there none_due none_held) h =
       let t = is_founded words views history id v h is in inr (joins_keep k words views history t.0 t.1 id v is.at is.live zeroth other w away there.at there.live none_due none_held)
-  quiet _ _ _ _ history (looks words views id v is saw) h =
+  quiet _ _ _ _ history (looks words views id v shown is saw) h =
       let t = is_founded words views history id v h is in
-      inr (t.0, subst (λ (n : ℕ). StandsAt k words (set views id (looking n v)) history t.0) (sym t.1.clock) (looks_keep k words views history t.0 t.1 id v is.at is.live saw.whole saw.all saw.due))
+      inr (t.0, subst (λ (n : ℕ). StandsAt k words (set views id (looking n shown v)) history t.0) (sym t.1.clock) (looks_keep k words views history t.0 t.1 id v is.at is.live shown saw.whole saw.all saw.due))
 
   -- a meeting of two agents whose words are known is a step of the model
   drawn_step : (words : List ℕ) (views : List View) (history : List Meeting) (seat : ℕ → Option ℕ) (st : StandsAt k words views history seat) (id : ℕ) (v : View) → Sits views id v
-      → (a b : ℕ) (x y : Word) → v.known ≡ (b, y) ∷ (a, x) ∷ [] → v.due ≡ [] → a ≢ b → (m : Meeting) → m.a ≡ a → m.b ≡ b → Step k.net.value (crowd_after k history) (crowd_after k (history ++ m ∷ []))
-  drawn_step words views history seat st id v is a b x y known none_due apart m first second =
+      → (a b : ℕ) (x y : Word) → In (a, x) v.known → In (b, y) v.known → v.due ≡ [] → a ≢ b → (m : Meeting) → m.a ≡ a → m.b ≡ b → Step k.net.value (crowd_after k history) (crowd_after k (history ++ m ∷ []))
+  drawn_step words views history seat st id v is a b x y in_a in_b none_due apart m first second =
       let net = k.net.value in
       let crowd = crowd_after k history in
       let start = crowd_of net k.opening.value in
       let f = st.each id v is.at is.live in
-      let in_a : In (a, x) v.known = subst (In (a, x)) (sym known) (inr (inl refl)) in
-      let in_b : In (b, y) v.known = subst (In (b, y)) (sym known) (inl refl) in
       let long : length crowd ≡ agents_opened k = length-replay net history start ∙ length-map k.opening.value (tuple_of net) in
       let fits_a : a < length crowd = subst (λ (n : ℕ). a < n) (sym long) (f.knows a x in_a).0 in
       let fits_b : b < length crowd = subst (λ (n : ℕ). b < n) (sym long) (f.knows b y in_b).0 in
@@ -92,10 +90,10 @@ module _ (k : Setup) where
       let t = is_founded words views history id v h is in
       let same : v.setup.net.value ≡ k.net.value = ap (λ (z : Setup). z.net.value) (t.1.each id v is.at is.live).setup in
       let met : NetModel → Meeting = λ net. made v.number a b (reacts net (tuple_of net x) (tuple_of net y)) in
-      let kept = draws_keep k words views history t.0 t.1 id v is.at is.live a b x y x' y' may.known (subst (λ (net : NetModel). IsReaction net x y x' y') (sym same) may.reacted) may.due may.apart may.room may.exactly in
+      let kept = draws_keep k words views history t.0 t.1 id v is.at is.live a b x y x' y' may.pair.first may.pair.second (subst (λ (net : NetModel). IsReaction net x y x' y') (sym same) may.pair.reacted) may.pair.due may.pair.apart may.pair.room may.exactly in
       let at_ticket = subst (λ (n : ℕ). StandsAt k (set words 0 (n + 1)) (set views id (meeting_made n a b x y x' y' v)) (history ++ met v.setup.net.value ∷ []) t.0) (sym t.1.clock) kept in (
         inr (t.0, subst (λ (net : NetModel). StandsAt k (set words 0 (get_or words 0 0 + 1)) (set views id (meeting_made (get_or words 0 0) a b x y x' y' v)) (history ++ met net ∷ []) t.0) same at_ticket),
-        drawn_step words views history t.0 t.1 id v is a b x y may.known may.due may.apart (met k.net.value) refl refl,
+        drawn_step words views history t.0 t.1 id v is a b x y may.pair.first may.pair.second may.pair.due may.pair.apart (met k.net.value) refl refl,
       )
 
   runs : (words : List ℕ) (views : List View) (meetings : List Meeting) (words' : List ℕ) (views' : List View) (history : List Meeting)

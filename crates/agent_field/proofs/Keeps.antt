@@ -10,7 +10,8 @@ use Rattle.pop_crowd.specs.declared.crowd.Meeting.{Meeting}
 use Rattle.agent_field.specs.declared.view.Setup.{Setup}
 use Rattle.agent_field.specs.declared.view.View.{View}
 use Rattle.agent_field.specs.Standing.{agents_opened, lock_at, agent_at, shard_of, packed, agent_word, tuple_after, In, joined_away, Agrees, IsOwedByNone, IsHeldBySome, StandsAt}
-use Rattle.agent_field.specs.Steps.{holding, rest_of, releasing, knowing, writing}
+use Rattle.agent_field.specs.Steps.{holding, rest_of, releasing, knowing, without, writing}
+use Rattle.agent_field.proofs.Without.{in_without, in_without_back}
 use Rattle.agent_field.proofs.InTurns.{lock_place-inside, agent_place-inside, lock_once, agent_once, lock_is_no_agent, lock_behind, agent_behind}
 use Rattle.agent_field.proofs.Views.{at_length, set_each, agrees_word, one_holder, owed_back, held_after, sits_set, not_dead}
 
@@ -156,15 +157,14 @@ module _ (k : Setup) (words : List ℕ) (views : List View) (history : List Meet
         looked = f.looked;
       })
 
-  pub writes_keep : (a : ℕ) (y : Word) (due : List (ℕ × Word)) → v.due ≡ (a, y) ∷ due → ((x : Word) → In (a, x) due → ⊥) → StandsAt k (set words (agent_at k a) y.0) (set views id (writing v)) history seat
-  writes_keep a y due is once =
-      let w = writing v in
+  pub writes_keep : (a : ℕ) (y : Word) → In (a, y) v.due → StandsAt k (set words (agent_at k a) y.0) (set views id (writing a v)) history seat
+  writes_keep a y here =
+      let w = writing a v in
       let f = mine in
-      let here : In (a, y) v.due = subst (In (a, y)) (sym is) (inl refl) in
       let owed = f.owes a y here in
       let fits : agent_at k a < length words = subst (λ (n : ℕ). agent_at k a < n) (sym st.wide) (agent_place-inside k.shards (agents_opened k) a owed.0) in
       let words' = set words (agent_at k a) y.0 in
-      let left : (p : ℕ × Word) → In p (rest_of v.due) → In p v.due = λ p h. subst (In p) (sym is) (inr (subst (In p) (ap rest_of is) h)) in
+      let left : (b : ℕ) (x : Word) → In (b, x) (without a v.due) → In (b, x) v.due = λ b x h. (in_without a b x v.due h).0 in
       let written : (b : ℕ) → b ≡ a → agent_word k words' b ≡ y = λ b same. ap (λ (z : ℕ). agent_word k words' z) same ∙ ap packed (get_or-set_same words (agent_at k a) y.0 0 fits) in
       let other : (b : ℕ) → b ≢ a → agent_word k words' b ≡ agent_word k words b = λ b apart. ap packed (get_or-set_other words (agent_at k a) (agent_at k b) y.0 0 (λ e. apart (agent_once k b a e))) in
       let new : Agrees k words' history seat id w = record {
@@ -175,9 +175,9 @@ module _ (k : Setup) (words : List ℕ) (views : List View) (history : List Meet
         logs = f.logs;
         locks = λ s h. ((f.locks s h).0, get_or-set_other words (agent_at k a) (lock_at k s) y.0 0 (lock_is_no_agent k s a (f.locks s h).0 owed.0) ∙ (f.locks s h).1);
         knows = λ b x h. let was = f.knows b x h in
-            (was.0, was.1, other b (λ same. was.3 y (subst (λ (z : ℕ). In (z, y) v.due) (sym same) here)) ∙ was.2, λ z i. was.3 z (left (b, z) i));
-        owes = λ b x h. f.owes b x (left (b, x) h);
-        tight = λ b x h. f.tight b x (left (b, x) h);
+            (was.0, was.1, other b (λ same. was.3 y (subst (λ (z : ℕ). In (z, y) v.due) (sym same) here)) ∙ was.2, λ z i. was.3 z (left b z i));
+        owes = λ b x h. f.owes b x (left b x h);
+        tight = λ b x h. f.tight b x (left b x h);
         looked = f.looked;
       } in record {
         wide = length-set words (agent_at k a) y.0 ∙ st.wide;
@@ -197,7 +197,7 @@ module _ (k : Setup) (words : List ℕ) (views : List View) (history : List Meet
             (λ (same : b ≡ a). ap (tuple_of k.net.value) (written b same) ∙ owed.2 ∙ ap (tuple_after k history) (sym same))
             (λ (apart : b ≢ a). ap (tuple_of k.net.value) (other b apart)
             ∙ st.settled b inside (owed_back views id v w b at live
-            (λ x h. (x, subst (In (b, x)) (sym (ap rest_of is)) (⊎_elim (λ (e : (b, x) ≡ (a, y)). absurd (apart (ap (λ (p : ℕ × Word). p.0) e))) (λ (i : In (b, x) due). i) (subst (In (b, x)) is h))))
+            (λ x h. (x, in_without_back a b x v.due h apart))
             free_now))
             (cases_eq b a);
         valid = λ b inside. ⊎_elim

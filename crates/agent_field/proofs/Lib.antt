@@ -1,5 +1,6 @@
 pub mod InTurns
 pub mod Histories
+pub mod Without
 pub mod Views
 pub mod Keeps
 pub mod Draws
@@ -8,6 +9,7 @@ pub mod Seating
 pub mod Founding
 pub mod Moves
 pub mod EachMoment
+pub mod BesideThird
 pub mod Drawn
 pub mod Arranged
 pub mod Closing

@@ -12,7 +12,7 @@ use Rattle.agent_field.specs.declared.view.Setup.{Setup}
 use Rattle.agent_field.specs.declared.view.View.{View}
 use Rattle.agent_field.specs.Standing.{agents_opened, packed, crowd_after, In, IsLook, LooksAscend, StandsAt}
 use Rattle.agent_field.specs.History.{IsHistory}
-use Rattle.agent_field.specs.Steps.{seen, look_of, looking, IsSeenAt}
+use Rattle.agent_field.specs.Steps.{look_of, looking, IsSeenAt}
 use Rattle.agent_field.proofs.Histories.{length-replay}
 use Rattle.agent_field.proofs.Keeps.{views_keep}
 use Rattle.agent_field.proofs.Draws.{known_after}
@@ -30,11 +30,11 @@ ascending-push (look ∷ looks) new h late = (
 
 module _ (k : Setup) (words : List ℕ) (views : List View) (history : List Meeting) (seat : ℕ → Option ℕ) (st : StandsAt k words views history seat) (id : ℕ) (v : View) (at : get_elem? views id ≡ some v) (live : v.live ≡ true) where
   -- all words that were read under all locks are those after the history so far
-  is_look : length (seen v.known) ≡ agents_opened k → ((a : ℕ) (d : Word) → a < agents_opened k → In (a, get_or (seen v.known) a d) v.known) → v.due ≡ []
-      → IsLook k.net.value k.opening.value history (look_of (length history) (seen v.known))
-  is_look whole all none_due =
+  is_look : (shown : List Word) → length shown ≡ agents_opened k → ((a : ℕ) (d : Word) → a < agents_opened k → In (a, get_or shown a d) v.known) → v.due ≡ []
+      → IsLook k.net.value k.opening.value history (look_of (length history) shown)
+  is_look shown whole all none_due =
       let net = k.net.value in
-      let all_words = seen v.known in
+      let all_words = shown in
       let long : length (crowd_of net all_words) ≡ length (crowd_after k history) = length-map all_words (tuple_of net) ∙ whole ∙ sym (length-replay net history (crowd_of net k.opening.value) ∙ length-map k.opening.value (tuple_of net)) in
       let inside : (a : ℕ) → a < length all_words → a < agents_opened k = λ a h. subst (λ (n : ℕ). a < n) whole h in
       let same : crowd_of net all_words ≡ crowd_after k history = ext_get_or [] (crowd_of net all_words) (crowd_after k history) long
@@ -45,12 +45,12 @@ module _ (k : Setup) (words : List ℕ) (views : List View) (history : List Meet
         (λ a d h. let n = (st.each id v at live).knows a (get_or all_words a d) (all a d (inside a h)) in subst (IsValid net) n.2 (st.valid a n.0)),
       )
 
-  pub looks_keep : length (seen v.known) ≡ agents_opened k → ((a : ℕ) (d : Word) → a < agents_opened k → In (a, get_or (seen v.known) a d) v.known) → v.due ≡ []
-      → StandsAt k words (set views id (looking (length history) v)) history seat
-  looks_keep whole all none_due =
+  pub looks_keep : (shown : List Word) → length shown ≡ agents_opened k → ((a : ℕ) (d : Word) → a < agents_opened k → In (a, get_or shown a d) v.known) → v.due ≡ []
+      → StandsAt k words (set views id (looking (length history) shown v)) history seat
+  looks_keep shown whole all none_due =
       let f = st.each id v at live in
-      let new = look_of (length history) (seen v.known) in
-      views_keep k words views history seat st id v at live (looking (length history) v) live refl refl refl
+      let new = look_of (length history) shown in
+      views_keep k words views history seat st id v at live (looking (length history) shown v) live refl refl refl
       (record {
         setup = f.setup;
         seated = f.seated;
@@ -64,18 +64,18 @@ module _ (k : Setup) (words : List ℕ) (views : List View) (history : List Meet
         looked = record {
           each = λ look i. ⊎_elim
               (λ (was : In look v.looks). f.looked.each look was)
-              (λ (e : look ≡ new). subst (IsLook k.net.value k.opening.value history) (sym e) (is_look whole all none_due))
+              (λ (e : look ≡ new). subst (IsLook k.net.value k.opening.value history) (sym e) (is_look shown whole all none_due))
               (In-push v.looks new look i);
           ascending = ascending-push v.looks new f.looked.ascending (λ look i. (f.looked.each look i).0);
         };
       })
 
-  pub is_seen_at : length (seen v.known) ≡ agents_opened k → ((a : ℕ) (d : Word) → a < agents_opened k → In (a, get_or (seen v.known) a d) v.known) → v.due ≡ [] → IsSeenAt (length history) v
-  is_seen_at whole all none_due =
+  pub is_seen_at : (shown : List Word) → length shown ≡ agents_opened k → ((a : ℕ) (d : Word) → a < agents_opened k → In (a, get_or shown a d) v.known) → v.due ≡ [] → IsSeenAt (length history) shown v
+  is_seen_at shown whole all none_due =
       let f = st.each id v at live in record {
         history = history;
         long = refl;
         right = subst (λ (z : Setup). IsHistory z.net.value z.seats z.opening.value history) (sym f.setup) st.right;
         logs = f.logs;
-        look = subst (λ (z : Setup). IsLook z.net.value z.opening.value history (look_of (length history) (seen v.known))) (sym f.setup) (is_look whole all none_due);
+        look = subst (λ (z : Setup). IsLook z.net.value z.opening.value history (look_of (length history) shown)) (sym f.setup) (is_look shown whole all none_due);
       }

@@ -14,7 +14,8 @@ use Rattle.agent_field.specs.declared.view.View.{View}
 use Rattle.agent_field.specs.History.{made}
 use Rattle.agent_field.specs.Standing.{In, agents_opened, lock_at, agent_at, agent_word, shard_of, crowd_after}
 use Rattle.agent_field.specs.Standing.{founder, joined_away, opening_words, IsUnfounded, StandsAt, Stands}
-use Rattle.agent_field.specs.Steps.{first_seat, holding, releasing, knowing, MayDraw, HasSeenAll, meeting_made, writing, kept_back}
+use Rattle.agent_field.specs.Steps.{CanLock, CanUnlock, CanRead, MayDraw, HasSeenAll}
+use Rattle.agent_field.specs.Steps.{first_seat, holding, releasing, knowing, meeting_made, writing, kept_back}
 use Rattle.agent_field.specs.Steps.{newcomer, taking_in, looking}
 
 -- the seat `id` is live and has this view
@@ -26,26 +27,25 @@ pub record Sits (views : List View) (id : ℕ) (v : View) : Type 0 where
 pub data QuietStep (k : Setup) : List ℕ → List View → List ℕ → List View → Type 0 where
   makes : (words : List ℕ) (views : List View) (id : ℕ) → get_elem? views id ≡ some (founder k)
       → QuietStep k words views (slice_set words FOUNDER 1) (slice_set views id (first_seat k))
-  locks : (words : List ℕ) (views : List View) (id : ℕ) (v : View) (s : ℕ) → Sits views id v → s < k.shards → v.due ≡ [] → slice_index words (lock_at k s) ≡ 0
+  locks : (words : List ℕ) (views : List View) (id : ℕ) (v : View) (s : ℕ) → Sits views id v → CanLock k v s
+      → slice_index words (lock_at k s) ≡ 0
       → QuietStep k words views (slice_set words (lock_at k s) (v.number + 1)) (slice_set views id (holding s v))
-  finds_locked : (words : List ℕ) (views : List View) (id : ℕ) (v : View) (s : ℕ) → Sits views id v → s < k.shards → slice_index words (lock_at k s) ≢ 0
+  finds_locked : (words : List ℕ) (views : List View) (id : ℕ) (v : View) (s : ℕ) → Sits views id v → CanLock k v s
+      → slice_index words (lock_at k s) ≢ 0
       → QuietStep k words views words views
-  reads : (words : List ℕ) (views : List View) (id : ℕ) (v : View) (a : ℕ) → Sits views id v → a < agents_opened k → In (shard_of k a) v.held
-      → ((y : Word) → In (a, y) v.due → ⊥)
+  reads : (words : List ℕ) (views : List View) (id : ℕ) (v : View) (a : ℕ) → Sits views id v → CanRead k v a
       → QuietStep k words views words (slice_set views id (knowing a (agent_word k words a) v))
-  writes : (words : List ℕ) (views : List View) (id : ℕ) (v : View) (a : ℕ) (y : Word) (due : List (ℕ × Word)) → Sits views id v
-      → v.due ≡ (a, y) ∷ due → ((x : Word) → In (a, x) due → ⊥)
-      → QuietStep k words views (slice_set words (agent_at k a) y.0) (slice_set views id (writing v))
-  unlocks : (words : List ℕ) (views : List View) (id : ℕ) (v : View) (s : ℕ) (held : List ℕ) → Sits views id v → v.held ≡ s ∷ held → (In s held → ⊥)
-      → v.due ≡ []
+  writes : (words : List ℕ) (views : List View) (id : ℕ) (v : View) (a : ℕ) (y : Word) → Sits views id v → In (a, y) v.due
+      → QuietStep k words views (slice_set words (agent_at k a) y.0) (slice_set views id (writing a v))
+  unlocks : (words : List ℕ) (views : List View) (id : ℕ) (v : View) (s : ℕ) → Sits views id v → CanUnlock v s
       → QuietStep k words views (slice_set words (lock_at k s) 0) (slice_set views id (releasing v))
   splits : (words : List ℕ) (views : List View) (id : ℕ) (v : View) → Sits views id v → v.number ≡ 0 → v.next < k.seats
       → QuietStep k words views words (slice_set views id (kept_back v) ++ newcomer v ∷ [])
   joins : (words : List ℕ) (views : List View) (id other : ℕ) (v w : View) → Sits views id v → v.number ≡ 0 → other ≢ id → Sits views other w
       → w.due ≡ [] → w.held ≡ []
       → QuietStep k words views words (slice_set (slice_set views id (taking_in v w)) other joined_away)
-  looks : (words : List ℕ) (views : List View) (id : ℕ) (v : View) → Sits views id v → HasSeenAll k v
-      → QuietStep k words views words (slice_set views id (looking (slice_index words CLOCK) v))
+  looks : (words : List ℕ) (views : List View) (id : ℕ) (v : View) (shown : List Word) → Sits views id v → HasSeenAll k v shown
+      → QuietStep k words views words (slice_set views id (looking (slice_index words CLOCK) shown v))
 
 -- the draw, and the meeting that it makes
 pub data DrawStep (k : Setup) : List ℕ → List View → Meeting → List ℕ → List View → Type 0 where

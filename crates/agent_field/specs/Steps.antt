@@ -1,5 +1,5 @@
 -- What each step of a seat tells.
-use Rattle.std.specs.Prelude.{zero, suc, ◌≡◌, ◌≢◌, ℕ, ◌+◌, ◌<◌, ◌≤◌, List, [], ◌∷◌, ◌++◌, length}
+use Rattle.std.specs.Prelude.{zero, suc, ◌≡◌, ◌≢◌, ℕ, ◌+◌, ◌<◌, ◌≤◌, List, [], ◌∷◌, ◌++◌, length, filter, not, ◌==◌}
 use Rattle.std.specs.Prelude.{slice_index_or, slice_set, replicate, Option as Maybe, Some as Given, None as Missing}
 use Rattle.atomic_table.specs.Table.{Me, Step}
 use Rattle.pop_net.specs.declared.net.Word.{Word}
@@ -14,7 +14,7 @@ use Rattle.agent_field.specs.declared.view.Look.{Look}
 use Rattle.agent_field.specs.declared.view.Setup.{Setup}
 use Rattle.agent_field.specs.declared.view.View.{View}
 use Rattle.agent_field.specs.History.{logged, calls, IsHistory}
-use Rattle.agent_field.specs.Standing.{In, agents_opened, lock_at, agent_at, locks_of, idle, packed, tuple_after, IsLook}
+use Rattle.agent_field.specs.Standing.{In, agents_opened, shard_of, lock_at, agent_at, locks_of, idle, packed, tuple_after, IsLook}
 
 abbrev pub Mine : Type 0
 Mine = Me (Unit {0}) View
@@ -46,17 +46,21 @@ pub record IsReaction (net : NetModel) (x y x' y' : Word) : Type 0 where
   pub first : IsValid net x'
   pub second : IsValid net y'
 
--- the agents a and b, with the words x and y, meet, and x' and y' are due
+-- the words of all agents but this one
+abbrev pub without : ℕ → List (ℕ × Word) → List (ℕ × Word)
+without a words = filter (λ p. not (p.0 == a)) words
+
+-- the agents a and b, with the words x and y, meet: x' and y' are due, and what was known of them is known no more
 abbrev pub meeting_made : ℕ → ℕ → ℕ → Word → Word → Word → Word → View → View
 meeting_made ticket a b x y x' y' v =
     record v {
-      known = [];
+      known = without a (without b v.known);
       due = (a, x') ∷ (b, y') ∷ [];
       log = v.log ++ logged ticket a b (reacts v.setup.net.value (tuple_of v.setup.net.value x) (tuple_of v.setup.net.value y)) ∷ [];
     }
 
-abbrev pub writing : View → View
-writing v = record v { due = rest_of v.due }
+abbrev pub writing : ℕ → View → View
+writing a v = record v { due = without a v.due }
 
 -- the known words, in the order in which they were read
 abbrev pub seen : List (ℕ × Word) → List Word
@@ -80,37 +84,70 @@ pub record IsDrawnAt (ticket : ℕ) (v : View) : Type 0 where
   pub logs : v.log ≡ calls v.number history
   pub known : (a : ℕ) (x : Word) → In (a, x) v.known → tuple_after v.setup history a ≡ tuple_of v.setup.net.value x
 
--- what a draw needs: the words of two agents were read, under the locks of their shards and no other
-pub record MayDraw (k : Setup) (v : View) (a b : ℕ) (x y x' y' : Word) : Type 0 where
-  pub known : v.known ≡ (b, y) ∷ (a, x) ∷ []
+-- where a shard's lock may be taken: while nothing is due
+pub record CanLock (k : Setup) (v : View) (s : ℕ) : Type 0 where
+  pub inside : s < k.shards
+  pub due : v.due ≡ []
+
+-- where it may be given back: if it was taken last, while nothing is due
+pub record CanUnlock (v : View) (s : ℕ) : Type 0 where
+  pub before : List ℕ
+  pub last : v.held ≡ s ∷ before
+  pub once : In s before → ⊥
+  pub due : v.due ≡ []
+
+-- where an agent's word may be read: under its shard's lock, while none is due for it
+pub record CanRead (k : Setup) (v : View) (a : ℕ) : Type 0 where
+  pub inside : a < agents_opened k
+  pub locked : In (shard_of k a) v.held
+  pub due : (y : Word) → In (a, y) v.due → ⊥
+
+-- two different agents whose words are known, and what these react to, while nothing is due
+pub record HasPair (k : Setup) (v : View) (a b : ℕ) (x y x' y' : Word) : Type 0 where
+  pub first : In (a, x) v.known
+  pub second : In (b, y) v.known
   pub reacted : IsReaction k.net.value x y x' y'
   pub due : v.due ≡ []
   pub apart : a ≢ b
   pub room : length v.log < LOG_LIMIT
+
+-- what a draw needs: such a pair, under the locks of its shards and no other
+pub record MayDraw (k : Setup) (v : View) (a b : ℕ) (x y x' y' : Word) : Type 0 where
+  pub pair : HasPair k v a b x y x' y'
   pub exactly : v.held ≡ locks_of k a b
 
 -- all words, read under all locks
-pub record HasSeenAll (k : Setup) (v : View) : Type 0 where
+pub record HasSeenAll (k : Setup) (v : View) (words : List Word) : Type 0 where
   pub first : v.number ≡ 0
   pub locked : (s : ℕ) → s < k.shards → In s v.held
-  pub whole : length (seen v.known) ≡ agents_opened k
-  pub all : (a : ℕ) (d : Word) → a < agents_opened k → In (a, slice_index_or (seen v.known) a d) v.known
+  pub whole : length words ≡ agents_opened k
+  pub all : (a : ℕ) (d : Word) → a < agents_opened k → In (a, slice_index_or words a d) v.known
   pub due : v.due ≡ []
 
 abbrev pub Founds : Step (Unit {0}) → Mine → ℕ → Mine → Type 0
 Founds st m r m' = (r ≡ 0) × (m' ≡ (first_seat m.0.setup, m.1))
 
+-- a lock is tried, where that is allowed
 abbrev pub Locks : Step (Unit {0}) → Mine → ℕ → Mine → Type 0
-Locks st m r m' = ((s : ℕ) → st.word ≡ lock_at m.0.setup s → r ≡ 0 → m' ≡ (holding s m.0, m.1)) × (r ≢ 0 → m' ≡ m)
+Locks st m r m' =
+    ((s : ℕ) → st.word ≡ lock_at m.0.setup s → r ≡ 0 → m' ≡ (holding s m.0, m.1))
+    × (r ≢ 0 → m' ≡ m)
+    × ((s : ℕ) × (st.word ≡ lock_at m.0.setup s) × (st.first ≡ 0) × (st.second ≡ m.0.number + 1) × CanLock m.0.setup m.0 s)
 
+-- a lock is given back, where that is allowed
 abbrev pub Unlocks : Step (Unit {0}) → Mine → ℕ → Mine → Type 0
-Unlocks st m r m' = m' ≡ (releasing m.0, m.1)
+Unlocks st m r m' =
+    (m' ≡ (releasing m.0, m.1))
+    × ((s : ℕ) × (st.word ≡ lock_at m.0.setup s) × (st.first ≡ 0) × CanUnlock m.0 s)
 
+-- a word is read, where that is allowed
 abbrev pub Reads : Step (Unit {0}) → Mine → ℕ → Mine → Type 0
 Reads st m r m' =
-    ((a : ℕ) → st.word ≡ agent_at m.0.setup a → m' ≡ (knowing a (packed r) m.0, m.1)) × IsValid m.0.setup.net.value (packed r)
+    ((a : ℕ) → st.word ≡ agent_at m.0.setup a → m' ≡ (knowing a (packed r) m.0, m.1))
+    × IsValid m.0.setup.net.value (packed r)
+    × ((a : ℕ) × (st.word ≡ agent_at m.0.setup a) × CanRead m.0.setup m.0 a)
 
--- the pair whose words were read meets, and its new words are due
+-- the pair whose words were read meets, where that is allowed, and its new words are due
 pub record HasDrawn (ticket : ℕ) (m m' : Mine) : Type 0 where
   pub a : ℕ
   pub b : ℕ
@@ -119,29 +156,37 @@ pub record HasDrawn (ticket : ℕ) (m m' : Mine) : Type 0 where
   pub x' : Word
   pub y' : Word
   pub known : m.0.known ≡ (b, y) ∷ (a, x) ∷ []
-  pub reacted : IsReaction m.0.setup.net.value x y x' y'
+  pub may : MayDraw m.0.setup m.0 a b x y x' y'
   pub met : m' ≡ (meeting_made ticket a b x y x' y' m.0, m.1)
 
 abbrev pub Draws : Step (Unit {0}) → Mine → ℕ → Mine → Type 0
 Draws st m r m' = HasDrawn r m m' × IsNewest r m.0 × IsDrawnAt r m.0
 
+-- a word that is due is written
 abbrev pub Writes : Step (Unit {0}) → Mine → ℕ → Mine → Type 0
-Writes st m r m' = m' ≡ (writing m.0, m.1)
+Writes st m r m' =
+    ((a : ℕ) → st.word ≡ agent_at m.0.setup a → m' ≡ (writing a m.0, m.1))
+    × ((a : ℕ) × (st.word ≡ agent_at m.0.setup a) × In (a, packed st.first) m.0.due)
 
 -- a look: the clock, and all words
-abbrev pub looking : ℕ → View → View
-looking ticket v = record v { looks = v.looks ++ look_of ticket (seen v.known) ∷ [] }
+abbrev pub looking : ℕ → List Word → View → View
+looking ticket words v = record v { looks = v.looks ++ look_of ticket words ∷ [] }
 
--- at the ticket there is a history, with just this log for the seat's number, after which the known words stand
-pub record IsSeenAt (ticket : ℕ) (v : View) : Type 0 where
+-- at the ticket there is a history, with just this log for the seat's number, after which these words stand
+pub record IsSeenAt (ticket : ℕ) (words : List Word) (v : View) : Type 0 where
   pub history : List Meeting
   pub long : length history ≡ ticket
   pub right : IsHistory v.setup.net.value v.setup.seats v.setup.opening.value history
   pub logs : v.log ≡ calls v.number history
-  pub look : IsLook v.setup.net.value v.setup.opening.value history (look_of ticket (seen v.known))
+  pub look : IsLook v.setup.net.value v.setup.opening.value history (look_of ticket words)
 
+-- the clock is read, where all words that were read are those of all agents
 abbrev pub Watches : Step (Unit {0}) → Mine → ℕ → Mine → Type 0
-Watches st m r m' = (m' ≡ (looking r m.0, m.1)) × IsNewest r m.0 × IsSeenAt r m.0
+Watches st m r m' =
+    (m' ≡ (looking r (seen m.0.known) m.0, m.1))
+    × IsNewest r m.0
+    × IsSeenAt r (seen m.0.known) m.0
+    × HasSeenAll m.0.setup m.0 (seen m.0.known)
 
 -- number 0 gives its least fresh number away
 abbrev pub kept_back : View → View
@@ -153,6 +198,10 @@ newcomer v = idle v.setup v.next [] 0 [] []
 -- number 0 takes in another seat's log
 abbrev pub taking_in : View → View → View
 taking_in v w = record v { taken = slice_set v.taken w.number (Given w.log) }
+
+-- the agents a and b meet, of which alone the words were known
+abbrev pub pair_made : ℕ → ℕ → ℕ → Word → Word → Word → Word → View → View
+pair_made ticket a b x y x' y' v = record (meeting_made ticket a b x y x' y' v) { known = [] }
 
 -- one more meeting stands in the seat's log
 abbrev pub recorded : Logged → View → View

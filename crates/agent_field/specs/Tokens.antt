@@ -5,8 +5,8 @@ use Rattle.pop_net.specs.declared.net.Word.{Word}
 use Rattle.agent_field.specs.declared.field.Field.{Field}
 use Rattle.agent_field.specs.declared.view.View.{View}
 use Rattle.agent_field.specs.History.{logged}
-use Rattle.agent_field.specs.Standing.{In, shard_of}
-use Rattle.agent_field.specs.Steps.{HasDrawn, IsNewest, IsDrawnAt, IsSeenAt, looking, recorded, seen, with_known}
+use Rattle.agent_field.specs.Standing.{In, locks_of, shard_of}
+use Rattle.agent_field.specs.Steps.{HasPair, HasDrawn, IsNewest, IsDrawnAt, IsSeenAt, looking, recorded, seen, with_known}
 use Rattle.agent_field.specs.Seats.{IsMetAt}
 
 abbrev pub SeatToken : Type 0
@@ -55,11 +55,27 @@ pub record MayRead (f : Field) (a : ℕ) (t : SeatToken) : Type 0 where
   pub held : In (shard_of f.table.shared.key a) t.me.0.held
   pub due : t.me.0.due ≡ []
 
--- what writing an agent's word needs: it is due first, and that agent's only one
+-- the words of two agents were read, and no other is known
+pub record HasReadPair (f : Field) (t : SeatToken) : Type 0 where
+  pub a : ℕ
+  pub b : ℕ
+  pub x : Word
+  pub y : Word
+  pub x' : Word
+  pub y' : Word
+  pub known : t.me.0.known ≡ (b, y) ∷ (a, x) ∷ []
+  pub pair : HasPair f.table.shared.key t.me.0 a b x y x' y'
+
+-- what a draw needs: such words, under the locks of their agents' shards and no other
+pub record MayDrawPair (f : Field) (t : SeatToken) : Type 0 where
+  pub read : HasReadPair f t
+  pub exactly : t.me.0.held ≡ locks_of f.table.shared.key read.a read.b
+
+-- what writing an agent's word needs: it is due
 pub record MayWrite (f : Field) (a : ℕ) (x : Word) (t : SeatToken) : Type 0 where
   pub usable : IsUsable f t
   pub agent : a < f.agents
-  pub due : (due : List (ℕ × Word)) × (t.me.0.due ≡ (a, x) ∷ due) × ((y : Word) → In (a, y) due → ⊥)
+  pub due : In (a, x) t.me.0.due
 
 -- after a step the token is still of its table, and its seat has this view
 pub record Becomes (before after : SeatToken) (view : View) : Type 0 where
@@ -75,9 +91,9 @@ pub record IsDraw (ticket : ℕ) (before after : SeatToken) : Type 0 where
 
 -- the clock was read under all locks: not below what the seat knew, and at a moment when the known words stood
 pub record IsWatch (ticket : ℕ) (before after : SeatToken) : Type 0 where
-  pub watched : Becomes before after (looking ticket before.me.0)
+  pub watched : Becomes before after (looking ticket (seen before.me.0.known) before.me.0)
   pub newest : IsNewest ticket before.me.0
-  pub moment : IsSeenAt ticket before.me.0
+  pub moment : IsSeenAt ticket (seen before.me.0.known) before.me.0
 
 -- the agents a and b have met under their locks, as the meeting with this ticket
 pub record HasReacted (f : Field) (a b ticket : ℕ) (changed : Bool) (before after : SeatToken) : Type 0 where

@@ -1,9 +1,7 @@
 //! The atomic steps of a meeting and of a look, each through the seat's token.
 
-ghost use Rattle.std.specs.Prelude.{ℕ};
-ghost use Rattle.pop_net.specs.declared.net.Word.{Word as WordModel};
 ghost use Rattle.pop_net.specs.Lanes.{IsValid};
-ghost use Rattle.agent_field.specs.Steps.{holding, releasing, knowing, writing, MayDraw, HasSeenAll};
+ghost use Rattle.agent_field.specs.Steps.{holding, releasing, knowing, writing, seen, HasSeenAll};
 
 use crate::field::Field;
 use crate::places::{CLOCK, place_of_agent, place_of_lock};
@@ -14,7 +12,7 @@ use std::sync::Wait;
 use std::thread;
 
 impl<'n> Field<'n> {
-    ghost use Rattle.agent_field.specs.Tokens.{IsUsable, MayLock, MayUnlock, MayRead, MayWrite};
+    ghost use Rattle.agent_field.specs.Tokens.{IsUsable, MayLock, MayUnlock, MayRead, MayDrawPair, MayWrite};
     ghost use Rattle.agent_field.specs.Tokens.{Becomes, IsDraw, IsWatch};
 
     /// Takes a shard's lock.
@@ -58,17 +56,16 @@ impl<'n> Field<'n> {
     /// Draws a ticket for the pair whose words were read.
     pub(crate) fn draw(&self, token: &mut Seat<(), View>) -> u64
         requires usable { IsUsable self.now token.old }
-        requires pair { (a b : ℕ) × (x y x' y' : WordModel)
-            × MayDraw self.now.table.shared.key token.old.me.0 a b x y x' y' }
+        requires pair { MayDrawPair self.now token.old }
         ensures { IsDraw result token.old token.new }
     {
         self.table.shared.fetch_add::<Draw>(token, CLOCK, 1)
     }
 
-    /// Writes the word of the agent that is due first.
+    /// Writes an agent's word that is due.
     pub(crate) fn write(&self, token: &mut Seat<(), View>, a: u32, word: Word)
         requires { MayWrite self.now a word token.old }
-        ensures { Becomes token.old token.new (writing token.old.me.0) }
+        ensures { Becomes token.old token.new (writing a token.old.me.0) }
     {
         let at = place_of_agent(a, self.shards);
         self.table.shared.store::<Write>(token, at, word.0);
@@ -77,7 +74,7 @@ impl<'n> Field<'n> {
     /// Reads the clock, where all words were read under all locks.
     pub(crate) fn watch(&self, token: &mut Seat<(), View>) -> u64
         requires usable { IsUsable self.now token.old }
-        requires all { HasSeenAll self.now.table.shared.key token.old.me.0 }
+        requires all { HasSeenAll self.now.table.shared.key token.old.me.0 (seen token.old.me.0.known) }
         ensures { IsWatch result token.old token.new }
     {
         self.table.shared.load::<Watch>(token, CLOCK)

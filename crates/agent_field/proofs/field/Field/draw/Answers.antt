@@ -4,5 +4,9 @@ use Rattle.agent_field.proofs.field.Field.draw.Goals as goal
 
 pub fetch_add-requires : goal.fetch_add-requires
 fetch_add-requires c =
-    let p = c.requires.pair in
-    (search rules, search rules, draws c.args.self.now.table.shared.key _ _ c.args.token.now.me p.0 p.1 p.2 p.3 p.4 p.5 c.requires.usable.live c.requires.usable.ours p.6)
+    let p = c.requires.pair.read in (
+      search rules,
+      search rules,
+      draws c.args.self.now.table.shared.key _ _ c.args.token.now.me p.a p.b p.x p.y p.x' p.y' c.requires.usable.live c.requires.usable.ours p.known
+          (record { pair = p.pair; exactly = c.requires.pair.exactly }),
+    )

@@ -8,4 +8,4 @@ store-requires c =
     let held = c.requires.last in
     let f = c.args.self.now in
     let at = c.place_of_lock-at.ensures ∙ ap (λ (n : ℕ). lock_place n c.args.s) (sym f.agents_are) in
-    (search rules, search rules, unlocks_at f.table.shared.key _ _ c.args.token.now.me c.args.s _ held.0 at c.requires.usable.live held.1 held.2 c.requires.due)
+    (search rules, search rules, unlocks_at f.table.shared.key _ _ c.args.token.now.me c.args.s _ at c.requires.usable.live c.requires.usable.ours (record { before = held.0; last = held.1; once = held.2; due = c.requires.due }))
