@@ -4,15 +4,11 @@ use Rattle.std.proofs.lemmas.List.{map-append}
 use Rattle.serde_json.specs.Data.{Data, string, array, object, Members, no_members, put}
 use Rattle.serde_json.specs.View.{view, items_of}
 use Rattle.serde_json.specs.declared.value.Value.{Value}
+use Rattle.json_shape.proofs.Put.{made}
 use Rattle.net_json.specs.Written.{list_data, numbers_data}
 use Rattle.cert_base.specs.declared.layer.Layer.{Layer}
 use Rattle.cert_base.specs.declared.proof.LeafProof.{LeafProof}
 use Rattle.cert_json.specs.Written.{integers_data, nodes_data, layer_data, one_part, two_parts, leaf_proof_members}
-
--- a member that was put in, where its value could be made
-made : {E : Type 0} (r : Result Value E) (d : Data) (name : List ℕ) (old new : Members) → IfOk r (λ v. view v ≡ d) → IsOkAnd r (λ v. new ≡ put name (view v) old) → new ≡ put name d old
-made (Ok v) d name old new is added = added ∙ ap (λ e. put name e old) is
-made (Err e) d name old new is added = absurd added
 
 pub layer_written : {E : Type 0} (layer : Layer) (moves weights : Result Value E) (one two : Members)
     → IfOk moves (λ v. view v ≡ numbers_data layer.moves) → IsOkAnd moves (λ v. one ≡ put (codes "moves") (view v) no_members)

@@ -1,8 +1,8 @@
 //! Writing a proof as a JSON value.
 
-ghost use Rattle.std.specs.Prelude.{◌≡◌, ◌≤◌, ℕ, All, map, take, length, IfOk, IsOkAnd, OnOk, Ok, Some};
-ghost use Rattle.serde_json.specs.Data.{Data, string, put as with_member};
-ghost use Rattle.serde_json.specs.View.{view, members_view};
+ghost use Rattle.std.specs.Prelude.{◌≡◌, ◌≤◌, ℕ, All, map, take, length, IfOk, Ok, Some};
+ghost use Rattle.serde_json.specs.Data.{Data, string};
+ghost use Rattle.serde_json.specs.View.{view};
 ghost use Rattle.serde_json.specs.Find.{get};
 ghost use Rattle.std.specs.Prelude.{codes};
 ghost use Rattle.pop_io.specs.Names.{variable_name, AreNames};
@@ -19,6 +19,7 @@ use cert_base::{Layer, LeafProof, Proof};
 use pop_io::{List, NoMemory, Text};
 use pres_ast::Pred;
 use pres_read::print_pred;
+use json_shape::put_made;
 use serde_json::{Map, Value, put};
 use std::alloc::{AllocError, Global};
 
@@ -40,19 +41,6 @@ fn weights_value(alloc: Global, weights: &[i64]) -> Result<Value, AllocError>
         list.push(Value::from(*weight))?;
     }
     Ok(Value::Array(list))
-}
-
-/// Adds a member, unless its value could not be made.
-fn put_made(
-    members: &mut Map<String, Value>,
-    alloc: Global,
-    name: &str,
-    value: Result<Value, AllocError>,
-) -> Result<(), AllocError>
-    ensures { OnOk result (IsOkAnd value (λ v. members_view members.new.entries
-        ≡ with_member name.now (view v) (members_view members.old.entries))) }
-{
-    put(members, alloc, name, value?)
 }
 
 fn layer_value(alloc: Global, layer: &Layer) -> Result<Value, AllocError>

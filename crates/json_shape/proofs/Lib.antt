@@ -6,3 +6,4 @@ pub mod Readers
 pub mod Fresh
 pub mod Ascending
 pub mod TaggedReaders
+pub mod Put

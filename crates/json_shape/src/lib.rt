@@ -5,12 +5,14 @@
 
 mod fault;
 mod items;
+mod members;
 mod path;
 mod shape;
 mod tagged;
 
 pub use fault::{FormatFault, PredWhy, Why, broken};
 pub use items::{ReadItem, each_in, each_of};
+pub use members::put_made;
 pub use path::Path;
 pub use shape::{
     ascending_of, integer_of, list_of, member_of, number_of, object_of, text_of, truth_of,

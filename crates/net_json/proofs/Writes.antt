@@ -9,6 +9,7 @@ use Rattle.serde_json.specs.View.{view, items_of}
 use Rattle.serde_json.specs.declared.value.Value.{Value}
 use Rattle.json_shape.specs.Shapes.{listed}
 use Rattle.json_shape.specs.Parts.{IsNumber, IsText, IsTruth, AreItems, IsList}
+use Rattle.json_shape.proofs.Put.{made}
 use Rattle.pop_net.specs.declared.leaf.Move.{Move}
 use Rattle.pop_net.specs.declared.net.Item.{Item}
 use Rattle.pop_net.specs.declared.net.Item.TheVariants.{Leaf, Not, And, Or}
@@ -121,11 +122,6 @@ net_file net is =
     format_is : (helped : Bool) → IsNumber (format_of helped) (number_data (format_of helped))
     format_is true = refl
     format_is false = refl
-
--- a member that was put in, where its value could be made
-made : {E : Type 0} (r : Result Value E) (d : Data) (name : List ℕ) (old new : Members) → IfOk r (λ v. view v ≡ d) → IsOkAnd r (λ v. new ≡ put name (view v) old) → new ≡ put name d old
-made (Ok v) d name old new is added = added ∙ ap (λ e. put name e old) is
-made (Err e) d name old new is added = absurd added
 
 -- the members of a leaf, put in one after the other
 pub leaf_written : {E : Type 0} (helped : Bool) (leaf : LeafModel) (inputs moves outputs states : Result Value E) (none one two three four : Members)

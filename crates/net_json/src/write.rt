@@ -1,7 +1,7 @@
 //! Writing a net as a JSON value.
 
-ghost use Rattle.std.specs.Prelude.{◌≡◌, [], codes, map, take, length, if◌then◌else◌, IfOk, IsOkAnd, OnOk, Ok};
-ghost use Rattle.serde_json.specs.Data.{string, member, no_members, put as with_member};
+ghost use Rattle.std.specs.Prelude.{◌≡◌, [], codes, map, take, length, if◌then◌else◌, IfOk, Ok};
+ghost use Rattle.serde_json.specs.Data.{string, member, no_members};
 ghost use Rattle.serde_json.specs.View.{view, members_view};
 ghost use Rattle.pop_net.specs.NetModel.{IsNet};
 ghost use Rattle.net_json.specs.Examined.{net_at};
@@ -13,6 +13,7 @@ ghost use Rattle.net_json.specs.Written.{leaf_data, format_of, is_helped, net_da
 use crate::format::{HELPER_FORMAT, PLAIN_FORMAT};
 use pop_io::{NoMemory, Text};
 use pop_net::{Item, Leaf, Move, Net};
+use json_shape::put_made;
 use serde_json::{Map, Value, put};
 use std::alloc::{AllocError, Global};
 
@@ -90,19 +91,6 @@ fn outputs_value(alloc: Global, leaf: &Leaf) -> Result<Value, AllocError>
         list.push(Value::from(leaf.output(state)))?;
     }
     Ok(Value::Array(list))
-}
-
-/// Adds a member, unless its value could not be made.
-fn put_made(
-    members: &mut Map<String, Value>,
-    alloc: Global,
-    name: &str,
-    value: Result<Value, AllocError>,
-) -> Result<(), AllocError>
-    ensures { OnOk result (IsOkAnd value (λ v. members_view members.new.entries
-        ≡ with_member name.now (view v) (members_view members.old.entries))) }
-{
-    put(members, alloc, name, value?)
 }
 
 /// The helpers of a leaf as a member, where the file has some.

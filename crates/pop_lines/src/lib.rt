@@ -16,7 +16,7 @@ pub use numbers::{
     DIGIT_LIMIT, number, number_within, printed_number, printed_within, small_number,
 };
 pub use numerals::{NUMBER_ROOM, Numerals, put_byte, put_bytes};
-pub use print::{push_number, push_wide_number};
+pub use print::{push_field, push_number, push_wide_number};
 pub use walks::{
     line_count, one_line, one_line_and_more, three_lines, three_lines_and_more, two_lines,
     two_lines_and_more,

@@ -16,6 +16,14 @@ pub fn push_number(out: &mut Vec<u8>, n: u64) -> Result<(), AllocError>
     out.extend_from_slice(Buffer::new().format(n).as_bytes())
 }
 
+/// Adds a text, and a number in decimal digits.
+pub fn push_field(text: &mut Vec<u8>, name: &str, number: u64) -> Result<(), AllocError>
+    ensures { OnOk result (text.new.items ≡ text.old.items ++ (name.now ++ decimal number)) }
+{
+    text.extend_from_slice(name.as_bytes())?;
+    push_number(text, number)
+}
+
 /// Adds a number of up to 128 bits in decimal digits.
 pub fn push_wide_number(out: &mut Vec<u8>, n: u128) -> Result<(), AllocError>
     ensures ok { OnOk result (out.new.items ≡ out.old.items ++ decimal n) }

@@ -1,3 +1,4 @@
+mod Formatted
 pub mod InputSize
 pub mod Begun
 pub mod Ran

@@ -10,7 +10,7 @@ ghost use Rattle.tool_commands.specs.Start.{IsStart};
 ghost use Rattle.tool_commands.specs.Bundles.{bundle_in, begun, IsBundleWithin, IsBundleOf, IsBegunBy, TellsRejection};
 
 use crate::start::{Start, start_of};
-use cert_json::{Bundle, FormatFault, read_bundle};
+use cert_json::{Bundle, read_bundle};
 use pop_checker::{CheckFault, Checked, check};
 use serde_json::Value;
 use std::alloc::Global;
@@ -24,11 +24,8 @@ fn bundle_of(alloc: Global, value: &Option<Value>) -> Result<Bundle, Stop>
     let Some(value) = value else {
         return Err(Stop::Refused(Refusal::NotJson));
     };
-    match read_bundle(alloc, value) {
-        Ok(bundle) => Ok(bundle),
-        Err(FormatFault::Broken { path, why }) => Err(Stop::Refused(Refusal::Format(path, why))),
-        Err(FormatFault::NoMemory) => Err(Stop::NoMemory),
-    }
+    let bundle = read_bundle(alloc, value)?;
+    Ok(bundle)
 }
 
 /// The bundle of a line. The line's value is dropped.

@@ -1,6 +1,6 @@
 //! The command `settle`.
 
-ghost use Rattle.std.specs.Prelude.{◌≡◌, ◌++◌, map, decimal, IfOk, OnOk};
+ghost use Rattle.std.specs.Prelude.{◌≡◌, ◌++◌, map, IfOk, OnOk};
 ghost use Rattle.pop_lines.specs.Lines.{lines_of, ended};
 ghost use Rattle.pop_net.specs.Lanes.{crowd_of, AreValid};
 ghost use Rattle.pop_journal.specs.Journal.{text_of};
@@ -18,19 +18,11 @@ use pop_checker::{Checked, check};
 use pop_crowd::Crowd;
 use pop_io::NoMemory;
 use pop_journal::{Last, push_last_line};
-use pop_lines::push_number;
+use pop_lines::push_field;
 use pop_net::Net;
 use pop_settle::{SettleFault, Settled, Take};
 use std::alloc::{AllocError, Global};
 use tool_texts::{Ending, Output, Refusal, Stop, just_two_lines};
-
-/// Adds a text, and a number in decimal digits.
-fn push_field(text: &mut Vec<u8>, name: &str, number: u64) -> Result<(), AllocError>
-    ensures { OnOk result (text.new.items ≡ text.old.items ++ (name.now ++ decimal number)) }
-{
-    text.extend_from_slice(name.as_bytes())?;
-    push_number(text, number)
-}
 
 fn push_take(text: &mut Vec<u8>, take: Take) -> Result<(), AllocError>
     ensures { OnOk result (text.new.items ≡ text.old.items ++ ended (take_line take)) }

@@ -7,7 +7,7 @@ ghost use Rattle.tool_texts.specs.Steps.{GivesStep};
 ghost use Rattle.tool_commands.specs.Start.{net_in, fitting_in, start_in, IsStart};
 
 use crate::eval::counts_in;
-use net_json::{FormatFault, read_net};
+use net_json::read_net;
 use pop_crowd::{Crowd, CrowdFault};
 use pop_io::List;
 use pop_net::Net;
@@ -22,11 +22,8 @@ fn net_of(alloc: Global, value: &Option<Value>) -> Result<Net, Stop>
     let Some(value) = value else {
         return Err(Stop::Refused(Refusal::NotJson));
     };
-    match read_net(alloc, value) {
-        Ok(net) => Ok(net),
-        Err(FormatFault::Broken { path, why }) => Err(Stop::Refused(Refusal::Format(path, why))),
-        Err(FormatFault::NoMemory) => Err(Stop::NoMemory),
-    }
+    let net = read_net(alloc, value)?;
+    Ok(net)
 }
 
 /// How a net starts: the counts of a crowd line, and the crowd that has them.

@@ -1,6 +1,9 @@
 -- The steps of a command: each gives a value, or the refusal of the input.
 use Rattle.std.specs.Prelude.{◌≡◌, Result, Ok, Err}
+use Rattle.json_shape.specs.declared.fault.FormatFault.{FormatFault}
+use Rattle.json_shape.specs.declared.fault.FormatFault.TheVariants.{Broken, NoMemory as OutOfMemory}
 use Rattle.tool_texts.specs.declared.refusal.Refusal.{Refusal}
+use Rattle.tool_texts.specs.declared.refusal.Refusal.TheVariants.{Format}
 use Rattle.tool_texts.specs.declared.stop.Stop.{Stop}
 use Rattle.tool_texts.specs.declared.stop.Stop.TheVariants.{Refused, NoMemory}
 
@@ -34,3 +37,8 @@ MayStop rule (Refused r) = rule (Err r)
 abbrev pub Obeys : {A B : Type 0} → (Result B Refusal → Type 0) → (A → B) → Result A Stop → Type 0
 Obeys rule view (Ok x) = rule (Ok (view x))
 Obeys rule view (Err stop) = MayStop rule stop
+
+-- a file that breaks a rule is refused
+abbrev pub stop_of : FormatFault → Stop
+stop_of (Broken path why) = Refused (Format path why)
+stop_of OutOfMemory = NoMemory

@@ -4,6 +4,7 @@ ghost use Rattle.std.specs.Prelude.{◌≡◌};
 ghost use Rattle.tool_texts.specs.declared.stop.Stop.TheVariants.{NoMemory as OutOfMemory};
 
 use crate::refusal::Refusal;
+use json_shape::FormatFault;
 use pop_io::NoMemory;
 use std::alloc::{AllocError, AllocFailed};
 
@@ -36,5 +37,18 @@ impl From<NoMemory> for Stop {
 
     fn from(_e: NoMemory) -> Stop {
         Stop::NoMemory
+    }
+}
+
+impl From<FormatFault> for Stop {
+    ghost use Rattle.tool_texts.specs.Steps.{stop_of};
+
+    ghost from_gives = { λ fault stop. stop ≡ stop_of fault };
+
+    fn from(fault: FormatFault) -> Stop {
+        match fault {
+            FormatFault::Broken { path, why } => Stop::Refused(Refusal::Format(path, why)),
+            FormatFault::NoMemory => Stop::NoMemory,
+        }
     }
 }
