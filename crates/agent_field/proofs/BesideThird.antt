@@ -1,9 +1,8 @@
 -- Draws beside a third agent.
-use Rattle.std.proofs.Common.{◌≡◌, ◌≢◌, ◌⊎◌, ℕ, ◌<◌, ◌≤◌, min, max, Bool, true, false, eqb, arith, subst, refl, inl, inr, ⊎_elim, ◌∷◌}
+use Rattle.std.proofs.Common.{◌≡◌, ◌⊎◌, ℕ, ◌<◌, ◌≤◌, min, max, Bool, true, false, eqb, arith, subst, refl, inl, inr, ⊎_elim, ◌∷◌}
 use Rattle.std.proofs.lemmas.Bool.{cases_lt}
-use Rattle.agent_field.specs.declared.view.Setup.{Setup}
 use Rattle.agent_field.specs.Standing.{In, shard_of, pair_locks}
-use Rattle.agent_field.specs.Steps.{MayDraw, without}
+use Rattle.agent_field.specs.Steps.{without}
 use Rattle.agent_field.specs.DrawLaws.{DrawLaws}
 use Rattle.agent_field.proofs.Without.{in_without_back}
 

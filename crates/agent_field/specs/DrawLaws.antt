@@ -1,5 +1,5 @@
 -- Draws beside a third agent.
-use Rattle.std.specs.Prelude.{◌≡◌, ◌≢◌, ◌⊎◌, ℕ}
+use Rattle.std.specs.Prelude.{◌≢◌, ℕ}
 use Rattle.pop_net.specs.declared.net.Word.{Word}
 use Rattle.agent_field.specs.declared.view.Setup.{Setup}
 use Rattle.agent_field.specs.declared.view.View.{View}

@@ -12,7 +12,7 @@ use Rattle.agent_field.specs.declared.limits.TheConstants.{SEAT_LIMIT}
 use Rattle.agent_field.specs.declared.view.Setup.{Setup}
 use Rattle.agent_field.specs.declared.view.View.{View}
 use Rattle.agent_field.specs.History.{made}
-use Rattle.agent_field.specs.Standing.{In, agents_opened, lock_at, agent_at, agent_word, shard_of, crowd_after}
+use Rattle.agent_field.specs.Standing.{In, lock_at, agent_at, agent_word, crowd_after}
 use Rattle.agent_field.specs.Standing.{founder, joined_away, opening_words, IsUnfounded, StandsAt, Stands}
 use Rattle.agent_field.specs.Steps.{CanLock, CanUnlock, CanRead, MayDraw, HasSeenAll}
 use Rattle.agent_field.specs.Steps.{first_seat, holding, releasing, knowing, meeting_made, writing, kept_back}

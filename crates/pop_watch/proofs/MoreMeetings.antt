@@ -5,6 +5,8 @@ use Rattle.std.proofs.lemmas.List.{append-nil, map-append}
 use Rattle.std.proofs.lemmas.List.Elements.{All-nil, All-cons, All-append, filter-append}
 use Rattle.pop_net.specs.NetModel.{NetModel, CrowdModel}
 use Rattle.pop_net.specs.Reaction.{after_meeting}
+use Rattle.pop_net.specs.Lanes.{crowd_of}
+use Rattle.pop_net.specs.declared.net.Word.{Word}
 use Rattle.pop_crowd.specs.declared.crowd.Meeting.{Meeting}
 use Rattle.pop_crowd.specs.Replay.{replay, changes, AreMarked}
 use Rattle.pop_crowd.proofs.InARow.{replay_append}
@@ -84,6 +86,14 @@ has_more_on w turns more p q r h k v =
 
 pub goes_on_none : (net : NetModel) (p : RoundEnd) → KeepsPlaying net p p
 goes_on_none net p = record { more = λ start first h. h; pickers = refl; agents = refl }
+
+-- what stands there is the same
+pub keeps_same : (net : NetModel) (p q : RoundEnd) → q.crowd ≡ p.crowd → q.pickers.items ≡ p.pickers.items → q.meetings.items ≡ p.meetings.items → KeepsPlaying net p q
+keeps_same net p q crowd pickers meetings = record {
+  more = λ start first is. subst (λ (t : List Word × List (List ℕ) × List Meeting). ArePlaying net start (length p.pickers.items) first t.1 t.2 (crowd_of net t.0)) (λ i. (sym crowd i, sym pickers i, sym meetings i)) is;
+  pickers = ap (length {A = List ℕ}) pickers;
+  agents = ap (length {A = Word}) crowd;
+}
 
 pub goes_on_more : (net : NetModel) (p q r : RoundEnd) → KeepsPlaying net p q → KeepsPlaying net q r → KeepsPlaying net p r
 goes_on_more net p q r h k =

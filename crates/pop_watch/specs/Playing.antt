@@ -1,5 +1,5 @@
 -- A round on its way: each worker has made some of its next picks.
-use Rattle.std.specs.Prelude.{◌≡◌, ◌⊎◌, ℕ, ◌+◌, ◌-◌, ◌<◌, ◌≤◌, ◌==◌, if◌then◌else◌, List, length, All, slice_index_or}
+use Rattle.std.specs.Prelude.{◌≡◌, ◌⊎◌, ℕ, ◌+◌, ◌-◌, ◌<◌, ◌≤◌, ◌==◌, if◌then◌else◌, List, length, All, slice_index_or, vec_capacity}
 use Rattle.pop_net.specs.NetModel.{NetModel, CrowdModel}
 use Rattle.pop_net.specs.Step.{Step}
 use Rattle.pop_net.specs.Terminal.{IsTerminal}
@@ -40,6 +40,14 @@ pub record KeepsPlaying (net : NetModel) (before after : RoundEnd) : Type 0 wher
 abbrev pub HasMore : ℕ → ℕ → RoundEnd → RoundEnd → Type 0
 HasMore worker turns before after =
     (v : ℕ) → made_by v after.meetings.items ≡ made_by v before.meetings.items + (if v == worker then turns else 0)
+
+-- one worker has made so many more meetings, nobody else any, and the list of meetings has taken no memory
+pub record HasPlayedOn (net : NetModel) (worker turns : ℕ) (before after : RoundEnd) : Type 0 where
+  pub goes_on : KeepsPlaying net before after
+  pub more : HasMore worker turns before after
+  pub valid : AreValid net after.crowd
+  pub made : length after.meetings.items ≡ length before.meetings.items + turns
+  pub room : vec_capacity after.meetings ≡ vec_capacity before.meetings
 
 -- every worker has made its turns
 abbrev pub AreAllMade : ℕ → ℕ → List Meeting → Type 0

@@ -1,4 +1,4 @@
-use Rattle.std.proofs.Common.{◌≡◌, ℕ, suc, ◌+◌, ◌<◌, ◌≤◌, Bool, false, get_or, List, [], ◌∷◌, ◌++◌, length, map, take, drop, sym, ap, ◌∙◌, subst, arith, rules}
+use Rattle.std.proofs.Common.{◌≡◌, ℕ, suc, ◌+◌, ◌<◌, ◌≤◌, Bool, false, List, [], ◌∷◌, ◌++◌, length, map, sym, ap, ◌∙◌, subst, arith, rules}
 use Rattle.std.specs.Prelude.{All}
 use Rattle.std.proofs.lemmas.List.{length-map}
 use Rattle.pop_net.specs.declared.net.Word.{Word}
@@ -8,7 +8,7 @@ use Rattle.pop_crowd.specs.declared.crowd.Meeting.{Meeting}
 use Rattle.agent_field.specs.Seats.{net_of, opening_of, seats_of, log_of}
 use Rattle.pair_workers.specs.declared.work.Worker.{Worker}
 use Rattle.pair_workers.specs.Turns.{HasPicked, ArePlayed}
-use Rattle.pair_workers.specs.Work.{MayWork, HasWorked, AreDone, HasAll, agents_of_field, pairs_of}
+use Rattle.pair_workers.specs.Work.{MayWork, AreDone, HasAll, agents_of_field, pairs_of}
 use Rattle.pair_workers.proofs.FieldRounds.{front, whole_written, are_done, all_picked, are_played, as_long}
 use Rattle.pair_workers.proofs.round.field_round.Goals as goal
 

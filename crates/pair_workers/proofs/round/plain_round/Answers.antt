@@ -1,4 +1,4 @@
-use Rattle.std.proofs.Common.{◌≡◌, ℕ, ◌<◌, List, length, arith, ◌∙◌, rules}
+use Rattle.std.proofs.Common.{◌<◌, length, arith, ◌∙◌, rules}
 use Rattle.std.proofs.lemmas.List.{get_or_default}
 use Rattle.pop_net.specs.Lanes.{crowd_of}
 use Rattle.pair_workers.proofs.ManyRounds.{alone_played}

@@ -1,16 +1,21 @@
-use Rattle.std.proofs.Common.{◌≡◌, ℕ, ◌+◌, ◌-◌, ◌<◌, ◌≤◌, length, get_or, refl, ap, ◌∙◌, arith, rules, ⊎_elim}
+use Rattle.std.proofs.Common.{◌≡◌, ℕ, suc, ◌+◌, ◌*◌, ◌-◌, ◌<◌, ◌≤◌, length, get_or, refl, ap, sym, subst, ◌∙◌, arith, rules, ⊎_elim}
 use Rattle.std.proofs.lemmas.Bool.{cases_eq}
+use Rattle.std.proofs.Math.Nat.{mul-le-mul_right, suc-mul}
 use Rattle.pair_workers.specs.Run.{made_by}
-use Rattle.pop_watch.proofs.MoreMeetings.{goes_on_none, goes_on_more, has_mine, has_others}
+use Rattle.pop_watch.proofs.MoreMeetings.{keeps_same, goes_on_more, has_mine, has_others}
 use Rattle.pop_watch.proofs.missing.make_missing.Goals as goal
 
 pub workers-init : goal.workers-init
 workers-init c =
+    let first = c.args.played.now in
+    let r = c.in_ok-reserve.ensures in
     record {
-      goes_on = goes_on_none c.args.net.now c.args.played.now;
+      goes_on = keeps_same c.args.net.now first _ refl refl r.items;
       whole = λ w l. absurd (omega (arith, l));
-      rest = λ w l. refl;
+      rest = λ w l. ap (made_by w) r.items;
       valid = c.requires.valid;
+      count = let n = ap length r.items in omega (arith, n);
+      room = search rules;
     }
 
 pub workers-preserved : goal.workers-preserved
@@ -21,7 +26,7 @@ workers-preserved c =
     let first = c.args.played.now in
     let at = c.workers.worker in
     let turns = c.args.turns in
-    let one = c.in_ok-make_turns.ensures in
+    let one = c.make_turns.ensures in
     let within : at < length c.args.made.now = search rules in
     let missing = turns - get_or c.args.made.now at 0 in
     let made : get_or c.args.made.now at 0 ≡ made_by at first.meetings.items = c.requires.made at 0 within in
@@ -38,4 +43,21 @@ workers-preserved c =
           let apart : w ≡ at → ⊥ = (λ e. omega (arith, l, e)) in
           has_others at missing w now next apart one.more ∙ was.rest w (omega (arith, l));
       valid = one.valid;
+      count = let n = was.count in let more = one.made in let sum : (at + 1) * turns ≡ at * turns + turns = ap (λ (k : ℕ). k * turns) (let e : at + 1 ≡ suc at = omega arith in e) ∙ suc-mul at turns in omega (arith, n, more, sum, made, fits);
+      room = subst (λ (n : ℕ). length first.meetings.items + length c.args.made.now * turns ≤ n) (sym one.room) was.room;
     }
+
+pub make_turns-requires-clause-room : goal.make_turns-requires-clause-room
+make_turns-requires-clause-room c =
+    let was = c.workers.invariant in
+    let at = c.workers.worker in
+    let turns = c.args.turns in
+    let within : at + 1 ≤ length c.args.made.now = search rules in
+    let sum : (at + 1) * turns ≡ at * turns + turns = ap (λ (k : ℕ). k * turns) (let e : at + 1 ≡ suc at = omega arith in e) ∙ suc-mul at turns in
+    let all : (at + 1) * turns ≤ length c.args.made.now * turns = mul-le-mul_right turns within in
+    let n = was.count in
+    let r = was.room in
+    omega (arith, n, r, all, sum)
+
+pub returns-clause-goes_on : goal.returns-clause-goes_on
+returns-clause-goes_on c = c.workers.invariant.goes_on

@@ -1,4 +1,4 @@
-use Rattle.std.proofs.Common.{◌≡◌, ℕ, Bool, List, [], ◌∷◌, rules, refl, inl, sym, ap, ◌∙◌, subst}
+use Rattle.std.proofs.Common.{◌≡◌, ℕ, Bool, List, rules, refl, inl, sym, ap, ◌∙◌, subst}
 use Rattle.pop_net.specs.declared.net.Word.{Word}
 use Rattle.pop_net.specs.NetModel.{NetModel}
 use Rattle.pop_net.specs.Lanes.{tuple_of}
