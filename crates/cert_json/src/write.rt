@@ -1,6 +1,6 @@
 //! Writing a proof as a JSON value.
 
-ghost use Rattle.std.specs.Prelude.{◌≡◌, ◌≤◌, ℕ, All, map, take, length, IfOk, Ok, Some};
+ghost use Rattle.std.specs.Prelude.{◌≡◌, All, map, length, IfOk, Ok, Some};
 ghost use Rattle.serde_json.specs.Data.{Data, string};
 ghost use Rattle.serde_json.specs.View.{view};
 ghost use Rattle.serde_json.specs.Find.{get};

@@ -1,6 +1,6 @@
 //! Writing nodes as JSON values.
 
-ghost use Rattle.std.specs.Prelude.{◌≡◌, [], ◌∷◌, map, take, IfOk};
+ghost use Rattle.std.specs.Prelude.{◌≡◌, [], ◌∷◌, map, IfOk};
 ghost use Rattle.serde_json.specs.Data.{string};
 ghost use Rattle.serde_json.specs.View.{view};
 ghost use Rattle.net_json.specs.Written.{numbers_data};

@@ -1,6 +1,6 @@
 //! The parts of a leaf's object.
 
-ghost use Rattle.std.specs.Prelude.{◌≡◌, ◌-◌, ◌<◌, ◌≤◌, ◌^◌, codes, length, IfOk};
+ghost use Rattle.std.specs.Prelude.{◌-◌, ◌≤◌, codes};
 ghost use Rattle.serde_json.specs.View.{view};
 ghost use Rattle.json_shape.specs.Faults.{GivesRead};
 ghost use Rattle.json_shape.specs.Paths.{path_text};

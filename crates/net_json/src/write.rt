@@ -1,7 +1,7 @@
 //! Writing a net as a JSON value.
 
-ghost use Rattle.std.specs.Prelude.{◌≡◌, [], codes, map, take, length, if◌then◌else◌, IfOk, Ok};
-ghost use Rattle.serde_json.specs.Data.{string, member, no_members};
+ghost use Rattle.std.specs.Prelude.{◌≡◌, [], codes, map, if◌then◌else◌, IfOk, Ok};
+ghost use Rattle.serde_json.specs.Data.{member, no_members};
 ghost use Rattle.serde_json.specs.View.{view, members_view};
 ghost use Rattle.pop_net.specs.NetModel.{IsNet};
 ghost use Rattle.net_json.specs.Examined.{net_at};

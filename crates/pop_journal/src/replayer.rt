@@ -5,7 +5,6 @@ ghost use Rattle.pop_net.specs.NetModel.{CrowdModel};
 ghost use Rattle.pop_net.specs.Lanes.{crowd_of, AreValid};
 ghost use Rattle.pop_crowd.specs.Replay.{AreMeetings};
 ghost use Rattle.pair_workers.specs.CrowdSize.{IsCrowdSize};
-ghost use Rattle.pair_workers.specs.Picks.{first_state, words_from};
 ghost use Rattle.pop_lines.specs.Lines.{lines_of, ended};
 ghost use Rattle.pop_crowd.specs.Tally.{crowd_lines};
 ghost use Rattle.pop_journal.specs.Journal.{meeting_line, round_line, last_line};
@@ -69,13 +68,13 @@ fn differs(
 }
 
 impl Replayer {
-    ghost use Rattle.std.specs.Prelude.{◌≡◌, ◌∷◌, [], ◌++◌, ◌+◌, ◌<◌, ◌≤◌, ◌^◌, length, List, All, IfOk, IfSome, OnOk};
+    ghost use Rattle.std.specs.Prelude.{◌≡◌, ◌∷◌, [], ◌++◌, ◌+◌, ◌<◌, ◌≤◌, ◌^◌, length, List, All, IfOk, IfSome};
     ghost use Rattle.pop_net.specs.NetModel.{CrowdModel};
-    ghost use Rattle.pop_net.specs.Lanes.{crowd_of, AreValid};
+    ghost use Rattle.pop_net.specs.Lanes.{AreValid};
     ghost use Rattle.pop_crowd.specs.Replay.{AreMeetings};
     ghost use Rattle.pop_crowd.specs.declared.crowd.Meeting.{Meeting};
     ghost use Rattle.pop_words.specs.declared.spec.RunSpec.{RunSpec};
-    ghost use Rattle.pop_journal.specs.Ending.{is_terminal, ending_of};
+    ghost use Rattle.pop_journal.specs.Ending.{ending_of};
     ghost use Rattle.pair_workers.specs.Run.{turns_in};
     ghost use Rattle.pop_journal.specs.Journal.{round_line};
     ghost use Rattle.std.specs.Prelude.{codes};

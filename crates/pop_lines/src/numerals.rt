@@ -1,6 +1,6 @@
 //! Numbers printed in decimal digits many times over, at places of a buffer.
 
-ghost use Rattle.std.specs.Prelude.{◌≡◌, ℕ, ◌+◌, ◌^◌, ◌<◌, ◌≤◌, ◌∷◌, [], List, length, slice_index_or, decimal, IfOk};
+ghost use Rattle.std.specs.Prelude.{◌≡◌, ℕ, ◌+◌, ◌<◌, ◌≤◌, ◌∷◌, [], List, length, slice_index_or, decimal};
 ghost use Rattle.pop_lines.specs.Places.{Placed};
 
 use itoa::Buffer;

@@ -1,11 +1,10 @@
 //! The crowd line.
 
-ghost use Rattle.std.specs.Prelude.{◌≡◌, ◌≤◌, ◌+◌, ℕ, true, Option, None, Some, length, map, option_map, position};
+ghost use Rattle.std.specs.Prelude.{◌≡◌, ◌≤◌, ◌+◌, true, None, Some, length, map};
 ghost use Rattle.std.specs.Prelude.{unwrap_or, IfOk, IfErr, MatchBool, false};
-ghost use Rattle.std.specs.Str.{bytes_eq};
 ghost use Rattle.std.specs.Option.{option_copied};
 ghost use Rattle.pop_words.specs.Vars.{AreVariables};
-ghost use Rattle.pop_words.specs.Counts.{split_once, entry_of, with_entry, with_word, with_words, counts_of, Counted};
+ghost use Rattle.pop_words.specs.Counts.{with_word, with_words, counts_of, Counted};
 ghost use Rattle.pop_words.specs.Walk.{words_behind, without_count};
 
 use pop_io::{List, Text, VARIABLE_LIMIT, place_of};

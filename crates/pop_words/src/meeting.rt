@@ -1,8 +1,8 @@
 //! The meeting line.
 
-ghost use Rattle.std.specs.Prelude.{◌≡◌, ◌≢◌, ◌<◌, IfOk, option_map};
+ghost use Rattle.std.specs.Prelude.{◌≡◌, ◌≢◌, ◌<◌, IfOk};
 ghost use Rattle.pop_lines.specs.Lines.{pieces};
-ghost use Rattle.pop_words.specs.Meetings.{meeting_of, two_agents_of, pair_of};
+ghost use Rattle.pop_words.specs.Meetings.{meeting_of, pair_of};
 
 use pop_lines::{cut, number};
 

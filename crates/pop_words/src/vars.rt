@@ -1,7 +1,7 @@
 //! The vars line.
 
-ghost use Rattle.std.specs.Prelude.{◌≡◌, ◌∷◌, ◌++◌, [], Bool, true, false, nat_le, nat_lt, not, ◌&&◌, length, IfOk};
-ghost use Rattle.std.specs.Prelude.{OnOk, Ok, Err, Option, MatchOption};
+ghost use Rattle.std.specs.Prelude.{◌≡◌, true, false, ◌&&◌, IfOk};
+ghost use Rattle.std.specs.Prelude.{Ok, Err, MatchOption};
 ghost use Rattle.std.specs.Option.{option_copied};
 ghost use Rattle.pop_io.specs.Names.{variable_name};
 ghost use Rattle.pop_words.specs.Vars.{vars_of, Named, AreVariables};

@@ -1,6 +1,6 @@
 //! The trees of atoms.
 
-ghost use Rattle.std.specs.Prelude.{◌≡◌, ◌≤◌, ◌^◌, ◌-◌, All, nat_abs, map, neg_ℤ, pos, ◌+ℤ◌, IfOk};
+ghost use Rattle.std.specs.Prelude.{◌≡◌, ◌≤◌, ◌-◌, All, nat_abs, map, neg_ℤ, pos, ◌+ℤ◌, IfOk};
 ghost use Rattle.pres_ast.specs.PredTree.{LessThan};
 ghost use Rattle.pres_ast.specs.TreeOf.{tree_of};
 ghost use Rattle.pres_read.specs.Atoms.{negation_if, equality_tree, compared_tree, congruent_tree, limit_of};

@@ -1,9 +1,8 @@
 //! Printing a predicate.
 
-ghost use Rattle.std.specs.Prelude.{◌≡◌, ◌≤◌, ◌<◌, ◌^◌, ◌++◌, Ok, IfOk, OnOk, length, nat_abs, decimal, string_bytes};
+ghost use Rattle.std.specs.Prelude.{◌≡◌, ◌<◌, ◌++◌, Ok, IfOk, OnOk, length, decimal, string_bytes};
 ghost use Rattle.std.specs.Prelude.{codes, true};
 ghost use Rattle.std.specs.List.{list_all};
-ghost use Rattle.std.specs.Fmt.{signed_decimal};
 ghost use Rattle.pop_io.specs.Names.{variable_name, AreNames};
 ghost use Rattle.pres_ast.specs.PredTree.{LessThan, Congruent};
 ghost use Rattle.pres_ast.specs.PredModel.{HasAtoms, IsPred};
