@@ -14,3 +14,5 @@ mod leaves;
 mod nets;
 #[cfg(test)]
 mod parts;
+#[cfg(test)]
+mod tables;
