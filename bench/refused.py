@@ -16,7 +16,7 @@ import tempfile
 
 TOP = os.path.dirname(os.path.dirname(os.path.abspath(__file__)))
 PROGRAM = sys.argv[1] if len(sys.argv) > 1 else os.path.join(TOP, "crates/pop_main/out/pop_main")
-TESTS = os.path.join(TOP, "crates/worker_rows/out/worker_rows_tests")
+TESTS = os.path.join(TOP, "crates/run_tests/out/run_tests_tests")
 FIELD_TEST = "refusals::a_refusal_leaves_the_seats"
 EXAMPLES = os.path.join(TOP, "examples")
 OUT_OF_MEMORY = 8

@@ -30,11 +30,3 @@ one_more items i later whole t0 t1 t2 less is so_far comma item =
 
     positive : nat_lt 0 (i + 1) ≡ true
     positive = search rules
-
-pub finished : (items : List Data) (i : ℕ) (whole t0 new : List ℕ) → length items ≤ i → t0 ++ left_of items i ≡ whole → new ≡ t0 ++ 93 ∷ [] → new ≡ whole
-finished items i whole t0 new past so_far is =
-    is ∙ ap (λ (ds : List Data). t0 ++ items_text (nat_lt 0 i) (items_of ds)) (sym (drop_all i items past)) ∙ so_far
-
--- an item of a list of values
-pub item_is : {A : Type 0} (f : A → Data) (xs : List A) (i : ℕ) (x : A) → slice_get xs i ≡ Some x → get_or (map f xs) i null ≡ f x
-item_is f xs i x is = get_or_from_slice_get (map f xs) i (f x) null (slice_get-map f xs i ∙ ap (option_map f) is)

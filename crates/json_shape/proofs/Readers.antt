@@ -73,18 +73,6 @@ object_at-again path name (object ms) e has = refl
 pub member_at-takes : (path name : List ℕ) (d e : Data) → member_at path name d ≡ Ok e → get name d ≡ Some e
 member_at-takes path name d e is = kind_takes (member_path path name) (get name d) e is
 
-module _ {A : Type 0} (path name : List ℕ) (read : List ℕ → Data → Result A Fault) (Is : Data → Type 0) (d : Data) (x : A) where
-  pub member_by-takes : ((e : Data) → read (member_path path name) e ≡ Ok x → Is e) → member_by path name read d ≡ Ok x → HasMember name Is d
-  member_by-takes takes e =
-      let a = bind_ok (member_at path name d) (λ v. read (member_path path name) v) x e in
-      (a.0, kind_takes (member_path path name) (get name d) a.0 a.1, takes a.0 a.2)
-
-  pub member_by-goes : (e : Data) → member_at path name d ≡ Ok e → read (member_path path name) e ≡ Ok x → member_by path name read d ≡ Ok x
-  member_by-goes e is goes = rw is goes
-
-  pub member_by-again : HasMember name Is d → ((e : Data) → Is e → read (member_path path name) e ≡ Ok x) → member_by path name read d ≡ Ok x
-  member_by-again has again = rw has.1 (again has.0 has.2)
-
 -- each element has the property, given those before it
 abbrev pub EachFrom : {A : Type 0} → (List A → A → Type 0) → List A → List A → Type 0
 EachFrom P found [] = Unit {0}

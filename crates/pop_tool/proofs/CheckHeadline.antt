@@ -39,9 +39,6 @@ not_rejection : (rejected : Rejected) (k : ℕ) → ended (rejected_text rejecte
 unfolding first_byte
 not_rejection rejected k e = let b : 114 ≡ 99 = sym (rejection_begins rejected) ∙ ap first_byte e in absurd (omega (arith, b))
 
-done : (text : List ℕ) (output : Output) → text ≡ output.text → output.ending ≡ ending.Done → (text ≡ output.text) × (status_of output.ending ≡ Done)
-done text output is ends = (is, ap status_of ends)
-
 module _ (text : List ℕ) (bundle : Bundle) where
   judged_says : (value : Data) → IsBundleFile bundle value → (judged : Option Rejected) → IsJudged bundle judged → text ≡ (judgement bundle judged).text
       → CheckSays bundle text (status_of (judgement bundle judged).ending)

@@ -187,10 +187,6 @@ limits_if : (r : Result Command Usage) → IfOk r AreBounded → IfOk r HasLimit
 limits_if (Ok command) is = bounded_limits command is
 limits_if (Err usage) is = tt
 
--- whatever words mean, the numbers are within their limits
-pub meaning_limits : (words : List (List ℕ)) → IfOk (meaning_of words) HasLimits
-meaning_limits words = limits_if (meaning_of words) (meaning_bounded words)
-
 of_kind : (kind : RunKind) (spec : RunSpec) → AreBounded (run_command kind spec) → IsBounded kind spec
 of_kind Whole spec is = is
 of_kind Watched spec is = is

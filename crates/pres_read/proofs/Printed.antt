@@ -103,10 +103,6 @@ lex-extended (Some sum) negative term text ss e =
     ap (λ us. sum_symbols sum ++ us) (lex-later_sign negative text ∙ ap (λ us. plus_or_minus negative ∷ us) e)
     ∙ sym (append_assoc (sum_symbols sum) (plus_or_minus negative ∷ term_symbols term) ss)
 
-stops_sign : (negative : Bool) (text : List ℕ) → Stops (sign_text false negative ++ text)
-stops_sign false text = refl
-stops_sign true text = refl
-
 stops_if : (c negative : Bool) (name rest others : List ℕ) (k : ℕ) → Stops (others ++ rest)
     → Stops ((if c then others else (sign_text false negative ++ term_text k name ++ others)) ++ rest)
 stops_if true negative name rest others k h = h

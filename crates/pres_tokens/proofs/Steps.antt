@@ -12,12 +12,6 @@ tokens-skip (suc k) place (b ∷ bytes) =
 past_blank : (b place : ℕ) (bytes : List ℕ) → is_blank_byte b ≡ true → tokens_from 0 place (b ∷ bytes) ≡ tokens_from 0 (place + 1) bytes
 past_blank b place bytes e = rw e refl
 
--- a blank is passed over
-pub tokens-blank : (text : List ℕ) (at : ℕ) → at < length text → is_blank_byte (get_or text at 0) ≡ true
-    → tokens_from 0 at (drop at text) ≡ tokens_from 0 (at + 1) (drop (at + 1) text)
-tokens-blank text at h e =
-    ap (tokens_from 0 at) (drop_more text at 0 h) ∙ past_blank (get_or text at 0) at (drop (at + 1) text) e
-
 token_first : (b place : ℕ) (bytes : List ℕ) → is_blank_byte b ≡ false
     → tokens_from 0 place (b ∷ bytes) ≡ record { place = place; symbol = (first_symbol (b ∷ bytes)).0 } ∷ tokens_from ((first_symbol (b ∷ bytes)).1 - 1) (place + 1) bytes
 token_first b place bytes e = rw e refl

@@ -1,4 +1,4 @@
-//! Tests of nets and crowds that no row of `worked_rows` can hold: what is written, words, parts and reactions, the
+//! Tests of nets and crowds that no row of `row_tests` can hold: what is written, words, parts and reactions, the
 //! faults of calls.
 //! It stands on the crates that it tests, and has no code but tests.
 //! Nothing stands above it.
@@ -14,3 +14,5 @@ mod leaves;
 mod nets;
 #[cfg(test)]
 mod parts;
+#[cfg(test)]
+mod tables;

@@ -1,11 +1,11 @@
-//! Tests of lines, numbers, streams and predicates that no row of `worked_rows` can hold.
+//! Tests of written proofs, sums of facts and built leaves that no row of `row_tests` can hold.
 //! It stands on the crates that it tests, and has no code but tests.
 //! Nothing stands above it.
 #![tactic(auto)]
 
 #[cfg(test)]
-mod lines;
+mod sums;
 #[cfg(test)]
-mod predicates;
+mod threshold_sizes;
 #[cfg(test)]
-mod streams;
+mod written_proofs;

@@ -1,6 +1,6 @@
 use Rattle.std.proofs.lemmas.List.Elements.{All-push}
 use Rattle.cert_linear.specs.Conditions.{IsOrdered}
-use Rattle.cert_rows.proofs.sum_rows.facts.Goals as goal
+use Rattle.proof_tests.proofs.sums.facts.Goals as goal
 
 pub loop-kind-preserved : goal.loop-kind-preserved
 loop-kind-preserved c = record {

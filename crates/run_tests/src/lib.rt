@@ -1,11 +1,12 @@
-//! Tests of the shared field and of runs on threads that no row of `worked_rows` can hold: gates, seats, the words of
-//! all agents.
+//! Tests of the shared field, of runs on threads and of journals that no row of `row_tests` can hold.
 //! It stands on the crates that it tests, and has no code but tests.
 //! Nothing stands above it.
 #![tactic(auto)]
 
 #[cfg(test)]
 mod fields;
+#[cfg(test)]
+mod journals;
 #[cfg(test)]
 mod refusals;
 #[cfg(test)]

@@ -1,7 +1,0 @@
-//! A test of the compiler's crates that no row of `worked_rows` can hold.
-//! It stands on the crates that it tests, and has no code but tests.
-//! Nothing stands above it.
-#![tactic(auto)]
-
-#[cfg(test)]
-mod threshold_rows;
