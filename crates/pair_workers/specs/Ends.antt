@@ -28,7 +28,8 @@ abbrev pub IsEndOf : NetModel → CrowdModel → End → Type 0
 IsEndOf net crowd Terminal = IsTerminal (Step net) crowd
 IsEndOf net crowd (Open a b) = IsLeastPair net crowd a b × (IsTerminal (Step net) crowd → ⊥)
 
--- why a run ended in this crowd after so many rounds: the crowd is terminal; or the turns are spent and this pair of agents is the least that can change
+-- why a run ended in this crowd after so many rounds: the crowd is terminal; or the turns are spent and this pair of
+-- agents is the least that can change
 abbrev pub EndsBy : NetModel → CrowdModel → RunSpec → ℕ → End → Type 0
 EndsBy net crowd spec rounds Terminal = IsTerminal (Step net) crowd
 EndsBy net crowd spec rounds (Open a b) =
