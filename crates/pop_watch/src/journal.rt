@@ -1,19 +1,11 @@
 //! Journals of watched runs.
 
-ghost use Rattle.std.specs.Prelude.{◌≡◌, ◌+◌, ◌≤◌, ◌∷◌, ◌++◌, length, codes, IfOk, IfErr};
+ghost use Rattle.std.specs.Prelude.{◌≡◌, ◌≤◌, IfOk};
 ghost use Rattle.pop_net.specs.Lanes.{crowd_of, AreValid};
 ghost use Rattle.pop_lines.specs.Lines.{lines_of};
-ghost use Rattle.pop_words.specs.Kinds.{most_workers_of};
-ghost use Rattle.pop_words.specs.Options.{IsWithinLimits};
 ghost use Rattle.pop_words.specs.declared.kind.RunKind.TheVariants.{Watched};
-ghost use Rattle.pair_workers.specs.Run.{joined};
-ghost use Rattle.pop_journal.specs.Journal.{run_line, round_lines, journal_text};
-ghost use Rattle.pop_journal.specs.Rounds.{AreRoundsOf};
-ghost use Rattle.pop_journal.specs.ReadLines.{ReadsJournal};
-ghost use Rattle.pop_journal.specs.Expected.{journal_compared, Holds};
-ghost use Rattle.pop_journal.specs.Standing.{Passes};
-ghost use Rattle.pop_journal.specs.declared.fault.VerifyFault.TheVariants.{NoMemory as OutOfMemory};
-ghost use Rattle.pop_watch.specs.Journals.{watched_last};
+ghost use Rattle.pop_journal.specs.Journal.{journal_text};
+ghost use Rattle.pop_watch.specs.Journals.{watched_last, IsWatchedJournal, CanVerifyWatched, IsVerified};
 
 use pair_workers::{End, RunEnd};
 use pop_crowd::Crowd;
@@ -53,18 +45,8 @@ pub fn read_watched(
     first: u64,
     agents: u32,
 ) -> Result<Journal, JournalFault>
-    requires first { first ≤ LINE_LIMIT }
-    ensures read { ReadsJournal Watched agents first (lines_of text.now) result }
-    ensures kind { IfOk result (λ journal. journal.kind ≡ Watched) }
-    ensures first { IfOk result (λ journal. journal.first ≡ first) }
-    ensures limits { IfOk result
-        (λ journal. IsWithinLimits journal.spec × (journal.spec.workers ≤ most_workers_of Watched)) }
-    // The rounds are what `verify_watched` asks for.
-    ensures rounds { IfOk result (λ journal. AreRoundsOf Watched journal.spec agents journal.rounds) }
-    // The lines of the text are those of the journal.
-    ensures spelled { IfOk result
-        (λ journal. lines_of text.now
-        ≡ run_line Watched journal.spec ∷ (round_lines 1 journal.rounds ++ codes "end" ∷ journal.tail)) }
+    requires { first ≤ LINE_LIMIT }
+    ensures { IsWatchedJournal agents first (lines_of text.now) result }
 {
     read_journal(alloc, RunKind::Watched, text, first, agents)
 }
@@ -77,18 +59,8 @@ pub fn verify_watched(
     crowd: Crowd,
     journal: &Journal,
 ) -> Result<u64, VerifyFault>
-    requires valid { AreValid net.now crowd }
-    requires first { journal.now.first ≤ LINE_LIMIT }
-    requires spec { IsWithinLimits journal.now.spec }
-    requires kind { journal.now.kind ≡ Watched }
-    requires rounds { AreRoundsOf Watched journal.now.spec (length crowd) journal.now.rounds }
-    // The first line that isn't the expected one is the refusal.
-    ensures passes { Passes (journal.now.first + 1)
-        (journal_compared net.now (crowd_of net.now crowd) journal.now) result }
-    ensures meetings { IfOk result (λ k. k ≡ length (joined journal.now.rounds)) }
-    // It passes exactly when the rounds are a watched run and the tail has the lines of its end.
-    ensures holds { IfOk result (λ _. Holds net.now (crowd_of net.now crowd) journal.now) }
-    ensures accepts { Holds net.now (crowd_of net.now crowd) journal.now → IfErr result (λ fault. fault ≡ OutOfMemory) }
+    requires { CanVerifyWatched net.now crowd journal.now }
+    ensures { IsVerified net.now (crowd_of net.now crowd) journal.now result }
 {
     verify(alloc, net, crowd, journal)
 }
