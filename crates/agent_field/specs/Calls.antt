@@ -13,8 +13,10 @@ use Rattle.agent_field.specs.declared.field.FieldSeat.{FieldSeat}
 use Rattle.agent_field.specs.declared.field.Met.{Met}
 use Rattle.agent_field.specs.History.{logged}
 use Rattle.agent_field.specs.Steps.{look_of}
-use Rattle.agent_field.specs.Seats.{opening_of, seat_number, log_of, spare_of, next_of, left_of, taken_of, looks_of, spare_looks_of}
-use Rattle.agent_field.specs.Seats.{IsOpened, IsSeatOf, IsFresh, IsNewestOf, IsMoment, IsGlance, KeepsField, KeepsRest, KeepsOwn, KeepsLogs}
+use Rattle.agent_field.specs.Seats.{opening_of, seat_number, log_of, spare_of, next_of, left_of, taken_of, looks_of}
+use Rattle.agent_field.specs.Seats.{spare_looks_of}
+use Rattle.agent_field.specs.Seats.{IsOpened, IsSeatOf, IsFresh, IsNewestOf, IsMoment, IsGlance, KeepsField, KeepsRest}
+use Rattle.agent_field.specs.Seats.{KeepsOwn, KeepsLogs}
 
 -- a field can be opened with these
 pub record CanOpen (net : NetModel) (words : List Word) (shards seats : ℕ) : Type 0 where
@@ -40,7 +42,8 @@ pub record HasSplit (f : Field) (result : Result FieldSeat NoMemory) (before aft
   pub refused : OnErr result ((next_of after ≡ next_of before) × (left_of after ≡ left_of before))
 
 -- number 0 has taken in the other seat's log under its number, or gives the seat back and stays as it was
-pub record HasJoined (f : Field) (other : FieldSeat) (result : Result (Unit {0}) (FieldSeat × NoMemory)) (before after : FieldSeat) : Type 0 where
+pub record HasJoined (f : Field) (other : FieldSeat) (result : Result (Unit {0}) (FieldSeat × NoMemory))
+    (before after : FieldSeat) : Type 0 where
   pub ours : IsSeatOf f after
   pub taken : OnOk result (taken_of after ≡ slice_set (taken_of before) (seat_number other) (Some (log_of other)))
   pub there : OnOk result (slice_index_or (taken_of after) (seat_number other) None ≡ Some (log_of other))
@@ -56,7 +59,8 @@ pub record HasReserved (turns : ℕ) (result : Result (Unit {0}) NoMemory) (befo
   pub field : KeepsField before after
 
 -- the seat has room for so many more looks, or as much as before; all else stays
-pub record HasReservedLooks (f : Field) (count : ℕ) (result : Result (Unit {0}) NoMemory) (before after : FieldSeat) : Type 0 where
+pub record HasReservedLooks (f : Field) (count : ℕ) (result : Result (Unit {0}) NoMemory)
+    (before after : FieldSeat) : Type 0 where
   pub ours : IsSeatOf f after
   pub room : OnOk result (count ≤ spare_looks_of after)
   pub refused : OnErr result (spare_looks_of after ≡ spare_looks_of before)

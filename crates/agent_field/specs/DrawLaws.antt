@@ -8,7 +8,8 @@ use Rattle.agent_field.specs.Steps.{MayDraw, knowing, meeting_made}
 
 pub record DrawLaws : Type 0 where
   -- a draw is also allowed while a third agent's word is known, and that word stays known
-  pub third_known : (k : Setup) (v : View) (a b c ticket : ℕ) (x y x' y' z : Word) → MayDraw k v a b x y x' y' → c ≢ a → c ≢ b
+  pub third_known : (k : Setup) (v : View) (a b c ticket : ℕ) (x y x' y' z : Word) → MayDraw k v a b x y x' y' → c ≢ a
+      → c ≢ b
       → MayDraw k (knowing c z v) a b x y x' y' × In (c, z) (meeting_made ticket a b x y x' y' (knowing c z v)).known
   -- none is allowed while a third agent's shard is held that is no shard of the pair
   pub third_held : (k : Setup) (v : View) (a b c : ℕ) (x y x' y' : Word) → In (shard_of k c) v.held

@@ -1,5 +1,6 @@
 -- The history of a field: its meetings in the order of their tickets. A meeting's ticket is its place.
-use Rattle.std.specs.Prelude.{ℕ, ◌+◌, ◌<◌, Bool, true, false, ◌==◌, List, [], ◌∷◌, length, All, slice_set, Option, Some, None}
+use Rattle.std.specs.Prelude.{ℕ, ◌+◌, ◌<◌, Bool, true, false, ◌==◌, List, [], ◌∷◌, length, All, slice_set, Option, Some}
+use Rattle.std.specs.Prelude.{None}
 use Rattle.pop_net.specs.declared.net.Word.{Word}
 use Rattle.pop_net.specs.NetModel.{NetModel}
 use Rattle.pop_net.specs.Lanes.{crowd_of}
@@ -7,7 +8,8 @@ use Rattle.pop_crowd.specs.declared.crowd.Meeting.{Meeting}
 use Rattle.pop_crowd.specs.Replay.{AreMeetings, AreMarked}
 use Rattle.agent_field.specs.declared.view.Logged.{Logged}
 
--- from these words on, each meeting is of two different agents, by a number below so many, and says rightly whether it changed a tuple
+-- from these words on, each meeting is of two different agents, by a number below so many, and says rightly whether it
+-- changed a tuple
 pub record IsHistory (net : NetModel) (seats : ℕ) (opening : List Word) (history : List Meeting) : Type 0 where
   pub meetings : AreMeetings (length opening) history
   pub marked : AreMarked net history (crowd_of net opening)

@@ -1,5 +1,6 @@
 -- Which field a seat is of, what it keeps, and what its calls say.
-use Rattle.std.specs.Prelude.{◌≡◌, ◌≢◌, All, ℕ, ◌<◌, ◌≤◌, Bool, List, [], length, IsSome, None, Some, Option, slice_index_or}
+use Rattle.std.specs.Prelude.{◌≡◌, ◌≢◌, All, ℕ, ◌<◌, ◌≤◌, Bool, List, [], length, IsSome, None, Some, Option}
+use Rattle.std.specs.Prelude.{slice_index_or}
 use Rattle.pop_net.specs.declared.net.Word.{Word}
 use Rattle.pop_net.specs.NetModel.{NetModel, CrowdModel}
 use Rattle.pop_net.specs.Lanes.{crowd_of, AreValid}
@@ -112,10 +113,12 @@ IsFresh s = (log_of s ≡ []) × (spare_of s ≡ 0) × (looks_of s ≡ []) × (s
 abbrev pub IsWhole : FieldSeat → Type 0
 IsWhole s = (seat_number s ≡ 0) × ((w : ℕ) → 0 < w → w < next_of s → IsSome (slice_index_or (taken_of s) w None))
 
--- the ticket is greater than all in the seat's own log and in those that it took in, and at least that of each of its looks
+-- the ticket is greater than all in the seat's own log and in those that it took in, and at least that of each of its
+-- looks
 pub record IsNewestOf (ticket : ℕ) (s : FieldSeat) : Type 0 where
   pub own : (e : Logged) → In e (log_of s) → e.ticket < ticket
-  pub taken_in : seat_number s ≡ 0 → (w : ℕ) (l : List Logged) (e : Logged) → slice_index_or (taken_of s) w None ≡ Some l → In e l → e.ticket < ticket
+  pub taken_in : seat_number s ≡ 0 → (w : ℕ) (l : List Logged) (e : Logged)
+      → slice_index_or (taken_of s) w None ≡ Some l → In e l → e.ticket < ticket
   pub looks : (look : Look) → In look (looks_of s) → look.ticket ≤ ticket
 
 -- a history of the field so far, with just this log for the number
@@ -124,7 +127,8 @@ pub record IsSoFar (f : Field) (number : ℕ) (log : List Logged) (ticket : ℕ)
   pub right : IsHistory (net_of f) (seats_of f) (opening_of f) history
   pub own : log ≡ calls number history
 
--- at the ticket there was such a history, and `changed` says whether in the crowd after it the meeting of a and b changes a tuple
+-- at the ticket there was such a history, and `changed` says whether in the crowd after it the meeting of a and b
+-- changes a tuple
 abbrev pub IsMetAt : Field → ℕ → List Logged → ℕ → ℕ → ℕ → Bool → Type 0
 IsMetAt f number log a b ticket changed =
     (history : List Meeting) × IsSoFar f number log ticket history
@@ -136,7 +140,8 @@ IsMoment f s a b met = IsMetAt f (seat_number s) (log_of s) a b met.ticket met.c
 -- at the ticket there was such a history, and the look shows the crowd after it
 abbrev pub IsGlance : Field → FieldSeat → Look → Type 0
 IsGlance f s look =
-    (history : List Meeting) × IsSoFar f (seat_number s) (log_of s) look.ticket history × IsLook (net_of f) (opening_of f) history look
+    (history : List Meeting) × IsSoFar f (seat_number s) (log_of s) look.ticket history
+    × IsLook (net_of f) (opening_of f) history look
 
 -- what the field is closed with, once this seat is whole: the words, and the history that they are the replay of
 pub record IsRoundOf (f : Field) (s : FieldSeat) (r : Round) : Type 0 where

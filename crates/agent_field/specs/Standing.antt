@@ -1,7 +1,10 @@
 -- FieldStands: the rule of the field's table, over its words and the views of all seats.
--- The clock and the founder word come first. Behind them the lock words of the shards and the words of the agents take turns, as long as there are both.
-use Rattle.std.specs.Prelude.{◌≡◌, ℕ, ◌+◌, ◌<◌, ◌≤◌, ◌%◌, ◌⊎◌, ◌==◌, min, max, IsSome, Bool, true, false, List, [], ◌∷◌, ◌++◌}
-use Rattle.std.specs.Prelude.{length, map, take, replicate, slice_index, slice_index_or, Option as Maybe, Some as Given, None as Missing}
+-- The clock and the founder word come first. Behind them the lock words of the shards and the words of the agents take
+-- turns, as long as there are both.
+use Rattle.std.specs.Prelude.{◌≡◌, ℕ, ◌+◌, ◌<◌, ◌≤◌, ◌%◌, ◌⊎◌, ◌==◌, min, max, IsSome, Bool, true, false, List, [], ◌∷◌}
+use Rattle.std.specs.Prelude.{◌++◌}
+use Rattle.std.specs.Prelude.{length, map, take, replicate, slice_index, slice_index_or, Option as Maybe, Some as Given}
+use Rattle.std.specs.Prelude.{None as Missing}
 use Rattle.std.specs.List.{range_with_len}
 use mathlib.Core.Option.{Option, none, some}
 use lib.ListN.{get_elem?}
@@ -47,7 +50,8 @@ agent_word k words a = packed (slice_index words (agent_at k a))
 
 -- the words of the agents, in their order, in a table of so many shards and agents
 abbrev pub words_of_agents : ℕ → ℕ → List ℕ → List Word
-words_of_agents shards agents words = map (λ a. packed (slice_index words (agent_place shards a))) (range_with_len 0 agents)
+words_of_agents shards agents words = map (λ a. packed (slice_index words (agent_place shards a)))
+    (range_with_len 0 agents)
 
 -- the elements of two lists in turns, as long as there are both
 abbrev pub in_turns : {X : Type 0} → List X → List X → List X
@@ -82,9 +86,26 @@ locks_of k a b =
     let low = min (shard_of k a) (shard_of k b) in
     let high = max (shard_of k a) (shard_of k b) in pair_locks low high (low == high)
 
+-- a seat that has nothing
+abbrev pub blank : Setup → View
+blank k =
+    record {
+      setup = k;
+      founding = false;
+      live = false;
+      number = 0;
+      held = [];
+      known = [];
+      due = [];
+      log = [];
+      next = 0;
+      taken = [];
+      looks = [];
+    }
+
 -- the seat that founds the field, before it does
 abbrev pub founder : Setup → View
-founder k = record { setup = k; founding = true; live = false; number = 0; held = []; known = []; due = []; log = []; next = 0; taken = []; looks = [] }
+founder k = record (blank k) { founding = true }
 
 abbrev pub no_field : Setup
 no_field =
@@ -97,22 +118,23 @@ no_field =
 
 -- a seat that was joined away
 abbrev pub joined_away : View
-joined_away =
-    record { setup = no_field; founding = false; live = false; number = 0; held = []; known = []; due = []; log = []; next = 0; taken = []; looks = [] }
+joined_away = blank no_field
 
 -- a seat between its calls
 abbrev pub idle : Setup → ℕ → List Logged → ℕ → List (Maybe (List Logged)) → List Look → View
 idle k number log next taken looks =
-    record { setup = k; founding = false; live = true; number = number; held = []; known = []; due = []; log = log; next = next; taken = taken; looks = looks }
+    record (blank k) { live = true; number = number; log = log; next = next; taken = taken; looks = looks }
 
 -- NumbersPart, of number 0's view: the numbers from `next` on are fresh and have made no meeting;
 -- each number below it has a seat, or its log was taken in and is whole
-pub record IsFirst (k : Setup) (history : List Meeting) (seat : ℕ → Option ℕ) (next : ℕ) (taken : List (Maybe (List Logged))) : Type 0 where
+pub record IsFirst (k : Setup) (history : List Meeting) (seat : ℕ → Option ℕ) (next : ℕ)
+    (taken : List (Maybe (List Logged))) : Type 0 where
   pub some_next : (0 < next) × (next ≤ k.seats)
   pub places : length taken ≡ k.seats
   pub fresh : (w : ℕ) → next ≤ w → (seat w ≡ none) × (calls w history ≡ [])
   pub dealt : (w : ℕ) → w < next → seat w ≡ none → IsSome (slice_index_or taken w Missing)
-  pub whole : (w : ℕ) (l : List Logged) → slice_index_or taken w Missing ≡ Given l → (w < next) × (seat w ≡ none) × (l ≡ calls w history)
+  pub whole : (w : ℕ) (l : List Logged) → slice_index_or taken w Missing ≡ Given l → (w < next) × (seat w ≡ none)
+      × (l ≡ calls w history)
 
 -- LocksPart, of a view: the lock words of the shards that it holds name it
 abbrev pub LocksPart : Setup → List ℕ → View → Type 0
@@ -121,15 +143,19 @@ LocksPart k words v = (s : ℕ) → In s v.held → (s < k.shards) × (slice_ind
 -- KnownPart: of whom it knows the word, it holds the shard, that agent is not due, and that is the agent's word
 abbrev pub KnownPart : Setup → List ℕ → View → Type 0
 KnownPart k words v =
-    (a : ℕ) (x : Word) → In (a, x) v.known → (a < agents_opened k) × In (shard_of k a) v.held × (agent_word k words a ≡ x) × ((y : Word) → In (a, y) v.due → ⊥)
+    (a : ℕ) (x : Word) → In (a, x) v.known → (a < agents_opened k) × In (shard_of k a) v.held
+    × (agent_word k words a ≡ x) × ((y : Word) → In (a, y) v.due → ⊥)
 
--- DuePart and ValidPart: of whom a word is due, it holds the shard, and the due word is what the history gives, and valid
+-- DuePart and ValidPart: of whom a word is due, it holds the shard, and the due word is what the history gives, and
+-- valid
 abbrev pub DuePart : Setup → List Meeting → View → Type 0
 DuePart k history v =
     (a : ℕ) (x : Word) → In (a, x) v.due
-    → (a < agents_opened k) × In (shard_of k a) v.held × (tuple_of k.net.value x ≡ tuple_after k history a) × IsValid k.net.value x
+    → (a < agents_opened k) × In (shard_of k a) v.held × (tuple_of k.net.value x ≡ tuple_after k history a)
+    × IsValid k.net.value x
 
--- while words of a pair are due, that pair made the view's last meeting, and the view holds the pair's shards and no other
+-- while words of a pair are due, that pair made the view's last meeting, and the view holds the pair's shards and no
+-- other
 abbrev pub TightPart : Setup → View → Type 0
 TightPart k v =
     (c : ℕ) (x : Word) → In (c, x) v.due → (earlier : List Logged) × (last : Logged) × (v.log ≡ earlier ++ last ∷ [])
@@ -153,7 +179,8 @@ pub record LooksPart (k : Setup) (history : List Meeting) (looks : List Look) : 
   pub ascending : LooksAscend looks
 
 -- what stands of the view of the seat `id`
-pub record Agrees (k : Setup) (words : List ℕ) (history : List Meeting) (seat : ℕ → Option ℕ) (id : ℕ) (v : View) : Type 0 where
+pub record Agrees (k : Setup) (words : List ℕ) (history : List Meeting) (seat : ℕ → Option ℕ) (id : ℕ)
+    (v : View) : Type 0 where
   pub setup : v.setup ≡ k
   -- NumbersPart
   pub seated : seat v.number ≡ some id
@@ -169,7 +196,8 @@ pub record Agrees (k : Setup) (words : List ℕ) (history : List Meeting) (seat 
 
 -- no seat owes the agent's word
 abbrev pub IsOwedByNone : List View → ℕ → Type 0
-IsOwedByNone views a = (id : ℕ) (v : View) (x : Word) → get_elem? views id ≡ some v → v.live ≡ true → In (a, x) v.due → ⊥
+IsOwedByNone views a = (id : ℕ) (v : View) (x : Word) → get_elem? views id ≡ some v → v.live ≡ true → In (a, x) v.due
+    → ⊥
 
 -- a seat holds the shard
 abbrev pub IsHeldBySome : List View → ℕ → Type 0
@@ -182,10 +210,12 @@ ValidPart k words = (a : ℕ) → a < agents_opened k → IsValid k.net.value (a
 -- SettledPart: the word of an agent that is due nowhere is what the history gives
 abbrev pub SettledPart : Setup → List ℕ → List View → List Meeting → Type 0
 SettledPart k words views history =
-    (a : ℕ) → a < agents_opened k → IsOwedByNone views a → tuple_of k.net.value (agent_word k words a) ≡ tuple_after k history a
+    (a : ℕ) → a < agents_opened k → IsOwedByNone views a
+    → tuple_of k.net.value (agent_word k words a) ≡ tuple_after k history a
 
 -- the field stands at a history, where `seat` gives the seat of each number that has one
-pub record StandsAt (k : Setup) (words : List ℕ) (views : List View) (history : List Meeting) (seat : ℕ → Option ℕ) : Type 0 where
+pub record StandsAt (k : Setup) (words : List ℕ) (views : List View) (history : List Meeting)
+    (seat : ℕ → Option ℕ) : Type 0 where
   pub wide : length words ≡ HEAD_WORDS + k.shards + agents_opened k
   pub some_shard : 0 < k.shards
   pub few_seats : k.seats ≤ SEAT_LIMIT
@@ -197,7 +227,8 @@ pub record StandsAt (k : Setup) (words : List ℕ) (views : List View) (history 
   pub short : (w : ℕ) → length (calls w history) ≤ LOG_LIMIT
   -- NumbersPart
   pub grounded : (id : ℕ) × (seat 0 ≡ some id)
-  pub sits : (n id : ℕ) → seat n ≡ some id → (v : View) × (get_elem? views id ≡ some v) × (v.live ≡ true) × (v.number ≡ n)
+  pub sits : (n id : ℕ) → seat n ≡ some id → (v : View) × (get_elem? views id ≡ some v) × (v.live ≡ true)
+      × (v.number ≡ n)
   -- LocksPart: a lock word is 0, or a view holds the shard
   pub locked : (s : ℕ) → s < k.shards → (slice_index words (lock_at k s) ≡ 0) ⊎ IsHeldBySome views s
   pub settled : SettledPart k words views history

@@ -14,7 +14,8 @@ use Rattle.agent_field.specs.declared.view.Look.{Look}
 use Rattle.agent_field.specs.declared.view.Setup.{Setup}
 use Rattle.agent_field.specs.declared.view.View.{View}
 use Rattle.agent_field.specs.History.{logged, calls, IsHistory}
-use Rattle.agent_field.specs.Standing.{In, agents_opened, shard_of, lock_at, agent_at, locks_of, idle, packed, tuple_after, IsLook}
+use Rattle.agent_field.specs.Standing.{In, agents_opened, shard_of, lock_at, agent_at, locks_of, idle, packed}
+use Rattle.agent_field.specs.Standing.{tuple_after, IsLook}
 
 abbrev pub Mine : Type 0
 Mine = Me (Unit {0}) View
@@ -56,7 +57,8 @@ meeting_made ticket a b x y x' y' v =
     record v {
       known = without a (without b v.known);
       due = (a, x') ∷ (b, y') ∷ [];
-      log = v.log ++ logged ticket a b (reacts v.setup.net.value (tuple_of v.setup.net.value x) (tuple_of v.setup.net.value y)) ∷ [];
+      log = v.log ++ logged ticket a b
+          (reacts v.setup.net.value (tuple_of v.setup.net.value x) (tuple_of v.setup.net.value y)) ∷ [];
     }
 
 abbrev pub writing : ℕ → View → View
@@ -73,7 +75,8 @@ look_of ticket words = record { ticket = ticket; words = words }
 -- all tickets that the seat knows of meetings are below this one, and those of its looks at most this one
 pub record IsNewest (ticket : ℕ) (v : View) : Type 0 where
   pub own : (e : Logged) → In e v.log → e.ticket < ticket
-  pub taken_in : v.number ≡ 0 → (w : ℕ) (l : List Logged) (e : Logged) → slice_index_or v.taken w Missing ≡ Given l → In e l → e.ticket < ticket
+  pub taken_in : v.number ≡ 0 → (w : ℕ) (l : List Logged) (e : Logged) → slice_index_or v.taken w Missing ≡ Given l
+      → In e l → e.ticket < ticket
   pub looks : (look : Look) → In look v.looks → look.ticket ≤ ticket
 
 -- at the ticket there is a history, with just this log for the seat's number, after which the known words stand
@@ -132,7 +135,8 @@ abbrev pub Locks : Step (Unit {0}) → Mine → ℕ → Mine → Type 0
 Locks st m r m' =
     ((s : ℕ) → st.word ≡ lock_at m.0.setup s → r ≡ 0 → m' ≡ (holding s m.0, m.1))
     × (r ≢ 0 → m' ≡ m)
-    × ((s : ℕ) × (st.word ≡ lock_at m.0.setup s) × (st.first ≡ 0) × (st.second ≡ m.0.number + 1) × CanLock m.0.setup m.0 s)
+    × ((s : ℕ) × (st.word ≡ lock_at m.0.setup s) × (st.first ≡ 0) × (st.second ≡ m.0.number + 1)
+    × CanLock m.0.setup m.0 s)
 
 -- a lock is given back, where that is allowed
 abbrev pub Unlocks : Step (Unit {0}) → Mine → ℕ → Mine → Type 0

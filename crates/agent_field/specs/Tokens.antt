@@ -6,7 +6,8 @@ use Rattle.agent_field.specs.declared.field.Field.{Field}
 use Rattle.agent_field.specs.declared.view.View.{View}
 use Rattle.agent_field.specs.History.{logged}
 use Rattle.agent_field.specs.Standing.{In, locks_of, shard_of}
-use Rattle.agent_field.specs.Steps.{HasPair, HasDrawn, IsNewest, IsDrawnAt, IsSeenAt, looking, recorded, seen, with_known}
+use Rattle.agent_field.specs.Steps.{HasPair, HasDrawn, IsNewest, IsDrawnAt, IsSeenAt, looking, recorded, seen}
+use Rattle.agent_field.specs.Steps.{with_known}
 use Rattle.agent_field.specs.Seats.{IsMetAt}
 
 abbrev pub SeatToken : Type 0
@@ -82,7 +83,8 @@ pub record Becomes (before after : SeatToken) (view : View) : Type 0 where
   pub table : after.table_id ≡ before.table_id
   pub me : after.me ≡ (view, before.me.1)
 
--- a ticket was drawn for the pair whose words are known: above all that the seat knew, and at a moment when these words stood
+-- a ticket was drawn for the pair whose words are known: above all that the seat knew, and at a moment when these words
+-- stood
 pub record IsDraw (ticket : ℕ) (before after : SeatToken) : Type 0 where
   pub table : after.table_id ≡ before.table_id
   pub drawn : HasDrawn ticket before.me after.me

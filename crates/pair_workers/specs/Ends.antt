@@ -1,5 +1,5 @@
 -- Why a run ends.
-use Rattle.std.specs.Prelude.{◌≡◌, ℕ, ◌*◌, ◌≤◌, List, length}
+use Rattle.std.specs.Prelude.{◌≡◌, ℕ, ◌*◌, ◌<◌, ◌≤◌, List, length, slice_index_or}
 use Rattle.pop_net.specs.NetModel.{NetModel, CrowdModel}
 use Rattle.pop_net.specs.Step.{Step}
 use Rattle.pop_net.specs.Terminal.{IsTerminal}
@@ -12,7 +12,13 @@ use Rattle.pair_workers.specs.declared.alone.TheConstants.{ROUND_TURNS}
 use Rattle.pair_workers.specs.declared.alone.End.{End}
 use Rattle.pair_workers.specs.declared.alone.RunEnd.{RunEnd}
 use Rattle.pair_workers.specs.declared.alone.End.TheVariants.{Terminal, Open}
+use Rattle.pair_workers.specs.Picks.{first_state}
 use Rattle.pair_workers.specs.Run.{IsRun}
+
+-- a picker for each worker, of which none has made a pick
+pub record AreFirstPickers (spec : RunSpec) (pickers : List (List ℕ)) : Type 0 where
+  pub long : length pickers ≡ spec.workers
+  pub first : (w : ℕ) (d : List ℕ) → w < spec.workers → slice_index_or pickers w d ≡ first_state spec.seed w
 
 -- a run with these numbers can be made from this crowd
 pub record CanMakeRun (net : NetModel) (crowd : List Word) (spec : RunSpec) : Type 0 where
@@ -28,7 +34,8 @@ abbrev pub IsEndOf : NetModel → CrowdModel → End → Type 0
 IsEndOf net crowd Terminal = IsTerminal (Step net) crowd
 IsEndOf net crowd (Open a b) = IsLeastPair net crowd a b × (IsTerminal (Step net) crowd → ⊥)
 
--- why a run ended in this crowd after so many rounds: the crowd is terminal; or the turns are spent and this pair of agents is the least that can change
+-- why a run ended in this crowd after so many rounds: the crowd is terminal; or the turns are spent and this pair of
+-- agents is the least that can change
 abbrev pub EndsBy : NetModel → CrowdModel → RunSpec → ℕ → End → Type 0
 EndsBy net crowd spec rounds Terminal = IsTerminal (Step net) crowd
 EndsBy net crowd spec rounds (Open a b) =

@@ -23,9 +23,11 @@ two_turns = record { workers = 1; shards = 16; turns = 2; seed = 0 }
 
 pub record RunExamples : Type 0 where
   -- A and B become b and a, and then b and b
-  pub run : IsRun majority (input_crowd majority (1 ∷ 1 ∷ [])) two_turns ((example_meeting 1 0 ∷ example_meeting 1 0 ∷ []) ∷ []) ((3 ∷ []) ∷ (3 ∷ []) ∷ [])
+  pub run : IsRun majority (input_crowd majority (1 ∷ 1 ∷ [])) two_turns ((example_meeting 1 0 ∷ example_meeting 1 0
+      ∷ []) ∷ []) ((3 ∷ []) ∷ (3 ∷ []) ∷ [])
   -- no meeting, while there are turns
   pub empty : IsRun majority (input_crowd majority (1 ∷ 1 ∷ [])) two_turns [] (input_crowd majority (1 ∷ 1 ∷ [])) → ⊥
   -- meetings that are no picks
   pub not_picked :
-      IsRun majority (input_crowd majority (1 ∷ 1 ∷ [])) two_turns ((example_meeting 0 1 ∷ example_meeting 0 1 ∷ []) ∷ []) ((3 ∷ []) ∷ (3 ∷ []) ∷ []) → ⊥
+      IsRun majority (input_crowd majority (1 ∷ 1 ∷ [])) two_turns ((example_meeting 0 1 ∷ example_meeting 0 1 ∷ [])
+      ∷ []) ((3 ∷ []) ∷ (3 ∷ []) ∷ []) → ⊥

@@ -12,7 +12,8 @@ use Rattle.pair_workers.specs.Ends.{IsRunFrom}
 -- every run from the start has these rounds and this end
 abbrev pub IsOnlyRun : NetModel → CrowdModel → RunSpec → List (List Meeting) → CrowdModel → Type 0
 IsOnlyRun net start spec rounds end =
-    (others : List (List Meeting)) (other : CrowdModel) → IsRun net start spec others other → (others ≡ rounds) × (other ≡ end)
+    (others : List (List Meeting)) (other : CrowdModel) → IsRun net start spec others other → (others ≡ rounds)
+    × (other ≡ end)
 
 -- a run from this crowd, which is the only one
 pub record IsOnlyRunFrom (net : NetModel) (crowd : List Word) (spec : RunSpec) (ran : RunEnd) : Type 0 where

@@ -1,5 +1,6 @@
 -- Run: rounds of meetings by workers who each make their picks, up to a terminal crowd or to the last turn.
-use Rattle.std.specs.Prelude.{◌≡◌, ◌⊎◌, ℕ, ◌+◌, ◌-◌, ◌*◌, ◌<◌, ◌≤◌, min, ◌==◌, List, length, map, filter, take, All, flat_map, Some, slice_get}
+use Rattle.std.specs.Prelude.{◌≡◌, ◌⊎◌, ℕ, ◌+◌, ◌-◌, ◌*◌, ◌<◌, ◌≤◌, min, ◌==◌, List, length, map, filter, take, All}
+use Rattle.std.specs.Prelude.{flat_map, Some, slice_get}
 use Rattle.pop_net.specs.NetModel.{NetModel, CrowdModel}
 use Rattle.pop_net.specs.Step.{Step}
 use Rattle.pop_net.specs.Terminal.{IsTerminal}
@@ -34,10 +35,13 @@ pub record IsRound (spec : RunSpec) (k : ℕ) (meetings : List Meeting) : Type 0
   pub each_worker : (w : ℕ) → w < spec.workers → made_by w meetings ≡ turns_in spec k
   pub nobody_else : All (λ m. m.worker < spec.workers) meetings
 
-pub record IsRun (net : NetModel) (start : CrowdModel) (spec : RunSpec) (rounds : List (List Meeting)) (end : CrowdModel) : Type 0 where
-  pub each_round : (k : ℕ) (meetings : List Meeting) → slice_get rounds k ≡ Some meetings → IsRound spec (k + 1) meetings
+pub record IsRun (net : NetModel) (start : CrowdModel) (spec : RunSpec) (rounds : List (List Meeting))
+    (end : CrowdModel) : Type 0 where
+  pub each_round : (k : ℕ) (meetings : List Meeting) → slice_get rounds k ≡ Some meetings
+      → IsRound spec (k + 1) meetings
   -- the meetings of a worker are its picks, from the first on
-  pub picked : (w : ℕ) → w < spec.workers → pairs (meetings_of w (joined rounds)) ≡ picks spec.seed w (length start) (made_by w (joined rounds))
+  pub picked : (w : ℕ) → w < spec.workers
+      → pairs (meetings_of w (joined rounds)) ≡ picks spec.seed w (length start) (made_by w (joined rounds))
   -- each meeting says rightly whether it changes a tuple
   pub marked : AreMarked net (joined rounds) start
   pub replays : replay net (joined rounds) start ≡ end

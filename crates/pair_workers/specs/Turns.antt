@@ -11,18 +11,22 @@ use Rattle.pair_workers.specs.declared.round_end.RoundEnd.{RoundEnd}
 use Rattle.pair_workers.specs.Picks.{picks_from, words_from}
 use Rattle.pair_workers.specs.Run.{meetings_of, pairs}
 
--- these are the next picks among n agents from the first state on, as many as the turns, and the second state stands after them
+-- these are the next picks among n agents from the first state on, as many as the turns, and the second state stands
+-- after them
 pub record HasPicked (n turns : ℕ) (before after : List ℕ) (made : List (ℕ × ℕ)) : Type 0 where
   pub long : length made ≡ turns
-  pub picked : (count : ℕ) → picks_from (words_from before) n (turns + count) ≡ made ++ picks_from (words_from after) n count
+  pub picked : (count : ℕ) → picks_from (words_from before) n (turns + count) ≡ made
+      ++ picks_from (words_from after) n count
 
 -- the meetings lead from one crowd to another, each worker makes its next picks, and nobody else meets
-pub record ArePlayed (net : NetModel) (start : CrowdModel) (workers turns : ℕ) (before after : List (List ℕ)) (meetings : List Meeting)
+pub record ArePlayed (net : NetModel) (start : CrowdModel) (workers turns : ℕ) (before after : List (List ℕ))
+    (meetings : List Meeting)
     (end : CrowdModel) : Type 0 where
   pub marked : AreMarked net meetings start
   pub replays : replay net meetings start ≡ end
   pub picked : (w : ℕ) (d : List ℕ) → w < workers
-      → HasPicked (length start) turns (slice_index_or before w d) (slice_index_or after w d) (pairs (meetings_of w meetings))
+      → HasPicked (length start) turns (slice_index_or before w d) (slice_index_or after w d)
+      (pairs (meetings_of w meetings))
   pub nobody_else : All (λ m. m.worker < workers) meetings
 
 -- a round can be made from this crowd: there is a picker for each worker, and there are no more turns than a round has
@@ -32,7 +36,8 @@ pub record CanMakeRound (net : NetModel) (crowd : List Word) (workers turns : �
   pub few : turns ≤ ROUND_TURNS
 
 -- a round from this crowd: each worker makes its turns by its picker, and the pickers stand after them
-pub record IsRoundFrom (net : NetModel) (crowd : List Word) (workers turns : ℕ) (before after : List (List ℕ)) (round : Round) : Type 0 where
+pub record IsRoundFrom (net : NetModel) (crowd : List Word) (workers turns : ℕ) (before after : List (List ℕ))
+    (round : Round) : Type 0 where
   pub played : ArePlayed net (crowd_of net crowd) workers turns before after round.meetings (crowd_of net round.words)
   pub valid : AreValid net round.words
   pub agents : length round.words ≡ length crowd

@@ -1,4 +1,5 @@
--- Watched run: a run whose last round may lack meetings, where the crowd behind it is terminal. A run by whole rounds is one.
+-- Watched run: a run whose last round may lack meetings, where the crowd behind it is terminal. A run by whole rounds
+-- is one.
 use Rattle.std.specs.Prelude.{◌≡◌, ◌⊎◌, ℕ, ◌+◌, ◌<◌, ◌≤◌, List, length, take, All, Some, slice_get}
 use Rattle.pop_net.specs.NetModel.{NetModel, CrowdModel}
 use Rattle.pop_net.specs.Step.{Step}
@@ -21,12 +22,16 @@ pub record IsWatchedRound (spec : RunSpec) (k : ℕ) (meetings : List Meeting) :
 abbrev pub AreSpent : RunSpec → List (List Meeting) → Type 0
 AreSpent spec rounds = (w : ℕ) → w < spec.workers → made_by w (joined rounds) ≡ spec.turns
 
-pub record IsWatchedRun (net : NetModel) (start : CrowdModel) (spec : RunSpec) (rounds : List (List Meeting)) (end : CrowdModel) : Type 0 where
-  pub each_round : (k : ℕ) (meetings : List Meeting) → slice_get rounds k ≡ Some meetings → IsWatchedRound spec (k + 1) meetings
+pub record IsWatchedRun (net : NetModel) (start : CrowdModel) (spec : RunSpec) (rounds : List (List Meeting))
+    (end : CrowdModel) : Type 0 where
+  pub each_round : (k : ℕ) (meetings : List Meeting) → slice_get rounds k ≡ Some meetings
+      → IsWatchedRound spec (k + 1) meetings
   -- every round but the last is whole
-  pub whole : (k : ℕ) (meetings : List Meeting) → k + 1 < length rounds → slice_get rounds k ≡ Some meetings → IsRound spec (k + 1) meetings
+  pub whole : (k : ℕ) (meetings : List Meeting) → k + 1 < length rounds → slice_get rounds k ≡ Some meetings
+      → IsRound spec (k + 1) meetings
   -- the meetings of a worker are its picks, from the first on
-  pub picked : (w : ℕ) → w < spec.workers → pairs (meetings_of w (joined rounds)) ≡ picks spec.seed w (length start) (made_by w (joined rounds))
+  pub picked : (w : ℕ) → w < spec.workers
+      → pairs (meetings_of w (joined rounds)) ≡ picks spec.seed w (length start) (made_by w (joined rounds))
   -- each meeting says rightly whether it changes a tuple
   pub marked : AreMarked net (joined rounds) start
   pub replays : replay net (joined rounds) start ≡ end

@@ -75,7 +75,8 @@ AreDone f turns observed pickers workers =
     → IsDone f turns observed (i + 1) (slice_index_or pickers i e) (slice_index_or workers i d))
 
 -- number 0 has dealt a seat to a worker for each picker, and keeps its own meetings
-pub record HasSeated (f : Field) (turns : ℕ) (pickers : List (List ℕ)) (before after : FieldSeat) (workers : List Worker)
+pub record HasSeated (f : Field) (turns : ℕ) (pickers : List (List ℕ)) (before after : FieldSeat)
+    (workers : List Worker)
     : Type 0 where
   pub ours : IsSeatOf f after
   pub own : KeepsOwn before after

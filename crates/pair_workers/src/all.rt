@@ -2,9 +2,8 @@
 
 ghost use Rattle.std.specs.Prelude.{◌≡◌, ℕ, ◌<◌, ◌≤◌, length, IfOk, slice_index_or};
 ghost use Rattle.pop_net.specs.Lanes.{crowd_of};
-ghost use Rattle.pair_workers.specs.Picks.{first_state};
 ghost use Rattle.pair_workers.specs.OneRun.{IsOnlyRun};
-ghost use Rattle.pair_workers.specs.Ends.{CanMakeRun, IsRunFrom};
+ghost use Rattle.pair_workers.specs.Ends.{AreFirstPickers, CanMakeRun, IsRunFrom};
 
 use crate::alone::{ROUND_TURNS, RunEnd};
 use crate::ends::{end_of, goes_on};
@@ -23,11 +22,8 @@ use terminal_test::PairTable;
 
 /// The pickers of all workers, of which none has made a pick.
 pub fn first_pickers(alloc: Global, spec: &RunSpec) -> Result<Vec<Picker>, NoMemory>
-    requires seed { spec.now.seed ≤ SEED_LIMIT }
-    ensures long { IfOk result (λ pickers. length pickers.items ≡ spec.now.workers) }
-    ensures first { IfOk result
-        (λ pickers. (w : ℕ) (d : _) → w < spec.now.workers
-        → slice_index_or pickers.items w d ≡ first_state spec.now.seed w) }
+    requires { spec.now.seed ≤ SEED_LIMIT }
+    ensures { IfOk result (λ pickers. AreFirstPickers spec.now pickers.items) }
 {
     let mut pickers = Vec::new(alloc);
     'workers: for worker in 0..spec.workers {
@@ -36,7 +32,8 @@ pub fn first_pickers(alloc: Global, spec: &RunSpec) -> Result<Vec<Picker>, NoMem
     Ok(pickers)
 }
 
-/// A run by all workers that the numbers of the run name, round by round: one worker meets on the plain crowd, and more on
+/// A run by all workers that the numbers of the run name, round by round: one worker meets on the plain crowd, and more
+/// on
 /// fields. Before each round the crowd is looked at.
 pub fn run_all<R: Threads + Wait + Sync, G: Gate>(
     rt: &R,

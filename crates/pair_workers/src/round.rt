@@ -116,7 +116,8 @@ fn plain_round<G: Gate>(
     })
 }
 
-/// Each worker makes its next picks and meetings, beside the others: one worker on the plain crowd, and more on a field.
+/// Each worker makes its next picks and meetings, beside the others: one worker on the plain crowd, and more on a
+/// field.
 pub(crate) fn next_round<R: Threads + Wait + Sync, G: Gate>(
     rt: &R,
     alloc: Global,

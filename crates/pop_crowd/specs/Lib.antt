@@ -3,3 +3,4 @@ pub mod Crowds
 pub mod Tally
 pub mod Shown
 pub mod Examples
+pub mod Calls

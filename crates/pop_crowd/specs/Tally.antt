@@ -1,5 +1,6 @@
 -- Tally: the crowd lines, one for each tuple that an agent has.
-use Rattle.std.specs.Prelude.{ℕ, List, [], ◌∷◌, ◌++◌, map, fold, count_by, decimal, codes, slice_index_or, nat_eq, All, Contains}
+use Rattle.std.specs.Prelude.{ℕ, List, [], ◌∷◌, ◌++◌, map, fold, count_by, decimal, codes, slice_index_or, nat_eq, All}
+use Rattle.std.specs.Prelude.{Contains}
 use Rattle.std.specs.List.{join_with_byte, concat}
 use Rattle.std.specs.List.Sorted.{IsStrictlySortedBy}
 use Rattle.std.specs.declared.cmp.Ordering.{Ordering}
@@ -37,7 +38,8 @@ slash = 47
 
 -- the state names joined by `/`, a space, the number of agents, and a line feed
 abbrev pub crowd_line : NetModel → Tuple → ℕ → List ℕ
-crowd_line net tuple count = join_with_byte slash (names_of net.leaves tuple) ++ codes " " ++ decimal count ++ codes "\n"
+crowd_line net tuple count = join_with_byte slash (names_of net.leaves tuple) ++ codes " " ++ decimal count
+    ++ codes "\n"
 
 abbrev pub crowd_lines : NetModel → CrowdModel → List ℕ
 crowd_lines net crowd = concat (map (λ (t, count). crowd_line net t count) (counts_of crowd))

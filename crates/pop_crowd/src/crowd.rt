@@ -1,6 +1,6 @@
 //! Crowds of agents, and their meetings one after the other.
 
-ghost use Rattle.std.specs.Prelude.{◌≡◌, ◌≢◌, ◌<◌, ◌≤◌, ◌==◌, ◌||◌, not, length, Some, IfOk, IfErr, slice_get};
+ghost use Rattle.std.specs.Prelude.{◌≡◌, ◌≢◌, ◌<◌, ◌≤◌, ◌==◌, ◌||◌, not, length, Some, IfOk, slice_get};
 
 use crate::fault::CrowdFault;
 use crate::limits::{AGENT_LEAST, AGENT_LIMIT};
@@ -46,25 +46,15 @@ pub fn differ(old: (Word, Word), new: (Word, Word)) -> bool
 }
 
 impl Crowd {
-    ghost use Rattle.pop_net.specs.InputCrowd.{input_crowd};
     ghost use Rattle.pop_net.specs.Lanes.{crowd_of, AreValid};
-    ghost use Rattle.pop_net.specs.Step.{Step};
-    ghost use Rattle.pop_net.specs.Reachable.{ReachedWithin};
-    ghost use Rattle.pop_net.specs.Reaction.{after_meeting};
-    ghost use Rattle.pop_crowd.specs.Crowds.{RefusesCounts, input_size};
     ghost use Rattle.pop_crowd.specs.Tally.{crowd_lines, tuples_of, AreTuplesOf};
-    ghost use Rattle.pop_crowd.specs.Replay.{changes, replay, change_count, AreMeetings};
-    ghost use Rattle.pop_crowd.specs.declared.fault.CrowdFault.TheVariants.{NoMemory as OutOfMemory};
+    ghost use Rattle.pop_crowd.specs.Replay.{AreMeetings};
+    ghost use Rattle.pop_crowd.specs.Calls.{IsCrowdOfCounts, AreWordsOf, IsSizeOf, HasMet, HasReplayed};
 
     /// The input crowd: first the agents of variable 0, then those of variable 1, and so on, then the helpers.
     pub fn of_counts(alloc: Global, net: &Net, counts: &[u64]) -> Result<Crowd, CrowdFault>
         requires { length counts.now ≡ length net.now.variables }
-        ensures start { IfOk result (λ crowd. crowd_of net.now crowd ≡ input_crowd net.now counts.now) }
-        ensures valid { IfOk result (AreValid net.now) }
-        ensures size { IfOk result (λ crowd. (AGENT_LEAST ≤ length crowd) × (length crowd ≤ AGENT_LIMIT)) }
-        ensures refused { IfErr result (RefusesCounts net.now counts.now) }
-        ensures accepts { AGENT_LEAST ≤ input_size net.now counts.now → input_size net.now counts.now ≤ AGENT_LIMIT
-            → IfErr result (λ fault. fault ≡ OutOfMemory) }
+        ensures { IsCrowdOfCounts net.now counts.now result }
     {
         let _ = net.var_count();
         let agents = size(net, counts);
@@ -90,9 +80,7 @@ impl Crowd {
 
     /// The words, to own. It allocates nothing.
     pub fn into_words(self) -> List<Word>
-        ensures words { result ≡ self }
-        ensures some { AGENT_LEAST ≤ length result }
-        ensures few { length result ≤ AGENT_LIMIT }
+        ensures { AreWordsOf self result }
     {
         let Crowd { words } = self;
         List::from_vec(words)
@@ -100,9 +88,7 @@ impl Crowd {
 
     /// The number of agents.
     pub fn len(&self) -> u32
-        ensures count { result ≡ length self.now }
-        ensures some { AGENT_LEAST ≤ result }
-        ensures few { result ≤ AGENT_LIMIT }
+        ensures { IsSizeOf self.now result }
     {
         self.words.len() as u32
     }
@@ -121,12 +107,7 @@ impl Crowd {
         requires a_in { a < length self.old }
         requires b_in { b < length self.old }
         requires valid { AreValid net.now self.old }
-        ensures after { crowd_of net.now self.new ≡ after_meeting net.now a b (crowd_of net.now self.old) }
-        ensures changed { result ≡ changes net.now a b (crowd_of net.now self.old) }
-        ensures valid { AreValid net.now self.new }
-        ensures agents { length self.new ≡ length self.old }
-        // A meeting is a step of the model.
-        ensures step { Step net.now (crowd_of net.now self.old) (crowd_of net.now self.new) }
+        ensures { HasMet net.now a b result self.old self.new }
     {
         let x = self.words[a as usize];
         let y = self.words[b as usize];
@@ -141,13 +122,7 @@ impl Crowd {
     pub fn replay(&mut self, net: &Net, meetings: &[Meeting]) -> u64
         requires meetings { AreMeetings (length self.old) meetings.now }
         requires valid { AreValid net.now self.old }
-        ensures after { crowd_of net.now self.new ≡ replay net.now meetings.now (crowd_of net.now self.old) }
-        ensures changed { result ≡ change_count net.now meetings.now (crowd_of net.now self.old) }
-        ensures valid { AreValid net.now self.new }
-        ensures agents { length self.new ≡ length self.old }
-        // The crowd afterwards is reached by at most as many steps as there are meetings.
-        ensures reached { ReachedWithin (Step net.now) (length meetings.now) (crowd_of net.now self.old)
-            (crowd_of net.now self.new) }
+        ensures { HasReplayed net.now meetings.now result self.old self.new }
     {
         let mut changed = 0;
         for meeting in meetings {

@@ -1,5 +1,6 @@
 -- A round on its way: each worker has made some of its next picks.
-use Rattle.std.specs.Prelude.{◌≡◌, ◌⊎◌, ℕ, ◌+◌, ◌-◌, ◌<◌, ◌≤◌, ◌==◌, if◌then◌else◌, List, length, All, slice_index_or, vec_capacity}
+use Rattle.std.specs.Prelude.{◌≡◌, ◌⊎◌, ℕ, ◌+◌, ◌-◌, ◌<◌, ◌≤◌, ◌==◌, if◌then◌else◌, List, length, All, slice_index_or}
+use Rattle.std.specs.Prelude.{vec_capacity}
 use Rattle.pop_net.specs.NetModel.{NetModel, CrowdModel}
 use Rattle.pop_net.specs.Step.{Step}
 use Rattle.pop_net.specs.Terminal.{IsTerminal}
@@ -16,12 +17,14 @@ abbrev pub of_worker : Meeting → Meeting
 of_worker m = record { worker = m.worker - 1; a = m.a; b = m.b; changed = m.changed }
 
 -- the meetings lead from one crowd to another, those of each worker are its next picks, and nobody else meets
-pub record ArePlaying (net : NetModel) (start : CrowdModel) (workers : ℕ) (before after : List (List ℕ)) (meetings : List Meeting)
+pub record ArePlaying (net : NetModel) (start : CrowdModel) (workers : ℕ) (before after : List (List ℕ))
+    (meetings : List Meeting)
     (end : CrowdModel) : Type 0 where
   pub marked : AreMarked net meetings start
   pub replays : replay net meetings start ≡ end
   pub picked : (w : ℕ) (d : List ℕ) → w < workers
-      → HasPicked (length start) (made_by w meetings) (slice_index_or before w d) (slice_index_or after w d) (pairs (meetings_of w meetings))
+      → HasPicked (length start) (made_by w meetings) (slice_index_or before w d) (slice_index_or after w d)
+      (pairs (meetings_of w meetings))
   pub nobody_else : All (λ m. m.worker < workers) meetings
 
 -- the same, where the crowd, the pickers and the meetings stand together
@@ -31,7 +34,8 @@ IsPlayedFrom net start workers before p =
 
 -- what was played from some crowd is still played from it
 pub record KeepsPlaying (net : NetModel) (before after : RoundEnd) : Type 0 where
-  pub more : (start : CrowdModel) (first : List (List ℕ)) → IsPlayedFrom net start (length before.pickers.items) first before
+  pub more : (start : CrowdModel) (first : List (List ℕ))
+      → IsPlayedFrom net start (length before.pickers.items) first before
       → IsPlayedFrom net start (length before.pickers.items) first after
   pub pickers : length after.pickers.items ≡ length before.pickers.items
   pub agents : length after.crowd ≡ length before.crowd
@@ -54,7 +58,8 @@ abbrev pub AreAllMade : ℕ → ℕ → List Meeting → Type 0
 AreAllMade workers turns meetings = (w : ℕ) → w < workers → made_by w meetings ≡ turns
 
 -- a round from this crowd: each worker has made its turns at most
-pub record IsPartOfRound (net : NetModel) (crowd : List Word) (workers turns : ℕ) (before : List (List ℕ)) (p : RoundEnd) : Type 0 where
+pub record IsPartOfRound (net : NetModel) (crowd : List Word) (workers turns : ℕ) (before : List (List ℕ))
+    (p : RoundEnd) : Type 0 where
   pub played : IsPlayedFrom net (crowd_of net crowd) workers before p
   pub few : (w : ℕ) → w < workers → made_by w p.meetings.items ≤ turns
   pub valid : AreValid net p.crowd
@@ -62,6 +67,7 @@ pub record IsPartOfRound (net : NetModel) (crowd : List Word) (workers turns : �
   pub pickers : length p.pickers.items ≡ workers
 
 -- such a round, which is whole or leads to a terminal crowd
-pub record IsWatchedRoundFrom (net : NetModel) (crowd : List Word) (workers turns : ℕ) (before : List (List ℕ)) (p : RoundEnd) : Type 0 where
+pub record IsWatchedRoundFrom (net : NetModel) (crowd : List Word) (workers turns : ℕ) (before : List (List ℕ))
+    (p : RoundEnd) : Type 0 where
   pub part : IsPartOfRound net crowd workers turns before p
   pub ends : AreAllMade workers turns p.meetings.items ⊎ IsTerminal (Step net) (crowd_of net p.crowd)

@@ -13,7 +13,8 @@ use Rattle.pair_workers.specs.declared.alone.RunEnd.{RunEnd}
 use Rattle.pair_workers.specs.declared.alone.End.TheVariants.{Terminal, Open}
 use Rattle.pair_workers.specs.WatchedRun.{IsWatchedRun, AreSpent}
 
--- why a run ended in this crowd after these rounds: the crowd is terminal; or the turns are spent and this pair of agents is the least that can change
+-- why a run ended in this crowd after these rounds: the crowd is terminal; or the turns are spent and this pair of
+-- agents is the least that can change
 abbrev pub WatchedEndsBy : NetModel → CrowdModel → RunSpec → List (List Meeting) → End → Type 0
 WatchedEndsBy net crowd spec rounds Terminal = IsTerminal (Step net) crowd
 WatchedEndsBy net crowd spec rounds (Open a b) =

@@ -73,7 +73,8 @@ fn look_on<R: Wait, G: Gate>(
     Ok(())
 }
 
-/// The observer's part of a round. It passes the gate once more behind its last look, also where it lacked memory for it.
+/// The observer's part of a round. It passes the gate once more behind its last look, also where it lacked memory for
+/// it.
 pub(crate) fn observe<R: Wait, G: Gate>(
     rt: &R,
     alloc: Global,

@@ -1,5 +1,6 @@
 -- Restless: the states in which an agent may change, by what a crowd has.
-use Rattle.std.specs.Prelude.{◌≡◌, ◌≢◌, ℕ, ◌<◌, ◌≤◌, Bool, true, false, ◌&&◌, ◌==◌, nat_le, if◌then◌else◌, List, length, Some, slice_get, slice_index_or}
+use Rattle.std.specs.Prelude.{◌≡◌, ◌≢◌, ℕ, ◌<◌, ◌≤◌, Bool, true, false, ◌&&◌, ◌==◌, nat_le, if◌then◌else◌, List, length}
+use Rattle.std.specs.Prelude.{Some, slice_get, slice_index_or}
 use Rattle.pop_net.specs.LeafModel.{LeafModel}
 use Rattle.pop_net.specs.NetModel.{NetModel, Tuple, CrowdModel, state_of}
 use Rattle.pop_net.proofs.Projection.{component}
@@ -8,7 +9,8 @@ use Rattle.pop_net.proofs.Quiet.{leaf_quiet}
 -- the entry of a state is at least how many of the first n agents stand in it, counted up to two
 pub record CountsTo (states seen : List ℕ) (n : ℕ) : Type 0 where
   pub once : (a x : ℕ) → a < n → slice_get states a ≡ Some x → 1 ≤ slice_index_or seen x 0
-  pub twice : (a b x : ℕ) → a < b → b < n → slice_get states a ≡ Some x → slice_get states b ≡ Some x → 2 ≤ slice_index_or seen x 0
+  pub twice : (a b x : ℕ) → a < b → b < n → slice_get states a ≡ Some x → slice_get states b ≡ Some x
+      → 2 ≤ slice_index_or seen x 0
 
 pub record AreSeen (net : NetModel) (i : ℕ) (crowd : CrowdModel) (seen : List ℕ) : Type 0 where
   pub size : (leaf : LeafModel) → slice_get net.leaves i ≡ Some leaf → length seen ≡ length leaf.states
@@ -24,8 +26,10 @@ are_held_by seen p q =
 -- the states of the first k pairs are marked where they can meet
 pub record AreMarkedTo (pairs : List (ℕ × ℕ)) (seen : List ℕ) (marks : List Bool) (k : ℕ) : Type 0 where
   pub size : length marks ≡ length seen
-  pub first : (j p q : ℕ) → j < k → slice_get pairs j ≡ Some (p, q) → are_held_by seen p q ≡ true → slice_get marks p ≡ Some true
-  pub second : (j p q : ℕ) → j < k → slice_get pairs j ≡ Some (p, q) → are_held_by seen p q ≡ true → slice_get marks q ≡ Some true
+  pub first : (j p q : ℕ) → j < k → slice_get pairs j ≡ Some (p, q) → are_held_by seen p q ≡ true
+      → slice_get marks p ≡ Some true
+  pub second : (j p q : ℕ) → j < k → slice_get pairs j ≡ Some (p, q) → are_held_by seen p q ≡ true
+      → slice_get marks q ≡ Some true
 
 abbrev pub AreMarkedByAll : List (ℕ × ℕ) → List ℕ → List Bool → Type 0
 AreMarkedByAll pairs seen marks = AreMarkedTo pairs seen marks (length pairs)
@@ -33,7 +37,8 @@ AreMarkedByAll pairs seen marks = AreMarkedTo pairs seen marks (length pairs)
 -- a state in which some agent reacts with another one is marked
 pub record IsMarked (leaf : LeafModel) (states : List ℕ) (marks : List Bool) : Type 0 where
   pub size : length marks ≡ length leaf.states
-  pub marked : (a b x y : ℕ) → a ≢ b → slice_get states a ≡ Some x → slice_get states b ≡ Some y → leaf_quiet leaf x y ≡ false → slice_get marks x ≡ Some true
+  pub marked : (a b x y : ℕ) → a ≢ b → slice_get states a ≡ Some x → slice_get states b ≡ Some y
+      → leaf_quiet leaf x y ≡ false → slice_get marks x ≡ Some true
 
 -- what holds of the leaf with this number
 abbrev pub IsLeafOf : NetModel → ℕ → (LeafModel → Type 0) → Type 0
@@ -42,7 +47,8 @@ IsLeafOf net i P = (leaf : LeafModel) → slice_get net.leaves i ≡ Some leaf �
 -- such marks for each of the first n leaves
 pub record AreRestlessTo (net : NetModel) (crowd : CrowdModel) (marks : List (List Bool)) (n : ℕ) : Type 0 where
   pub one_each : length marks ≡ n
-  pub each : (i : ℕ) (leaf : LeafModel) (here : List Bool) → slice_get net.leaves i ≡ Some leaf → slice_get marks i ≡ Some here
+  pub each : (i : ℕ) (leaf : LeafModel) (here : List Bool) → slice_get net.leaves i ≡ Some leaf
+      → slice_get marks i ≡ Some here
       → IsMarked leaf (component i crowd) here
 
 abbrev pub AreRestless : NetModel → CrowdModel → List (List Bool) → Type 0
@@ -50,7 +56,8 @@ AreRestless net crowd marks = AreRestlessTo net crowd marks (length net.leaves)
 
 -- no state of a tuple is marked in the first n leaves
 abbrev pub IsCalmTo : List (List Bool) → Tuple → ℕ → Type 0
-IsCalmTo marks tuple n = (i : ℕ) (here : List Bool) → i < n → slice_get marks i ≡ Some here → slice_get here (state_of tuple i) ≡ Some false
+IsCalmTo marks tuple n = (i : ℕ) (here : List Bool) → i < n → slice_get marks i ≡ Some here
+    → slice_get here (state_of tuple i) ≡ Some false
 
 abbrev pub IsCalm : List (List Bool) → Tuple → Type 0
 IsCalm marks tuple = IsCalmTo marks tuple (length marks)

@@ -1,4 +1,4 @@
-use Rattle.std.proofs.Common.{◌≡◌, ◌<◌, List, length, set, refl, ap, sym, subst, arith}
+use Rattle.std.proofs.Common.{◌≡◌, ◌<◌, List, length, set, refl, ap, sym, subst, arith, rules}
 use Rattle.std.specs.Prelude.{Some, slice_get}
 use Rattle.std.proofs.lemmas.Option.{slice_get_read}
 use Rattle.pop_net.specs.declared.net.Word.{Word}
@@ -20,19 +20,19 @@ at_b c =
     let l : c.args.b < length c.self.inside.words.items = omega (arith, c.requires.b_in, ap length c.self.view_is) in
     subst (λ (ws : List Word). slice_get ws c.args.b ≡ Some c.index-y.result.now) c.self.view_is (slice_get_read c.self.inside.words.items _ c.args.b c.index-y.result.now refl l c.index-y.ensures)
 
-pub returns-clause-after : goal.returns-clause-after
-returns-clause-after c =
-    subst (λ (ws : List Word). crowd_of c.args.net.now (set (set ws c.args.a c.react.result.0) c.args.b c.react.result.1) ≡ after_meeting c.args.net.now c.args.a c.args.b (crowd_of c.args.net.now c.args.self.now)) (sym c.self.view_is)
-    (after_write c.args.net.now c.args.self.now c.args.a c.args.b _ _ _ _ (at_a c) (at_b c) c.react.ensures.reaction)
-
-pub returns-clause-changed : goal.returns-clause-changed
-returns-clause-changed c =
-    written_anew c.args.net.now c.args.self.now c.args.a c.args.b _ _ _ _ (at_a c) (at_b c) c.react.ensures.reaction _ c.differ.ensures
-    (All-slice_get (IsValid c.args.net.now) c.args.self.now c.args.a _ c.requires.valid (at_a c))
-    (All-slice_get (IsValid c.args.net.now) c.args.self.now c.args.b _ c.requires.valid (at_b c))
-    c.react.ensures.first_valid c.react.ensures.second_valid
-
-pub returns-clause-step : goal.returns-clause-step
-returns-clause-step c =
-    subst (λ (ws : List Word). Step c.args.net.now (crowd_of c.args.net.now c.args.self.now) (crowd_of c.args.net.now (set (set ws c.args.a c.react.result.0) c.args.b c.react.result.1))) (sym c.self.view_is)
-    (write_step c.args.net.now c.args.self.now c.args.a c.args.b _ _ _ _ (at_a c) (at_b c) c.react.ensures.reaction c.requires.different)
+pub returns : goal.returns
+returns c =
+    let net = c.args.net.now in
+    let was = c.args.self.now in
+    record {
+      after = subst (λ (ws : List Word). crowd_of net (set (set ws c.args.a c.react.result.0) c.args.b c.react.result.1) ≡ after_meeting net c.args.a c.args.b (crowd_of net was)) (sym c.self.view_is)
+          (after_write net was c.args.a c.args.b _ _ _ _ (at_a c) (at_b c) c.react.ensures.reaction);
+      changed = written_anew net was c.args.a c.args.b _ _ _ _ (at_a c) (at_b c) c.react.ensures.reaction _ c.differ.ensures
+          (All-slice_get (IsValid net) was c.args.a _ c.requires.valid (at_a c))
+          (All-slice_get (IsValid net) was c.args.b _ c.requires.valid (at_b c))
+          c.react.ensures.first_valid c.react.ensures.second_valid;
+      valid = search rules;
+      agents = search rules;
+      step = subst (λ (ws : List Word). Step net (crowd_of net was) (crowd_of net (set (set ws c.args.a c.react.result.0) c.args.b c.react.result.1))) (sym c.self.view_is)
+          (write_step net was c.args.a c.args.b _ _ _ _ (at_a c) (at_b c) c.react.ensures.reaction c.requires.different);
+    }
