@@ -1,8 +1,8 @@
 #!/usr/bin/env python3
-"""Names that nothing uses: lemmas and definitions that stand nowhere else, and names of `ghost use` that their scope doesn't name.
+"""Names that nothing uses: lemmas and definitions that stand nowhere else, and names of `ghost use` that a scope lacks.
 
-Run it at the top of the repository, or give the folders of crates. It prints a line for each name, and ends with the status 1
-where there is one."""
+Run it at the top of the repository; with folders of crates it looks at these alone. It prints a line for each name, and
+ends with the status 1 where there is one."""
 
 import re
 import sys
@@ -34,6 +34,10 @@ class Unused:
 
 def is_made(path: Path) -> bool:
     return "out" in path.parts
+
+
+def every_crate() -> list[Path]:
+    return sorted(Path("crates").iterdir())
 
 
 def sources(crates: list[Path], suffix: str) -> Iterator[Path]:
@@ -101,15 +105,28 @@ def end_of(lines: list[str], first: int, name: str) -> int:
 
 
 def names_outside(lines: list[str], declared: Declaration) -> set[str]:
-    return {name for number, line in enumerate(lines) if not declared.first <= number <= declared.last for name in NAME.findall(line)}
+    outside = [*lines[: declared.first], *lines[declared.last + 1 :]]
+    return {name for line in outside for name in NAME.findall(line)}
+
+
+def module_of(path: Path) -> str:
+    """How imports name a file: `crates/a/proofs/B.antt` is `Rattle.a.proofs.B`."""
+    return ".".join(["Rattle", *path.with_suffix("").parts[-path_depth(path) :]])
+
+
+def path_depth(path: Path) -> int:
+    """How many parts of a path its module's name has: from the crate's name on."""
+    parts = path.parts
+    last = max(place for place, part in enumerate(parts) if part in ("proofs", "specs"))
+    return len(parts) - last + 1
 
 
 def names_elsewhere(texts: list[str]) -> set[str]:
-    """What some file imports, or names behind its module's name."""
+    """What some file imports, with its module, and the bare names that stand behind a module's name."""
     found: set[str] = set()
     for text in texts:
         for match in IMPORT.finditer(text):
-            found.update(name for name, _ in imported(match[2]))
+            found.update(f"{match[1]}.{name}" for name, _ in imported(match[2]))
         found.update(BEHIND_MODULE.findall(text))
     return found
 
@@ -121,12 +138,12 @@ def sign_of(name: str) -> str:
 
 
 def unused_declarations(crates: list[Path]) -> Iterator[Unused]:
-    antt = {path: path.read_text() for path in sources(crates, ".antt")}
-    used = names_elsewhere([*antt.values(), *(path.read_text() for path in sources(crates, ".rt"))])
-    for path, text in antt.items():
-        lines = [without_comment(line, "--") for line in text.split("\n")]
+    texts = [path.read_text() for suffix in (".antt", ".rt") for path in sources(every_crate(), suffix)]
+    used = names_elsewhere(texts)
+    for path in sources(crates, ".antt"):
+        lines = [without_comment(line, "--") for line in path.read_text().split("\n")]
         for declared in declarations(lines):
-            if declared.name in used:
+            if declared.name in used or f"{module_of(path)}.{declared.name}" in used:
                 continue
             if sign_of(declared.name) not in names_outside(lines, declared):
                 yield Unused(path, declared.first + 1, "nothing names", declared.name)
@@ -161,7 +178,7 @@ def unused_imports(crates: list[Path]) -> Iterator[Unused]:
 
 
 def main() -> int:
-    crates = [Path(given) for given in sys.argv[1:]] or sorted(Path("crates").iterdir())
+    crates = [Path(given) for given in sys.argv[1:]] or every_crate()
     found = [*unused_declarations(crates), *unused_imports(crates)]
     for each in found:
         print(each)

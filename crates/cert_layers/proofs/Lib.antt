@@ -11,3 +11,4 @@ pub mod Covers
 pub mod Woken
 pub mod Valid
 pub mod Failing
+pub mod Bounds

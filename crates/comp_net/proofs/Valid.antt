@@ -42,6 +42,7 @@ use Rattle.comp_net.specs.Building.{AreAtomProofs}
 use Rattle.comp_net.specs.CompileFaults.{fault_with}
 use Rattle.comp_net.proofs.Postfix.{value_at, combined-postfix, tree-again, depth-most, items-most, some_atom, names-below}
 use Rattle.comp_net.proofs.Narrow.{KeepsWidths, keeps_widths, buildable}
+use Rattle.std.proofs.lemmas.Option.{same_Some}
 
 -- ---- all atoms
 
@@ -121,15 +122,12 @@ parts-trees choice [] (part ∷ parts) h = absurd h
 parts-trees choice (a ∷ xs) [] h = absurd h
 parts-trees choice (a ∷ xs) (part ∷ parts) h = ap (λ t. t ∷ map (λ (part : LeafProof). part.pred.tree) parts) h.0.tree_is ∙ ap (λ ts. a ∷ ts) (parts-trees choice xs parts h.1)
 
-both_some : {A : Type 0} {x y : A} → Some x ≡ Some y → x ≡ y
-both_some e = cc
-
 parts-valid : (choice : LeafChoice) (xs : List PredTree) (parts : List LeafProof) → AreAtomProofs choice xs parts → (i : ℕ) (leaf : LeafModel) (part : LeafProof) → slice_get (map (leaf_of choice) xs) i ≡ Some leaf → slice_get parts i ≡ Some part → ValidLeafProof leaf part
 parts-valid choice [] [] h i leaf part e f = cc
 parts-valid choice [] (p ∷ parts) h i leaf part e f = absurd h
 parts-valid choice (a ∷ xs) [] h i leaf part e f = absurd h
 parts-valid choice (a ∷ xs) (p ∷ parts) h zero leaf part e f =
-    subst (λ l. ValidLeafProof l part) (both_some e) (subst (ValidLeafProof (leaf_of choice a)) (both_some f) h.0.valid)
+    subst (λ l. ValidLeafProof l part) (same_Some _ _ e) (subst (ValidLeafProof (leaf_of choice a)) (same_Some _ _ f) h.0.valid)
 parts-valid choice (a ∷ xs) (p ∷ parts) h (suc i) leaf part e f = parts-valid choice xs parts h.1 i leaf part e f
 
 parts-within : (choice : LeafChoice) (n : ℕ) (xs : List PredTree) (parts : List LeafProof) → AreAtomProofs choice xs parts → All (IsBuilt choice n) xs → All (IsLeafProofWithin n) parts

@@ -28,8 +28,3 @@ module _ {A : Type 0} (ops : Operators A) (items : List Item) where
   no_value k d operands other l w e =
       ap (λ xs. unwrap_or (option_and_then only_one (after_items ops xs [])) other) (sym (take-append-drop (k + 1) items))
       ∙ ap (λ o. unwrap_or (option_and_then only_one o) other) (after_items-append ops (take (k + 1) items) (drop (k + 1) items) [] ∙ ap (option_and_then (after_items ops (drop (k + 1) items))) (after_one k d operands l w ∙ e))
-
-pub not_one : {A : Type 0} (operands : List A) (other : A) → (length operands ≡ 1 → ⊥) → unwrap_or (only_one operands) other ≡ other
-not_one [] other h = refl
-not_one (a ∷ []) other h = absurd (h refl)
-not_one (a ∷ b ∷ operands) other h = refl

@@ -1,17 +1,15 @@
 -- Groups of agents by their states, and what a move makes of them.
-use Rattle.std.proofs.Common.{◌≡◌, ◌≢◌, ◌⊎◌, inl, inr, ℕ, zero, suc, ◌<◌, ◌≤◌, Bool, true, false, cond, ◌&&◌, List, [], ◌∷◌, ◌++◌, length, refl, ap, sym, subst, ◌∙◌, arith}
+use Rattle.std.proofs.Common.{◌≡◌, ◌≢◌, ◌⊎◌, inl, inr, ℕ, zero, suc, ◌<◌, ◌≤◌, Bool, true, false, ◌&&◌, List, [], ◌∷◌, ◌++◌, length, refl, ap, sym, subst, ◌∙◌, arith}
 use Rattle.std.specs.Prelude.{Some, ◌==◌, ◌↔◌, if◌then◌else◌, slice_get, slice_set}
-use Rattle.std.specs.Ordering.{nat_cmp}
-use Rattle.std.specs.BTreeSet.{BTreeSet, contains}
-use Rattle.std.specs.BTreeMap.{is_at}
-use Rattle.std.proofs.lemmas.Bool.{eq-eqb, ne_eqb, lt-ltb, le-ltb, cases_lt, both_ways}
+use Rattle.std.specs.BTreeSet.{BTreeSet}
+use Rattle.std.proofs.lemmas.Bool.{eq-eqb, both_ways}
 use Rattle.std.proofs.lemmas.Bool.Decides.{eqb_tells}
-use Rattle.std.proofs.lemmas.List.{get_or-set_same, get_or-set_other, set-set, set_comm}
+use Rattle.std.proofs.lemmas.List.{set-set, set_comm}
 use Rattle.std.proofs.lemmas.Option.{slice_get_within, same_Some}
 use Rattle.pop_net.specs.declared.leaf.Move.{Move}
 use Rattle.pop_net.specs.LeafModel.{silent_move}
 use Rattle.pop_settle.specs.Settlement.{CanMake, Then}
-use Rattle.pop_settle.specs.Groups.{group_at, holds, AreAlike, AreGroups, IsEmptyGroup, IsLeastOf, Changes, Puts, Takes, IsLeastPairFor, states_after_move}
+use Rattle.pop_settle.specs.Groups.{holds, AreAlike, AreGroups, IsEmptyGroup, IsLeastOf, Changes, Puts, Takes, IsLeastPairFor, states_after_move}
 use Rattle.list_laws.proofs.Lists.{slice_get-set_same}
 
 -- a write elsewhere changes nothing here
@@ -33,33 +31,6 @@ off_change there g q a after z x c ne = c z x ∙ by_cases (eqb_tells z q) (eqb_
     by_cases (inr h) k = rw h.0 refl
     by_cases (inl h) (inr k) = rw (h.0, k.0) refl
     by_cases (inl h) (inl k) = absurd (ne h.1 k.1)
-
-pub is_at-number : (a x : ℕ) → is_at (nat_cmp a) x ≡ (x == a)
-is_at-number a x = by_order (cases_lt a x) (cases_lt x a)
-  where
-    by_order : (a < x) ⊎ (x ≤ a) → (x < a) ⊎ (a ≤ x) → is_at (nat_cmp a) x ≡ (x == a)
-    by_order (inl l) k = rw (lt-ltb a x l, ne_eqb x a (λ e. omega (arith, l, e))) refl
-    by_order (inr l) (inl k) = rw (le-ltb a x l, ne_eqb a x (λ e. omega (arith, k, e)), ne_eqb x a (λ e. omega (arith, k, e))) refl
-    by_order (inr l) (inr k) =
-        let same : x ≡ a = omega arith in rw (same, le-ltb a a (omega arith), eq-eqb a a refl) refl
-
--- one group is written anew
-pub changed : (there : Bool) (g : List (BTreeSet ℕ)) (q a : ℕ) (group : BTreeSet ℕ) → q < length g → ((x : ℕ) → contains nat_cmp group x ≡ cond (is_at (nat_cmp a) x) there (contains nat_cmp (group_at g q) x)) → Changes there g q a (slice_set g q group)
-changed there g q a group l h z x = by_group (eqb_tells z q)
-  where
-    by_agent : ((x == a) ≡ true) × (x ≡ a) ⊎ ((x == a) ≡ false) × (x ≢ a) → cond (x == a) there (holds g q x) ≡ (if true && (x == a) then there else holds g q x)
-    by_agent (inl k) = rw k.0 refl
-    by_agent (inr k) = rw k.0 refl
-
-    by_group : ((z == q) ≡ true) × (z ≡ q) ⊎ ((z == q) ≡ false) × (z ≢ q) → holds (slice_set g q group) z x ≡ (if (z == q) && (x == a) then there else holds g z x)
-    by_group (inl k) =
-        rw (k.1, eq-eqb q q refl)
-        (ap (λ (s : BTreeSet ℕ). contains nat_cmp s x) (get_or-set_same g q group (record { keys = [] }) l)
-        ∙ h x
-        ∙ ap (λ b. cond b there (holds g q x)) (is_at-number a x)
-        ∙ by_agent (eqb_tells x a))
-    by_group (inr k) =
-        rw k.0 (ap (λ (s : BTreeSet ℕ). contains nat_cmp s x) (get_or-set_other g q z group (record { keys = [] }) k.1))
 
 -- an agent leaves its group: its state is then one without a group
 pub taken_out : (states : List ℕ) (g : List (BTreeSet ℕ)) (q a none : ℕ) (after : List (BTreeSet ℕ)) → AreGroups states g → slice_get states a ≡ Some q → length g ≤ none → length after ≡ length g → Takes g q a after → AreGroups (slice_set states a none) after

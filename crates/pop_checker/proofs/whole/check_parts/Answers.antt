@@ -1,6 +1,6 @@
 use Rattle.std.proofs.Common.{◌<◌, length, ap, arith}
 use Rattle.std.proofs.lemmas.Result.{err_from_is_err_and}
-use Rattle.pop_checker.proofs.Bounds.{one_bound_more}
+use Rattle.cert_layers.proofs.Bounds.{bound_more}
 use Rattle.pop_checker.proofs.Firsts.{first_fault, one_more, part_at}
 use Rattle.pop_checker.proofs.whole.check_parts.Goals as goal
 
@@ -23,7 +23,7 @@ loop-number-preserved c =
     let here = part_at c.args.proof.now.leaves c.as_slice-parts.result.now c.loop-number.number c.index-parts-number.result c.as_slice-parts.ensures c.loop-number-test.true c.index-parts-number.is in
     record {
       right = one_more c.args.net.now c.args.proof.now.leaves c.loop-number.number c.leaf.result.now c.index-parts-number.result c.loop-number.invariant.right c.leaf.ensures here c.in_ok-more.ensures.right;
-      so_far = one_bound_more c.args.proof.now.leaves c.as_slice-parts.result.now c.loop-number.number c.loop-number.bound c.in_ok-more.more _ c.index-parts-number.result c.as_slice-parts.ensures c.loop-number-test.true c.index-parts-number.is c.in_ok-more.ensures.bound.0 c.loop-number.invariant.so_far;
+      so_far = bound_more c.args.proof.now.leaves c.as_slice-parts.result.now c.loop-number.number c.loop-number.bound c.in_ok-more.more _ c.index-parts-number.result c.as_slice-parts.ensures c.loop-number-test.true c.index-parts-number.is c.in_ok-more.ensures.bound.0 c.loop-number.invariant.so_far;
       small = omega (arith, c.in_ok-more.ensures.bound.1, c.loop-number.invariant.small);
     }
 

@@ -1,6 +1,7 @@
 use Rattle.std.proofs.Common.{◌≡◌, ◌≤◌, ◌^◌, ◌∙◌, length, ap, arith}
 use Rattle.cert_base.specs.ProofBound.{layers_bound}
-use Rattle.pop_settle.proofs.Bounds.{bound_more, bound_fits}
+use Rattle.cert_layers.proofs.Bounds.{bound_more}
+use Rattle.pop_settle.proofs.Bounds.{bound_fits}
 use Rattle.pop_settle.proofs.bound.most_takes.Goals.{After-bound_of-bound}
 use Rattle.std.proofs.lemmas.Grind.{common_steps}
 use Rattle.pop_settle.proofs.bound.most_takes.Goals as goal

@@ -1,4 +1,4 @@
-use Rattle.std.proofs.Common.{◌≡◌, ◌≤◌, ◌^◌, ◌*◌, ◌+ℤ◌, nat_abs, drop}
+use Rattle.std.proofs.Common.{◌≡◌, ◌≤◌, ◌*◌, ◌+ℤ◌, nat_abs, drop}
 use Rattle.pres_ast.specs.PredicateValue.{weighted_sum}
 use Rattle.pres_ast.proofs.value.sum.Given as goal
 use Rattle.pres_ast.specs.declared.limits.TheConstants.{PRODUCT_LIMIT}
