@@ -55,24 +55,5 @@ each-push {A = A} P xs x each last i d h =
     subst (λ (t : ℕ × A). P t.0 t.1) (λ k. (sym here k, sym found k)) last)
     (cases_lt i (length xs))
 
-pub each-front : {A : Type 0} (P : ℕ → A → Type 0) (xs ys : List A) (x : A) → ys ≡ xs ++ x ∷ [] → ((i : ℕ) (d : A) → i < length ys → P i (get_or ys i d)) → (i : ℕ) (d : A) → i < length xs → P i (get_or xs i d)
-each-front {A = A} P xs ys x is each i d h =
-    let within : i < length ys = subst (λ (l : List A). i < length l) (sym is) (omega (arith, length-append xs (x ∷ []))) in
-    subst (P i) (ap (λ (l : List A). get_or l i d) is ∙ get_or_append_left xs (x ∷ []) d i h) (each i d within)
-
-pub each-last : {A : Type 0} (P : ℕ → A → Type 0) (xs ys : List A) (x : A) → ys ≡ xs ++ x ∷ [] → ((i : ℕ) (d : A) → i < length ys → P i (get_or ys i d)) → P (length xs) x
-each-last {A = A} P xs ys x is each =
-    let within : length xs < length ys = subst (λ (l : List A). length xs < length l) (sym is) (omega (arith, length-append xs (x ∷ []))) in
-    subst (P (length xs)) (ap (λ (l : List A). get_or l (length xs) x) is ∙ ap (λ (k : ℕ). get_or (xs ++ x ∷ []) k x) (omega arith) ∙ get_or-append-add xs (x ∷ []) 0 x) (each (length xs) x within)
-
 pub each-push_is : {A : Type 0} (P : ℕ → A → Type 0) (xs ys : List A) (x : A) → ys ≡ xs ++ x ∷ [] → ((i : ℕ) (d : A) → i < length xs → P i (get_or xs i d)) → P (length xs) x → (i : ℕ) (d : A) → i < length ys → P i (get_or ys i d)
 each-push_is {A = A} P xs ys x is each last = subst (λ (l : List A). (i : ℕ) (d : A) → i < length l → P i (get_or l i d)) (sym is) (each-push P xs x each last)
-
--- a list of which the last one was taken is still a prefix of another
-pub popped : {A : Type 0} (xs ys rest : List A) (x : A) → ys ≡ rest ++ x ∷ [] → ((i : ℕ) (d : A) → i < length ys → get_or ys i d ≡ get_or xs i d)
-    → ((i : ℕ) (d : A) → i < length rest → get_or rest i d ≡ get_or xs i d) × ((d : A) → get_or xs (length rest) d ≡ x)
-popped {A = A} xs ys rest x is same =
-    let long : length ys ≡ length rest + 1 = ap (length {A = A}) is ∙ length-append rest (x ∷ []) in (
-      (λ i d h. sym (ap (λ (l : List A). get_or l i d) is ∙ get_or_append_left rest (x ∷ []) d i h) ∙ same i d (omega (arith, long, h))),
-      (λ d. sym (same (length rest) d (omega (arith, long))) ∙ ap (λ (l : List A). get_or l (length rest) d) is ∙ ap (λ (k : ℕ). get_or (rest ++ x ∷ []) k d) (omega arith) ∙ get_or-append-add rest (x ∷ []) 0 d),
-    )

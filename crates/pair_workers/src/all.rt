@@ -1,6 +1,6 @@
 //! Runs by all workers.
 
-ghost use Rattle.std.specs.Prelude.{◌≡◌, ℕ, ◌<◌, ◌≤◌, length, IfOk, slice_index_or};
+ghost use Rattle.std.specs.Prelude.{◌≡◌, ◌≤◌, IfOk};
 ghost use Rattle.pop_net.specs.Lanes.{crowd_of};
 ghost use Rattle.pair_workers.specs.OneRun.{IsOnlyRun};
 ghost use Rattle.pair_workers.specs.Ends.{AreFirstPickers, CanMakeRun, IsRunFrom};

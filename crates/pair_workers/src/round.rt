@@ -1,6 +1,6 @@
 //! A round: seats are dealt, all workers make their turns, and the field is closed.
 
-ghost use Rattle.std.specs.Prelude.{◌≡◌, length, All, IfOk, MatchResult};
+ghost use Rattle.std.specs.Prelude.{◌≡◌, All, IfOk, MatchResult};
 ghost use Rattle.pop_words.specs.Options.{IsWithinLimits};
 ghost use Rattle.pair_workers.specs.CrowdSize.{IsCrowdSize};
 ghost use Rattle.pair_workers.specs.Turns.{CanMakeRound, IsRoundFrom, IsWholeRound};

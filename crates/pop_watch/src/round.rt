@@ -1,7 +1,7 @@
 //! A watched round: the workers meet on a field, while an observer looks at it.
 
 ghost use Rattle.std.specs.Prelude.{◌≡◌, true, ℕ, ◌<◌, ◌≤◌, length, map, All, IfOk, IsTrue, ◌↔◌, slice_index_or};
-ghost use Rattle.agent_field.specs.Seats.{IsSeatOf, KeepsLogs, seat_number, spare_looks_of, net_of};
+ghost use Rattle.agent_field.specs.Seats.{IsSeatOf, KeepsLogs};
 ghost use Rattle.terminal_test.specs.TableNet.{table_net};
 ghost use Rattle.pop_words.specs.Options.{IsWithinLimits};
 ghost use Rattle.pair_workers.specs.CrowdSize.{IsCrowdSize};

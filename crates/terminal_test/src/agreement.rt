@@ -1,6 +1,6 @@
 //! Whether all agents have one output.
 
-ghost use Rattle.std.specs.Prelude.{◌≡◌, MatchOption};
+ghost use Rattle.std.specs.Prelude.{MatchOption};
 ghost use Rattle.pop_net.specs.Lanes.{crowd_of, AreValid};
 ghost use Rattle.terminal_test.specs.Agreement.{AllOutput, OutputsDiffer};
 
