@@ -121,9 +121,6 @@ lead_number text i value h some within small =
     let told : decimal (digits_value 10 (take i text)) ≡ take i text = decimal-digits_value own (take i text) digits (omega (arith, long, some)) alone fits in
     sym (take-append-drop i text) ∙ ap (λ (l : List ℕ). l ++ drop i text) (sym told ∙ ap decimal h.value_is)
 
-pub wider : (n : ℕ) → n < 2 ^ 32 → n < 2 ^ 64
-wider n h = omega (arith, h)
-
 -- a line of three numbers and a mark, and what stands behind it
 pub short_told : (text r s t u v more : List ℕ) (w a b : ℕ) (mark : Bool) → text ≡ decimal w ++ r → r ≡ 32 ∷ s → s ≡ decimal a ++ t → t ≡ 32 ∷ u → u ≡ decimal b ++ v
     → v ≡ (if mark then codes " *" else []) ++ 10 ∷ more → w < 2 ^ 64 → a < 2 ^ 64 → b < 2 ^ 64 → Tells (lines_of text) (Some (w, a, b, mark)) (lines_of more)

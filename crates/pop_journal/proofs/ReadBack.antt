@@ -147,15 +147,6 @@ module _ (kind : RunKind) (spec : RunSpec) (agents : ℕ) (some_worker : 1 ≤ s
       (cond-false (ends_inside kind line) (Ok None) (meeting_told spec agents rounds ms (told_in line)) on ∙ ap (meeting_told spec agents rounds ms) t.0 ∙ e)
       ∙ ap (lines_read kind spec agents (number + 1) next) t.1
 
-  -- a line out of form
-  pub read_fault : (number : ℕ) (rounds : List (List Meeting)) (ms : List Meeting) (why : JournalWhy) (told : Option Told) (lines others : List (List ℕ)) → Tells lines told others → length ms < wanted spec rounds
-      → first_ends kind lines ≡ false → meeting_told spec agents rounds ms told ≡ Err why → lines_read kind spec agents number (settled spec rounds ms) lines ≡ Err (number, why)
-  read_fault number rounds ms why told [] others t short on e = absurd t
-  read_fault number rounds ms why told (line ∷ lines) others t short on e =
-      ap (λ (r : Reading). lines_read kind spec agents number r (line ∷ lines)) (settled_open rounds ms short)
-      ∙ ap (follow number (rounds ++ ms ∷ [], lines) (λ n. lines_read kind spec agents (number + 1) n lines))
-      (cond-false (ends_inside kind line) (Ok None) (meeting_told spec agents rounds ms (told_in line)) on ∙ ap (meeting_told spec agents rounds ms) t.0 ∙ e)
-
   -- `end` in place of a meeting line
   pub read_stopped : (number : ℕ) (rounds : List (List Meeting)) (ms : List Meeting) (told : Option Told) (lines others : List (List ℕ)) → Tells lines told others → length ms < wanted spec rounds
       → first_ends kind lines ≡ true → lines_read kind spec agents number (settled spec rounds ms) lines ≡ Ok (rounds ++ ms ∷ [], others)

@@ -81,19 +81,6 @@ AreBounded Compile = Unit {0}
 AreBounded Flocks = Unit {0}
 AreBounded (Demo number) = number ≤ DEMO_LIMIT
 
-bounded_limits : (command : Command) → AreBounded command → HasLimits command
-bounded_limits Play is = tt
-bounded_limits Eval is = tt
-bounded_limits Check is = tt
-bounded_limits (Run spec) is = is.0
-bounded_limits (Watch spec) is = (is.0, is.1)
-bounded_limits Replay is = tt
-bounded_limits ReplayWatched is = tt
-bounded_limits Settle is = tt
-bounded_limits Compile is = tt
-bounded_limits Flocks is = tt
-bounded_limits (Demo number) is = is
-
 spec_within : (kind : RunKind) (words : List (List ℕ)) → IsWithinLimits (spec_of kind words) × ((spec_of kind words).workers ≤ most_workers_of kind)
 spec_within kind words = (
   record {
@@ -182,10 +169,6 @@ meaning_bounded : (words : List (List ℕ)) → IfOk (meaning_of words) AreBound
 meaning_bounded [] = tt
 meaning_bounded (first ∷ words) =
     behind_within (form_named first) words (found (λ row. bytes_eq first row.0) commands (tt, (tt, (tt, (tt, (tt, (tt, (tt, (tt, (tt, tt))))))))))
-
-limits_if : (r : Result Command Usage) → IfOk r AreBounded → IfOk r HasLimits
-limits_if (Ok command) is = bounded_limits command is
-limits_if (Err usage) is = tt
 
 of_kind : (kind : RunKind) (spec : RunSpec) → AreBounded (run_command kind spec) → IsBounded kind spec
 of_kind Whole spec is = is

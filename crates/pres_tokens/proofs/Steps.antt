@@ -9,9 +9,6 @@ tokens-skip (suc k) place [] = refl
 tokens-skip (suc k) place (b ∷ bytes) =
     tokens-skip k (place + 1) bytes ∙ ap (λ n. tokens_from 0 n (drop k bytes)) (omega arith)
 
-past_blank : (b place : ℕ) (bytes : List ℕ) → is_blank_byte b ≡ true → tokens_from 0 place (b ∷ bytes) ≡ tokens_from 0 (place + 1) bytes
-past_blank b place bytes e = rw e refl
-
 token_first : (b place : ℕ) (bytes : List ℕ) → is_blank_byte b ≡ false
     → tokens_from 0 place (b ∷ bytes) ≡ record { place = place; symbol = (first_symbol (b ∷ bytes)).0 } ∷ tokens_from ((first_symbol (b ∷ bytes)).1 - 1) (place + 1) bytes
 token_first b place bytes e = rw e refl

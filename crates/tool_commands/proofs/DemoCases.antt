@@ -35,6 +35,3 @@ case_fits = each_case (λ tree. fault_with Plain tree ≡ None) (λ i. search ru
 
 pub some_agents : (number : ℕ) → AGENT_LEAST ≤ input_size (demo_net number) (demo_counts number)
 some_agents number = omega (arith, no_helpers number)
-
-pub few_agents : (number : ℕ) → input_size (demo_net number) (demo_counts number) ≤ AGENT_LIMIT
-few_agents number = omega (arith, no_helpers number)
