@@ -1,6 +1,6 @@
 //! The table of pairs, for majority.
 
-ghost use Rattle.std.specs.Prelude.{◌≡◌, IfSome};
+ghost use Rattle.std.specs.Prelude.{◌≡◌};
 ghost use Rattle.pop_net.specs.Lanes.{AreValid};
 ghost use Rattle.terminal_test.specs.TableNet.{table_net};
 

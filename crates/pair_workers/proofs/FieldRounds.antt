@@ -29,15 +29,6 @@ pub front : {A : Type 0} (xs ys : List A) (x : A) → 0 < length xs → x ≡ ge
 front [] ys x some is rest = absurd (omega (arith, some))
 front {A = A} (z ∷ zs) ys x some is rest = ap (λ (w : A). w ∷ zs) (sym is) ∙ ap (λ (l : List A). x ∷ l) (sym rest)
 
--- so many turns were made
-pub has_made : (f : Field) (turns made : ℕ) (before after : List ℕ) (log : List Logged) → made ≤ turns → HasPicked (agents_of_field f) made before after (pairs_of log) → HasMade f turns before after log
-has_made f turns made before after log few picked =
-    let long : made ≡ length log = sym picked.long ∙ length-map log (λ (e : Logged). (e.a, e.b)) in
-    record {
-      few = subst (λ (n : ℕ). n ≤ turns) long few;
-      picked = subst (λ (n : ℕ). HasPicked (agents_of_field f) n before after (pairs_of log)) long picked;
-    }
-
 is_done : (f : Field) (turns : ℕ) (observed : Bool) (number : ℕ) (picker : List ℕ) (before after : Worker) → IsReady f turns number picker before → HasWorked f turns observed before after → IsDone f turns observed number picker after
 is_done f turns observed number picker before after ready worked = record {
   ours = worked.ours;

@@ -121,11 +121,6 @@ module _ (net : NetModel) (start : CrowdModel) (spec : RunSpec) (alone : spec.wo
             let round = second.each_round (length rounds) _ (slice_get-get_or others (length rounds) [] l) in
             absurd (omega (arith, round.some_turn, spent))
 
--- the meetings of a run by one worker are meetings of two different agents
-pub run_meets : (net : NetModel) (start : CrowdModel) (spec : RunSpec) (rounds : List (List Meeting)) (end : CrowdModel) → spec.workers ≡ 1 → 2 ≤ length start → IsRun net start spec rounds end → AreMeetings (length start) (joined rounds)
-run_meets net start spec rounds end alone two run =
-    picked_meet (words_from (first_state spec.seed 0)) (length start) (joined rounds) two (picked_of net start spec alone rounds rounds end end run run rounds end run)
-
 -- two runs by one worker are one
 pub only_run : (net : NetModel) (start : CrowdModel) (spec : RunSpec) (rounds : List (List Meeting)) (end : CrowdModel) → spec.workers ≡ 1 → IsRun net start spec rounds end → IsOnlyRun net start spec rounds end
 only_run net start spec rounds end alone run others other second = by_length (cases_lt (length rounds) (length others)) (cases_lt (length others) (length rounds))

@@ -20,9 +20,6 @@ use Rattle.pair_workers.specs.declared.work.Worker.{Worker}
 use Rattle.pop_watch.specs.Playing.{ArePlaying, of_worker}
 use Rattle.pop_watch.proofs.Renumbered.{IsOfWorker, pairs_of_worker, replay_of_workers, marked_of_workers, numbers_of_workers}
 
-pair : Meeting → ℕ × ℕ
-pair m = (m.a, m.b)
-
 module _ (f : Field) (turns : ℕ) (pickers : List (List ℕ)) (done : List Worker) (first s : FieldSeat) (meetings : List Meeting) (others : AreDone f turns true pickers done) (all : HasAll f done first s)
     (taken : (w : ℕ) (l : List Logged) → get_or (taken_of s) w None ≡ Some l → calls w meetings ≡ l) (some : All IsOfWorker meetings) where
   pairs_made : (w : ℕ) (d : Worker) → w < length done → pairs_of (log_of (get_or done w d).seat) ≡ pairs (meetings_of w (map of_worker meetings))

@@ -14,15 +14,5 @@ has_tuple : (net : NetModel) (words : List Word) (a : ℕ) (x : Word) → slice_
 has_tuple net words a x h =
     (a, slice_get_within (crowd_of net words) a (tuple_of net x) (tuple_at net words a x h), get_or_from_slice_get (crowd_of net words) a (tuple_of net x) (tuple_of net x) (tuple_at net words a x h))
 
-pub outputs_differ : (net : NetModel) (words : List Word) (a b : ℕ) (x y : Word) (v w : Bool) → slice_get words a ≡ Some x → slice_get words b ≡ Some y → v ≡ output_of net (tuple_of net x) → w ≡ output_of net (tuple_of net y) → v ≢ w → OutputsDiffer net (crowd_of net words)
-outputs_differ net words a b x y v w ha hb e f ne =
-    record {
-      one = tuple_of net x;
-      other = tuple_of net y;
-      one_there = has_tuple net words a x ha;
-      other_there = has_tuple net words b y hb;
-      differ = λ same. ne (e ∙ same ∙ sym f);
-    }
-
 pub all_output : (net : NetModel) (words : List Word) (v : Bool) → ((d : ℕ) (w : Word) → d < length words → output_of net (tuple_of net (get_or words d w)) ≡ v) → AllOutput net (crowd_of net words) v
 all_output net words v h = All-map (λ t. output_of net t ≡ v) (tuple_of net) words (λ k d l. h k d l)

@@ -25,9 +25,6 @@ use Rattle.pop_net.specs.declared.net.Word.{Word}
 use Rattle.pop_net.specs.Lanes.{tuple_of, crowd_of}
 use Rattle.pop_crowd.proofs.Words.{tuple_at, crowd_tuples}
 
-pub counts_none : (states seen : List ℕ) → CountsTo states seen 0
-counts_none states seen = record { once = λ a x l _. absurd (omega (arith, l)); twice = λ a b x _ l _ _. absurd (omega (arith, l)) }
-
 -- one more agent
 pub counts_more : (states seen : List ℕ) (n s new : ℕ) → slice_get states n ≡ Some s → s < length seen → 1 ≤ new → (1 ≤ get_or seen s 0 → 2 ≤ new) → CountsTo states seen n → CountsTo states (set seen s new) (n + 1)
 counts_more states seen n s new is l some more h = record { once = λ a x m ha. once a x m ha (cases_eq x s); twice = λ a b x m k ha hb. twice a b x m k ha hb (cases_eq x s) }
@@ -58,11 +55,6 @@ counts_more states seen n s new is l some more h = record { once = λ a x m ha. 
         let v = get_or-set_other seen s x new 0 ne in
         let o = h.twice a b x m (earlier b x k hb ne) ha hb in
         omega (arith, v, o)
-
--- no pair was looked at
-pub marked_none : (pairs : List (ℕ × ℕ)) (seen : List ℕ) (marks : List Bool) → length marks ≡ length seen → AreMarkedTo pairs seen marks 0
-marked_none pairs seen marks e =
-    record { size = e; first = λ j p q l _ _. absurd (omega (arith, l)); second = λ j p q l _ _. absurd (omega (arith, l)) }
 
 module _ (marks : List Bool) (p : ℕ) where
   set_true : p < length marks → slice_get (slice_set marks p true) p ≡ Some true
@@ -247,16 +239,6 @@ restless_more net crowd marks new i here e h before =
         before.each j leaf found at
         (slice_get-get_or marks j [] l ∙ ap Some (sym (get_or_append_left marks (here ∷ []) [] j l))
         ∙ sym (slice_get-get_or (marks ++ here ∷ []) j [] whole) ∙ is)
-
--- no mark was found in one more leaf
-pub calm_more : (marks : List (List Bool)) (tuple : Tuple) (i : ℕ) (here : List Bool) → slice_get marks i ≡ Some here → slice_get here (state_of tuple i) ≡ Some false → IsCalmTo marks tuple i → IsCalmTo marks tuple (i + 1)
-calm_more marks tuple i here is e before j found l at = go (cases_eq j i)
-  where
-    go : (j ≡ i) ⊎ (j ≡ i → ⊥) → slice_get found (state_of tuple j) ≡ Some false
-    go (inr ne) = before j found (omega (arith, l, ne)) at
-    go (inl same) =
-        let this : here ≡ found = same_Some here found (sym is ∙ ap (slice_get marks) (sym same) ∙ at) in
-        ap (λ k. slice_get found (state_of tuple k)) same ∙ ap (λ (m : List Bool). slice_get m (state_of tuple i)) (sym this) ∙ e
 
 -- an agent without a mark changes with no later one
 pub calm_below : (net : NetModel) (words : List Word) (marks : List (List Bool)) (a : ℕ) (x : Word) → slice_get words a ≡ Some x → AreRestless net (crowd_of net words) marks → IsCalm marks (tuple_of net x) → (d : ℕ) → a < d → d < length (crowd_of net words) → changes net a d (crowd_of net words) ≡ false

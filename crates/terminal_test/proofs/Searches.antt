@@ -37,22 +37,3 @@ below_more net crowd a before h c d l m n = go (cases_eq c a)
     go : (c ≡ a) ⊎ (c ≡ a → ⊥) → changes net c d crowd ≡ false
     go (inl same) = subst (λ (k : ℕ). changes net k d crowd ≡ false) (sym same) (h d (omega (arith, same)) n)
     go (inr ne) = before c d (omega arith) m n
-
--- the first agent that has a partner, with the first of its partners
-pub least_pair : (net : NetModel) (crowd : CrowdModel) (a b : ℕ) → NoneBelow net crowd a → IsPartner net crowd a (Some b) → IsLeastPair net crowd a b
-least_pair net crowd a b below p = record { enabled = p.0; least = λ c d h. go c d h (cases_order a c) }
-  where
-    at_a : (c d : ℕ) → IsEnabled net crowd c d → c ≡ a → b ≤ d
-    at_a c d h same = later (cases_lt d b)
-      where
-        later : (d < b) ⊎ (b ≤ d) → b ≤ d
-        later (inr l) = l
-        later (inl l) =
-            let low : a < d = omega (arith, same, h.lower) in
-            let e : changes net a d crowd ≡ true = subst (λ (k : ℕ). changes net k d crowd ≡ true) same h.changed in
-            absurd (false≢true (sym (p.1 d low l) ∙ e))
-
-    go : (c d : ℕ) → IsEnabled net crowd c d → (a ≡ c) ⊎ ((a < c) ⊎ (c < a)) → (a < c) ⊎ ((c ≡ a) × (b ≤ d))
-    go c d h (inl same) = inr (sym same, at_a c d h (sym same))
-    go c d h (inr (inl l)) = inl l
-    go c d h (inr (inr l)) = absurd (false≢true (sym (below c d l h.lower h.within) ∙ h.changed))

@@ -1,6 +1,6 @@
 //! The least pair of agents whose meeting changes a word, in a time that grows with the agents alone.
 
-ghost use Rattle.std.specs.Prelude.{◌≡◌, ◌<◌, ◌↔◌, map, true, None, IfOk, IfSome};
+ghost use Rattle.std.specs.Prelude.{◌≡◌, ◌↔◌, map, true, None, IfOk, IfSome};
 ghost use Rattle.pop_net.specs.Lanes.{crowd_of, AreValid};
 ghost use Rattle.pop_net.specs.Step.{Step};
 ghost use Rattle.pop_net.specs.Terminal.{IsTerminal};
