@@ -1,5 +1,5 @@
 -- A bundle within the limits of a file is read back from its text.
-use Rattle.std.proofs.Common.{◌≡◌, ℕ, List, [], ◌∷◌, length, refl, sym, ap, ◌∙◌, arith, append-nil}
+use Rattle.std.proofs.Common.{◌≡◌, ℕ, List, [], ◌∷◌, refl, sym, ap, ◌∙◌, arith, append-nil}
 use Rattle.serde_json.specs.Data.{string}
 use Rattle.serde_json.specs.Written.{compact_text}
 use Rattle.pop_lines.specs.Lines.{lines_of, ended}
@@ -13,7 +13,7 @@ use Rattle.cert_json.specs.declared.bundle.Bundle.{Bundle}
 use Rattle.cert_json.specs.BundleFile.{IsBundleFile}
 use Rattle.cert_json.proofs.WrittenFiles.{pred_is, proof_is}
 use Rattle.bundle_text.specs.Bundle.{bundle_data}
-use Rattle.bundle_text.specs.ReadBack.{IsWritable, IsReadBack, BundlesAreReadBack}
+use Rattle.bundle_text.specs.ReadBack.{IsWritable, BundlesAreReadBack}
 use Rattle.bundle_text.proofs.Readable.{read_again}
 use Rattle.bundle_text.proofs.WrittenData.{bundle_readable}
 

@@ -1,17 +1,17 @@
 -- Names and the canonical texts of predicates are UTF-8.
-use Rattle.std.proofs.Common.{◌≡◌, inl, inr, ℕ, ◌≤◌, ◌<◌, ◌^◌, ◌==◌, ◌&&◌, ◌||◌, Bool, true, false, not, cond, IsTrue, List, [], ◌∷◌, ◌++◌, length, codes, decimal, ℤ, pos, negsuc, nat_abs, nat_le, IsUtf8, IsAscii, refl, sym, ◌∙◌, arith, rules}
+use Rattle.std.proofs.Common.{◌≡◌, ℕ, ◌<◌, ◌^◌, ◌==◌, ◌&&◌, ◌||◌, Bool, true, false, not, cond, IsTrue, List, [], ◌∷◌, ◌++◌, length, codes, decimal, ℤ, pos, negsuc, nat_abs, nat_le, IsUtf8, IsAscii, refl, arith}
 use Rattle.std.specs.Prelude.{All}
 use Rattle.std.specs.List.{list_all}
 use Rattle.std.specs.Str.{bytes_eq}
 use Rattle.std.specs.Fmt.{signed_decimal}
-use Rattle.std.proofs.lemmas.Bool.{and_parts, leb-true, cases_lt}
+use Rattle.std.proofs.lemmas.Bool.{and_parts, leb-true}
 use Rattle.std.proofs.lemmas.Fmt.{IsAscii-decimal, IsAscii-signed}
 use Rattle.std.proofs.lemmas.List.Elements.{All-head, All-tail}
 use Rattle.std.proofs.lemmas.Str.{IsUtf8-append, IsUtf8-from_ascii}
 use Rattle.std.proofs.lemmas.Str.Ascii.{IsAscii-nil, IsAscii-cons}
 use Rattle.json.proofs.Printed.Utf8.{IsUtf8-are_ascii}
 use Rattle.pop_io.specs.declared.names.TheConstants.{NAME_LIMIT}
-use Rattle.pop_io.specs.Names.{is_name_start, is_name_byte, starts_name, variable_name, is_printed, state_name}
+use Rattle.pop_io.specs.Names.{is_name_byte, starts_name, variable_name, is_printed, state_name}
 use Rattle.pres_ast.specs.PredTree.{PredTree, LessThan, Congruent, Negation, Conjunction, Disjunction}
 use Rattle.pres_ast.specs.PredModel.{HasAtoms}
 use Rattle.pres_read.specs.Canonical.{is_zero, is_negative, term_text, sign_text, terms_text, zero_text, sum_text, tree_text}

@@ -1,8 +1,8 @@
 -- The data of a bundle within the limits of a file is read back from its text.
-use Rattle.std.proofs.Common.{◌≡◌, ℕ, ◌+◌, ◌≤◌, ◌<◌, ◌^◌, Bool, true, false, List, [], ◌∷◌, length, map, codes, ℤ, nat_abs, IsUtf8, refl, arith}
+use Rattle.std.proofs.Common.{ℕ, ◌+◌, ◌≤◌, ◌<◌, ◌^◌, Bool, true, false, List, [], ◌∷◌, length, map, codes, ℤ, IsUtf8, refl, arith}
 use Rattle.std.specs.Prelude.{All}
 use Rattle.json.proofs.Printed.Utf8.{IsUtf8-are_ascii}
-use Rattle.serde_json.specs.Data.{Data, Members, no_members, member, string, boolean, object}
+use Rattle.serde_json.specs.Data.{Data, Members, no_members, member, string, boolean}
 use Rattle.pres_ast.specs.PredModel.{IsPred}
 use Rattle.pop_net.specs.declared.leaf.Move.{Move}
 use Rattle.pop_net.specs.declared.net.Item.{Item}
@@ -18,8 +18,8 @@ use Rattle.cert_base.specs.declared.node.Node.{Node}
 use Rattle.cert_base.specs.declared.node.Node.TheVariants.{Linear, Residue, Split, Present, Twin, Trap, Siphon, Open}
 use Rattle.cert_base.specs.declared.proof.Proof.{Proof}
 use Rattle.cert_base.specs.declared.proof.LeafProof.{LeafProof}
-use Rattle.cert_base.specs.ProofLimits.{IsSmall, IsTermWithin, AreTermsWithin, IsSetWithin, IsNodeWithin, AreNodesWithin, IsLayerWithin, IsLeafProofWithin, IsProofWithin}
-use Rattle.cert_json.specs.Written.{integer_data, integers_data, term_data, terms_data, one_part, two_parts, node_data, nodes_data, layer_data, leaf_proof_data, proof_data}
+use Rattle.cert_base.specs.ProofLimits.{IsSmall, IsTermWithin, AreTermsWithin, IsSetWithin, IsNodeWithin, AreNodesWithin, IsLayerWithin, IsLeafProofWithin}
+use Rattle.cert_json.specs.Written.{integer_data, term_data, terms_data, one_part, two_parts, node_data, nodes_data, layer_data, leaf_proof_data, proof_data}
 use Rattle.cert_json.specs.declared.bundle.Bundle.{Bundle}
 use Rattle.bundle_text.specs.Bundle.{bundle_data}
 use Rattle.bundle_text.specs.ReadBack.{IsWritable}

@@ -1,5 +1,5 @@
 -- What is read of a proof is in its file, and each such file is read.
-use Rattle.std.proofs.Common.{◌≡◌, ℕ, List, [], length, codes, Result, Ok, Err, refl, sym, ap, subst, arith}
+use Rattle.std.proofs.Common.{◌≡◌, ℕ, List, [], length, codes, Result, Ok, Err, refl, ap, subst, arith}
 use Rattle.std.specs.Prelude.{◌≢◌, IfOk, IfErr}
 use Rattle.serde_json.specs.Data.{Data}
 use Rattle.json_shape.specs.declared.fault.FormatFault.{FormatFault}
@@ -10,7 +10,6 @@ use Rattle.json_shape.specs.Shapes.{object_at, member_at, member_by, text_at, it
 use Rattle.json_shape.proofs.Steps.{bind_ok, same_ok}
 use Rattle.json_shape.proofs.Readers
 use Rattle.json_shape.proofs.Fresh.{EachFrom-All, All-EachFrom}
-use Rattle.pres_ast.specs.PredTree.{PredTree}
 use Rattle.pres_ast.specs.PredModel.{PredModel}
 use Rattle.pres_read.specs.TextFault.{TextFault}
 use Rattle.pres_read.specs.Reading.{pred_read}

@@ -6,8 +6,8 @@ use Rattle.serde_json.specs.Find.{get, as_number, as_i64, as_str, as_array, as_b
 use Rattle.json_shape.specs.declared.fault.Why.TheVariants.{Range}
 use Rattle.json_shape.specs.Faults.{Fault, ◌>>=◌}
 use Rattle.json_shape.specs.Paths.{member_path}
-use Rattle.json_shape.specs.Shapes.{listed, of_kind, object_at, member_at, member_by, within, list_at, in_range, number_at, text_at, truth_at, each}
-use Rattle.json_shape.specs.Parts.{IsNumber, IsText, IsTruth, HasMember, AreItems, IsList}
+use Rattle.json_shape.specs.Shapes.{listed, of_kind, object_at, member_at, within, list_at, in_range, number_at, text_at, truth_at, each}
+use Rattle.json_shape.specs.Parts.{IsNumber, IsText, IsTruth, AreItems, IsList}
 use Rattle.json_shape.proofs.Steps.{bind_ok, guard_ok, both_true, same_ok}
 
 pub kind_takes : {A : Type 0} (path : List ℕ) (o : Option A) (x : A) → of_kind path o ≡ Ok x → o ≡ Some x

@@ -11,13 +11,12 @@ use Rattle.pop_net.specs.Step.{Step}
 use Rattle.pop_net.specs.Terminal.{IsTerminal}
 use Rattle.pop_net.specs.Reaction.{after_meeting}
 use Rattle.pop_crowd.specs.declared.crowd.Meeting.{Meeting}
-use Rattle.pop_crowd.specs.Replay.{replay, changes, AreMarked, AreMeetings}
+use Rattle.pop_crowd.specs.Replay.{replay, changes, AreMarked}
 use Rattle.pop_words.specs.declared.spec.RunSpec.{RunSpec}
 use Rattle.pair_workers.specs.Picks.{pick_of, picks_from, words_from, first_state}
 use Rattle.pair_workers.specs.Run.{IsRun, IsRound, joined, pairs, turns_in}
 use Rattle.pair_workers.specs.OneRun.{IsOnlyRun}
 use Rattle.pair_workers.proofs.Rounds.{all_mine}
-use Rattle.pair_workers.proofs.Meets.{picked_meet}
 use Rattle.pair_workers.proofs.Fronts.{same_head, same_tail}
 
 same_meeting : (m n : Meeting) → m.worker ≡ n.worker → m.a ≡ n.a → m.b ≡ n.b → m.changed ≡ n.changed → m ≡ n

@@ -1,17 +1,14 @@
 -- A run by one worker that is being made and written.
-use Rattle.std.proofs.Common.{◌≡◌, ℕ, ◌+◌, ◌-◌, min, List, [], ◌∷◌, ◌++◌, length, refl, ap, sym, ◌∙◌, arith, append-nil, append_assoc, length-append}
+use Rattle.std.proofs.Common.{◌≡◌, ℕ, ◌+◌, List, [], ◌∷◌, ◌++◌, length, ap, ◌∙◌, append_assoc}
 use Rattle.std.specs.Prelude.{codes}
 use Rattle.pop_lines.specs.Lines.{ended}
 use Rattle.pop_net.specs.NetModel.{NetModel, CrowdModel}
-use Rattle.pop_net.specs.Step.{Step}
-use Rattle.pop_net.specs.Terminal.{IsTerminal}
 use Rattle.pop_crowd.specs.declared.crowd.Meeting.{Meeting}
 use Rattle.pop_words.specs.declared.kind.RunKind.TheVariants.{Whole}
 use Rattle.pop_words.specs.declared.spec.RunSpec.{RunSpec}
-use Rattle.pair_workers.specs.Turns.{ArePlayed}
-use Rattle.pair_workers.proofs.ManyRounds.{AreOnTheRun, all_more_rounds}
-use Rattle.pop_journal.specs.Journal.{run_line, round_line, meeting_line, round_lines, run_lines, text_of}
-use Rattle.pop_journal.proofs.Texts.{round_pushed, run_text}
+use Rattle.pair_workers.proofs.ManyRounds.{AreOnTheRun}
+use Rattle.pop_journal.specs.Journal.{run_line, round_lines, run_lines, text_of}
+use Rattle.pop_journal.proofs.Texts.{run_text}
 
 -- some rounds were made, and their lines stand behind the run's first
 pub record Made (net : NetModel) (start : CrowdModel) (spec : RunSpec) (before text : List ℕ) (crowd : CrowdModel) (picker : List ℕ) (left number : ℕ) : Type 0 where

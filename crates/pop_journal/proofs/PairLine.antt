@@ -1,6 +1,6 @@
 -- A line of two printed numbers names two agents.
-use Rattle.std.proofs.Common.{◌≡◌, ◌≢◌, ℕ, ◌<◌, ◌^◌, ◌==◌, ◌&&◌, Bool, true, false, not, List, [], ◌∷◌, ◌++◌, decimal, refl, ap, sym, ◌∙◌, append_assoc}
-use Rattle.std.specs.Prelude.{Option, Ok, Some, None, nat_lt, option_and_then, option_map}
+use Rattle.std.proofs.Common.{◌≡◌, ◌≢◌, ℕ, ◌<◌, ◌^◌, ◌==◌, List, [], ◌∷◌, ◌++◌, decimal, refl, ap, sym, ◌∙◌, append_assoc}
+use Rattle.std.specs.Prelude.{Ok, Some}
 use Rattle.std.proofs.lemmas.Bool.{ne_eqb, lt-ltb}
 use Rattle.std.proofs.lemmas.List.Splits.{slice_split_none}
 use Rattle.pop_lines.specs.Lines.{pieces, lines_of, ended}
@@ -10,7 +10,7 @@ use Rattle.pop_words.specs.Meetings.{meeting_of, two_agents_of, pair_of}
 use Rattle.pop_journal.specs.FirstPair.{IsFirstPair}
 use Rattle.pop_journal.proofs.Spelled.{decimal_no_space}
 use Rattle.pop_journal.proofs.RunLine.{cut_number, test}
-use Rattle.pop_lines.proofs.Unbroken.{IsUnbroken, line_first, both_unbroken, decimal_unbroken}
+use Rattle.pop_lines.proofs.Unbroken.{line_first, both_unbroken, decimal_unbroken}
 
 number_back : (n : ℕ) → n < 2 ^ 64 → number_of (decimal n) ≡ Some n
 number_back n small = (test (has_no_leading_zero (decimal n)) (number_of (decimal n)) n (printed_number_of-decimal n small)).1

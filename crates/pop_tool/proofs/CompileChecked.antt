@@ -1,12 +1,11 @@
 -- What was compiled is certified.
-use Rattle.std.proofs.Common.{◌≡◌, ℕ, ◌≤◌, nat_lt, List, [], ◌∷◌, length, codes, Result, Ok, Err, refl, sym, subst}
+use Rattle.std.proofs.Common.{◌≡◌, ℕ, nat_lt, List, [], ◌∷◌, length, codes, Result, Ok, Err, refl, sym, subst}
 use Rattle.std.specs.Prelude.{MatchBool}
 use Rattle.pop_io.specs.declared.whole.TheConstants.{INPUT_LIMIT}
 use Rattle.pop_lines.specs.Lines.{lines_of}
 use Rattle.pop_words.specs.declared.command.Command.{Command}
 use Rattle.pop_words.specs.declared.command.Command.TheVariants.{Check, Compile, Flocks}
 use Rattle.pop_words.specs.Words.{meaning_of}
-use Rattle.cert_json.specs.declared.bundle.Bundle.{Bundle}
 use Rattle.comp_net.specs.declared.choice.LeafChoice.{LeafChoice}
 use Rattle.comp_net.specs.declared.choice.LeafChoice.TheVariants as leaves
 use Rattle.tool_texts.specs.declared.refusal.Refusal.{Refusal}
@@ -14,7 +13,6 @@ use Rattle.tool_texts.specs.declared.refusal.Refusal.TheVariants.{TooLong}
 use Rattle.tool_texts.specs.declared.output.Output.{Output}
 use Rattle.tool_texts.specs.declared.status.Status.TheVariants.{Done}
 use Rattle.tool_texts.specs.Statuses.{status_of}
-use Rattle.tool_texts.specs.Refusals.{output_for}
 use Rattle.tool_commands.specs.Compile.{CompileGives}
 use Rattle.pop_tool.specs.Answer.{InputGives}
 use Rattle.pop_tool.specs.Headline.{CheckSays, CompileSays}

@@ -8,7 +8,6 @@ use Rattle.pop_words.specs.declared.command.Command.{Command}
 use Rattle.pop_words.specs.declared.command.Command.TheVariants.{Check, Settle, Compile, Flocks}
 use Rattle.pop_words.specs.declared.kind.RunKind.{RunKind}
 use Rattle.pop_words.specs.declared.kind.RunKind.TheVariants.{Whole, Watched}
-use Rattle.pop_words.specs.declared.command.Usage.{Usage as BadWord}
 use Rattle.pop_words.specs.declared.spec.RunSpec.{RunSpec}
 use Rattle.pop_words.specs.Words.{meaning_of, run_command, replay_command}
 use Rattle.cert_json.specs.declared.bundle.Bundle.{Bundle}
@@ -22,7 +21,7 @@ use Rattle.tool_texts.specs.Statuses.{status_of}
 use Rattle.tool_texts.specs.Refusals.{output_for}
 use Rattle.tool_commands.specs.Check.{certified_text}
 use Rattle.tool_commands.specs.Replay.{holds_text, holds_output}
-use Rattle.pop_tool.specs.Answer.{InputGives, OfMeaning, Answer}
+use Rattle.pop_tool.specs.Answer.{InputGives, Answer}
 use Rattle.pop_tool.specs.Outcome.{HasLeft, Wrote, Outcome}
 use Rattle.comp_net.specs.declared.choice.LeafChoice.TheVariants as leaves
 use Rattle.pop_tool.specs.Headline.{IsBundleLine, CheckSays, IsValidLine, IsHeldInput, CompileSays, SettleSays, RunSays, SaysHolds, WasRun, Headline, IsHeadline}

@@ -1,5 +1,5 @@
 -- What a run wrote is a journal that holds.
-use Rattle.std.proofs.Common.{◌≡◌, ◌≢◌, ℕ, ◌*◌, ◌≤◌, ◌==◌, Bool, List, [], ◌∷◌, ◌++◌, length, Option, Some, None, Result, Ok, All, refl, sym, ap, subst, ◌∙◌, arith, append-nil}
+use Rattle.std.proofs.Common.{◌≡◌, ◌≢◌, ℕ, ◌*◌, ◌≤◌, ◌==◌, Bool, List, [], ◌∷◌, ◌++◌, length, Option, Some, None, Ok, All, refl, sym, ap, subst, ◌∙◌, arith, append-nil}
 use Rattle.std.specs.List.{list_any}
 use Rattle.std.proofs.lemmas.Bool.{ne_eqb, or_from}
 use Rattle.std.proofs.lemmas.List.Elements.{All-head, All-tail}
@@ -15,10 +15,8 @@ use Rattle.pop_crowd.specs.Replay.{replay}
 use Rattle.pop_crowd.proofs.Reached.{length-after_meeting}
 use Rattle.pop_crowd.specs.Crowds.{input_size}
 use Rattle.pop_crowd.specs.declared.limits.TheConstants.{AGENT_LEAST, AGENT_LIMIT}
-use Rattle.pop_words.specs.declared.command.Command.{Command}
 use Rattle.pop_words.specs.declared.kind.RunKind.{RunKind}
 use Rattle.pop_words.specs.declared.kind.RunKind.TheVariants.{Whole, Watched}
-use Rattle.pop_words.specs.declared.command.Usage.{Usage}
 use Rattle.pop_words.specs.declared.spec.RunSpec.{RunSpec}
 use Rattle.pop_words.specs.declared.spec.TheConstants.{MEETING_LIMIT}
 use Rattle.pop_words.specs.Options.{IsWithinLimits}
@@ -38,7 +36,6 @@ use Rattle.pop_journal.proofs.Feeds.{lines_text}
 use Rattle.pop_journal.proofs.Written.{written_is_held}
 use Rattle.cert_base.specs.ProofBound.{proof_bound}
 use Rattle.pop_checker.specs.Computes.{Computes}
-use Rattle.tool_texts.specs.declared.refusal.Refusal.{Refusal}
 use Rattle.tool_texts.specs.declared.output.Output.{Output}
 use Rattle.tool_texts.specs.Statuses.{status_of}
 use Rattle.tool_texts.specs.Refusals.{output_for}
@@ -51,7 +48,6 @@ use Rattle.tool_commands.proofs.InputSize.{length-input_crowd}
 use Rattle.tool_commands.proofs.Begun.{begun_two, begun_few}
 use Rattle.tool_commands.proofs.Ran.{run_reaches, run_tuples}
 use Rattle.pop_journal.proofs.RunKinds.{is_watched}
-use Rattle.pop_tool.specs.Answer.{InputGives, OfMeaning, Answer}
 use Rattle.pop_tool.specs.Headline.{IsBundleInput, WasRun, IsHeldInput}
 use Rattle.pop_tool.specs.ReplayHeld.{replay_words, IsReplayHeld}
 use Rattle.pop_tool.proofs.BundleInput.{begins_input, file_computes}

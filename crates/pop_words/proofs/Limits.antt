@@ -21,7 +21,7 @@ use Rattle.pop_words.specs.declared.words.Flag.TheVariants.{OfCompile, OfReplay}
 use Rattle.pop_words.specs.declared.words.Form.{Form}
 use Rattle.pop_words.specs.declared.words.Form.TheVariants.{Alone, WithOptions, WithNumber, WithFlag}
 use Rattle.pop_words.specs.Options.{least_of, most_of, default_of, name_of, number_behind, option_value, spec_of, bad_at, run_with, or_fault, first_fault, options_meaning, IsWithin, IsWithinLimits}
-use Rattle.pop_words.specs.Words.{form_named, commands, no_more, run_command, to_run, demo_with, demo_meaning, flag_name, flagged_command, behind_flag, flag_meaning, meaning_behind, meaning_of, HasLimits}
+use Rattle.pop_words.specs.Words.{form_named, commands, no_more, run_command, to_run, demo_with, demo_meaning, flag_name, flagged_command, behind_flag, flag_meaning, meaning_behind, meaning_of}
 
 pub default_within : (kind : RunKind) (option : RunOption) → IsWithin kind option (default_of option)
 default_within Whole Workers = (omega arith, omega arith)

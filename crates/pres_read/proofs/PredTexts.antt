@@ -1,10 +1,9 @@
 -- A text is read to a predicate exactly when the grammar gives it this meaning within the limits.
-use Rattle.std.proofs.Common.{◌≡◌, ℕ, ◌≤◌, Bool, true, false, List, [], ◌∷◌, ◌++◌, length, ltb, Result, Ok, Err, refl, sym, ap, subst, ◌∙◌, arith, append_assoc, append-nil}
+use Rattle.std.proofs.Common.{◌≡◌, ℕ, ◌≤◌, Bool, true, false, List, [], ◌∷◌, ◌++◌, length, ltb, Result, Ok, Err, refl, sym, ap, ◌∙◌, arith, append_assoc, append-nil}
 use Rattle.std.specs.Prelude.{IfOk, if◌then◌else◌}
 use Rattle.std.proofs.lemmas.Bool.{ltb-false}
 use Rattle.pres_ast.specs.PredTree.{PredTree}
 use Rattle.pres_ast.specs.PredModel.{PredModel}
-use Rattle.pres_tokens.specs.declared.token.Relation.{Relation}
 use Rattle.pres_tokens.specs.Symbols.{Symbol, Number, Compare, And, Or, Not, Open, Close, Mod}
 use Rattle.pres_tokens.specs.Tokens.{tokens_of}
 use Rattle.pres_read.specs.declared.read.TheConstants.{TEXT_LIMIT}
@@ -14,7 +13,7 @@ use Rattle.pres_read.specs.Outcome.{GivesParsed}
 use Rattle.pres_read.specs.Progress.{start}
 use Rattle.pres_read.specs.Depth.{surface}
 use Rattle.pres_read.specs.Reading.{run, over_names, pred_read}
-use Rattle.pres_read.specs.Grammar.{Atom, plain, modular, Part, Phrase, conj, either, unit, both, negate, group, atom, symbols, sum_symbols, equal_or_not, constant_symbols, meaning}
+use Rattle.pres_read.specs.Grammar.{Atom, plain, modular, Part, Phrase, conj, either, unit, both, negate, group, atom, symbols, sum_symbols, equal_or_not, constant_symbols}
 use Rattle.pres_read.specs.Rules.{AtomFits, Fits, last_is, opens, NumbersFit, KeepsRules}
 use Rattle.pres_read.specs.Texts.{text_symbols}
 use Rattle.pres_read.specs.PredText.{IsTextOf}

@@ -17,7 +17,7 @@ use Rattle.pop_net.proofs.Quiet.{leaf_quiet, leaves_quiet, All-slice_get}
 use Rattle.pop_net.proofs.Silent.{same_pair_cases}
 use Rattle.pop_crowd.specs.Replay.{reacts, changes}
 use Rattle.terminal_test.specs.Loud.{pairs_of_moves, ArePairsBelow}
-use Rattle.terminal_test.specs.Restless.{CountsTo, AreSeen, are_held_by, AreMarkedTo, AreMarkedByAll, IsMarked, AreRestlessTo, AreRestless, IsCalmTo, IsCalm}
+use Rattle.terminal_test.specs.Restless.{CountsTo, AreSeen, are_held_by, AreMarkedTo, AreMarkedByAll, IsMarked, AreRestlessTo, AreRestless, IsCalm}
 use Rattle.terminal_test.proofs.LoudPairs.{in_pairs, pairs_below}
 use Rattle.terminal_test.proofs.Pairwise.{moved}
 use Rattle.terminal_test.proofs.Searches.{changes_at}

@@ -1,14 +1,13 @@
 -- Searches of agents, one after the other.
-use Rattle.std.proofs.Common.{◌≡◌, ◌⊎◌, inl, inr, ℕ, ◌+◌, ◌<◌, ◌≤◌, true, false, List, [], length, ap, sym, subst, ◌∙◌, arith}
+use Rattle.std.proofs.Common.{◌≡◌, ◌⊎◌, inl, inr, ℕ, ◌+◌, ◌<◌, false, List, [], length, ap, sym, subst, ◌∙◌, arith}
 use Rattle.std.specs.Prelude.{Some, slice_get, slice_index_or}
-use Rattle.std.proofs.lemmas.Bool.{cases_eq, cases_lt, cases_order, false≢true}
+use Rattle.std.proofs.lemmas.Bool.{cases_eq}
 use Rattle.std.proofs.lemmas.Option.{get_or_from_slice_get}
 use Rattle.pop_net.specs.declared.net.Word.{Word}
 use Rattle.pop_net.specs.NetModel.{NetModel, CrowdModel}
 use Rattle.pop_net.specs.Lanes.{tuple_of, crowd_of}
 use Rattle.pop_crowd.specs.Replay.{reacts, changes}
 use Rattle.pop_crowd.proofs.Words.{tuple_at}
-use Rattle.terminal_test.specs.Pairs.{IsEnabled, IsLeastPair, IsPartner}
 
 -- the meeting of two agents, by their words
 pub changes_at : (net : NetModel) (words : List Word) (a b : ℕ) (x y : Word) → slice_get words a ≡ Some x → slice_get words b ≡ Some y → changes net a b (crowd_of net words) ≡ reacts net (tuple_of net x) (tuple_of net y)

@@ -4,7 +4,7 @@ use Rattle.std.specs.Prelude.{◌==◌, ◌%◌, ◌/◌, if◌then◌else◌}
 use Rattle.pres_ast.specs.PredTree.{PredTree, Negation, Conjunction, Disjunction}
 use Rattle.pop_net.specs.NetModel.{number_of_helpers}
 use Rattle.pop_crowd.specs.Crowds.{input_size}
-use Rattle.pop_crowd.specs.declared.limits.TheConstants.{AGENT_LEAST, AGENT_LIMIT}
+use Rattle.pop_crowd.specs.declared.limits.TheConstants.{AGENT_LEAST}
 use Rattle.comp_net.specs.BuiltNet.{built_net}
 use Rattle.comp_net.specs.CompileFaults.{fault_with}
 use Rattle.comp_net.specs.declared.choice.LeafChoice.TheVariants.{Plain}

@@ -1,5 +1,5 @@
 -- A file that breaks a rule is refused.
-use Rattle.std.proofs.Common.{◌≡◌, Result, Err, ap}
+use Rattle.std.proofs.Common.{Result, Err, ap}
 use Rattle.json_shape.specs.declared.fault.FormatFault.{FormatFault}
 use Rattle.json_shape.specs.declared.fault.FormatFault.TheVariants.{Broken, NoMemory}
 use Rattle.json_shape.specs.Faults.{Fault, GivesRead}

@@ -1,15 +1,12 @@
-use Rattle.std.proofs.Common.{◌≡◌, ℕ, ◌+◌, ◌-◌, ◌≤◌, min, List, [], ◌∷◌, ◌++◌, length, sym, ap, subst, ◌∙◌, arith, rules, refl, append-nil, length-append}
+use Rattle.std.proofs.Common.{◌≡◌, ℕ, ◌+◌, ◌-◌, min, [], ◌∷◌, ◌++◌, length, sym, ap, subst, ◌∙◌, arith, rules, refl, append-nil, length-append}
 use Rattle.std.specs.Prelude.{true, ◌↔◌}
 use Rattle.pop_net.specs.NetModel.{NetModel}
 use Rattle.pop_net.specs.Lanes.{crowd_of, AreValid}
-use Rattle.pop_crowd.specs.declared.crowd.Meeting.{Meeting}
-use Rattle.pop_words.specs.declared.kind.RunKind.TheVariants.{Whole}
 use Rattle.pair_workers.specs.Turns.{ArePlayed}
 use Rattle.pair_workers.specs.Ends.{RunGoesOn}
 use Rattle.pair_workers.proofs.ManyRounds.{AreOnTheRun, alone_played, all_more_rounds, all_no_rounds, first_alone}
 use Rattle.pair_workers.proofs.OnlyRun.{only_run}
 use Rattle.pair_workers.proofs.RunEnds.{run_ended}
-use Rattle.pop_journal.specs.Journal.{text_of, round_lines}
 use Rattle.pop_journal.proofs.Texts.{round_pushed}
 use Rattle.pop_journal.proofs.MadeAlone.{ended_text}
 use Rattle.pop_journal.proofs.alone.push_run_alone.Goals as goal

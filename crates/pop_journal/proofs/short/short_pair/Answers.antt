@@ -1,4 +1,4 @@
-use Rattle.std.proofs.Common.{◌≡◌, ◌<◌, ◌^◌, rules, arith}
+use Rattle.std.proofs.Common.{◌<◌, ◌^◌, rules}
 use Rattle.pop_journal.proofs.PairLine.{first_pair}
 use Rattle.pop_journal.proofs.short.short_pair.Goals as goal
 

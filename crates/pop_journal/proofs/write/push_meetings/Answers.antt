@@ -1,4 +1,4 @@
-use Rattle.std.proofs.Common.{◌≡◌, ◌+◌, ◌≤◌, length, arith, ◌∙◌}
+use Rattle.std.proofs.Common.{arith, ◌∙◌}
 use Rattle.pop_lines.proofs.Places.{placed_within}
 use Rattle.pop_journal.proofs.Texts.{meeting_placed}
 use Rattle.pop_journal.proofs.write.push_meetings.Goals as goal

@@ -1,4 +1,4 @@
-use Rattle.std.proofs.Common.{◌≡◌, ℕ, List, length, ap, ◌∙◌, arith}
+use Rattle.std.proofs.Common.{ℕ, List, length, ap, ◌∙◌, arith}
 use Rattle.pop_lines.specs.Lines.{lines_of}
 use Rattle.pop_net.specs.Lanes.{crowd_of}
 use Rattle.tool_commands.specs.Play.{paired}
