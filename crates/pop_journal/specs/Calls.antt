@@ -18,8 +18,10 @@ use Rattle.pop_journal.specs.ReadLines.{ReadsJournal}
 use Rattle.pop_journal.specs.Expected.{journal_compared, Holds}
 use Rattle.pop_journal.specs.Standing.{Passes}
 
--- what was read of these lines, the first of which has this number, as the journal of a run of this kind for so many agents
-pub record IsReadFrom (lines : List (List ℕ)) (run : RunKind) (number agents : ℕ) (result : Result Journal JournalFault) : Type 0 where
+-- what was read of these lines, the first of which has this number, as the journal of a run of this kind for so many
+-- agents
+pub record IsReadFrom (lines : List (List ℕ)) (run : RunKind) (number agents : ℕ)
+    (result : Result Journal JournalFault) : Type 0 where
   pub read : ReadsJournal run agents number lines result
   pub kind : IfOk result (λ journal. journal.kind ≡ run)
   pub first : IfOk result (λ journal. journal.first ≡ number)
@@ -38,7 +40,8 @@ pub record CanVerify (net : NetModel) (crowd : List Word) (journal : Journal) : 
   pub rounds : AreRoundsOf journal.kind journal.spec (length crowd) journal.rounds
 
 -- the journal was compared with the run that it tells from this crowd
-pub record IsVerified (net : NetModel) (crowd : List Word) (journal : Journal) (result : Result ℕ VerifyFault) : Type 0 where
+pub record IsVerified (net : NetModel) (crowd : List Word) (journal : Journal)
+    (result : Result ℕ VerifyFault) : Type 0 where
   -- the first line that isn't the expected one is the refusal
   pub passes : Passes (journal.first + 1) (journal_compared net (crowd_of net crowd) journal) result
   pub meetings : IfOk result (λ k. k ≡ length (joined journal.rounds))

@@ -49,7 +49,8 @@ spec_named most words =
 -- the kind's word, and behind it the numbers
 abbrev pub spec_words : RunKind → List (List ℕ) → Option RunSpec
 spec_words kind [] = None
-spec_words kind (first ∷ words) = if bytes_eq first (kind_word kind) then spec_named (most_workers_of kind) words else None
+spec_words kind (first ∷ words) =
+    if bytes_eq first (kind_word kind) then spec_named (most_workers_of kind) words else None
 
 unfoldable pub spec_in : RunKind → List ℕ → Option RunSpec
 spec_in kind line = spec_words kind (pieces 32 line)
@@ -91,10 +92,12 @@ abbrev pub wanted : RunSpec → List (List Meeting) → ℕ
 wanted spec rounds = spec.workers * turns_in spec (length rounds + 1)
 
 abbrev pub settled : RunSpec → List (List Meeting) → List Meeting → Reading
-settled spec rounds meetings = if length meetings == wanted spec rounds then (rounds ++ meetings ∷ [], None) else (rounds, Some meetings)
+settled spec rounds meetings =
+    if length meetings == wanted spec rounds then (rounds ++ meetings ∷ [], None) else (rounds, Some meetings)
 
 -- a worker that lacks meetings of this round, and then two different agents
-abbrev pub meeting_told : RunSpec → ℕ → List (List Meeting) → List Meeting → Option Told → Result (Option Reading) JournalWhy
+abbrev pub meeting_told : RunSpec → ℕ → List (List Meeting) → List Meeting → Option Told
+    → Result (Option Reading) JournalWhy
 meeting_told spec agents rounds meetings None = Err Form
 meeting_told spec agents rounds meetings (Some (w, a, b, mark)) =
     if nat_lt w spec.workers && nat_lt (made_by w meetings) (turns_in spec (length rounds + 1))
@@ -104,7 +107,8 @@ meeting_told spec agents rounds meetings (Some (w, a, b, mark)) =
     else Err Worker
 
 -- a reading with one meeting more, where a line gave one
-abbrev pub onward : RunSpec → List (List Meeting) → List Meeting → Result Meeting JournalWhy → Result (Option Reading) JournalWhy
+abbrev pub onward : RunSpec → List (List Meeting) → List Meeting → Result Meeting JournalWhy
+    → Result (Option Reading) JournalWhy
 onward spec rounds meetings (Ok m) = Ok (Some (settled spec rounds (meetings ++ m ∷ [])))
 onward spec rounds meetings (Err why) = Err why
 
@@ -141,7 +145,8 @@ follow number ended on (Ok (Some next)) = on next
 abbrev pub lines_read : RunKind → RunSpec → ℕ → ℕ → Reading → List (List ℕ) → Result Parts Out
 lines_read kind spec agents number reading [] = Err (number, Missing)
 lines_read kind spec agents number reading (line ∷ lines) =
-    follow number (all_rounds reading, lines) (λ next. lines_read kind spec agents (number + 1) next lines) (line_read kind spec agents reading line)
+    follow number (all_rounds reading, lines) (λ next. lines_read kind spec agents (number + 1) next lines)
+        (line_read kind spec agents reading line)
 
 abbrev pub under : RunSpec → Result Parts Out → Result (RunSpec × Parts) Out
 under spec (Ok parts) = Ok (spec, parts)

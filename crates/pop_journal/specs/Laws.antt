@@ -1,4 +1,5 @@
--- Laws on journals: a text that is read and holds has one spelling, and the text that is written of a run is read and holds.
+-- Laws on journals: a text that is read and holds has one spelling, and the text that is written of a run is read and
+-- holds.
 use Rattle.std.specs.Prelude.{◌≡◌, ℕ, ◌*◌, ◌<◌, ◌≤◌, ◌^◌, List, [], ◌∷◌, ◌++◌, length, Ok}
 use Rattle.pop_lines.specs.Lines.{lines_of}
 use Rattle.pop_net.specs.NetModel.{NetModel, CrowdModel}
@@ -25,25 +26,30 @@ text_ended kind net spec rounds end = journal_text kind net spec rounds end (end
 
 -- the text that is written of a journal's run
 abbrev pub text_held : NetModel → CrowdModel → Journal → List ℕ
-text_held net start journal = text_ended journal.kind net journal.spec journal.rounds (replay net (joined journal.rounds) start)
+text_held net start journal =
+    text_ended journal.kind net journal.spec journal.rounds (replay net (joined journal.rounds) start)
 
 -- A journal that was read from a text with a line feed at its end, and that holds, has no other text.
 abbrev pub IsOneSpelling : Type 0
 IsOneSpelling =
     (net : NetModel) (start : CrowdModel) (agents first : ℕ) (body : List ℕ) (journal : Journal) → agents < 2 ^ 32
-    → ReadsJournal journal.kind agents first (lines_of (body ++ 10 ∷ [])) (Ok journal) → Holds net start journal → body ++ 10 ∷ [] ≡ text_held net start journal
+    → ReadsJournal journal.kind agents first (lines_of (body ++ 10 ∷ [])) (Ok journal) → Holds net start journal
+        → body ++ 10 ∷ [] ≡ text_held net start journal
 
 -- the text that is written of a run is read back
 abbrev pub IsReadBack : RunKind → NetModel → CrowdModel → RunSpec → List (List Meeting) → CrowdModel → ℕ → Type 0
 IsReadBack kind net start spec rounds end first =
-    journal_in kind (length start) first (lines_of (text_ended kind net spec rounds end)) ≡ Ok (spec, (rounds, lines_of (whole_tail net end)))
+    journal_in kind (length start) first (lines_of (text_ended kind net spec rounds end))
+        ≡ Ok (spec, (rounds, lines_of (whole_tail net end)))
 
 -- The text that is written of a run is read back to a journal that holds.
 abbrev pub IsWrittenHeld : Type 0
 IsWrittenHeld =
-    (kind : RunKind) (net : NetModel) (start : CrowdModel) (spec : RunSpec) (rounds : List (List Meeting)) (end : CrowdModel) (first : ℕ)
+    (kind : RunKind) (net : NetModel) (start : CrowdModel) (spec : RunSpec) (rounds : List (List Meeting))
+        (end : CrowdModel) (first : ℕ)
     → AGENT_LEAST ≤ length start → length start ≤ AGENT_LIMIT → IsWithinLimits spec
     → spec.workers ≤ most_workers_of kind → spec.workers * spec.turns ≤ MEETING_LIMIT
     → IsRunOf kind net start spec rounds end
     → IsReadBack kind net start spec rounds end first
-    × Holds net start (record { kind = kind; spec = spec; rounds = rounds; tail = lines_of (whole_tail net end); first = first })
+    × Holds net start
+        (record { kind = kind; spec = spec; rounds = rounds; tail = lines_of (whole_tail net end); first = first })

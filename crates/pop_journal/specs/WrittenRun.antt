@@ -10,7 +10,8 @@ use Rattle.pair_workers.specs.OneRun.{IsOnlyRunFrom}
 use Rattle.pop_journal.specs.Journal.{run_lines, text_of}
 
 -- a run from a crowd to this end, which is the only one, and its lines behind what stood before
-pub record IsWrittenRun (net : NetModel) (crowd : List Word) (spec : RunSpec) (before after : List ℕ) (last : List Word) (end : End) : Type 0 where
+pub record IsWrittenRun (net : NetModel) (crowd : List Word) (spec : RunSpec) (before after : List ℕ)
+    (last : List Word) (end : End) : Type 0 where
   pub rounds : List (List Meeting)
   pub run : IsOnlyRunFrom net crowd spec (record { rounds = rounds; crowd = last; end = end })
   pub text : after ≡ before ++ text_of (run_lines Whole spec rounds)

@@ -25,7 +25,7 @@ use std::alloc::Global;
 
 /// How the lines of a round ended.
 #[derive(Clone, Copy)]
-pub(crate) enum RoundEnd {
+pub(crate) enum LinesEnd {
     /// The round has all its meetings.
     Full,
     /// `end` stood in place of a meeting.
@@ -42,7 +42,7 @@ fn read_round<'t>(
     text: &'t [u8],
     number: u64,
     meetings: &mut Vec<Meeting>,
-) -> Result<(RoundEnd, &'t [u8]), JournalFault>
+) -> Result<(LinesEnd, &'t [u8]), JournalFault>
     requires spec { IsWithinLimits spec.now }
     requires turns { (1 ≤ turns) × (turns ≤ ROUND_TURNS) }
     requires none { meetings.old.items ≡ [] }
@@ -60,7 +60,7 @@ fn read_round<'t>(
             return Err(fault_at(line, JournalWhy::Missing));
         };
         if stops_here(kind, told, rest) {
-            return Ok((RoundEnd::Stopped, more));
+            return Ok((LinesEnd::Stopped, more));
         }
         let meeting = match checked(told, spec, agents, &made, turns) {
             Ok(meeting) => meeting,
@@ -70,7 +70,7 @@ fn read_round<'t>(
         meetings.push(meeting)?;
         rest = more;
     }
-    Ok((RoundEnd::Full, rest))
+    Ok((LinesEnd::Full, rest))
 }
 
 /// Reads the rounds of a journal up to `end`. The answer are the bytes behind it.
@@ -118,8 +118,8 @@ fn read_rounds<'t>(
         left -= turns;
         rounds.push(List::from_vec(meetings))?;
         match end {
-            RoundEnd::Full => rest = behind,
-            RoundEnd::Stopped => return Ok(behind),
+            LinesEnd::Full => rest = behind,
+            LinesEnd::Stopped => return Ok(behind),
         }
     }
     Err(fault_at(line, JournalWhy::Missing))

@@ -14,15 +14,18 @@ use Rattle.tool_commands.specs.Commands.{CommandGives, reads}
 -- what a command gives for an input, which has a limit where it is read
 abbrev pub InputGives : Command → List ℕ → Result Output Refusal → Type 0
 InputGives command input given =
-    MatchBool (reads command && nat_lt INPUT_LIMIT (length input)) (given ≡ Err TooLong) (CommandGives command (lines_of input) given)
+    MatchBool (reads command && nat_lt INPUT_LIMIT (length input)) (given ≡ Err TooLong)
+        (CommandGives command (lines_of input) given)
 
 -- the output is for what the command gives for these lines
 abbrev pub IsOfCommand : Command → List (List ℕ) → Output → Type 0
-IsOfCommand command lines output = (given : Result Output Refusal) × CommandGives command lines given × (output ≡ output_for given)
+IsOfCommand command lines output =
+    (given : Result Output Refusal) × CommandGives command lines given × (output ≡ output_for given)
 
 abbrev pub OfMeaning : Result Command Usage → List ℕ → Output → Type 0
 OfMeaning (Err usage) input output = output ≡ usage_output usage
-OfMeaning (Ok command) input output = (given : Result Output Refusal) × InputGives command input given × (output ≡ output_for given)
+OfMeaning (Ok command) input output =
+    (given : Result Output Refusal) × InputGives command input given × (output ≡ output_for given)
 
 abbrev pub Answer : List (List ℕ) → List ℕ → Output → Type 0
 Answer words input output = OfMeaning (meaning_of words) input output

@@ -13,7 +13,8 @@ use Rattle.pop_tool.specs.Source.{HasSuffix, IsReadToEnd, words_read}
 abbrev pub AcceptsReplies : (List ℕ → Type 0) → List (List ℕ) → Option (List ℕ) → Type 0
 AcceptsReplies accepts words left = (output : Output) → IsReply words left output → accepts output.text
 
--- What a source has left, and what a sink holds, where they tell it, and their counts of faults, as seen by these views:
+-- What a source has left, and what a sink holds, where they tell it, and their counts of faults, as seen by these
+-- views:
 -- a call with the words finds the source and the sink so, leaves them so, and ends with the status.
 pub record IsCall {S K : Type 0} (left : S → Option (List ℕ)) (read_faults : S → ℕ) (holds : K → Option (List ℕ))
     (write_faults : K → ℕ) (words : List (List ℕ)) (source rest : S) (sink grown : K) (status : Status) : Type 0 where
@@ -22,7 +23,8 @@ pub record IsCall {S K : Type 0} (left : S → Option (List ℕ)) (read_faults :
   -- what `certified`, a journal and a verdict say of a bundle's net
   pub headline : IsHeadline words (left source) (holds sink) (holds grown) status
   -- valid input is not refused
-  pub complete : (input : List ℕ) → left source ≡ Some input → IsValidInput words input → (status ≢ Usage) × (status ≢ Refused)
+  pub complete : (input : List ℕ) → left source ≡ Some input → IsValidInput words input → (status ≢ Usage)
+      × (status ≢ Refused)
   pub read : status ≡ ReadFault → HasRisen (read_faults source) (read_faults rest)
   pub write : status ≡ WriteFault → HasRisen (write_faults sink) (write_faults grown)
   pub unread : words_read words ≡ false → status ≢ ReadFault

@@ -17,11 +17,12 @@ abbrev pub compile_words : LeafChoice → List (List ℕ)
 compile_words Plain = codes "compile" ∷ []
 compile_words Flocks = codes "compile" ∷ codes "--flocks" ∷ []
 
--- What was compiled is the line of a bundle. Unless it is too long for an input, `check` answers it by `certified`, with the bound of
--- that bundle's proof.
+-- What was compiled is the line of a bundle. Unless it is too long for an input, `check` answers it by `certified`,
+-- with the bound of that bundle's proof.
 abbrev pub IsCompiledCertified : Type 0
 IsCompiledCertified =
     (choice : LeafChoice) (input : List ℕ) (written answer : Output) → Answer (compile_words choice) input written
-    → status_of written.ending ≡ Done → length written.text ≤ INPUT_LIMIT → Answer (codes "check" ∷ []) written.text answer
+    → status_of written.ending ≡ Done → length written.text ≤ INPUT_LIMIT
+        → Answer (codes "check" ∷ []) written.text answer
     → (bundle : Bundle) × (written.text ≡ bundle_line bundle)
     × SaysCertified (proof_bound bundle.proof) answer.text (status_of answer.ending)

@@ -8,7 +8,8 @@ use Rattle.pop_tool.specs.Answer.{Answer}
 
 -- no answer is that the words mean no command, or that the input is refused
 abbrev pub IsValidInput : List (List ℕ) → List ℕ → Type 0
-IsValidInput words input = (output : Output) → Answer words input output → (output.ending ≢ ending.Usage) × (output.ending ≢ ending.Refused)
+IsValidInput words input =
+    (output : Output) → Answer words input output → (output.ending ≢ ending.Usage) × (output.ending ≢ ending.Refused)
 
 -- the command was carried out, or memory ran out
 abbrev pub IsCarriedOut : Status → Type 0

@@ -54,7 +54,8 @@ pub record IsBundleLine (input : List ℕ) (bundle : Bundle) : Type 0 where
   pub reads : HasValue line (Some value)
   pub file : IsBundleFile bundle value
 
--- the first line is the file of this bundle, and the second a crowd line with counts in which the bundle's net can start
+-- the first line is the file of this bundle, and the second a crowd line with counts in which the bundle's net can
+-- start
 pub record IsBundleInput (first second : List ℕ) (bundle : Bundle) (counts : List ℕ) : Type 0 where
   pub value : Data
   pub reads : HasValue first (Some value)
@@ -68,8 +69,8 @@ HasValidProof bundle = ValidProof bundle.net bundle.pred bundle.proof
 abbrev pub SaysCertified : ℕ → List ℕ → Status → Type 0
 SaysCertified bound text status = (text ≡ ended (certified_text bound)) × (status ≡ Done)
 
--- `certified` is printed, with the bound, exactly when the proof is valid; and then the net computes the predicate within it, and every
--- fair execution from an input stabilises with the predicate's value as every agent's output
+-- `certified` is printed, with the bound, exactly when the proof is valid; and then the net computes the predicate
+-- within it, and every fair execution from an input stabilises with the predicate's value as every agent's output
 pub record CheckSays (bundle : Bundle) (text : List ℕ) (status : Status) : Type 0 where
   pub certified : SaysCertified (proof_bound bundle.proof) text status ↔ HasValidProof bundle
   pub right : HasValidProof bundle → IsRight bundle.net bundle.pred bundle.proof
@@ -80,8 +81,8 @@ pub record IsValidLine (input : List ℕ) : Type 0 where
   pub line : IsBundleLine input bundle
   pub valid : HasValidProof bundle
 
--- The printed journal is a run of this kind of the bundle's net from the input crowd. A verdict stands there exactly when the last crowd is
--- terminal, and is the predicate's value.
+-- The printed journal is a run of this kind of the bundle's net from the input crowd. A verdict stands there exactly
+-- when the last crowd is terminal, and is the predicate's value.
 pub record RunSays (kind : RunKind) (spec : RunSpec) (input text : List ℕ) : Type 0 where
   pub first : List ℕ
   pub second : List ℕ
@@ -98,8 +99,8 @@ pub record RunSays (kind : RunKind) (spec : RunSpec) (input text : List ℕ) : T
   pub verdict : IsTerminal (Step bundle.net) end → last ≡ Verdict (predicate_value bundle.pred.tree counts)
   pub terminal : (value : Bool) → last ≡ Verdict value → IsTerminal (Step bundle.net) end
 
--- The printed takes lead from the input crowd of the bundle's net to the printed crowd, which is terminal. The verdict is the
--- predicate's value, and every agent's output.
+-- The printed takes lead from the input crowd of the bundle's net to the printed crowd, which is terminal. The
+-- verdict is the predicate's value, and every agent's output.
 pub record SettleSays (input text : List ℕ) : Type 0 where
   pub first : List ℕ
   pub second : List ℕ
@@ -116,8 +117,8 @@ pub record SettleSays (input text : List ℕ) : Type 0 where
   pub outputs : All (λ tuple. output_of bundle.net tuple ≡ predicate_value bundle.pred.tree counts) end
   pub printed : text ≡ settle_text bundle.net takes end (predicate_value bundle.pred.tree counts)
 
--- The input is a bundle whose proof is valid, a crowd line, and a journal: as it is read, its rounds are a run of this kind of the
--- bundle's net from the input crowd with so many meetings, and it tells the crowd in which they end.
+-- The input is a bundle whose proof is valid, a crowd line, and a journal: as it is read, its rounds are a run of
+-- this kind of the bundle's net from the input crowd with so many meetings, and it tells the crowd in which they end.
 pub record IsHeldInput (kind : RunKind) (input : List ℕ) (meetings : ℕ) : Type 0 where
   pub short : length input ≤ INPUT_LIMIT
   pub first : List ℕ
@@ -137,8 +138,9 @@ pub record IsHeldInput (kind : RunKind) (input : List ℕ) (meetings : ℕ) : Ty
 abbrev pub SaysHolds : ℕ → List ℕ → Status → Type 0
 SaysHolds meetings text status = (text ≡ ended (holds_text meetings)) × (status ≡ Done)
 
--- The input tells a predicate over some names, and the printed line is a bundle of its built net with these leaves, the predicate and a
--- valid proof. Unless it is too long for an input, it is the line of this bundle, so that `check` answers it by `certified`.
+-- The input tells a predicate over some names, and the printed line is a bundle of its built net with these leaves,
+-- the predicate and a valid proof. Unless it is too long for an input, it is the line of this bundle, so that `check`
+-- answers it by `certified`.
 pub record CompileSays (choice : LeafChoice) (input text : List ℕ) : Type 0 where
   pub names : List (List ℕ)
   pub pred : PredModel
@@ -163,7 +165,8 @@ pub record Headline (words : List (List ℕ)) (input text : List ℕ) (status : 
   pub settle : meaning_of words ≡ Ok Settle → status ≡ Done → SettleSays input text
   -- `holds`, with a number of 64 bits, is printed exactly for a journal of a run of the kind with so many meetings
   pub replay : meaning_of words ≡ Ok Replay → (k : ℕ) → k < 2 ^ 64 → SaysHolds k text status ↔ IsHeldInput Whole input k
-  pub replay_watched : meaning_of words ≡ Ok ReplayWatched → (k : ℕ) → k < 2 ^ 64 → SaysHolds k text status ↔ IsHeldInput Watched input k
+  pub replay_watched : meaning_of words ≡ Ok ReplayWatched → (k : ℕ) → k < 2 ^ 64
+      → SaysHolds k text status ↔ IsHeldInput Watched input k
 
 -- if it is known what the source had left and what the sink holds, then what the sink gained says so
 abbrev pub IsHeadline : List (List ℕ) → Option (List ℕ) → Option (List ℕ) → Option (List ℕ) → Status → Type 0

@@ -16,10 +16,11 @@ abbrev pub replay_words : RunKind → List (List ℕ)
 replay_words Whole = codes "replay" ∷ []
 replay_words Watched = codes "replay" ∷ codes "--watched" ∷ []
 
--- If a run was made, and its text isn't too long for an input, then `replay`, with `--watched` where the run was one of `watch`, answers
--- this text by `holds`.
+-- If a run was made, and its text isn't too long for an input, then `replay`, with `--watched` where the run was one
+-- of `watch`, answers this text by `holds`.
 abbrev pub IsReplayHeld : Type 0
 IsReplayHeld =
-    (kind : RunKind) (words : List (List ℕ)) (spec : RunSpec) (input : List ℕ) (written answer : Output) → meaning_of words ≡ Ok (run_command kind spec)
+    (kind : RunKind) (words : List (List ℕ)) (spec : RunSpec) (input : List ℕ) (written answer : Output)
+        → meaning_of words ≡ Ok (run_command kind spec)
     → Answer words input written → WasRun (status_of written.ending) → length written.text ≤ INPUT_LIMIT
     → Answer (replay_words kind) written.text answer → (k : ℕ) × (answer ≡ holds_output k)

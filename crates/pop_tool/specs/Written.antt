@@ -25,7 +25,8 @@ pub record ReadFailed (words : List (List ℕ)) (before after : ℕ) (output : O
 
 -- what a call comes to before it writes
 abbrev pub IsRightOutput : List (List ℕ) → Option (List ℕ) → Option (List ℕ) → ℕ → ℕ → Output → Type 0
-IsRightOutput words left rest before after output = Answers words left rest output ⊎ ReadFailed words before after output
+IsRightOutput words left rest before after output =
+    Answers words left rest output ⊎ ReadFailed words before after output
 
 -- the sink took the whole text, or a prefix of it and then its count of faults rose
 abbrev pub IsWritten : Output → Option (List ℕ) → Option (List ℕ) → ℕ → ℕ → Status → Type 0

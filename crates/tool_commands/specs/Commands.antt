@@ -57,7 +57,8 @@ IsPlain Compile = Unit {0}
 IsPlain Flocks = Unit {0}
 IsPlain (Demo number) = Unit {0}
 
--- Which leave no choice: all but a run by two or more workers, `watch`, and `compile`, with flocks or without, of which any valid proof will do.
+-- Which leave no choice: all but a run by two or more workers, `watch`, and `compile`, with flocks or without, of
+-- which any valid proof will do.
 abbrev pub IsDetermined : Command → Type 0
 IsDetermined Play = Unit {0}
 IsDetermined Eval = Unit {0}

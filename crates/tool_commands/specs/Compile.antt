@@ -48,8 +48,8 @@ unless_refused (Some refusal) = Err refusal
 abbrev pub fits_its_leaves : LeafChoice → PredTree → Result (Unit {0}) Refusal
 fits_its_leaves choice tree = unless_refused (option_and_then refusal_of (fault_with choice tree))
 
--- A bundle of the predicate's built net over these names, the predicate, and a valid proof. It can be written, no leaf has two
--- moves for the same states, and the net computes the predicate.
+-- A bundle of the predicate's built net over these names, the predicate, and a valid proof. It can be written, no
+-- leaf has two moves for the same states, and the net computes the predicate.
 pub record IsCompiled (choice : LeafChoice) (names : List (List ℕ)) (pred : PredModel) (bundle : Bundle) : Type 0 where
   pub net_is : bundle.net ≡ net_with choice names pred.tree
   pub pred_is : bundle.pred ≡ pred

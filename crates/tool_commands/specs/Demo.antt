@@ -54,7 +54,8 @@ pub record IsDemoOutput (number : ℕ) (output : Output) : Type 0 where
   pub run : IsRun (demo_net number) (demo_start number) (demo_spec number) rounds end
   pub pair : Option (ℕ × ℕ)
   pub last : IsLast (demo_net number) end pair
-  pub text : output.text ≡ text_of (summary_lines number rounds (journal_end (predicate_value (demo_tree number) (demo_counts number)) pair))
+  pub text : output.text ≡ text_of
+      (summary_lines number rounds (journal_end (predicate_value (demo_tree number) (demo_counts number)) pair))
   pub ending : output.ending ≡ run_ending pair
 
 -- what `demo` gives; its number is within the limit
@@ -82,7 +83,8 @@ pub record CanDemo (demo : PendingDemo) : Type 0 where
 -- a run of the case that was made
 pub record IsRunOfCase (case : Case) (ran : RunEnd) : Type 0 where
   pub input : IsInput (length case.checked.net.variables) (number_of_helpers case.checked.net) case.counts
-  pub run : IsRun case.checked.net (input_crowd case.checked.net case.counts) (demo_spec case.number) ran.rounds (crowd_of case.checked.net ran.crowd)
+  pub run : IsRun case.checked.net (input_crowd case.checked.net case.counts) (demo_spec case.number) ran.rounds
+      (crowd_of case.checked.net ran.crowd)
   pub last : IsLast case.checked.net (crowd_of case.checked.net ran.crowd) (open_pair ran.end)
   pub valid : AreValid case.checked.net ran.crowd
   pub agents : length ran.crowd ≡ length (input_crowd case.checked.net case.counts)

@@ -36,7 +36,8 @@ paired number (Err meeting.Agents) = Err (Line number Agents)
 abbrev pub meetings_in : ℕ → ℕ → List (List ℕ) → Result (List Meeting) Refusal
 meetings_in agents number [] = Ok []
 meetings_in agents number (line ∷ lines) =
-    paired number (meeting_of agents line) >>= λ pair. meetings_in agents (number + 1) lines >>= λ more. Ok (between pair ∷ more)
+    paired number (meeting_of agents line) >>= λ pair. meetings_in agents (number + 1) lines >>= λ more. Ok
+        (between pair ∷ more)
 
 -- the crowd after the meetings of the lines from a number on
 abbrev pub on_from : NetModel → ℕ → ℕ → CrowdModel → List (List ℕ) → Result CrowdModel Refusal
@@ -70,7 +71,8 @@ abbrev pub OfEnd : NetModel × CrowdModel → Result Output Refusal → Type 0
 OfEnd end given = (last : Option (ℕ × ℕ)) × IsLast end.0 end.1 last × (given ≡ Ok (play_output end.0 end.1 last))
 
 abbrev pub OfLines : List ℕ × List ℕ × List (List ℕ) → Result Output Refusal → Type 0
-OfLines lines given = (value : Option Data) × HasValue lines.0 value × After (end_crowd value lines.1 lines.2) OfEnd given
+OfLines lines given =
+    (value : Option Data) × HasValue lines.0 value × After (end_crowd value lines.1 lines.2) OfEnd given
 
 -- what `play` gives for the lines of its input
 abbrev pub PlayGives : List (List ℕ) → Result Output Refusal → Type 0

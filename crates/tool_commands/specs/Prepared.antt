@@ -30,7 +30,8 @@ pub record CanRun (run : PendingRun) : Type 0 where
 -- a run of this setting that was made
 pub record IsRunOfSetting (setting : Setting) (ran : RunEnd) : Type 0 where
   pub input : IsInput (length setting.checked.net.variables) (number_of_helpers setting.checked.net) setting.counts
-  pub run : IsRunOf setting.kind setting.checked.net (input_crowd setting.checked.net setting.counts) setting.spec ran.rounds (crowd_of setting.checked.net ran.crowd)
+  pub run : IsRunOf setting.kind setting.checked.net
+      (input_crowd setting.checked.net setting.counts) setting.spec ran.rounds (crowd_of setting.checked.net ran.crowd)
   pub last : IsLast setting.checked.net (crowd_of setting.checked.net ran.crowd) (open_pair ran.end)
   pub valid : AreValid setting.checked.net ran.crowd
 

@@ -31,7 +31,8 @@ holds_output meetings = record { text = ended (holds_text meetings); ending = Do
 
 -- the journal of a run of this kind that lines tell, of which the first has the number JOURNAL_LINE
 abbrev pub journal_read : RunKind → Result (RunSpec × Parts) Out → Result Journal Refusal
-journal_read kind (Ok (spec, parts)) = Ok (record { kind = kind; spec = spec; rounds = parts.0; tail = parts.1; first = JOURNAL_LINE })
+journal_read kind (Ok (spec, parts)) =
+    Ok (record { kind = kind; spec = spec; rounds = parts.0; tail = parts.1; first = JOURNAL_LINE })
 journal_read kind (Err out) = Err (refusal.Journal out.0 out.1)
 
 abbrev pub compared_output : ℕ → Option Difference → Output
@@ -41,11 +42,13 @@ compared_output meetings (Some difference) = difference_output difference
 -- `holds` with the number of meetings, or the first line that isn't the expected one
 abbrev pub journal_output : NetModel → CrowdModel → Journal → Output
 journal_output net start journal =
-    compared_output (length (joined journal.rounds)) (first_difference (journal.first + 1) (journal_compared net start journal))
+    compared_output (length (joined journal.rounds))
+        (first_difference (journal.first + 1) (journal_compared net start journal))
 
 -- the same for the journal of these lines, if there is one
 abbrev pub replay_output : RunKind → NetModel → CrowdModel → List (List ℕ) → Result Output Refusal
-replay_output kind net start lines = journal_read kind (journal_in kind (length start) JOURNAL_LINE lines) >>= λ journal. Ok (journal_output net start journal)
+replay_output kind net start lines = journal_read kind
+    (journal_in kind (length start) JOURNAL_LINE lines) >>= λ journal. Ok (journal_output net start journal)
 
 -- a valid proof lets its net's journal be replayed from this crowd
 abbrev pub judged_from : RunKind → Bundle → CrowdModel → List (List ℕ) → Option Rejected → Result Output Refusal
@@ -53,17 +56,20 @@ judged_from kind bundle start lines None = replay_output kind bundle.net start l
 judged_from kind bundle start lines (Some rejected) = Ok (rejection_output rejected)
 
 abbrev pub OfBundle : RunKind → List (List ℕ) → Bundle → CrowdModel → Result Output Refusal → Type 0
-OfBundle kind lines bundle start given = (judged : Option Rejected) × IsJudged bundle judged × (given ≡ judged_from kind bundle start lines judged)
+OfBundle kind lines bundle start given =
+    (judged : Option Rejected) × IsJudged bundle judged × (given ≡ judged_from kind bundle start lines judged)
 
 -- the same from the input crowd
 abbrev pub judged_output : RunKind → Bundle → List ℕ → List (List ℕ) → Option Rejected → Result Output Refusal
 judged_output kind bundle counts lines judged = judged_from kind bundle (input_crowd bundle.net counts) lines judged
 
 abbrev pub OfBegun : RunKind → List (List ℕ) → Bundle × List ℕ → Result Output Refusal → Type 0
-OfBegun kind lines begin given = (judged : Option Rejected) × IsJudged begin.0 judged × (given ≡ judged_output kind begin.0 begin.1 lines judged)
+OfBegun kind lines begin given =
+    (judged : Option Rejected) × IsJudged begin.0 judged × (given ≡ judged_output kind begin.0 begin.1 lines judged)
 
 abbrev pub OfLines : RunKind → List ℕ × List ℕ × List (List ℕ) → Result Output Refusal → Type 0
-OfLines kind lines given = (begin : Result (Bundle × List ℕ) Refusal) × IsBegunBy lines.0 lines.1 begin × After begin (OfBegun kind lines.2) given
+OfLines kind lines given = (begin : Result (Bundle × List ℕ) Refusal) × IsBegunBy lines.0 lines.1 begin
+    × After begin (OfBegun kind lines.2) given
 
 -- what `replay` gives for the lines of its input, where the journal is to be of a run of this kind
 abbrev pub ReplayGives : RunKind → List (List ℕ) → Result Output Refusal → Type 0

@@ -41,14 +41,16 @@ open_pair Terminal = None
 open_pair (Open a b) = Some (a, b)
 
 -- the input lines, and the journal of a run of this kind of the net from the input crowd
-pub record IsRunOutput (kind : RunKind) (spec : RunSpec) (lines : List ℕ) (net : NetModel) (pred : PredModel) (counts : List ℕ) (output : Output) : Type 0 where
+pub record IsRunOutput (kind : RunKind) (spec : RunSpec) (lines : List ℕ) (net : NetModel) (pred : PredModel)
+    (counts : List ℕ) (output : Output) : Type 0 where
   pub input : IsInput (length net.variables) (number_of_helpers net) counts
   pub rounds : List (List Meeting)
   pub end : CrowdModel
   pub run : IsRunOf kind net (input_crowd net counts) spec rounds end
   pub pair : Option (ℕ × ℕ)
   pub last : IsLast net end pair
-  pub text : output.text ≡ lines ++ journal_text kind net spec rounds end (journal_end (predicate_value pred.tree counts) pair)
+  pub text : output.text ≡ lines
+      ++ journal_text kind net spec rounds end (journal_end (predicate_value pred.tree counts) pair)
   pub ending : output.ending ≡ run_ending pair
 
 -- a valid proof lets its net run
@@ -58,11 +60,13 @@ OfJudged kind spec lines bundle counts (Some rejected) output = output ≡ rejec
 
 abbrev pub OfBegun : RunKind → RunSpec → List ℕ → Bundle × List ℕ → Result Output Refusal → Type 0
 OfBegun kind spec lines begin given =
-    (judged : Option Rejected) × (output : Output) × IsJudged begin.0 judged × OfJudged kind spec lines begin.0 begin.1 judged output × (given ≡ Ok output)
+    (judged : Option Rejected) × (output : Output) × IsJudged begin.0 judged
+        × OfJudged kind spec lines begin.0 begin.1 judged output × (given ≡ Ok output)
 
 abbrev pub OfLines : RunKind → RunSpec → List ℕ × List ℕ → Result Output Refusal → Type 0
 OfLines kind spec lines given =
-    (begin : Result (Bundle × List ℕ) Refusal) × IsBegunBy lines.0 lines.1 begin × After begin (OfBegun kind spec (ended lines.0 ++ ended lines.1)) given
+    (begin : Result (Bundle × List ℕ) Refusal) × IsBegunBy lines.0 lines.1 begin
+        × After begin (OfBegun kind spec (ended lines.0 ++ ended lines.1)) given
 
 -- what the command that makes a run of this kind gives for the lines of its input
 abbrev pub RunGives : RunKind → RunSpec → List (List ℕ) → Result Output Refusal → Type 0

@@ -24,11 +24,13 @@ use Rattle.tool_commands.specs.Bundles.{IsBegunBy, IsJudged}
 
 -- the leaf, the move and the two agents
 abbrev pub take_line : Take → List ℕ
-take_line t = (codes "take " ++ decimal t.leaf) ++ (codes " " ++ decimal t.step) ++ (codes " " ++ decimal t.a) ++ (codes " " ++ decimal t.b)
+take_line t = (codes "take " ++ decimal t.leaf) ++ (codes " " ++ decimal t.step) ++ (codes " " ++ decimal t.a)
+    ++ (codes " " ++ decimal t.b)
 
 -- the takes, the lines of the last crowd, and the verdict
 abbrev pub settle_text : NetModel → List Take → CrowdModel → Bool → List ℕ
-settle_text net takes end value = text_of (map take_line takes) ++ codes "end\n" ++ crowd_lines net end ++ ended (last_line (Verdict value))
+settle_text net takes end value =
+    text_of (map take_line takes) ++ codes "end\n" ++ crowd_lines net end ++ ended (last_line (Verdict value))
 
 abbrev pub settle_output : Bundle → List ℕ → List Take → CrowdModel → Output
 settle_output bundle counts takes end =
@@ -49,14 +51,16 @@ pub record IsSettled (bundle : Bundle) (counts : List ℕ) (given : Result Outpu
 -- a valid proof that allows too many takes is refused
 abbrev pub OfJudged : Bundle → List ℕ → Option Rejected → Result Output Refusal → Type 0
 OfJudged bundle counts None given =
-    MatchBool (nat_lt TAKE_LIMIT (takes_allowed bundle counts)) (given ≡ Err (Settle (takes_allowed bundle counts))) (IsSettled bundle counts given)
+    MatchBool (nat_lt TAKE_LIMIT (takes_allowed bundle counts)) (given ≡ Err (Settle (takes_allowed bundle counts)))
+        (IsSettled bundle counts given)
 OfJudged bundle counts (Some rejected) given = given ≡ Ok (rejection_output rejected)
 
 abbrev pub OfBegun : Bundle × List ℕ → Result Output Refusal → Type 0
 OfBegun begin given = (judged : Option Rejected) × IsJudged begin.0 judged × OfJudged begin.0 begin.1 judged given
 
 abbrev pub OfLines : List ℕ × List ℕ → Result Output Refusal → Type 0
-OfLines lines given = (begin : Result (Bundle × List ℕ) Refusal) × IsBegunBy lines.0 lines.1 begin × After begin OfBegun given
+OfLines lines given =
+    (begin : Result (Bundle × List ℕ) Refusal) × IsBegunBy lines.0 lines.1 begin × After begin OfBegun given
 
 -- what `settle` gives for the lines of its input
 abbrev pub SettleGives : List (List ℕ) → Result Output Refusal → Type 0
