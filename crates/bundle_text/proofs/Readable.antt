@@ -42,7 +42,7 @@ pub read_again : (n : ℕ) (d : Data) → n ≤ max_depth → IsReadable n d →
 read_again n d shallow is =
     let j = outline d in
     let same : tokens (compact_text d) ≡ json_tokens j ++ [] =
-        ap tokens (sym (print-outline d)) ∙ tokens-print (json_tokens j) (ArePrintable-json_tokens j is.numbers) ∙ sym (append-nil (json_tokens j)) in
+    ap tokens (sym (print-outline d)) ∙ tokens-print (json_tokens j) (ArePrintable-json_tokens j is.numbers) ∙ sym (append-nil (json_tokens j)) in
     ap whole (ap (json.value max_depth) same ∙ value-json_tokens j max_depth [] (omega (arith, shallow, is.nests))) ∙ is.again
 
 pub readable_within : (m n : ℕ) (d : Data) → m ≤ n → IsReadable m d → IsReadable n d

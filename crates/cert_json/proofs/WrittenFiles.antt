@@ -74,7 +74,7 @@ module _ (names : List (List ℕ)) (named : AreNames variable_name names) where
     tree_text names p.tree,
     refl,
     read_meant names (tree_text names p.tree) p
-    (printed_read names p.tree named limits (text_short names p.tree named limits) ∙ ap (λ (n : ℕ). Ok (record { variables = n; tree = p.tree })) (sym over)),
+        (printed_read names p.tree named limits (text_short names p.tree named limits) ∙ ap (λ (n : ℕ). Ok (record { variables = n; tree = p.tree })) (sym over)),
   )
 
   abbrev Fits : LeafProof → Type 0

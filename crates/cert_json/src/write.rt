@@ -16,10 +16,10 @@ ghost use Rattle.cert_json.specs.Written.{leaf_proof_members, leaf_proof_data, p
 
 use crate::write_node::nodes_value;
 use cert_base::{Layer, LeafProof, Proof};
+use json_shape::put_made;
 use pop_io::{List, NoMemory, Text};
 use pres_ast::Pred;
 use pres_read::print_pred;
-use json_shape::put_made;
 use serde_json::{Map, Value, put};
 use std::alloc::{AllocError, Global};
 

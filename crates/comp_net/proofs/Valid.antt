@@ -224,8 +224,8 @@ net-right choice names tree parts h formed is none =
     let preds = proof-preds choice n tree parts h is in
     sound (net_with choice names tree) (over_count n tree) (record { leaves = parts }) (net-formed choice names tree formed is none)
     (λ i part at.
-        let over = (All-slice_get (IsLeafProofWithin n) parts i part within at).pred in
-        (over, subst (λ k. HasAtoms k part.pred.tree) (sym over) (All-slice_get (IsPart n) parts i part preds at).atoms))
+    let over = (All-slice_get (IsLeafProofWithin n) parts i part within at).pred in
+    (over, subst (λ k. HasAtoms k part.pred.tree) (sym over) (All-slice_get (IsPart n) parts i part preds at).atoms))
     (proof-valid choice names n tree parts h)
 
 -- the net as the code puts it together

@@ -146,7 +146,7 @@ abbrev pub lines_read : RunKind → RunSpec → ℕ → ℕ → Reading → List
 lines_read kind spec agents number reading [] = Err (number, Missing)
 lines_read kind spec agents number reading (line ∷ lines) =
     follow number (all_rounds reading, lines) (λ next. lines_read kind spec agents (number + 1) next lines)
-        (line_read kind spec agents reading line)
+    (line_read kind spec agents reading line)
 
 abbrev pub under : RunSpec → Result Parts Out → Result (RunSpec × Parts) Out
 under spec (Ok parts) = Ok (spec, parts)

@@ -34,22 +34,22 @@ abbrev pub IsOneSpelling : Type 0
 IsOneSpelling =
     (net : NetModel) (start : CrowdModel) (agents first : ℕ) (body : List ℕ) (journal : Journal) → agents < 2 ^ 32
     → ReadsJournal journal.kind agents first (lines_of (body ++ 10 ∷ [])) (Ok journal) → Holds net start journal
-        → body ++ 10 ∷ [] ≡ text_held net start journal
+    → body ++ 10 ∷ [] ≡ text_held net start journal
 
 -- the text that is written of a run is read back
 abbrev pub IsReadBack : RunKind → NetModel → CrowdModel → RunSpec → List (List Meeting) → CrowdModel → ℕ → Type 0
 IsReadBack kind net start spec rounds end first =
     journal_in kind (length start) first (lines_of (text_ended kind net spec rounds end))
-        ≡ Ok (spec, (rounds, lines_of (whole_tail net end)))
+    ≡ Ok (spec, (rounds, lines_of (whole_tail net end)))
 
 -- The text that is written of a run is read back to a journal that holds.
 abbrev pub IsWrittenHeld : Type 0
 IsWrittenHeld =
     (kind : RunKind) (net : NetModel) (start : CrowdModel) (spec : RunSpec) (rounds : List (List Meeting))
-        (end : CrowdModel) (first : ℕ)
+    (end : CrowdModel) (first : ℕ)
     → AGENT_LEAST ≤ length start → length start ≤ AGENT_LIMIT → IsWithinLimits spec
     → spec.workers ≤ most_workers_of kind → spec.workers * spec.turns ≤ MEETING_LIMIT
     → IsRunOf kind net start spec rounds end
     → IsReadBack kind net start spec rounds end first
     × Holds net start
-        (record { kind = kind; spec = spec; rounds = rounds; tail = lines_of (whole_tail net end); first = first })
+    (record { kind = kind; spec = spec; rounds = rounds; tail = lines_of (whole_tail net end); first = first })

@@ -40,9 +40,9 @@ pub compiled_is_certified : IsCompiledCertified
 compiled_is_certified choice input written answer is done short checked =
     let a = given_for (compile_words choice) (compile_command choice) input written (compile_means choice) is in
     let says : CompileSays choice input written.text =
-        subst (λ (o : Output). CompileSays choice input o.text) (sym a.2)
-        (compile_says choice input a.0 (compile_given choice input a.0 a.1) (subst (λ (o : Output). status_of o.ending ≡ Done) a.2 done)) in
+    subst (λ (o : Output). CompileSays choice input o.text) (sym a.2)
+    (compile_says choice input a.0 (compile_given choice input a.0 a.1) (subst (λ (o : Output). status_of o.ending ≡ Done) a.2 done)) in
     let b = given_for (codes "check" ∷ []) Check written.text answer refl checked in
     let judged : CheckSays says.bundle answer.text (status_of answer.ending) =
-        subst (λ (o : Output). CheckSays says.bundle o.text (status_of o.ending)) (sym b.2) (check_says written.text says.bundle b.0 (says.line short) b.1) in
+    subst (λ (o : Output). CheckSays says.bundle o.text (status_of o.ending)) (sym b.2) (check_says written.text says.bundle b.0 (says.line short) b.1) in
     (says.bundle, says.printed, judged.certified.1 says.compiled.valid)

@@ -15,7 +15,7 @@ use Rattle.tool_commands.specs.Commands.{CommandGives, reads}
 abbrev pub InputGives : Command → List ℕ → Result Output Refusal → Type 0
 InputGives command input given =
     MatchBool (reads command && nat_lt INPUT_LIMIT (length input)) (given ≡ Err TooLong)
-        (CommandGives command (lines_of input) given)
+    (CommandGives command (lines_of input) given)
 
 -- the output is for what the command gives for these lines
 abbrev pub IsOfCommand : Command → List (List ℕ) → Output → Type 0

@@ -23,6 +23,6 @@ abbrev pub IsCompiledCertified : Type 0
 IsCompiledCertified =
     (choice : LeafChoice) (input : List ℕ) (written answer : Output) → Answer (compile_words choice) input written
     → status_of written.ending ≡ Done → length written.text ≤ INPUT_LIMIT
-        → Answer (codes "check" ∷ []) written.text answer
+    → Answer (codes "check" ∷ []) written.text answer
     → (bundle : Bundle) × (written.text ≡ bundle_line bundle)
     × SaysCertified (proof_bound bundle.proof) answer.text (status_of answer.ending)

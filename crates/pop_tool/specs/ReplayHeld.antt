@@ -21,6 +21,6 @@ replay_words Watched = codes "replay" ∷ codes "--watched" ∷ []
 abbrev pub IsReplayHeld : Type 0
 IsReplayHeld =
     (kind : RunKind) (words : List (List ℕ)) (spec : RunSpec) (input : List ℕ) (written answer : Output)
-        → meaning_of words ≡ Ok (run_command kind spec)
+    → meaning_of words ≡ Ok (run_command kind spec)
     → Answer words input written → WasRun (status_of written.ending) → length written.text ≤ INPUT_LIMIT
     → Answer (replay_words kind) written.text answer → (k : ℕ) × (answer ≡ holds_output k)

@@ -33,7 +33,7 @@ module _ (names : List (List ℕ)) (ss : List Symbol) (numbers : NumbersFit name
       let constant = constant_symbols negative digits in
       let rest = Compare relation ∷ (constant ++ later) in
       let parts : ss ≡ before ++ (sum_symbols sum ++ rest) =
-          is ∙ ap (λ (t : List Symbol). before ++ t) (append_assoc (sum_symbols sum) (Compare relation ∷ constant) later) in (
+      is ∙ ap (λ (t : List Symbol). before ++ t) (append_assoc (sum_symbols sum) (Compare relation ∷ constant) later) in (
         numbers.sums before rest sum parts begins,
         numbers.constants (before ++ sum_symbols sum) later relation negative digits (parts ∙ sym (append_assoc before (sum_symbols sum) rest)),
       )
@@ -43,9 +43,9 @@ module _ (names : List (List ℕ)) (ss : List Symbol) (numbers : NumbersFit name
       let tail = Mod ∷ Number modulus ∷ later in
       let rest = Compare relation ∷ (constant ++ tail) in
       let parts : ss ≡ before ++ (sum_symbols sum ++ rest) =
-          is
-          ∙ ap (λ (t : List Symbol). before ++ t) (append_assoc (sum_symbols sum) (Compare relation ∷ (constant ++ Mod ∷ Number modulus ∷ [])) later)
-          ∙ ap (λ (t : List Symbol). before ++ (sum_symbols sum ++ Compare relation ∷ t)) (append_assoc constant (Mod ∷ Number modulus ∷ []) later) in
+      is
+      ∙ ap (λ (t : List Symbol). before ++ t) (append_assoc (sum_symbols sum) (Compare relation ∷ (constant ++ Mod ∷ Number modulus ∷ [])) later)
+      ∙ ap (λ (t : List Symbol). before ++ (sum_symbols sum ++ Compare relation ∷ t)) (append_assoc constant (Mod ∷ Number modulus ∷ []) later) in
       let at_relation : ss ≡ (before ++ sum_symbols sum) ++ rest = parts ∙ sym (append_assoc before (sum_symbols sum) rest) in
       let front = (before ++ sum_symbols sum) ++ Compare relation ∷ constant in
       let ends = numbers.moduli front later modulus (at_relation ∙ sym (append_assoc (before ++ sum_symbols sum) (Compare relation ∷ constant) tail)) in (
@@ -82,7 +82,7 @@ module _ (names : List (List ℕ)) (ss : List Symbol) (numbers : NumbersFit name
       phrase_fits p (before ++ Not ∷ []) later (behind before Not (symbols p) later is) (last_more before Not)
   phrase_fits (group p) before later is begins =
       let inside : ss ≡ before ++ Open ∷ (symbols p ++ Close ∷ later) =
-          is ∙ ap (λ (t : List Symbol). before ++ Open ∷ t) (append_assoc (symbols p) (Close ∷ []) later) in
+      is ∙ ap (λ (t : List Symbol). before ++ Open ∷ t) (append_assoc (symbols p) (Close ∷ []) later) in
       phrase_fits p (before ++ Open ∷ []) (Close ∷ later) (behind before Open (symbols p) (Close ∷ later) inside) (last_more before Open)
   phrase_fits (atom a) before later is begins = atom_fits a before later is begins
 

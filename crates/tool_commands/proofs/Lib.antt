@@ -1,4 +1,3 @@
-mod Formatted
 pub mod InputSize
 pub mod Begun
 pub mod Ran

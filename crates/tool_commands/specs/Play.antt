@@ -37,7 +37,7 @@ abbrev pub meetings_in : ℕ → ℕ → List (List ℕ) → Result (List Meetin
 meetings_in agents number [] = Ok []
 meetings_in agents number (line ∷ lines) =
     paired number (meeting_of agents line) >>= λ pair. meetings_in agents (number + 1) lines >>= λ more. Ok
-        (between pair ∷ more)
+    (between pair ∷ more)
 
 -- the crowd after the meetings of the lines from a number on
 abbrev pub on_from : NetModel → ℕ → ℕ → CrowdModel → List (List ℕ) → Result CrowdModel Refusal

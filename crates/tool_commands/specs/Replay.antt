@@ -43,7 +43,7 @@ compared_output meetings (Some difference) = difference_output difference
 abbrev pub journal_output : NetModel → CrowdModel → Journal → Output
 journal_output net start journal =
     compared_output (length (joined journal.rounds))
-        (first_difference (journal.first + 1) (journal_compared net start journal))
+    (first_difference (journal.first + 1) (journal_compared net start journal))
 
 -- the same for the journal of these lines, if there is one
 abbrev pub replay_output : RunKind → NetModel → CrowdModel → List (List ℕ) → Result Output Refusal

@@ -61,12 +61,12 @@ OfJudged kind spec lines bundle counts (Some rejected) output = output ≡ rejec
 abbrev pub OfBegun : RunKind → RunSpec → List ℕ → Bundle × List ℕ → Result Output Refusal → Type 0
 OfBegun kind spec lines begin given =
     (judged : Option Rejected) × (output : Output) × IsJudged begin.0 judged
-        × OfJudged kind spec lines begin.0 begin.1 judged output × (given ≡ Ok output)
+    × OfJudged kind spec lines begin.0 begin.1 judged output × (given ≡ Ok output)
 
 abbrev pub OfLines : RunKind → RunSpec → List ℕ × List ℕ → Result Output Refusal → Type 0
 OfLines kind spec lines given =
     (begin : Result (Bundle × List ℕ) Refusal) × IsBegunBy lines.0 lines.1 begin
-        × After begin (OfBegun kind spec (ended lines.0 ++ ended lines.1)) given
+    × After begin (OfBegun kind spec (ended lines.0 ++ ended lines.1)) given
 
 -- what the command that makes a run of this kind gives for the lines of its input
 abbrev pub RunGives : RunKind → RunSpec → List (List ℕ) → Result Output Refusal → Type 0

@@ -52,7 +52,7 @@ pub record IsSettled (bundle : Bundle) (counts : List ℕ) (given : Result Outpu
 abbrev pub OfJudged : Bundle → List ℕ → Option Rejected → Result Output Refusal → Type 0
 OfJudged bundle counts None given =
     MatchBool (nat_lt TAKE_LIMIT (takes_allowed bundle counts)) (given ≡ Err (Settle (takes_allowed bundle counts)))
-        (IsSettled bundle counts given)
+    (IsSettled bundle counts given)
 OfJudged bundle counts (Some rejected) given = given ≡ Ok (rejection_output rejected)
 
 abbrev pub OfBegun : Bundle × List ℕ → Result Output Refusal → Type 0

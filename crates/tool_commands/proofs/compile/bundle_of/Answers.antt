@@ -12,7 +12,7 @@ returns-in-Ok-clause-compiled c =
     let net : NetModel = c.in-Ok.net in
     let proof = c.in-Ok.proof in
     let over : c.args.pred.variables ≡ length net.variables =
-        c.requires.count ∙ ap (λ (m : NetModel). length m.variables) (sym built.net) in
+    c.requires.count ∙ ap (λ (m : NetModel). length m.variables) (sym built.net) in
     record {
       net_is = built.net;
       pred_is = refl;
