@@ -5,8 +5,8 @@ Run from the top of the repository: python3 bench/refused.py [PROGRAM]
 The C library's allocating calls are replaced, for the program alone, by ones of which the call with a given number gives
 nothing; they stand below, and gcc builds them. For each case the number counts up from 1, until a run in which nothing was
 refused. A run in which something was refused must end with the status 8 and print nothing, or give the whole answer. The
-status of the script is 1 where one does neither. On threads the runs differ, so there any text is allowed that came with
-another status. Last, the same is done to a test of the field, which `rt ci` builds: no assertion of it may fail.
+status of the script is 1 where one does neither. On threads the runs differ, so there the whole answer is one that `replay` holds,
+with a status of an end. Last, the same is done to a test of the field, which `rt ci` builds: no assertion of it may fail.
 """
 
 import os
@@ -20,6 +20,9 @@ TESTS = os.path.join(TOP, "crates/run_tests/out/run_tests_tests")
 FIELD_TEST = "refusals::a_refusal_leaves_the_seats"
 EXAMPLES = os.path.join(TOP, "examples")
 OUT_OF_MEMORY = 8
+ENDED = (0, 4)
+REPLAY = ["replay"]
+REPLAY_WATCHED = ["replay", "--watched"]
 
 REFUSING = r"""
 #include <errno.h>
@@ -72,20 +75,21 @@ def bundle_and_crowd(name):
     return contents(f"{name}/bundle.json") + contents(f"{name}/crowd.txt")
 
 
-# the words, the input, and whether the text is a function of both
+# the words, the input, and the words that judge the text where it is no function of both
 CASES = {
-    "play": (["play"], contents("majority/play.txt"), True),
-    "eval": (["eval"], b"vars x y\n2*x - y < 5 && x + y = 1 mod 3\ncrowd x=0 y=1\n", True),
-    "check": (["check"], contents("majority/bundle.json"), True),
-    "check of two leaves": (["check"], contents("and/bundle.json"), True),
-    "compile": (["compile"], b"vars x\nx < 1\n", True),
-    "compile --flocks": (["compile", "--flocks"], b"vars x\nx >= 4\n", True),
-    "run": (["run", "--turns", "2"], bundle_and_crowd("threshold"), True),
-    "run by two workers": (["run", "--turns", "2", "--workers", "2"], bundle_and_crowd("majority"), False),
-    "replay": (["replay"], contents("replays/held.txt"), True),
-    "replay of a changed mark": (["replay"], contents("replays/changed-mark.txt"), True),
-    "settle": (["settle"], bundle_and_crowd("majority"), True),
-    "demo": (["demo", "0"], b"", True),
+    "play": (["play"], contents("majority/play.txt"), None),
+    "eval": (["eval"], b"vars x y\n2*x - y < 5 && x + y = 1 mod 3\ncrowd x=0 y=1\n", None),
+    "check": (["check"], contents("majority/bundle.json"), None),
+    "check of two leaves": (["check"], contents("and/bundle.json"), None),
+    "compile": (["compile"], b"vars x\nx < 1\n", None),
+    "compile --flocks": (["compile", "--flocks"], b"vars x\nx >= 4\n", None),
+    "run": (["run", "--turns", "2"], bundle_and_crowd("threshold"), None),
+    "run by two workers": (["run", "--turns", "2", "--workers", "2"], bundle_and_crowd("majority"), REPLAY),
+    "watch": (["watch", "--turns", "2", "--workers", "2"], bundle_and_crowd("majority"), REPLAY_WATCHED),
+    "replay": (["replay"], contents("replays/held.txt"), None),
+    "replay of a changed mark": (["replay"], contents("replays/changed-mark.txt"), None),
+    "settle": (["settle"], bundle_and_crowd("majority"), None),
+    "demo": (["demo", "0"], b"", None),
 }
 
 
@@ -96,9 +100,22 @@ def run(library, words, data, call):
     return done.returncode, done.stdout, b"refused" in done.stderr
 
 
+def holds(words, text):
+    """Whether the program, with these words and with all memory, replays the text as a journal that holds."""
+    done = subprocess.run([PROGRAM, *words], input=text, capture_output=True, timeout=60)
+    return done.returncode == 0 and done.stdout.startswith(b"holds ")
+
+
+def is_whole(answer, judge, status, text):
+    """Whether this is the whole answer: the one that came with all memory, or a journal that holds."""
+    if judge is None:
+        return (status, text) == answer
+    return status in ENDED and holds(judge, text)
+
+
 def count(library, name):
     """Prints how many calls were refused in turn, and gives the number of runs that did what they may not."""
-    words, data, is_function = CASES[name]
+    words, data, judge = CASES[name]
     answer = run(library, words, data, 0)[:2]
     silent, wrong, call = 0, 0, 1
     while True:
@@ -107,7 +124,7 @@ def count(library, name):
             break
         is_silent = (status, text) == (OUT_OF_MEMORY, b"")
         silent += is_silent
-        if not is_silent and is_function and (status, text) != answer:
+        if not is_silent and not is_whole(answer, judge, status, text):
             wrong += 1
             print(f"DIFFERS {name}: call {call} refused, status {status}, {text[:80]!r}")
         call += 1

@@ -1,9 +1,11 @@
 #!/usr/bin/env python3
 """Takes the processor time of `run` of the built program beside a plain Rust program that does the same work.
 
-Run from the top of the repository: python3 bench/runs.py
-Both run 1,000,000 turns of one worker, on majority with 1,000 agents and on a threshold leaf of 255 states, and
-must print the same journal. The built program reads a bundle and checks its proof first, which the plain one does not.
+Run from the top of the repository: python3 bench/runs.py [PROGRAM]
+Both run 1,000,000 turns of one worker, on majority with 1,000 and with 65,536 agents and on a threshold leaf of 255 states, and
+must print the same journal. The built program reads a bundle and checks its proof first, which the plain one does not. The plain
+one keeps each agent's digits and puts lines together on a page, as the built one does, in a text whose room is reserved. The least
+of seven runs each, in turn.
 """
 
 import json
@@ -17,7 +19,8 @@ import generator
 import tree
 
 TOP = os.path.dirname(os.path.dirname(os.path.abspath(__file__)))
-PROGRAM = os.path.join(TOP, "crates/pop_main/out/pop_main")
+PROGRAM = sys.argv[1] if len(sys.argv) > 1 else os.path.join(TOP, "crates/pop_main/out/pop_main")
+RUNS = 7
 TURNS = 1_000_000
 
 PLAIN = r"""
@@ -67,19 +70,35 @@ fn enabled(table: &Table, crowd: &[u16]) -> Option<(usize, usize)> {
     Some((a, b))
 }
 
-fn number(out: &mut Vec<u8>, mut n: u64) {
-    let mut digits = [0u8; 20];
-    let mut at = 20;
-    loop {
-        at -= 1;
-        digits[at] = b'0' + (n % 10) as u8;
-        n /= 10;
-        if n == 0 {
-            break;
-        }
-    }
-    out.extend_from_slice(&digits[at..]);
+/// The digits of each agent's number, eight bytes each, and how many of them count.
+struct Numerals {
+    bytes: Vec<[u8; 8]>,
+    lengths: Vec<u8>,
 }
+
+impl Numerals {
+    fn new(agents: usize) -> Numerals {
+        let (mut bytes, mut lengths) = (Vec::with_capacity(agents), Vec::with_capacity(agents));
+        for n in 0..agents {
+            let digits = n.to_string();
+            let mut eight = [0u8; 8];
+            eight[..digits.len()].copy_from_slice(digits.as_bytes());
+            bytes.push(eight);
+            lengths.push(digits.len() as u8);
+        }
+        Numerals { bytes, lengths }
+    }
+
+    /// Puts a number on the page; behind its end the page may hold anything.
+    fn put(&self, page: &mut [u8; PAGE], at: usize, n: usize) -> usize {
+        page[at..at + 8].copy_from_slice(&self.bytes[n]);
+        at + usize::from(self.lengths[n])
+    }
+}
+
+/// The bytes of a page, and of the longest meeting line with room for the last eight bytes that are copied.
+const PAGE: usize = 4096;
+const LINE_ROOM: usize = 32;
 
 fn main() {
     let text = std::fs::read_to_string(std::env::args().nth(1).unwrap()).unwrap();
@@ -98,8 +117,12 @@ fn main() {
     let turns: u64 = lines.next().unwrap().parse().unwrap();
     let outputs: Vec<&str> = lines.next().unwrap().split(' ').collect();
     let mut words = Words::new(0);
-    let mut rounds: Vec<Vec<(u16, u32, u32, bool)>> = Vec::new();
-    let mut left = turns;
+    let numerals = Numerals::new(crowd.len());
+    let mut out = Vec::with_capacity(turns as usize * LINE_ROOM / 2);
+    write!(out, "run workers 1 shards 16 turns {turns} seed 0\n").unwrap();
+    let (mut page, mut at) = ([0u8; PAGE], 0);
+    let (mut left, mut round) = (turns, 0);
+    let n = crowd.len() as u64;
     let mut open;
     loop {
         open = enabled(&table, &crowd);
@@ -107,8 +130,8 @@ fn main() {
             break;
         }
         let count = left.min(4096);
-        let n = crowd.len() as u64;
-        let mut log = Vec::with_capacity(count as usize);
+        round += 1;
+        write!(out, "round {round}\n").unwrap();
         for _ in 0..count {
             let word = words.next();
             let a = (word >> 32) % n;
@@ -116,27 +139,30 @@ fn main() {
             if a <= b {
                 b += 1;
             }
-            let (x, y) = (crowd[a as usize], crowd[b as usize]);
+            let (a, b) = (a as usize, b as usize);
+            let (x, y) = (crowd[a], crowd[b]);
             let (r, s) = table.react(x, y);
-            crowd[a as usize] = r;
-            crowd[b as usize] = s;
-            log.push((0u16, a as u32, b as u32, (x, y) != (r, s)));
+            crowd[a] = r;
+            crowd[b] = s;
+            if at > PAGE - LINE_ROOM {
+                out.extend_from_slice(&page[..at]);
+                at = 0;
+            }
+            page[at..at + 2].copy_from_slice(b"0 ");
+            at = numerals.put(&mut page, at + 2, a);
+            page[at] = b' ';
+            at = numerals.put(&mut page, at + 1, b);
+            page[at..at + 3].copy_from_slice(b" *\n");
+            if (x, y) == (r, s) {
+                page[at] = b'\n';
+                at += 1;
+            } else {
+                at += 3;
+            }
         }
-        rounds.push(log);
+        out.extend_from_slice(&page[..at]);
+        at = 0;
         left -= count;
-    }
-    let mut out = Vec::new();
-    write!(out, "run workers 1 shards 16 turns {turns} seed 0\n").unwrap();
-    for (k, log) in rounds.iter().enumerate() {
-        write!(out, "round {}\n", k + 1).unwrap();
-        for (worker, a, b, changed) in log {
-            number(&mut out, u64::from(*worker));
-            out.push(b' ');
-            number(&mut out, u64::from(*a));
-            out.push(b' ');
-            number(&mut out, u64::from(*b));
-            out.extend_from_slice(if *changed { b" *\n" } else { b"\n" });
-        }
     }
     out.extend_from_slice(b"end\n");
     let mut counts = BTreeMap::new();
@@ -186,14 +212,18 @@ def measure(name, bundle, counts, plain, folder):
         f.write(" ".join(f"{s},{n}" for s, n in zip(leaf["input"], counts)) + "\n")
         f.write(f"{TURNS}\n")
         f.write(" ".join("true" if b else "false" for b in leaf["output"]) + "\n")
-    ours, our_time, memory = timed([PROGRAM, "run", "--turns", str(TURNS)], line_input)
-    theirs, plain_time, plain_memory = timed([plain, plain_input], os.devnull)
+    our_time = plain_time = float("inf")
+    for _ in range(RUNS):
+        ours, seconds, memory = timed([PROGRAM, "run", "--turns", str(TURNS)], line_input)
+        our_time = min(our_time, seconds)
+        theirs, seconds, plain_memory = timed([plain, plain_input], os.devnull)
+        plain_time = min(plain_time, seconds)
     journal = ours[len(head.encode()):]
     if journal != theirs:
         sys.exit(f"{name}: the journals differ")
     meetings = sum(1 for line in journal.split(b"\n") if line[:1].isdigit())
     print(
-        f"{name}: {meetings} meetings, pop {our_time:.2f} s, plain {plain_time:.2f} s, ratio {our_time / plain_time:.2f}; "
+        f"{name}: {meetings} meetings, pop {our_time:.3f} s, plain {plain_time:.3f} s, ratio {our_time / plain_time:.2f}; "
         f"memory per meeting: pop {memory / max(meetings, 1):.0f} bytes, plain {plain_memory / max(meetings, 1):.0f} bytes"
     )
 
@@ -209,6 +239,7 @@ def main():
             f.write(PLAIN + generator.WORDS)
         subprocess.run(["rustc", "-O", "--edition", "2021", "-A", "warnings", "-o", plain, source], check=True)
         measure("majority, 1,000 agents", majority(), [501, 499], plain, folder)
+        measure("majority, 65,536 agents", majority(), [32_769, 32_767], plain, folder)
         measure("threshold leaf of 255 states, 1,000 agents", threshold(), [510, 490], plain, folder)
 
 
