@@ -10,7 +10,7 @@ SPAN = re.compile(r"`([\w.:/+\-]+)`")
 NAME = re.compile(r"[A-Za-z_][A-Za-z0-9_]{3,}")
 PATH = re.compile(r"^[\w.\-]+(?:/[\w.\-]+)+/?$")
 # Names of std's, and of files that the toolchain makes.
-ELSEWHERE = {"div_ceil", "made"}
+ELSEWHERE = {"div_ceil", "lang", "made", "Over"}
 BUILT = "out"
 
 
