@@ -1,7 +1,7 @@
 -- The order in which a bundle's value is examined: its net, its predicate, its proof.
 use Rattle.std.specs.Prelude.{[], codes, length, Result, Ok}
 use Rattle.serde_json.specs.Data.{Data}
-use Rattle.json_shape.specs.Faults.{Fault}
+use Rattle.json_shape.specs.Faults.{Fault, ◌>>=◌}
 use Rattle.json_shape.specs.Shapes.{object_at, member_by}
 use Rattle.pop_net.specs.NetModel.{NetModel}
 use Rattle.net_json.specs.Examined.{net_at}

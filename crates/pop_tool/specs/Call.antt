@@ -14,8 +14,7 @@ abbrev pub AcceptsReplies : (List ℕ → Type 0) → List (List ℕ) → Option
 AcceptsReplies accepts words left = (output : Output) → IsReply words left output → accepts output.text
 
 -- What a source has left, and what a sink holds, where they tell it, and their counts of faults, as seen by these
--- views:
--- a call with the words finds the source and the sink so, leaves them so, and ends with the status.
+-- views: a call with the words finds the source and the sink so, leaves them so, and ends with the status.
 pub record IsCall {S K : Type 0} (left : S → Option (List ℕ)) (read_faults : S → ℕ) (holds : K → Option (List ℕ))
     (write_faults : K → ℕ) (words : List (List ℕ)) (source rest : S) (sink grown : K) (status : Status) : Type 0 where
   -- the sink grew by the answer to the words and to what the source had left, or as the status says

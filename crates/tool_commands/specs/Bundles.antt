@@ -13,6 +13,7 @@ use Rattle.tool_texts.specs.declared.refusal.Refusal.{Refusal}
 use Rattle.tool_texts.specs.declared.refusal.Refusal.TheVariants.{NotJson}
 use Rattle.tool_texts.specs.declared.output.Output.{Output}
 use Rattle.tool_texts.specs.Rejections.{rejection_output}
+use Rattle.tool_texts.specs.Steps.{◌>>=◌}
 use Rattle.tool_texts.specs.Json.{HasValue}
 use Rattle.tool_commands.specs.Start.{formatted, fitting_in}
 

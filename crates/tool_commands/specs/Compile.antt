@@ -19,7 +19,7 @@ use Rattle.comp_net.specs.CompileFaults.{fault_with}
 use Rattle.comp_net.specs.BuiltNet.{net_with}
 use Rattle.tool_texts.specs.declared.refusal.Refusal.{Refusal}
 use Rattle.tool_texts.specs.declared.refusal.Refusal.TheVariants.{Atoms, Width, Wide}
-use Rattle.tool_texts.specs.Steps.{After}
+use Rattle.tool_texts.specs.Steps.{◌>>=◌, After}
 use Rattle.tool_texts.specs.Lines.{just_two}
 use Rattle.tool_texts.specs.declared.output.Output.{Output}
 use Rattle.tool_texts.specs.declared.output.Ending.TheVariants.{Done}

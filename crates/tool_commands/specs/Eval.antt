@@ -10,6 +10,7 @@ use Rattle.pop_words.specs.Counts.{counts_of}
 use Rattle.tool_texts.specs.declared.refusal.Refusal.{Refusal}
 use Rattle.tool_texts.specs.declared.refusal.Refusal.TheVariants.{Line, Pred, Count}
 use Rattle.tool_texts.specs.declared.refusal.LineWhy.TheVariants.{Form}
+use Rattle.tool_texts.specs.Steps.{◌>>=◌}
 use Rattle.tool_texts.specs.Lines.{just_three}
 use Rattle.tool_texts.specs.declared.output.Output.{Output}
 use Rattle.tool_texts.specs.declared.output.Ending.TheVariants.{Done}
