@@ -14,6 +14,7 @@ TABLE: dict[str, tuple[str, str]] = {
     "net": ("net", "the net of a `.pop` file, as one line of JSON"),
     "bundle": ("bundle", "the bundle of a `.pop` file with a proof, as one line of JSON"),
     "text": ("text", "the `.pop` file of a net or a bundle"),
+    "explain": ("explain", "layers, trees and facts of a proof, and what is missing where it is rejected"),
 }
 
 
