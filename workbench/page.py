@@ -71,10 +71,11 @@ def tree_html(nodes: Sequence[ToldNode]) -> Iterator[str]:
     todo: list[ToldNode | str] = list(reversed(below.get(-1, [])))
     yield '<ul class="tree">'
     while todo:
-        node = todo.pop()
-        if isinstance(node, str):
-            yield node
+        item = todo.pop()
+        if isinstance(item, str):
+            yield item
             continue
+        node = item
         mark = ' class="bad"' if node.refused else ""
         facts = f"<div>{_facts(node.facts)}</div>"
         yield f"<li{mark}><details open><summary><i>{node.number}</i> {_words(node)}</summary>{facts}{_said(node, not refused)}<ul>"
@@ -122,7 +123,7 @@ def _leaf(explanation: Explanation, at: int) -> Iterator[str]:
         yield "<p>none</p>"
     for value in (True, False):
         said = str(value).lower()
-        yield f"<h3>When the predicate is {said}</h3><p class=small>No terminal crowd has an agent that says {str(not value).lower()}: each case of such an end is refuted.</p>"
+        yield f"<h3>When the predicate is {said}</h3><p class=small>This tree is to refute each terminal crowd in which an agent says {str(not value).lower()}.</p>"
         yield from tree_html(explanation.tree(at, value))
 
 

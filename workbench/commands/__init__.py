@@ -15,6 +15,9 @@ TABLE: dict[str, tuple[str, str]] = {
     "bundle": ("bundle", "the bundle of a `.pop` file with a proof, as one line of JSON"),
     "text": ("text", "the `.pop` file of a net or a bundle"),
     "explain": ("explain", "layers, trees and facts of a proof, and what is missing where it is rejected"),
+    "and": ("join_and", "one bundle of two, whose net says both"),
+    "or": ("join_or", "one bundle of two, whose net says one of them or both"),
+    "not": ("join_not", "the bundle of the negation"),
 }
 
 
