@@ -154,8 +154,9 @@ def load_pop(text: str, name: str) -> Loaded:
     loaded.warnings = cautions(net, [m.places for m in made])
     if parts is None:
         for leaf in file.leaves:
-            if leaf.layers is not None or leaf.layers_hole or leaf.trees:
-                raise leaf.place.fault("a proof wants a line `computes PREDICATE` before it")
+            given = [layer.place for layer in leaf.layers or []] + [tree.place for tree in leaf.trees.values()]
+            if given:
+                raise given[0].fault("a proof wants a line `computes PREDICATE` before it")
         return loaded
     drafts = []
     for leaf, one, part in zip(file.leaves, made, parts):

@@ -5,7 +5,7 @@ from dataclasses import dataclass
 from typing import Any
 
 from .nets import FormatFault, Item, Leaf, Move, Net, is_silent, is_state_name, is_variable_name, net_of, pair
-from .popfile import WILDCARD, LeafText, MoveText, Named, PopText
+from .popfile import ANY, LeafText, MoveText, Named, PopText
 from .predicates import Predicate, PredicateFault, read_predicate
 from .scanner import Line, Place
 
@@ -36,13 +36,13 @@ def state_order(text: LeafText) -> dict[str, int]:
 
 def _wild_moves(move: MoveText, numbers: dict[str, int], taken: set[tuple[int, int]]) -> list[Move]:
     """The moves that a wildcard stands for: one for each state that fits, changes something and has no move with its partner yet."""
-    if move.states[0] == move.states[1] == WILDCARD:
+    if move.states[0] == move.states[1] == ANY:
         raise move.places[1].fault("expected a state: only one of the two that meet may be `*`")
-    if WILDCARD not in move.states[:2]:
-        raise move.places[2 + move.states[2:].index(WILDCARD)].fault("`*` on the right stands for the one on the left, and there is none")
+    if ANY not in move.states[:2]:
+        raise move.places[2 + move.states[2:].index(ANY)].fault("`*` on the right stands for the one on the left, and there is none")
     out = []
     for q in numbers.values():
-        p0, p1, p2, p3 = (q if name == WILDCARD else numbers[name] for name in move.states)
+        p0, p1, p2, p3 = (q if name == ANY else numbers[name] for name in move.states)
         made = (p0, p1, p2, p3)
         if not is_silent(made) and pair(p0, p1) not in taken:
             out.append(made)
@@ -72,7 +72,7 @@ def _outputs(text: LeafText, numbers: dict[str, int]) -> tuple[bool, ...]:
     rest: bool | None = None
     for value, states, place in text.outputs:
         for named in states:
-            if named.name == WILDCARD:
+            if named.name == ANY:
                 rest = value
             elif said.setdefault(named.name, value) != value:
                 raise named.place.fault(f"state `{named.name}` is under `yes` and under `no`")
@@ -184,6 +184,8 @@ def _within_limits(value: dict[str, Any], text: PopText, made: list[MadeLeaf]) -
         place = text.leaves[at].place
         if parts[1] == "combine" and text.combine:
             place = text.combine[1]
+        if parts[1] == "format" and text.format:
+            place = text.format[1]
         raise place.fault(_LIMITS.get(parts[3] if len(parts) > 3 else parts[1], f"the net breaks a rule of the file at {fault.path}: {fault.why}")) from None
 
 

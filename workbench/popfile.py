@@ -9,6 +9,8 @@ from .scanner import WORD, Line, Place, TextFault, lines_of
 FILE_WORDS = ("format", "variables", "predicate", "combine", "leaf")
 LEAF_WORDS = ("states", "inputs", "helpers", "yes", "no", "computes", "layers", "layer", "when")
 WILDCARD = "*"
+# what stands for it in place of a name: no state's name has a blank
+ANY = " *"
 HOLE = "?"
 
 
@@ -30,7 +32,7 @@ class MoveText:
     @property
     def is_wild(self) -> bool:
         """Whether it stands for a move of each state that fits."""
-        return WILDCARD in self.states
+        return ANY in self.states
 
 
 @dataclass
@@ -69,7 +71,7 @@ class LeafText:
 
     def mention(self, named: Named) -> Named:
         """Notes a state, as the states are numbered in the order in which they are first mentioned."""
-        if named.name != WILDCARD:
+        if named.name != ANY:
             self.mentions.append(named)
         return named
 
@@ -97,7 +99,7 @@ def read_move(line: Line, wild: bool = True) -> MoveText:
     for expected in ("`+` or `,`, and the other state", "`->`", "`+` or `,`, and the other state", ""):
         line.skip()
         if wild and line.looking_at(WILDCARD):
-            parts.append(Named(WILDCARD, line.place()))
+            parts.append(Named(ANY, line.place()))
             line.takes(WILDCARD)
         else:
             parts.append(read_state(line))
@@ -114,7 +116,7 @@ def _several(line: Line, expected: str) -> list[Named]:
     out: list[Named] = []
     while not line.is_done():
         if line.looking_at(WILDCARD):
-            out.append(Named(WILDCARD, line.place()))
+            out.append(Named(ANY, line.place()))
             line.takes(WILDCARD)
         else:
             out.append(read_state(line, expected))
@@ -155,11 +157,11 @@ class _Reader:
         """The leaf that a line belongs to: the last one, or the only one, which has no name."""
         if not self.file.leaves:
             self.single = True
-            self.file.leaves.append(LeafText("", line.place()))
+            self.file.leaves.append(LeafText("", line.start()))
         return self.file.leaves[-1]
 
     def file_line(self, word: str, line: Line) -> None:
-        place = line.place()
+        place = line.start()
         if word == "format":
             self.file.format = (line.number_("1 or 2"), place)
         elif word == "variables":
@@ -179,7 +181,7 @@ class _Reader:
         line.must_end()
 
     def leaf_line(self, word: str, line: Line, leaf: LeafText) -> None:
-        place = line.place()
+        place = line.start()
         if word == "":
             move = read_move(line)
             for name, at in zip(move.states, move.places):
@@ -269,7 +271,7 @@ class _Reader:
             line.takes(",")
         for below in self.block(line):
             if below.takes(WILDCARD) and below.is_done():
-                layer.moves.append(Named(WILDCARD, below.place()))
+                layer.moves.append(Named(ANY, below.place()))
                 continue
             below.at = below.indent
             layer.moves.append(read_move(below, wild=False))

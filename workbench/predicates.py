@@ -15,7 +15,7 @@ LEAST_MODULUS, GREATEST_MODULUS = 2, 200
 OPEN_LIMIT = 64
 CHARGE_LIMIT = 64
 
-_TOKEN = re.compile(r"[ \t]*(?:([A-Za-z_][A-Za-z0-9_]*)|([0-9]+)|(<=|>=|!=|&&|\|\||[-+*<>=!()])|(.))", re.DOTALL)
+_TOKEN = re.compile(r"(?:([A-Za-z_][A-Za-z0-9_]*)|([0-9]+)|(<=|>=|!=|&&|\|\||[-+*<>=!()])|(.))", re.DOTALL)
 _CHARGES = {"!": 1, "&&": 1, "||": 1, "=": 1, "!=": 2}
 RELATIONS = ("<", "<=", ">", ">=", "=", "!=")
 
@@ -76,6 +76,7 @@ class _Token:
 def _tokens(text: str) -> list[_Token]:
     out, at = [], 0
     while True:
+        at += len(text[at:]) - len(text[at:].lstrip(" \t"))
         match = _TOKEN.match(text, at)
         if match is None:
             break

@@ -53,6 +53,10 @@ class Line:
         """The place that is read next."""
         return Place(self.number, self.at + 1, self.whole)
 
+    def start(self) -> Place:
+        """The place at which the line begins to say something."""
+        return Place(self.number, self.indent + 1, self.whole)
+
     def fault(self, expected: str) -> TextFault:
         """What was expected here, and what stands here."""
         self.skip()
@@ -140,9 +144,13 @@ class Line:
 
 def without_comment(text: str) -> str:
     """A line up to the `#` that begins its comment; a `#` in quotes begins none."""
-    inside = False
+    inside = escaped = False
     for at, c in enumerate(text):
-        if c == '"' and (not inside or text[at - 1] != "\\"):
+        if escaped:
+            escaped = False
+        elif inside and c == "\\":
+            escaped = True
+        elif c == '"':
             inside = not inside
         elif c == "#" and not inside:
             return text[:at]

@@ -34,7 +34,7 @@ def combine_text(combine: Sequence[Item], names: Sequence[str]) -> str:
             stack.append((names[item], 3))
         elif item == "not":
             text, strength = stack.pop()
-            bare = strength == 3 and " " not in text
+            bare = strength == 3 and (" " not in text or _is_one(text))
             stack.append((f"!{text}" if bare else f"!({text})", 3))
         else:
             right, left = stack.pop(), stack.pop()
