@@ -227,6 +227,8 @@ class TreeReader:
         return Unknown(place, f"no fact `{name}` here" + self._suggestion(name))
 
     def _suggestion(self, name: str) -> str:
+        if name.startswith("absent("):
+            return ": no state that is known to be there in this branch reacts with it, or it isn't looked at before"
         near = difflib.get_close_matches(name, self.branch.names, SUGGESTIONS, 0.5)
         return "; there are " + ", ".join(f"`{n}`" for n in near) if near else ""
 

@@ -93,7 +93,7 @@ FAULTS = [
     (MAJORITY.replace("present A", "presents A", 1), "21:3: expected a node"),
     (MAJORITY.replace("present A", "present C", 1), "21:11: `C` is no state of this leaf"),
     (MAJORITY.replace("open predicate", "open predikate", 1), "20:8: no fact `predikate` here; there are `predicate`"),
-    (MAJORITY.replace("lin wrong - absent(B)", "lin wrong - absent(A)", 1), "23:23: no fact `absent(A)` here; there are"),
+    (MAJORITY.replace("lin wrong - absent(B)", "lin wrong - absent(A)", 1), "23:23: no fact `absent(A)` here: no state that is known to be there in this branch reacts with it"),
     (MAJORITY.replace("    absent: lin -flow(A)", "    there: lin -flow(A)", 1), "22:5: expected `absent:`, the next case of `present A` on line 21"),
     (MAJORITY.replace("    here: lin wrong", "  here: lin wrong", 1), "23:3: expected the case `here` of `present A` on line 21, deeper than it"),
     (MAJORITY.replace("    here: lin wrong - absent(B) - absent(b)\n", "", 1), "19:1: the case `here` of `present A` on line 21 has no node"),
