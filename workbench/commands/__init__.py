@@ -18,6 +18,8 @@ TABLE: dict[str, tuple[str, str]] = {
     "and": ("join_and", "one bundle of two, whose net says both"),
     "or": ("join_or", "one bundle of two, whose net says one of them or both"),
     "not": ("join_not", "the bundle of the negation"),
+    "find": ("find", "a certified bundle of a protocol, or a crowd that it gets wrong"),
+    "refute": ("refute", "looks for a crowd that a protocol gets wrong"),
 }
 
 

@@ -61,11 +61,11 @@ class Branch:
         if time.time() > self.deadline:
             raise GaveUp(OUT_OF_TIME)
 
-    def point_of(self, frame: Frame) -> Array | None:
+    def point_of(self, frame: Frame, eager: Array | None = None) -> Array | None:
         """A point of the branch up to a frame: a known one, or by a linear program."""
         if not frame.pool:
             self.in_time()
-            point = self.solver.point(self.stack.line(frame))
+            point = self.solver.point(self.stack.line(frame), eager=eager)
             if point is None:
                 return None
             frame.pool.append(point)
@@ -74,11 +74,11 @@ class Branch:
                     below.pool = below.pool[-POOL:] + [point]
         return frame.pool[-1]
 
-    def side_point(self, items: Case) -> Array | None:
+    def side_point(self, items: Case, eager: Array | None = None) -> Array | None:
         """A point of the branch that meets a case's facts too; it becomes one of the branch's known points."""
         frame = self.stack.beside(len(self.stack.frames) - 1, items)
         known = bool(frame.pool)
-        point = self.point_of(frame)
+        point = self.point_of(frame, eager)
         if point is not None and not known:
             pool = self.stack.top.pool
             pool.insert(max(len(pool) - 1, 0), point)

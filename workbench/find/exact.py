@@ -67,7 +67,7 @@ class ExactSolver(Solver):
         values = [model.eval(v, model_completion=True) for v in variables]
         return np.array([Fraction(v.as_long()) if whole else v.as_fraction() for v in values], dtype=object)
 
-    def point(self, line: Sequence[Frame], cost: Array | None = None) -> Array | None:
+    def point(self, line: Sequence[Frame], cost: Array | None = None, eager: Array | None = None) -> Array | None:
         """A point that meets all facts but congruences, or None."""
         return None if line[-1].is_false else self._solved(line, False, self.cost if cost is None else cost)
 

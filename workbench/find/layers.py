@@ -16,6 +16,7 @@ TRIES = 8              # shuffled orders of choices
 TRY_SECONDS = 3.0
 WHOLE_SECONDS = 10.0
 HOPELESS = 50          # closures without weights that are remembered
+SAMPLE = 400           # closures that are sorted by size before the others are made
 
 Change = tuple[tuple[int, int], ...]
 
@@ -88,20 +89,28 @@ class LayerFinder:
         """The next layer: a union of closures that has weights; empty where there is none."""
         smallest = rest
         for mend in (False, True):
-            choices = sorted({self.waking.closure(done, frozenset([t]), mend) for t in rest}, key=lambda c: (len(c), sorted(c)))
+            order = sorted(rest)
+            step = max(1, len(order) // SAMPLE)
+            first, others = order[::step], [t for i, t in enumerate(order) if i % step]
+            choices = sorted({self.waking.closure(done, frozenset([t]), mend) for t in first}, key=lambda c: (len(c), sorted(c)))
             smallest = min(smallest, choices[0], key=len)
             if rng:
                 rng.shuffle(choices)
-            layer = self._union(done, choices, mend)
+            layer = self._union(done, choices, others, mend)
             if layer or time.time() > self.deadline:
                 return layer
         self.stuck = smallest
         return frozenset()
 
-    def _union(self, done: Moves, choices: Sequence[Moves], mend: bool) -> Moves:
+    def _union(self, done: Moves, choices: Sequence[Moves], others: Sequence[int], mend: bool) -> Moves:
+        """The union of closures, one after the other, as long as it has weights; `others` are moves whose closures aren't made yet."""
         layer: Moves = frozenset()
         bad: list[Moves] = []
-        for choice in choices:
+        candidates: list[Moves | int] = [*choices, *others]
+        for made in candidates:
+            if isinstance(made, int) and (made in layer or any(made in b for b in bad)):
+                continue
+            choice = self.waking.closure(done, frozenset([made]), mend) if isinstance(made, int) else made
             if choice <= layer or any(b <= choice for b in bad):
                 continue
             more = self.waking.closure(done, layer | choice, mend)

@@ -12,6 +12,7 @@ from .items import Array
 from .sets import States
 
 SHRINK = 40            # trials at most to make one trap smaller
+EAGER = 4              # with so many moves into a siphon or out of a trap, a point is looked for that takes many of them
 WORDS = ("siphon", "trap")
 
 
@@ -58,6 +59,7 @@ class Lemmas(Branch):
         starts = set(self.cases.leaf.helpers).union(*(self.sets.started(s, 1 - EPSILON) for s in known))
         taken = self.sets.taken(point)
         empty = set(np.nonzero(self.sets.crowd(point) <= EPSILON)[0].tolist())
+        turn = 0
         while True:
             first = empty if word == "trap" else set(range(self.cases.states)) - starts
             states = self.sets.greatest(word, first, sorted(moves))
@@ -65,9 +67,10 @@ class Lemmas(Branch):
                 return False
             cases = self.cases.of(node_of(word, states))
             crossed = next(cases)
-            other = self.side_point(crossed)
+            row = crossed[0].variables
+            other = self.side_point(crossed, self._untaken(moves) if turn else None)
+            turn += 1
             if other is not None:
-                row = crossed[0].variables
                 moves.update((row[other[row] > EPSILON] - self.cases.first_move).tolist())
             else:
                 other = self.side_point(next(cases))
@@ -79,6 +82,12 @@ class Lemmas(Branch):
                 starts |= {q for i, q in enumerate(self.cases.leaf.inputs) if other[i] > EPSILON}
             moves.update(self.sets.taken(other, 1 - EPSILON))
 
+    def _untaken(self, moves: set[int]) -> Array:
+        """The moves that may be taken and that no known point takes."""
+        free = self.stack.top.most[self.cases.first_move:] > 0
+        free[list(moves)] = False
+        return np.nonzero(free)[0] + self.cases.first_move
+
     def _is_closed_trap(self, states: Iterable[int]) -> bool:
         cases = self.cases.of(node_of("trap", states))
         return self.side_point(next(cases)) is None and self.side_point(next(cases)) is None
@@ -87,15 +96,16 @@ class Lemmas(Branch):
         """A smaller trap that does the same, as its last case says more: first a least one by the moves alone, then one that
         keeps the inputs' states, then blocks of states are left out, half of them first."""
         order = sorted(states, key=lambda q: (len(self.cases.leaf.partners[q]), q))
+        bare: States = frozenset()
 
         def less(now: States, out: Iterable[int]) -> States:
             small = self.sets.greatest_trap(now.difference(out), moves)
-            return small if self.sets.trap_breaks(small, point, taken) else frozenset()
+            return small if self.sets.trap_breaks(small, point, taken) else bare
 
-        for kept in (frozenset(), states & frozenset(self.cases.leaf.inputs)):
+        for kept in (bare, states & frozenset(self.cases.leaf.inputs)):
             small = states
             for q in order:
-                trial = less(small, [q]) if q in small else frozenset()
+                trial = less(small, [q]) if q in small else bare
                 if trial and trial >= kept:
                     small = trial
             if self._is_closed_trap(small):

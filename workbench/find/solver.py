@@ -44,16 +44,26 @@ class Solver:
         at = np.repeat(np.arange(len(rows)), [len(row.variables) for row in rows])
         return self.flow.with_rows(at, np.concatenate([row.variables for row in rows]), np.concatenate([row.numbers for row in rows]).astype(float), len(rows), wider)
 
-    def point(self, line: Sequence[Frame], cost: Array | None = None) -> Array | None:
-        """A point that meets all facts but congruences, or None."""
+    def point(self, line: Sequence[Frame], cost: Array | None = None, eager: Array | None = None) -> Array | None:
+        """A point that meets all facts but congruences, or None. Where it is possible, one that takes many of the `eager` moves once."""
         top = line[-1]
         if top.is_false:
             return None
         rows = [row for frame in line[1:] for row in frame.rows] + [row for row in line[0].rows if row.kind == AT_LEAST]
         low = np.concatenate([self.flow_at, [-row.constant for row in rows]])
         high = np.concatenate([self.flow_at, [-row.constant if row.kind == EQUAL else np.inf for row in rows]])
+        matrix = self._extended(rows, 0)
+        most = np.maximum(top.most, top.least)
+        if eager is not None:
+            wish, once = self.cost.copy(), most.copy()
+            wish[eager] = -1
+            once[eager] = np.maximum(np.minimum(most[eager], 1), top.least[eager])
+            self.calls += 1
+            got = minimise(wish, matrix, low, high, top.least, once)
+            if got.status == FOUND:
+                return got.point
         self.calls += 1
-        got = minimise(self.cost if cost is None else cost, self._extended(rows, 0), low, high, top.least, np.maximum(top.most, top.least))
+        got = minimise(self.cost if cost is None else cost, matrix, low, high, top.least, most)
         if got.status == FOUND:
             return got.point
         if got.status == NONE:
