@@ -53,6 +53,7 @@ class Branch:
         self.sets = Sets(cases)
         self.solver: Solver = ExactSolver(cases) if exact else Solver(cases)
         self.base = cases.base(tree, value)
+        self.failed = {"siphon": 0, "trap": 0}
         self.stack = Stack(cases.variables)
         self.stack.push(self.base)
 

@@ -32,7 +32,7 @@ class Row:
         """The sum's value at a point."""
         if len(self.variables) == 1:
             return self.numbers[0] * point[self.variables[0]] + self.constant
-        return np.dot(self.numbers, point[self.variables]) + self.constant
+        return np.dot(self.numbers, point[self.variables]) + self.constant if len(self.variables) else self.constant
 
     def __len__(self) -> int:
         return 1

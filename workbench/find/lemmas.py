@@ -12,7 +12,8 @@ from .items import Array
 from .sets import States
 
 SHRINK = 40            # trials at most to make one trap smaller
-EAGER = 4              # with so many moves into a siphon or out of a trap, a point is looked for that takes many of them
+PATIENCE, IMPATIENCE = 100, 3      # points at most that make a set smaller, at first and after so many failures in a row
+FAILURES = 3
 WORDS = ("siphon", "trap")
 
 
@@ -26,6 +27,7 @@ class Lemmas(Branch):
     """Finds lemmas for the branch, and puts each as high as its other cases close."""
 
     floor = 1
+    failed: dict[str, int]
 
     def add_lemma(self, level: int, lemma: Lemma) -> None:
         """Puts a lemma above the subtree of a frame."""
@@ -48,10 +50,15 @@ class Lemmas(Branch):
         self.add_lemma(low, Lemma(node, cases, main))
 
     def easy_lemma(self, point: Array) -> bool:
-        """Adds a siphon or trap that excludes the point and needs no branch, if there is one."""
-        return any(self._easy(word, point) for word in WORDS)
+        """Adds a siphon or trap that excludes the point and needs no branch, if there is one; with less patience where that failed before."""
+        for word in WORDS:
+            found = self._easy(word, point, PATIENCE if self.failed[word] < FAILURES else IMPATIENCE)
+            self.failed[word] = 0 if found else self.failed[word] + 1
+            if found:
+                return True
+        return False
 
-    def _easy(self, word: str, point: Array) -> bool:
+    def _easy(self, word: str, point: Array, turns: int) -> bool:
         """The set is the greatest one that the moves of the branch's known points respect. Where another case has a point too,
         its moves are added and the set gets smaller, until its other cases are closed or it excludes nothing."""
         known = np.stack([*self.stack.top.pool, point])
@@ -59,8 +66,7 @@ class Lemmas(Branch):
         starts = set(self.cases.leaf.helpers).union(*(self.sets.started(s, 1 - EPSILON) for s in known))
         taken = self.sets.taken(point)
         empty = set(np.nonzero(self.sets.crowd(point) <= EPSILON)[0].tolist())
-        turn = 0
-        while True:
+        for turn in range(turns):
             first = empty if word == "trap" else set(range(self.cases.states)) - starts
             states = self.sets.greatest(word, first, sorted(moves))
             if not self.sets.breaks(word, states, point, taken):
@@ -69,7 +75,6 @@ class Lemmas(Branch):
             crossed = next(cases)
             row = crossed[0].variables
             other = self.side_point(crossed, self._untaken(moves) if turn else None)
-            turn += 1
             if other is not None:
                 moves.update((row[other[row] > EPSILON] - self.cases.first_move).tolist())
             else:
@@ -81,6 +86,7 @@ class Lemmas(Branch):
                     return False
                 starts |= {q for i, q in enumerate(self.cases.leaf.inputs) if other[i] > EPSILON}
             moves.update(self.sets.taken(other, 1 - EPSILON))
+        return False
 
     def _untaken(self, moves: set[int]) -> Array:
         """The moves that may be taken and that no known point takes."""

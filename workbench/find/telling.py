@@ -45,7 +45,8 @@ def flaw_told(net: Net, at: int, tree: Predicate, text: str, flaw: Flaw, played:
         lines.append(f"{who} is wrong: at {_input(net, flaw.counts)} the predicate `{text}` is {want}, and {_count(len(flaw.moves), 'move')} lead{'s' if len(flaw.moves) == 1 else ''} "
                      f"to a terminal crowd in which {', '.join(wrong)} output{'s' if len(wrong) == 1 else ''} {'false' if want == 'true' else 'true'}")
     else:
-        lines.append(f"{who} doesn't end: at {_input(net, flaw.counts)} {_count(len(flaw.moves), 'move')} lead{'s' if len(flaw.moves) == 1 else ''} to a crowd from which no terminal crowd can be reached")
+        way = f"{_count(len(flaw.moves), 'move')} lead{'s' if len(flaw.moves) == 1 else ''} to a crowd from which" if flaw.moves else "from the input itself"
+        lines.append(f"{who} doesn't end: at {_input(net, flaw.counts)} {way} no terminal crowd can be reached")
         lines.append("that none can be reached is the workbench's own word, by trying all; `play` shows the way to the crowd alone")
     lines.append(f"the end: {agents_told(names, flaw.crowd)}")
     if flaw.round:
