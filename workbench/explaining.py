@@ -13,7 +13,8 @@ from .files import Loaded, predicates_differ
 from .names import Names
 from .nets import Leaf
 from .predicates import Predicate, canonical_text, read_predicate
-from .proofreader import Note, ProofDraft
+from .proofreader import ProofDraft
+from .treereader import Note
 from .proofs import Bundle, Hole, Layer, LeafProof, Linear, Node, Residue, combined_predicate
 from .writer import node_lines
 from .reasons import closes_told, gloss, layer_lacks, node_lacks, sum_told

@@ -11,7 +11,8 @@ from typing import Any, Callable, Iterator, Sequence
 
 from ..nets import Leaf
 from ..predicates import Predicate
-from ..proofreader import DraftNode, LayerDraft
+from ..proofreader import LayerDraft
+from ..treereader import DraftNode
 from ..proofs import Layer, Tree
 from .explore import Flaw, Tried, explore, flaw_at
 

@@ -8,7 +8,7 @@ import numpy as np
 
 from ..facts import EQUAL, HOLDS, open_cases
 from ..predicates import Predicate
-from ..proofreader import DraftNode
+from ..treereader import DraftNode
 from ..proofs import Hole, Linear, Node, Open, Present, Residue, Split, Twin
 from .branch import GaveUp, WrongEnd
 from .frames import EPSILON, Frame, Lemma

@@ -6,7 +6,7 @@ from typing import Sequence
 
 from ..nets import Leaf
 from ..predicates import Predicate
-from ..proofreader import DraftNode
+from ..treereader import DraftNode
 from ..proofs import Hole, Tree
 from .branch import FLOATS, GaveUp, WrongEnd, greatest_number
 from .items import Cases

@@ -1,0 +1,84 @@
+"""What each heuristic of the search gains: `python3 -m workbench.benchmark.heuristics`, a table row for each, with it left out."""
+from __future__ import annotations
+
+import time
+from contextlib import ExitStack, contextmanager
+from typing import Any, Iterator
+
+from ..files import Loaded
+from ..find import branch, frames, layers, lemmas, treefinder
+from ..find.finding import find
+from . import protocols as p
+from .families import compiled
+from .making import Case, product
+
+SECONDS = 30.0
+
+Patch = tuple[Any, str, Any]
+
+
+def sample() -> list[Case]:
+    """Nets of all kinds of proofs."""
+    return [p.flock(15), p.tower(12), p.threshold((1, -1), 2), p.remainder(8, 1), p.average(9), p.interval(2, 5), p.helper_rest(5), p.twice(), compiled("", "x - y < 5"),
+            compiled("", "x + 2*y = 1 mod 15"), product("", "", p.flock(3), p.majority(False), "||"), product("", "", p.flock(3), p.mod_three(), "&&")]
+
+
+def _as_low(self: Any, word: str, states: Any, main: int = 2) -> None:
+    node = lemmas.node_of(word, states)
+    self.add_lemma(len(self.stack.frames) - 1, frames.Lemma(node, list(self.cases.of(node)), main))
+
+
+def _never(self: Any, *_: Any) -> bool:
+    return False
+
+
+# what is left out, in words; what it gains is seen from what is lost
+PATCHES: list[tuple[str, list[Patch]]] = [
+    ("(nothing)", []),
+    ("lemmas: a siphon or trap of all known points' moves, without a branch", [(lemmas.Lemmas, "easy_lemma", _never)]),
+    ("lemmas as high in the tree as they close", [(lemmas.Lemmas, "promote", _as_low)]),
+    ("smaller traps", [(lemmas.Lemmas, "_smaller_trap", lambda self, states, *_: states)]),
+    ("points that take many untaken moves at once", [(lemmas.Lemmas, "_untaken", lambda self, moves: None)]),
+    ("impatience where lemmas failed before", [(lemmas, "IMPATIENCE", lemmas.PATIENCE)]),
+    ("known points kept for a branch", [(frames, "POOL", 0), (branch, "POOL", 0)]),
+    ("look-ahead at both cases of `present`", [(treefinder, "AHEADS", (1,))]),
+    ("points that show that no residue closes", [(branch, "meets_rests", lambda point, mods: False)]),
+    ("layers of a sample of closures first", [(layers, "SAMPLE", 1 << 30)]),
+]
+
+
+@contextmanager
+def patched(patches: list[Patch]) -> Iterator[None]:
+    """Attributes replaced for a while."""
+    with ExitStack() as stack:
+        for owner, name, value in patches:
+            stack.callback(setattr, owner, name, getattr(owner, name))
+            setattr(owner, name, value)
+        yield
+
+
+def measured(cases: list[Case]) -> tuple[float, int, int]:
+    """Seconds, nodes of those found, and how many weren't."""
+    start, nodes, lost = time.time(), 0, 0
+    for case in cases:
+        found = find(Loaded(case.name, case.net, case.predicate, list(case.leaves or [case.predicate])), SECONDS, 0.0, jobs=1)
+        if found.bundle is None:
+            lost += 1
+        else:
+            nodes += sum(len(part.true) + len(part.false) for part in found.bundle.proof)
+    return time.time() - start, nodes, lost
+
+
+def main() -> None:
+    """The table."""
+    cases = sample()
+    print(f"| Left out | Seconds for {len(cases)} nets | Nodes | Not found in {SECONDS:g} s |")
+    print("|---|---|---|---|")
+    for told, patches in PATCHES:
+        with patched(patches):
+            seconds, nodes, lost = measured(cases)
+        print(f"| {told} | {seconds:.1f} | {nodes} | {lost} |", flush=True)
+
+
+if __name__ == "__main__":
+    main()
