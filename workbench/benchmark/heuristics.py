@@ -19,8 +19,8 @@ Patch = tuple[Any, str, Any]
 
 def sample() -> list[Case]:
     """Nets of all kinds of proofs."""
-    return [p.flock(15), p.tower(12), p.threshold((1, -1), 2), p.remainder(8, 1), p.average(9), p.interval(2, 5), p.helper_rest(5), p.twice(), compiled("", "x - y < 5"),
-            compiled("", "x + 2*y = 1 mod 15"), product("", "", p.flock(3), p.majority(False), "||"), product("", "", p.flock(3), p.mod_three(), "&&")]
+    return [p.flock(20), p.tower(12), p.threshold((1, -1), 2), p.remainder(8, 1), p.average(9), p.interval(2, 5), p.helper_rest(5), p.twice(), compiled("", "x - y < 8"),
+            compiled("", "x + 2*y = 1 mod 30"), product("", "", p.flock(3), p.majority(False), "||"), product("", "", p.flock(3), p.mod_three(), "&&")]
 
 
 def _as_low(self: Any, word: str, states: Any, main: int = 2) -> None:
@@ -59,14 +59,14 @@ def patched(patches: list[Patch]) -> Iterator[None]:
 
 def measured(cases: list[Case]) -> tuple[float, int, int]:
     """Seconds, nodes of those found, and how many weren't."""
-    start, nodes, lost = time.time(), 0, 0
+    start, nodes, lost = time.process_time(), 0, 0
     for case in cases:
         found = find(Loaded(case.name, case.net, case.predicate, list(case.leaves or [case.predicate])), SECONDS, 0.0, jobs=1)
         if found.bundle is None:
             lost += 1
         else:
             nodes += sum(len(part.true) + len(part.false) for part in found.bundle.proof)
-    return time.time() - start, nodes, lost
+    return time.process_time() - start, nodes, lost
 
 
 def main() -> None:

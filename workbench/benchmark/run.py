@@ -1,4 +1,4 @@
-"""Measures `find`: `python3 -m workbench.benchmark.run [--large] [--seconds N] [--small N] [WORD..]`, a line for each net."""
+"""Measures `find` in seconds of processor time: `python3 -m workbench.benchmark.run [--large] [--seconds N] [--small N] [WORD..]`, a line for each net."""
 from __future__ import annotations
 
 import sys
@@ -18,9 +18,9 @@ HEADER = "family\tname\tstates\tmoves\tseconds\tnodes\tresult"
 def measured(case: Case, seconds: float, small: float) -> str:
     """One line: what was found, and what the program says of it."""
     loaded = Loaded(case.name, case.net, case.predicate, list(case.leaves or [case.predicate]))
-    start = time.time()
+    start = time.process_time()
     found = find(loaded, seconds, small, jobs=1)
-    took = time.time() - start
+    took = time.process_time() - start
     states = sum(len(leaf.states) for leaf in case.net.leaves)
     moves = sum(len(leaf.moves) for leaf in case.net.leaves)
     if found.bundle is not None:

@@ -12,7 +12,7 @@ from .frames import POOL, Frame, Stack, all_items, has_rests, meets_rests
 from .items import Array, Case, Cases
 from .residues import closes, closing_residue
 from .sets import Sets
-from .solver import Solver, Trouble
+from .solver import Solver
 from .trees import Grown, RestSum, Sum, ending
 
 FLOATS = 1 << 17       # predicates with greater numbers are left to exact arithmetic
@@ -101,9 +101,7 @@ class Branch:
         items = all_items(line)
         for m in sorted({row.modulus for row in mods}):
             found = closing_residue(items, m, self.cases.variables)
-            if found is not None:
-                if not closes(found, self.cases.variables):
-                    raise Trouble("a residue does not close")
+            if found is not None and closes(found, self.cases.variables):
                 return found
         return None
 

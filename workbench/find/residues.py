@@ -5,14 +5,20 @@ Complete by duality over the integers modulo m: where no sum closes, some counts
 from __future__ import annotations
 
 from dataclasses import dataclass
-from math import gcd
+from math import gcd, log2
 from typing import Sequence
 
 import numpy as np
+from scipy import sparse
 
 from ..facts import DIVIDES, EQUAL, NOT_DIVIDES
 from .items import Array, Item, Ref, Row, Zeros
 from .trees import RestSum, Terms
+
+
+SPARE = 40             # random sums of columns beyond those that count wrong sums
+MIXED = 3              # sums in which each column stands
+SEED = 7
 
 
 def _euclid(a: int, b: int) -> tuple[int, int, int]:
@@ -27,7 +33,9 @@ def _euclid(a: int, b: int) -> tuple[int, int, int]:
 def _eliminated(work: Array, column: int, m: int) -> Array:
     """Makes a column zero but for one row, by steps that can be undone; gives that row and leaves zeros in its place."""
     live = np.nonzero(work[:, column])[0]
-    first = min(live, key=lambda i: (gcd(int(work[i, column]), m), i))
+    values = work[live, column]
+    divisors = np.gcd(values, m)
+    first = int(live[divisors.argmin()])
     for i in live:
         a, b = int(work[first, column]), int(work[i, column])
         if i == first or not b:
@@ -77,6 +85,23 @@ def _known(items: Sequence[Item], m: int, variables: int) -> tuple[_Known, list[
     return known, rows, denials
 
 
+def _fewer(columns: Array, m: int) -> Array:
+    """Columns on which a sum is zero where it is zero on all the given ones: the different ones; or, of very many, random sums
+    of them, as many as let no wrong sum pass (which would be found out by `closes`)."""
+    columns = columns[:, columns.any(axis=0)]
+    rows, count = columns.shape
+    wanted = int(rows * log2(m)) + SPARE
+    if count > 2 * wanted:
+        rng = np.random.default_rng(SEED)
+        at = (np.tile(np.arange(count), MIXED), rng.integers(0, wanted, MIXED * count))
+        mixing = sparse.csr_matrix((rng.integers(1, m, MIXED * count), at), shape=(count, wanted))
+        return np.asarray((mixing.T @ columns.T).T % m, dtype=np.int64)
+    if count < 2:
+        return columns
+    marks = np.random.default_rng(SEED).integers(1, 1 << 62, rows) @ columns
+    return columns[:, np.unique(marks, return_index=True)[1]]
+
+
 class _System:
     """Rows over the unknown variables modulo m, and their Howell form."""
 
@@ -88,29 +113,33 @@ class _System:
         for i, row in enumerate(both):
             full[i, row.variables] = row.numbers % m
         constants = (np.array([row.constant % m for row in both], dtype=np.int64) + full[:, self.known.mask] @ self.known.values[self.known.mask]) % m
-        free = full[:, ~self.known.mask]
-        free = free[:, free.any(axis=0)]
-        free = np.unique(free, axis=1) if free.shape[1] else free
+        free = _fewer(full[:, ~self.known.mask], m)
         self.width = free.shape[1]
         self.small = np.concatenate([free, constants[:, None]], axis=1)
         self.work, self.pivots = self._howell()
 
-    def _howell(self) -> tuple[Array, list[tuple[int, Array]]]:
+    def _howell(self) -> tuple[list[Array], list[tuple[int, Array]]]:
+        """Rows whose left side is zero, and the pivots with their rows."""
         n, w, m = len(self.rows), self.width, self.m
-        work = np.concatenate([self.small[:n], np.eye(n, dtype=np.int64)], axis=1)
+        todo = [row for row in np.concatenate([self.small[:n], np.eye(n, dtype=np.int64)], axis=1)]
+        work = np.array(todo).reshape(len(todo), -1)
+        bare: list[Array] = []
         pivots: list[tuple[int, Array]] = []
-        while w:
-            some = work[:, :w].any(axis=0)
-            column = int(some.argmax())
-            if not some[column]:
-                break
-            row = _eliminated(work, column, m)
+        first = 0
+        while first < len(work):
+            left = np.nonzero(work[first, :w])[0]
+            if not len(left):
+                bare.append(work[first].copy())
+                first += 1
+                continue
+            column = int(left[0])
+            row = _eliminated(work[first:], column, m)
             pivots.append((column, row))
-            work = work[work[:, :w + 1].any(axis=1)]
             rest = row * (m // gcd(int(row[column]), m)) % m            # zero where the pivot is a unit
             if rest[:w + 1].any():
-                work = np.concatenate([work, rest[None]])
-        return work, pivots
+                work = np.concatenate([work[first:], rest[None]])
+                first = 0
+        return bare, pivots
 
     def terms(self, multipliers: Array, goal: Row | None) -> Terms:
         """The rows times their multipliers, with the facts of the known variables that are left."""
