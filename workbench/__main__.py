@@ -5,7 +5,8 @@ import os
 import sys
 
 if __package__ in (None, ""):
-    sys.path.insert(0, os.path.dirname(os.path.dirname(os.path.abspath(__file__))))
+    # the folder itself is no place for imports: its modules would stand before others of the same names
+    sys.path[0] = os.path.dirname(os.path.dirname(os.path.abspath(__file__)))
 
 from workbench.commands import main  # noqa: E402
 

@@ -95,8 +95,10 @@ def _layer(layer: ToldLayer, number: int) -> str:
         lowers = "silent" if move.silent else str(move.lowers)
         mark = ' class="bad"' if move.lowers <= 0 and not move.silent else ""
         rows += f"<tr{mark}><td>{move.number}</td><td>{escape(move.name)}</td><td>{move.before[0]} + {move.before[1]}</td><td>{move.after[0]} + {move.after[1]}</td><td>{lowers}</td></tr>"
-    table = f'<table><tr><th></th><th>move</th><th>before</th><th>after</th><th>lowers by</th></tr>{rows}</table>'
-    return f'<h4>Layer {number}: at most {layer.bound} for each agent</h4><div class="wide"><table><tr>{weights}</tr></table></div><div class="wide">{table}</div>'
+    table = f'<div class="wide"><table><tr><th></th><th>move</th><th>before</th><th>after</th><th>lowers by</th></tr>{rows}</table></div>'
+    opened = " open" if len(layer.moves) <= FACTS_OPEN else ""
+    moves = f"<details{opened}><summary class=small>{len(layer.moves)} moves</summary>{table}</details>"
+    return f'<h4>Layer {number}: at most {layer.bound} for each agent</h4><div class="wide"><table><tr>{weights}</tr></table></div>{moves}'
 
 
 def _protocol(told: ToldLeaf, variables: Sequence[str]) -> str:

@@ -3,6 +3,7 @@ from __future__ import annotations
 
 import time
 from dataclasses import dataclass, field
+from importlib import import_module
 
 from ..files import InputFault, Loaded, predicates_differ
 from ..proofreader import ProofDraft
@@ -61,6 +62,9 @@ def find(loaded: Loaded, seconds: float, small: float, jobs: int, anew: bool = F
     if predicates_differ(loaded):
         raise InputFault("the leaves' predicates combine to another tree than the whole predicate's (docs/CERTIFICATES.md, \"How a predicate becomes a tree\")")
     tasks = tasks_of(loaded, drafts_of(loaded, anew), seconds, small)
+    # (before processes are made, so that they share what is loaded, and a missing package is told once)
+    import_module(".layerjob", __package__)
+    import_module(".treefinder", __package__)
     out = Outcome()
     count = len(loaded.net.leaves)
     for result in results(tasks, jobs):

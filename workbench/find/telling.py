@@ -70,7 +70,7 @@ def _played(net: Net, flaw: Flaw, played: Played) -> list[str]:
     if len(played.meetings) > MEETINGS_SHOWN:
         lines.append(f".. and {len(played.meetings) - MEETINGS_SHOWN} more")
     lines += ["", "`pop play` of these meetings printed:", *played.printed]
-    if played.wrong:
+    if played.wrong and flaw.kind == WRONG:
         lines.append(f"wrong: {', '.join(played.wrong)}")
     elif flaw.kind == WRONG:
         lines.append("the whole net's output is right there: the leaf's own predicate is not what it computes")
