@@ -6,7 +6,7 @@ from typing import Iterator, Sequence
 from .explaining import Explanation, ToldFact, ToldLayer, ToldLeaf, ToldNode
 from .nets import compact
 from .proofs import node_value
-from .writer import STEP, combine_text, derived_text, head, layer_lines, leaf_lines, leaf_names
+from .writer import STEP, combine_text, derived_text, head, layer_lines, leaf_lines
 
 FACTS_SHOWN = 24
 MARK = ">>>"
@@ -145,7 +145,7 @@ def drawn(explanation: Explanation, everything: bool = False) -> str:
     """The whole text."""
     bundle = explanation.bundle
     net = bundle.net
-    labels = leaf_names(net)
+    labels = explanation.labels
     lines = [f"# {explanation.line}"]
     lines += [f"# warning: {told}" for told in explanation.warnings]
     lines += [f"# {MARK} {told}" for told in [*explanation.differs, *explanation.predicate]]

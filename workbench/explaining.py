@@ -16,7 +16,8 @@ from .predicates import Predicate, canonical_text, read_predicate
 from .proofreader import ProofDraft
 from .treereader import Note
 from .proofs import Bundle, Hole, Layer, LeafProof, Linear, Node, Residue, combined_predicate
-from .writer import node_lines
+from .scanner import state_text
+from .writer import leaf_names, node_lines
 from .reasons import closes_told, gloss, layer_lacks, node_lacks, sum_told
 
 ROOM = 100
@@ -99,6 +100,7 @@ class Explanation:
     warnings: list[str]
     predicate: list[str]
     differs: list[str]
+    labels: list[str]
 
     def tree(self, at: int, value: bool) -> list[ToldNode]:
         """The nodes of a leaf's tree."""
@@ -187,4 +189,4 @@ def explain(loaded: Loaded, bundle: Bundle, line: str) -> Explanation:
         ]
     own = verdict(bundle)
     differs = [f"the workbench reads this bundle otherwise, as `{own}`; the line above, the program's, is the one that counts"] if own != line else []
-    return Explanation(line, bundle, leaves, drafts, loaded.warnings, predicate, differs)
+    return Explanation(line, bundle, leaves, drafts, loaded.warnings, predicate, differs, [state_text(label) for label in loaded.labels] or leaf_names(bundle.net))

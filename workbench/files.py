@@ -29,7 +29,8 @@ class InputFault(Exception):
 
 @dataclass
 class Loaded:
-    """An input that was read. `parts` are the leaves' predicates, `drafts` their proofs as far as they are written."""
+    """An input that was read. `parts` are the leaves' predicates, `drafts` their proofs as far as they are written, `labels` their
+    names where there are several and they have some."""
     name: str
     net: Net
     predicate: str | None = None
@@ -37,6 +38,7 @@ class Loaded:
     bundle: Bundle | None = None
     drafts: list[ProofDraft] | None = None
     made: list[MadeLeaf] | None = None
+    labels: list[str] = field(default_factory=list)
     warnings: list[str] = field(default_factory=list)
 
     def part_trees(self) -> list[Predicate]:
@@ -150,7 +152,8 @@ def load_pop(text: str, name: str) -> Loaded:
     file = read_sections(text)
     net, made = make_net(file)
     predicate, parts = _pop_predicates(file, net)
-    loaded = Loaded(name, net, predicate, parts, made=made)
+    labels = [leaf.name for leaf in file.leaves] if len(made) > 1 else []
+    loaded = Loaded(name, net, predicate, parts, made=made, labels=labels)
     loaded.warnings = cautions(net, [m.places for m in made])
     if parts is None:
         for leaf in file.leaves:

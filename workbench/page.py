@@ -6,7 +6,7 @@ from typing import Iterator, Sequence
 
 from .explaining import Explanation, ToldFact, ToldLayer, ToldLeaf, ToldNode
 from .pagestyle import SCRIPT, STYLE
-from .writer import combine_text, leaf_names
+from .writer import combine_text
 
 FACTS_OPEN = 24
 
@@ -116,7 +116,7 @@ def _protocol(told: ToldLeaf, variables: Sequence[str]) -> str:
 def _leaf(explanation: Explanation, at: int) -> Iterator[str]:
     told = explanation.leaves[at]
     if len(explanation.leaves) > 1:
-        yield f"<h2>{leaf_names(explanation.bundle.net)[at]}</h2>"
+        yield f"<h2>{escape(explanation.labels[at])}</h2>"
     yield _protocol(told, explanation.bundle.net.names)
     yield "<h3>Layers</h3>"
     yield from (f'<p class="refused">{escape(text)}</p>' for text in [*told.notes, *told.layer_lacks])
@@ -142,7 +142,7 @@ def page(explanation: Explanation) -> str:
     parts += [f'<p class="refused">{escape(told)}</p>' for told in [*explanation.differs, *explanation.predicate]]
     parts += [f"<p>warning: {escape(told)}</p>" for told in explanation.warnings]
     if len(net.leaves) > 1:
-        parts.append(f"<p>The net says <code>{escape(combine_text(net.combine, leaf_names(net)))}</code>.</p>")
+        parts.append(f"<p>The net says <code>{escape(combine_text(net.combine, explanation.labels))}</code>.</p>")
     for i in range(len(net.leaves)):
         parts += _leaf(explanation, i)
     parts.append(f'<div id="says" hidden></div></main><script>{SCRIPT}</script></html>')

@@ -49,7 +49,10 @@ def ask(words: list[str], text: str, seconds: float | None = None) -> Answer:
 
     NoProgram where there is none; subprocess.TimeoutExpired where it takes longer than `seconds`.
     """
-    run = subprocess.run([program_path(), *words], input=text.encode(), stdout=subprocess.PIPE, stderr=subprocess.DEVNULL, timeout=seconds, check=False)
+    path = program_path()
+    # (bin/pop says on standard error that it builds the program first)
+    said = None if path == str(BY_SCRIPT) else subprocess.DEVNULL
+    run = subprocess.run([path, *words], input=text.encode(), stdout=subprocess.PIPE, stderr=said, timeout=seconds, check=False)
     return Answer(run.stdout.decode(errors="replace"), run.returncode)
 
 

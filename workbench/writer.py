@@ -191,10 +191,10 @@ def proof_lines(net: Net, leaf: Leaf, part: LeafProof) -> list[str]:
     return lines
 
 
-def text_of(net: Net, bundle: Bundle | None = None) -> str:
-    """The `.pop` file of a net, or of a bundle with its predicate and proof."""
+def text_of(net: Net, bundle: Bundle | None = None, labels: Sequence[str] = ()) -> str:
+    """The `.pop` file of a net, or of a bundle with its predicate and proof; `labels` are names for the leaves."""
     lines: list[str] = []
-    labels = leaf_names(net)
+    labels = [state_text(label) for label in labels] or leaf_names(net)
     alone = net.combine == (0,) and len(net.leaves) == 1
     if net.format == 2 and not any(leaf.helpers for leaf in net.leaves):
         lines.append(head("format", "2"))

@@ -44,7 +44,7 @@ def run(arguments: list[str]) -> int:
         return answer.status
     if "--text" in options.flags:
         from ..writer import text_of
-        print(text_of(loaded.net, found.bundle), end="")
+        print(text_of(loaded.net, found.bundle, loaded.labels), end="")
     else:
         print(found.bundle.line())
     return program.DONE

@@ -12,7 +12,7 @@ def run(arguments: list[str]) -> int:
     loaded = load_path(one_path(arguments, "one file, or standard input"))
     warn(loaded.warnings, loaded.name)
     has_proof = loaded.bundle is not None or any(draft.is_given for draft in loaded.drafts or [])
-    text = text_of(loaded.net, strict_bundle(loaded) if has_proof else None)
+    text = text_of(loaded.net, strict_bundle(loaded) if has_proof else None, loaded.labels)
     if not has_proof and loaded.predicate is not None:
         text += head("predicate", loaded.predicate) + "\n"
     print(text, end="")
