@@ -38,6 +38,7 @@ class Branch:
 @dataclass
 class Visit:
     """One node, or the end of the nodes where `node` is None. The branch is as it is at this node until the next visit."""
+
     number: int
     node: Node | None
     label: str
@@ -70,6 +71,10 @@ class _Case:
     is_first: bool = field(default=False)
 
 
+def _visit(case: _Case, number: int, node: Node | None, branch: Branch, why: str | None, flat: bool) -> Visit:
+    return Visit(number, node, case.label, case.level, case.kept, branch, why, case.owner, case.is_first, case.is_last, flat, case.above)
+
+
 def visits(names: Names, tree: Predicate, value: bool, nodes: Sequence[Node]) -> Iterator[Visit]:
     """Each node in preorder; then `missing` where a case has none, or a `rest` where there are too many.
 
@@ -89,12 +94,14 @@ def visits(names: Names, tree: Predicate, value: bool, nodes: Sequence[Node]) ->
         labels = names.cases(node, branch.facts, branch.names) if cases else []
         flat = len(cases) == 1
         level = case.level + 1 if case.label and flat else case.level
-        yield Visit(number, node, case.label, case.level, case.kept, branch, why, case.owner, case.is_first, case.is_last, flat, case.above)
+        yield _visit(case, number, node, branch, why, flat)
         below = level if flat else level + 1
-        made = [_Case(label, below, len(branch.facts), own, own_names, number, i == len(cases) - 1, case.above + 1, i == 0)
-                for i, ((label, own_names), own) in enumerate(zip(labels, cases))]
+        made = [
+            _Case(label, below, len(branch.facts), own, own_names, number, i == len(cases) - 1, case.above + 1, i == 0)
+            for i, ((label, own_names), own) in enumerate(zip(labels, cases))
+        ]
         waiting += reversed(made)
     if waiting:
         case = waiting[-1]
         branch.enter(case.kept, case.own, case.names)
-        yield Visit(len(nodes), None, case.label, case.level, case.kept, branch, "missing", case.owner, case.is_first, case.is_last, True, case.above)
+        yield _visit(case, len(nodes), None, branch, "missing", True)

@@ -28,9 +28,15 @@ def _repeated(leaf: Leaf, names: Names, places: Sequence[Place] | None) -> list[
         where = f"line {places[t].line}: " if places else f"move {t}: "
         earlier = f"line {places[u].line}" if places else f"move {u}"
         if pair(*leaf.moves[u][2:]) == pair(r, s):
-            out.append(f"{where}`{names.move(t)}` is listed twice, first on {earlier}" if places else f"{where}`{names.move(t)}` is listed twice, first as {earlier}")
+            out.append(
+                f"{where}`{names.move(t)}` is listed twice, first on {earlier}"
+                if places
+                else f"{where}`{names.move(t)}` is listed twice, first as {earlier}"
+            )
         else:
-            out.append(f"{where}`{names.move(t)}` is hidden by `{names.move(u)}` ({earlier}): a run takes the first of the two, a proof has to hold for both")
+            out.append(
+                f"{where}`{names.move(t)}` is hidden by `{names.move(u)}` ({earlier}): a run takes the first of the two, a proof has to hold for both"
+            )
     return out
 
 
@@ -38,7 +44,11 @@ def cautions(net: Net, leaf_places: Sequence[Sequence[Place]] | None = None) -> 
     """Sentences, one for each thing that is probably not meant."""
     out = []
     if net.ignored_helpers:
-        out.append("`helpers` in a net of format 1 is ignored: write `format 2`" if leaf_places else "`helpers` in a net of format 1 is ignored: it wants `\"format\":2`")
+        out.append(
+            "`helpers` in a net of format 1 is ignored: write `format 2`"
+            if leaf_places
+            else '`helpers` in a net of format 1 is ignored: it wants `"format":2`'
+        )
     for i, leaf in enumerate(net.leaves):
         names = Names(net.names, leaf)
         lead = f"leaf {i}: " if len(net.leaves) > 1 else ""

@@ -10,7 +10,8 @@ from typing import Iterable, Sequence
 from .facts import AT_LEAST, DIVIDES, EQUAL, FACT_LIMIT, HOLDS, NOT_DIVIDES, Fact, Space, cases_of
 from .nets import Leaf, Net, pair
 from .predicates import Predicate, read_predicate
-from .proofs import Bundle, Layer, Linear, Node, Open, Residue, Term, Twin, combined_predicate
+from .combining import combined_predicate
+from .proofs import Bundle, Layer, Linear, Node, Open, Residue, Term, Twin
 
 PATH_LIMIT = 4_096
 
@@ -18,6 +19,7 @@ PATH_LIMIT = 4_096
 @dataclass(frozen=True)
 class LayerFault:
     """Where layers fail: `shape` at a layer, `no-layer` or `not-lower` at a move, `wakes` at a move and the one woken."""
+
     why: str
     at: int
     other: int = -1
@@ -30,6 +32,7 @@ class LayerFault:
 @dataclass(frozen=True)
 class TreeFault:
     """The first node that is refused, and why."""
+
     node: int
     why: str
 
@@ -88,7 +91,7 @@ def wakes(leaf: Leaf, t: int, u: int, first: dict[tuple[int, int], int], at: int
     """Whether move t of layer `at` can make u possible where no move of the layers before was; `first` has each pair's first layer."""
     agents = agents_before(leaf, t, u)
     for i, p in enumerate(agents):
-        for q in agents[i + 1:]:
+        for q in agents[i + 1 :]:
             if first.get(pair(p, q), at) < at:
                 return False
     return True

@@ -23,12 +23,14 @@ def fact_lines(facts: Sequence[ToldFact], everything: bool) -> list[str]:
     kept = list(facts)
     left: list[ToldFact] = []
     if not everything and len(kept) > FACTS_SHOWN:
-        rest = [fact for fact in kept if fact.name.startswith("never[")][FACTS_SHOWN // 2:]
+        rest = [fact for fact in kept if fact.name.startswith("never[")][FACTS_SHOWN // 2 :]
         names = {fact.number for fact in rest}
         kept, left = [fact for fact in kept if fact.number not in names], rest
     width = max((len(fact.name) for fact in kept), default=0)
     wide = max((len(fact.says) for fact in kept), default=0)
-    lines = [f"# #{fact.number} {fact.name.ljust(min(width, 24))}  {fact.says.ljust(min(wide, 40))}  {fact.means}".rstrip() for fact in kept]
+    lines = [
+        f"# #{fact.number} {fact.name.ljust(min(width, 24))}  {fact.says.ljust(min(wide, 40))}  {fact.means}".rstrip() for fact in kept
+    ]
     if left:
         lines.append(f"# #{left[0].number} to #{left[-1].number}: {len(left)} more moves that were not taken (--all shows them)")
     return lines
@@ -46,7 +48,7 @@ class _Guides:
 
     def case(self, level: int, is_last: bool) -> str:
         """What stands before a line that begins a case of this level."""
-        del self.open[level - 1:]
+        del self.open[level - 1 :]
         lead = self.below(level - 1) + ("└─ " if is_last else "├─ ")
         self.open.append(not is_last)
         return lead
@@ -84,7 +86,9 @@ def tree_lines(nodes: Sequence[ToldNode], everything: bool) -> Iterator[str]:
                 lead = guides.below(level)
         else:
             lead = guides.below(level)
-        inner = guides.below(level) if visit.flat else guides.below(level) + ("│  " if visit.node is not None and _has_cases(node) else "   ")
+        inner = (
+            guides.below(level) if visit.flat else guides.below(level) + ("│  " if visit.node is not None and _has_cases(node) else "   ")
+        )
         facts = [inner + line for line in fact_lines(node.facts, everything)]
         if not visit.label:
             yield from ([guides.below(level) + line for line in fact_lines(node.facts, everything)])
@@ -137,7 +141,7 @@ def leaf_block(explanation: Explanation, at: int, everything: bool) -> Iterator[
         nodes = explanation.tree(at, value)
         yield from tree_lines(nodes, everything)
         if nodes and nodes[-1].refused == "rest":
-            for node in told.part.tree(value)[nodes[-1].number + 1:]:
+            for node in told.part.tree(value)[nodes[-1].number + 1 :]:
                 yield " " * STEP + f"rest {compact(node_value(node))}"
 
 

@@ -15,7 +15,8 @@ from .nets import Leaf
 from .predicates import Predicate, canonical_text, read_predicate
 from .proofreader import ProofDraft
 from .treereader import Note
-from .proofs import Bundle, Hole, Layer, LeafProof, Linear, Node, Residue, combined_predicate
+from .combining import combined_predicate
+from .proofs import Bundle, Hole, Layer, LeafProof, Linear, Node, Residue
 from .scanner import state_text
 from .writer import leaf_names, node_lines
 from .reasons import closes_told, gloss, layer_lacks, node_lacks, sum_told
@@ -26,6 +27,7 @@ ROOM = 100
 @dataclass
 class ToldFact:
     """A fact: its number, its name, what it says, what that means."""
+
     number: int
     name: str
     says: str
@@ -36,6 +38,7 @@ class ToldFact:
 class ToldNode:
     """A node as it is shown; `text` are its lines in the `.pop` file, `sum` and `closes` are for `lin` and `residue`, whose
     `terms` are the facts with their multipliers."""
+
     visit: Visit
     number: int
     facts: list[ToldFact]
@@ -52,6 +55,7 @@ class ToldNode:
 @dataclass
 class ToldMove:
     """A move of a layer: weights before and after."""
+
     number: int
     name: str
     before: tuple[int, int]
@@ -67,6 +71,7 @@ class ToldMove:
 @dataclass
 class ToldLayer:
     """A layer: its weights by state, its moves, what each agent pays for it; `raw` where it is malformed."""
+
     weights: list[tuple[str, int]]
     moves: list[ToldMove]
     bound: int
@@ -76,6 +81,7 @@ class ToldLayer:
 @dataclass
 class ToldLeaf:
     """A leaf with its proof."""
+
     leaf: Leaf
     part: LeafProof
     names: Names
@@ -93,6 +99,7 @@ class ToldLeaf:
 @dataclass
 class Explanation:
     """All that is told of a bundle. `line` is what the program said."""
+
     line: str
     bundle: Bundle
     leaves: list[ToldLeaf]
@@ -120,7 +127,11 @@ def _node(names: Names, visit: Visit, notes: list[Note], holes: set[int]) -> Tol
         told.text = [f"{visit.label}: ?" if visit.label else "?"]
     node = visit.node
     if isinstance(node, (Linear, Residue)):
-        told.terms = [(k, ToldFact(f, branch.names[f], names.says(branch.facts[f]), gloss(branch.names[f]))) for f, k in node.terms if f < len(branch.facts)]
+        told.terms = [
+            (k, ToldFact(f, branch.names[f], names.says(branch.facts[f]), gloss(branch.names[f])))
+            for f, k in node.terms
+            if f < len(branch.facts)
+        ]
     if visit.why:
         told.refused = visit.why
         told.lacks = node_lacks(names, Space(names.leaf), branch.facts, branch.names, node, visit.why)
@@ -188,5 +199,18 @@ def explain(loaded: Loaded, bundle: Bundle, line: str) -> Explanation:
             f"the bundle's predicate is {canonical_text(whole, bundle.net.names)}, another tree",
         ]
     own = verdict(bundle)
-    differs = [f"the workbench reads this bundle otherwise, as `{own}`; the line above, the program's, is the one that counts"] if own != line else []
-    return Explanation(line, bundle, leaves, drafts, loaded.warnings, predicate, differs, [state_text(label) for label in loaded.labels] or leaf_names(bundle.net))
+    differs = (
+        [f"the workbench reads this bundle otherwise, as `{own}`; the line above, the program's, is the one that counts"]
+        if own != line
+        else []
+    )
+    return Explanation(
+        line,
+        bundle,
+        leaves,
+        drafts,
+        loaded.warnings,
+        predicate,
+        differs,
+        [state_text(label) for label in loaded.labels] or leaf_names(bundle.net),
+    )

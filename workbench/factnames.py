@@ -156,4 +156,3 @@ class LeafReader:
                 raise Unknown(place, f"`{name}` is no variable; there are {', '.join(self.names.variables)}")
             return name
         return self.names.state(self.state(line))
-

@@ -20,9 +20,12 @@ FACT_LIMIT = 65_536
 class Fact:
     """One fact, compared by identity: a sum (terms and constant) that is at least 0, is 0, or is or isn't a multiple
     of the modulus; or that a predicate has a value."""
+
     __slots__ = ("kind", "terms", "constant", "modulus", "tree", "value")
 
-    def __init__(self, kind: str, terms: Iterable[Term] = (), constant: int = 0, modulus: int = 0, tree: Predicate | None = None, value: bool = False) -> None:
+    def __init__(
+        self, kind: str, terms: Iterable[Term] = (), constant: int = 0, modulus: int = 0, tree: Predicate | None = None, value: bool = False
+    ) -> None:
         self.kind, self.terms, self.constant, self.modulus = kind, tuple(terms), constant, modulus
         self.tree, self.value = tree, value
 

@@ -14,7 +14,8 @@ from .popfile import PopText, read_sections
 from .predicates import Predicate, PredicateFault, canonical_text, read_predicate
 from .program import REFUSED
 from .proofreader import ProofDraft, finished, read_proof
-from .proofs import Bundle, LeafProof, bundle_of, combined_predicate, leaf_predicates
+from .combining import combined_predicate, leaf_predicates
+from .proofs import Bundle, LeafProof, bundle_of
 from .scanner import Place, TextFault
 from .writer import derived_text
 
@@ -31,6 +32,7 @@ class InputFault(Exception):
 class Loaded:
     """An input that was read. `parts` are the leaves' predicates, `drafts` their proofs as far as they are written, `labels` their
     names where there are several and they have some."""
+
     name: str
     net: Net
     predicate: str | None = None
@@ -70,17 +72,24 @@ def _json(text: str, name: str) -> tuple[Any, list[str]]:
         assert isinstance(error, json.JSONDecodeError)
         lines = body.split("\n")
         quoted = lines[error.lineno - 1] if error.lineno <= len(lines) else ""
-        skipped = text[:len(text) - len(body)].count("\n")
+        skipped = text[: len(text) - len(body)].count("\n")
         cut = max(0, error.colno - 60)
-        shown = quoted[cut:cut + 110]
-        raise InputFault(f"{name}:{error.lineno + skipped}:{error.colno}: this is no JSON: {error.msg}\n    {shown}\n    {' ' * (error.colno - 1 - cut)}^") from None
+        shown = quoted[cut : cut + 110]
+        raise InputFault(
+            f"{name}:{error.lineno + skipped}:{error.colno}: this is no JSON: {error.msg}\n    {shown}\n    {' ' * (error.colno - 1 - cut)}^"
+        ) from None
     except RecursionError:
         raise InputFault(f"{name}: the JSON is nested too deeply") from None
     return value, [line.strip() for line in body[end:].splitlines() if line.strip()]
 
 
 def _format_fault(fault: FormatFault, name: str) -> InputFault:
-    told = {"kind": "is missing, or is another kind of value than it has to be", "range": "is out of its limits", "name": "is no name that may stand there", "shape": "breaks the shape"}
+    told = {
+        "kind": "is missing, or is another kind of value than it has to be",
+        "range": "is out of its limits",
+        "name": "is no name that may stand there",
+        "shape": "breaks the shape",
+    }
     at = fault.path or "the whole value"
     return InputFault(f"fault: format {fault.path} {fault.why}\n{name}: {at} {told.get(fault.why, 'is no predicate')} (docs/FORMATS.md)")
 
@@ -122,7 +131,9 @@ def give_predicate(loaded: Loaded, text: str, parts: Sequence[str] = ()) -> None
 def _derived_parts(net: Net, text: str, tree: Predicate) -> list[str]:
     trees = leaf_predicates(net, tree)
     if trees is None:
-        raise InputFault("the combination and the predicate differ in shape: give each leaf its own predicate, as docs/CERTIFICATES.md says")
+        raise InputFault(
+            "the combination and the predicate differ in shape: give each leaf its own predicate, as docs/CERTIFICATES.md says"
+        )
     return [text if part == tree else canonical_text(part, net.names) for part in trees]
 
 
@@ -134,7 +145,9 @@ def _pop_predicates(file: PopText, net: Net) -> tuple[str | None, list[str] | No
         if any(part is None for part in parts):
             derived = leaf_predicates(net, whole)
             if derived is None:
-                raise file.predicate[1].fault("the combination and this predicate differ in shape: give each leaf a line `computes PREDICATE`")
+                raise file.predicate[1].fault(
+                    "the combination and this predicate differ in shape: give each leaf a line `computes PREDICATE`"
+                )
             return file.predicate[0], [part[0] if part else canonical_text(tree, net.names) for part, tree in zip(parts, derived)]
         return file.predicate[0], [part[0] for part in parts if part]
     if any(part is None for part in parts):
@@ -204,7 +217,11 @@ def bundle_from_drafts(loaded: Loaded) -> Bundle:
         got = finished(draft)
         if got is None:
             place: Place = draft.holes[0]
-            told = "this part of the proof is to be found: `bin/pop find` looks for it" if draft.is_given else "this leaf has no proof: `bin/pop find` looks for one"
+            told = (
+                "this part of the proof is to be found: `bin/pop find` looks for it"
+                if draft.is_given
+                else "this leaf has no proof: `bin/pop find` looks for one"
+            )
             raise InputFault(place.fault(told).shown(loaded.name))
         parts.append(LeafProof(text, *got))
     return Bundle(loaded.net, loaded.predicate, tuple(parts))

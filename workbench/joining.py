@@ -29,6 +29,7 @@ def _fact(name: str, branch: Branch) -> int:
 
 def _moved(node: Node, old: Branch, new: Branch, variables: Sequence[int]) -> Node:
     """A node with the numbers that the facts and variables of the same names have now."""
+
     def terms(given: Sequence[Term]) -> tuple[Term, ...]:
         return tuple((_fact(old.names[f], new), k) for f, k in given)
 
@@ -46,12 +47,17 @@ def _moved(node: Node, old: Branch, new: Branch, variables: Sequence[int]) -> No
 def _mended(node: Linear, branch: Branch, variables: Sequence[str]) -> Linear:
     """The sum, with the facts that nobody starts by an input whose coefficient would be above 0."""
     coefficients, _ = total(branch.facts, node.terms)
-    more = [(branch.numbers[f"none({name})"], -coefficients[i]) for i, name in enumerate(variables)
-            if coefficients.get(i, 0) > 0 and f"none({name})" in branch.numbers]
+    more = [
+        (branch.numbers[f"none({name})"], -coefficients[i])
+        for i, name in enumerate(variables)
+        if coefficients.get(i, 0) > 0 and f"none({name})" in branch.numbers
+    ]
     return Linear((*node.terms, *more))
 
 
-def moved_tree(before: Names, after: Names, trees: tuple[Predicate, Predicate], value: bool, nodes: Sequence[Node], variables: Sequence[int]) -> tuple[Node, ...]:
+def moved_tree(
+    before: Names, after: Names, trees: tuple[Predicate, Predicate], value: bool, nodes: Sequence[Node], variables: Sequence[int]
+) -> tuple[Node, ...]:
     """A valid tree for a leaf whose inputs have changed: the same nodes over the facts of the same names, or Lost.
 
     `trees` are the predicate over the variables before and after; `variables` gives each old variable's new number.
@@ -94,7 +100,9 @@ def widened(bundle: Bundle, at: int, names: Sequence[str], starts: Starts) -> tu
 
 def _start(leaf: Leaf, name: str, starts: Starts, at: int) -> int:
     if name not in starts:
-        raise InputFault(f"variable `{name}` is in one of the two alone: say where it starts in the other, as `--start {name}=STATE`; it has {', '.join(leaf.states[:12])}")
+        raise InputFault(
+            f"variable `{name}` is in one of the two alone: say where it starts in the other, as `--start {name}=STATE`; it has {', '.join(leaf.states[:12])}"
+        )
     parts = starts[name].split("/")
     state = parts[at] if at < len(parts) and len(parts) > 1 else parts[0]
     if state not in leaf.states:
@@ -130,4 +138,3 @@ def joined(word: str, first: Bundle, second: Bundle, starts: Starts) -> Bundle:
     net = Net(names, tuple(leaves), (*first.net.combine, *shifted, word), 2 if counts != {0} else 1)
     sign = "&&" if word == "and" else "||"
     return Bundle(net, f"{_closed(first.pred)} {sign} {_closed(second.pred)}", tuple(parts))
-

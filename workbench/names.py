@@ -160,4 +160,3 @@ def sum_of(terms: Iterable[tuple[str, int]], constant: int = 0) -> str:
     if constant or not out:
         out += (f" - {-constant}" if constant < 0 else f" + {constant}") if out else str(constant)
     return out
-

@@ -13,6 +13,7 @@ from .scanner import Line, Place
 @dataclass
 class MadeLeaf:
     """A leaf with the place of each of its moves."""
+
     leaf: Leaf
     places: list[Place]
     numbers: dict[str, int]
@@ -168,7 +169,9 @@ def make_net(text: PopText) -> tuple[Net, list[MadeLeaf]]:
     if text.combine:
         combine = _combination(text.combine[0], [leaf.name for leaf in text.leaves])
     elif len(made) > 1:
-        raise text.leaves[-1].place.fault("several leaves want a line `combine`, as in `combine " + " && ".join(leaf.name for leaf in text.leaves) + "`")
+        raise text.leaves[-1].place.fault(
+            "several leaves want a line `combine`, as in `combine " + " && ".join(leaf.name for leaf in text.leaves) + "`"
+        )
     net = Net(tuple(variables), tuple(m.leaf for m in made), tuple(combine), form, form == 1 and has_helpers)
     _within_limits(net.value(), text, made)
     return net, made
@@ -186,7 +189,9 @@ def _within_limits(value: dict[str, Any], text: PopText, made: list[MadeLeaf]) -
             place = text.combine[1]
         if parts[1] == "format" and text.format:
             place = text.format[1]
-        raise place.fault(_LIMITS.get(parts[3] if len(parts) > 3 else parts[1], f"the net breaks a rule of the file at {fault.path}: {fault.why}")) from None
+        raise place.fault(
+            _LIMITS.get(parts[3] if len(parts) > 3 else parts[1], f"the net breaks a rule of the file at {fault.path}: {fault.why}")
+        ) from None
 
 
 _LIMITS = {

@@ -44,6 +44,7 @@ def is_silent(move: Move) -> bool:
 @dataclass(frozen=True)
 class Leaf:
     """One population protocol; states, moves and variables count from 0."""
+
     states: tuple[str, ...]
     moves: tuple[Move, ...]
     inputs: tuple[int, ...]
@@ -85,6 +86,7 @@ class Leaf:
 @dataclass(frozen=True)
 class Net:
     """Leaves side by side on the same agents, and the combination of their outputs in postfix."""
+
     names: tuple[str, ...]
     leaves: tuple[Leaf, ...]
     combine: tuple[Item, ...]
@@ -95,7 +97,12 @@ class Net:
         """The JSON value of the net file."""
         leaves: list[dict[str, Any]] = []
         for leaf in self.leaves:
-            made: dict[str, Any] = {"states": list(leaf.states), "moves": [list(m) for m in leaf.moves], "input": list(leaf.inputs), "output": list(leaf.outputs)}
+            made: dict[str, Any] = {
+                "states": list(leaf.states),
+                "moves": [list(m) for m in leaf.moves],
+                "input": list(leaf.inputs),
+                "output": list(leaf.outputs),
+            }
             if self.format == 2:
                 made["helpers"] = list(leaf.helpers)
             leaves.append(made)

@@ -43,7 +43,9 @@ def _words(node: ToldNode) -> str:
 def _facts(facts: Sequence[ToldFact]) -> str:
     if not facts:
         return ""
-    rows = "".join(f"<tr><td>#{f.number}</td><td>{escape(f.name)}</td><td>{escape(f.says)}</td><td>{escape(f.means)}</td></tr>" for f in facts)
+    rows = "".join(
+        f"<tr><td>#{f.number}</td><td>{escape(f.name)}</td><td>{escape(f.says)}</td><td>{escape(f.means)}</td></tr>" for f in facts
+    )
     table = f'<div class="wide"><table class="facts">{rows}</table></div>'
     count = f"{len(facts)} facts" if len(facts) > 1 else "1 fact"
     opened = " open" if len(facts) <= FACTS_OPEN else ""
@@ -105,12 +107,14 @@ def _protocol(told: ToldLeaf, variables: Sequence[str]) -> str:
     leaf, names = told.leaf, told.names
     starts = ", ".join(f"{v} starts in {names.state(q)}" for v, q in zip(variables, leaf.inputs))
     helpers = f"; helpers: {', '.join(names.state(q) for q in leaf.helpers)}" if leaf.helpers else ""
-    states = "".join(f'<tr><td>{escape(names.state(q))}</td><td>{str(b).lower()}</td></tr>' for q, b in enumerate(leaf.outputs))
+    states = "".join(f"<tr><td>{escape(names.state(q))}</td><td>{str(b).lower()}</td></tr>" for q, b in enumerate(leaf.outputs))
     moves = "".join(f"<tr><td>{t}</td><td>{escape(names.move(t))}</td></tr>" for t in range(len(leaf.moves)))
     opened = " open" if len(leaf.moves) <= FACTS_OPEN else ""
-    return (f"<p>{escape(starts + helpers)}. Computes <code>{escape(told.part.pred)}</code>.</p>"
-            f"<details{opened}><summary>{len(leaf.states)} states and {len(leaf.moves)} moves</summary><div class=columns><table><tr><th>state</th><th>output</th></tr>{states}</table>"
-            f"<table><tr><th></th><th>move</th></tr>{moves}</table></div></details>")
+    return (
+        f"<p>{escape(starts + helpers)}. Computes <code>{escape(told.part.pred)}</code>.</p>"
+        f"<details{opened}><summary>{len(leaf.states)} states and {len(leaf.moves)} moves</summary><div class=columns><table><tr><th>state</th><th>output</th></tr>{states}</table>"
+        f"<table><tr><th></th><th>move</th></tr>{moves}</table></div></details>"
+    )
 
 
 def _leaf(explanation: Explanation, at: int) -> Iterator[str]:

@@ -17,6 +17,7 @@ HOLE = "?"
 @dataclass
 class Named:
     """A name as it stands in the text, with its place, and a number that belongs to it."""
+
     name: str
     place: Place
     number: int = 0
@@ -25,6 +26,7 @@ class Named:
 @dataclass
 class MoveText:
     """`A + B -> a + b`; `*` stands for any state. `again` counts the same move when it is listed more than once."""
+
     states: tuple[str, str, str, str]
     places: tuple[Place, Place, Place, Place]
     again: int = 1
@@ -38,6 +40,7 @@ class MoveText:
 @dataclass
 class LayerText:
     """A layer: weights by state, or `?` for weights to be found, or JSON; and its moves, `*` for all that no other layer lists."""
+
     place: Place
     weights: list[Named] = field(default_factory=list)
     is_hole: bool = False
@@ -48,6 +51,7 @@ class LayerText:
 @dataclass
 class TreeText:
     """The lines of a tree, or `?` for one to be found."""
+
     place: Place
     lines: list[Line] = field(default_factory=list)
     is_hole: bool = False
@@ -56,6 +60,7 @@ class TreeText:
 @dataclass
 class LeafText:
     """The lines of one leaf."""
+
     name: str
     place: Place
     states: list[Named] = field(default_factory=list)
@@ -79,6 +84,7 @@ class LeafText:
 @dataclass
 class PopText:
     """A whole file."""
+
     leaves: list[LeafText] = field(default_factory=list)
     format: tuple[int, Place] | None = None
     variables: list[Named] = field(default_factory=list)

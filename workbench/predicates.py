@@ -23,6 +23,7 @@ RELATIONS = ("<", "<=", ">", ">=", "=", "!=")
 @dataclass(frozen=True)
 class Less:
     """The sum of the coefficients times the inputs is below the bound."""
+
     coefficients: tuple[int, ...]
     bound: int
 
@@ -30,6 +31,7 @@ class Less:
 @dataclass(frozen=True)
 class Rest:
     """The sum leaves this rest, of 0 to modulus - 1."""
+
     coefficients: tuple[int, ...]
     modulus: int
     rest: int
@@ -38,12 +40,14 @@ class Rest:
 @dataclass(frozen=True)
 class Not:
     """The part is false."""
+
     part: "Predicate"
 
 
 @dataclass(frozen=True)
 class And:
     """Both parts are true."""
+
     left: "Predicate"
     right: "Predicate"
 
@@ -51,6 +55,7 @@ class And:
 @dataclass(frozen=True)
 class Or:
     """A part is true."""
+
     left: "Predicate"
     right: "Predicate"
 
@@ -70,7 +75,7 @@ class PredicateFault(Exception):
 class _Token:
     text: str
     at: int
-    kind: str       # name, number, sign, odd, end
+    kind: str  # name, number, sign, odd, end
 
 
 def _tokens(text: str) -> list[_Token]:
@@ -113,7 +118,9 @@ class _Reader:
         if token.kind == "sign" and token.text in _CHARGES:
             self.charge += _CHARGES[token.text]
             if self.charge > CHARGE_LIMIT:
-                raise PredicateFault("deep", token.at, f"the signs may be charged {CHARGE_LIMIT} in all, and this one makes it {self.charge}")
+                raise PredicateFault(
+                    "deep", token.at, f"the signs may be charged {CHARGE_LIMIT} in all, and this one makes it {self.charge}"
+                )
         return token
 
     def sign(self, *texts: str) -> bool:

@@ -17,6 +17,7 @@ VARIABLE = "POP_MAIN"
 @dataclass(frozen=True)
 class Answer:
     """What the program printed on its standard output, and its status."""
+
     text: str
     status: int
 

@@ -18,6 +18,7 @@ from .treereader import DraftNode, Note, TreeReader
 @dataclass
 class LayerDraft:
     """A layer whose weights may be open."""
+
     moves: tuple[int, ...]
     weights: tuple[int, ...] | None
 
@@ -25,6 +26,7 @@ class LayerDraft:
 @dataclass
 class ProofDraft:
     """A leaf's proof in which parts may be open: `layers` None where all of them are, a tree None where all of it is."""
+
     layers: list[LayerDraft] | None = None
     true: list[DraftNode] | None = None
     false: list[DraftNode] | None = None
@@ -98,4 +100,3 @@ def finished(draft: ProofDraft) -> tuple[tuple[Layer, ...], tuple[Node, ...], tu
     if (len(layers), len(true), len(false)) != (len(draft.layers), len(draft.true), len(draft.false)):
         return None
     return tuple(layers), tuple(true), tuple(false)
-

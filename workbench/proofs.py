@@ -8,7 +8,7 @@ from dataclasses import dataclass
 from typing import Any, Sequence, Union
 
 from .nets import FormatFault, Leaf, Net, compact, items, member, net_of, whole
-from .predicates import And, Less, Not, Or, Predicate, PredicateFault, read_predicate
+from .predicates import PredicateFault, read_predicate
 
 LAYER_LIMIT, LISTED_LIMIT, WEIGHT_LIMIT, NODE_LIMIT, TERM_LIMIT, SET_LIMIT = 256, 65_536, 512, 1_000_000, 65_536, 512
 SIZE_LIMIT = 1 << 40
@@ -22,12 +22,14 @@ Term = tuple[int, int]
 @dataclass(frozen=True)
 class Linear:
     """Ends a branch: the sum of the facts times their multipliers cannot be at least 0. Terms are (fact, multiplier)."""
+
     terms: tuple[Term, ...]
 
 
 @dataclass(frozen=True)
 class Residue:
     """Ends a branch modulo a number. Terms are (fact, multiplier)."""
+
     modulus: int
     terms: tuple[Term, ...]
 
@@ -35,6 +37,7 @@ class Residue:
 @dataclass(frozen=True)
 class Split:
     """A sum is above 0, is 0, or is below. Terms are (variable, coefficient), ascending."""
+
     terms: tuple[Term, ...]
     constant: int
 
@@ -42,36 +45,42 @@ class Split:
 @dataclass(frozen=True)
 class Present:
     """A state is absent at the end, or there alone with what it doesn't react with."""
+
     state: int
 
 
 @dataclass(frozen=True)
 class Twin:
     """A state that can meet itself stands at most once at the end."""
+
     state: int
 
 
 @dataclass(frozen=True)
 class Trap:
     """A set of states that keeps an agent unless a move leaves it."""
+
     states: tuple[int, ...]
 
 
 @dataclass(frozen=True)
 class Siphon:
     """A set of states that stays empty unless a move enters it or somebody starts in it."""
+
     states: tuple[int, ...]
 
 
 @dataclass(frozen=True)
 class Open:
     """Opens a fact that says what value a predicate has."""
+
     fact: int
 
 
 @dataclass(frozen=True)
 class Hole:
     """A part that is to be found; `kind` is `tree`, or `lin` or `residue` with its modulus. No file of a bundle has one."""
+
     kind: str = "tree"
     modulus: int = 0
 
@@ -83,6 +92,7 @@ Tree = tuple[Node, ...]
 @dataclass(frozen=True)
 class Layer:
     """Moves of one layer, by number, and one weight for each state."""
+
     moves: tuple[int, ...]
     weights: tuple[int, ...]
 
@@ -95,6 +105,7 @@ class Layer:
 @dataclass(frozen=True)
 class LeafProof:
     """The proof of one leaf: its predicate's text, layers, and a tree for each value."""
+
     pred: str
     layers: tuple[Layer, ...]
     true: Tree
@@ -108,6 +119,7 @@ class LeafProof:
 @dataclass(frozen=True)
 class Bundle:
     """A net, the predicate's text, and one proof for each leaf."""
+
     net: Net
     pred: str
     proof: tuple[LeafProof, ...]
@@ -239,45 +251,6 @@ def bundle_of(value: Any) -> Bundle:
         read = tuple(layer_of(layer, f"{path}/layers/{j}") for j, layer in enumerate(layers))
         parts.append(LeafProof(text, read, _tree(part, "true", path), _tree(part, "false", path)))
     return Bundle(net, pred, tuple(parts))
-
-
-def combined_predicate(net: Net, parts: Sequence[Predicate]) -> Predicate:
-    """The tree of the net's combination, with the leaves' predicates in the place of their numbers."""
-    stack: list[Predicate] = []
-    for item in net.combine:
-        if isinstance(item, int):
-            stack.append(parts[item])
-        elif item == "not":
-            stack.append(Not(stack.pop()))
-        else:
-            right, left = stack.pop(), stack.pop()
-            stack.append(And(left, right) if item == "and" else Or(left, right))
-    return stack[0]
-
-
-def leaf_predicates(net: Net, whole_tree: Predicate) -> list[Predicate] | None:
-    """Each leaf's predicate where the combination and the tree have the same shape, else None.
-
-    A leaf that the combination doesn't name gets one that is always true.
-    """
-    leaves = [Less((i,), 0) for i in range(len(net.leaves))]
-    found: dict[int, Predicate] = {}
-    todo: list[tuple[Predicate, Predicate]] = [(combined_predicate(net, leaves), whole_tree)]
-    while todo:
-        shape, tree = todo.pop()
-        if isinstance(shape, Less):
-            if found.setdefault(shape.coefficients[0], tree) != tree:
-                return None
-        elif isinstance(shape, Not) and isinstance(tree, Not):
-            todo.append((shape.part, tree.part))
-        elif isinstance(shape, And) and isinstance(tree, And):
-            todo += [(shape.left, tree.left), (shape.right, tree.right)]
-        elif isinstance(shape, Or) and isinstance(tree, Or):
-            todo += [(shape.left, tree.left), (shape.right, tree.right)]
-        else:
-            return None
-    always = Less(tuple(0 for _ in net.names), 1)
-    return [found.get(i, always) for i in range(len(net.leaves))]
 
 
 def start_crowd(leaf: Leaf, counts: Sequence[int]) -> list[int]:

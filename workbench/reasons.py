@@ -155,7 +155,9 @@ def layer_lacks(names: Names, leaf: Leaf, layers: Sequence[Layer], fault: LayerF
         layer = next(layer for layer in layers if fault.at in layer.moves)
         p, q, r, s = leaf.moves[fault.at]
         w = layer.weights
-        return [f"move {fault.at}, {move}, has to lower the weights of its layer: before it {w[p]} + {w[q]} = {w[p] + w[q]}, after it {w[r]} + {w[s]} = {w[r] + w[s]}"]
+        return [
+            f"move {fault.at}, {move}, has to lower the weights of its layer: before it {w[p]} + {w[q]} = {w[p] + w[q]}, after it {w[r]} + {w[s]} = {w[r] + w[s]}"
+        ]
     return _wakes_lacks(names, leaf, layers, fault)
 
 

@@ -21,13 +21,14 @@ class TextFault(Exception):
 
     def shown(self, name: str = "") -> str:
         """The fault over three lines: where and what, the line, and a caret below the column."""
-        lead = "".join("\t" if c == "\t" else " " for c in self.quoted[:self.column - 1])
+        lead = "".join("\t" if c == "\t" else " " for c in self.quoted[: self.column - 1])
         return f"{name}{':' if name else ''}{self.line}:{self.column}: {self.told}\n    {self.quoted}\n    {lead}^"
 
 
 @dataclass
 class Place:
     """A place in the text, kept for what is said later of what stands there."""
+
     line: int
     column: int
     quoted: str
@@ -60,7 +61,7 @@ class Line:
     def fault(self, expected: str) -> TextFault:
         """What was expected here, and what stands here."""
         self.skip()
-        rest = self.whole[self.at:self.end]
+        rest = self.whole[self.at : self.end]
         if not rest:
             return self.place().fault(f"expected {expected}, and the line ends here")
         found = PLAIN.match(rest)
@@ -132,7 +133,7 @@ class Line:
         """Reads all that is left of the line, and tells where it began."""
         self.skip()
         place = self.place()
-        text = self.whole[self.at:self.end]
+        text = self.whole[self.at : self.end]
         self.at = self.end
         return text, place
 

@@ -27,6 +27,7 @@ SUGGESTIONS = 3
 @dataclass
 class Note:
     """Something in a proof that stands for nothing: it was left out. `tree` and `node` say where, `tree` None for layers."""
+
     place: Place
     told: str
     tree: bool | None = None
@@ -36,6 +37,7 @@ class Note:
 @dataclass
 class _Waiting:
     """A case that waits for its nodes: its label, whose case it is, how deep its line has to stand, and its facts."""
+
     label: str
     owner: str
     owner_line: int
@@ -67,7 +69,9 @@ class TreeReader:
             if not case.owner:
                 raise text.place.fault("the tree has no node: write `?` below it for one to be found")
             label = f"the case `{case.label}` of" if case.label else "what follows"
-            raise text.place.fault(f"{label} `{case.owner}` on line {case.owner_line} has no node: write `lin 0` or `?` while it isn't there yet")
+            raise text.place.fault(
+                f"{label} `{case.owner}` on line {case.owner_line} has no node: write `lin 0` or `?` while it isn't there yet"
+            )
         return self.nodes
 
     def _line(self, line: Line) -> None:
@@ -96,11 +100,16 @@ class TreeReader:
         if not label:
             line.at = at
         if label != case.label:
-            wanted = f"`{case.label}:`, the next case of `{case.owner}` on line {case.owner_line}" if case.label else "a node without a label"
+            wanted = (
+                f"`{case.label}:`, the next case of `{case.owner}` on line {case.owner_line}" if case.label else "a node without a label"
+            )
             raise place.fault(f"expected {wanted}")
         if line.indent <= case.deeper_than or (case.group and case.group[0] != line.indent):
-            raise place.fault(f"expected the case `{case.label}` of `{case.owner}` on line {case.owner_line}, deeper than it and as deep as its other cases" if case.label
-                              else f"expected what follows `{case.owner}` on line {case.owner_line} to stand as deep as it")
+            raise place.fault(
+                f"expected the case `{case.label}` of `{case.owner}` on line {case.owner_line}, deeper than it and as deep as its other cases"
+                if case.label
+                else f"expected what follows `{case.owner}` on line {case.owner_line} to stand as deep as it"
+            )
         case.group.append(line.indent)
         self.waiting.pop()
         self.branch.enter(case.kept, case.own, case.own_names)
@@ -115,7 +124,7 @@ class TreeReader:
             node = self._read_node(line)
         except Unknown as unknown:
             raise unknown.place.fault(unknown.told) from None
-        text = line.whole[start:line.at].strip() if line.number == number else line.whole.strip()
+        text = line.whole[start : line.at].strip() if line.number == number else line.whole.strip()
         line.must_end()
         self.nodes.append(node)
         if isinstance(node, Hole):

@@ -158,7 +158,7 @@ def tree_lines(names: Names, tree: Predicate, value: bool, part: LeafProof) -> I
         for more in text[1:]:
             yield " " * STEP * (level + 3) + more
         if visit.why == "rest":
-            for node in nodes[visit.number + 1:]:
+            for node in nodes[visit.number + 1 :]:
                 yield " " * STEP + f"rest {compact(node_value(node))}"
 
 

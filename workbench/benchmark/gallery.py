@@ -10,6 +10,7 @@ from .. import program
 from ..files import Loaded
 from ..find.finding import find
 from ..writer import text_of
+from . import own_protocols as own
 from . import protocols as p
 from .making import Case, product
 
@@ -20,28 +21,48 @@ WIDTH = 110
 
 # the file's name, the protocol, how it works, its source
 GALLERY: list[tuple[str, Case, str, str]] = [
-    ("alarm", p.alarm(3), "A sensor network's alarm: at least 3 sensors are warm, and nobody has reset it; a reset silences all", "ours, over the flock of birds of Angluin and others 2006"),
+    (
+        "alarm",
+        own.alarm(3),
+        "A sensor network's alarm: at least 3 sensors are warm, and nobody has reset it; a reset silences all",
+        "ours, over the flock of birds of Angluin and others 2006",
+    ),
     ("angluin-remainder", p.remainder(3, 1), "Leaders with an output bit add up modulo 3 and turn followers", ANGLUIN),
     ("angluin-threshold", p.threshold((1, -1), 0), "Leaders with an output bit add up values cut at 1; who is left over follows", ANGLUIN),
-    ("average-and-conquer", p.average(5), "Odd values up to 5 are averaged, opposite ones cancel out, and who has none follows", "Alistarh, Gelashvili and Vojnovic 2015"),
+    (
+        "average-and-conquer",
+        p.average(5),
+        "Odd values up to 5 are averaged, opposite ones cancel out, and who has none follows",
+        "Alistarh, Gelashvili and Vojnovic 2015",
+    ),
     ("binary-flock-13", p.binary_flock(13), "Powers of 2, and the sums 8, 12, 13 of the highest bits of 13", FLOCKS),
     ("binary-flock-100", p.binary_flock(100), "A threshold of 100 in 10 states: powers of 2, and the sums 64, 96, 100", FLOCKS),
-    ("counter", p.counter(3), "A helper counts to 3, and then tells all", "ours"),
-    ("either", p.either(), "Three of x or two of y, in one leaf", "ours"),
-    ("equal", p.same(True), "Agents of x and y cancel out, and who is left over says no", "ours"),
+    ("counter", own.counter(3), "A helper counts to 3, and then tells all", "ours"),
+    ("either", own.either(), "Three of x or two of y, in one leaf", "ours"),
+    ("equal", own.same(True), "Agents of x and y cancel out, and who is left over says no", "ours"),
     ("flock-with-rest", p.flock(4, rest=True), "A flock whose agents keep what is over 4", ANGLUIN),
-    ("found-out", p.exactly_one(), "One agent of x alone: two are found out, and tell all", "ours"),
-    ("head-start", p.head_start(2), "Majority in which two helpers give y a head start", "ours, over Blondin, Esparza, Jaax and Meyer 2017"),
-    ("helper-remainder", p.helper_rest(3), "A helper keeps the remainder modulo 3", "ours"),
-    ("interval", p.interval(1, 2), "Values are added up to 3, and each agent knows the greatest total that it heard of", "ours"),
+    ("found-out", own.exactly_one(), "One agent of x alone: two are found out, and tell all", "ours"),
+    (
+        "head-start",
+        own.head_start(2),
+        "Majority in which two helpers give y a head start",
+        "ours, over Blondin, Esparza, Jaax and Meyer 2017",
+    ),
+    ("helper-remainder", own.helper_rest(3), "A helper keeps the remainder modulo 3", "ours"),
+    ("interval", own.interval(1, 2), "Values are added up to 3, and each agent knows the greatest total that it heard of", "ours"),
     ("majority-with-ties", p.majority(True), "Majority with four states that says yes at a tie", "Blondin, Esparza, Jaax and Meyer 2017"),
-    ("mod-three", p.mod_three(), "Remainder 0 modulo 3 in four states, without leaders", "ours"),
-    ("product", product("product", "epidemic and majority", p.epidemic(), p.majority(False), "&&"), "Two protocols in one leaf, by pairs of states", "product, Angluin and others 2006"),
-    ("recall", p.broadcast(), "A message that holds unless somebody recalls it", "ours"),
+    ("mod-three", own.mod_three(), "Remainder 0 modulo 3 in four states, without leaders", "ours"),
+    (
+        "product",
+        product("product", "epidemic and majority", p.epidemic(), p.majority(False), "&&"),
+        "Two protocols in one leaf, by pairs of states",
+        "product, Angluin and others 2006",
+    ),
+    ("recall", own.broadcast(), "A message that holds unless somebody recalls it", "ours"),
     ("tower", p.tower(5), "Of two agents on one floor one goes up", FLOCKS),
-    ("twice", p.twice(), "Each y stands for two debts, which the x pay", "ours"),
-    ("two-rumours", p.two_rumours(), "Who has heard two rumours tells all", ANGLUIN),
-    ("unequal", p.same(False), "Agents of x and y cancel out, and who is left over says yes", "ours"),
+    ("twice", own.twice(), "Each y stands for two debts, which the x pay", "ours"),
+    ("two-rumours", own.two_rumours(), "Who has heard two rumours tells all", ANGLUIN),
+    ("unequal", own.same(False), "Agents of x and y cancel out, and who is left over says yes", "ours"),
 ]
 
 APPROXIMATE = """# approximate-majority: y - x < 0. Agents of x and y make each other undecided, and the undecided follow whom they meet.

@@ -8,6 +8,7 @@ from typing import Any, Iterator
 from ..files import Loaded
 from ..find import branch, frames, layers, lemmas, treefinder
 from ..find.finding import find
+from . import own_protocols as own
 from . import protocols as p
 from .families import compiled
 from .making import Case, product
@@ -19,8 +20,20 @@ Patch = tuple[Any, str, Any]
 
 def sample() -> list[Case]:
     """Nets of all kinds of proofs."""
-    return [p.flock(20), p.tower(12), p.threshold((1, -1), 2), p.remainder(8, 1), p.average(9), p.interval(2, 5), p.helper_rest(5), p.twice(), compiled("", "x - y < 8"),
-            compiled("", "x + 2*y = 1 mod 30"), product("", "", p.flock(3), p.majority(False), "||"), product("", "", p.flock(3), p.mod_three(), "&&")]
+    return [
+        p.flock(20),
+        p.tower(12),
+        p.threshold((1, -1), 2),
+        p.remainder(8, 1),
+        p.average(9),
+        own.interval(2, 5),
+        own.helper_rest(5),
+        own.twice(),
+        compiled("", "x - y < 8"),
+        compiled("", "x + 2*y = 1 mod 30"),
+        product("", "", p.flock(3), p.majority(False), "||"),
+        product("", "", p.flock(3), own.mod_three(), "&&"),
+    ]
 
 
 def _as_low(self: Any, word: str, states: Any, main: int = 2) -> None:

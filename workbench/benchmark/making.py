@@ -12,6 +12,7 @@ NamedMove = tuple[str, str, str, str]
 @dataclass(frozen=True)
 class Case:
     """One net of a family, with the predicate that it is to compute; `leaves` has the leaves' predicates where there are several."""
+
     family: str
     name: str
     net: Net
@@ -19,7 +20,9 @@ class Case:
     leaves: tuple[str, ...] = ()
 
 
-def leaf_of(states: Sequence[str], moves: Iterable[NamedMove], starts: Sequence[str], yes: Iterable[str], helpers: Sequence[str] = ()) -> Leaf:
+def leaf_of(
+    states: Sequence[str], moves: Iterable[NamedMove], starts: Sequence[str], yes: Iterable[str], helpers: Sequence[str] = ()
+) -> Leaf:
     """A leaf; moves that change nothing are left out, and so is a second move for the same two states."""
     at = {name: q for q, name in enumerate(states)}
     good = set(yes)
@@ -34,7 +37,17 @@ def leaf_of(states: Sequence[str], moves: Iterable[NamedMove], starts: Sequence[
     return Leaf(tuple(states), tuple(made), tuple(at[s] for s in starts), tuple(s in good for s in states), tuple(at[h] for h in helpers))
 
 
-def one(family: str, name: str, predicate: str, variables: str, states: Sequence[str], moves: Iterable[NamedMove], starts: Sequence[str], yes: Iterable[str], helpers: Sequence[str] = ()) -> Case:
+def one(
+    family: str,
+    name: str,
+    predicate: str,
+    variables: str,
+    states: Sequence[str],
+    moves: Iterable[NamedMove],
+    starts: Sequence[str],
+    yes: Iterable[str],
+    helpers: Sequence[str] = (),
+) -> Case:
     """A net with one leaf."""
     leaf = leaf_of(states, moves, starts, yes, helpers)
     return Case(family, name, Net(tuple(variables.split()), (leaf,), (0,), 2 if helpers else 1), predicate)
@@ -68,4 +81,13 @@ def product(family: str, name: str, first: Case, second: Case, word: str) -> Cas
             moves.append((label[u], label[v], label[r1, r2], label[s1, s2]))
     yes = [label[p] for p in pairs if (a.outputs[p[0]] and b.outputs[p[1]] if word == "&&" else a.outputs[p[0]] or b.outputs[p[1]])]
     starts = [label[p] for p in zip(a.inputs, b.inputs)]
-    return one(family, name, f"({first.predicate}) {word} ({second.predicate})", " ".join(first.net.names), list(label.values()), moves, starts, yes)
+    return one(
+        family,
+        name,
+        f"({first.predicate}) {word} ({second.predicate})",
+        " ".join(first.net.names),
+        list(label.values()),
+        moves,
+        starts,
+        yes,
+    )

@@ -15,6 +15,7 @@ from ..files import Loaded
 from ..find.finding import find
 from ..find.playing import play
 from ..predicates import value_at
+from . import own_protocols as own
 from . import protocols as p
 from .making import Case
 
@@ -24,8 +25,29 @@ COUNT = 60
 
 def sources() -> list[Case]:
     """The nets that are changed."""
-    return [p.two_rumours(), p.majority(False), p.majority(True), p.flock(4), p.flock(6, rest=True), p.tower(4), p.log_flock(3), p.log_flock(4), p.binary_flock(11), p.threshold((1, -1), 0),
-            p.remainder(3, 1), p.average(3), p.counter(3), p.helper_rest(3), p.head_start(2), p.interval(1, 2), p.mod_three(), p.twice(), p.same(True), p.either(), p.alarm(3)]
+    return [
+        own.two_rumours(),
+        p.majority(False),
+        p.majority(True),
+        p.flock(4),
+        p.flock(6, rest=True),
+        p.tower(4),
+        p.log_flock(3),
+        p.log_flock(4),
+        p.binary_flock(11),
+        p.threshold((1, -1), 0),
+        p.remainder(3, 1),
+        p.average(3),
+        own.counter(3),
+        own.helper_rest(3),
+        own.head_start(2),
+        own.interval(1, 2),
+        own.mod_three(),
+        own.twice(),
+        own.same(True),
+        own.either(),
+        own.alarm(3),
+    ]
 
 
 def mutants(count: int) -> Iterator[Case]:
@@ -38,7 +60,9 @@ def mutants(count: int) -> Iterator[Case]:
         changed = list(moves[t])
         changed[rng.choice([2, 3])] = rng.randrange(len(leaf.states))
         moves[t] = (changed[0], changed[1], changed[2], changed[3])
-        yield replace(case, name=f"{case.family}, {case.name}, seed {seed}", net=replace(case.net, leaves=(replace(leaf, moves=tuple(moves)),)))
+        yield replace(
+            case, name=f"{case.family}, {case.name}, seed {seed}", net=replace(case.net, leaves=(replace(leaf, moves=tuple(moves)),))
+        )
 
 
 def answer(case: Case) -> str:

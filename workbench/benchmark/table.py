@@ -26,7 +26,9 @@ def by_family(rows: list[list[str]]) -> list[str]:
         good = [row for row in some if row[6].startswith("certified")]
         nodes = max((part.split(",") for row in good for part in row[5].split(" ")), key=lambda part: int(part[0]) + int(part[1]))
         bounds = _range([row[6].split()[1] for row in good])
-        out.append(f"| {family} | {len(some)} | {len(good)} | {_range([r[2] for r in some])} | {_range([r[3] for r in some])} | {max(float(r[4]) for r in some):g} | {', '.join(nodes)} | {bounds} |")
+        out.append(
+            f"| {family} | {len(some)} | {len(good)} | {_range([r[2] for r in some])} | {_range([r[3] for r in some])} | {max(float(r[4]) for r in some):g} | {', '.join(nodes)} | {bounds} |"
+        )
     return out
 
 
@@ -35,7 +37,9 @@ def each(rows: list[list[str]]) -> list[str]:
     out = ["| Net | States | Moves | Seconds | Nodes | K |", "|---|---|---|---|---|---|"]
     for family, name, states, moves, seconds, nodes, result in rows:
         name = name.replace("|", "\\|")
-        out.append(f"| {family}: {name} | {states} | {moves} | {seconds} | {nodes.replace(',', ', ')} | {result.removeprefix('certified ')} |")
+        out.append(
+            f"| {family}: {name} | {states} | {moves} | {seconds} | {nodes.replace(',', ', ')} | {result.removeprefix('certified ')} |"
+        )
     return out
 
 

@@ -24,6 +24,7 @@ def run(arguments: list[str]) -> int:
     told = explain(loaded, bundle, answer.first_line)
     if "--html" in options:
         from ..page import page
+
         print(page(told), end="")
     else:
         print(drawn(told, "--all" in options), end="")

@@ -27,11 +27,19 @@ def run(arguments: list[str]) -> int:
     loaded = loaded_of(options)
     from ..find.finding import find
     from ..find.jobs import processors
-    found = find(loaded, options.numbers["--seconds"], options.numbers["--small"], int(options.numbers["--jobs"]) or processors(), "--anew" in options.flags)
+
+    found = find(
+        loaded,
+        options.numbers["--seconds"],
+        options.numbers["--small"],
+        int(options.numbers["--jobs"]) or processors(),
+        "--anew" in options.flags,
+    )
     if found.flaw is not None:
         return show_flaw(loaded, found.at, found.flaw, options.texts.get("--write"))
     if found.bundle is None:
         from ..find.telling import failure_told
+
         first = found.failures[0]
         assert loaded.parts is not None
         print("not found: " + failure_told(loaded.net, first, loaded.parts[first.at]))
@@ -40,10 +48,14 @@ def run(arguments: list[str]) -> int:
     print(answer.first_line, file=sys.stderr)
     print("\n".join(found.told()), file=sys.stderr)
     if answer.status != program.DONE:
-        print("pop: the program rejects this proof, so it isn't shown; what is written in the file was kept (`--anew` looks for all of it)", file=sys.stderr)
+        print(
+            "pop: the program rejects this proof, so it isn't shown; what is written in the file was kept (`--anew` looks for all of it)",
+            file=sys.stderr,
+        )
         return answer.status
     if "--text" in options.flags:
         from ..writer import text_of
+
         print(text_of(loaded.net, found.bundle, loaded.labels), end="")
     else:
         print(found.bundle.line())
@@ -56,6 +68,7 @@ def show_flaw(loaded: Loaded, at: int, flaw: "object", write: str | None) -> int
     from ..find.playing import play
     from ..find.telling import flaw_told
     from ..predicates import read_predicate, value_at
+
     assert isinstance(flaw, Flaw) and loaded.parts is not None and loaded.predicate is not None
     tree = loaded.part_trees()[at]
     whole = read_predicate(loaded.predicate, loaded.net.names)

@@ -33,13 +33,19 @@ def run_word(word: str, arguments: list[str]) -> int:
     words, starts = _starts(arguments)
     wanted = 1 if word == "not" else 2
     if len(words) != wanted or any(w.startswith("--") for w in words):
-        raise UsageFault("it takes one file" if word == "not" else f"it takes two files, and {START} VARIABLE=STATE for a variable that one of them lacks")
+        raise UsageFault(
+            "it takes one file"
+            if word == "not"
+            else f"it takes two files, and {START} VARIABLE=STATE for a variable that one of them lacks"
+        )
     bundles = [strict_bundle(load_path(path)) for path in words]
     try:
         made = negated(bundles[0]) if word == "not" else joined(word, bundles[0], bundles[1], starts)
         bundle_of(made.value())
     except Lost as lost:
-        raise InputFault(f"the proof of one of them names `{lost}`, which isn't there any more: `bin/pop find` looks for another proof") from None
+        raise InputFault(
+            f"the proof of one of them names `{lost}`, which isn't there any more: `bin/pop find` looks for another proof"
+        ) from None
     except FormatFault as fault:
         raise InputFault(f"fault: format {fault.path} {fault.why}\nthe joined net is over a limit of docs/FORMATS.md") from None
     return _certified(made)

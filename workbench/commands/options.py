@@ -12,6 +12,7 @@ STANDARD_INPUT = "-"
 @dataclass
 class Options:
     """Words without options; numbers with their usual values where they aren't given; texts and flags that are."""
+
     words: list[str] = field(default_factory=list)
     numbers: dict[str, float] = field(default_factory=dict)
     texts: dict[str, str] = field(default_factory=dict)
@@ -23,7 +24,14 @@ class Options:
         return self.words[0] if self.words else STANDARD_INPUT
 
 
-def read_options(arguments: list[str], takes: str, numbers: Mapping[str, float] = {}, texts: Collection[str] = (), flags: Collection[str] = (), most_words: int = 2) -> Options:
+def read_options(
+    arguments: list[str],
+    takes: str,
+    numbers: Mapping[str, float] = {},
+    texts: Collection[str] = (),
+    flags: Collection[str] = (),
+    most_words: int = 2,
+) -> Options:
     """Reads the words behind a command; UsageFault says what it takes."""
     out = Options(numbers=dict(numbers))
     seen: set[str] = set()

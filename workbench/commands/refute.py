@@ -9,7 +9,7 @@ from .find import NOT_FOUND, loaded_of, show_flaw
 from .options import read_options
 
 TAKES = "a file (or standard input), a predicate where the file has none, --agents N (10), --seconds N (60) and --write FILE"
-EVERY = 0.5            # seconds between two progress lines
+EVERY = 0.5  # seconds between two progress lines
 
 
 class _Progress:
@@ -21,6 +21,7 @@ class _Progress:
 
     def __call__(self, tried: "object", agents: int) -> None:
         from ..find.explore import Tried
+
         assert isinstance(tried, Tried)
         if sys.stderr.isatty() and time.time() - self.last > EVERY:
             self.last, self.shown = time.time(), True
@@ -38,6 +39,7 @@ def run(arguments: list[str]) -> int:
     loaded = loaded_of(options)
     trees = loaded.part_trees()
     from ..find.explore import explore
+
     agents = int(options.numbers["--agents"])
     least = agents
     progress = _Progress()
@@ -48,7 +50,11 @@ def run(arguments: list[str]) -> int:
             return show_flaw(loaded, i, flaw, options.texts.get("--write"))
         least = min(least, tried.agents)
     progress.end()
-    print(f"no flaw: all inputs of up to {least} agents beside helpers were tried" if least >= agents or least else "no flaw in what was tried")
+    print(
+        f"no flaw: all inputs of up to {least} agents beside helpers were tried"
+        if least >= agents or least
+        else "no flaw in what was tried"
+    )
     if least < agents:
         print(f"the time was up before {agents} agents; --seconds gives more", file=sys.stderr)
     return NOT_FOUND if least < agents else program.DONE

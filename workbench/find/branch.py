@@ -15,7 +15,7 @@ from .sets import Sets
 from .solver import Solver
 from .trees import Grown, RestSum, Sum, ending
 
-FLOATS = 1 << 17       # predicates with greater numbers are left to exact arithmetic
+FLOATS = 1 << 17  # predicates with greater numbers are left to exact arithmetic
 
 
 class WrongEnd(Exception):
@@ -83,7 +83,7 @@ class Branch:
         if point is not None and not known:
             pool = self.stack.top.pool
             pool.insert(max(len(pool) - 1, 0), point)
-            del pool[:-2 * POOL]
+            del pool[: -2 * POOL]
         return point
 
     def is_empty(self, level: int, items: Case) -> bool:
@@ -127,6 +127,6 @@ class Branch:
     def undecided(self) -> list[int]:
         """The states that react with some other, and are neither known to be there nor to be absent."""
         top, first = self.stack.top, self.cases.inputs
-        least, most = top.least[first:self.cases.first_move], top.most[first:self.cases.first_move]
+        least, most = top.least[first : self.cases.first_move], top.most[first : self.cases.first_move]
         out: list[int] = np.nonzero(self.cases.near.any(axis=1) & (most > 0) & (least < 1))[0].tolist()
         return out

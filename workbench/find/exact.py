@@ -33,7 +33,9 @@ class ExactSolver(Solver):
         self.z3 = z3_module()
 
     def _sum(self, row: Row, variables: Sequence[Any]) -> Any:
-        return self.z3.Sum([int(k) * variables[a] for a, k in zip(row.variables.tolist(), row.numbers.tolist())] + [self.z3.IntVal(row.constant)])
+        return self.z3.Sum(
+            [int(k) * variables[a] for a, k in zip(row.variables.tolist(), row.numbers.tolist())] + [self.z3.IntVal(row.constant)]
+        )
 
     def _constrain(self, solver: Any, item: Item, variables: Sequence[Any], number: int, whole: bool) -> None:
         if isinstance(item, Zeros):

@@ -14,14 +14,15 @@ from ..proofs import start_crowd
 Crowd = tuple[int, ...]
 
 WRONG, ENDLESS = "wrong", "endless"
-CROWDS = 60_000        # crowds of one input at most
-ROUND_SHOWN = 12       # crowds that go round
+CROWDS = 60_000  # crowds of one input at most
+ROUND_SHOWN = 12  # crowds that go round
 
 
 @dataclass
 class Flaw:
     """A crowd on the way from an input that is terminal and wrong, or from which no terminal crowd is reached; then `round` are
     crowds that go round. `by_meetings` says whether meetings alone lead there."""
+
     kind: str
     counts: tuple[int, ...]
     crowd: Crowd
@@ -33,6 +34,7 @@ class Flaw:
 @dataclass
 class Tried:
     """What was tried without a flaw: up to how many agents in full, how many inputs and crowds in all."""
+
     agents: int = 0
     inputs: int = 0
     crowds: int = 0
@@ -138,7 +140,7 @@ class Graph:
             seen[crowd] = len(order)
             order.append(crowd)
             crowd = next((new for _, new in self.edges[crowd] if new in seen), self.edges[crowd][0][1])
-        return order[seen[crowd]:]
+        return order[seen[crowd] :]
 
 
 def _path(came: dict[Crowd, tuple[Crowd, int] | None], crowd: Crowd) -> list[int]:
@@ -180,7 +182,9 @@ def inputs_of(variables: int, agents: int) -> Iterator[tuple[int, ...]]:
         yield tuple(chosen.count(i) for i in range(variables))
 
 
-def explore(leaf: Leaf, tree: Predicate, agents: int, seconds: float, progress: Callable[[Tried, int], None] | None = None) -> tuple[Flaw | None, Tried]:
+def explore(
+    leaf: Leaf, tree: Predicate, agents: int, seconds: float, progress: Callable[[Tried, int], None] | None = None
+) -> tuple[Flaw | None, Tried]:
     """The best flaw among the inputs of the fewest agents that have one, and what was tried."""
     stop = time.time() + seconds
     tried = Tried()
@@ -191,7 +195,11 @@ def explore(leaf: Leaf, tree: Predicate, agents: int, seconds: float, progress: 
         for counts in inputs_of(len(leaf.inputs), n):
             found = flaw_at(leaf, tree, counts, stop)
             if isinstance(found, Flaw):
-                if best is None or (not found.by_meetings, len(found.moves), found.kind) < (not best.by_meetings, len(best.moves), best.kind):
+                if best is None or (not found.by_meetings, len(found.moves), found.kind) < (
+                    not best.by_meetings,
+                    len(best.moves),
+                    best.kind,
+                ):
                     best = found
             elif found is None:
                 is_whole = False

@@ -11,12 +11,13 @@ from ..proofs import Bundle, LeafProof
 from .explore import Flaw
 from .jobs import FALSE, FLAW, LAYERS, NO_LAYERS, TRUE, WRONG_END, Result, Task, results
 
-ORDER = (NO_LAYERS, WRONG_END)      # which failure is told where there are several
+ORDER = (NO_LAYERS, WRONG_END)  # which failure is told where there are several
 
 
 @dataclass
 class Outcome:
     """A bundle that no one has certified yet; or a flaw of a leaf; or failures, the one to be told first."""
+
     bundle: Bundle | None = None
     at: int = 0
     flaw: Flaw | None = None
@@ -30,8 +31,10 @@ class Outcome:
         for i in range(1 + max(at for _, at in self.done)):
             layers, true, false = (self.done[kind, i] for kind in (LAYERS, TRUE, FALSE))
             bound = sum(layer.spread for layer in layers.layers)
-            out.append(f"leaf {i}: {len(layers.layers)} layer{'' if len(layers.layers) == 1 else 's'}, bound {bound} ({layers.seconds:.1f} s); "
-                       f"trees of {len(true.tree)} and {len(false.tree)} nodes ({true.seconds:.1f} s, {false.seconds:.1f} s)")
+            out.append(
+                f"leaf {i}: {len(layers.layers)} layer{'' if len(layers.layers) == 1 else 's'}, bound {bound} ({layers.seconds:.1f} s); "
+                f"trees of {len(true.tree)} and {len(false.tree)} nodes ({true.seconds:.1f} s, {false.seconds:.1f} s)"
+            )
         return out
 
 
@@ -60,7 +63,9 @@ def find(loaded: Loaded, seconds: float, small: float, jobs: int, anew: bool = F
     """What came of it; InputFault where the input has no predicate, or predicates that don't fit."""
     start = time.time()
     if predicates_differ(loaded):
-        raise InputFault("the leaves' predicates combine to another tree than the whole predicate's (docs/CERTIFICATES.md, \"How a predicate becomes a tree\")")
+        raise InputFault(
+            "the leaves' predicates combine to another tree than the whole predicate's (docs/CERTIFICATES.md, \"How a predicate becomes a tree\")"
+        )
     tasks = tasks_of(loaded, drafts_of(loaded, anew), seconds, small)
     # (before processes are made, so that they share what is loaded, and a missing package is told once)
     import_module(".layerjob", __package__)
@@ -85,5 +90,8 @@ def find(loaded: Loaded, seconds: float, small: float, jobs: int, anew: bool = F
 
 def _assembled(loaded: Loaded, out: Outcome) -> Bundle:
     assert loaded.parts is not None and loaded.predicate is not None
-    parts = [LeafProof(text, tuple(out.done[LAYERS, i].layers), out.done[TRUE, i].tree, out.done[FALSE, i].tree) for i, text in enumerate(loaded.parts)]
+    parts = [
+        LeafProof(text, tuple(out.done[LAYERS, i].layers), out.done[TRUE, i].tree, out.done[FALSE, i].tree)
+        for i, text in enumerate(loaded.parts)
+    ]
     return Bundle(loaded.net, loaded.predicate, tuple(parts))

@@ -11,12 +11,13 @@ from ..proofs import Node
 from .items import Array, Case, Item, Row, Zeros, is_modular
 
 EPSILON = 1e-6
-POOL = 16              # known points that are kept for a branch
+POOL = 16  # known points that are kept for a branch
 
 
 @dataclass
 class Lemma:
     """A node whose other cases close at once; `main` is the case in which the branch goes on, `at` the number of items before it."""
+
     node: Node
     cases: list[Case]
     main: int
@@ -107,6 +108,7 @@ def meets_rests(point: Array, mods: Sequence[Row]) -> bool:
 @dataclass
 class Stack:
     """The frames of a branch, the base facts' first."""
+
     variables: int
     frames: list[Frame] = field(default_factory=list)
 
@@ -131,7 +133,7 @@ class Stack:
     def add(self, level: int, items: Case) -> None:
         """More facts in a frame; those above it hold them too."""
         self.frames[level].add(items)
-        for frame in self.frames[level + 1:]:
+        for frame in self.frames[level + 1 :]:
             frame.refresh()
             frame.pool = [point for point in frame.pool if meets(point, items)]
 

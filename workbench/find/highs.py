@@ -19,7 +19,7 @@ try:
 except ImportError:
     _highs_wrapper = None
 
-Array = Any     # numpy's arrays have no types in Debian's mypy
+Array = Any  # numpy's arrays have no types in Debian's mypy
 
 FOUND, NONE, UNBOUNDED, NO_TIME = "found", "none", "unbounded", "no time"
 OPTIMAL, INFEASIBLE, UNBOUNDED_OR_NOT, UNBOUNDED_STATUS, TIME_LIMIT = 7, 8, 9, 10, 13
@@ -28,6 +28,7 @@ OPTIMAL, INFEASIBLE, UNBOUNDED_OR_NOT, UNBOUNDED_STATUS, TIME_LIMIT = 7, 8, 9, 1
 @dataclass
 class Matrix:
     """A sparse matrix by columns."""
+
     starts: Array
     rows: Array
     numbers: Array
@@ -53,6 +54,7 @@ class Matrix:
 @dataclass
 class Outcome:
     """What came of a program: the point, and the multipliers of its rows where they were asked for."""
+
     status: str
     point: Array = None
     duals: Array = None
@@ -66,7 +68,17 @@ def matrix_of(rows: Array, columns: Array, numbers: Array, height: int, width: i
     return Matrix(made.indptr.astype(np.int32), made.indices.astype(np.int32), made.data.astype(float), height)
 
 
-def minimise(cost: Array, matrix: Matrix, low: Array, high: Array, least: Array, most: Array, whole: bool = False, seconds: float | None = None, presolve: bool = True) -> Outcome:
+def minimise(
+    cost: Array,
+    matrix: Matrix,
+    low: Array,
+    high: Array,
+    least: Array,
+    most: Array,
+    whole: bool = False,
+    seconds: float | None = None,
+    presolve: bool = True,
+) -> Outcome:
     """The least cost with `low <= matrix * x <= high` and `least <= x <= most`; with `whole`, in integers."""
     if _highs_wrapper is None:
         return _by_scipy(cost, matrix, low, high, least, most, whole, seconds)
@@ -76,9 +88,18 @@ def minimise(cost: Array, matrix: Matrix, low: Array, high: Array, least: Array,
     kinds = np.ones(len(cost), dtype=np.uint8) if whole else np.empty(0, dtype=np.uint8)
     with warnings.catch_warnings():
         warnings.simplefilter("ignore")
-        got = _highs_wrapper(np.ascontiguousarray(cost, dtype=float), matrix.starts.astype(np.int32), matrix.rows.astype(np.int32), matrix.numbers.astype(float),
-                             np.ascontiguousarray(low, dtype=float), np.ascontiguousarray(high, dtype=float),
-                             np.ascontiguousarray(least, dtype=float), np.ascontiguousarray(most, dtype=float), kinds, options)
+        got = _highs_wrapper(
+            np.ascontiguousarray(cost, dtype=float),
+            matrix.starts.astype(np.int32),
+            matrix.rows.astype(np.int32),
+            matrix.numbers.astype(float),
+            np.ascontiguousarray(low, dtype=float),
+            np.ascontiguousarray(high, dtype=float),
+            np.ascontiguousarray(least, dtype=float),
+            np.ascontiguousarray(most, dtype=float),
+            kinds,
+            options,
+        )
     point = got.get("x")
     if got["status"] == OPTIMAL or (whole and point is not None):
         return Outcome(FOUND, np.array(point), np.array(got["lambda"]) if not whole and "lambda" in got else None)
@@ -86,18 +107,32 @@ def minimise(cost: Array, matrix: Matrix, low: Array, high: Array, least: Array,
     return Outcome(status, message=str(got.get("message")))
 
 
-def _by_scipy(cost: Array, matrix: Matrix, low: Array, high: Array, least: Array, most: Array, whole: bool, seconds: float | None) -> Outcome:
+def _by_scipy(
+    cost: Array, matrix: Matrix, low: Array, high: Array, least: Array, most: Array, whole: bool, seconds: float | None
+) -> Outcome:
     """The same by scipy's public functions, for versions that have no wrapper of this kind."""
     made = sparse.csc_matrix((matrix.numbers, matrix.rows, matrix.starts), shape=(matrix.height, matrix.width))
     if whole:
-        got = milp(cost, integrality=np.ones(len(cost)), bounds=Bounds(least, most), constraints=LinearConstraint(made, low, high), options={"time_limit": seconds} if seconds else None)
-        return Outcome(FOUND, np.array(got.x)) if got.x is not None else Outcome({2: NONE, 3: UNBOUNDED}.get(got.status, NO_TIME), message=got.message)
+        got = milp(
+            cost,
+            integrality=np.ones(len(cost)),
+            bounds=Bounds(least, most),
+            constraints=LinearConstraint(made, low, high),
+            options={"time_limit": seconds} if seconds else None,
+        )
+        return (
+            Outcome(FOUND, np.array(got.x))
+            if got.x is not None
+            else Outcome({2: NONE, 3: UNBOUNDED}.get(got.status, NO_TIME), message=got.message)
+        )
     upper, lower = np.isfinite(high), np.isfinite(low)
     stacked = sparse.vstack([made[upper], -made[lower]])
-    got = linprog(cost, A_ub=stacked, b_ub=np.concatenate([high[upper], -low[lower]]), bounds=np.stack([least, most], axis=1), method="highs")
+    got = linprog(
+        cost, A_ub=stacked, b_ub=np.concatenate([high[upper], -low[lower]]), bounds=np.stack([least, most], axis=1), method="highs"
+    )
     if got.x is None or got.status:
         return Outcome({2: NONE, 3: UNBOUNDED, 4: UNBOUNDED}.get(got.status, NO_TIME), message=got.message)
     duals = np.zeros(matrix.height)
-    duals[upper] += got.ineqlin.marginals[:int(upper.sum())]
-    duals[lower] -= got.ineqlin.marginals[int(upper.sum()):]
+    duals[upper] += got.ineqlin.marginals[: int(upper.sum())]
+    duals[lower] -= got.ineqlin.marginals[int(upper.sum()) :]
     return Outcome(FOUND, np.array(got.x), duals)

@@ -21,10 +21,18 @@ CHEAP, USUAL, DEAR = 1.0, 4.0, 40.0
 
 class Row:
     """One fact; `price` says how gladly a sum uses it (less is better)."""
+
     __slots__ = ("kind", "variables", "numbers", "constant", "modulus", "tree", "value", "price")
 
     def __init__(self, kind: str, variables: Array, numbers: Array, constant: int = 0, modulus: int = 0, price: float = USUAL) -> None:
-        self.kind, self.variables, self.numbers, self.constant, self.modulus, self.price = kind, variables, numbers, constant, modulus, price
+        self.kind, self.variables, self.numbers, self.constant, self.modulus, self.price = (
+            kind,
+            variables,
+            numbers,
+            constant,
+            modulus,
+            price,
+        )
         self.tree: Predicate | None = None
         self.value = False
 
@@ -40,6 +48,7 @@ class Row:
 
 class Zeros:
     """Facts that each say that one variable is 0."""
+
     __slots__ = ("variables", "price")
 
     def __init__(self, variables: Array, price: float = USUAL) -> None:
@@ -56,7 +65,14 @@ Ref = tuple[Item, int]
 
 def row_of(fact: Fact, price: float = USUAL) -> Row:
     """A fact of `workbench.facts` as a row."""
-    made = Row(fact.kind, np.array([a for a, _ in fact.terms], dtype=np.int64), np.array([k for _, k in fact.terms], dtype=np.int64), fact.constant, fact.modulus, price)
+    made = Row(
+        fact.kind,
+        np.array([a for a, _ in fact.terms], dtype=np.int64),
+        np.array([k for _, k in fact.terms], dtype=np.int64),
+        fact.constant,
+        fact.modulus,
+        price,
+    )
     made.tree, made.value = fact.tree, fact.value
     return made
 

@@ -20,7 +20,7 @@ FLAW, LAYERS, TRUE, FALSE = "small crowds", "layers", "true", "false"
 
 STACK_BYTES = 512 << 20
 DEEP = 200_000
-FLAW_SECONDS = 2.0             # for small crowds, at most a tenth of all
+FLAW_SECONDS = 2.0  # for small crowds, at most a tenth of all
 FLAW_AGENTS = 7
 CANDIDATE_SECONDS = 10.0
 
@@ -28,6 +28,7 @@ CANDIDATE_SECONDS = 10.0
 @dataclass
 class Task:
     """One task of one leaf."""
+
     kind: str
     at: int
     leaf: Leaf
@@ -41,6 +42,7 @@ class Task:
 @dataclass
 class Result:
     """What came of a task; `why` is empty where it was done, else `wrong end`, `no layers`, `gave up`."""
+
     kind: str
     at: int
     seconds: float = 0.0
@@ -61,6 +63,7 @@ WRONG_END, NO_LAYERS, GAVE_UP = "wrong end", "no layers", "gave up"
 
 def _layers(task: Task, result: Result, deadline: float) -> None:
     from .layerjob import NoLayers, fill_layers, find_layers
+
     try:
         result.layers = find_layers(task.leaf, deadline) if task.layers is None else fill_layers(task.leaf, task.layers, deadline)
     except NoLayers as none:
@@ -71,11 +74,12 @@ def _tree(task: Task, result: Result, deadline: float) -> None:
     from .branch import GaveUp, WrongEnd
     from .solver import Trouble
     from .treefinder import find_tree
+
     try:
         result.tree = find_tree(task.leaf, task.tree, task.kind == TRUE, task.nodes, deadline, task.small)
     except WrongEnd as end:
         result.why, result.point = WRONG_END, end.point
-        found = flaw_at(task.leaf, task.tree, tuple(end.point[:len(task.leaf.inputs)]), time.time() + CANDIDATE_SECONDS)
+        found = flaw_at(task.leaf, task.tree, tuple(end.point[: len(task.leaf.inputs)]), time.time() + CANDIDATE_SECONDS)
         if isinstance(found, Flaw):
             result.flaw = found
         else:
@@ -109,7 +113,7 @@ def deep(call: Callable[[], Any]) -> Any:
     def run() -> None:
         try:
             box.append(call())
-        except BaseException as fault:      # noqa: B036  handed on to the caller
+        except BaseException as fault:  # noqa: B036  handed on to the caller
             faults.append(fault)
 
     thread = threading.Thread(target=run)

@@ -19,6 +19,7 @@ LEAST_SECONDS = 4.0
 @dataclass
 class NoLayers(Exception):
     """No layers were found: moves that fit into no order, and up to how many layers SMT showed that there are none."""
+
     moves: list[int] = field(default_factory=list)
     excluded: int = 0
     told: str = ""

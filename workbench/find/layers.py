@@ -12,11 +12,11 @@ from ..proofs import Layer
 from .highs import FOUND, Array, matrix_of, minimise
 from .waking import Moves, Waking
 
-TRIES = 8              # shuffled orders of choices
+TRIES = 8  # shuffled orders of choices
 TRY_SECONDS = 3.0
 WHOLE_SECONDS = 10.0
-HOPELESS = 50          # closures without weights that are remembered
-SAMPLE = 400           # closures that are sorted by size before the others are made
+HOPELESS = 50  # closures without weights that are remembered
+SAMPLE = 400  # closures that are sorted by size before the others are made
 
 Change = tuple[tuple[int, int], ...]
 
@@ -51,7 +51,16 @@ class LayerFinder:
         matrix = matrix_of(rows, columns, numbers, count + width, width + 1)
         high = np.concatenate([np.full(count, -1.0), np.zeros(width)])
         cost = np.append(np.full(width, 1e-4 / max(width, 1)), 1.0)
-        got = minimise(cost, matrix, np.full(count + width, -np.inf), high, np.zeros(width + 1), np.full(width + 1, np.inf), whole, WHOLE_SECONDS if whole else None)
+        got = minimise(
+            cost,
+            matrix,
+            np.full(count + width, -np.inf),
+            high,
+            np.zeros(width + 1),
+            np.full(width + 1, np.inf),
+            whole,
+            WHOLE_SECONDS if whole else None,
+        )
         if got.status != FOUND:
             return None
         full = np.zeros(len(self.leaf.states))
@@ -126,7 +135,7 @@ class LayerFinder:
         """Neighbouring groups made one, as long as the bound does not rise."""
         i = 0
         while i < len(groups) - 1:
-            trial = [*groups[:i], groups[i] | groups[i + 1], *groups[i + 2:]]
+            trial = [*groups[:i], groups[i] | groups[i + 1], *groups[i + 2 :]]
             if self.is_valid(trial) and self.bound(trial) <= self.bound(groups) + 1e-6:
                 groups, i = trial, 0
             else:

@@ -11,8 +11,8 @@ from .frames import EPSILON, Lemma
 from .items import Array
 from .sets import States
 
-SHRINK = 40            # trials at most to make one trap smaller
-PATIENCE, IMPATIENCE = 100, 3      # points at most that make a set smaller, at first and after so many failures in a row
+SHRINK = 40  # trials at most to make one trap smaller
+PATIENCE, IMPATIENCE = 100, 3  # points at most that make a set smaller, at first and after so many failures in a row
 FAILURES = 3
 WORDS = ("siphon", "trap")
 
@@ -62,7 +62,7 @@ class Lemmas(Branch):
         """The set is the greatest one that the moves of the branch's known points respect. Where another case has a point too,
         its moves are added and the set gets smaller, until its other cases are closed or it excludes nothing."""
         known = np.stack([*self.stack.top.pool, point])
-        moves = set(np.nonzero((known[:, self.cases.first_move:] > 1 - EPSILON).any(axis=0))[0].tolist())
+        moves = set(np.nonzero((known[:, self.cases.first_move :] > 1 - EPSILON).any(axis=0))[0].tolist())
         starts = set(self.cases.leaf.helpers).union(*(self.sets.started(s, 1 - EPSILON) for s in known))
         taken = self.sets.taken(point)
         empty = set(np.nonzero(self.sets.crowd(point) <= EPSILON)[0].tolist())
@@ -90,7 +90,7 @@ class Lemmas(Branch):
 
     def _untaken(self, moves: set[int]) -> Array:
         """The moves that may be taken and that no known point takes."""
-        free = self.stack.top.most[self.cases.first_move:] > 0
+        free = self.stack.top.most[self.cases.first_move :] > 0
         free[list(moves)] = False
         return np.nonzero(free)[0] + self.cases.first_move
 
@@ -123,7 +123,7 @@ class Lemmas(Branch):
         while size and tries < SHRINK:
             at = 0
             while at < len(order) and tries < SHRINK:
-                small = self.sets.greatest_trap(states.difference(order[at:at + size]), moves)
+                small = self.sets.greatest_trap(states.difference(order[at : at + size]), moves)
                 good = self.sets.trap_breaks(small, point, taken)
                 tries += good
                 if good and self._is_closed_trap(small):

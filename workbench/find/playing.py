@@ -9,13 +9,14 @@ from ..names import Names
 from ..nets import Leaf, Net, combined, compact, pair
 from .explore import WRONG, Flaw, first_moves
 
-SETTLE_MEETINGS = 200_000      # meetings at most that bring the other leaves to their end
+SETTLE_MEETINGS = 200_000  # meetings at most that bring the other leaves to their end
 SEED = 1
 
 
 @dataclass
 class Played:
     """Meetings that lead to the flaw, and what `play` said of them. `moves` names the move of each meeting, where it is the leaf's."""
+
     text: str
     meetings: list[tuple[int, int]]
     moves: list[str]

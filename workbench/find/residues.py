@@ -16,8 +16,8 @@ from .items import Array, Item, Ref, Row, Zeros
 from .trees import RestSum, Terms
 
 
-SPARE = 40             # random sums of columns beyond those that count wrong sums
-MIXED = 3              # sums in which each column stands
+SPARE = 40  # random sums of columns beyond those that count wrong sums
+MIXED = 3  # sums in which each column stands
 SEED = 7
 
 
@@ -41,7 +41,7 @@ def _eliminated(work: Array, column: int, m: int) -> Array:
         if i == first or not b:
             continue
         g = gcd(a, m)
-        if b % g == 0:                                  # a multiple modulo m: the others like it go in one step
+        if b % g == 0:  # a multiple modulo m: the others like it go in one step
             factor = (work[live, column] // g) * (pow(a // g, -1, m // g) if m > g else 0) % m
             factor[(work[live, column] % g != 0) | (live == first)] = 0
             work[live] = (work[live] - factor[:, None] * work[first]) % m
@@ -57,6 +57,7 @@ def _eliminated(work: Array, column: int, m: int) -> Array:
 @dataclass
 class _Known:
     """Variables that one fact gives modulo m: which, their values, and the facts."""
+
     mask: Array
     values: Array
     refs: dict[int, tuple[Ref, int]]
@@ -112,7 +113,9 @@ class _System:
         full = np.zeros((len(both), variables), dtype=np.int64)
         for i, row in enumerate(both):
             full[i, row.variables] = row.numbers % m
-        constants = (np.array([row.constant % m for row in both], dtype=np.int64) + full[:, self.known.mask] @ self.known.values[self.known.mask]) % m
+        constants = (
+            np.array([row.constant % m for row in both], dtype=np.int64) + full[:, self.known.mask] @ self.known.values[self.known.mask]
+        ) % m
         free = _fewer(full[:, ~self.known.mask], m)
         self.width = free.shape[1]
         self.small = np.concatenate([free, constants[:, None]], axis=1)
@@ -135,8 +138,8 @@ class _System:
             column = int(left[0])
             row = _eliminated(work[first:], column, m)
             pivots.append((column, row))
-            rest = row * (m // gcd(int(row[column]), m)) % m            # zero where the pivot is a unit
-            if rest[:w + 1].any():
+            rest = row * (m // gcd(int(row[column]), m)) % m  # zero where the pivot is a unit
+            if rest[: w + 1].any():
                 work = np.concatenate([work[first:], rest[None]])
                 first = 0
         return bare, pivots
@@ -163,7 +166,7 @@ class _System:
         w, m, n = self.width, self.m, len(self.rows)
         for row in self.work:
             if row[w] % m:
-                return RestSum(m, self.terms(row[w + 1:], None))
+                return RestSum(m, self.terms(row[w + 1 :], None))
         for i, goal in enumerate(self.denials):
             left = np.concatenate([self.small[n + i], np.zeros(n, dtype=np.int64)])
             for column, row in self.pivots:
@@ -173,8 +176,8 @@ class _System:
                     break
                 z = (k // g) * pow(p // g, -1, m // g) if m > g else 0
                 left = (left - z * row) % m
-            if not left[:w + 1].any():
-                return RestSum(m, self.terms(-left[w + 1:], goal), goal)
+            if not left[: w + 1].any():
+                return RestSum(m, self.terms(-left[w + 1 :], goal), goal)
         return None
 
 

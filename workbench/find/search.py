@@ -17,9 +17,9 @@ from .lemmas import WORDS, Lemmas, node_of
 from .residues import closing_residue
 from .trees import Grown, Opened, RestSum, Sum, ending, grown
 
-SPLITS = 24            # fractions that are tried for a split
-PATIENT = 10           # with less look-ahead than this, the second candidate is the last where one case was closed
-DEEPEST = 3_000        # frames
+SPLITS = 24  # fractions that are tried for a split
+PATIENT = 10  # with less look-ahead than this, the second candidate is the last where one case was closed
+DEEPEST = 3_000  # frames
 
 
 class Prover(Lemmas):
@@ -27,7 +27,7 @@ class Prover(Lemmas):
 
     def __init__(self, cases: Cases, tree: Predicate, value: bool, deadline: float, ahead: int, exact: bool) -> None:
         super().__init__(cases, tree, value, deadline, exact)
-        self.ahead = ahead          # candidates for `present` whose cases are both tried
+        self.ahead = ahead  # candidates for `present` whose cases are both tried
         self._opened: list[Item] = []
 
     def proved(self, nodes: Sequence[DraftNode]) -> Grown:
@@ -103,7 +103,7 @@ class Prover(Lemmas):
         for lemma in reversed(frame.lemmas):
             if node.used.isdisjoint(lemma.cases[lemma.main]):
                 continue
-            kept = frame.items[:lemma.at]
+            kept = frame.items[: lemma.at]
             sides = {i: self.summed(self.stack.frames, [*kept, *items]) for i, items in enumerate(lemma.cases) if i != lemma.main}
             node = grown(lemma.node, [(items, node if i == lemma.main else sides[i]) for i, items in enumerate(lemma.cases)])
         return node
@@ -163,11 +163,11 @@ class Prover(Lemmas):
     def _present_one_of(self, able: list[int]) -> Grown:
         """Branches on one of these states, by look-ahead."""
         first = self.cases.inputs
-        alive = self.stack.top.most[first:self.cases.first_move] > 0
+        alive = self.stack.top.most[first : self.cases.first_move] > 0
         partners = (self.cases.near & alive).sum(axis=1)
         able.sort(key=lambda p: (-partners[p], p))
         best: tuple[tuple[int, int], Node, list[Case], list[RestSum | bool]] | None = None
-        for k, p in enumerate(able[:self.ahead]):
+        for k, p in enumerate(able[: self.ahead]):
             cases = list(self.cases.of(Present(p)))
             shut = [self.shut(items) for items in cases]
             count = sum(bool(one) for one in shut)
@@ -222,7 +222,12 @@ class Prover(Lemmas):
         return self._split_count(point)
 
     def _split_count(self, point: Array) -> Grown:
-        fixed = {int(item.variables[0]) for frame in self.stack.frames for item in frame.items if isinstance(item, Row) and item.kind == EQUAL and len(item.variables) == 1}
+        fixed = {
+            int(item.variables[0])
+            for frame in self.stack.frames
+            for item in frame.items
+            if isinstance(item, Row) and item.kind == EQUAL and len(item.variables) == 1
+        }
         fixed |= {int(a) for frame in self.stack.frames for item in frame.items if isinstance(item, Zeros) for a in item.variables}
         for a in [*range(self.cases.inputs, self.cases.first_move), *range(self.cases.inputs)]:
             if a in fixed or point[a] < EPSILON:
@@ -233,4 +238,3 @@ class Prover(Lemmas):
             if low is not None and high is not None and high[a] - low[a] <= 2 + EPSILON:
                 return self._cased(Split(((a, 1),), -floor(low[a] - EPSILON) + 1))
         raise GaveUp("no whole numbers were found that meet the facts of a branch, and no split that shows there are none")
-

@@ -39,12 +39,12 @@ class Sets:
 
     def taken(self, point: Array, least: float = EPSILON) -> list[int]:
         """The moves that a point takes, more than `least` times."""
-        out: list[int] = np.nonzero(point[self.cases.first_move:] > least)[0].tolist()
+        out: list[int] = np.nonzero(point[self.cases.first_move :] > least)[0].tolist()
         return out
 
     def crowd(self, point: Array) -> Array:
         """How many agents a point has in each state at the end."""
-        return point[self.cases.inputs:self.cases.first_move]
+        return point[self.cases.inputs : self.cases.first_move]
 
     def started(self, point: Array, least: float = EPSILON) -> set[int]:
         """The states in which a point starts somebody, helpers among them."""

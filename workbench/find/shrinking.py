@@ -10,7 +10,7 @@ from .residues import closes, closing_residue
 from .solver import Solver, Trouble
 from .trees import Grown, Opened, RestSum, Sum, ending, grown
 
-USERS = 8              # a case whose facts more leaves rest on is left alone
+USERS = 8  # a case whose facts more leaves rest on is left alone
 
 
 class _Survey:
@@ -78,7 +78,7 @@ def _round(base: Sequence[Item], root: Grown, solver: Solver, deadline: float) -
         for i in survey.users[g]:
             node, path = survey.leaves[i]
             items = [*base, *(item for k in path if k != g for item in survey.cases[k])]
-            new = None if node in fresh else _closed_anew(node, items, solver)      # one that changed is looked at in the next round
+            new = None if node in fresh else _closed_anew(node, items, solver)  # one that changed is looked at in the next round
             if new is None:
                 trial = {}
                 break

@@ -17,7 +17,7 @@ class _Program:
     def __init__(self, z3: Any, leaf: Leaf, count: int) -> None:
         self.z3, self.leaf, self.count = z3, leaf, count
         self.solver = z3.Solver()
-        self.listed = [{t: z3.Bool(f"e{t}_{i}") for t in leaf.active} for i in range(count)]     # the move is in layer i or before
+        self.listed = [{t: z3.Bool(f"e{t}_{i}") for t in leaf.active} for i in range(count)]  # the move is in layer i or before
         self.weights = [[z3.Real(f"w{q}_{i}") for q in range(len(leaf.states))] for i in range(count)]
 
     def lower(self) -> None:

@@ -14,7 +14,7 @@ from .highs import FOUND, NO_TIME, NONE, Matrix, matrix_of, minimise
 from .items import Array, Case, Cases, Item, Ref, Row, Zeros
 from .trees import Terms
 
-DENOMINATORS = (60, 2_000, 1_000_000)      # the multipliers' greatest ones that are tried
+DENOMINATORS = (60, 2_000, 1_000_000)  # the multipliers' greatest ones that are tried
 TINY = 1e-9
 WHOLE_SECONDS = 4.0
 SAFE = 1 << 62
@@ -42,7 +42,13 @@ class Solver:
         if not rows:
             return self.flow.with_rows(np.zeros(0, dtype=int), np.zeros(0, dtype=int), np.zeros(0), 0, wider)
         at = np.repeat(np.arange(len(rows)), [len(row.variables) for row in rows])
-        return self.flow.with_rows(at, np.concatenate([row.variables for row in rows]), np.concatenate([row.numbers for row in rows]).astype(float), len(rows), wider)
+        return self.flow.with_rows(
+            at,
+            np.concatenate([row.variables for row in rows]),
+            np.concatenate([row.numbers for row in rows]).astype(float),
+            len(rows),
+            wider,
+        )
 
     def point(self, line: Sequence[Frame], cost: Array | None = None, eager: Array | None = None) -> Array | None:
         """A point that meets all facts but congruences, or None. Where it is possible, one that takes many of the `eager` moves once."""
@@ -80,15 +86,25 @@ class Solver:
         rows = [row for frame in line[1:] for row in frame.rows] + [row for row in line[0].rows if row.kind == AT_LEAST]
         mods = [row for frame in line for row in frame.mods]
         n = self.cases.variables
-        made = [Row(row.kind, np.append(row.variables, n + i), np.append(row.numbers, -row.modulus), row.constant) for i, row in enumerate(mods)]
+        made = [
+            Row(row.kind, np.append(row.variables, n + i), np.append(row.numbers, -row.modulus), row.constant) for i, row in enumerate(mods)
+        ]
         low = [-row.constant for row in rows] + [-row.constant if row.kind == DIVIDES else 1 - row.constant for row in mods]
         high = [-row.constant if row.kind == EQUAL else np.inf for row in rows]
         high += [-row.constant if row.kind == DIVIDES else row.modulus - 1 - row.constant for row in mods]
         matrix = self._extended([*rows, *made], len(mods))
         free = np.full(len(mods), np.inf)
         self.calls += 1
-        got = minimise(np.concatenate([self.cost, np.zeros(len(mods))]), matrix, np.concatenate([self.flow_at, low]), np.concatenate([self.flow_at, high]),
-                       np.concatenate([top.least, -free]), np.concatenate([np.maximum(top.most, top.least), free]), whole=True, seconds=seconds)
+        got = minimise(
+            np.concatenate([self.cost, np.zeros(len(mods))]),
+            matrix,
+            np.concatenate([self.flow_at, low]),
+            np.concatenate([self.flow_at, high]),
+            np.concatenate([top.least, -free]),
+            np.concatenate([np.maximum(top.most, top.least), free]),
+            whole=True,
+            seconds=seconds,
+        )
         if got.status != FOUND:
             if got.status not in (NONE, NO_TIME):
                 raise Trouble(f"the solver gave up: {got.message}")
@@ -104,7 +120,12 @@ class Solver:
         They are the duals of: how far can the facts be met, scaled by a factor, where each may fail by its price?
         """
         for item in items:
-            if isinstance(item, Row) and not len(item.variables) and item.kind in (AT_LEAST, EQUAL) and (item.constant < 0 or (item.kind == EQUAL and item.constant)):
+            if (
+                isinstance(item, Row)
+                and not len(item.variables)
+                and item.kind in (AT_LEAST, EQUAL)
+                and (item.constant < 0 or (item.kind == EQUAL and item.constant))
+            ):
                 return [((item, 0), -1 if item.constant > 0 else 1)]
         rows = [item for item in items if isinstance(item, Row) and item.kind in (AT_LEAST, EQUAL) and len(item.variables)]
         zeros = [item for item in items if isinstance(item, Zeros)]

@@ -15,10 +15,12 @@ from .shrinking import shrunk
 from .solver import Trouble
 from .trees import Grown, written
 
-AHEADS = (6, 1, 20)    # candidates for `present` that are looked at, one search after the other
+AHEADS = (6, 1, 20)  # candidates for `present` that are looked at, one search after the other
 
 
-def _searched(cases: Cases, tree: Predicate, value: bool, nodes: Sequence[DraftNode], deadline: float, ahead: int, exact: bool) -> tuple[Prover, Grown]:
+def _searched(
+    cases: Cases, tree: Predicate, value: bool, nodes: Sequence[DraftNode], deadline: float, ahead: int, exact: bool
+) -> tuple[Prover, Grown]:
     """One search; in exact numbers where floats won't do."""
     made = Prover(cases, tree, value, deadline, ahead, exact)
     try:

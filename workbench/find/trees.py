@@ -13,18 +13,21 @@ Terms = list[tuple[Ref, int]]
 @dataclass
 class Opened:
     """`open` at a fact that has no number yet."""
+
     item: Item
 
 
 @dataclass
 class Sum:
     """`lin` over facts that have no numbers yet."""
+
     terms: Terms
 
 
 @dataclass
 class RestSum:
     """`residue` over facts that have no numbers yet, and the fact that denies the sum where one does."""
+
     modulus: int
     terms: Terms
     denied: Item | None = None
@@ -36,6 +39,7 @@ Kind = Union[Node, Opened, Sum, RestSum]
 @dataclass(eq=False)
 class Grown:
     """A node with the trees of its cases. `used` are the facts from outside on which it rests."""
+
     kind: Kind
     cases: list[tuple[Case, "Grown"]] = field(default_factory=list)
     used: frozenset[Item] = frozenset()

@@ -110,7 +110,17 @@ def change_node(value: Value, rng: random.Random) -> None:
 def insert_node(value: Value, rng: random.Random) -> None:
     """A node more stands somewhere."""
     nodes = _nodes(value, rng)
-    made: list[Any] = rng.choice([["twin", rng.randrange(4)], ["present", rng.randrange(5)], ["lin", []], ["open", rng.randrange(9)], ["split", [[rng.randrange(5), 1]], -1], ["trap", [rng.randrange(4)]], ["siphon", [rng.randrange(4)]]])
+    made: list[Any] = rng.choice(
+        [
+            ["twin", rng.randrange(4)],
+            ["present", rng.randrange(5)],
+            ["lin", []],
+            ["open", rng.randrange(9)],
+            ["split", [[rng.randrange(5), 1]], -1],
+            ["trap", [rng.randrange(4)]],
+            ["siphon", [rng.randrange(4)]],
+        ]
+    )
     nodes.insert(rng.randrange(len(nodes) + 1), made)
 
 
@@ -135,7 +145,19 @@ def change_predicate(value: Value, rng: random.Random) -> None:
         value["pred"] = made
 
 
-ALL: list[Change] = [drop_move, change_move, change_weight, change_layers, change_term, change_term, change_node, change_node, insert_node, change_net, change_predicate]
+ALL: list[Change] = [
+    drop_move,
+    change_move,
+    change_weight,
+    change_layers,
+    change_term,
+    change_term,
+    change_node,
+    change_node,
+    insert_node,
+    change_net,
+    change_predicate,
+]
 
 
 def changed(value: Value, seed: int) -> Value:

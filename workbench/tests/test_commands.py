@@ -66,7 +66,11 @@ def test_bin_pop_knows_every_command() -> None:
 
 @needs_program
 def test_explain_shows_the_program_s_line_first_and_ends_with_its_status() -> None:
-    for path, line, status in [("majority/bundle.json", "certified 2", 0), ("majority/majority.pop", "certified 2", 0), ("rejected/wrong-trap.json", "rejected leaf 0 false 5 not-closed", 3)]:
+    for path, line, status in [
+        ("majority/bundle.json", "certified 2", 0),
+        ("majority/majority.pop", "certified 2", 0),
+        ("rejected/wrong-trap.json", "rejected leaf 0 false 5 not-closed", 3),
+    ]:
         run = pop("explain", str(EXAMPLES / path))
         assert run.stdout.startswith(f"# {line}\n") and run.returncode == status
     net = (EXAMPLES / "majority" / "net.json").read_text()

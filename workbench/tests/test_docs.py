@@ -67,6 +67,7 @@ def test_the_order_of_moves_is_not_seen_and_the_mended_flock_is_found() -> None:
 
 def test_the_limits_of_the_documents() -> None:
     from workbench.find import branch, least
+
     assert f"numbers above {branch.FLOATS:,}" in WORKBENCH
     assert f"at most {least.MOST_MOVES} moves" in WORKBENCH
 
@@ -75,9 +76,15 @@ def test_a_missing_package_is_asked_for_by_name(tmp_path: "object") -> None:
     import os
     import subprocess
     from pathlib import Path
+
     assert isinstance(tmp_path, Path)
     (tmp_path / "scipy").mkdir()
     (tmp_path / "scipy" / "__init__.py").write_text("raise ImportError\n")
-    run = subprocess.run([str(TOP / "bin" / "pop"), "find", str(EXAMPLES / "majority" / "majority.pop")], capture_output=True, text=True,
-                         env={**os.environ, "PYTHONPATH": str(tmp_path)}, check=False)
+    run = subprocess.run(
+        [str(TOP / "bin" / "pop"), "find", str(EXAMPLES / "majority" / "majority.pop")],
+        capture_output=True,
+        text=True,
+        env={**os.environ, "PYTHONPATH": str(tmp_path)},
+        check=False,
+    )
     assert run.returncode == program.REFUSED and "apt-get install python3-scipy" in run.stderr

@@ -33,7 +33,9 @@ def test_own_reading_of_the_examples(path: Path) -> None:
 
 def values() -> list[dict[str, Any]]:
     """Bundles to be changed."""
-    return [bundle_at(path).value() for path in example_paths() if path.parent.name != "rejected"] + [compiled(text).value() for text in COMPILED]
+    return [bundle_at(path).value() for path in example_paths() if path.parent.name != "rejected"] + [
+        compiled(text).value() for text in COMPILED
+    ]
 
 
 @needs_program
@@ -72,33 +74,47 @@ def told_of(bundle: Bundle) -> str:
     return drawn(explain(load(bundle.line(), "x"), bundle, verdict(bundle)))
 
 
-@pytest.mark.parametrize("name, sentences", [
-    ("wrong-trap", ["`[A + b -> A + a]` is still positive: [A + b -> A + a] - 1"]),
-    ("node-bad-index", ["there is no fact", "this branch has the facts 0 to"]),
-    ("node-no-twin", ["takes I twice"]),
-    ("node-not-open", ["doesn't say what value a predicate has; these do: predicate"]),
-    ("node-missing", ["the nodes end here, and this case has none"]),
-    ("node-rest", ["the tree has too many"]),
-    ("node-not-closed", ["still positive"]),
-    ("layers-not-lower", ["before it", "after it"]),
-    ("layers-no-layer", ["is in no layer"]),
-    ("layers-shape", ["layer 0"]),
-    ("layers-wakes", ["`N0 + N0 -> N0 + f`", "possible anew", "before it the agents N0, N0, N1 stand there", "after it there are N0, f, N1, and `N1 + f -> N1 + t` is possible"]),
-    ("predicate", ["the leaves' predicates combine to", "another tree"]),
-])
+@pytest.mark.parametrize(
+    "name, sentences",
+    [
+        ("wrong-trap", ["`[A + b -> A + a]` is still positive: [A + b -> A + a] - 1"]),
+        ("node-bad-index", ["there is no fact", "this branch has the facts 0 to"]),
+        ("node-no-twin", ["takes I twice"]),
+        ("node-not-open", ["doesn't say what value a predicate has; these do: predicate"]),
+        ("node-missing", ["the nodes end here, and this case has none"]),
+        ("node-rest", ["the tree has too many"]),
+        ("node-not-closed", ["still positive"]),
+        ("layers-not-lower", ["before it", "after it"]),
+        ("layers-no-layer", ["is in no layer"]),
+        ("layers-shape", ["layer 0"]),
+        (
+            "layers-wakes",
+            [
+                "`N0 + N0 -> N0 + f`",
+                "possible anew",
+                "before it the agents N0, N0, N1 stand there",
+                "after it there are N0, f, N1, and `N1 + f -> N1 + t` is possible",
+            ],
+        ),
+        ("predicate", ["the leaves' predicates combine to", "another tree"]),
+    ],
+)
 def test_what_is_missing_is_said(name: str, sentences: list[str]) -> None:
     text = told_of(bundle_at(EXAMPLES / "rejected" / f"{name}.json"))
     for sentence in sentences:
         assert sentence in text
 
 
-@pytest.mark.parametrize("name, move, tells", [
-    ("epidemic", "S + I -> I + I", "case"),
-    ("majority", "b + a -> b + b", "no fact `absent(b)` here"),
-    ("flock", "1 + 2 -> 3 + 3", "`1 + 2 -> 3 + 3`"),
-    ("remainder", "N1 + f -> N1 + t", "no fact `absent(f)` here"),
-    ("threshold", "L1 + t0 -> L1 + f0", "no fact `absent(t0)` here"),
-])
+@pytest.mark.parametrize(
+    "name, move, tells",
+    [
+        ("epidemic", "S + I -> I + I", "case"),
+        ("majority", "b + a -> b + b", "no fact `absent(b)` here"),
+        ("flock", "1 + 2 -> 3 + 3", "`1 + 2 -> 3 + 3`"),
+        ("remainder", "N1 + f -> N1 + t", "no fact `absent(f)` here"),
+        ("threshold", "L1 + t0 -> L1 + f0", "no fact `absent(t0)` here"),
+    ],
+)
 def test_a_dropped_move_is_told(name: str, move: str, tells: str) -> None:
     """The recipes of docs/CERTIFICATES.md, each with a move dropped from its net: what is wrong is said where it is."""
     text = (EXAMPLES / name / f"{name}.pop").read_text()

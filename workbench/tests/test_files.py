@@ -50,14 +50,17 @@ def test_damaged_bundles_are_refused_with_the_program_s_words() -> None:
             assert not line.startswith("fault"), seed
 
 
-@pytest.mark.parametrize("text, told", [
-    ("{\n \"net\": 3,\n}", "f:3:1: this is no JSON"),
-    ("{}", "fault: format /format kind"),
-    ('{"net":{}}', "fault: format /format kind"),
-    ('{"net":{},"proof":[]}', "fault: format /net/format kind"),
-    ((EXAMPLES / "majority" / "net.json").read_text() + "x < y\n", "fault: pred syntax 4"),
-    ((EXAMPLES / "and" / "net.json").read_text() + "x < 1 || y < 1\n", "the combination and the predicate differ in shape"),
-])
+@pytest.mark.parametrize(
+    "text, told",
+    [
+        ('{\n "net": 3,\n}', "f:3:1: this is no JSON"),
+        ("{}", "fault: format /format kind"),
+        ('{"net":{}}', "fault: format /format kind"),
+        ('{"net":{},"proof":[]}', "fault: format /net/format kind"),
+        ((EXAMPLES / "majority" / "net.json").read_text() + "x < y\n", "fault: pred syntax 4"),
+        ((EXAMPLES / "and" / "net.json").read_text() + "x < 1 || y < 1\n", "the combination and the predicate differ in shape"),
+    ],
+)
 def test_refused(text: str, told: str) -> None:
     with pytest.raises(InputFault) as caught:
         load(text, "f")
@@ -75,15 +78,28 @@ def test_a_net_with_a_predicate_behind_it() -> None:
 @st.composite
 def nets(draw: Any) -> Net:
     """Nets of one or two leaves over two variables."""
-    names = st.text(st.sampled_from("AaBb01-+>#\"\\*(.:"), min_size=1, max_size=4)
+    names = st.text(st.sampled_from('AaBb01-+>#"\\*(.:'), min_size=1, max_size=4)
     leaves = []
     helpers = draw(st.integers(0, 2))
     for _ in range(draw(st.integers(1, 2))):
         states = draw(st.lists(names, min_size=1, max_size=5, unique=True))
         number = st.integers(0, len(states) - 1)
         moves = draw(st.lists(st.tuples(number, number, number, number), max_size=6))
-        leaves.append(Leaf(tuple(states), tuple(moves), (draw(number), draw(number)), tuple(draw(st.booleans()) for _ in states), tuple(draw(number) for _ in range(helpers))))
-    return Net(("x", "y"), tuple(leaves), (0,) if len(leaves) == 1 else (0, 1, draw(st.sampled_from(["and", "or"]))), 2 if helpers else draw(st.sampled_from([1, 2])))
+        leaves.append(
+            Leaf(
+                tuple(states),
+                tuple(moves),
+                (draw(number), draw(number)),
+                tuple(draw(st.booleans()) for _ in states),
+                tuple(draw(number) for _ in range(helpers)),
+            )
+        )
+    return Net(
+        ("x", "y"),
+        tuple(leaves),
+        (0,) if len(leaves) == 1 else (0, 1, draw(st.sampled_from(["and", "or"]))),
+        2 if helpers else draw(st.sampled_from([1, 2])),
+    )
 
 
 @st.composite
@@ -94,8 +110,16 @@ def bundles(draw: Any) -> Bundle:
     terms = st.lists(st.tuples(number, size), max_size=4).map(lambda t: tuple(t))
     states = st.lists(st.integers(0, 5), max_size=4, unique=True).map(lambda s: tuple(sorted(s)))
     rows = st.lists(st.tuples(st.integers(0, 9), size), max_size=3, unique_by=lambda t: t[0]).map(lambda t: tuple(sorted(t)))
-    node = st.one_of(st.builds(Linear, terms), st.builds(Residue, st.integers(2, 5), terms), st.builds(Split, rows, size), st.builds(Present, st.integers(0, 5)),
-                     st.builds(Twin, st.integers(0, 5)), st.builds(Trap, states), st.builds(Siphon, states), st.builds(Open, number))
+    node = st.one_of(
+        st.builds(Linear, terms),
+        st.builds(Residue, st.integers(2, 5), terms),
+        st.builds(Split, rows, size),
+        st.builds(Present, st.integers(0, 5)),
+        st.builds(Twin, st.integers(0, 5)),
+        st.builds(Trap, states),
+        st.builds(Siphon, states),
+        st.builds(Open, number),
+    )
     tree = st.lists(node, max_size=6).map(lambda t: tuple(t))
     parts = []
     for leaf in net.leaves:

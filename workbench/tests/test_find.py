@@ -22,6 +22,7 @@ from .test_files import nets
 pytest.importorskip("scipy")
 
 from workbench.benchmark import mutants as changed_nets  # noqa: E402
+from workbench.benchmark import own_protocols as own  # noqa: E402
 from workbench.benchmark import protocols as p  # noqa: E402
 from workbench.benchmark.families import small_nets  # noqa: E402
 from workbench.benchmark.making import Case  # noqa: E402
@@ -45,11 +46,21 @@ def test_cases_are_those_of_the_facts(net: Net) -> None:
     leaf = net.leaves[0]
     cases, space = Cases(leaf), Space(leaf)
     count = len(leaf.states)
-    nodes: list[Node] = [Present(count - 1), Twin(0), Trap((0,)), Siphon((0,)), Trap(tuple(range(count))), Siphon(tuple(range(0, count, 2))), Split(((0, 1), (1, -2)), 3)]
+    nodes: list[Node] = [
+        Present(count - 1),
+        Twin(0),
+        Trap((0,)),
+        Siphon((0,)),
+        Trap(tuple(range(count))),
+        Siphon(tuple(range(0, count, 2))),
+        Split(((0, 1), (1, -2)), 3),
+    ]
     for node in nodes:
         made = [[fact_of(item, at) for item in case for at in range(len(item))] for case in cases.of(node)]
         wanted = space.cases(node)
-        assert [[(f.kind, f.terms, f.constant) for f in case] for case in made] == [[(f.kind, f.terms, f.constant) for f in case] for case in wanted]
+        assert [[(f.kind, f.terms, f.constant) for f in case] for case in made] == [
+            [(f.kind, f.terms, f.constant) for f in case] for case in wanted
+        ]
 
 
 @settings(deadline=None, max_examples=60)
@@ -71,8 +82,26 @@ def good(outcome: Outcome) -> Bundle:
     return outcome.bundle
 
 
-SAMPLE = [p.epidemic(), p.majority(True), p.flock(7), p.flock(5, rest=True), p.tower(6), p.log_flock(6), p.binary_flock(21), p.threshold((1, -1), 0), p.remainder(5, 1), p.average(5),
-          p.counter(3), p.helper_rest(3), p.head_start(2), p.interval(2, 3), p.mod_three(), p.twice(), p.same(False), p.alarm(3)]
+SAMPLE = [
+    p.epidemic(),
+    p.majority(True),
+    p.flock(7),
+    p.flock(5, rest=True),
+    p.tower(6),
+    p.log_flock(6),
+    p.binary_flock(21),
+    p.threshold((1, -1), 0),
+    p.remainder(5, 1),
+    p.average(5),
+    own.counter(3),
+    own.helper_rest(3),
+    own.head_start(2),
+    own.interval(2, 3),
+    own.mod_three(),
+    own.twice(),
+    own.same(False),
+    own.alarm(3),
+]
 
 
 @pytest.mark.parametrize("case", SAMPLE, ids=lambda case: f"{case.family}: {case.name}")
@@ -117,12 +146,21 @@ def test_great_numbers_are_exact() -> None:
 PARTS = (EXAMPLES / "majority" / "majority.pop").read_text()
 
 
-@pytest.mark.parametrize("old, new", [
-    ("lin -flow(A) + flow(B) + value - absent(A)", "lin ?"),
-    ("layer     A: 1  B: 1  b: 1", "layer     ?"),
-    ("      here: trap {A, b}\n        leaves: lin leaves{A, b}\n        never: lin flow(a) + here(a) - never[A + B -> a + b] - never[A + b -> A + a]\n        some: lin -absent(A) - absent(b) + some{A, b}\n", "      here: ?\n"),
-    ("when true\n  open predicate\n  present A\n    absent: lin -flow(A) + flow(B) + value - absent(A)\n    here: lin wrong - absent(B) - absent(b)\n", "when true ?\n"),
-])
+@pytest.mark.parametrize(
+    "old, new",
+    [
+        ("lin -flow(A) + flow(B) + value - absent(A)", "lin ?"),
+        ("layer     A: 1  B: 1  b: 1", "layer     ?"),
+        (
+            "      here: trap {A, b}\n        leaves: lin leaves{A, b}\n        never: lin flow(a) + here(a) - never[A + B -> a + b] - never[A + b -> A + a]\n        some: lin -absent(A) - absent(b) + some{A, b}\n",
+            "      here: ?\n",
+        ),
+        (
+            "when true\n  open predicate\n  present A\n    absent: lin -flow(A) + flow(B) + value - absent(A)\n    here: lin wrong - absent(B) - absent(b)\n",
+            "when true ?\n",
+        ),
+    ],
+)
 def test_what_is_written_is_kept(old: str, new: str) -> None:
     assert old in PARTS
     loaded = load(PARTS.replace(old, new), "x")
@@ -152,14 +190,18 @@ WRONG = "inputs x: A  y: B\nA + B -> a + b\nA + b -> A + a\nB + a -> B + b\na + 
 ENDLESS = "inputs x: A y: B\nA + B -> B + C\nB + C -> A + B\nyes A B C\ncomputes x + y >= 0\n"
 HIDDEN = "inputs x: A y: B\nA + B -> A + A\nA + B -> B + B\nyes A\ncomputes x >= 1\n"
 ORDER = "inputs x: 1  y: 0\n1 + 1 -> 2 + 0\n2 + 2 -> 4 + 0\n4 + 0 -> 4 + 2\n4 + 1 -> 4 + 4\n4 + 2 -> 4 + 4\nyes 4\ncomputes x >= 4\n"
-UNMERGED = "inputs x: x\nhelpers H0\nH0 + x -> H1 + f\nH1 + x -> H0 + f\nH0 + f -> H0 + t\nH1 + t -> H1 + f\nyes H0 t\ncomputes x = 0 mod 2\n"
+UNMERGED = (
+    "inputs x: x\nhelpers H0\nH0 + x -> H1 + f\nH1 + x -> H0 + f\nH0 + f -> H0 + t\nH1 + t -> H1 + f\nyes H0 t\ncomputes x = 0 mod 2\n"
+)
 
 
 @needs_program
 def test_a_counterexample_is_played(tmp_path: Path) -> None:
     run = pop("find", "--write", str(tmp_path / "play.txt"), text=WRONG)
     assert run.returncode == program.REJECTED
-    assert run.stdout.startswith("the protocol is wrong: at x=1 y=1 the predicate `y - x < 0` is false, and 2 moves lead to a terminal crowd in which a outputs true\n")
+    assert run.stdout.startswith(
+        "the protocol is wrong: at x=1 y=1 the predicate `y - x < 0` is false, and 2 moves lead to a terminal crowd in which a outputs true\n"
+    )
     assert run.stdout.endswith("printed:\na 2\nterminal\nwrong: a\n")
     assert program.ask(["play"], (tmp_path / "play.txt").read_text()).text == "a 2\nterminal\n"
     assert pop("refute", text=WRONG).stdout == run.stdout
@@ -197,7 +239,10 @@ def test_find_through_bin_pop() -> None:
     run = pop("find", str(EXAMPLES / "and/net.json"), "x >= 3 && x + 2*y = 1 mod 3")
     assert run.returncode == 0 and program.check(run.stdout.strip()).status == 0
     assert run.stderr.startswith("certified 5\nleaf 0: 1 layer, bound 2")
-    assert pop("refute", str(EXAMPLES / "majority/majority.pop"), "--agents", "5").stdout == "no flaw: all inputs of up to 5 agents beside helpers were tried\n"
+    assert (
+        pop("refute", str(EXAMPLES / "majority/majority.pop"), "--agents", "5").stdout
+        == "no flaw: all inputs of up to 5 agents beside helpers were tried\n"
+    )
     assert pop("find", "--odd").returncode == program.USAGE
 
 

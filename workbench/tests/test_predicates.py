@@ -10,17 +10,35 @@ from hypothesis import strategies as st
 from workbench import program
 from workbench.nets import Net, Leaf
 from workbench.predicates import And, Less, Not, Or, Predicate, PredicateFault, Rest, canonical_text, read_predicate, value_at
-from workbench.proofs import combined_predicate, leaf_predicates
+from workbench.combining import combined_predicate, leaf_predicates
 
 from .conftest import CHANGES, needs_program
 
 NAMES = ("x", "y")
 
 FAULTS = [
-    ("", "syntax 0"), ("x", "syntax 1"), ("x <", "syntax 3"), ("x < y", "syntax 4"), ("z < 1", "unknown 0"), ("x + z < 1", "unknown 4"),
-    ("2147483649*x < 1", "large 0"), ("x < 1099511627777", "large 4"), ("x <= 1099511627776", "large 5"), ("x = 1 mod 1", "large 10"), ("x = 1 mod 201", "large 10"),
-    ("x < 1 mod 3", "syntax 6"), ("x ? 1", "syntax 2"), ("(x < 1", "syntax 6"), ("x < 1)", "syntax 5"), ("!" * 65 + "x < 1", "deep 64"), ("(" * 65 + "x < 1" + ")" * 65, "deep 64"),
-    ("x < 1 &&", "syntax 8"), ("x < - - 1", "syntax 6"), ("3 < x", "syntax 2"), ("mod < 1", "syntax 0"), ("x =! 3", "syntax 3"),
+    ("", "syntax 0"),
+    ("x", "syntax 1"),
+    ("x <", "syntax 3"),
+    ("x < y", "syntax 4"),
+    ("z < 1", "unknown 0"),
+    ("x + z < 1", "unknown 4"),
+    ("2147483649*x < 1", "large 0"),
+    ("x < 1099511627777", "large 4"),
+    ("x <= 1099511627776", "large 5"),
+    ("x = 1 mod 1", "large 10"),
+    ("x = 1 mod 201", "large 10"),
+    ("x < 1 mod 3", "syntax 6"),
+    ("x ? 1", "syntax 2"),
+    ("(x < 1", "syntax 6"),
+    ("x < 1)", "syntax 5"),
+    ("!" * 65 + "x < 1", "deep 64"),
+    ("(" * 65 + "x < 1" + ")" * 65, "deep 64"),
+    ("x < 1 &&", "syntax 8"),
+    ("x < - - 1", "syntax 6"),
+    ("3 < x", "syntax 2"),
+    ("mod < 1", "syntax 0"),
+    ("x =! 3", "syntax 3"),
 ]
 
 
@@ -68,7 +86,11 @@ def trees() -> "st.SearchStrategy[Predicate]":
     sums = st.tuples(st.integers(-9, 9), st.integers(-9, 9))
     less = st.builds(Less, sums, st.integers(-99, 99))
     rest = st.integers(2, 9).flatmap(lambda m: st.builds(Rest, sums, st.just(m), st.integers(0, m - 1)))
-    return st.recursive(st.one_of(less, rest), lambda part: st.one_of(st.builds(Not, part), st.builds(And, part, part), st.builds(Or, part, part)), max_leaves=8)
+    return st.recursive(
+        st.one_of(less, rest),
+        lambda part: st.one_of(st.builds(Not, part), st.builds(And, part, part), st.builds(Or, part, part)),
+        max_leaves=8,
+    )
 
 
 @settings(deadline=None)

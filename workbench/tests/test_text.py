@@ -93,10 +93,22 @@ FAULTS = [
     (MAJORITY.replace("present A", "presents A", 1), "21:3: expected a node"),
     (MAJORITY.replace("present A", "present C", 1), "21:11: `C` is no state of this leaf"),
     (MAJORITY.replace("open predicate", "open predikate", 1), "20:8: no fact `predikate` here; there are `predicate`"),
-    (MAJORITY.replace("lin wrong - absent(B)", "lin wrong - absent(A)", 1), "23:23: no fact `absent(A)` here: no state that is known to be there in this branch reacts with it"),
-    (MAJORITY.replace("    absent: lin -flow(A)", "    there: lin -flow(A)", 1), "22:5: expected `absent:`, the next case of `present A` on line 21"),
-    (MAJORITY.replace("    here: lin wrong", "  here: lin wrong", 1), "23:3: expected the case `here` of `present A` on line 21, deeper than it"),
-    (MAJORITY.replace("    here: lin wrong - absent(B) - absent(b)\n", "", 1), "19:1: the case `here` of `present A` on line 21 has no node"),
+    (
+        MAJORITY.replace("lin wrong - absent(B)", "lin wrong - absent(A)", 1),
+        "23:23: no fact `absent(A)` here: no state that is known to be there in this branch reacts with it",
+    ),
+    (
+        MAJORITY.replace("    absent: lin -flow(A)", "    there: lin -flow(A)", 1),
+        "22:5: expected `absent:`, the next case of `present A` on line 21",
+    ),
+    (
+        MAJORITY.replace("    here: lin wrong", "  here: lin wrong", 1),
+        "23:3: expected the case `here` of `present A` on line 21, deeper than it",
+    ),
+    (
+        MAJORITY.replace("    here: lin wrong - absent(B) - absent(b)\n", "", 1),
+        "19:1: the case `here` of `present A` on line 21 has no node",
+    ),
     (MAJORITY.replace("lin wrong - absent(B)", "lin wrong + 3 - absent(B)", 1), "23:11: a sum of facts has no number alone"),
     (MAJORITY.replace("trap {A, b}", "trap A, b", 1), "30:18: expected `{` and states, found `A`"),
     (MAJORITY.replace("trap {A, b}", "trap {A, b", 1), "30:23: expected `,` or `}`, and the line ends here"),
@@ -157,7 +169,18 @@ def test_names_that_are_not_plain_are_quoted() -> None:
     assert load(text_of(net), "f").net == net
 
 
-@pytest.mark.parametrize("combine", [(0,), (0, "not"), (0, 1, "and", 2, "or"), (0, 1, 2, "or", "and"), (0, 1, "or", "not", 2, "and"), (0, 1, 2, "and", "and"), (0, "not", "not")])
+@pytest.mark.parametrize(
+    "combine",
+    [
+        (0,),
+        (0, "not"),
+        (0, 1, "and", 2, "or"),
+        (0, 1, 2, "or", "and"),
+        (0, 1, "or", "not", 2, "and"),
+        (0, 1, 2, "and", "and"),
+        (0, "not", "not"),
+    ],
+)
 def test_combinations_are_read_back(combine: tuple[int | str, ...]) -> None:
     leaf = Leaf(("A",), (), (0,), (True,))
     net = Net(("x",), (leaf,) * 3, combine)
