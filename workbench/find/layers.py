@@ -13,7 +13,7 @@ from .highs import FOUND, Array, matrix_of, minimise
 from .waking import Moves, Waking
 
 TRIES = 8  # shuffled orders of choices
-TRY_SECONDS = 3.0
+TRY_SECONDS = 1.5
 WHOLE_SECONDS = 10.0
 HOPELESS = 50  # closures without weights that are remembered
 SAMPLE = 400  # closures that are sorted by size before the others are made
