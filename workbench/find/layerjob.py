@@ -32,7 +32,8 @@ def find_layers(leaf: Leaf, deadline: float) -> list[Layer]:
     finder = LayerFinder(leaf, deadline)
     groups = finder.peeled()
     if groups is not None and len(leaf.active) <= MOST_MOVES:
-        groups = least_groups(finder, min(deadline, time.time() + LEAST_SECONDS)) or groups
+        known = sum(layer.spread for layer in finder.layers_of(groups) or [])
+        groups = least_groups(finder, min(deadline, time.time() + LEAST_SECONDS), known) or groups
     excluded = 0
     if groups is None and len(leaf.active) <= SMT_MOVES:
         for count in range(1, MOST_LAYERS + 1):

@@ -3,12 +3,14 @@ from __future__ import annotations
 
 import heapq
 import time
+from math import ceil
 from typing import Iterator
 
 from .layers import LayerFinder
 from .waking import Moves
 
 MOST_MOVES = 12
+ROUNDING = 1e-6
 
 
 def _subsets(moves: list[int]) -> Iterator[frozenset[int]]:
@@ -23,6 +25,11 @@ class _Spans:
         self.finder = finder
         self.known: dict[Moves, int | None] = {}
 
+    def at_least(self, moves: Moves) -> int | None:
+        """What it costs at least, as fractions tell."""
+        found = self.finder.weights(moves)
+        return ceil(found[0] - ROUNDING) if found else None
+
     def of(self, moves: Moves) -> int | None:
         """The least greatest weight."""
         if moves not in self.known:
@@ -31,8 +38,8 @@ class _Spans:
         return self.known[moves]
 
 
-def least_groups(finder: LayerFinder, deadline: float) -> list[Moves] | None:
-    """Groups with the least bound; None where there are none, or the time is up."""
+def least_groups(finder: LayerFinder, deadline: float, below: int = 1 << 60) -> list[Moves] | None:
+    """Groups with the least bound; None where none is below a known one, or the time is up."""
     every = frozenset(finder.leaf.active)
     spans = _Spans(finder)
     best: dict[Moves, int] = {frozenset(): 0}
@@ -48,9 +55,13 @@ def least_groups(finder: LayerFinder, deadline: float) -> list[Moves] | None:
         if time.time() > deadline:
             return None
         for group in _subsets(sorted(every - done)):
-            span = spans.of(group)
             more = done | group
-            if span is None or cost + span >= best.get(more, 1 << 60) or not finder.waking.wakes_none(done, group):
+            limit = min(best.get(more, below), below)
+            least = spans.at_least(group)
+            if least is None or cost + least >= limit or not finder.waking.wakes_none(done, group):
+                continue
+            span = spans.of(group)
+            if span is None or cost + span >= limit:
                 continue
             best[more], came[more] = cost + span, done
             count += 1
