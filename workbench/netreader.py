@@ -2,6 +2,7 @@
 from __future__ import annotations
 
 from dataclasses import dataclass
+from functools import cached_property
 from typing import Any
 
 from .nets import FormatFault, Item, Leaf, Move, Net, is_silent, is_state_name, is_variable_name, net_of, pair
@@ -17,6 +18,22 @@ class MadeLeaf:
     leaf: Leaf
     places: list[Place]
     numbers: dict[str, int]
+
+    @cached_property
+    def listed(self) -> dict[Move, list[int]]:
+        """The numbers of each move."""
+        out: dict[Move, list[int]] = {}
+        for t, move in enumerate(self.leaf.moves):
+            out.setdefault(move, []).append(t)
+        return out
+
+    @cached_property
+    def alike(self) -> dict[tuple[tuple[int, int], tuple[int, int]], list[int]]:
+        """The numbers of each move, whichever state comes first on either side."""
+        out: dict[tuple[tuple[int, int], tuple[int, int]], list[int]] = {}
+        for t, (p, q, r, s) in enumerate(self.leaf.moves):
+            out.setdefault((pair(p, q), pair(r, s)), []).append(t)
+        return out
 
 
 def state_order(text: LeafText) -> dict[str, int]:
@@ -219,12 +236,5 @@ def move_number(made: MadeLeaf, move: MoveText) -> int | None:
     if None in states:
         return None
     p, q, r, s = (state for state in states if state is not None)
-    same = [t for t, m in enumerate(made.leaf.moves) if m == (p, q, r, s)]
-    alike = [t for t, m in enumerate(made.leaf.moves) if pair(m[0], m[1]) == pair(p, q) and pair(m[2], m[3]) == pair(r, s)]
-    found = same or alike
+    found = made.listed.get((p, q, r, s)) or made.alike.get((pair(p, q), pair(r, s))) or []
     return found[move.again - 1] if 0 < move.again <= len(found) else None
-
-
-def unknown_states(made: MadeLeaf, named: list[Named]) -> list[Named]:
-    """Those that are no states of the leaf."""
-    return [n for n in named if n.name not in made.numbers]
