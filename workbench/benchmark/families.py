@@ -52,13 +52,14 @@ def small_nets() -> Iterator[Case]:
 
 
 def large_nets() -> Iterator[Case]:
-    """Nets of up to 150 states and 5,150 moves."""
+    """Nets of up to 153 states and 6,427 moves."""
     yield p.flock(60)
     yield p.flock(100)
     yield p.tower(100)
     yield compiled("compiled threshold", "x - y < 14")
     yield compiled("compiled threshold", "x - y < 18")
     yield compiled("compiled threshold", "x - y < 23")
+    yield compiled("compiled threshold", "x - y < 24")
     yield compiled("compiled remainder", "x + 2*y = 1 mod 50")
     yield compiled("compiled remainder", "x + 2*y = 1 mod 100")
     yield p.threshold((1, -1), 12)

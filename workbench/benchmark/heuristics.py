@@ -55,7 +55,7 @@ PATCHES: list[tuple[str, list[Patch]]] = [
     ("smaller traps", [(lemmas.Lemmas, "_smaller_trap", lambda self, states, *_: states)]),
     ("points that take many untaken moves at once", [(lemmas.Lemmas, "_untaken", lambda self, moves: None)]),
     ("impatience where lemmas failed before", [(lemmas, "IMPATIENCE", lemmas.PATIENCE)]),
-    ("known points kept for a branch", [(frames, "POOL", 0), (branch, "POOL", 0)]),
+    ("known points kept for a branch", [(frames, "POOL", 1), (branch, "POOL", 1)]),
     ("look-ahead at both cases of `present`", [(treefinder, "AHEADS", (1,))]),
     ("points that show that no residue closes", [(branch, "meets_rests", lambda point, mods: False)]),
     ("layers of a sample of closures first", [(layers, "SAMPLE", 1 << 30)]),
