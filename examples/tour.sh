@@ -1,4 +1,7 @@
 # The command lines of the README's tour, one a line, from the top of the repository. bin/gallery runs them.
+bin/pop bundle < examples/majority/majority.pop | bin/pop check
+bin/pop explain examples/majority/majority.pop | tail -n 3
+bin/pop explain examples/rejected/wrong-trap.json | grep '>>>'
 bin/pop demo 21
 printf 'vars x y\nx - y < 3 || x + y = 1 mod 2\n' | bin/pop compile | bin/pop check
 (printf 'vars x y\nx - y < 3 || x + y = 1 mod 2\n' | bin/pop compile; echo 'crowd x=12 y=7') | bin/pop run | tail -n 1

@@ -1,0 +1,1 @@
+"""Finds proofs and counterexamples. Nothing that it finds is trusted: the proved program checks and plays it."""

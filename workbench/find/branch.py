@@ -1,0 +1,132 @@
+"""What the search asks of a branch: known points, whether a case is closed, and the node that closes it."""
+from __future__ import annotations
+
+import time
+from typing import Sequence
+
+import numpy as np
+
+from ..predicates import And, Less, Not, Or, Predicate, Rest
+from .exact import ExactSolver
+from .frames import POOL, Frame, Stack, all_items, has_rests, meets_rests
+from .items import Array, Case, Cases
+from .residues import closes, closing_residue
+from .sets import Sets
+from .solver import Solver
+from .trees import Grown, RestSum, Sum, ending
+
+FLOATS = 1 << 17  # predicates with greater numbers are left to exact arithmetic
+
+
+class WrongEnd(Exception):
+    """A point in whole numbers that meets all facts, and that no node here excludes."""
+
+    def __init__(self, point: Array) -> None:
+        super().__init__("candidate wrong end")
+        self.point = [round(k) for k in point]
+
+
+class GaveUp(Exception):
+    """Out of time, of depth, or of ideas; the text says which."""
+
+
+OUT_OF_TIME = "out of time"
+
+
+def greatest_number(tree: Predicate) -> int:
+    """The greatest number in a predicate, in size."""
+    if isinstance(tree, Less):
+        return max(abs(k) for k in (*tree.coefficients, tree.bound))
+    if isinstance(tree, Rest):
+        return max(abs(k) for k in (*tree.coefficients, tree.modulus, tree.rest))
+    if isinstance(tree, Not):
+        return greatest_number(tree.part)
+    assert isinstance(tree, (And, Or))
+    return max(greatest_number(tree.left), greatest_number(tree.right))
+
+
+class Branch:
+    """The stack of a search with its solver."""
+
+    def __init__(self, cases: Cases, tree: Predicate, value: bool, deadline: float, exact: bool) -> None:
+        self.cases, self.deadline = cases, deadline
+        self.sets = Sets(cases)
+        self.solver: Solver = ExactSolver(cases) if exact else Solver(cases)
+        self.base = cases.base(tree, value)
+        self.failed = {"siphon": 0, "trap": 0}
+        self.stack = Stack(cases.variables)
+        self.stack.push(self.base)
+
+    def in_time(self) -> None:
+        """GaveUp where the time is up."""
+        if time.time() > self.deadline:
+            raise GaveUp(OUT_OF_TIME)
+
+    def point_of(self, frame: Frame, eager: Array | None = None) -> Array | None:
+        """A point of the branch up to a frame: a known one, or by a linear program."""
+        if not frame.pool:
+            self.in_time()
+            point = self.solver.point(self.stack.line(frame), eager=eager)
+            if point is None:
+                return None
+            frame.pool.append(point)
+            if frame is self.stack.top:
+                for below in self.stack.frames[:-1]:
+                    below.pool = below.pool[-POOL:] + [point]
+        return frame.pool[-1]
+
+    def side_point(self, items: Case, eager: Array | None = None) -> Array | None:
+        """A point of the branch that meets a case's facts too; it becomes one of the branch's known points."""
+        frame = self.stack.beside(len(self.stack.frames) - 1, items)
+        known = bool(frame.pool)
+        point = self.point_of(frame, eager)
+        if point is not None and not known:
+            pool = self.stack.top.pool
+            pool.insert(max(len(pool) - 1, 0), point)
+            del pool[: -2 * POOL]
+        return point
+
+    def is_empty(self, level: int, items: Case) -> bool:
+        """Whether the facts of a level and of a case exclude each other as linear facts."""
+        return self.point_of(self.stack.beside(level, items)) is None
+
+    def residue(self, frame: Frame) -> RestSum | None:
+        """A `residue` that closes the branch up to a frame."""
+        line = self.stack.line(frame)
+        if not has_rests(line):
+            return None
+        mods = [row for one in line for row in one.mods]
+        if any(meets_rests(point, mods) for point in frame.pool):
+            return None
+        items = all_items(line)
+        for m in sorted({row.modulus for row in mods}):
+            found = closing_residue(items, m, self.cases.variables)
+            if found is not None and closes(found, self.cases.variables):
+                return found
+        return None
+
+    def shut(self, items: Case) -> RestSum | bool:
+        """Whether a case of the branch closes at once; a residue itself, as it is known then."""
+        frame = self.stack.beside(len(self.stack.frames) - 1, items)
+        if self.point_of(frame) is None:
+            return True
+        return self.residue(frame) or False
+
+    def closed(self) -> Grown | None:
+        """The node that closes the branch at once, if there is one."""
+        top = self.stack.top
+        if self.point_of(top) is None:
+            return ending(Sum(self.solver.sums(all_items(self.stack.line(top)))))
+        found = self.residue(top)
+        return ending(found) if found else None
+
+    def summed(self, frames: Sequence[Frame], items: Case) -> Grown:
+        """A `lin` over the facts of frames and more."""
+        return ending(Sum(self.solver.sums([*all_items(frames), *items])))
+
+    def undecided(self) -> list[int]:
+        """The states that react with some other, and are neither known to be there nor to be absent."""
+        top, first = self.stack.top, self.cases.inputs
+        least, most = top.least[first : self.cases.first_move], top.most[first : self.cases.first_move]
+        out: list[int] = np.nonzero(self.cases.near.any(axis=1) & (most > 0) & (least < 1))[0].tolist()
+        return out

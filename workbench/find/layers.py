@@ -1,0 +1,181 @@
+"""Layers of one leaf: moves in groups, each with weights that its moves lower, none of which wakes an earlier group."""
+from __future__ import annotations
+
+import random
+import time
+from typing import Sequence
+
+import numpy as np
+
+from ..nets import Leaf
+from ..proofs import Layer
+from .highs import FOUND, Array, matrix_of, minimise
+from .waking import Moves, Waking
+
+TRIES = 8  # shuffled orders of choices
+TRY_SECONDS = 1.5
+WHOLE_SECONDS = 10.0
+HOPELESS = 50  # closures without weights that are remembered
+SAMPLE = 400  # closures that are sorted by size before the others are made
+
+Change = tuple[tuple[int, int], ...]
+
+
+class LayerFinder:
+    """Searches layers."""
+
+    def __init__(self, leaf: Leaf, deadline: float) -> None:
+        self.leaf, self.deadline = leaf, deadline
+        self.waking = Waking(leaf)
+        self.changes: dict[int, Change] = {t: tuple(sorted(leaf.change(t).items())) for t in leaf.active}
+        self.known: dict[frozenset[Change], tuple[float, Array] | None] = {}
+        self.stuck: Moves = frozenset()
+
+    def weights(self, moves: Moves, whole: bool = False) -> tuple[float, Array] | None:
+        """Weights from 0 on that all these moves lower by 1 or more, with the least greatest weight; in whole numbers where asked."""
+        kinds = frozenset(self.changes[t] for t in moves)
+        if not whole and kinds in self.known:
+            return self.known[kinds]
+        found = None if () in kinds else self._program(sorted(kinds), whole)
+        if not whole:
+            self.known[kinds] = found
+        return found
+
+    def _program(self, kinds: Sequence[Change], whole: bool) -> tuple[float, Array] | None:
+        used = sorted({q for change in kinds for q, _ in change})
+        at = {q: i for i, q in enumerate(used)}
+        width, count = len(used), len(kinds)
+        rows = [i for i, change in enumerate(kinds) for _ in change] + [count + i for i in range(width) for _ in (0, 1)]
+        columns = [at[q] for change in kinds for q, _ in change] + [c for i in range(width) for c in (i, width)]
+        numbers = [float(k) for change in kinds for _, k in change] + [1.0, -1.0] * width
+        matrix = matrix_of(rows, columns, numbers, count + width, width + 1)
+        high = np.concatenate([np.full(count, -1.0), np.zeros(width)])
+        cost = np.append(np.full(width, 1e-4 / max(width, 1)), 1.0)
+        got = minimise(
+            cost,
+            matrix,
+            np.full(count + width, -np.inf),
+            high,
+            np.zeros(width + 1),
+            np.full(width + 1, np.inf),
+            whole,
+            WHOLE_SECONDS if whole else None,
+        )
+        if got.status != FOUND:
+            return None
+        full = np.zeros(len(self.leaf.states))
+        full[used] = got.point[:width]
+        return float(got.point[width]), full
+
+    def bound(self, groups: Sequence[Moves]) -> float:
+        """What the groups cost, as far as fractions tell."""
+        return sum(found[0] for found in map(self.weights, groups) if found)
+
+    def is_valid(self, groups: Sequence[Moves]) -> bool:
+        """Whether the groups have weights and wake nothing."""
+        done: Moves = frozenset()
+        for group in groups:
+            if not self.waking.wakes_none(done, group) or self.weights(group) is None:
+                return False
+            done |= group
+        return True
+
+    def groups(self, rng: random.Random | None) -> list[Moves] | None:
+        """The groups from first to last, by peeling; with `rng` in a random order of choices."""
+        done: Moves = frozenset()
+        every = frozenset(self.leaf.active)
+        out: list[Moves] = []
+        while done != every:
+            rest = every - done
+            layer = rest if self.weights(rest) is not None else self._peeled(done, rest, rng)
+            if not layer:
+                return None
+            out.append(layer)
+            done |= layer
+        return out
+
+    def _peeled(self, done: Moves, rest: Moves, rng: random.Random | None) -> Moves:
+        """The next layer: a union of closures that has weights; empty where there is none."""
+        smallest = rest
+        for mend in (False, True):
+            order = sorted(rest)
+            step = max(1, len(order) // SAMPLE)
+            first, others = order[::step], [t for i, t in enumerate(order) if i % step]
+            choices = sorted({self.waking.closure(done, frozenset([t]), mend) for t in first}, key=lambda c: (len(c), sorted(c)))
+            smallest = min(smallest, choices[0], key=len)
+            if rng:
+                rng.shuffle(choices)
+            layer = self._union(done, choices, others, mend)
+            if layer or time.time() > self.deadline:
+                return layer
+        self.stuck = smallest
+        return frozenset()
+
+    def _union(self, done: Moves, choices: Sequence[Moves], others: Sequence[int], mend: bool) -> Moves:
+        """The union of closures, one after the other, as long as it has weights; `others` are moves whose closures aren't made yet."""
+        layer: Moves = frozenset()
+        bad: list[Moves] = []
+        candidates: list[Moves | int] = [*choices, *others]
+        for made in candidates:
+            if isinstance(made, int) and (made in layer or any(made in b for b in bad)):
+                continue
+            choice = self.waking.closure(done, frozenset([made]), mend) if isinstance(made, int) else made
+            if choice <= layer or any(b <= choice for b in bad):
+                continue
+            more = self.waking.closure(done, layer | choice, mend)
+            if self.weights(more) is not None:
+                layer = more
+            elif len(bad) < HOPELESS and self.weights(choice) is None:
+                bad.append(choice)
+            if time.time() > self.deadline:
+                return frozenset()
+        return layer
+
+    def merged(self, groups: list[Moves]) -> list[Moves]:
+        """Neighbouring groups made one, as long as the bound does not rise."""
+        i = 0
+        while i < len(groups) - 1:
+            trial = [*groups[:i], groups[i] | groups[i + 1], *groups[i + 2 :]]
+            if self.is_valid(trial) and self.bound(trial) <= self.bound(groups) + 1e-6:
+                groups, i = trial, 0
+            else:
+                i += 1
+        return groups
+
+    def peeled(self) -> list[Moves] | None:
+        """The best groups of several tries, or None."""
+        best: list[Moves] | None = None
+        start = time.time()
+        for k in range(TRIES):
+            found = self.groups(random.Random(k) if k else None)
+            if found is not None:
+                found = self.merged(found)
+                if best is None or self.bound(found) < self.bound(best) - 1e-6:
+                    best = found
+            if (best is not None and len(best) == 1) or time.time() - start > TRY_SECONDS or time.time() > self.deadline:
+                break
+        return best
+
+    def layers_of(self, groups: Sequence[Moves]) -> list[Layer] | None:
+        """The groups with whole weights."""
+        out = []
+        for group in groups:
+            found = self.weights(group, whole=True)
+            if found is None:
+                return None
+            out.append(Layer(tuple(sorted(group)), tuple(int(round(w)) for w in found[1])))
+        return out
+
+    def conflict(self) -> list[int]:
+        """Moves that, some times each, leave every crowd as it was, among those at which the peeling stuck."""
+        moves = sorted(self.stuck)
+        if not moves:
+            return []
+        rows = [q for t in moves for q, _ in self.changes[t]] + [len(self.leaf.states)] * len(moves)
+        columns = [i for i, t in enumerate(moves) for _ in self.changes[t]] + list(range(len(moves)))
+        numbers = [float(k) for t in moves for _, k in self.changes[t]] + [1.0] * len(moves)
+        matrix = matrix_of(rows, columns, numbers, len(self.leaf.states) + 1, len(moves))
+        at = np.zeros(len(self.leaf.states) + 1)
+        at[-1] = 1
+        got = minimise(np.ones(len(moves)), matrix, at, at, np.zeros(len(moves)), np.full(len(moves), np.inf))
+        return [t for t, k in zip(moves, got.point) if k > 1e-9] if got.status == FOUND else []

@@ -1,0 +1,90 @@
+"""What the documents show is what the workbench does."""
+from __future__ import annotations
+
+import re
+
+import pytest
+
+from workbench import program
+from workbench.commands import TABLE
+from workbench.files import load, strict_bundle
+from workbench.popfile import FILE_WORDS, LEAF_WORDS
+
+from .conftest import EXAMPLES, TOP, bundle_at, needs_program
+from .test_commands import pop
+
+WORKBENCH = (TOP / "docs" / "WORKBENCH.md").read_text()
+CERTIFICATES = (TOP / "docs" / "CERTIFICATES.md").read_text()
+
+
+def blocks(text: str) -> list[str]:
+    """The blocks of code of a document."""
+    return re.findall(r"^```\n(.*?)^```", text, re.MULTILINE | re.DOTALL)
+
+
+def test_the_proof_by_names_is_the_example() -> None:
+    block = next(b for b in blocks(CERTIFICATES) if b.startswith("states    S I"))
+    assert block in (EXAMPLES / "epidemic" / "epidemic.pop").read_text()
+    assert strict_bundle(load(block, "x")) == bundle_at(EXAMPLES / "epidemic" / "bundle.json")
+
+
+def test_the_first_file_is_the_majority() -> None:
+    block = next(b for b in blocks(WORKBENCH) if b.startswith("# majority"))
+    assert load(block, "x").net == bundle_at(EXAMPLES / "majority" / "bundle.json").net
+    proof = next(b for b in blocks(WORKBENCH) if b.startswith("layer     A: 1"))
+    assert proof in (EXAMPLES / "majority" / "majority.pop").read_text()
+
+
+def test_every_word_is_in_the_documents() -> None:
+    for word in TABLE:
+        assert re.search(rf"`{word}[ `]", WORKBENCH), word
+    for word in (*FILE_WORDS, *LEAF_WORDS):
+        assert f'"{word}"' in WORKBENCH, word
+
+
+@needs_program
+def test_the_explained_node_is_what_explain_prints() -> None:
+    block = next(b for b in blocks(WORKBENCH) if "leaves: lin leaves{B, b}" in b)
+    assert block in pop("explain", str(EXAMPLES / "rejected" / "wrong-trap.json")).stdout
+
+
+@needs_program
+def test_the_counterexample_is_what_find_prints() -> None:
+    block = next(b for b in blocks(WORKBENCH) if b.startswith("the protocol is wrong"))
+    wrong = "inputs x: A  y: B\nA + B -> a + b\nA + b -> A + a\nB + a -> B + b\na + b -> a + a\nyes A a\ncomputes y - x < 0\n"
+    assert pop("refute", text=wrong).stdout == block
+
+
+@needs_program
+def test_the_order_of_moves_is_not_seen_and_the_mended_flock_is_found() -> None:
+    pytest.importorskip("scipy")
+    block = next(b for b in blocks(CERTIFICATES) if "4 + 0 -> 4 + 2" in b)
+    text = "inputs x: 1  y: 0\n" + block + "yes 4\ncomputes x >= 4\n"
+    run = pop("find", text=text)
+    assert run.returncode == program.UNDECIDED and "candidate for a wrong end" in run.stdout
+    assert pop("find", text=text.replace("4 + 0 -> 4 + 2", "4 + 0 -> 4 + 4")).returncode == program.DONE
+
+
+def test_the_limits_of_the_documents() -> None:
+    from workbench.find import branch, least
+
+    assert f"numbers above {branch.FLOATS:,}" in WORKBENCH
+    assert f"at most {least.MOST_MOVES} moves" in WORKBENCH
+
+
+def test_a_missing_package_is_asked_for_by_name(tmp_path: "object") -> None:
+    import os
+    import subprocess
+    from pathlib import Path
+
+    assert isinstance(tmp_path, Path)
+    (tmp_path / "scipy").mkdir()
+    (tmp_path / "scipy" / "__init__.py").write_text("raise ImportError\n")
+    run = subprocess.run(
+        [str(TOP / "bin" / "pop"), "find", str(EXAMPLES / "majority" / "majority.pop")],
+        capture_output=True,
+        text=True,
+        env={**os.environ, "PYTHONPATH": str(tmp_path)},
+        check=False,
+    )
+    assert run.returncode == program.REFUSED and "apt-get install python3-scipy" in run.stderr
