@@ -31,7 +31,7 @@ PROGRAM = (
     Page("run", "a run of a certified net, line by line, and its verdict", ("pop run FILE x=30 y=10 [OPTION N]..", "pop run [OPTION N].. < BUNDLE-AND-CROWD"),
          "Draws pairs of agents that meet, and prints each meeting, the crowd at the end and the verdict. Where the turns are used up before that, the last "
          "line is `undecided` with two agents whose meeting would change something; their states are said on standard error.",
-         ("pop run examples/majority/majority.pop x=30 y=10 --seed 3", "(cat examples/majority/bundle.json; echo 'crowd x=3 y=1') | pop run --turns 100"), NUMBERS),
+         ("pop run examples/majority/majority.pop x=30 y=10 --seed 3", "cat examples/flock/bundle.json examples/flock/crowd.txt | pop run --turns 100"), NUMBERS),
     Page("watch", "a run on threads that an observer may stop at the crowd's end", ("pop watch FILE x=30 y=10 [OPTION N]..", "pop watch [OPTION N].. < BUNDLE-AND-CROWD"),
          "As `run`, on threads; an observer looks at the crowd while they work, and stops the last round once the crowd has come to its end.",
          ("pop watch examples/majority/majority.pop x=30 y=10 --workers 3", "cat examples/majority/bundle.json examples/majority/crowd.txt | pop watch --workers 2"), NUMBERS),

@@ -18,7 +18,7 @@ GENERAL = {
 
 def predicate_told(why: str, at: int, text: str, names: Sequence[str]) -> list[str]:
     """What is wrong with a predicate, with the place; `at` is the program's byte offset."""
-    own = len(text.encode()[:at].decode(errors="ignore"))
+    own = len(text.encode(errors="surrogateescape")[:at].decode(errors="ignore"))
     told = GENERAL.get(why, "this is no predicate")
     try:
         read_predicate(text, list(names) or ["x"])
