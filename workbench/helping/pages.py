@@ -31,10 +31,10 @@ PROGRAM = (
     Page("run", "a run of a certified net, line by line, and its verdict", ("pop run FILE x=30 y=10 [OPTION N]..", "pop run [OPTION N].. < BUNDLE-AND-CROWD"),
          "Draws pairs of agents that meet, and prints each meeting, the crowd at the end and the verdict. Where the turns are used up before that, the last "
          "line is `undecided` with two agents whose meeting would change something; their states are said on standard error.",
-         ("pop run examples/majority/majority.pop x=30 y=10 --seed 3", "cat examples/flock/bundle.json examples/flock/crowd.txt | pop run --turns 100"), NUMBERS),
+         ("pop run examples/majority/majority.pop x=30 y=10 --seed 3", "head -n 2 examples/replays/held.txt | pop run --turns 100"), NUMBERS),
     Page("watch", "a run on threads that an observer may stop at the crowd's end", ("pop watch FILE x=30 y=10 [OPTION N]..", "pop watch [OPTION N].. < BUNDLE-AND-CROWD"),
          "As `run`, on threads; an observer looks at the crowd while they work, and stops the last round once the crowd has come to its end.",
-         ("pop watch examples/majority/majority.pop x=30 y=10 --workers 3", "cat examples/majority/bundle.json examples/majority/crowd.txt | pop watch --workers 2"), NUMBERS),
+         ("pop watch examples/majority/majority.pop x=30 y=10 --workers 3", "head -n 2 examples/replays/held.txt | pop watch --workers 2"), NUMBERS),
     Page("settle", "the moves that the proof's layers give, up to the crowd's end, and the verdict", ("pop settle FILE x=30 y=10", "pop settle < BUNDLE-AND-CROWD"),
          "Makes the first move that the layers allow, again and again. It always comes to the crowd's end, and prints the verdict.",
          ("pop settle examples/flock/flock.pop x=5 y=2", "cat examples/majority/bundle.json examples/majority/crowd.txt | pop settle")),
@@ -102,7 +102,7 @@ OTHER = (
 
 STATUSES = (
     "0 done", "1 the words mean no command", "2 the input is malformed", "3 the proof is not valid", "4 the turns are used up before the crowd's end",
-    "5 the journal differs", "6 reading failed", "7 writing failed", "8 out of memory", "9 the program could not be built",
+    "5 the journal differs", "6 reading failed", "7 writing failed", "8 out of memory", "9 the program isn't built",
 )
 
 
