@@ -11,6 +11,7 @@ import time
 from pathlib import Path
 
 from ..program import BUILT, DONE, NOT_BUILT, STANDING, TOP
+from ..saying import say
 from . import sources
 from .lock import Lock
 
@@ -19,11 +20,6 @@ _CRATE = re.compile(r"crate ([a-z_0-9]+):")
 _LISTED = re.compile(r"[a-z_0-9]+:")
 EVERY = 1.0            # seconds between two looks at the clock on a terminal
 WIDTH = 79
-
-
-def say(text: str) -> None:
-    """One line on standard error."""
-    print(f"pop: {text}", file=sys.stderr, flush=True)
 
 
 class Progress:
@@ -41,7 +37,7 @@ class Progress:
         if found and found.group(1) not in self.seen:
             self.seen[found.group(1)] = None
             if not self.on_terminal:
-                say(f"{len(self.seen)} of {self.all}: {found.group(1)}")
+                say([f"{len(self.seen)} of {self.all}: {found.group(1)}"])
         self.tick()
 
     def tick(self) -> None:
@@ -92,7 +88,7 @@ def build() -> int:
     lock = Lock()
     try:
         if not lock.acquire():
-            say(f"{lock.holder()}; waiting for it")
+            say([f"{lock.holder()}; waiting for it"])
             lock.wait()
         if sources.is_of_sources():
             return DONE
@@ -105,7 +101,7 @@ def build() -> int:
 def _build() -> int:
     of = sources.checksum()
     _keep_standing()
-    say(f"proving and building the program; {FIRST_TIME}")
+    say([f"proving and building the program; {FIRST_TIME}"])
     before = BUILT.stat().st_mtime_ns if BUILT.exists() else 0
     log: list[str] = []
     progress = Progress()
@@ -116,7 +112,7 @@ def _build() -> int:
         sys.stderr.write("".join(log))
         if STANDING.exists() and not BUILT.exists():
             shutil.copy2(STANDING, BUILT)
-        say("the program could not be built; its log is above")
+        say(["the program could not be built; its log is above"])
         return NOT_BUILT
     sources.record(of)
     return DONE

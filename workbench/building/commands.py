@@ -5,7 +5,8 @@ import os
 import subprocess
 
 from ..program import BUILT, DONE, STANDING, TOP, USAGE, VARIABLE
-from .build import build, say
+from ..saying import say
+from .build import build
 from .lock import Lock, is_held
 from .sources import KEPT, is_of_sources
 from .unproved import unproved
@@ -51,10 +52,10 @@ def run(word: str, rest: list[str]) -> int:
     """Answers one of these words."""
     if word == "--unproved":
         if not rest:
-            say("`--unproved` is followed by a command of the program, as in `pop --unproved check < bundle.json`")
+            say(["`--unproved` is followed by a command of the program, as in `pop --unproved check < bundle.json`"])
             return USAGE
         return unproved(rest)
     if rest:
-        say(f"`{word}` takes no further words")
+        say([f"`{word}` takes no further words"])
         return USAGE
     return version() if word == "--version" else build()

@@ -9,7 +9,7 @@ import time
 from pathlib import Path
 
 from ..program import NOT_BUILT, TOP
-from .build import say
+from ..saying import say
 from .sources import KEPT, checksum
 
 NAME = "unproved-"
@@ -45,7 +45,7 @@ def _try(words: list[str], kept: Path) -> int:
             os.replace(caught, kept)
         return run.returncode
     except OSError as error:
-        say(f"`rt` cannot be started: {error.strerror}")
+        say([f"`rt` cannot be started: {error.strerror}"])
         return NOT_BUILT
     finally:
         shutil.rmtree(room, ignore_errors=True)
@@ -53,7 +53,7 @@ def _try(words: list[str], kept: Path) -> int:
 
 def unproved(words: list[str]) -> int:
     """Answers by a program of which nothing is proved."""
-    say("nothing is proved of this answer")
+    say(["nothing is proved of this answer"])
     kept = KEPT / f"{NAME}{checksum()[:16]}"
     if os.access(kept, os.X_OK):
         os.execv(kept, [str(kept), *words])

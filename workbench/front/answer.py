@@ -8,17 +8,12 @@ from typing import Sequence
 
 from ..files import InputFault
 from ..program import DIFFERS, REFUSED, REJECTED, UNDECIDED, USAGE, WRITE_FAULT, NoProgram
+from ..saying import say
 from .inputs import Asked, make_input
 from .passing import Printed, ask, put
 from .request import PROGRAM_WORDS, USAGE as FORMS, Request, WordFault, read_request
 
 FAULT_LINES = 3
-
-
-def say(lines: Sequence[str]) -> None:
-    """Sentences on standard error: the first with the tool's name, the others below it."""
-    for number, line in enumerate(lines):
-        print(f"{'     ' if number else 'pop: '}{line}", file=sys.stderr)
 
 
 def others() -> list[str]:

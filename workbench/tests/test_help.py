@@ -84,7 +84,7 @@ def test_the_examples_of_the_build_run(tmp_path: Path) -> None:
             assert run.stdout or page.word == "build"
 
 
-@pytest.mark.parametrize("page", all_pages(), ids=lambda page: page.word)
+@pytest.mark.parametrize("page", all_pages(), ids=[page.word for page in all_pages()])
 def test_help_of_a_command(page: Page) -> None:
     words = [["help", page.word]] + ([[page.word, "--help"]] if page.word in (*PROGRAM_WORDS, *TABLE) else [])
     for arguments in words:
