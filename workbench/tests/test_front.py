@@ -16,6 +16,8 @@ from workbench.front.relaxed import in_form
 from workbench.predicates import read_predicate, value_at
 
 from .conftest import EXAMPLES, TOP, needs_program
+from .mistakes import MISTAKES
+from .test_mistakes import filled
 
 POP = str(TOP / "bin" / "pop")
 MAJORITY = EXAMPLES / "majority"
@@ -152,3 +154,29 @@ def test_no_input_gives_a_traceback(tmp_path: Path) -> None:
         for word in ("net", "bundle", "text"):
             run = pop(word, name, folder=tmp_path)
             assert run.returncode == program.REFUSED and "Traceback" not in run.stderr and run.stderr, (word, name)
+
+
+GIVEN = [(list(m.words), filled(m.given)) for m in MISTAKES if m.given is not None] + [
+    ([], ""),
+    (["check"], (MAJORITY / "bundle.json").read_text()),
+    (["play"], (MAJORITY / "play.txt").read_text()),
+    (["run", "--turns", "2"], (MAJORITY / "bundle.json").read_text() + "crowd x=2 y=1\n"),
+    (["settle"], (MAJORITY / "bundle.json").read_text() + "crowd x=20 y=10"),
+    (["compile", "--flocks"], "vars x\nx >= 64"),
+    (["eval"], "vars x y\n2*x - y < 5 && x + y = 1 mod 3\ncrowd x=3 y=1\n"),
+    (["replay"], (EXAMPLES / "replays/changed-mark.txt").read_text()),
+]
+
+
+@needs_program
+@pytest.mark.parametrize("words, text", GIVEN, ids=[" ".join(words) or "no words" for words, _ in GIVEN])
+def test_the_program_s_own_bytes_and_status_are_unchanged(words: list[str], text: str, tmp_path: Path) -> None:
+    data = text.encode()
+    wanted = subprocess.run([program.program_path(), *words], input=data, capture_output=True, check=False)
+    piped = subprocess.run([POP, *words], input=data, capture_output=True, check=False)
+    (tmp_path / "given").write_bytes(data)
+    with open(tmp_path / "given", "rb") as stdin:
+        read = subprocess.run([POP, *words], stdin=stdin, capture_output=True, check=False)
+    for run in (piped, read):
+        assert (run.stdout, run.returncode) == (wanted.stdout, wanted.returncode)
+        assert bool(run.stderr) == (run.returncode != 0) and b"Traceback" not in run.stderr
