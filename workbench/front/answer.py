@@ -4,7 +4,6 @@ from __future__ import annotations
 import os
 import sys
 import tempfile
-from typing import Sequence
 
 from ..files import InputFault
 from ..program import DIFFERS, REFUSED, REJECTED, UNDECIDED, USAGE, WRITE_FAULT, NoProgram

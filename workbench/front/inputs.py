@@ -155,8 +155,10 @@ def make_input(request: Request) -> Asked:
     behind = _predicate(request, asked) if request.command in TAKES_PREDICATE else _protocol(request, _read(request.target, asked), asked)
     if behind and (request.counts or request.meetings):
         if not request.counts:
-            raise WordFault(f"meetings are given, and {asked.file} has a crowd line of its own: give the counts too, as in x=2 y=1")
-        asked.notes.append(f"{asked.file} has {len(behind)} more {'lines' if len(behind) > 1 else 'line'}; the words stand in their place")
+            raise WordFault(f"meetings are given, and {asked.file} has a crowd line of its own: give the counts too, "
+                            f"as in x=2 y=1")
+        asked.notes.append(f"{asked.file} has {len(behind)} more {'lines' if len(behind) > 1 else 'line'}; the words "
+                           f"stand in their place")
         behind = []
     for line in behind:
         asked.add(line, asked.file)

@@ -171,7 +171,8 @@ class _Reader:
         out, terms = self.term().times(sign), 1
         while True:
             if self.peek().text == "%" and terms > 1:
-                raise NotRead(self.peek().at, "`%` takes the last term alone: put the sum in parentheses, as in `(x - y) % 3 = 1`")
+                raise NotRead(self.peek().at, "`%` takes the last term alone: put the sum in parentheses, as in `(x "
+                                              "- y) % 3 = 1`")
             which = self.takes("+", "-")
             if not which:
                 return out

@@ -48,7 +48,8 @@ def zsh() -> str:
         if page.files or page.options:
             options = " ".join(quoted(f"{option.split(' ')[0]}[{told.replace('[', '(').replace(']', ')')}]" + (f":{option.split(' ')[1]}:" if " " in option else ""))
                                for option, told in page.options)
-            cases.append(f"        {page.word}) _arguments {options + ' ' if options else ''}'--help[the help page]' '*:file:_files' ;;")
+            cases.append(f"        {page.word}) _arguments {options + ' ' if options else ''}'--help[the help page]' "
+                         f"'*:file:_files' ;;")
     joined = "\n".join(cases)
     return f"""#compdef pop
 # Completion of pop for zsh; made from the help by `make texts`.

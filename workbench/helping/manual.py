@@ -13,11 +13,14 @@ HEAD = (
     ".I COMMAND",
     "[\\fIFILE\\fR] [\\fIWORD\\fR].. [\\fIOPTION\\fR]..",
     ".SH DESCRIPTION",
-    "A population protocol is a program for a crowd of anonymous agents that meet in pairs and have to agree on a predicate of",
-    "their input. pop checks proofs that a protocol computes its predicate for crowds of every size, and runs, settles, plays,",
+    "A population protocol is a program for a crowd of anonymous agents that meet in pairs and have to agree on a "
+    "predicate of",
+    "their input. pop checks proofs that a protocol computes its predicate for crowds of every size, and runs, "
+    "settles, plays,",
     "compiles and replays protocols.",
     ".PP",
-    "A command of the program takes its input from standard input, or a file as an argument: JSON on one line or many, or a .pop",
+    "A command of the program takes its input from standard input, or a file as an argument: JSON on one line or "
+    "many, or a .pop",
     "file. What is wrong with an input is said in a sentence on standard error, beside the program's own line.",
 )
 

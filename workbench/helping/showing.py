@@ -25,11 +25,13 @@ def _rows(pages: list[Page]) -> list[str]:
 
 def overview() -> str:
     """The page of `pop help`."""
-    lines = ["pop: population protocols, checked and run", "", "  pop check FILE               a file as an argument, or", "  pop check < bundle.json      the program's own words over standard input", ""]
+    lines = ["pop: population protocols, checked and run", "", "  pop check FILE               a file as an "
+        "argument, or", "  pop check < bundle.json      the program's own words over standard input", ""]
     lines += [PROVED + ":", *_rows(list(PROGRAM)), "", *textwrap.wrap(UNPROVED + ":", WIDTH), *_rows(workbench_pages()), "", "Other words:", *_rows(list(OTHER)), ""]
     half = (len(STATUSES) + 1) // 2
     lines += ["Exit statuses:", *(f"  {left:<47} {right}" for left, right in zip(STATUSES[:half], STATUSES[half:])), ""]
-    lines += textwrap.wrap("`pop help COMMAND` has forms, options and examples. docs/FORMATS.md has the files and every line of the program, docs/CERTIFICATES.md "
+    lines += textwrap.wrap("`pop help COMMAND` has forms, options and examples. docs/FORMATS.md has the files and "
+                           "every line of the program, docs/CERTIFICATES.md "
                            "says how to write a proof, examples/ has protocols to start from.", WIDTH)
     return "\n".join(lines) + "\n"
 

@@ -79,17 +79,21 @@ MISTAKES: tuple[Mistake, ...] = (
     Mistake(("run", "--turns", "5", "--turns", "6"), "", 1, "fault: usage 3 twice",
             "`--turns` stands twice; each option is given at most once"),
     Mistake(("run", "--turns", "-5"), "", 1, "fault: usage 2 value",
-            "`-5` isn't digits alone, as it has to be for `--turns`: turns are 0 to 1,000,000 each, and at most 2,000,000 in all"),
+            "`-5` isn't digits alone, as it has to be for `--turns`: turns are 0 to 1,000,000 each, and at most "
+            "2,000,000 in all"),
     Mistake(("run", "majority.json", "x=3", "--turns", "5,000,000"), None, 1, "fault: usage 2 value",
-            "`5,000,000` isn't digits alone, as it has to be for `--turns`: turns are 0 to 1,000,000 each, and at most 2,000,000 in all"),
+            "`5,000,000` isn't digits alone, as it has to be for `--turns`: turns are 0 to 1,000,000 each, and at "
+            "most 2,000,000 in all"),
     Mistake(("watch", "--workers", "64"), "", 1, "fault: usage 2 value",
             "`64` is out of the limits of `--workers`: workers are 1 to 64, for `watch` 1 to 63"),
     Mistake(("run", "--workers", "4", "--turns", "1000000"), "", 1, "fault: usage 5 product",
-            "4 workers with 1,000,000 turns each are 4,000,000 turns; turns are 0 to 1,000,000 each, and at most 2,000,000 in all: with 4 workers give at most `--turns 500000`"),
+            "4 workers with 1,000,000 turns each are 4,000,000 turns; turns are 0 to 1,000,000 each, and at most "
+            "2,000,000 in all: with 4 workers give at most `--turns 500000`"),
     Mistake(("run", "--shards", "0"), "", 1, "fault: usage 2 value",
             "`0` is out of the limits of `--shards`: shards are 1 to 1,024"),
     Mistake(("run", "x=30", "y=10"), None, 1, "fault: usage 1 unknown",
-            "a file, or `-` for standard input, is missing: pop run FILE x=30 y=10 [--workers N] [--shards N] [--turns N] [--seed N]"),
+            "a file, or `-` for standard input, is missing: pop run FILE x=30 y=10 [--workers N] [--shards N] "
+            "[--turns N] [--seed N]"),
     Mistake(("demo",), "", 1, "fault: usage 1 missing",
             "a number is missing behind `demo`: demo cases are 0 to 9,999"),
     Mistake(("demo", "10000"), "", 1, "fault: usage 1 value",
@@ -97,28 +101,34 @@ MISTAKES: tuple[Mistake, ...] = (
     Mistake(("demo", "first"), "", 1, "fault: usage 1 value",
             "`first` isn't digits alone, as it has to be for `demo`: demo cases are 0 to 9,999"),
     Mistake(("compile", "x", "-", "y"), None, 1, "fault: usage 1 unknown",
-            "`-` has no place here: put the whole predicate in quotes, as in pop compile 'x - y < 3' [--flocks] [-o FILE]"),
+            "`-` has no place here: put the whole predicate in quotes, as in pop compile 'x - y < 3' [--flocks] [-o "
+            "FILE]"),
     Mistake(("compile", "x < 3", "-o"), None, 1, "fault: usage 1 unknown",
             "`-o` is followed by the file to write: pop compile 'x - y < 3' [--flocks] [-o FILE]"),
     Mistake(("replay", "--watch"), "", 1, "fault: usage 1 unknown",
             "`--watch` is no option of `replay`; did you mean `--watched`?"),
     # JSON and lines over standard input
     Mistake(("check",), "@PRETTY\n", 2, "fault: line 2 extra",
-            "the bundle is over 248 lines; it is one line: give the file as an argument, as in `pop check FILE`, or use `jq -c .`"),
+            "the bundle is over 248 lines; it is one line: give the file as an argument, as in `pop check FILE`, or "
+            "use `jq -c .`"),
     Mistake(("check",), "", 2, "fault: line 1 missing",
             "the input is empty; `check` takes a bundle: pop check FILE"),
     Mistake(("check",), "@BUNDLE\ncrowd x=3 y=1\n", 2, "fault: line 2 extra",
-            "line 2 is a crowd line; `check` takes a bundle alone, and its answer holds for every crowd: `run` and `settle` take a crowd"),
+            "line 2 is a crowd line; `check` takes a bundle alone, and its answer holds for every crowd: `run` and "
+            "`settle` take a crowd"),
     Mistake(("check",), "@BUNDLE\n\n", 2, "fault: line 2 extra",
             "line 2 is empty; `check` takes a bundle, and nothing behind"),
     Mistake(("run",), "@BUNDLEcrowd x=3 y=1\n", 2, "fault: line 2 missing",
-            "line 1, column 646: this is no JSON: the crowd stands on the line of the bundle; a line feed belongs before `crowd`"),
+            "line 1, column 646: this is no JSON: the crowd stands on the line of the bundle; a line feed belongs "
+            "before `crowd`"),
     Mistake(("run",), "@BUNDLE\n", 2, "fault: line 2 missing",
-            "the crowd is missing: give the counts behind the file, as in `pop run FILE x=30 y=10`, or a line `crowd x=30 y=10` behind the bundle"),
+            "the crowd is missing: give the counts behind the file, as in `pop run FILE x=30 y=10`, or a line `crowd "
+            "x=30 y=10` behind the bundle"),
     Mistake(("run",), "crowd x=3 y=1\n@BUNDLE\n", 2, "fault: not json",
             "line 1 is a crowd line; the net or bundle comes before it, on a line of its own"),
     Mistake(("run",), "@BUNDLE\ncrown x=3\n", 2, "fault: count 0",
-            "a crowd line is `crowd` and the counts, as in `crowd x=30 y=10`; this one begins with `crown`; did you mean `crowd`?"),
+            "a crowd line is `crowd` and the counts, as in `crowd x=30 y=10`; this one begins with `crown`; did you "
+            "mean `crowd`?"),
     Mistake(("run",), "@BUNDLE\ncrowd  x=3\n", 2, "fault: count 1",
             "there is one space before each count, and here is one more"),
     Mistake(("run",), "@BUNDLE\r\ncrowd x=3 y=1\r\n", 2, "fault: count 2",
@@ -138,9 +148,11 @@ MISTAKES: tuple[Mistake, ...] = (
     Mistake(("compile",), "vars x x\nx < 1\n", 2, "fault: line 1 form",
             "line 1: `x` stands twice"),
     Mistake(("compile",), "x < 1\n", 2, "fault: line 2 missing",
-            "line 1 begins with `x`: a vars line is `vars` and 1 to 16 names, with one space before each, as in `vars x y`"),
+            "line 1 begins with `x`: a vars line is `vars` and 1 to 16 names, with one space before each, as in "
+            "`vars x y`"),
     Mistake(("compile",), "vars 2x\nx < 1\n", 2, "fault: line 1 form",
-            "line 1: `2x` is no name: 1 to 32 letters, digits and `_`, no digit first, and not `mod`; a vars line is `vars` and 1 to 16 names, with one space before each, as in `vars x y`"),
+            "line 1: `2x` is no name: 1 to 32 letters, digits and `_`, no digit first, and not `mod`; a vars line is "
+            "`vars` and 1 to 16 names, with one space before each, as in `vars x y`"),
     Mistake(("compile",), "vars x\n", 2, "fault: line 2 missing",
             "line 2 is missing: it has a predicate"),
     # files
@@ -169,14 +181,16 @@ MISTAKES: tuple[Mistake, ...] = (
     Mistake(("check", "relation.json"), None, 2, "fault: format /pred pred syntax 5",
             "/pred: expected a number, found `x`"),
     Mistake(("check", "both.txt"), None, 2, "fault: line 2 extra",
-            "line 2 is a crowd line; `check` takes a bundle alone, and its answer holds for every crowd: `run` and `settle` take a crowd"),
+            "line 2 is a crowd line; `check` takes a bundle alone, and its answer holds for every crowd: `run` and "
+            "`settle` take a crowd"),
     Mistake(("check", "trap.json"), None, 3, "rejected leaf 0 false 5 not-closed",
             "the proof isn't valid: leaf 0, tree for false: the sum of node 5 doesn't close its branch"),
     Mistake(("check", "layers.json"), None, 3, "rejected leaf 0 layers wakes 0 7",
             "the proof isn't valid: leaf 0, layers: move 0 makes a move of an earlier layer possible anew"),
     # crowds
     Mistake(("run", "majority.json"), None, 2, "fault: line 2 missing",
-            "the crowd is missing: give the counts behind the file, as in `pop run majority.json x=30 y=10`, or a line `crowd x=30 y=10` behind the bundle"),
+            "the crowd is missing: give the counts behind the file, as in `pop run majority.json x=30 y=10`, or a "
+            "line `crowd x=30 y=10` behind the bundle"),
     Mistake(("run", "majority.json", "z=3"), None, 2, "fault: count 1",
             "`z` is no variable of this net; it has x, y"),
     Mistake(("run", "majority.json", "X=3"), None, 2, "fault: count 1",
@@ -188,17 +202,21 @@ MISTAKES: tuple[Mistake, ...] = (
     Mistake(("run", "majority.json", "x=1,000"), None, 2, "fault: count 1",
             "`1,000` is no count: it is 1 to 20 digits, without sign, point or comma"),
     Mistake(("run", "majority.json", "x=99999999999"), None, 2, "fault: size 99999999999",
-            "the crowd has 99,999,999,999 agents and `run` takes 2 to 65,536; what `check` certifies holds for crowds of every size"),
+            "the crowd has 99,999,999,999 agents and `run` takes 2 to 65,536; what `check` certifies holds for "
+            "crowds of every size"),
     Mistake(("run", "majority.json", "x=99999999999999999999"), None, 2, "fault: count 1",
             "a count is below 2^64, 18,446,744,073,709,551,616"),
     Mistake(("run", "majority.json", "x=1"), None, 2, "fault: size 1",
             "the crowd has 1 agent and `run` takes 2 to 65,536; nobody meets in a smaller one"),
     Mistake(("settle", "majority.json", "x=40000", "y=40000"), None, 2, "fault: size 80000",
-            "the crowd has 80,000 agents and `settle` takes 2 to 65,536; what `check` certifies holds for crowds of every size"),
+            "the crowd has 80,000 agents and `settle` takes 2 to 65,536; what `check` certifies holds for crowds of "
+            "every size"),
     Mistake(("run", "majority.json", "x=30", "y=10", "--turns", "3"), None, 4, "undecided 0 30",
-            "the turns are used up before the crowd's end: agent 0 is in `A` and agent 30 in `B`, and their meeting would change that"),
+            "the turns are used up before the crowd's end: agent 0 is in `A` and agent 30 in `B`, and their meeting "
+            "would change that"),
     Mistake(("run", "majority.json", "x=30", "y=10", "--turns", "0"), None, 4, "undecided 0 30",
-            "the turns are used up before the crowd's end: agent 0 is in `A` and agent 30 in `B`, and their meeting would change that"),
+            "the turns are used up before the crowd's end: agent 0 is in `A` and agent 30 in `B`, and their meeting "
+            "would change that"),
     Mistake(("play", "net.json", "x=2", "y=1", "0,0"), None, 2, "fault: line 3 agents",
             "line 3, `0 0`: an agent doesn't meet itself"),
     Mistake(("play", "net.json", "x=2", "y=1", "a,b"), None, 2, "fault: line 3 form",
@@ -235,14 +253,17 @@ MISTAKES: tuple[Mistake, ...] = (
     Mistake(("eval", "@DEEP", "x=1"), None, 2, "fault: pred deep 64",
             "the signs may be charged 64 in all, and this one makes it 65"),
     Mistake(("compile", "x < 100", "-o", "made"), None, 2, "fault: width 0 101",
-            "the predicate's comparison 0 (counted from 0) is 101 wide (the greatest of its coefficients and of its constant and 1); `compile` builds up to 80"),
+            "the predicate's comparison 0 (counted from 0) is 101 wide (the greatest of its coefficients and of its "
+            "constant and 1); `compile` builds up to 80"),
     Mistake(("compile", "@NINE"), None, 2, "fault: atoms 9",
             "the predicate has 9 comparisons; `compile` makes a leaf of each, and a net has at most 8"),
     Mistake(("compile", "@WIDE"), None, 2, "fault: wide 4",
-            "the predicate's comparison 4 (counted from 0) is over 42 wide: its leaf has more than 256 states, and a net with such a leaf has at most 4 leaves"),
+            "the predicate's comparison 4 (counted from 0) is over 42 wide: its leaf has more than 256 states, and a "
+            "net with such a leaf has at most 4 leaves"),
     # journals
     Mistake(("replay", "changed.txt"), None, 5, "found: 0 1 0 *",
-            "line 6 of the journal isn't what this run prints: the meeting changes something, and the mark ` *` is missing"),
+            "line 6 of the journal isn't what this run prints: the meeting changes something, and the mark ` *` is "
+            "missing"),
     Mistake(("replay", "worker.txt"), None, 2, "fault: journal 5 worker",
             "line 5 names a worker who isn't there (there are workers 0 to 0) or has all its meetings of this round"),
     Mistake(("replay", "round.txt"), None, 2, "fault: journal 7 round",

@@ -15,7 +15,8 @@ from .usage import usage_told
 
 STATUSES = {
     USAGE: "the words mean no command; `pop help` has them",
-    REFUSED: "the input is malformed or over a limit; with the file as an argument, as in `pop check FILE`, the place is shown",
+    REFUSED: "the input is malformed or over a limit; with the file as an argument, as in `pop check FILE`, the "
+             "place is shown",
     REJECTED: "the proof isn't valid; `pop explain FILE` shows what is missing",
     UNDECIDED: "the turns are used up before the crowd's end; `--turns N` gives more",
     DIFFERS: "the journal isn't that of a run; `differs` has the first line that isn't as it has to be",

@@ -14,22 +14,29 @@ from .quoting import quoted, short
 RULES = [
     (r"/format", "`format` is the whole number 1, or 2 for a net with helpers"),
     (r"/vars", "`vars` is a list of 1 to 16 names of variables"),
-    (r"/vars/\d+", "a variable's name is a text of 1 to 32 letters, digits and `_`, no digit first; it is not `mod`, and comes once"),
+    (r"/vars/\d+", "a variable's name is a text of 1 to 32 letters, digits and `_`, no digit first; it is not `mod`, "
+                   "and comes once"),
     (r"/leaves", "`leaves` is a list of 1 to 8 protocols"),
-    (r"/leaves/\d+", "a leaf is an object with `states`, `moves`, `input` and `output`; where a leaf has more than 256 states, there are at most 4 leaves"),
+    (r"/leaves/\d+", "a leaf is an object with `states`, `moves`, `input` and `output`; where a leaf has more than "
+                     "256 states, there are at most 4 leaves"),
     (r"/leaves/\d+/states", "`states` is a list of 1 to 512 names"),
-    (r"/leaves/\d+/states/\d+", "a state's name is a text of 1 to 32 printed ASCII characters without blanks and `/`, and comes once"),
+    (r"/leaves/\d+/states/\d+", "a state's name is a text of 1 to 32 printed ASCII characters without blanks and "
+                                "`/`, and comes once"),
     (r"/leaves/\d+/moves", "`moves` is a list of at most 65,536 moves"),
-    (r"/leaves/\d+/moves/\d+", "a move is a list of four numbers of states, [p,q,r,s]: two agents in p and q become r and s"),
+    (r"/leaves/\d+/moves/\d+", "a move is a list of four numbers of states, [p,q,r,s]: two agents in p and q become "
+                               "r and s"),
     (r"/leaves/\d+/moves/\d+/\d+", "a move names states by number{states}"),
     (r"/leaves/\d+/input", "`input` has the number of a state for each variable{inputs}"),
     (r"/leaves/\d+/input/\d+", "`input` names states by number{states}"),
     (r"/leaves/\d+/output", "`output` has `true` or `false` for each state{outputs}"),
     (r"/leaves/\d+/output/\d+", "an output is `true` or `false`"),
-    (r"/leaves/\d+/helpers", "`helpers` is a list of at most 1,024 numbers of states, in format 2, as many in each leaf as in leaf 0"),
+    (r"/leaves/\d+/helpers", "`helpers` is a list of at most 1,024 numbers of states, in format 2, as many in each "
+                             "leaf as in leaf 0"),
     (r"/leaves/\d+/helpers/\d+", "`helpers` names states by number{states}"),
-    (r"/combine", "`combine` is a list of 1 to 1,024 items in postfix, after which one value is left, as [0,1,\"and\"]"),
-    (r"/combine/\d+", "an item of `combine` is the number of a leaf{leaves}, \"not\", \"and\" or \"or\"; it stands behind its operands, at most 65 deep"),
+    (r"/combine", "`combine` is a list of 1 to 1,024 items in postfix, after which one value is left, as "
+                  "[0,1,\"and\"]"),
+    (r"/combine/\d+", "an item of `combine` is the number of a leaf{leaves}, \"not\", \"and\" or \"or\"; it stands "
+                      "behind its operands, at most 65 deep"),
     (r"/net", "a bundle is an object with the members `net`, `pred` and `proof`"),
     (r"/pred", "`pred` is the predicate, a text"),
     (r"/proof", "`proof` is a list with one object for each leaf of the net"),
@@ -42,11 +49,15 @@ RULES = [
     (r"/proof/\d+/layers/\d+/weights", "`weights` is a list of at most 512 numbers, one for each state"),
     (r"/proof/\d+/layers/\d+/weights/\d+", "a weight is a whole number of at most 2^40 in size"),
     (r"/proof/\d+/(true|false)", "a tree is a list of at most 1,000,000 nodes"),
-    (r"/proof/\d+/(true|false)/\d+", "a node is a list: its word, and the items that the word asks for, as [\"present\",0] or [\"lin\",[[0,1]]]"),
+    (r"/proof/\d+/(true|false)/\d+", "a node is a list: its word, and the items that the word asks for, as "
+                                     "[\"present\",0] or [\"lin\",[[0,1]]]"),
     (r"/proof/\d+/(true|false)/\d+/0", "a node's word is lin, residue, split, present, twin, trap, siphon or open"),
-    (r"/proof/\d+/(true|false)/\d+/\d+", "a node's item is a number, or a list of at most 65,536 terms or 512 states; a modulus is 2 to 200, a constant at most 2^40 in size"),
-    (r"/proof/\d+/(true|false)/\d+/\d+/\d+", "a term is a list of two numbers; states ascend strictly, each below 2^16"),
-    (r"/proof/\d+/(true|false)/\d+/\d+/\d+/\d+", "a term has a number below 2^32, of a variable in ascending order or of a fact, and a factor of at most 2^40 in size"),
+    (r"/proof/\d+/(true|false)/\d+/\d+", "a node's item is a number, or a list of at most 65,536 terms or 512 "
+                                         "states; a modulus is 2 to 200, a constant at most 2^40 in size"),
+    (r"/proof/\d+/(true|false)/\d+/\d+/\d+", "a term is a list of two numbers; states ascend strictly, each below "
+                                             "2^16"),
+    (r"/proof/\d+/(true|false)/\d+/\d+/\d+/\d+", "a term has a number below 2^32, of a variable in ascending order "
+                                                 "or of a fact, and a factor of at most 2^40 in size"),
 ]
 KINDS: dict[type, str] = {dict: "an object", list: "a list", str: "a text", bool: "true or false", int: "a number", float: "no whole number"}
 
@@ -104,14 +115,16 @@ def format_told(asked: Asked, path: str, why: str) -> list[str]:
             what = "a net" if net_given else "a bundle without a proof"
             return [f"this is {what}; `{asked.words[0]}` takes a bundle: a net with its predicate and proof", f"`pop find {asked.file or 'FILE'} PREDICATE` looks for a proof"]
         if "net" in value and path == "/format":
-            return ["this is a bundle; `play` takes the net alone: `pop play FILE` with the bundle's file plays its net"]
+            return ["this is a bundle; `play` takes the net alone: `pop play FILE` with the bundle's file plays its "
+                    "net"]
     if why.startswith("pred "):
         _, text = value_at(value, path)
         _, names = value_at(value, "/net/vars")
         told = predicate_told(why.split(" ")[1], int(why.split(" ")[2]), text if isinstance(text, str) else "", names if isinstance(names, list) else [])
         return [f"{path}: {told[0]}", *told[1:]]
     below = path.removeprefix("/net") if path != "/net" else path
-    rule = next((rule for pattern, rule in RULES if re.fullmatch(pattern, below)), "a net and a bundle are objects, `{..}`")
+    rule = next((rule for pattern, rule in RULES if re.fullmatch(pattern, below)), "a net and a bundle are objects, "
+        "`{..}`")
     if not path:
         return [f"{rule}; this is {KINDS.get(type(value), 'null')}", *shown_place(asked, path)]
     return [f"{path} {_found(value, path)}: {_filled(rule, value, path)}", *shown_place(asked, path)]
@@ -125,7 +138,8 @@ def not_json_told(asked: Asked) -> list[str]:
         first = short(text.split("\n")[0])
         if first.startswith("crowd"):
             return [f"{name} is a crowd line; the net or bundle comes before it, on a line of its own"]
-        return [f"{name} begins with `{first}`, and a net or a bundle is JSON, `{{..}}`; a .pop file is given as an argument: `pop {asked.words[0]} FILE`"]
+        return [f"{name} begins with `{first}`, and a net or a bundle is JSON, `{{..}}`; a .pop file is given as an "
+                f"argument: `pop {asked.words[0]} FILE`"]
     try:
         json.loads(text, parse_constant=_refuse)
     except json.JSONDecodeError as error:

@@ -15,10 +15,13 @@ def journal_told(asked: Asked, number: int, why: str) -> list[str]:
     line = asked.lines[number - 1] if number <= len(asked.lines) else ""
     place = [f"{asked.file or 'line'}{':' if asked.file else ' '}{number}", *quoted(line, 0)]
     if why == "missing":
-        return [f"the journal ends before line {number}: {'a round lacks meetings, or the line `end` is missing' if number > FIRST + 1 else 'a journal is what `run` prints'}"]
+        return [f"the journal ends before line {number}: "
+                f"{'a round lacks meetings, or the line `end` is missing' if number > FIRST + 1 else 'a journal is what `run` prints'}"]
     if why == "worker":
         workers = _workers(asked)
-        return [f"line {number} names a worker who isn't there{f' (there are workers 0 to {workers - 1})' if workers else ''} or has all its meetings of this round", *place]
+        return [f"line {number} names a worker who isn't "
+                f"there{f' (there are workers 0 to {workers - 1})' if workers else ''} or has all its meetings of "
+                f"this round", *place]
     if why == "agents":
         return [f"line {number} names one agent twice, or one that isn't there; they are numbered from 0", *place]
     if why == "round":

@@ -82,7 +82,8 @@ def _missing(asked: Asked, number: int) -> list[str]:
     if not asked.lines:
         return [f"the input is empty; `{command}` takes {' and '.join(wanted)}: {USAGE[command]}"]
     if command == "replay":
-        return [f"line {number} is missing; `replay` takes what `run` printed: the bundle, the crowd line and the journal"]
+        return [f"line {number} is missing; `replay` takes what `run` printed: the bundle, the crowd line and the "
+                f"journal"]
     if command in ("eval", "compile") and not asked.lines[0].startswith("vars"):
         return _vars_told(asked.lines[0])
     if number == 2 and "crowd" in wanted[1]:
@@ -90,7 +91,8 @@ def _missing(asked: Asked, number: int) -> list[str]:
             return not_json_told(asked)
         names = variables(asked)
         example = " ".join(f"{name}={n}" for name, n in zip(names, (30, 10, 5))) or "x=30 y=10"
-        return [f"the crowd is missing: give the counts behind the file, as in `pop {command} {asked.file or 'FILE'} {example}`, or a line `crowd {example}` behind the {wanted[0].removeprefix('a ')}"]
+        return [f"the crowd is missing: give the counts behind the file, as in `pop {command} {asked.file or 'FILE'} "
+                f"{example}`, or a line `crowd {example}` behind the {wanted[0].removeprefix('a ')}"]
     if number == 3 and command == "eval":
         return [f"the counts are missing: {USAGE['eval']}, or a line `crowd x=2 y=1`"]
     return [f"line {number} is missing: it has {what}"]
@@ -104,9 +106,11 @@ def _extra(asked: Asked) -> list[str]:
     extra = asked.lines[number] if have > number else ""
     first = asked.lines[0].strip() if asked.lines else ""
     if wanted[0].endswith(("bundle", "net")) and not _is_json(first):
-        return [f"the {wanted[0].removeprefix('a ')} is over {have} lines; it is one line: give the file as an argument, as in `pop {command} FILE`, or use `jq -c .`"]
+        return [f"the {wanted[0].removeprefix('a ')} is over {have} lines; it is one line: give the file as an "
+                f"argument, as in `pop {command} FILE`, or use `jq -c .`"]
     if command == "check" and extra.startswith("crowd"):
-        return [f"line {number + 1} is a crowd line; `check` takes a bundle alone, and its answer holds for every crowd: `run` and `settle` take a crowd"]
+        return [f"line {number + 1} is a crowd line; `check` takes a bundle alone, and its answer holds for every "
+                f"crowd: `run` and `settle` take a crowd"]
     if not extra.strip():
         return [f"line {number + 1} is empty; `{command}` takes {' and '.join(wanted)}, and nothing behind"]
     return [f"line {number + 1}, `{short(extra)}`, is one too many: `{command}` takes {' and '.join(wanted)}"]
@@ -166,12 +170,14 @@ def count_told(asked: Asked, at: int) -> list[str]:
     if at == 0 and asked.names[1:2] == ["the meetings"]:
         return [f"the counts are missing: {USAGE['play']}"]
     if at == 0:
-        return [f"a crowd line is `crowd` and the counts, as in `crowd x=30 y=10`; this one begins with `{short(word)}`{meant(word, ['crowd'])}", *where]
+        return [f"a crowd line is `crowd` and the counts, as in `crowd x=30 y=10`; this one begins with "
+                f"`{short(word)}`{meant(word, ['crowd'])}", *where]
     if word == "":
         return ["there is one space before each count, and here is one more", *where]
     name, sign, count = word.partition("=")
     if not sign:
-        return [f"`{short(word)}` is no count: a count is a variable, `=` and a number, as in `{names[0] if names else 'x'}=3`", *where]
+        return [f"`{short(word)}` is no count: a count is a variable, `=` and a number, as in "
+                f"`{names[0] if names else 'x'}=3`", *where]
     if name not in names:
         return [f"`{name}` is no variable of {whose}; it has {listed(names)}{meant(name, names)}", *where]
     if any(other.partition("=")[0] == name for other in words[1:at]):
@@ -188,9 +194,11 @@ def size_told(asked: Asked, size: int) -> list[str]:
     few = size < LEAST_AGENTS
     beside = "" if asked.lines and '"helpers"' not in asked.lines[0] else ", helpers included,"
     end = "nobody meets in a smaller one" if few else "what `check` certifies holds for crowds of every size"
-    return [f"the crowd has {size:,} {'agent' if size == 1 else 'agents'}{beside} and `{asked.words[0]}` takes 2 to {MOST_AGENTS:,}; {end}"]
+    return [f"the crowd has {size:,} {'agent' if size == 1 else 'agents'}{beside} and `{asked.words[0]}` takes 2 to "
+            f"{MOST_AGENTS:,}; {end}"]
 
 
 def settle_told(takes: int) -> list[str]:
     """On `fault: settle N`."""
-    return [f"the proof allows {takes:,} steps for this crowd, and `settle` goes up to {MOST_TAKES:,}: give fewer agents"]
+    return [f"the proof allows {takes:,} steps for this crowd, and `settle` goes up to {MOST_TAKES:,}: give fewer "
+            f"agents"]

@@ -11,8 +11,10 @@ TEXT_LIMIT = 1_048_576
 GENERAL = {
     "syntax": "no predicate goes on like this here",
     "unknown": "no variable has this name",
-    "large": "a coefficient is at most 2^31 in size, a constant at most 2^40 after `<` and 2^40 - 1 else, a modulus 2 to 200",
-    "deep": "at most 64 parentheses are open at once, and the signs `!`, `&&`, `||`, `=`, `!=` may be charged 64 in all",
+    "large": "a coefficient is at most 2^31 in size, a constant at most 2^40 after `<` and 2^40 - 1 else, a modulus "
+             "2 to 200",
+    "deep": "at most 64 parentheses are open at once, and the signs `!`, `&&`, `||`, `=`, `!=` may be charged 64 in "
+            "all",
 }
 
 
@@ -54,9 +56,12 @@ def atoms_told(number: int) -> list[str]:
 
 def width_told(atom: int, size: int) -> list[str]:
     """An atom that is too wide."""
-    return [f"the predicate's comparison {atom} (counted from 0) is {size:,} wide (the greatest of its coefficients and of its constant and 1); `compile` builds up to 80", "`compile --flocks` builds those that say that a sum of variables is at least a power of 2"]
+    return [f"the predicate's comparison {atom} (counted from 0) is {size:,} wide (the greatest of its coefficients "
+            f"and of its constant and 1); `compile` builds up to 80", "`compile --flocks` builds those that say that "
+                "a sum of variables is at least a power of 2"]
 
 
 def wide_told(atom: int) -> list[str]:
     """A wide atom beside too many others."""
-    return [f"the predicate's comparison {atom} (counted from 0) is over 42 wide: its leaf has more than 256 states, and a net with such a leaf has at most 4 leaves"]
+    return [f"the predicate's comparison {atom} (counted from 0) is over 42 wide: its leaf has more than 256 states, "
+            f"and a net with such a leaf has at most 4 leaves"]

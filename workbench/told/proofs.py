@@ -38,7 +38,8 @@ def rejected_told(asked: Asked, line: str) -> list[str]:
         where, general = f"leaf {tree[1]}, tree for {tree[2]}: ", GENERAL[tree[4]].format(at=tree[3])
     lacks = _lacks(asked, line)
     file = asked.file if asked.file and not asked.is_stdin else "FILE"
-    return [f"the proof isn't valid: {where}{general}", *lacks[:MOST], f"`pop explain {file}` shows the whole proof; `pop find {file}` looks for what is missing"]
+    return [f"the proof isn't valid: {where}{general}", *lacks[:MOST], f"`pop explain {file}` shows the whole proof; "
+        f"`pop find {file}` looks for what is missing"]
 
 
 def _lacks(asked: Asked, line: str) -> list[str]:

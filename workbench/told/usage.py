@@ -57,7 +57,8 @@ def _unknown(command: str, word: str) -> list[str]:
         return [f"`{word}`: the number stands behind a blank, as in `{name} {value or 'N'}`"]
     for other in ("run", "compile", "replay"):
         if word in (NUMBERED if other == "run" else FLAGS[other]):
-            return [f"`{word}` is an option of `{'run` and `watch' if other == 'run' else other}`, and `{command}` has {'no options' if not own else 'others: ' + ', '.join(own)}"]
+            return [f"`{word}` is an option of `{'run` and `watch' if other == 'run' else other}`, and `{command}` "
+                    f"has {'no options' if not own else 'others: ' + ', '.join(own)}"]
     if word in OUTPUT:
         return [f"`{word}` stands behind a predicate: {USAGE['compile']}"]
     if word.startswith("-") and word != "-":
