@@ -69,7 +69,7 @@ def contents(path):
 
 def main():
     if not os.path.exists(PROGRAM):
-        sys.exit("build the program first: bin/pop play < examples/majority/play.txt")
+        sys.exit("build the program first: bin/pop build")
     with tempfile.TemporaryDirectory() as folder:
         plain, ours, theirs = (os.path.join(folder, name) for name in ("plain", "ours", "theirs"))
         source = os.path.join(TOP, "bench/plain/check.rs")

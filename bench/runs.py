@@ -230,7 +230,7 @@ def measure(name, bundle, counts, plain, folder):
 
 def main():
     if not os.path.exists(PROGRAM):
-        sys.exit("build the program first: bin/pop play < examples/majority/play.txt")
+        sys.exit("build the program first: bin/pop build")
     resource.setrlimit(resource.RLIMIT_CORE, (0, 0))
     with tempfile.TemporaryDirectory() as folder:
         source = os.path.join(folder, "plain.rs")

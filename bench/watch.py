@@ -58,7 +58,7 @@ def expect_held(workers, seed):
 
 def main():
     if not os.path.exists(PROGRAM):
-        sys.exit("build the program first: bin/pop play < examples/majority/play.txt")
+        sys.exit("build the program first: bin/pop build")
     resource.setrlimit(resource.RLIMIT_CORE, (0, 0))
     whole, watched = average("run"), average("watch")
     print(

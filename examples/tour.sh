@@ -2,6 +2,10 @@
 bin/pop bundle < examples/majority/majority.pop | bin/pop check
 bin/pop explain examples/majority/majority.pop | tail -n 3
 bin/pop explain examples/rejected/wrong-trap.json | grep '>>>'
+bin/pop run examples/majority/majority.pop x=30 y=10 --seed 3 | tail -n 1
+bin/pop play examples/majority/net.json x=2 y=1 0,2 1,2
+bin/pop eval 'x >= y' x=2 y=3
+bin/pop check examples/majority/net.json 2>&1 | head -n 2
 bin/pop demo 21
 printf 'vars x y\nx - y < 3 || x + y = 1 mod 2\n' | bin/pop compile | bin/pop check
 (printf 'vars x y\nx - y < 3 || x + y = 1 mod 2\n' | bin/pop compile; echo 'crowd x=12 y=7') | bin/pop run | tail -n 1

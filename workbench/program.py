@@ -10,6 +10,7 @@ DONE, USAGE, REFUSED, REJECTED, UNDECIDED, DIFFERS, READ_FAULT, WRITE_FAULT, NO_
 
 TOP = Path(__file__).resolve().parent.parent
 BUILT = TOP / "crates" / "pop_main" / "out" / "pop_main"
+STANDING = TOP / "out" / "pop" / "standing"
 BY_SCRIPT = TOP / "bin" / "pop"
 VARIABLE = "POP_MAIN"
 
@@ -32,12 +33,16 @@ class NoProgram(Exception):
 
 
 def program_path() -> str:
-    """The program: what POP_MAIN names, else the built one, else bin/pop, which builds it."""
+    """The program: what POP_MAIN names, else the one that stands while a build goes on, else the built one, else bin/pop, which builds it."""
     named = os.environ.get(VARIABLE)
     if named:
         if not os.access(named, os.X_OK):
             raise NoProgram(f"{VARIABLE} names {named}, which is no program")
         return named
+    if os.access(STANDING, os.X_OK):
+        from .building.lock import is_held
+        if is_held():
+            return str(STANDING)
     if os.access(BUILT, os.X_OK):
         return str(BUILT)
     if os.access(BY_SCRIPT, os.X_OK):

@@ -28,17 +28,20 @@ class UsageFault(Exception):
 
 
 def main(arguments: list[str]) -> int:
-    """Runs the command that the first word names, and gives its exit status."""
-    if not arguments or arguments[0] not in TABLE:
-        found = f"`{arguments[0]}` is no command of the workbench" if arguments else "a command is missing"
-        print(f"pop: {found}; it has {', '.join(TABLE)}", file=sys.stderr)
-        return USAGE
-    module = import_module(f".{TABLE[arguments[0]][0]}", __name__)
+    """Runs the command that the first word names, and gives its exit status; all other words are for the front door."""
+    word = arguments[0] if arguments else ""
     try:
+        if word not in TABLE:
+            from ..front.door import enter
+            return enter(arguments)
+        if "--help" in arguments[1:]:
+            from ..helping.showing import show_page
+            return show_page(word)
+        module = import_module(f".{TABLE[word][0]}", __name__)
         status: int = module.run(arguments[1:])
         return status
     except UsageFault as fault:
-        print(f"pop {arguments[0]}: {fault}", file=sys.stderr)
+        print(f"pop {word}: {fault}", file=sys.stderr)
         return USAGE
     except InputFault as fault:
         print(fault, file=sys.stderr)

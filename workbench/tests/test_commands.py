@@ -10,6 +10,7 @@ import pytest
 
 from workbench import program
 from workbench.commands import TABLE
+from workbench.front.request import PROGRAM_WORDS
 from workbench.proofs import Bundle, bundle_of
 
 from .conftest import EXAMPLES, TOP, bundle_at, compiled, needs_program
@@ -63,11 +64,11 @@ def test_start_up_is_short() -> None:
     assert best < START_SECONDS
 
 
-def test_bin_pop_knows_every_command() -> None:
+def test_bin_pop_gives_the_program_its_own_words_alone() -> None:
     script = Path(POP).read_text()
-    line = next(line for line in script.splitlines() if "/workbench" in line)
-    words = line.split(")")[0].replace(" ", "").split("|")
-    assert set(TABLE) <= set(words)
+    line = next(line for line in script.splitlines() if "in check |" in line)
+    words = line.split(" in ")[1].split(")")[0].replace(" ", "").split("|")
+    assert tuple(words) == PROGRAM_WORDS and not set(TABLE) & set(words)
 
 
 @needs_program

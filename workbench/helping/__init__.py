@@ -1,0 +1,1 @@
+"""One text for each command: shown by `pop help`, printed as a manual page, and made into completions for two shells."""
