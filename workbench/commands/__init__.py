@@ -20,6 +20,7 @@ TABLE: dict[str, tuple[str, str]] = {
     "not": ("join_not", "the bundle of the negation"),
     "find": ("find", "a certified bundle of a protocol, or a crowd that it gets wrong"),
     "refute": ("refute", "looks for a crowd that a protocol gets wrong"),
+    "simulate": ("simulate", "a run of a net by counts, for crowds of any size; no proof is needed"),
 }
 
 
