@@ -84,7 +84,15 @@ class Recorder:
         self.next = 0
         self.watch(run)
         out = Curve(
-            title, crowd, str(seed), run.agents, run.meetings, run.last_change, run.since, run.is_terminal, "simulated"
+            title,
+            crowd,
+            str(seed),
+            run.agents,
+            run.meetings,
+            run.last_change,
+            run.since,
+            run.is_terminal,
+            "simulated",
         )
         self.times[-1] = run.meetings
         return filled(out, self.times, self.crowds, self.outputs)

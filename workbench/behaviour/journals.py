@@ -65,7 +65,8 @@ class Agents:
         """What words output, by their names."""
         states = [{name: q for q, name in enumerate(leaf.states)} for leaf in self.reactions.net.leaves]
         return {
-            name: self.reactions.output(tuple(at[part] for at, part in zip(states, name.split("/")))) for name in names
+            name: self.reactions.output(tuple(at[part] for at, part in zip(states, name.split("/"))))
+            for name in names
         }
 
 
