@@ -16,9 +16,9 @@ Bits = Callable[[int], int]
 def skipped(good: int, among: int, bits: Bits) -> int:
     """How many draws fail before the first success, where `good` of `among` draws succeed; 0 < good <= among / 2.
 
-    By inversion: the floor of log(U) / log(1 - good/among), for U uniform in the unit interval. `bits(k)` gives k random
-    bits. U is drawn bit by bit: floats bound the quotient, and where the floor isn't certain more bits and more digits are
-    taken, so no rounding reaches the result.
+    By inversion: the floor of log(U) / log(1 - good/among), for U uniform in the unit interval. `bits(k)` gives k
+    random bits. U is drawn bit by bit: floats bound the quotient, and where the floor isn't certain more bits and more
+    digits are taken, so no rounding reaches the result.
     """
     drawn = bits(FIRST_BITS)
     if drawn:

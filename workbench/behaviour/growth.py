@@ -7,6 +7,8 @@ from typing import Callable, Sequence
 
 LEAST_SIZES = 4
 NOISE = 0.03  # medians are rarely better known than to 3 per cent
+STEEP = 2.5                     # what grows no faster than this power of n is not called exponential
+GOOD = 0.4                      # a shape that is farther off at some size is no good fit
 CLOSE = 2.0  # scores that differ by less do not tell two shapes apart (Akaike 1974)
 
 SHAPES: list[tuple[str, Callable[[float], float]]] = [
@@ -23,7 +25,7 @@ EXPONENTIAL = "exponential"
 
 @dataclass(frozen=True)
 class Fit:
-    """A shape with its factor: factor * shape(n), or factor * base^n. `off` is the greatest relative error, `score` the less the better."""
+    """factor * shape(n), or factor * base^n. `off` is the greatest relative error; the least `score` fits best."""
 
     shape: str
     factor: float
@@ -45,8 +47,8 @@ class Fit:
         return f"{self.factor:.3g}" if self.shape == "1" else f"{self.factor:.3g} {self.shape}"
 
 
-def _fit(shape: str, sizes: Sequence[float], logs: Sequence[float], slope: float, parameters: int) -> Fit:
-    """The fit of a shape whose logarithms, less a constant, are `logs` here replaced by residuals."""
+def _fit(shape: str, logs: Sequence[float], slope: float, parameters: int) -> Fit:
+    """The fit of a shape; `logs` are the logarithms of the numbers less those of the shape."""
     constant = sum(logs) / len(logs)
     rests = [value - constant for value in logs]
     spread = sum(rest * rest for rest in rests) / len(rests) + NOISE**2
@@ -66,10 +68,10 @@ def fits_of(sizes: Sequence[float], numbers: Sequence[float]) -> list[Fit]:
     if len(sizes) < LEAST_SIZES or len(set(sizes)) < LEAST_SIZES:
         return []
     logs = [log(value) for value in numbers]
-    fits = [_fit(name, sizes, [y - log(f(n)) for n, y in zip(sizes, logs)], 0.0, 1) for name, f in SHAPES]
+    fits = [_fit(name, [y - log(f(n)) for n, y in zip(sizes, logs)], 0.0, 1) for name, f in SHAPES]
     slope = slope_of(sizes, logs)
-    if slope > 0:
-        fits.append(_fit(EXPONENTIAL, sizes, [y - slope * n for n, y in zip(sizes, logs)], slope, 2))
+    if slope > 0 and slope_of([log(n) for n in sizes], logs) > STEEP:
+        fits.append(_fit(EXPONENTIAL, [y - slope * n for n, y in zip(sizes, logs)], slope, 2))
     return sorted(fits, key=lambda fit: fit.score)
 
 
@@ -79,6 +81,8 @@ def growth_told(what: str, sizes: Sequence[float], numbers: Sequence[float]) -> 
     if not fits:
         return f"{what}: {LEAST_SIZES} sizes with a median are wanted to tell how it grows"
     best, next_ = fits[0], fits[1]
+    if best.off > GOOD:
+        return f"{what}: no plain growth fits; the nearest, {best.text}, is {best.off:.0%} off"
     span = f"n = {min(sizes):g} to {max(sizes):g}"
     like = (
         "exponentially" if best.shape == EXPONENTIAL else "not at all" if best.shape == "1" else f"like {best.shape}"

@@ -71,7 +71,7 @@ class Agents:
 
 
 def meetings_of(lines: Sequence[str], agents: int, name: str, first: int) -> list[tuple[int, int, bool]]:
-    """The meetings of a journal's lines: two agents, and whether it is marked; `first` is the number of the first line."""
+    """The meetings of a journal's lines: two agents, and whether it is marked; `first` numbers the first line."""
     out = []
     for at, line in enumerate(lines, first):
         match = _MEETING.fullmatch(line)

@@ -10,7 +10,7 @@ TRUE_FILL, FALSE_FILL = "#BFDDEE", "#F7D5BF"
 
 
 def apart(places: Sequence[float], distance: float, low: float = 0.0, high: float = 1.0) -> list[float]:
-    """Places moved as little as need be, so that neighbours are so far apart and all are from low to high, where they fit."""
+    """Places moved as little as need be, so that neighbours are so far apart, from low to high where they fit."""
 
     def middle(at: float, count: int) -> float:
         half = distance * (count - 1) / 2

@@ -1,4 +1,4 @@
-"""A net as a picture: states by output, moves as arrows that say whom the agent met; leaves side by side; by graphviz."""
+"""A net as a picture by graphviz: states by output, moves as arrows with whom the agent met, leaves side by side."""
 from __future__ import annotations
 
 import shutil
@@ -105,14 +105,16 @@ def _cells(texts: Sequence[str]) -> str:
 def _table(net: Net, at: int, leaf: Leaf) -> list[str]:
     """The line of a leaf that is drawn as a table."""
     rows = [
-        "<tr><td><b>state</b></td><td><b>output</b></td><td><b>starts</b></td><td><b>becomes, when it meets</b></td></tr>"
+        "<tr><td><b>state</b></td><td><b>output</b></td><td><b>starts</b></td>"
+        "<td><b>becomes, when it meets</b></td></tr>"
     ]
     for name, output, begins, becomes in rows_of(net, leaf):
         fill = TRUE_FILL if output == "true" else FALSE_FILL
         cells = [f'<td bgcolor="{fill}">{_html(name)}</td>', f"<td>{output}</td>", f"<td>{_html(begins) or ' '}</td>"]
         rows.append(f'<tr>{"".join(cells)}<td align="left">{_html(_cells(becomes)) or " "}</td></tr>')
     return [
-        f'table{at} [shape=plaintext style="" label=<<table border="0" cellborder="1" cellspacing="0">{"".join(rows)}</table>>]'
+        f'table{at} [shape=plaintext style="" '
+        f'label=<<table border="0" cellborder="1" cellspacing="0">{"".join(rows)}</table>>]'
     ]
 
 

@@ -29,7 +29,7 @@ class Reactions:
     def after(self, first: Word, second: Word) -> tuple[Word, Word] | None:
         """The two words after a meeting; None where it changes nothing.
 
-        Which agent is the first matters only where a move takes two agents of one state: it becomes the move's third one.
+        Which agent is the first matters only where a move takes two agents of one state: it becomes the third one.
         """
         ones, twos = [], []
         changed = False

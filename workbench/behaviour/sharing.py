@@ -1,4 +1,4 @@
-"""Does jobs one after the other, or shares them by GNU parallel among processors and hosts; what was lost is done again."""
+"""Does jobs here, or shares them by GNU parallel among processors and hosts; what was lost is done again."""
 from __future__ import annotations
 
 import os

@@ -42,8 +42,8 @@ class Simulation:
     """A crowd on its way.
 
     `meetings` and `changes` count those so far, `last_change` is the number of the meeting that last changed something.
-    `since` is the number of the meeting since which all agents output the same, None where they don't. `ended` is empty,
-    or why it stopped.
+    `since` is the number of the meeting since which all agents output the same, None where they don't. `ended` is
+    empty, or why it stopped.
     """
 
     def __init__(self, net: Net, counts: Sequence[int], seed: int) -> None:
@@ -129,6 +129,10 @@ class Simulation:
         self.steps[i][j] = step
         return step
 
+    def _sums(self, step: Step) -> list[Change]:
+        """What a step adds to the partner sums, where it doesn't keep that."""
+        return [(row, k) for at, k in step.counts for row in self.partners[at]]
+
     def _chosen(self, i: int, within: int) -> Step:
         """The step of an agent in word i with the partner of this number."""
         counts = self.counts
@@ -195,13 +199,8 @@ class Simulation:
             step = self._chosen(i, (drawn - (rows[i - 1] if i else 0)) // counts[i])
             for at, k in step.counts:
                 counts[at] += k
-            if step.sums is not None:
-                for at, k in step.sums:
-                    sums[at] += k
-            else:
-                for at, k in step.counts:
-                    for row in self.partners[at]:
-                        sums[row] += k
+            for at, k in self._sums(step) if step.sums is None else step.sums:
+                sums[at] += k
             self.changes += 1
             self.last_change = self.meetings
             self._told(step, on_change)
@@ -209,7 +208,7 @@ class Simulation:
 
 @dataclass(frozen=True)
 class Limits:
-    """Where a simulation stops: at `until` (terminal, agreed, meetings), at the latest after so many meetings or changes."""
+    """Where a simulation stops: at `until` (terminal, agreed, meetings), or after so many meetings or changes."""
 
     until: str = TERMINAL
     meetings: int = ENDLESS

@@ -23,7 +23,7 @@ MARK_SIZE = 12
 
 @dataclass(frozen=True)
 class Job:
-    """One run: by which way, of which net, with which crowd, seed and limits. `mark` is that of the net and its predicate."""
+    """One run: by which way, of which net, with which crowd, seed and limits; `mark` stands for the net's contents."""
 
     by: str
     path: str
@@ -44,7 +44,7 @@ class Job:
 
 @dataclass(frozen=True)
 class Result:
-    """What came of a job. `end` and `agreed` are numbers of meetings, None where the run was not terminal within its limits.
+    """What came of a job. `end` and `agreed` are numbers of meetings, None where the run was not terminal in time.
 
     `agreed` is the meeting since which all agents output the same; `right` says whether this is the predicate's value.
     """

@@ -1,4 +1,4 @@
-"""The table of a sweep: a line for each net and size. Written as aligned text and as comma-separated values, and read back."""
+"""The table of a sweep, a line for each net and size: as aligned text, and as comma-separated values."""
 from __future__ import annotations
 
 import csv

@@ -1,4 +1,4 @@
-"""`pop draw -o FILE`: the picture of a net: states by output, moves as arrows, leaves side by side; a table of great leaves."""
+"""`pop draw -o FILE`: the picture of a net: states by output, moves as arrows, leaves side by side."""
 from __future__ import annotations
 
 from ..behaviour.netdrawing import about_text, dot_text, draw, table_text

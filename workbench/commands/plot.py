@@ -14,7 +14,10 @@ from ..program import DONE
 from . import UsageFault
 from .options import Options, read_options
 
-TAKES = "a journal, a trace or a sweep's table (or standard input), -o FILE.svg or FILE.png, or --text; --by state or output, --of end or agreed, and --title TEXT"
+TAKES = (
+    "a journal, a trace or a sweep's table (or standard input), -o FILE.svg or FILE.png, or --text; "
+    "--by state or output, --of end or agreed, and --title TEXT"
+)
 
 
 def _written(options: Options, curve: Curve | None, rows: list[Row], told: str) -> None:

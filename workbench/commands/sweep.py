@@ -19,7 +19,8 @@ from .simulate import CHANGES_ASKED, MEETING_LIMIT, SEED_LIMIT, net_title, write
 
 TAKES = (
     "files, sizes as in `x=10..1000*2 y=x-1`, --runs N (20), --seed N (0), --changes N (1000000), --meetings N, "
-    "--predicate TEXT, --by simulate or run, --jobs N (1), --hosts FILE, --list, --gather FILE or FOLDER, and --csv FILE"
+    "--predicate TEXT, --by simulate or run, --jobs N (1), --hosts FILE, --list, --gather FILE or FOLDER, "
+    "and --csv FILE"
 )
 JOB_WORD = "--job"
 TEXTS = {
