@@ -113,7 +113,8 @@ def growth(rows: list[Row], name: str) -> str:
 def cell(name: str, path: str, loaded: Loaded, told: str, ranges: str) -> str:
     """One protocol of the list."""
     where = path.removeprefix("docs/")
-    return f"**{name}**: `{loaded.predicate}`<br>{told}; `{ranges}`<br>![{name}]({where})"
+    predicate = (loaded.predicate or "").replace("|", "\\|")      # (a bar would end the table's cell)
+    return f"**{name}**: `{predicate}`<br>{told}; `{ranges}`<br>![{name}]({where})"
 
 
 def main() -> None:
@@ -133,7 +134,7 @@ def main() -> None:
         return
     lines = ["| | |", "|---|---|"]
     lines += [
-        "| " + " | ".join(one.replace("||", "&#124;&#124;") for one in cells[at : at + COLUMNS]) + " |"
+        "| " + " | ".join(one for one in cells[at : at + COLUMNS]) + " |"
         for at in range(0, len(cells), COLUMNS)
     ]
     before, rest = PAGE.read_text().split(BEGIN)

@@ -8,6 +8,7 @@ from itertools import product
 from math import sqrt
 from pathlib import Path
 from random import Random
+from time import process_time
 from typing import Iterable, Mapping
 
 import pytest
@@ -242,6 +243,13 @@ def test_until() -> None:
     three = Simulation(net, (5, 30), 1)
     carry_out(three, Limits(MEETINGS, 10), None)
     assert three.ended == MEETINGS and three.meetings == 10 >= three.last_change
+
+
+def test_a_million_changes_take_less_than_ten_seconds() -> None:
+    run = Simulation(net_at("majority/majority.pop"), (10**5 + 1, 10**5), 3)
+    start = process_time()
+    run.burst(50_000)
+    assert run.changes == 50_000 and process_time() - start < 0.5
 
 
 def test_a_thousand_million_agents() -> None:

@@ -1,6 +1,7 @@
 """Sweeps: sizes, jobs, tables and growth; shared by hosts of which one is lost."""
 from __future__ import annotations
 
+import shutil
 import subprocess
 import time
 from math import log
@@ -232,6 +233,13 @@ def test_list_and_gather(tmp_path: Path) -> None:
 def test_faults(words: list[str], status: int, told: str) -> None:
     run = pop("sweep", *words)
     assert run.returncode == status and told in run.stderr and "Traceback" not in run.stderr
+
+
+@pytest.mark.skipif(not shutil.which("parallel"), reason="GNU parallel is wanted: apt-get install parallel")
+def test_processors_share_the_jobs_of_a_sweep() -> None:
+    words = ["sweep", EPIDEMIC, MAJORITY, "x=5..40*2", "y=x+1", "--runs", "5"]
+    run = pop(*words, "--jobs", "2")
+    assert run.returncode == 0 and run.stdout == pop(*words).stdout
 
 
 def test_without_gnu_parallel() -> None:
