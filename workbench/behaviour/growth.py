@@ -82,7 +82,8 @@ def growth_told(what: str, sizes: Sequence[float], numbers: Sequence[float]) -> 
         return f"{what}: {LEAST_SIZES} sizes with a median are wanted to tell how it grows"
     best, next_ = fits[0], fits[1]
     if best.off > GOOD:
-        return f"{what}: no plain growth fits; the nearest, {best.text}, is {best.off:.0%} off"
+        nearest = f"the nearest, {best.text}, is {best.off:.0%} off"
+        return f"{what}: no plain growth fits; {nearest}; more runs or sizes may tell"
     span = f"n = {min(sizes):g} to {max(sizes):g}"
     like = (
         "exponentially" if best.shape == EXPONENTIAL else "not at all" if best.shape == "1" else f"like {best.shape}"

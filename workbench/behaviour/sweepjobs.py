@@ -130,7 +130,7 @@ def result_of(job: Job, loaded: Loaded | None = None) -> Result:
 def _by_run(job: Job, loaded: Loaded, value: bool | None) -> Result:
     """The same by the proved program, which then replays its journal."""
     turns = min(job.meetings or RUN_MEETINGS, RUN_MEETINGS)
-    lines = f"{strict_bundle(loaded).line()}\ncrowd {job.crowd}\n"
+    lines = f"{strict_bundle(loaded).line()}\n" + f"crowd {job.crowd}".rstrip() + "\n"
     answer = program.ask(["run", "--turns", str(turns), "--seed", str(job.seed)], lines)
     if answer.status not in (program.DONE, program.UNDECIDED):
         raise InputFault(f"{job.path}: the program doesn't run it: {answer.first_line}")

@@ -25,6 +25,8 @@ BEGIN = "<!-- curves: written by `/usr/bin/python3 -m workbench.benchmark.curves
 END = "<!-- end of the curves -->"
 PICTURE_CHANGES, SWEEP_CHANGES = 300_000, 100_000
 RUNS, SEED = 31, 1
+# two agents have to find each other here, after a time that varies much
+NOISY, NOISY_RUNS = ("exactly-one", "found-out", "interval"), 301
 COLUMNS = 2
 PICTURE_BYTES = 200_000
 
@@ -85,9 +87,10 @@ def swept(loaded: Loaded, name: str, ranges: str) -> list[Row]:
     """The rows of a sweep."""
     mark = mark_of(loaded)
     rows = []
+    runs = NOISY_RUNS if name in NOISY else RUNS
     for size in sizes_of(ranges.split()):
         crowd = " ".join(f"{variable}={k}" for variable, k in size.items())
-        jobs = [Job("simulate", loaded.name, crowd, seed, SWEEP_CHANGES, 0, "", mark) for seed in range(RUNS)]
+        jobs = [Job("simulate", loaded.name, crowd, seed, SWEEP_CHANGES, 0, "", mark) for seed in range(runs)]
         rows.append(row_of(name, crowd, [result_of(job, loaded) for job in jobs]))
     return rows
 

@@ -4,6 +4,7 @@ from __future__ import annotations
 import shlex
 import sys
 from dataclasses import dataclass
+from pathlib import Path
 
 from ..behaviour.crowds import counts_of, crowd_words, split_words, whole_word
 from ..behaviour.progress import Progress
@@ -70,17 +71,11 @@ def _groups(options: Options) -> list[Group]:
         for size in sizes:
             counts = counts_of(loaded.net, [f"{name}={k}" for name, k in size.items()])
             crowd = crowd_words(loaded.net, counts)
-            whole = str(_absolute(path))
+            whole = str(Path(path).absolute())
             mark = mark_of(loaded)
             jobs = [Job(by, whole, crowd, first + i, changes, meetings, predicate, mark) for i in range(runs)]
             groups.append(Group(net_title(loaded), crowd, jobs))
     return groups
-
-
-def _absolute(path: str) -> str:
-    from pathlib import Path
-
-    return str(Path(path).absolute())
 
 
 def _told(options: Options) -> str:
