@@ -18,8 +18,7 @@ from workbench.behaviour.sizes import sizes_of
 from workbench.behaviour.sweepjobs import Job, Result, load_net, mark_of, read_job, read_result, result_of
 from workbench.behaviour.table import csv_text, read_csv, row_of
 from workbench.commands import UsageFault
-from workbench.files import InputFault, load_path
-from workbench.nets import compact
+from workbench.files import InputFault
 
 from .conftest import EXAMPLES, needs_program
 from .hosts import Host, _children, can_serve
@@ -182,13 +181,12 @@ def test_by_the_program_s_runs() -> None:
     )
     rows = {}
     for by in ("simulate", "run"):
-        run = pop("sweep", MAJORITY, "x=10", "y=20", "--runs", "60", "--by", by)
+        run = pop("sweep", MAJORITY, "x=10", "y=20", "--runs", "24", "--by", by)
         assert run.returncode == 0, run.stderr
         rows[by] = float(run.stdout.splitlines()[2].split()[8])
-    assert 0.7 < rows["simulate"] / rows["run"] < 1.4
-    net = load_path(MAJORITY).net
+    assert 0.6 < rows["simulate"] / rows["run"] < 1.7
     refused = pop("sweep", "--job", job.text().replace("net=", "net=0"))
-    assert refused.returncode == program.REFUSED and "another net" in refused.stderr and compact(net.value())
+    assert refused.returncode == program.REFUSED and "another net" in refused.stderr
 
 
 def test_list_and_gather(tmp_path: Path) -> None:
