@@ -20,6 +20,10 @@ TABLE: dict[str, tuple[str, str]] = {
     "not": ("join_not", "the bundle of the negation"),
     "find": ("find", "a certified bundle of a protocol, or a crowd that it gets wrong"),
     "refute": ("refute", "looks for a crowd that a protocol gets wrong"),
+    "simulate": ("simulate", "a run of a net by counts, for crowds of any size; no proof is needed"),
+    "sweep": ("sweep", "many runs over sizes and seeds: how meetings grow with the crowd"),
+    "plot": ("plot", "the picture of a journal, of a trace or of a sweep's table"),
+    "draw": ("draw", "the picture of a net"),
 }
 
 
