@@ -3,7 +3,8 @@ from __future__ import annotations
 
 import sys
 
-from .pages import Page, all_pages
+from .page import Page
+from .pages import all_pages
 
 
 def option_words(page: Page) -> list[str]:

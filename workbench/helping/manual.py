@@ -1,7 +1,8 @@
 """Prints man/pop.1: `python3 -m workbench.helping.manual`."""
 from __future__ import annotations
 
-from .pages import OTHER, PROGRAM, STATUSES, Page, workbench_pages
+from .page import Page
+from .pages import OTHER, PROGRAM, STATUSES, workbench_pages
 from .showing import PROVED, UNPROVED
 
 HEAD = (

@@ -1,7 +1,8 @@
 """What is said of each command: for `pop help`, for the manual page and for completion. Examples run from the repository's top."""
 from __future__ import annotations
 
-from dataclasses import dataclass
+from .behaviour import BEHAVIOUR
+from .page import Page
 
 NUMBERS = (
     ("--workers N", "1 to 64 workers, for watch 1 to 63, more than one on threads (1)"),
@@ -9,18 +10,6 @@ NUMBERS = (
     ("--turns N", "0 to 1,000,000 meetings of each worker, 2,000,000 in all (10000)"),
     ("--seed N", "0 to 9,223,372,036,854,775,807, from which the pairs are drawn (0)"),
 )
-
-
-@dataclass(frozen=True)
-class Page:
-    """A command: its forms, what it does, options, examples; `files` says that its words may be files."""
-    word: str
-    short: str
-    forms: tuple[str, ...]
-    text: str
-    examples: tuple[str, ...]
-    options: tuple[tuple[str, str], ...] = ()
-    files: bool = True
 
 
 PROGRAM = (
@@ -245,7 +234,7 @@ STATUSES = (
 def workbench_pages() -> list[Page]:
     """A page for each command of the workbench; one that has none yet gets its line alone."""
     from ..commands import TABLE
-    own = {page.word: page for page in WORKBENCH}
+    own = {page.word: page for page in (*WORKBENCH, *BEHAVIOUR)}
     return [own.get(word, Page(word, short, (f"pop {word} [FILE] ..",), "", ())) for word, (_, short) in TABLE.items()]
 
 

@@ -6,7 +6,8 @@ import sys
 import textwrap
 
 from ..program import DONE, USAGE
-from .pages import OTHER, PROGRAM, STATUSES, Page, all_pages, workbench_pages
+from .page import Page
+from .pages import OTHER, PROGRAM, STATUSES, all_pages, workbench_pages
 
 WIDTH = 79
 COLUMN = 13

@@ -11,14 +11,17 @@ import pytest
 from workbench import program
 from workbench.commands import TABLE
 from workbench.front.request import PROGRAM_WORDS
+from workbench.helping.behaviour import BEHAVIOUR
 from workbench.helping.completion import bash, option_words, zsh
 from workbench.helping.manual import manual
-from workbench.helping.pages import OTHER, PROGRAM, WORKBENCH, Page, all_pages
+from workbench.helping.page import Page
+from workbench.helping.pages import OTHER, PROGRAM, WORKBENCH, all_pages
 from workbench.helping.showing import overview, page_text
 
 from .conftest import EXAMPLES, TOP, needs_program
 
 COLUMNS = 80
+OWN = (*WORKBENCH, *BEHAVIOUR)
 BUILD_WORDS = ("build", "--version", "--unproved")
 RT = """#!/bin/sh
 case "$1" in
@@ -45,7 +48,7 @@ def shell(line: str, folder: Path, **environment: str) -> "subprocess.CompletedP
 
 def test_every_command_has_a_page_with_two_examples() -> None:
     assert [page.word for page in PROGRAM] == list(PROGRAM_WORDS)
-    assert set(TABLE) <= {page.word for page in WORKBENCH}, "a page in workbench/helping/pages.py, and then `make texts`"
+    assert set(TABLE) <= {page.word for page in OWN}, "a page in workbench/helping, and then `make texts`"
     for page in all_pages():
         assert len(page.examples) == 2 and page.forms and page.short, page.word
         assert all(f"pop {page.word}" in example for example in page.examples), page.word
@@ -56,7 +59,12 @@ def test_help_fits_a_terminal() -> None:
         assert max(map(len, text.splitlines())) <= COLUMNS
 
 
-EXAMPLE_ROWS = [(page.word, example) for page in (*PROGRAM, *WORKBENCH, *OTHER) for example in page.examples if page.word not in BUILD_WORDS and (page.word in TABLE or page not in WORKBENCH)]
+EXAMPLE_ROWS = [
+    (page.word, example)
+    for page in (*PROGRAM, *OWN, *OTHER)
+    for example in page.examples
+    if page.word not in BUILD_WORDS and (page.word in TABLE or page not in OWN)
+]
 
 
 @needs_program
