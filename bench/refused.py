@@ -1,7 +1,7 @@
 #!/usr/bin/env python3
 """Refuses each request for memory in turn, in runs of the built program of their own.
 
-Run from the top of the repository: python3 bench/refused.py [PROGRAM]
+Run from the top of the repository: python3 bench/refused.py [--short] [PROGRAM]; --short leaves out the cases with most requests.
 The C library's allocating calls are replaced, for the program alone, by ones of which the call with a given number gives
 nothing; they stand below, and gcc builds them. For each case the number counts up from 1, until a run in which nothing was
 refused. A run in which something was refused must end with the status 8 and print nothing, or give the whole answer. The
@@ -15,7 +15,9 @@ import sys
 import tempfile
 
 TOP = os.path.dirname(os.path.dirname(os.path.abspath(__file__)))
-PROGRAM = sys.argv[1] if len(sys.argv) > 1 else os.path.join(TOP, "crates/pop_main/out/pop_main")
+IS_SHORT = "--short" in sys.argv[1:]
+GIVEN = [word for word in sys.argv[1:] if word != "--short"]
+PROGRAM = GIVEN[0] if GIVEN else os.path.join(TOP, "crates/pop_main/out/pop_main")
 TESTS = os.path.join(TOP, "crates/run_tests/out/run_tests_tests")
 FIELD_TEST = "refusals::a_refusal_leaves_the_seats"
 EXAMPLES = os.path.join(TOP, "examples")
@@ -93,6 +95,9 @@ CASES = {
 }
 
 
+LONG = {"check of two leaves", "run", "demo"}
+
+
 def run(library, words, data, call):
     """The status, the text, and whether the call with this number was refused."""
     environment = {"LD_PRELOAD": library, "REFUSED_CALL": str(call)}
@@ -152,7 +157,7 @@ def main():
         with open(source, "w") as file:
             file.write(REFUSING)
         subprocess.run(["gcc", "-O1", "-shared", "-fPIC", "-o", library, source], check=True)
-        wrong = sum(count(library, name) for name in CASES)
+        wrong = sum(count(library, name) for name in CASES if not (IS_SHORT and name in LONG))
         if os.path.exists(TESTS):
             wrong += count_test(library)
         else:
