@@ -6,8 +6,9 @@ import os
 from dataclasses import dataclass, field
 from typing import Any
 
+from ..cautions import cautions
 from ..files import STANDARD_INPUT, InputFault, load_pop, read_text, strict_bundle
-from ..nets import compact
+from ..nets import FormatFault, compact, net_of
 from ..scanner import TextFault
 from .relaxed import in_form
 from .request import TAKES_PREDICATE, Request, WordFault
@@ -79,6 +80,14 @@ def _read(path: str, asked: Asked) -> str:
     return text
 
 
+def _cautions(value: Any) -> list[str]:
+    """What is probably not meant of a net, or of a bundle's; nothing of one that is malformed, which the program tells."""
+    try:
+        return cautions(net_of(value.get("net", value)))
+    except (FormatFault, AttributeError):
+        return []
+
+
 def _protocol(request: Request, text: str, asked: Asked) -> list[str]:
     """The line of a net or bundle; gives the lines behind it."""
     if text.lstrip()[:1] in ("{", "["):
@@ -87,6 +96,7 @@ def _protocol(request: Request, text: str, asked: Asked) -> list[str]:
         if request.command == PLAYS and isinstance(value, dict) and "net" in value and "leaves" not in value:
             asked.notes.append(f"{asked.file} is a bundle; the net in it is played")
             line, asked.original = compact(value["net"]), ""
+        asked.notes += [f"{asked.file}: warning: {told}" for told in _cautions(value)]
         asked.add(line, asked.file)
         return behind
     try:

@@ -180,3 +180,9 @@ def test_the_program_s_own_bytes_and_status_are_unchanged(words: list[str], text
     for run in (piped, read):
         assert (run.stdout, run.returncode) == (wanted.stdout, wanted.returncode)
         assert bool(run.stderr) == (run.returncode != 0) and b"Traceback" not in run.stderr
+
+
+@needs_program
+def test_a_hidden_move_is_told() -> None:
+    run = pop("check", str(EXAMPLES / "accepted/two-moves.json"))
+    assert run.stdout == "certified 2\n" and "is hidden by" in run.stderr
