@@ -186,3 +186,12 @@ def test_the_program_s_own_bytes_and_status_are_unchanged(words: list[str], text
 def test_a_hidden_move_is_told() -> None:
     run = pop("check", str(EXAMPLES / "accepted/two-moves.json"))
     assert run.stdout == "certified 2\n" and "is hidden by" in run.stderr
+
+
+@needs_program
+def test_out_of_memory_is_said() -> None:
+    given = (MAJORITY / "bundle.json").read_text() + "crowd x=501 y=499\n"
+    line = f"ulimit -v 12000; '{POP}' run --turns 1000000"
+    run = subprocess.run(["sh", "-c", line], input=given, capture_output=True, text=True, check=False)
+    assert run.returncode == program.NO_MEMORY and run.stdout == ""
+    assert run.stderr == "pop: out of memory; nothing was printed\n"
