@@ -53,7 +53,7 @@ module _ (k : Setup) where
       h
   quiet _ _ _ _ history (locks words views id v s is may free) h =
       let t = is_founded words views history id v h is in inr (t.0, locks_keep k words views history t.0 t.1 id v is.at is.live s may.inside free may.due)
-  quiet _ _ _ _ history (finds_locked words views id v s is may taken) h = h
+  quiet _ _ _ _ history (finds_locked words views id v s is inside taken) h = h
   quiet _ _ _ _ history (reads words views id v a is may) h =
       let t = is_founded words views history id v h is in inr (t.0, reads_keep k words views history t.0 t.1 id v is.at is.live a may.inside may.locked may.due)
   quiet _ _ _ _ history (writes words views id v a y is owed) h =

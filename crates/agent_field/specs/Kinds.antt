@@ -31,7 +31,7 @@ pub data QuietStep (k : Setup) : List ℕ → List View → List ℕ → List Vi
   locks : (words : List ℕ) (views : List View) (id : ℕ) (v : View) (s : ℕ) → Sits views id v → CanLock k v s
       → slice_index words (lock_at k s) ≡ 0
       → QuietStep k words views (slice_set words (lock_at k s) (v.number + 1)) (slice_set views id (holding s v))
-  finds_locked : (words : List ℕ) (views : List View) (id : ℕ) (v : View) (s : ℕ) → Sits views id v → CanLock k v s
+  finds_locked : (words : List ℕ) (views : List View) (id : ℕ) (v : View) (s : ℕ) → Sits views id v → s < k.shards
       → slice_index words (lock_at k s) ≢ 0
       → QuietStep k words views words views
   reads : (words : List ℕ) (views : List View) (id : ℕ) (v : View) (a : ℕ) → Sits views id v → CanRead k v a

@@ -2,3 +2,4 @@ pub mod Truth
 pub mod Numbers
 pub mod Lists
 pub mod Ranges
+pub mod Swaps

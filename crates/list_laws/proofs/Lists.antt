@@ -1,5 +1,5 @@
 -- Laws of lists: their ends, one item more, one item written anew.
-use Rattle.std.proofs.Common.{◌≡◌, ℕ, zero, suc, pred, ◌+◌, ◌<◌, List, [], ◌∷◌, ◌++◌, length, map, take, subst, refl, ap, ◌∙◌, arith}
+use Rattle.std.proofs.Common.{◌≡◌, ◌≢◌, ℕ, zero, suc, pred, ◌+◌, ◌<◌, List, [], ◌∷◌, ◌++◌, length, map, take, subst, refl, ap, ◌∙◌, arith}
 use Rattle.std.specs.Prelude.{Some, slice_get, slice_set, All, Contains}
 use Rattle.std.proofs.lemmas.List.{length-append, get_or-append-add, get_or_append_left, take_more}
 use Rattle.std.proofs.lemmas.Option.{slice_get_within, get_or_from_slice_get}
@@ -38,6 +38,13 @@ pub get-set_same : {A : Type 0} (xs : List A) (a : ℕ) (y : A) → a < length x
 get-set_same [] a y l = absurd (omega arith)
 get-set_same (x ∷ xs) zero y l = refl
 get-set_same (x ∷ xs) (suc a) y l = get-set_same xs a y (omega arith)
+
+pub get-set_other : {A : Type 0} (xs : List A) (i k : ℕ) (x : A) → k ≢ i → slice_get (slice_set xs i x) k ≡ slice_get xs k
+get-set_other [] i k x ne = refl
+get-set_other (y ∷ xs) zero zero x ne = absurd (ne refl)
+get-set_other (y ∷ xs) zero (suc k) x ne = refl
+get-set_other (y ∷ xs) (suc i) zero x ne = refl
+get-set_other (y ∷ xs) (suc i) (suc k) x ne = get-set_other xs i k x (λ e. ne (ap suc e))
 
 pub slice_get-set_same : {A : Type 0} (xs : List A) (a : ℕ) (x y : A) → slice_get xs a ≡ Some x → slice_get (slice_set xs a y) a ≡ Some y
 slice_get-set_same xs a x y h = get-set_same xs a y (slice_get_within xs a x h)

@@ -21,3 +21,4 @@ pub mod Tables
 pub mod Widths
 pub mod DigitSet
 pub mod StateSet
+pub mod Permutations
