@@ -40,6 +40,13 @@ def quoted(text: str) -> str:
     return "'" + text.replace("'", "'\\''") + "'"
 
 
+def _zsh_option(option: str, told: str) -> str:
+    """An option for zsh; where its value is a file, files are its values."""
+    word, _, value = option.partition(" ")
+    files = "_files" if value in ("FILE", "PICTURE") else ""
+    return quoted(f"{word}[{told.replace('[', '(').replace(']', ')')}]" + (f":{value}:{files}" if value else ""))
+
+
 def zsh() -> str:
     """For zsh: the same, with what each command does."""
     pages = all_pages()
@@ -47,8 +54,7 @@ def zsh() -> str:
     cases = []
     for page in pages:
         if page.files or page.options:
-            options = " ".join(quoted(f"{option.split(' ')[0]}[{told.replace('[', '(').replace(']', ')')}]" + (f":{option.split(' ')[1]}:" if " " in option else ""))
-                               for option, told in page.options)
+            options = " ".join(_zsh_option(option, told) for option, told in page.options)
             cases.append(f"        {page.word}) _arguments {options + ' ' if options else ''}'--help[the help page]' "
                          f"'*:file:_files' ;;")
     joined = "\n".join(cases)

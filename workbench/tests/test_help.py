@@ -120,8 +120,18 @@ def test_completion_for_bash() -> None:
 
 
 @pytest.mark.skipif(shutil.which("zsh") is None, reason="zsh isn't installed: apt-get install zsh")
-def test_completion_for_zsh() -> None:
-    subprocess.run(["zsh", "-n", str(TOP / "completion/_pop")], check=True)
+@pytest.mark.parametrize("typed, offered", [
+    ("pop ch", "check"),
+    ("pop help si", "simulate"),
+    ("pop run --w", "--workers"),
+    ("pop compile x -o ", ":FILE:_files"),
+])
+def test_completion_for_zsh(typed: str, offered: str) -> None:
+    words = typed.split(" ")
+    answers = '_describe() { print -l -- "${(P@)2}"; }; _arguments() { print -l -- "$@"; }'
+    run = subprocess.run(["zsh", "-fc", f'{answers}; words=("$@"); CURRENT=$#; . {TOP}/completion/_pop', "zsh", *words],
+                         check=True, capture_output=True, text=True)
+    assert offered in run.stdout and not run.stderr
 
 
 @needs_program
