@@ -1,7 +1,7 @@
 -- The places of the locks and of the agents' words, which take turns.
-use Rattle.std.proofs.Common.{◌≡◌, ◌≢◌, ℕ, zero, suc, ◌+◌, ◌<◌, ◌≤◌, min, List, [], ◌∷◌, length, map, get_or, set, sym, ap, ◌∙◌, ⊎_elim, arith, get_or-set_same, get_or-set_other}
-use Rattle.std.proofs.lemmas.Bool.{cases_eq}
-use Rattle.std.proofs.lemmas.List.{length-map, get_or-map, ext_get_or}
+use Rattle.std.proofs.Common.{◌≡◌, ◌≢◌, ℕ, zero, suc, ◌+◌, ◌<◌, ◌≤◌, min, List, [], ◌∷◌, ◌++◌, length, get_or, refl, sym, ap, ◌∙◌, ◌-◌, ⊎_elim, arith}
+use Rattle.std.proofs.lemmas.Bool.{cases_lt}
+use Rattle.std.proofs.lemmas.List.{append-nil, replicate-append-replicate}
 use Rattle.std.proofs.Math.ListN.{replicate, length-replicate}
 use Rattle.pop_net.specs.declared.net.Word.{Word}
 use Rattle.agent_field.specs.declared.places.TheConstants.{HEAD_WORDS}
@@ -57,45 +57,66 @@ get_or-in_turns_second d (x ∷ xs) (y ∷ ys) (suc a) h =
     ∙ get_or-in_turns_second d xs ys a (omega arith)
 
 -- one of the second list is written
-pub set-in_turns : {A : Type 0} (xs ys : List A) (a : ℕ) (v : A) → a < length ys → set (in_turns xs ys) (a + min (a + 1) (length xs)) v ≡ in_turns xs (set ys a v)
-set-in_turns [] ys a v h = ap (λ (i : ℕ). set ys i v) (let at : a + min (a + 1) 0 ≡ a = omega arith in at)
-set-in_turns (x ∷ xs) [] a v h = absurd (omega arith)
-set-in_turns (x ∷ xs) (y ∷ ys) zero v h =
-    ap (λ (i : ℕ). set (x ∷ y ∷ in_turns xs ys) i v) (let at : 0 + min (0 + 1) (length (x ∷ xs)) ≡ 1 = omega arith in at)
-set-in_turns (x ∷ xs) (y ∷ ys) (suc a) v h =
-    ap (λ (i : ℕ). set (x ∷ y ∷ in_turns xs ys) i v) (let at : suc a + min (suc a + 1) (length (x ∷ xs)) ≡ suc (suc (a + min (a + 1) (length xs))) = omega arith in at)
-    ∙ ap (λ (l : List _). x ∷ y ∷ l) (set-in_turns xs ys a v (omega arith))
+-- one more of each, one more of the second where the first are at their end, and more of the first where the second are
+pub in_turns-both : {A : Type 0} (xs ys : List A) (x y : A) → length xs ≡ length ys → in_turns xs ys ++ x ∷ y ∷ [] ≡ in_turns (xs ++ x ∷ []) (ys ++ y ∷ [])
+in_turns-both [] [] x y h = refl
+in_turns-both [] (z ∷ ys) x y h = absurd (omega arith)
+in_turns-both (z ∷ xs) [] x y h = absurd (omega arith)
+in_turns-both (w ∷ xs) (z ∷ ys) x y h = ap (λ (l : List _). w ∷ z ∷ l) (in_turns-both xs ys x y (omega arith))
 
-pub in_turns-replicate : {A : Type 0} (x : A) (n m : ℕ) → in_turns (replicate n x) (replicate m x) ≡ replicate (n + m) x
-in_turns-replicate x zero m = ap (λ (l : ℕ). replicate l x) (let e : m ≡ 0 + m = omega arith in e)
-in_turns-replicate x (suc n) zero = ap (λ (l : ℕ). replicate l x) (let e : suc n ≡ suc n + 0 = omega arith in e)
-in_turns-replicate x (suc n) (suc m) = ap (λ (l : List _). x ∷ x ∷ l) (in_turns-replicate x n m) ∙ ap (λ (l : ℕ). replicate l x) (let e : suc (suc (n + m)) ≡ suc n + suc m = omega arith in e)
+pub in_turns-second : {A : Type 0} (xs ys : List A) (y : A) → length xs ≤ length ys → in_turns xs ys ++ y ∷ [] ≡ in_turns xs (ys ++ y ∷ [])
+in_turns-second [] ys y h = refl
+in_turns-second (z ∷ xs) [] y h = absurd (omega arith)
+in_turns-second (w ∷ xs) (z ∷ ys) y h = ap (λ (l : List _). w ∷ z ∷ l) (in_turns-second xs ys y (omega arith))
 
--- the agents' words are written one after the other behind the clock, the founder word and the locks
-pub set-opening : (locks words : List ℕ) (shards a x : ℕ) → length locks ≡ shards → a < length words
-    → set (0 ∷ 0 ∷ in_turns locks words) (agent_place shards a) x ≡ 0 ∷ 0 ∷ in_turns locks (set words a x)
-set-opening locks words shards a x count h =
-    ap (λ (i : ℕ). set (0 ∷ 0 ∷ in_turns locks words) i x) (let at : agent_place shards a ≡ suc (suc (a + min (a + 1) (length locks))) = omega arith in at)
-    ∙ ap (λ (l : List ℕ). 0 ∷ 0 ∷ l) (set-in_turns locks words a x h)
+pub in_turns-first : {A : Type 0} (xs ys zs : List A) → length ys ≤ length xs → in_turns xs ys ++ zs ≡ in_turns (xs ++ zs) ys
+in_turns-first [] [] [] h = refl
+in_turns-first [] [] (z ∷ zs) h = refl
+in_turns-first [] (y ∷ ys) zs h = absurd (omega arith)
+in_turns-first (x ∷ xs) [] zs h = refl
+in_turns-first (x ∷ xs) (y ∷ ys) zs h = ap (λ (l : List _). x ∷ y ∷ l) (in_turns-first xs ys zs (omega arith))
 
 pub length-opening : (words : List ℕ) (shards agents : ℕ) → length words ≡ agents → length (0 ∷ 0 ∷ in_turns (replicate shards 0) words) ≡ HEAD_WORDS + shards + agents
 length-opening words shards agents count =
     let turns = length-in_turns (replicate shards 0) words in
     let locks : length (replicate {A = ℕ} shards 0) ≡ shards = length-replicate shards 0 in omega arith
 
-abbrev pub AreWrittenTo : ℕ → List ℕ → List Word → Type 0
-AreWrittenTo a numbers words = (i : ℕ) → i < a → get_or numbers i 0 ≡ (get_or words i (packed 0)).0
+-- so many locks that are open, with words behind them: one word more, with a lock or without, and all further locks
+pub word_with_lock : (shards a x : ℕ) (words : List ℕ) → length words ≡ a → a < shards
+    → in_turns (replicate (min a shards) 0) words ++ 0 ∷ x ∷ [] ≡ in_turns (replicate (min (a + 1) shards) 0) (words ++ x ∷ [])
+word_with_lock shards a x words count inside =
+    let here : min a shards ≡ a = omega arith in
+    let next : min (a + 1) shards ≡ a + 1 = omega arith in
+    let long = length-replicate {A = ℕ} a 0 in
+    ap (λ n. in_turns (replicate n 0) words ++ 0 ∷ x ∷ []) here
+    ∙ in_turns-both (replicate a 0) words 0 x (long ∙ sym count)
+    ∙ ap (λ locks. in_turns locks (words ++ x ∷ [])) (replicate-append-replicate a 1 0 ∙ ap (λ n. replicate n 0) (sym next))
 
-pub one_more_written : (numbers : List ℕ) (words : List Word) (a : ℕ) → length numbers ≡ length words → a < length words
-    → AreWrittenTo a numbers words → AreWrittenTo (a + 1) (set numbers a (get_or words a (packed 0)).0) words
-one_more_written numbers words a count inside so_far i h =
-    let x = (get_or words a (packed 0)).0 in
-    ⊎_elim
-    (λ (same : i ≡ a). ap (λ (j : ℕ). get_or (set numbers a x) j 0) same ∙ get_or-set_same numbers a x 0 (omega arith) ∙ ap (λ (j : ℕ). (get_or words j (packed 0)).0) (sym same))
-    (λ (apart : i ≢ a). get_or-set_other numbers a i x 0 apart ∙ so_far i (omega arith))
-    (cases_eq i a)
+pub word_alone : (shards a x : ℕ) (words : List ℕ) → length words ≡ a → shards ≤ a
+    → in_turns (replicate (min a shards) 0) words ++ x ∷ [] ≡ in_turns (replicate (min (a + 1) shards) 0) (words ++ x ∷ [])
+word_alone shards a x words count behind =
+    let same : min (a + 1) shards ≡ min a shards = omega arith in
+    let long = length-replicate {A = ℕ} (min a shards) 0 in
+    in_turns-second (replicate (min a shards) 0) words x (let few : min a shards ≤ a = omega arith in omega (arith, long, count))
+    ∙ ap (λ n. in_turns (replicate n 0) (words ++ x ∷ [])) (sym same)
 
-pub all_written : (numbers : List ℕ) (words : List Word) (a : ℕ) → length numbers ≡ length words → length words ≤ a → AreWrittenTo a numbers words → numbers ≡ map (λ (w : Word). w.0) words
-all_written numbers words a count whole written =
-    ext_get_or 0 numbers (map (λ (w : Word). w.0) words) (count ∙ sym (length-map words (λ (w : Word). w.0)))
-    (λ i h. written i (omega arith) ∙ sym (get_or-map (λ (w : Word). w.0) words i (packed 0) 0 (omega arith)))
+pub further_locks : (shards a : ℕ) (words : List ℕ) → length words ≡ a
+    → in_turns (replicate (min a shards) 0) words ++ replicate (shards - min a shards) 0 ≡ in_turns (replicate shards 0) words
+further_locks shards a words count = ⊎_elim none more (cases_lt shards a)
+  where
+    more : a ≤ shards → in_turns (replicate (min a shards) 0) words ++ replicate (shards - min a shards) 0 ≡ in_turns (replicate shards 0) words
+    more few =
+        let here : min a shards ≡ a = omega arith in
+        let whole : a + (shards - a) ≡ shards = omega arith in
+        let long = length-replicate {A = ℕ} a 0 in
+        ap (λ n. in_turns (replicate n 0) words ++ replicate (shards - n) 0) here
+        ∙ in_turns-first (replicate a 0) words (replicate (shards - a) 0) (omega (arith, long, count))
+        ∙ ap (λ locks. in_turns locks words) (replicate-append-replicate a (shards - a) 0 ∙ ap (λ n. replicate n 0) whole)
+
+    none : shards < a → in_turns (replicate (min a shards) 0) words ++ replicate (shards - min a shards) 0 ≡ in_turns (replicate shards 0) words
+    none many =
+        let here : min a shards ≡ shards = omega arith in
+        let nothing : shards - shards ≡ 0 = omega arith in
+        ap (λ n. in_turns (replicate n 0) words ++ replicate (shards - n) 0) here
+        ∙ ap (λ n. in_turns (replicate shards 0) words ++ replicate n 0) nothing
+        ∙ append-nil (in_turns (replicate shards 0) words)

@@ -4,7 +4,7 @@ ghost use Rattle.std.specs.Prelude.{◌≡◌, ◌≤◌, length, map, ◌∷◌
 ghost use Rattle.agent_field.specs.Standing.{in_turns};
 
 use crate::field::{Field, FieldSeat};
-use crate::places::{FOUNDER, HEAD_WORDS, place_of_agent};
+use crate::places::{FOUNDER, HEAD_WORDS};
 use crate::view::{Deal, Found, Logged, Rule, Setup, View};
 use atomic_table::Table;
 use pop_crowd::AGENT_LIMIT;
@@ -35,10 +35,15 @@ fn lay_out(all: &mut Vec<u64>, words: &[Word], shards: u32) -> Result<(), NoMemo
     ensures { OnOk result (all.new.items ≡ 0 ∷ 0 ∷ in_turns (replicate shards 0) (map (λ w. w.0) words.now)) }
 {
     all.clear();
-    all.resize(HEAD_WORDS + shards as usize + words.len(), 0)?;
+    all.reserve(HEAD_WORDS + shards as usize + words.len())?;
+    all.resize(HEAD_WORDS, 0)?;
     for (a, word) in words.iter().enumerate() {
-        all[place_of_agent(a as u32, shards)] = word.0;
+        if a < shards as usize {
+            all.push_reserved(0);
+        }
+        all.push_reserved(word.0);
     }
+    all.resize(HEAD_WORDS + shards as usize + words.len(), 0)?;
     Ok(())
 }
 

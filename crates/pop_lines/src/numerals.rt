@@ -20,7 +20,7 @@ const NUMERAL_LIMIT: u32 = 65_536;
 #[derive(Drop)]
 struct Numeral {
     bytes: [u8; NUMERAL_SIZE],
-    len: usize,
+    len: u8,
 }
 
 impl Model for Numeral {
@@ -41,7 +41,7 @@ impl Numeral {
         let mut buffer = Buffer::new();
         let digits = buffer.format(n).as_bytes();
         let mut bytes = [0; NUMERAL_SIZE];
-        let len = put_bytes(&mut bytes, 0, digits);
+        let len = put_bytes(&mut bytes, 0, digits) as u8;
         Numeral { bytes, len }
     }
 
@@ -53,7 +53,7 @@ impl Numeral {
         ensures room { result ≤ at + NUMERAL_SIZE }
     {
         buffer[at..at + NUMERAL_SIZE].copy_from_slice(&self.bytes);
-        at + self.len
+        at + self.len as usize
     }
 }
 
