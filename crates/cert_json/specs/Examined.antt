@@ -1,5 +1,5 @@
--- The order in which a proof's value is examined: member by member, each whole before the next; a list for its kind, its
--- length, and then item by item. The first rule that is broken is the fault.
+-- The order in which a proof's value is examined: member by member, each whole before the next; a list for its kind,
+-- its length, and then item by item. The first rule that is broken is the fault.
 use Rattle.std.specs.Prelude.{ℕ, ◌-◌, ◌^◌, List, [], map, codes, ℤ, Option, Some, None, Result, Ok, Err}
 use Rattle.serde_json.specs.Data.{Data}
 use Rattle.json_shape.specs.declared.fault.Why.TheVariants.{Name, Pred}
@@ -99,12 +99,14 @@ set_states_at path d = each_at set_state_item path 0 STATE_LIMIT d
 abbrev pub only_by : {A : Type 0} → (List ℕ → Data → Result A Fault) → List ℕ → List Data → Result A Fault
 only_by read path ds = one_after path ds >>= λ d. read (item_path path 1) d
 
-abbrev pub with_one : {A : Type 0} → (List ℕ → Data → Result A Fault) → (A → Node) → List ℕ → List Data → Result Node Fault
+abbrev pub with_one : {A : Type 0} → (List ℕ → Data → Result A Fault) → (A → Node)
+    → List ℕ → List Data → Result Node Fault
 with_one read make path ds = do
   x ← only_by read path ds
   Ok (make x)
 
-abbrev pub with_two : {A B : Type 0} → (List ℕ → Data → Result A Fault) → (List ℕ → Data → Result B Fault) → (A → B → Node)
+abbrev pub with_two : {A B : Type 0} → (List ℕ → Data → Result A Fault) → (List ℕ → Data → Result B Fault)
+    → (A → B → Node)
     → List ℕ → List Data → Result Node Fault
 with_two read other make path ds = do
   p ← two_after path ds

@@ -1,5 +1,6 @@
 -- What `demo` makes of a number: the summary of a run of its case.
-use Rattle.std.specs.Prelude.{◌≡◌, ℕ, ◌+◌, ◌<◌, ◌≤◌, ◌^◌, List, [], ◌∷◌, ◌++◌, codes, decimal, length, count_by, Option, Result, Ok}
+use Rattle.std.specs.Prelude.{◌≡◌, ℕ, ◌+◌, ◌<◌, ◌≤◌, ◌^◌, List, [], ◌∷◌, ◌++◌}
+use Rattle.std.specs.Prelude.{codes, decimal, length, count_by, Option, Result, Ok}
 use Rattle.pres_ast.specs.PredModel.{PredModel}
 use Rattle.pres_ast.specs.PredicateValue.{predicate_value}
 use Rattle.pres_read.specs.Canonical.{tree_text}
