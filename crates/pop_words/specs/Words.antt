@@ -69,9 +69,9 @@ abbrev pub flag_name : Flag → List ℕ
 flag_name OfCompile = codes "--flocks"
 flag_name OfReplay = codes "--watched"
 
-abbrev pub unflagged : Flag → Command
-unflagged OfCompile = Compile
-unflagged OfReplay = Replay
+abbrev pub unflagged_command : Flag → Command
+unflagged_command OfCompile = Compile
+unflagged_command OfReplay = Replay
 
 abbrev pub flagged_command : Flag → Command
 flagged_command OfCompile = Flocks
@@ -83,7 +83,7 @@ behind_flag command (word ∷ rest) = bad_at 2 Unknown
 
 -- no word stands behind the plain command's own, and just the flag behind that of the other one
 abbrev pub flag_meaning : Flag → List (List ℕ) → Result Command Usage
-flag_meaning flag [] = Ok (unflagged flag)
+flag_meaning flag [] = Ok (unflagged_command flag)
 flag_meaning flag (word ∷ rest) =
     if bytes_eq word (flag_name flag) then behind_flag (flagged_command flag) rest else bad_at 1 Unknown
 

@@ -124,12 +124,19 @@ abbrev pub close_step : List Span → PredTree → ℕ → Result Progress TextF
 close_step [] p place = Err (Syntax place)
 close_step (span ∷ above) p place = Ok (progress_after_unit (record { above = above; span = span }) p)
 
+-- after a conjunction p and its `&&`
+abbrev pub progress_after_and : List Span → Option PredTree → PredTree → Progress
+progress_after_and above ors p =
+    going_on (record { above = above; span = record { ors = ors; ands = Some p; nots = 0 } }) AUnit
+
+-- after a conjunction p and its `||`
+abbrev pub progress_after_or : List Span → Option PredTree → PredTree → Progress
+progress_after_or above ors p =
+    going_on (record { above = above; span = record { ors = Some (disjunction ors p); ands = None; nots = 0 } }) AUnit
+
 abbrev pub sign_step : List Span → Option PredTree → PredTree → ℕ → Symbol → Result Progress TextFault
-sign_step above ors p place And =
-    Ok (going_on (record { above = above; span = record { ors = ors; ands = Some p; nots = 0 } }) AUnit)
-sign_step above ors p place Or =
-    Ok (going_on
-    (record { above = above; span = record { ors = Some (disjunction ors p); ands = None; nots = 0 } }) AUnit)
+sign_step above ors p place And = Ok (progress_after_and above ors p)
+sign_step above ors p place Or = Ok (progress_after_or above ors p)
 sign_step above ors p place Close = close_step above (disjunction ors p) place
 sign_step above ors p place s = Err (Syntax place)
 

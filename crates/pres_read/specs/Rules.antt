@@ -11,7 +11,7 @@ use Rattle.pres_read.specs.Numbers.{value_of_digits}
 use Rattle.pres_read.specs.Atoms.{signed_number, limit_of}
 use Rattle.pres_read.specs.Depth.{Depth, surface, deeper}
 use Rattle.pres_read.specs.Atoms.{zero_coefs}
-use Rattle.pres_read.specs.Grammar.{Term, Sum, first, further, Atom, plain, modular, Part, Phrase}
+use Rattle.pres_read.specs.Grammar.{Term, Sum, first, further, Atom, relational, modular, Part, Phrase}
 use Rattle.pres_read.specs.Grammar.{conj, either, unit, both, negate, group, atom, sum_symbols}
 use Rattle.pres_read.specs.Grammar.{equal_or_not, constant_symbols, term_name, term_number, coefs_of}
 
@@ -30,7 +30,7 @@ SumFits names (first negative term) = TermFits names (zero_coefs names) negative
 SumFits names (further sum negative term) = SumFits names sum × TermFits names (coefs_of names sum) negative term
 
 abbrev pub AtomFits : List (List ℕ) → Atom → Type 0
-AtomFits names (plain sum relation negative digits) = SumFits names sum × (value_of_digits digits ≤ limit_of relation)
+AtomFits names (relational sum relation negative digits) = SumFits names sum × (value_of_digits digits ≤ limit_of relation)
 AtomFits names (modular sum unequal negative digits modulus) =
     SumFits names sum × (value_of_digits digits ≤ limit_of (equal_or_not unequal))
     × (2 ≤ value_of_digits modulus) × (value_of_digits modulus ≤ MODULUS_LIMIT)

@@ -2,12 +2,13 @@
 
 ghost use Rattle.std.specs.Prelude.{◌≡◌, ◌+◌, ◌<◌, ◌≤◌, ◌^◌, [], ◌∷◌, length, drop, MatchOption, option_map};
 ghost use Rattle.std.specs.List.{prefix_len};
-ghost use Rattle.pop_io.specs.Names.{is_name_start, is_name_byte};
+ghost use Rattle.pop_io.specs.Names.{is_name_byte};
 ghost use Rattle.pres_tokens.specs.Symbols.{symbol_of, token_of};
 ghost use Rattle.pres_tokens.specs.Tokens.{is_blank_byte, digit, byte_symbol, pair_symbol, first_sign, word_symbol};
 ghost use Rattle.pres_tokens.specs.Tokens.{first_symbol, tokens_from};
 
 use crate::token::{Kind, Relation, Token};
+use pop_io::{begins_name, continues_name};
 
 fn is_blank(byte: u8) -> bool
     ensures { result ≡ is_blank_byte byte }
@@ -19,18 +20,6 @@ fn is_digit(byte: u8) -> bool
     ensures { result ≡ digit byte }
 {
     b'0' <= byte && byte <= b'9'
-}
-
-fn starts_name(byte: u8) -> bool
-    ensures { result ≡ is_name_start byte }
-{
-    (b'A' <= byte && byte <= b'Z') || (b'a' <= byte && byte <= b'z') || byte == b'_'
-}
-
-fn continues_name(byte: u8) -> bool
-    ensures { result ≡ is_name_byte byte }
-{
-    starts_name(byte) || is_digit(byte)
 }
 
 // How many letters, digits and `_` the bytes begin with.
@@ -99,7 +88,7 @@ fn first_kind(bytes: &[u8]) -> (Kind<'_>, usize)
     ensures within { result.1 ≤ length bytes.now }
 {
     let first = bytes[0];
-    if starts_name(first) {
+    if begins_name(first) {
         let len = word_len(bytes);
         (word_kind(&bytes[..len]), len)
     } else if is_digit(first) {
