@@ -122,15 +122,15 @@ item_at path leaves found d = do
 abbrev pub combine_item : List ℕ → ℕ → List Item → ℕ → Data → Result Item Fault
 combine_item path leaves found i d = item_at (item_path path i) leaves found d
 
-unfoldable pub items_at : ℕ → List ℕ → Data → Result (List Item) Fault
-items_at leaves path d = do
+unfoldable pub combine_items_at : ℕ → List ℕ → Data → Result (List Item) Fault
+combine_items_at leaves path d = do
   ds ← list_at path 1 ITEM_LIMIT d
   each (combine_item path leaves) [] 0 ds
 
 -- a combination in postfix, of which one tree is left at the end
 unfoldable pub combine_at : ℕ → List ℕ → Data → Result (List Item) Fault
 combine_at leaves path d = do
-  items ← items_at leaves path d
+  items ← combine_items_at leaves path d
   if is_some (combined depth_operators items) then Ok items else broken path Shape
 
 -- the net, unless this one of its leaves is wide and too many stand beside it

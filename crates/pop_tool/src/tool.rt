@@ -32,7 +32,8 @@ pub fn run_plain<S: Source, K: Sink, G: Gate>(
     // The words ask neither for a run with two or more workers nor for `watch`.
     requires plain { ArePlain (texts_of words.now) }
     requires room { AcceptsReplies (K.accepts sink.old) (texts_of words.now) (S.left source.old) }
-    ensures { IsCall S.left S.faults K.holds K.faults (texts_of words.now) source.old source.new sink.old sink.new result }
+    ensures { IsCall S.left S.faults K.holds K.faults (texts_of words.now)
+        source.old source.new sink.old sink.new result }
 {
     let output = plain_output(alloc, words, source, gate);
     write(sink, output)
@@ -50,7 +51,8 @@ pub fn run_tool<R: Threads + Wait + Sync, S: Source, K: Sink, G: Gate>(
 ) -> Status
     requires few { length words.now ≤ WORD_LIMIT }
     requires room { AcceptsReplies (K.accepts sink.old) (texts_of words.now) (S.left source.old) }
-    ensures { IsCall S.left S.faults K.holds K.faults (texts_of words.now) source.old source.new sink.old sink.new result }
+    ensures { IsCall S.left S.faults K.holds K.faults (texts_of words.now)
+        source.old source.new sink.old sink.new result }
 {
     if is_plain(words) {
         return run_plain(alloc, words, source, sink, gate);

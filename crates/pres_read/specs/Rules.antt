@@ -30,7 +30,8 @@ SumFits names (first negative term) = TermFits names (zero_coefs names) negative
 SumFits names (further sum negative term) = SumFits names sum × TermFits names (coefs_of names sum) negative term
 
 abbrev pub AtomFits : List (List ℕ) → Atom → Type 0
-AtomFits names (relational sum relation negative digits) = SumFits names sum × (value_of_digits digits ≤ limit_of relation)
+AtomFits names (relational sum relation negative digits) =
+    SumFits names sum × (value_of_digits digits ≤ limit_of relation)
 AtomFits names (modular sum unequal negative digits modulus) =
     SumFits names sum × (value_of_digits digits ≤ limit_of (equal_or_not unequal))
     × (2 ≤ value_of_digits modulus) × (value_of_digits modulus ≤ MODULUS_LIMIT)

@@ -6,7 +6,8 @@ ghost use Rattle.pres_ast.specs.TreeOf.{tree_of};
 ghost use Rattle.pres_tokens.specs.Symbols.{symbol_of};
 ghost use Rattle.pres_read.specs.Outcome.{GivesParsed};
 ghost use Rattle.pres_read.specs.Reading.{negation, conjunction, disjunction, tree_up_to_unit, progress_after_unit};
-ghost use Rattle.pres_read.specs.Reading.{progress_after_and, progress_after_or, sign_step, end_step, close_step, going_on};
+ghost use Rattle.pres_read.specs.Reading.{progress_after_and, progress_after_or};
+ghost use Rattle.pres_read.specs.Reading.{sign_step, end_step, close_step, going_on};
 ghost use Rattle.pres_read.specs.Views.{span_of_level, spans_of, around_of, next_expected};
 
 use crate::fault::ReadPred;

@@ -64,7 +64,7 @@ abbrev pub DemoGives : ℕ → Result Output Refusal → Type 0
 DemoGives number given = (output : Output) × IsDemoOutput number output × (given ≡ Ok output)
 
 -- the net that is built of a predicate, and a valid proof within the limits of its file
-pub record IsBuilt (pred : PredModel) (both : NetModel × Proof) : Type 0 where
+pub record IsBuiltNet (pred : PredModel) (both : NetModel × Proof) : Type 0 where
   pub net : both.0 ≡ built_net names_of_demo pred.tree
   pub valid : ValidProof both.0 pred both.1
   pub within : IsProofWithin pred.variables (length both.0.leaves) both.1
