@@ -68,7 +68,7 @@ pub record HasReservedLooks (f : Field) (count : ℕ) (result : Result (Unit {0}
   pub rest : KeepsLogs before after
 
 -- the agents a and b have met, and the seat's log has one meeting more
-pub record HasMet (f : Field) (a b : ℕ) (met : Met) (before after : FieldSeat) : Type 0 where
+pub record HasMetOnField (f : Field) (a b : ℕ) (met : Met) (before after : FieldSeat) : Type 0 where
   pub ours : IsSeatOf f after
   pub logged : log_of after ≡ log_of before ++ logged met.ticket a b met.changed ∷ []
   pub spare : spare_of after + 1 ≡ spare_of before

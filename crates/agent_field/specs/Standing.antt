@@ -87,8 +87,8 @@ locks_of k a b =
     let high = max (shard_of k a) (shard_of k b) in pair_locks low high (low == high)
 
 -- a seat that has nothing
-abbrev pub blank : Setup → View
-blank k =
+abbrev pub blank_seat : Setup → View
+blank_seat k =
     record {
       setup = k;
       founding = false;
@@ -105,7 +105,7 @@ blank k =
 
 -- the seat that founds the field, before it does
 abbrev pub founder : Setup → View
-founder k = record (blank k) { founding = true }
+founder k = record (blank_seat k) { founding = true }
 
 abbrev pub no_field : Setup
 no_field =
@@ -118,12 +118,12 @@ no_field =
 
 -- a seat that was joined away
 abbrev pub joined_away : View
-joined_away = blank no_field
+joined_away = blank_seat no_field
 
 -- a seat between its calls
 abbrev pub idle : Setup → ℕ → List Logged → ℕ → List (Maybe (List Logged)) → List Look → View
 idle k number log next taken looks =
-    record (blank k) { live = true; number = number; log = log; next = next; taken = taken; looks = looks }
+    record (blank_seat k) { live = true; number = number; log = log; next = next; taken = taken; looks = looks }
 
 -- NumbersPart, of number 0's view: the numbers from `next` on are fresh and have made no meeting;
 -- each number below it has a seat, or its log was taken in and is whole

@@ -28,7 +28,7 @@ fn reacted(net: &Net, x: Word, y: Word) -> (Word, Word, bool)
 impl<'n> Field<'n> {
     ghost use Rattle.agent_field.specs.Tokens.{IsBetweenCalls, HasLocked, HoldsJust, HasReacted, Becomes};
     ghost use Rattle.agent_field.specs.Seats.{IsPairOf, IsSeatOf, spare_of};
-    ghost use Rattle.agent_field.specs.Calls.{HasMet};
+    ghost use Rattle.agent_field.specs.Calls.{HasMetOnField};
 
     /// Takes the locks of a pair's shards, the lower one first.
     fn lock_pair<R: Wait>(
@@ -93,7 +93,7 @@ impl<'n> Field<'n> {
         requires ours { IsSeatOf self.now seat.old }
         requires pair { IsPairOf self.now a b }
         requires room { 1 ≤ spare_of seat.old }
-        ensures { HasMet self.now a b result seat.old seat.new }
+        ensures { HasMetOnField self.now a b result seat.old seat.new }
     {
         let shards = self.shards;
         let low = (a % shards).min(b % shards);

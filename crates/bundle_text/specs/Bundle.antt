@@ -12,4 +12,5 @@ bundle_members net pred proof =
 
 unfoldable pub bundle_data : Bundle → Data
 bundle_data bundle =
-    bundle_members (net_data bundle.net) (string (tree_text bundle.net.variables bundle.pred.tree)) (proof_data bundle.net.variables bundle.proof)
+    bundle_members (net_data bundle.net) (string (tree_text bundle.net.variables bundle.pred.tree))
+    (proof_data bundle.net.variables bundle.proof)

@@ -17,7 +17,7 @@ use std::alloc::Global;
 /// their names. Beside the text it holds at most one name or predicate at a time.
 #[tactic(auto, unfolding(crate::specs::Bundle::bundle_data))]
 pub fn write_bundle(alloc: Global, out: &mut Vec<u8>, bundle: &Bundle) -> Result<(), NoMemory>
-    requires plain { is_helped bundle.now.net ≡ false }
+    requires no_helpers { is_helped bundle.now.net ≡ false }
     requires variables { bundle.now.pred.variables ≡ length bundle.now.net.variables }
     requires parts { All (λ part. part.pred.variables ≡ length bundle.now.net.variables) bundle.now.proof.leaves }
     ensures { OnOk result (out.new.items ≡ out.old.items ++ compact_text (bundle_data bundle.now)) }

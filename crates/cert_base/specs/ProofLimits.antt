@@ -1,8 +1,9 @@
 -- ProofLimits: how long the lists of a proof may be, and how great its numbers.
-use Rattle.std.specs.Prelude.{◌≡◌, ℕ, ◌<◌, ◌≤◌, ◌^◌, List, [], ◌∷◌, ℤ, nat_abs, length, map, All}
+use Rattle.std.specs.Prelude.{◌≡◌, ℕ, ◌<◌, ◌≤◌, List, [], ◌∷◌, ℤ, nat_abs, length, map, All}
 use Rattle.pop_net.specs.declared.limits.TheConstants.{MOVE_LIMIT, STATE_LIMIT}
 use Rattle.pres_ast.specs.declared.limits.TheConstants.{MODULUS_LIMIT}
 use Rattle.cert_base.specs.declared.limits.TheConstants.{LAYER_LIMIT, NODE_LIMIT, TERM_LIMIT, SIZE_LIMIT}
+use Rattle.cert_base.specs.declared.limits.TheConstants.{INDEX_COUNT, STATE_INDEX_COUNT}
 use Rattle.cert_base.specs.declared.fact.Term.{Term}
 use Rattle.cert_base.specs.declared.layer.Layer.{Layer}
 use Rattle.cert_base.specs.declared.node.Node.{Node}
@@ -21,31 +22,31 @@ IsAscending (x ∷ []) = Unit {0}
 IsAscending (x ∷ y ∷ xs) = (x < y) × IsAscending (y ∷ xs)
 
 abbrev pub IsTermWithin : Term → Type 0
-IsTermWithin t = (t.at < 2 ^ 32) × IsSmall t.by
+IsTermWithin t = (t.at < INDEX_COUNT) × IsSmall t.by
 
 abbrev pub AreTermsWithin : List Term → Type 0
 AreTermsWithin terms = (length terms ≤ TERM_LIMIT) × All IsTermWithin terms
 
 -- a set of states
 abbrev pub IsSetWithin : List ℕ → Type 0
-IsSetWithin set = (length set ≤ STATE_LIMIT) × All (λ q. q < 2 ^ 16) set × IsAscending set
+IsSetWithin set = (length set ≤ STATE_LIMIT) × All (λ q. q < STATE_INDEX_COUNT) set × IsAscending set
 
 abbrev pub IsNodeWithin : Node → Type 0
 IsNodeWithin (Linear terms) = AreTermsWithin terms
 IsNodeWithin (Residue m terms) = (2 ≤ m) × (m ≤ MODULUS_LIMIT) × AreTermsWithin terms
 IsNodeWithin (Split row) = AreTermsWithin row.terms × IsAscending (map (λ t. t.at) row.terms) × IsSmall row.constant
-IsNodeWithin (Present p) = p < 2 ^ 16
-IsNodeWithin (Twin p) = p < 2 ^ 16
+IsNodeWithin (Present p) = p < STATE_INDEX_COUNT
+IsNodeWithin (Twin p) = p < STATE_INDEX_COUNT
 IsNodeWithin (Trap set) = IsSetWithin set
 IsNodeWithin (Siphon set) = IsSetWithin set
-IsNodeWithin (Open f) = f < 2 ^ 32
+IsNodeWithin (Open f) = f < INDEX_COUNT
 
 abbrev pub AreNodesWithin : List Node → Type 0
 AreNodesWithin nodes = (length nodes ≤ NODE_LIMIT) × All IsNodeWithin nodes
 
 pub record IsLayerWithin (layer : Layer) : Type 0 where
   pub move_count : length layer.moves ≤ MOVE_LIMIT
-  pub moves : All (λ number. number < 2 ^ 32) layer.moves
+  pub moves : All (λ number. number < INDEX_COUNT) layer.moves
   pub weight_count : length layer.weights ≤ STATE_LIMIT
   pub weights : All IsSmall layer.weights
 

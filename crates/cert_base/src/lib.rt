@@ -25,7 +25,10 @@ pub use combination::net_pred_is;
 pub use fact::{Fact, Row, Term, only};
 pub use law::flow_law;
 pub use layer::Layer;
-pub use limits::{FACT_LIMIT, LAYER_LIMIT, NODE_LIMIT, PATH_LIMIT, SIZE_LIMIT, TERM_LIMIT};
+pub use limits::{
+    FACT_LIMIT, INDEX_COUNT, LAYER_LIMIT, NODE_LIMIT, PATH_LIMIT, SIZE_LIMIT, STATE_INDEX_COUNT,
+    TERM_LIMIT,
+};
 pub use meet::can_meet;
 pub use node::Node;
 pub use open::open_cases;

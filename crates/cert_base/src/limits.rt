@@ -17,3 +17,9 @@ pub const TERM_LIMIT: usize = 65_536;
 
 /// The greatest size of a weight, a multiplier, a coefficient and a constant.
 pub const SIZE_LIMIT: u64 = 1 << 40;
+
+/// How many numbers there are for variables, facts and moves: each has 32 bits.
+pub const INDEX_COUNT: u64 = 1 << 32;
+
+/// How many numbers there are for states: each has 16 bits.
+pub const STATE_INDEX_COUNT: u64 = 1 << 16;

@@ -8,7 +8,8 @@ use pop_net::Leaf;
 use std::alloc::Global;
 
 impl Row {
-    ghost use Rattle.std.specs.Prelude.{◌≡◌, ◌+◌, ◌≤◌, ◌^◌, length, IfOk};
+    ghost use Rattle.std.specs.Prelude.{◌≡◌, ◌+◌, ◌≤◌, length, IfOk};
+    ghost use Rattle.cert_base.specs.declared.limits.TheConstants.{INDEX_COUNT};
     ghost use Rattle.cert_base.specs.Rows.{terms_from, single_row, constant_row, input_row, state_row, move_row};
 
     /// One variable, times its coefficient, plus a constant.
@@ -35,7 +36,7 @@ impl Row {
 
     /// The variables from `first` on, each times its coefficient, plus a constant.
     pub fn dense(alloc: Global, first: u32, coefs: &[i64], constant: i64) -> Result<Row, NoMemory>
-        requires { first + length coefs.now ≤ 2 ^ 32 }
+        requires { first + length coefs.now ≤ INDEX_COUNT }
         ensures { IfOk result (λ row. row ≡ record { terms = terms_from first coefs.now; constant = constant }) }
     {
         let mut terms = Terms::new(alloc);
@@ -47,7 +48,7 @@ impl Row {
 
     /// How often each input was given, each times its coefficient, plus a constant.
     pub fn over_inputs(alloc: Global, coefs: &[i64], constant: i64) -> Result<Row, NoMemory>
-        requires { length coefs.now ≤ 2 ^ 32 }
+        requires { length coefs.now ≤ INDEX_COUNT }
         ensures { IfOk result (λ row. row ≡ input_row coefs.now constant) }
     {
         Row::dense(alloc, variable_of_input(0), coefs, constant)

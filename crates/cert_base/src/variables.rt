@@ -1,7 +1,8 @@
 //! The numbers of a leaf's variables.
 
-ghost use Rattle.std.specs.Prelude.{◌≡◌, ◌≤◌, ◌^◌, length};
+ghost use Rattle.std.specs.Prelude.{◌≡◌, ◌≤◌, length};
 ghost use Rattle.pop_net.specs.LeafModel.{IsLeaf};
+ghost use Rattle.cert_base.specs.declared.limits.TheConstants.{INDEX_COUNT};
 ghost use Rattle.cert_base.specs.Rows.{state_variable, move_variable, variable_count};
 
 use pop_net::Leaf;
@@ -25,7 +26,7 @@ pub fn variable_of_state(leaf: &Leaf, q: u16) -> u32
 pub fn variable_of_move(leaf: &Leaf, t: u32) -> u32
     requires { t ≤ length leaf.now.moves }
     ensures value { result ≡ move_variable leaf.now t }
-    ensures small { variable_count leaf.now ≤ 2 ^ 32 }
+    ensures small { variable_count leaf.now ≤ INDEX_COUNT }
     ensures formed { IsLeaf leaf.now }
 {
     u32::from(leaf.input_count()) + u32::from(leaf.state_count()) + t

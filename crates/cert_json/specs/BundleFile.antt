@@ -1,4 +1,5 @@
--- BundleFile: which JSON value is the file of which bundle. Members may stand in any order, and others may stand beside them.
+-- BundleFile: which JSON value is the file of which bundle. Members may stand in any order, and others may stand beside
+-- them.
 use Rattle.std.specs.Prelude.{codes, length}
 use Rattle.serde_json.specs.Data.{Data}
 use Rattle.json_shape.specs.Parts.{HasMember}

@@ -18,11 +18,13 @@ pub record IsReadBundle (d : Data) (result : Result Bundle FormatFault) : Type 0
   -- member by member, each fault and its path
   pub exact : GivesRead (λ bundle. bundle) result (bundle_at d)
   pub variables : IfOk result (λ bundle. bundle.pred.variables ≡ length bundle.net.variables)
-  pub within : IfOk result (λ bundle. IsProofWithin (length bundle.net.variables) (length bundle.net.leaves) bundle.proof)
+  pub within : IfOk result (λ bundle.
+      IsProofWithin (length bundle.net.variables) (length bundle.net.leaves) bundle.proof)
   pub file : IfOk result (λ bundle. IsBundleFile bundle d)
   pub no_file : IfErr result (λ fault. fault ≢ NoMemory → (bundle : Bundle) → IsBundleFile bundle d → ⊥)
 
--- what was read of a bundle's value as the proof for this net: just the files of proofs within the limits are read, and each to its proof
+-- what was read of a bundle's value as the proof for this net: just the files of proofs within the limits are read,
+-- and each to its proof
 pub record IsReadProof (net : NetModel) (d : Data) (result : Result Proof FormatFault) : Type 0 where
   pub exact : GivesRead (λ proof. proof) result (proof_at net.variables (length net.leaves) d)
   pub within : IfOk result (IsProofWithin (length net.variables) (length net.leaves))

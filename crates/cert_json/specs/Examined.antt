@@ -1,6 +1,6 @@
--- The order in which a proof's value is examined: member by member, each whole before the next; a list for its kind, its
--- length, and then item by item. The first rule that is broken is the fault.
-use Rattle.std.specs.Prelude.{ℕ, ◌-◌, ◌^◌, List, [], map, codes, ℤ, Option, Some, None, Result, Ok, Err}
+-- The order in which a proof's value is examined: member by member, each whole before the next; a list for its kind,
+-- its length, and then item by item. The first rule that is broken is the fault.
+use Rattle.std.specs.Prelude.{ℕ, ◌-◌, List, [], map, codes, ℤ, Option, Some, None, Result, Ok, Err}
 use Rattle.serde_json.specs.Data.{Data}
 use Rattle.json_shape.specs.declared.fault.Why.TheVariants.{Name, Pred}
 use Rattle.json_shape.specs.declared.fault.PredWhy.{PredWhy}
@@ -19,6 +19,7 @@ use Rattle.cert_base.specs.declared.node.Node.TheVariants.{Linear, Residue, Spli
 use Rattle.cert_base.specs.declared.proof.Proof.{Proof}
 use Rattle.cert_base.specs.declared.proof.LeafProof.{LeafProof}
 use Rattle.cert_base.specs.declared.limits.TheConstants.{LAYER_LIMIT, NODE_LIMIT, TERM_LIMIT, SIZE_LIMIT}
+use Rattle.cert_base.specs.declared.limits.TheConstants.{INDEX_COUNT, STATE_INDEX_COUNT}
 use Rattle.pop_net.specs.declared.limits.TheConstants.{STATE_LIMIT, MOVE_LIMIT}
 use Rattle.pres_ast.specs.declared.limits.TheConstants.{MODULUS_LIMIT}
 use Rattle.cert_json.specs.declared.kind.NodeKind.{NodeKind}
@@ -46,11 +47,11 @@ pred_at names path d = do
 
 -- a number of a fact, a variable or a move
 abbrev pub index_at : List ℕ → Data → Result ℕ Fault
-index_at path d = number_at path 0 (2 ^ 32 - 1) d
+index_at path d = number_at path 0 (INDEX_COUNT - 1) d
 
 -- a number of a state
 abbrev pub state_at : List ℕ → Data → Result ℕ Fault
-state_at path d = number_at path 0 (2 ^ 16 - 1) d
+state_at path d = number_at path 0 (STATE_INDEX_COUNT - 1) d
 
 abbrev pub modulus_at : List ℕ → Data → Result ℕ Fault
 modulus_at path d = number_at path 2 MODULUS_LIMIT d
@@ -77,7 +78,7 @@ terms_at path d = each_at term_item path 0 TERM_LIMIT d
 
 -- a variable's number, greater than the one before it, and its coefficient
 unfoldable pub row_term_at : List ℕ → Option ℕ → Data → Result Term Fault
-row_term_at path before d = pair_at path d >>= term_from path (λ p e. ascending_at p (2 ^ 32 - 1) before e)
+row_term_at path before d = pair_at path d >>= term_from path (λ p e. ascending_at p (INDEX_COUNT - 1) before e)
 
 abbrev pub numbers_of : List Term → List ℕ
 numbers_of terms = map (λ t. t.at) terms
@@ -90,7 +91,7 @@ row_terms_at path d = each_at row_term_item path 0 TERM_LIMIT d
 
 -- a state with a greater number than the one before it
 abbrev pub set_state_item : List ℕ → List ℕ → Data → Result ℕ Fault
-set_state_item path found d = ascending_at path (2 ^ 16 - 1) (last_of found) d
+set_state_item path found d = ascending_at path (STATE_INDEX_COUNT - 1) (last_of found) d
 
 abbrev pub set_states_at : List ℕ → Data → Result (List ℕ) Fault
 set_states_at path d = each_at set_state_item path 0 STATE_LIMIT d
@@ -99,12 +100,14 @@ set_states_at path d = each_at set_state_item path 0 STATE_LIMIT d
 abbrev pub only_by : {A : Type 0} → (List ℕ → Data → Result A Fault) → List ℕ → List Data → Result A Fault
 only_by read path ds = one_after path ds >>= λ d. read (item_path path 1) d
 
-abbrev pub with_one : {A : Type 0} → (List ℕ → Data → Result A Fault) → (A → Node) → List ℕ → List Data → Result Node Fault
+abbrev pub with_one : {A : Type 0} → (List ℕ → Data → Result A Fault) → (A → Node)
+    → List ℕ → List Data → Result Node Fault
 with_one read make path ds = do
   x ← only_by read path ds
   Ok (make x)
 
-abbrev pub with_two : {A B : Type 0} → (List ℕ → Data → Result A Fault) → (List ℕ → Data → Result B Fault) → (A → B → Node)
+abbrev pub with_two : {A B : Type 0} → (List ℕ → Data → Result A Fault) → (List ℕ → Data → Result B Fault)
+    → (A → B → Node)
     → List ℕ → List Data → Result Node Fault
 with_two read other make path ds = do
   p ← two_after path ds

@@ -2,7 +2,8 @@
 use Rattle.std.specs.Prelude.{ℕ, List, codes, Option, Some, None, if◌then◌else◌}
 use Rattle.std.specs.Str.{bytes_eq}
 use Rattle.cert_json.specs.declared.kind.NodeKind.{NodeKind}
-use Rattle.cert_json.specs.declared.kind.NodeKind.TheVariants.{Linear, Residue, Split, Present, Twin, Trap, Siphon, Open}
+use Rattle.cert_json.specs.declared.kind.NodeKind.TheVariants.{Linear, Residue, Split, Present}
+use Rattle.cert_json.specs.declared.kind.NodeKind.TheVariants.{Twin, Trap, Siphon, Open}
 
 abbrev pub kind_text : NodeKind → List ℕ
 kind_text Linear = codes "lin"

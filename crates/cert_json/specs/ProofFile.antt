@@ -1,7 +1,9 @@
--- ProofFile: which JSON value is the file of which proof. Members may stand in any order, and others may stand beside them.
+-- ProofFile: which JSON value is the file of which proof. Members may stand in any order, and others may stand beside
+-- them.
 use Rattle.std.specs.Prelude.{ℕ, List, codes}
 use Rattle.serde_json.specs.Data.{Data}
-use Rattle.json_shape.specs.Parts.{IsNumber, IsInteger, IsText, HasItems, IsOnly, AreBoth, BeginsWith, HasMember, IsList}
+use Rattle.json_shape.specs.Parts.{IsNumber, IsInteger, IsText, HasItems, IsOnly}
+use Rattle.json_shape.specs.Parts.{AreBoth, BeginsWith, HasMember, IsList}
 use Rattle.pres_ast.specs.PredModel.{PredModel}
 use Rattle.pres_read.specs.PredText.{IsTextOf}
 use Rattle.cert_base.specs.declared.fact.Term.{Term}

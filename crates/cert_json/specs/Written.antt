@@ -52,11 +52,14 @@ layer_data layer = layer_members (numbers_data layer.moves) (integers_data layer
 
 abbrev pub leaf_proof_members : Data → Data → Data → Data → Data
 leaf_proof_members on_false layers pred on_true =
-    object (member (codes "false") on_false (member (codes "layers") layers (member (codes "pred") pred (member (codes "true") on_true no_members))))
+    object
+    (member (codes "false") on_false
+    (member (codes "layers") layers (member (codes "pred") pred (member (codes "true") on_true no_members))))
 
 unfoldable pub leaf_proof_data : List (List ℕ) → LeafProof → Data
 leaf_proof_data names part =
-    leaf_proof_members (nodes_data part.on_false) (list_data (map layer_data part.layers)) (string (tree_text names part.pred.tree)) (nodes_data part.on_true)
+    leaf_proof_members (nodes_data part.on_false) (list_data (map layer_data part.layers))
+    (string (tree_text names part.pred.tree)) (nodes_data part.on_true)
 
 unfoldable pub proof_data : List (List ℕ) → Proof → Data
 proof_data names proof = list_data (map (leaf_proof_data names) proof.leaves)

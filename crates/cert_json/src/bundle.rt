@@ -46,7 +46,7 @@ fn bundle_with(alloc: Global, value: &Value, net: Net) -> Result<Bundle, FormatF
 }
 
 #[tactic(auto, unfolding(crate::specs::Bundles::bundle_at))]
-fn bundle_of(alloc: Global, value: &Value) -> Result<Bundle, FormatFault>
+fn read_exactly(alloc: Global, value: &Value) -> Result<Bundle, FormatFault>
     ensures exact { GivesRead (λ bundle. bundle) result (bundle_at (view value.now)) }
     ensures variables { IfOk result (λ bundle. bundle.pred.variables ≡ length bundle.net.variables) }
 {
@@ -62,5 +62,5 @@ fn bundle_of(alloc: Global, value: &Value) -> Result<Bundle, FormatFault>
 pub fn read_bundle(alloc: Global, value: &Value) -> Result<Bundle, FormatFault>
     ensures { IsReadBundle (view value.now) result }
 {
-    bundle_of(alloc, value)
+    read_exactly(alloc, value)
 }

@@ -1,7 +1,8 @@
 //! Numbers, and lists of terms and of states.
 
-ghost use Rattle.std.specs.Prelude.{◌≡◌, ◌-◌, ◌^◌};
+ghost use Rattle.std.specs.Prelude.{◌≡◌, ◌-◌};
 ghost use Rattle.serde_json.specs.View.{view};
+ghost use Rattle.cert_base.specs.declared.limits.TheConstants.{INDEX_COUNT};
 ghost use Rattle.json_shape.specs.Faults.{GivesRead};
 ghost use Rattle.json_shape.specs.Paths.{path_text};
 ghost use Rattle.json_shape.specs.Shapes.{ascending_at, last_of};
@@ -92,7 +93,7 @@ fn variable_of(
     before: Option<u32>,
     value: &Value,
 ) -> Result<u32, FormatFault>
-    ensures { GivesRead (λ n. n) result (ascending_at (path_text path.now) (2 ^ 32 - 1) before (view value.now)) }
+    ensures { GivesRead (λ n. n) result (ascending_at (path_text path.now) (INDEX_COUNT - 1) before (view value.now)) }
 {
     ascending_of(alloc, path, u32::MAX, before, value)
 }

@@ -1,7 +1,8 @@
 //! Facts on one variable, and rows of those that are flagged.
 
-ghost use Rattle.std.specs.Prelude.{◌≡◌, ◌≤◌, ◌+◌, ◌^◌, ◌++◌, length, map, pos, IfOk, OnOk};
+ghost use Rattle.std.specs.Prelude.{◌≡◌, ◌≤◌, ◌+◌, ◌++◌, length, map, pos, IfOk, OnOk};
 ghost use Rattle.cert_base.specs.declared.fact.Fact.TheVariants.{Eq};
+ghost use Rattle.cert_base.specs.declared.limits.TheConstants.{INDEX_COUNT};
 ghost use Rattle.cert_base.specs.FactsAndCases.{indicator, places_from};
 ghost use Rattle.cert_base.specs.Rows.{single_row};
 ghost use Rattle.cert_traps.specs.Facts.{zero_if};
@@ -24,7 +25,7 @@ pub(crate) fn push_zeros(
     first: u32,
     flags: &[bool],
 ) -> Result<(), NoMemory>
-    requires { first + length flags.now ≤ 2 ^ 32 }
+    requires { first + length flags.now ≤ INDEX_COUNT }
     ensures { OnOk result (facts.new.items ≡ facts.old.items
         ++ map (λ t. Eq (single_row (first + t) (pos 1) (pos 0))) (places_from 0 (λ flag. flag) flags.now)) }
 {

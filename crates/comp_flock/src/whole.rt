@@ -8,7 +8,7 @@ ghost use Rattle.comp_flock.specs.FlockProof.{flock_part, flock_pred_of};
 use crate::trees::both_trees;
 use crate::weights::flock_layers;
 use cert_base::LeafProof;
-use comp_flock_leaf::{bound_of, flock_leaf};
+use comp_flock_leaf::{bound_of_power, flock_leaf};
 use pop_io::{List, NoMemory};
 use pop_net::Leaf;
 use pres_ast::{Pred, Tree};
@@ -20,7 +20,7 @@ fn flock_pred(alloc: Global, coefs: &[i64], power: u32) -> Result<Pred, NoMemory
 {
     let tree = Tree::Less {
         coefs: List::from_vec(Vec::from_slice(alloc, coefs)?),
-        bound: bound_of(power),
+        bound: bound_of_power(power),
     };
     Ok(Pred::new(coefs.len() as u16, tree))
 }

@@ -15,4 +15,4 @@ mod power;
 pub use leaf::flock_leaf;
 pub use limits::POWER_LIMIT;
 pub use naming::size_of;
-pub use power::{bound_of, flock_power};
+pub use power::{bound_of_power, flock_power};

@@ -19,7 +19,7 @@ pub(crate) fn two_to(k: u32) -> u64
 }
 
 /// The bound of the flock atom with this power.
-pub fn bound_of(k: u32) -> i64
+pub fn bound_of_power(k: u32) -> i64
     requires { k ≤ GREATEST_POWER }
     ensures { result ≡ flock_bound k }
 {
@@ -42,7 +42,7 @@ fn are_coefficients(coefs: &[i64]) -> bool
 fn power_by(bound: i64) -> Option<u32>
     ensures { result ≡ find (λ k. int_eq bound (flock_bound k)) (range_with_len 1 GREATEST_POWER) }
 {
-    (1..POWER_LIMIT + 1).find(|k| bound == bound_of(*k))
+    (1..POWER_LIMIT + 1).find(|k| bound == bound_of_power(*k))
 }
 
 /// The power k where the atom `Less` with these numbers says that a sum of variables is at least 2^k: each coefficient

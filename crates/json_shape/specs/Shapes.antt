@@ -1,6 +1,6 @@
 -- The parts of a JSON value: another kind comes before a length or a range, and a list's items go one by one.
-use Rattle.std.specs.Prelude.{ℕ, ◌+◌, ◌&&◌, nat_le, nat_lt, nat_abs, true, ℤ, pos, negsuc, Bool, List, [], ◌∷◌, ◌++◌, length, Option, Some}
-use Rattle.std.specs.Prelude.{None, option_and_then, option_map, Result, Ok, if◌then◌else◌}
+use Rattle.std.specs.Prelude.{ℕ, ◌+◌, ◌&&◌, nat_le, nat_lt, nat_abs, true, ℤ, pos, negsuc, Bool, List, [], ◌∷◌, ◌++◌}
+use Rattle.std.specs.Prelude.{length, Option, Some, None, option_and_then, option_map, Result, Ok, if◌then◌else◌}
 use Rattle.serde_json.specs.Data.{Data, Items, no_items, item}
 use Rattle.serde_json.specs.Find.{get, as_number, as_i64, as_str, as_array, as_object, as_bool}
 use Rattle.json_shape.specs.declared.fault.Why.TheVariants.{Kind, Range}
@@ -83,11 +83,13 @@ each at found i [] = Ok found
 each at found i (d ∷ ds) = at found i d >>= λ x. each at (found ++ x ∷ []) (i + 1) ds
 
 -- an item at its place, read by this reader at its path
-abbrev pub item_by : {A : Type 0} → (List ℕ → List A → Data → Result A Fault) → List ℕ → List A → ℕ → Data → Result A Fault
+abbrev pub item_by : {A : Type 0} → (List ℕ → List A → Data → Result A Fault)
+    → List ℕ → List A → ℕ → Data → Result A Fault
 item_by read path found i d = read (item_path path i) found d
 
 -- a list of least to most items, each read by this reader
-unfoldable pub each_at : {A : Type 0} → (List ℕ → List A → Data → Result A Fault) → List ℕ → ℕ → ℕ → Data → Result (List A) Fault
+unfoldable pub each_at : {A : Type 0} → (List ℕ → List A → Data → Result A Fault)
+    → List ℕ → ℕ → ℕ → Data → Result (List A) Fault
 each_at read path least most d = do
   ds ← list_at path least most d
   each (item_by read path) [] 0 ds

@@ -29,7 +29,7 @@ use Rattle.pop_net.proofs.NetFaults.{none_wide}
 use Rattle.net_json.specs.declared.format.TheConstants.{PLAIN_FORMAT, HELPER_FORMAT}
 use Rattle.net_json.specs.NetFile.{IsItem, AreHelpers, IsLeafFile, IsNetFile}
 use Rattle.net_json.specs.Kept.{IsBroken}
-use Rattle.net_json.specs.Examined.{names_at, range_after, helpers_allowed, leaf_item, leaves_at, fitting_net, operand_at, open_depths, item_at, combine_item, items_at, combine_at, net_at}
+use Rattle.net_json.specs.Examined.{names_at, range_after, helpers_allowed, leaf_item, leaves_at, fitting_net, operand_at, open_depths, item_at, combine_item, combine_items_at, combine_at, net_at}
 use Rattle.net_json.proofs.LeafLaws.{names_at-takes, names_at-again, Allows, TellsHelpers, Follows, leaf_at-takes, leaf_at-again}
 use Rattle.net_json.proofs.Postfix.{IsPlaced, placed-takes, placed-again, one_tree, some_item}
 
@@ -94,9 +94,9 @@ module _ (leaves : ℕ) (some_leaf : 1 ≤ leaves) where
   fit_both found (x ∷ xs) below placed = ((below.0, placed.0), fit_both (found ++ x ∷ []) xs below.1 placed.1)
 
   pub combine_at-takes : (path : List ℕ) (d : Data) (items : List Item) → combine_at leaves path d ≡ Ok items → IsList IsItem items d × All (NamesBelow leaves) items × (length items ≤ ITEM_LIMIT) × IsSomeAnd (combined depth_operators items) (λ n. n ≤ DEPTH_LIMIT)
-  unfolding combine_at items_at
+  unfolding combine_at combine_items_at
   combine_at-takes path d items e =
-      let a = bind_ok (items_at leaves path d) (λ xs. cond (is_some (combined depth_operators xs)) (Ok xs) (broken path Shape)) items e in
+      let a = bind_ok (combine_items_at leaves path d) (λ xs. cond (is_some (combined depth_operators xs)) (Ok xs) (broken path Shape)) items e in
       let g = guard_ok (is_some (combined depth_operators a.0)) path Shape a.0 items a.2 in
       let r = Readers.list-takes (combine_item path leaves) IsItem Fits (item_takes path) path 1 ITEM_LIMIT d a.0 a.1 in
       let below = Fresh.EachFrom-weaker Fits (λ _ x. NamesBelow leaves x) (λ found x fits. fits.0) [] a.0 r.1 in
@@ -105,7 +105,7 @@ module _ (leaves : ℕ) (some_leaf : 1 ≤ leaves) where
       (r.0, Fresh.EachFrom-All (NamesBelow leaves) [] a.0 below, r.3, placed-takes a.0 r.2 placed g.0)
 
   pub combine_at-again : (path : List ℕ) (d : Data) (items : List Item) → IsList IsItem items d → All (NamesBelow leaves) items → length items ≤ ITEM_LIMIT → IsSomeAnd (combined depth_operators items) (λ n. n ≤ DEPTH_LIMIT) → combine_at leaves path d ≡ Ok items
-  unfolding combine_at items_at
+  unfolding combine_at combine_items_at
   combine_at-again path d items is below hi one =
       let fits = fit_both [] items (Fresh.All-EachFrom (NamesBelow leaves) [] items below) (placed-again items one) in
       rw (Readers.list-again (combine_item path leaves) IsItem Fits (item_again path) path 1 ITEM_LIMIT d items is fits (some_item items one) hi, one_tree items one) refl

@@ -1,6 +1,7 @@
 -- The order in which a net's value is examined: member by member, each whole before the next; a list for its kind, its
 -- length, and then item by item. The first rule that is broken is the fault.
-use Rattle.std.specs.Prelude.{ℕ, ◌-◌, ◌==◌, ◌&&◌, Bool, not, List, [], ◌∷◌, ◌++◌, length, codes, Option, Some, None, is_some, Result, Ok, if◌then◌else◌}
+use Rattle.std.specs.Prelude.{ℕ, ◌-◌, ◌==◌, ◌&&◌, Bool, not, List, [], ◌∷◌, ◌++◌, length, codes, Option, Some, None}
+use Rattle.std.specs.Prelude.{is_some, Result, Ok, if◌then◌else◌}
 use Rattle.std.specs.List.{list_any}
 use Rattle.std.specs.Str.{bytes_eq}
 use Rattle.serde_json.specs.Data.{Data}
@@ -9,7 +10,8 @@ use Rattle.pop_io.specs.Names.{variable_name, state_name}
 use Rattle.json_shape.specs.declared.fault.Why.TheVariants.{Kind, Name, Shape}
 use Rattle.json_shape.specs.Faults.{Fault, ◌>>=◌, broken}
 use Rattle.json_shape.specs.Paths.{member_path, item_path}
-use Rattle.json_shape.specs.Shapes.{of_kind, object_at, member_by, list_at, number_at, text_at, truth_at, each, each_at, listed}
+use Rattle.json_shape.specs.Shapes.{of_kind, object_at, member_by, list_at, number_at}
+use Rattle.json_shape.specs.Shapes.{text_at, truth_at, each, each_at, listed}
 use Rattle.pop_net.specs.declared.leaf.Move.{Move}
 use Rattle.pop_net.specs.declared.net.Item.{Item}
 use Rattle.pop_net.specs.declared.net.Item.TheVariants.{Leaf, Not, And, Or}
@@ -120,15 +122,15 @@ item_at path leaves found d = do
 abbrev pub combine_item : List ℕ → ℕ → List Item → ℕ → Data → Result Item Fault
 combine_item path leaves found i d = item_at (item_path path i) leaves found d
 
-unfoldable pub items_at : ℕ → List ℕ → Data → Result (List Item) Fault
-items_at leaves path d = do
+unfoldable pub combine_items_at : ℕ → List ℕ → Data → Result (List Item) Fault
+combine_items_at leaves path d = do
   ds ← list_at path 1 ITEM_LIMIT d
   each (combine_item path leaves) [] 0 ds
 
 -- a combination in postfix, of which one tree is left at the end
 unfoldable pub combine_at : ℕ → List ℕ → Data → Result (List Item) Fault
 combine_at leaves path d = do
-  items ← items_at leaves path d
+  items ← combine_items_at leaves path d
   if is_some (combined depth_operators items) then Ok items else broken path Shape
 
 -- the net, unless this one of its leaves is wide and too many stand beside it

@@ -23,7 +23,8 @@ IsItem Or d = IsText (codes "or") d
 -- in format 1 a leaf has no helpers, and in format 2 it names them
 abbrev pub AreHelpers : ℕ → List ℕ → Data → Type 0
 AreHelpers format helpers d =
-    ((format ≡ PLAIN_FORMAT) × (helpers ≡ [])) ⊎ ((format ≡ HELPER_FORMAT) × HasMember (codes "helpers") (IsList IsNumber helpers) d)
+    ((format ≡ PLAIN_FORMAT) × (helpers ≡ []))
+    ⊎ ((format ≡ HELPER_FORMAT) × HasMember (codes "helpers") (IsList IsNumber helpers) d)
 
 pub record IsLeafFile (format : ℕ) (leaf : LeafModel) (d : Data) : Type 0 where
   pub states : HasMember (codes "states") (IsList IsText leaf.states) d

@@ -35,25 +35,31 @@ item_data Or = string (codes "or")
 
 abbrev pub leaf_members : Data → Data → Data → Data → Data
 leaf_members input moves output states =
-    object (member (codes "input") input (member (codes "moves") moves (member (codes "output") output (member (codes "states") states no_members))))
+    object
+    (member (codes "input") input
+    (member (codes "moves") moves (member (codes "output") output (member (codes "states") states no_members))))
 
 abbrev pub helped_members : Data → Data → Data → Data → Data → Data
 helped_members helpers input moves output states =
     object
     (member (codes "helpers") helpers
-    (member (codes "input") input (member (codes "moves") moves (member (codes "output") output (member (codes "states") states no_members)))))
+    (member (codes "input") input
+    (member (codes "moves") moves (member (codes "output") output (member (codes "states") states no_members)))))
 
 -- a leaf, in format 1 or in format 2
 unfoldable pub leaf_data : Bool → LeafModel → Data
 leaf_data false leaf =
-    leaf_members (numbers_data leaf.inputs) (list_data (map move_data leaf.moves)) (truths_data leaf.outputs) (texts_data leaf.states)
+    leaf_members (numbers_data leaf.inputs) (list_data (map move_data leaf.moves)) (truths_data leaf.outputs)
+    (texts_data leaf.states)
 leaf_data true leaf =
     helped_members (numbers_data leaf.helpers) (numbers_data leaf.inputs) (list_data (map move_data leaf.moves))
     (truths_data leaf.outputs) (texts_data leaf.states)
 
 abbrev pub net_members : Data → Data → Data → Data → Data
 net_members combine format leaves vars =
-    object (member (codes "combine") combine (member (codes "format") format (member (codes "leaves") leaves (member (codes "vars") vars no_members))))
+    object
+    (member (codes "combine") combine
+    (member (codes "format") format (member (codes "leaves") leaves (member (codes "vars") vars no_members))))
 
 -- a net has helpers when its leaves have some
 abbrev pub is_helped : NetModel → Bool

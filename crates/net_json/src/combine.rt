@@ -7,7 +7,7 @@ ghost use Rattle.json_shape.specs.Faults.{GivesRead};
 ghost use Rattle.json_shape.specs.Paths.{path_text};
 ghost use Rattle.json_shape.specs.Shapes.{member_by};
 ghost use Rattle.pop_net.specs.NetFaults.{names_below, operands_left};
-ghost use Rattle.net_json.specs.Examined.{operand_at, items_at, combine_at};
+ghost use Rattle.net_json.specs.Examined.{operand_at, combine_items_at, combine_at};
 
 use json_shape::{FormatFault, Path, Why, broken, list_of, member_of, number_of};
 use pop_io::List;
@@ -40,7 +40,7 @@ fn operand_of(
 }
 
 /// The items, and how many trees they leave open.
-#[tactic(auto, unfolding(crate::specs::Examined::items_at))]
+#[tactic(auto, unfolding(crate::specs::Examined::combine_items_at))]
 fn items_of(
     alloc: Global,
     path: &Path<'_>,
@@ -48,7 +48,7 @@ fn items_of(
     value: &Value,
 ) -> Result<(List<Item>, usize), FormatFault>
     requires { 1 ≤ leaves }
-    ensures items { GivesRead (λ r. r.0) result (items_at leaves (path_text path.now) (view value.now)) }
+    ensures items { GivesRead (λ r. r.0) result (combine_items_at leaves (path_text path.now) (view value.now)) }
     ensures open { IfOk result (λ r. r.1 ≡ operands_left r.0) }
 {
     let list = list_of(alloc, path, 1, ITEM_LIMIT, value)?;

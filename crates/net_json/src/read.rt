@@ -24,7 +24,8 @@ use std::alloc::Global;
 /// The member `format`: the number of one of the formats.
 fn format_of(alloc: Global, path: &Path<'_>, value: &Value) -> Result<u32, FormatFault>
     ensures { GivesRead (λ n. n) result
-        (member_by (path_text path.now) (codes "format") (λ p. number_at p PLAIN_FORMAT HELPER_FORMAT) (view value.now)) }
+        (member_by (path_text path.now) (codes "format") (λ p. number_at p PLAIN_FORMAT HELPER_FORMAT)
+        (view value.now)) }
 {
     let format = member_of(alloc, path, "format", value)?;
     let path = Path::Member(path, "format");

@@ -1,14 +1,17 @@
 -- Meetings of the worker 0, one list after the other.
-use Rattle.std.proofs.Common.{◌≡◌, ◌+◌, List, [], ◌∷◌, ◌++◌, length, refl, ap, sym, subst, ◌∙◌, zero-add}
+use Rattle.std.proofs.Common.{◌≡◌, ℕ, suc, ◌+◌, List, [], ◌∷◌, ◌++◌, length, refl, ap, sym, subst, ◌∙◌, zero-add, arith}
 use Rattle.std.proofs.Math.Nat.{add_assoc}
-use Rattle.std.proofs.lemmas.List.{append_assoc, map-append, length-append}
-use Rattle.std.proofs.lemmas.List.Elements.{All-nil, All-append}
+use Rattle.std.proofs.lemmas.List.{append_assoc, map-append, length-append, length-map}
+use Rattle.std.proofs.lemmas.List.Elements.{All-nil, All-cons, All-append}
 use Rattle.rand_core.specs.Stream.{Stream}
 use Rattle.pop_net.specs.NetModel.{NetModel, CrowdModel}
+use Rattle.pop_net.specs.Lanes.{crowd_of, tuple_of}
+use Rattle.pop_net.specs.declared.net.Word.{Word}
 use Rattle.pop_crowd.specs.declared.crowd.Meeting.{Meeting}
 use Rattle.pop_crowd.specs.Replay.{replay, AreMarked}
 use Rattle.pop_crowd.proofs.InARow.{replay_append}
-use Rattle.pair_workers.specs.Picks.{picks_from}
+use Rattle.pair_workers.specs.Picks.{picks_from, words_from}
+use Rattle.pair_workers.specs.NextMeeting.{HasMetNext}
 use Rattle.pair_workers.specs.Run.{pairs}
 use Rattle.pair_workers.specs.Played.{IsPlayed}
 
@@ -24,6 +27,23 @@ played_none net crowd words =
       marked = tt;
       replays = refl;
       agents = refl;
+    }
+
+-- the next meeting of the worker 0, alone
+pub played_one : (net : NetModel) (m : Meeting) (before after : List Word) (picker next : List ℕ)
+    → HasMetNext net 0 m before after picker next
+    → IsPlayed net (crowd_of net before) (words_from picker) (m ∷ []) (crowd_of net after) (words_from next)
+played_one net m before after picker next h =
+    let agents : length (crowd_of net before) ≡ length before = length-map before (tuple_of net) in
+    record {
+      alone = All-cons (λ (x : Meeting). x.worker ≡ 0) m [] h.own (All-nil (λ (x : Meeting). x.worker ≡ 0));
+      picked = λ count.
+          ap (λ k. picks_from (words_from picker) (length (crowd_of net before)) k) (let e : length (m ∷ []) + count ≡ suc count = omega arith in e)
+          ∙ subst (λ n. picks_from (words_from picker) n (suc count) ≡ (m.a, m.b) ∷ picks_from (words_from next) n count)
+          (sym agents) (h.picked.in_row count);
+      marked = (h.met.changed, tt);
+      replays = sym h.met.after;
+      agents = length-map after (tuple_of net) ∙ h.met.agents ∙ sym agents;
     }
 
 pub played_more : (net : NetModel) (start : CrowdModel) (words : Stream) (xs ys : List Meeting) (crowd end : CrowdModel) (between left : Stream)

@@ -1,12 +1,13 @@
 //! Runs by one worker, on the plain crowd.
 
-ghost use Rattle.std.specs.Prelude.{◌≡◌, ◌≤◌, [], ◌∷◌, length, IfOk};
+ghost use Rattle.std.specs.Prelude.{◌≡◌, ◌≤◌, length, IfOk};
 ghost use Rattle.pop_net.specs.Lanes.{AreValid};
 ghost use Rattle.pair_workers.specs.OneRun.{IsOnlyRunFrom};
 ghost use Rattle.pair_workers.specs.Played.{PlaysOn};
 ghost use Rattle.pair_workers.specs.Ends.{CanMakeRun};
 
 use crate::ends::{end_of, goes_on};
+use crate::meet::meet_next;
 use crate::picker::Picker;
 use pop_crowd::{Crowd, Meeting};
 use pop_io::{Gate, List, NoMemory};
@@ -86,22 +87,7 @@ pub fn play_round<G: Gate>(
     let mut log = Vec::with_capacity(alloc, turns as usize)?;
     'turns: for turn in 0..turns {
         gate.pass(0, turn + 1);
-        log.push_reserved(meet_next(net, crowd, picker));
+        log.push_reserved(meet_next(net, crowd, picker, 0));
     }
     Ok(log)
-}
-
-/// The meeting of the next pick.
-fn meet_next(net: &Net, crowd: &mut Crowd, picker: &mut Picker) -> Meeting
-    requires { AreValid net.now crowd.old }
-    ensures { PlaysOn net.now crowd.old crowd.new picker.old picker.new (result ∷ []) }
-{
-    let (a, b) = picker.pick(crowd.len());
-    let changed = crowd.meet(net, a, b);
-    Meeting {
-        worker: 0,
-        a,
-        b,
-        changed,
-    }
 }

@@ -22,8 +22,8 @@ use Rattle.cert_base.specs.declared.proof.Proof.{Proof}
 use Rattle.cert_base.specs.ValidLayers.{moves_of_layers, IsLower, IsInLayer, IsEnabledBefore, ValidLayers}
 use Rattle.cert_base.specs.ValidProof.{ValidLeafProof, ValidProof}
 use Rattle.cert_tree.proofs.ClosedWalk.{unrefused-Closes}
-use Rattle.pop_net.specs.ExampleNets.{move}
-use Rattle.pop_checker.specs.Majority.{majority_leaf, majority_net, more_of_x, MajorityComputes}
+use Rattle.pop_net.specs.ExampleNets.{move, majority_leaf, majority}
+use Rattle.pop_checker.specs.Majority.{more_of_x, MajorityComputes}
 use Rattle.pop_checker.specs.Sound.{ArePreds}
 use Rattle.pop_checker.proofs.RightEnds.{sound}
 
@@ -196,8 +196,8 @@ valid_layers = record {
 leaf_formed : IsLeaf majority_leaf
 leaf_formed = unbroken_leaf majority_leaf refl
 
-formed : IsNet majority_net
-formed = unbroken_net majority_net (All-cons IsLeaf majority_leaf [] leaf_formed (All-nil IsLeaf)) refl
+formed : IsNet majority
+formed = unbroken_net majority (All-cons IsLeaf majority_leaf [] leaf_formed (All-nil IsLeaf)) refl
 
 valid_part : ValidLeafProof majority_leaf part
 valid_part = record {
@@ -206,18 +206,18 @@ valid_part = record {
   on_false = unrefused-Closes majority_leaf pred false on_false (omega arith) refl;
 }
 
-valid : ValidProof majority_net pred proof
+valid : ValidProof majority pred proof
 valid = record {
   one_each = refl;
   leaves = each;
   combination = refl;
 }
   where
-    each : (i : ℕ) (leaf : LeafModel) (own : LeafProof) → slice_get majority_net.leaves i ≡ Some leaf → slice_get proof.leaves i ≡ Some own → ValidLeafProof leaf own
+    each : (i : ℕ) (leaf : LeafModel) (own : LeafProof) → slice_get majority.leaves i ≡ Some leaf → slice_get proof.leaves i ≡ Some own → ValidLeafProof leaf own
     each zero leaf own h k = subst (λ (l : LeafModel). ValidLeafProof l own) (same_Some _ _ h) (subst (ValidLeafProof majority_leaf) (same_Some _ _ k) valid_part)
     each (suc i) leaf own h k = cc
 
-preds : ArePreds majority_net proof
+preds : ArePreds majority proof
 preds zero own h = subst (λ (p : LeafProof). (p.pred.variables ≡ 2) × HasAtoms p.pred.variables p.pred.tree) (same_Some _ _ h) (refl, ((refl, small), omega arith))
   where
     small : All (λ a. nat_abs a ≤ COEFFICIENT_LIMIT) (negsuc 0 ∷ pos 1 ∷ [])
@@ -225,4 +225,4 @@ preds zero own h = subst (λ (p : LeafProof). (p.pred.variables ≡ 2) × HasAto
 preds (suc i) own h = cc
 
 pub majority_is : MajorityComputes
-majority_is = (sound majority_net pred proof formed preds valid).computes
+majority_is = (sound majority pred proof formed preds valid).computes

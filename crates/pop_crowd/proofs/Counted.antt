@@ -20,7 +20,7 @@ use Rattle.std.proofs.lemmas.Slice.Eq.{slice_eq-Decides}
 use Rattle.std.proofs.lemmas.Map.Views.{All-insert_key}
 use Rattle.pop_crowd.proofs.Inputs.{append_nil}
 use Rattle.pop_net.specs.NetModel.{Tuple, CrowdModel}
-use Rattle.pop_crowd.specs.Tally.{tuple_cmp, tuples_of, agents_with, counts_of, AreTuplesOf}
+use Rattle.pop_crowd.specs.Tally.{tuple_cmp, tuples_of, agents_with, tuple_counts, AreTuplesOf}
 use Rattle.pop_crowd.specs.Shown.{shown}
 
 -- which way an order goes, with its equation
@@ -210,10 +210,10 @@ none_with x ts h (t ∷ crowd) all =
     sum_by-cons (λ t. cond (pointwise nat_eq t x) 1 0) t crowd ∙ ap (λ b. cond b 1 0 + agents_with crowd x) no ∙ zero-add (agents_with crowd x) ∙ none_with x ts h crowd (All-tail (Contains ts) t crowd all)
 
 -- the number that stands at a tuple is how many agents have it
-pub count_found : (crowd : CrowdModel) (x : Tuple) → unwrap_or (lookup (is_at (tuple_cmp x)) (counts_of crowd)) 0 ≡ agents_with crowd x
+pub count_found : (crowd : CrowdModel) (x : Tuple) → unwrap_or (lookup (is_at (tuple_cmp x)) (tuple_counts crowd)) 0 ≡ agents_with crowd x
 count_found crowd x = go (at_tuple (agents_with crowd) x (tuples_of crowd))
   where
-    go : AtTuple (agents_with crowd) x (tuples_of crowd) → unwrap_or (lookup (is_at (tuple_cmp x)) (counts_of crowd)) 0 ≡ agents_with crowd x
+    go : AtTuple (agents_with crowd) x (tuples_of crowd) → unwrap_or (lookup (is_at (tuple_cmp x)) (tuple_counts crowd)) 0 ≡ agents_with crowd x
     go (found e) = ap (λ o. unwrap_or o 0) e
     go (nowhere e n) = ap (λ o. unwrap_or o 0) e ∙ sym (none_with x (tuples_of crowd) n crowd (tuples_of-crowd crowd).whole)
 
@@ -221,9 +221,9 @@ one_more_with : (crowd : CrowdModel) (x t : Tuple) → agents_with (crowd ++ x �
 one_more_with crowd x t = sum_by_push (λ u. cond (pointwise nat_eq u t) 1 0) crowd x
 
 -- one more agent is counted
-pub counts_more : (crowd : CrowdModel) (x : Tuple) → insert_entry tuple_cmp (counts_of crowd) x (agents_with crowd x + 1) ≡ counts_of (crowd ++ x ∷ [])
+pub counts_more : (crowd : CrowdModel) (x : Tuple) → insert_entry tuple_cmp (tuple_counts crowd) x (agents_with crowd x + 1) ≡ tuple_counts (crowd ++ x ∷ [])
 counts_more crowd x =
-    ap (insert_entry tuple_cmp (counts_of crowd) x) (sym (one_more_with crowd x x ∙ ap (λ b. agents_with crowd x + cond b 1 0) ((same_test x x).1 refl)))
+    ap (insert_entry tuple_cmp (tuple_counts crowd) x) (sym (one_more_with crowd x x ∙ ap (λ b. agents_with crowd x + cond b 1 0) ((same_test x x).1 refl)))
     ∙ counts_insert (agents_with crowd) (agents_with (crowd ++ x ∷ [])) x others (tuples_of crowd) (tuples_of-crowd crowd).ascending
     ∙ ap (numbered (agents_with (crowd ++ x ∷ []))) (sym (fold_push (insert_key tuple_cmp) [] crowd x))
   where

@@ -23,8 +23,8 @@ abbrev pub agents_with : CrowdModel → Tuple → ℕ
 agents_with crowd tuple = count_by (λ t. pointwise nat_eq t tuple) crowd
 
 -- each tuple that agents have, and how many have it
-abbrev pub counts_of : CrowdModel → List (Tuple × ℕ)
-counts_of crowd = map (λ t. (t, agents_with crowd t)) (tuples_of crowd)
+abbrev pub tuple_counts : CrowdModel → List (Tuple × ℕ)
+tuple_counts crowd = map (λ t. (t, agents_with crowd t)) (tuples_of crowd)
 
 -- the name of each leaf's state in a tuple
 abbrev pub names_of : List LeafModel → Tuple → List (List ℕ)
@@ -42,7 +42,7 @@ crowd_line net tuple count = join_with_byte slash (names_of net.leaves tuple) ++
     ++ codes "\n"
 
 abbrev pub crowd_lines : NetModel → CrowdModel → List ℕ
-crowd_lines net crowd = concat (map (λ (t, count). crowd_line net t count) (counts_of crowd))
+crowd_lines net crowd = concat (map (λ (t, count). crowd_line net t count) (tuple_counts crowd))
 
 -- exactly the tuples that agents have, each below those after it
 pub record AreTuplesOf (crowd : CrowdModel) (tuples : List Tuple) : Type 0 where

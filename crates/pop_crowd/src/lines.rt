@@ -4,7 +4,7 @@ ghost use Rattle.std.specs.Prelude.{◌≡◌, [], ◌∷◌, ◌++◌, nat_lt, 
 ghost use Rattle.std.specs.List.{join_with_byte};
 ghost use Rattle.pop_net.specs.NetModel.{IsTuple, HasStates};
 ghost use Rattle.pop_net.specs.Lanes.{tuple_of, crowd_of, IsValid, AreValid};
-ghost use Rattle.pop_crowd.specs.Tally.{counts_of, names_of, slash, crowd_line, crowd_lines};
+ghost use Rattle.pop_crowd.specs.Tally.{tuple_counts, names_of, slash, crowd_line, crowd_lines};
 ghost use Rattle.pop_crowd.specs.Shown.{shown};
 
 use itoa::Buffer;
@@ -28,7 +28,7 @@ pub(crate) fn lines_of(alloc: Global, net: &Net, words: &[Word]) -> Result<Vec<u
 /// How many agents have each tuple.
 fn counts(alloc: Global, net: &Net, words: &[Word]) -> Result<BTreeMap<Vec<u16>, u64>, NoMemory>
     requires { AreValid net.now words.now }
-    ensures { IfOk result (λ map. shown map.entries ≡ counts_of (crowd_of net.now words.now)) }
+    ensures { IfOk result (λ map. shown map.entries ≡ tuple_counts (crowd_of net.now words.now)) }
 {
     let mut counts = BTreeMap::new(alloc);
     for word in words {

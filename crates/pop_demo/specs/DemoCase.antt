@@ -27,7 +27,8 @@ demo_remainder index = Congruent (pos 1 ∷ pos 2 ∷ []) (modulus index) (rest 
 -- the first, the second, both, or not the first or the second
 abbrev pub of_form : ℕ → PredTree → PredTree → PredTree
 of_form form p q =
-    if form == 0 then p else (if form == 1 then q else (if form == 2 then Conjunction p q else Disjunction (Negation p) q))
+    if form == 0 then p
+    else (if form == 1 then q else (if form == 2 then Conjunction p q else Disjunction (Negation p) q))
 
 abbrev pub demo_tree : ℕ → PredTree
 demo_tree number = of_form (number % 4) (demo_threshold (number / 4)) (demo_remainder (number / 4))

@@ -1,5 +1,6 @@
 -- Names: the forms of the names of variables and of states, as bytes.
-use Rattle.std.specs.Prelude.{◌≢◌, ℕ, Bool, false, not, ◌&&◌, ◌||◌, ◌==◌, nat_le, IsTrue, List, [], ◌∷◌, length, All, AllPairs, codes}
+use Rattle.std.specs.Prelude.{◌≢◌, ℕ, Bool, false, not, ◌&&◌, ◌||◌, ◌==◌, nat_le}
+use Rattle.std.specs.Prelude.{IsTrue, List, [], ◌∷◌, length, All, AllPairs, codes}
 use Rattle.std.specs.List.{list_all}
 use Rattle.std.specs.Str.{bytes_eq}
 use Rattle.pop_io.specs.declared.names.TheConstants.{NAME_LIMIT}
@@ -18,7 +19,9 @@ starts_name (b ∷ bytes) = is_name_start b
 
 -- a variable's name: 1 to NAME_LIMIT letters, digits and `_`, no digit first, and not `mod`
 abbrev pub variable_name : List ℕ → Bool
-variable_name name = starts_name name && list_all is_name_byte name && nat_le (length name) NAME_LIMIT && not (bytes_eq name (codes "mod"))
+variable_name name =
+    starts_name name && list_all is_name_byte name && nat_le (length name) NAME_LIMIT
+    && not (bytes_eq name (codes "mod"))
 
 -- a printed character that is no blank and no `/`
 abbrev pub is_printed : ℕ → Bool

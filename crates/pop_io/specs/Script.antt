@@ -9,4 +9,7 @@ next n = min (n + 1) (2 ^ 64 - 1)
 
 -- the first trouble with this call's number; the greatest number names no call
 abbrev pub trouble_at : List Trouble → ℕ → Option TroubleKind
-trouble_at ts call = if call == 2 ^ 64 - 1 then None else option_map (λ (t : Trouble). t.kind) (find (λ (t : Trouble). t.call == call) ts)
+trouble_at ts call =
+    if call == 2 ^ 64 - 1
+    then None
+    else option_map (λ (t : Trouble). t.kind) (find (λ (t : Trouble). t.call == call) ts)

@@ -1,5 +1,6 @@
 -- What contracts see of a sink over memory, and what a call takes.
-use Rattle.std.specs.Prelude.{ℕ, ◌-◌, ◌==◌, ◌&&◌, nat_lt, min, List, ◌++◌, length, take, Option, Some, None, if◌then◌else◌}
+use Rattle.std.specs.Prelude.{ℕ, ◌-◌, ◌==◌, ◌&&◌, nat_lt, min, List, ◌++◌}
+use Rattle.std.specs.Prelude.{length, take, Option, Some, None, if◌then◌else◌}
 use Rattle.pop_io.specs.declared.trouble.Trouble.{Trouble}
 use Rattle.pop_io.specs.declared.trouble.TroubleKind.{TroubleKind}
 use Rattle.pop_io.specs.declared.trouble.TroubleKind.TheVariants.{Fail, Part}
@@ -32,7 +33,13 @@ count_taken s count = taken (trouble_at s.troubles (next s.calls)) count (s.room
 
 -- the sink after a call that took so many bytes of the piece, or failed
 abbrev pub after_take : MemorySinkModel → List ℕ → Option ℕ → MemorySinkModel
-after_take s piece None = record { held = s.held; room = s.room; calls = next s.calls; faults = next s.faults; troubles = s.troubles }
+after_take s piece None = record {
+  held = s.held;
+  room = s.room;
+  calls = next s.calls;
+  faults = next s.faults;
+  troubles = s.troubles;
+}
 after_take s piece (Some k) = record {
   held = s.held ++ take k piece;
   room = s.room;

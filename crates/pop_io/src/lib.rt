@@ -20,7 +20,10 @@ pub use gate::{Gate, OpenGate, SHARD_LIMIT, WORKER_LIMIT};
 pub use list::List;
 pub use memory_sink::{CalmSink, MemorySink};
 pub use memory_source::{CalmSource, MemorySource};
-pub use names::{NAME_LIMIT, VARIABLE_LIMIT, is_among, is_state_name, is_variable_name, place_of};
+pub use names::{
+    NAME_LIMIT, VARIABLE_LIMIT, begins_name, continues_name, is_among, is_state_name,
+    is_variable_name, place_of,
+};
 pub use outside::{Sink, Source};
 pub use standard::{StdSink, StdSource};
 pub use text::Text;

@@ -51,21 +51,28 @@ fn has_start(name: &[u8]) -> bool
 {
     match name {
         [] => false,
-        [first, ..] => is_start(*first),
+        [first, ..] => begins_name(*first),
     }
 }
 
-fn is_start(byte: u8) -> bool
+/// Whether a variable's name can begin with this byte: a letter or `_`.
+pub fn begins_name(byte: u8) -> bool
     ensures { result ≡ is_name_start byte }
 {
     (b'A' <= byte && byte <= b'Z') || (b'a' <= byte && byte <= b'z') || byte == b'_'
 }
 
+/// Whether this byte can stand in a variable's name: a letter, `_` or a digit.
+pub fn continues_name(byte: u8) -> bool
+    ensures { result ≡ is_name_byte byte }
+{
+    begins_name(byte) || (b'0' <= byte && byte <= b'9')
+}
+
 fn has_name_bytes(name: &[u8]) -> bool
     ensures { result ≡ list_all is_name_byte name.now }
 {
-    name.iter()
-        .all(|byte| is_start(*byte) || (b'0' <= *byte && *byte <= b'9'))
+    name.iter().all(|byte| continues_name(*byte))
 }
 
 fn has_printed_bytes(name: &[u8]) -> bool

@@ -25,7 +25,7 @@ use Rattle.pop_journal.specs.Expected.{whole_tail}
 use Rattle.pop_journal.specs.Form.{spec_in, Reading, Parts, Out, lines_read, under, with_spec, journal_in}
 use Rattle.pop_journal.specs.declared.fault.JournalFault.{JournalFault}
 use Rattle.pop_journal.specs.ReadLines.{ReadsJournal}
-use Rattle.pop_journal.specs.Laws.{IsOneSpelling, IsReadBack, IsWrittenHeld}
+use Rattle.pop_journal.specs.Laws.{IsOneSpelling, IsRunReadBack, IsWrittenHeld}
 use Rattle.pop_journal.proofs.Spelled.{IsSmall}
 use Rattle.pop_journal.proofs.Counts.{round_bound}
 use Rattle.pop_journal.proofs.RunKinds.{all_below, are_watched, is_watched, run_form}
@@ -138,7 +138,7 @@ module _ (kind : RunKind) (net : NetModel) (start : CrowdModel) (spec : RunSpec)
       ∙ lines_text (run_lines kind spec rounds) (whole_tail net end) (lines_unbroken kind spec rounds limits not_many all_small)
       ∙ append_assoc (run_line kind spec ∷ round_lines 1 rounds) (codes "end" ∷ []) tail
 
-  pub read_back : (first : ℕ) → spec.workers ≤ most_workers_of kind → spec.workers * spec.turns ≤ MEETING_LIMIT → IsReadBack kind net start spec rounds end first
+  pub read_back : (first : ℕ) → spec.workers ≤ most_workers_of kind → spec.workers * spec.turns ≤ MEETING_LIMIT → IsRunReadBack kind net start spec rounds end first
   read_back first hands spent =
       ap (journal_in kind (length start) first) cut
       ∙ ap (with_spec kind (length start) first (round_lines 1 rounds ++ codes "end" ∷ tail)) (spec_back kind spec limits hands spent)

@@ -1,6 +1,7 @@
 -- The form of a journal, line by line.
-use Rattle.std.specs.Prelude.{◌≡◌, ℕ, ◌+◌, ◌*◌, ◌==◌, ◌&&◌, not, nat_lt, nat_le, Bool, true, false, if◌then◌else◌, List, [], ◌∷◌, ◌++◌, length, codes}
-use Rattle.std.specs.Prelude.{Option, Some, None, option_map, option_and_then, Result, Ok, Err}
+use Rattle.std.specs.Prelude.{◌≡◌, ℕ, ◌+◌, ◌*◌, ◌==◌, ◌&&◌, not, nat_lt, nat_le, Bool, true}
+use Rattle.std.specs.Prelude.{false, if◌then◌else◌, List, [], ◌∷◌, ◌++◌, length, codes, Option}
+use Rattle.std.specs.Prelude.{Some, None, option_map, option_and_then, Result, Ok, Err}
 use Rattle.std.specs.Str.{bytes_eq}
 use Rattle.pop_lines.specs.Lines.{pieces}
 use Rattle.pop_lines.specs.Numbers.{printed_number_of, printed_number_of_within}
@@ -62,7 +63,8 @@ Told = ℕ × ℕ × ℕ × Bool
 abbrev pub three_numbers : List ℕ → List ℕ → List ℕ → Bool → Option Told
 three_numbers w a b mark =
     option_and_then
-    (λ worker. option_and_then (λ first. option_map (λ second. (worker, first, second, mark)) (printed_number_of b)) (printed_number_of a))
+    (λ worker. option_and_then
+    (λ first. option_map (λ second. (worker, first, second, mark)) (printed_number_of b)) (printed_number_of a))
     (printed_number_of w)
 
 abbrev pub told_words : List (List ℕ) → Option Told

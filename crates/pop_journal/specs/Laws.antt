@@ -37,8 +37,8 @@ IsOneSpelling =
     → body ++ 10 ∷ [] ≡ text_held net start journal
 
 -- the text that is written of a run is read back
-abbrev pub IsReadBack : RunKind → NetModel → CrowdModel → RunSpec → List (List Meeting) → CrowdModel → ℕ → Type 0
-IsReadBack kind net start spec rounds end first =
+abbrev pub IsRunReadBack : RunKind → NetModel → CrowdModel → RunSpec → List (List Meeting) → CrowdModel → ℕ → Type 0
+IsRunReadBack kind net start spec rounds end first =
     journal_in kind (length start) first (lines_of (text_ended kind net spec rounds end))
     ≡ Ok (spec, (rounds, lines_of (whole_tail net end)))
 
@@ -50,6 +50,6 @@ IsWrittenHeld =
     → AGENT_LEAST ≤ length start → length start ≤ AGENT_LIMIT → IsWithinLimits spec
     → spec.workers ≤ most_workers_of kind → spec.workers * spec.turns ≤ MEETING_LIMIT
     → IsRunOf kind net start spec rounds end
-    → IsReadBack kind net start spec rounds end first
+    → IsRunReadBack kind net start spec rounds end first
     × Holds net start
     (record { kind = kind; spec = spec; rounds = rounds; tail = lines_of (whole_tail net end); first = first })

@@ -1,6 +1,6 @@
 //! Journals read from their lines.
 
-ghost use Rattle.std.specs.Prelude.{◌≡◌, ◌+◌, ◌*◌, ◌<◌, ◌≤◌, ◌^◌, List as Items, [], length, Some};
+ghost use Rattle.std.specs.Prelude.{◌≡◌, ◌+◌, ◌*◌, ◌<◌, ◌≤◌, List as Items, [], length, Some};
 ghost use Rattle.std.specs.Prelude.{None, Ok, Err, IfOk, IfErr};
 ghost use Rattle.std.specs.Str.{bytes_eq};
 ghost use Rattle.pop_journal.specs.Calls.{IsReadFrom};
@@ -15,6 +15,7 @@ ghost use Rattle.pop_journal.specs.ReadLines.{ReadsRound, ReadsRounds, ReadsJour
 use crate::fault::{JournalFault, JournalWhy};
 use crate::form::{checked, next_told, spec_of, stops_here};
 use crate::journal::{Journal, LINE_LIMIT};
+use crate::limits::FIRST_MEETING_LIMIT;
 use itoa::Buffer;
 use pair_workers::ROUND_TURNS;
 use pop_crowd::Meeting;
@@ -46,7 +47,7 @@ fn read_round<'t>(
     requires spec { IsWithinLimits spec.now }
     requires turns { (1 ≤ turns) × (turns ≤ ROUND_TURNS) }
     requires none { meetings.old.items ≡ [] }
-    requires number { number ≤ 2 ^ 50 }
+    requires number { number ≤ FIRST_MEETING_LIMIT }
     ensures long { IfOk result (λ _. length meetings.new.items ≤ WORKER_LIMIT * turns) }
     ensures read { (rounds : Items (Items Meeting)) → turns ≡ turns_in spec.now (length rounds + 1)
         → ReadsRound kind spec.now agents number rounds (lines_of text.now) meetings.new.items result }

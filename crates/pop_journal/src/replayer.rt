@@ -18,7 +18,7 @@ use crate::fault::VerifyFault;
 use crate::last::Last;
 use crate::limits::ROUND_LIMIT;
 use crate::write::{push_last_line, push_meeting_numbers};
-use pair_workers::{Picker, ROUND_TURNS};
+use pair_workers::{Picker, ROUND_TURNS, meet_next};
 use pop_crowd::{Crowd, Meeting};
 use pop_io::{List, NoMemory, WORKER_LIMIT};
 use pop_lines::{next_line, push_number};
@@ -86,7 +86,7 @@ impl Replayer {
     ghost use Rattle.terminal_test.specs.TableNet.{table_net};
 
     /// The next meeting of a worker.
-    fn meet_next(&mut self, net: &Net, worker: u16) -> Meeting
+    fn replay_next(&mut self, net: &Net, worker: u16) -> Meeting
         requires valid { AreValid net.now self.old.crowd }
         requires worker { worker < length self.old.pickers.items }
         ensures next { (start : CrowdModel) (spec : RunSpec) (before : List Meeting)
@@ -95,14 +95,8 @@ impl Replayer {
             × IsReplaying net.now start spec (before ++ result ∷ []) self.new }
         ensures shape { KeepsShape net.now self.old self.new }
     {
-        let (a, b) = self.pickers[worker as usize].pick(self.crowd.len());
-        let changed = self.crowd.meet(net, a, b);
-        Meeting {
-            worker,
-            a,
-            b,
-            changed,
-        }
+        let picker = &mut self.pickers[worker as usize];
+        meet_next(net, &mut self.crowd, picker, worker)
     }
 
     /// Compares meeting lines, of which the first has this number, with the expected ones.
@@ -125,7 +119,7 @@ impl Replayer {
         ensures shape { KeepsShape net.now self.old self.new }
     {
         for (i, meeting) in meetings.iter().enumerate() {
-            let found = self.meet_next(net, meeting.worker);
+            let found = self.replay_next(net, meeting.worker);
             if !is_same_meeting(meeting, &found) {
                 return Err(differs(alloc, line + i as u64, meeting, &found)?);
             }
@@ -186,7 +180,7 @@ impl Replayer {
             return Ok(None);
         }
         if let Some(worker) = lacking {
-            return Ok(Some(meeting_text(alloc, &self.meet_next(net, worker))?));
+            return Ok(Some(meeting_text(alloc, &self.replay_next(net, worker))?));
         }
         if spec.turns <= ROUND_TURNS * (round - 1) {
             return Ok(None);

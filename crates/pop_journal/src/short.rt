@@ -66,7 +66,8 @@ pub(crate) fn short_meeting(text: &[u8]) -> Option<(u32, u32, u32, bool, &[u8])>
     Some((worker, first, second, mark, rest))
 }
 
-/// The two agents that the first line of a text names, if its numbers are short and printed and it has a line feed, and what
+/// The two agents that the first line of a text names, if its numbers are short and printed and it has a line feed, and
+/// what
 /// stands behind it. It may be `None` of another meeting line.
 #[inline(always)]
 pub fn short_pair(text: &[u8], agents: u32) -> Option<((u32, u32), &[u8])>

@@ -2,10 +2,10 @@
 use Rattle.std.proofs.Common.{◌≡◌, ℕ, ◌+◌, ◌≤◌, List, ◌++◌, length, take, drop, ap, sym, ◌∙◌, arith, length-append, length-take, length-take-le, length-drop, take-add, take-take, take_at, drop_at}
 use Rattle.std.proofs.lemmas.Slice.{take-put_mid}
 use borrow.Rule.Slice.PartMut.{put_mid, same_len_mid}
-use Rattle.pop_lines.specs.Places.{Placed}
+use Rattle.pop_lines.specs.Places.{IsPlaced}
 
 -- only the first n bytes of a write are kept
-placed_less : {a b xs : List ℕ} {i j : ℕ} (n : ℕ) → i ≤ length a → n ≤ length xs → Placed a b i xs j → Placed a b i (take n xs) (i + n)
+placed_less : {a b xs : List ℕ} {i j : ℕ} (n : ℕ) → i ≤ length a → n ≤ length xs → IsPlaced a b i xs j → IsPlaced a b i (take n xs) (i + n)
 placed_less {a} {b} {xs} {i} {j} n within few p =
     let before = length-take-le i a within in
     record {
@@ -16,7 +16,7 @@ placed_less {a} {b} {xs} {i} {j} n within few p =
     }
 
 -- a part of the buffer was written, and its first n bytes count
-pub placed_part : (a ys : List ℕ) (i k n : ℕ) → i + k ≤ length a → length ys ≡ k → n ≤ k → Placed a (put_mid i k a ys) i (take n ys) (i + n)
+pub placed_part : (a ys : List ℕ) (i k n : ℕ) → i + k ≤ length a → length ys ≡ k → n ≤ k → IsPlaced a (put_mid i k a ys) i (take n ys) (i + n)
 placed_part a ys i k n fits long few =
     placed_less n (omega arith) (omega arith) (record {
       front = take-put_mid i k a ys (i + k) (omega arith) (omega arith);
@@ -25,6 +25,6 @@ placed_part a ys i k n fits long few =
     })
 
 -- a write ends within the buffer
-pub placed_within : {a b xs : List ℕ} {i j : ℕ} → i ≤ length a → Placed a b i xs j → j ≤ length b
+pub placed_within : {a b xs : List ℕ} {i j : ℕ} → i ≤ length a → IsPlaced a b i xs j → j ≤ length b
 placed_within {a} {b} {xs} {i} {j} within p =
     omega (arith, p.moved, ap length p.front, length-take j b, length-take-le i a within, length-append (take i a) xs)

@@ -1,5 +1,6 @@
 -- Pieces between bytes of one kind, and lines.
-use Rattle.std.specs.Prelude.{◌≡◌, ◌≢◌, ℕ, ◌+◌, ◌<◌, ◌==◌, List, [], ◌∷◌, ◌++◌, length, codes, All, Option, Some, None, if◌then◌else◌}
+use Rattle.std.specs.Prelude.{◌≡◌, ◌≢◌, ℕ, ◌+◌, ◌<◌, ◌==◌, List, [], ◌∷◌, ◌++◌}
+use Rattle.std.specs.Prelude.{length, codes, All, Option, Some, None, if◌then◌else◌}
 use Rattle.std.specs.List.{slice_split, flat_map}
 use Rattle.pop_lines.specs.declared.fault.LineFault.{LineFault}
 use Rattle.pop_lines.specs.declared.fault.LineFault.TheVariants.{Missing, Extra}

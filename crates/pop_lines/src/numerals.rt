@@ -1,7 +1,7 @@
 //! Numbers printed in decimal digits many times over, at places of a buffer.
 
 ghost use Rattle.std.specs.Prelude.{◌≡◌, ℕ, ◌+◌, ◌<◌, ◌≤◌, ◌∷◌, [], List, length, slice_index_or, decimal};
-ghost use Rattle.pop_lines.specs.Places.{Placed};
+ghost use Rattle.pop_lines.specs.Places.{IsPlaced};
 
 use itoa::Buffer;
 use std::alloc::{AllocError, Global};
@@ -49,7 +49,7 @@ impl Numeral {
     #[inline(always)]
     fn put(&self, buffer: &mut [u8], at: usize) -> usize
         requires { at + NUMERAL_SIZE ≤ length buffer.old }
-        ensures placed { Placed buffer.old buffer.new at self.now result }
+        ensures placed { IsPlaced buffer.old buffer.new at self.now result }
         ensures room { result ≤ at + NUMERAL_SIZE }
     {
         buffer[at..at + NUMERAL_SIZE].copy_from_slice(&self.bytes);
@@ -79,7 +79,7 @@ impl Numerals {
     #[inline(always)]
     pub fn put(&self, buffer: &mut [u8], at: usize, n: u32) -> usize
         requires { at + NUMBER_ROOM ≤ length buffer.old }
-        ensures placed { Placed buffer.old buffer.new at (decimal n) result }
+        ensures placed { IsPlaced buffer.old buffer.new at (decimal n) result }
         ensures room { result ≤ at + NUMBER_ROOM }
     {
         match self.kept.get(n as usize) {
@@ -93,7 +93,7 @@ impl Numerals {
 #[inline(never)]
 fn put_number(buffer: &mut [u8], at: usize, n: u32) -> usize
     requires { at + NUMBER_ROOM ≤ length buffer.old }
-    ensures placed { Placed buffer.old buffer.new at (decimal n) result }
+    ensures placed { IsPlaced buffer.old buffer.new at (decimal n) result }
     ensures room { result ≤ at + NUMBER_ROOM }
 {
     let mut digits = Buffer::new();
@@ -104,7 +104,7 @@ fn put_number(buffer: &mut [u8], at: usize, n: u32) -> usize
 #[inline(always)]
 pub fn put_bytes(buffer: &mut [u8], at: usize, bytes: &[u8]) -> usize
     requires { at + length bytes.now ≤ length buffer.old }
-    ensures { Placed buffer.old buffer.new at bytes.now result }
+    ensures { IsPlaced buffer.old buffer.new at bytes.now result }
 {
     let end = at + bytes.len();
     buffer[at..end].copy_from_slice(bytes);
@@ -115,7 +115,7 @@ pub fn put_bytes(buffer: &mut [u8], at: usize, bytes: &[u8]) -> usize
 #[inline(always)]
 pub fn put_byte(buffer: &mut [u8], at: usize, byte: u8) -> usize
     requires { at < length buffer.old }
-    ensures { Placed buffer.old buffer.new at (byte ∷ []) result }
+    ensures { IsPlaced buffer.old buffer.new at (byte ∷ []) result }
 {
     buffer[at] = byte;
     at + 1

@@ -4,7 +4,7 @@
 #![tactic(auto)]
 
 use pop_io::{OpenGate, StdSink, StdSource};
-use pop_tool::{Status, run_tool};
+use pop_tool::{Status, WORD_LIMIT, run_tool};
 use std::alloc::AllocError;
 use std::process::ExitCode;
 use std::rt::Env;
@@ -15,7 +15,7 @@ use std::{env, io};
 /// Why the words of the command line were not taken.
 #[derive(Clone, Copy)]
 enum WordsFault {
-    /// A word is no UTF-8, or there are 2^32 words or more.
+    /// A word is no UTF-8, or there are more than `WORD_LIMIT` words.
     Faulty,
     NoMemory,
 }
@@ -65,7 +65,7 @@ where
     let Ok(words) = refs(rt, &words) else {
         return Status::NoMemory;
     };
-    if words.len() > u32::MAX as usize {
+    if words.len() > WORD_LIMIT {
         return Status::Usage;
     }
     let mut source = StdSource::new(rt);

@@ -13,7 +13,7 @@ use crate::limits::{LEAF_LIMIT, WORD_BITS};
 /// Each leaf reacts by itself.
 pub(crate) fn react_words(lanes: LaneWidth, leaves: &[Leaf], a: u64, b: u64) -> (u64, u64)
     requires few { bits_of lanes * length leaves.now ≤ WORD_BITS }
-    requires narrow { All (λ leaf. length leaf.states ≤ 2 ^ bits_of lanes) leaves.now }
+    requires fits { All (λ leaf. length leaf.states ≤ 2 ^ bits_of lanes) leaves.now }
     requires a_valid { AreStates leaves.now (digits (2 ^ bits_of lanes) (length leaves.now) a) }
     requires b_valid { AreStates leaves.now (digits (2 ^ bits_of lanes) (length leaves.now) b) }
     ensures first { digits (2 ^ bits_of lanes) (length leaves.now) result.0
@@ -40,7 +40,7 @@ pub(crate) fn react_words(lanes: LaneWidth, leaves: &[Leaf], a: u64, b: u64) -> 
 /// The word in which an agent of a variable starts.
 pub(crate) fn start_word(lanes: LaneWidth, leaves: &[Leaf], variable: u16) -> u64
     requires few { bits_of lanes * length leaves.now ≤ WORD_BITS }
-    requires narrow { All (λ leaf. length leaf.states ≤ 2 ^ bits_of lanes) leaves.now }
+    requires fits { All (λ leaf. length leaf.states ≤ 2 ^ bits_of lanes) leaves.now }
     requires input { All (λ leaf. variable < length leaf.inputs) leaves.now }
     ensures start { digits (2 ^ bits_of lanes) (length leaves.now) result
         ≡ map (λ leaf. slice_index leaf.inputs variable) leaves.now }
@@ -56,7 +56,7 @@ pub(crate) fn start_word(lanes: LaneWidth, leaves: &[Leaf], variable: u16) -> u6
 /// The word in which a helper starts.
 pub(crate) fn helper_word(lanes: LaneWidth, leaves: &[Leaf], helper: u32) -> u64
     requires few { bits_of lanes * length leaves.now ≤ WORD_BITS }
-    requires narrow { All (λ leaf. length leaf.states ≤ 2 ^ bits_of lanes) leaves.now }
+    requires fits { All (λ leaf. length leaf.states ≤ 2 ^ bits_of lanes) leaves.now }
     requires helper { All (λ leaf. helper < length leaf.helpers) leaves.now }
     ensures start { digits (2 ^ bits_of lanes) (length leaves.now) result
         ≡ map (λ leaf. slice_index leaf.helpers helper) leaves.now }

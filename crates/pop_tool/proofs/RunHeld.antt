@@ -29,7 +29,7 @@ use Rattle.pop_journal.specs.declared.last.Last.{Last}
 use Rattle.pop_journal.specs.Journal.{journal_text}
 use Rattle.pop_journal.specs.Ending.{common_output, ending_for, ending_of}
 use Rattle.pop_journal.specs.Expected.{whole_tail, Holds}
-use Rattle.pop_journal.specs.Laws.{IsReadBack}
+use Rattle.pop_journal.specs.Laws.{IsRunReadBack}
 use Rattle.pop_journal.proofs.Looks.{least_some, least_of_terminal, common_some}
 use Rattle.pop_lines.proofs.Unbroken.{IsUnbroken}
 use Rattle.pop_journal.proofs.Feeds.{lines_text}
@@ -123,7 +123,7 @@ module _ (kind : RunKind) (spec : RunSpec) (input : List ℕ) (output : Output) 
   abbrev journal : Journal
   journal = record { kind = kind; spec = spec; rounds = made.is.rounds; tail = lines_of (whole_tail net end); first = JOURNAL_LINE }
 
-  written : IsReadBack kind net start spec made.is.rounds end JOURNAL_LINE × Holds net start journal
+  written : IsRunReadBack kind net start spec made.is.rounds end JOURNAL_LINE × Holds net start journal
   written = written_is_held kind net start spec made.is.rounds end JOURNAL_LINE two few bounded.0 bounded.1 bounded.2 made.is.run
 
   lines_are : lines_of output.text ≡ made.first ∷ made.second ∷ lines_of (journal_text kind net spec made.is.rounds end (ending_of net end))

@@ -14,7 +14,8 @@ use Rattle.pop_crowd.specs.declared.crowd.Meeting.{Meeting}
 use Rattle.pop_words.specs.declared.kind.RunKind.{RunKind}
 use Rattle.pop_words.specs.declared.kind.RunKind.TheVariants.{Whole, Watched}
 use Rattle.pop_words.specs.declared.spec.RunSpec.{RunSpec}
-use Rattle.pop_words.specs.declared.command.Command.TheVariants.{Check, Run, Watch, Replay, ReplayWatched, Settle, Compile, Flocks}
+use Rattle.pop_words.specs.declared.command.Command.TheVariants.{Check, Run, Watch, Replay}
+use Rattle.pop_words.specs.declared.command.Command.TheVariants.{ReplayWatched, Settle, Compile, Flocks}
 use Rattle.pop_words.specs.Words.{meaning_of}
 use Rattle.pair_workers.specs.Run.{joined}
 use Rattle.pair_workers.specs.WatchedRun.{IsRunOf}

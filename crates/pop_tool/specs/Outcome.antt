@@ -6,7 +6,8 @@ use Rattle.tool_texts.specs.declared.output.Output.{Output}
 use Rattle.tool_texts.specs.declared.output.Ending.{Ending}
 use Rattle.tool_texts.specs.declared.output.Ending.TheVariants as ending
 use Rattle.tool_texts.specs.declared.status.Status.{Status}
-use Rattle.tool_texts.specs.declared.status.Status.TheVariants.{Done, Usage, Refused, Rejected, Undecided, Differs, ReadFault, WriteFault, NoMemory}
+use Rattle.tool_texts.specs.declared.status.Status.TheVariants.{Done, Usage, Refused, Rejected, Undecided}
+use Rattle.tool_texts.specs.declared.status.Status.TheVariants.{Differs, ReadFault, WriteFault, NoMemory}
 use Rattle.tool_texts.specs.Refusals.{read_fault}
 use Rattle.pop_tool.specs.Answer.{Answer}
 

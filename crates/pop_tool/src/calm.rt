@@ -1,6 +1,7 @@
 //! The top call over a source and a sink in memory that never fail.
 
-ghost use Rattle.std.specs.Prelude.{◌≢◌, ◌<◌, ◌≤◌, ◌^◌, length, Some};
+ghost use Rattle.std.specs.Prelude.{◌≢◌, ◌≤◌, length, Some};
+ghost use Rattle.pop_words.specs.declared.words.TheConstants.{WORD_LIMIT};
 ghost use Rattle.pop_words.specs.CommandLine.{texts_of};
 ghost use Rattle.pop_tool.specs.Plain.{ArePlain};
 ghost use Rattle.pop_tool.specs.Call.{AcceptsReplies};
@@ -20,7 +21,7 @@ pub fn run_calm<G: Gate>(
     sink: &mut CalmSink,
     gate: &G,
 ) -> Status
-    requires few { length words.now < 2 ^ 32 }
+    requires few { length words.now ≤ WORD_LIMIT }
     requires plain { ArePlain (texts_of words.now) }
     requires room { AcceptsReplies (λ text. length text ≤ sink.old.spare) (texts_of words.now) (Some source.old) }
     ensures outcome { Outcome (texts_of words.now) (Some source.old)

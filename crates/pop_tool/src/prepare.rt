@@ -1,7 +1,8 @@
 //! From words and input to a text, or to a run that is still to be made.
 
-ghost use Rattle.std.specs.Prelude.{◌≡◌, ◌<◌, ◌^◌, length, false, IfOk};
+ghost use Rattle.std.specs.Prelude.{◌≡◌, ◌<◌, ◌≤◌, ◌^◌, length, false, IfOk};
 ghost use Rattle.pop_lines.specs.Lines.{lines_of};
+ghost use Rattle.pop_words.specs.declared.words.TheConstants.{WORD_LIMIT};
 ghost use Rattle.pop_words.specs.CommandLine.{texts_of};
 ghost use Rattle.pop_words.specs.Words.{HasLimits};
 ghost use Rattle.tool_commands.specs.Prepared.{LeadsTo, NeedsNoThreads};
@@ -37,7 +38,7 @@ pub(crate) fn prepare<S: Source>(
     words: &[&str],
     source: &mut S,
 ) -> Result<Prepared, NoMemory>
-    requires { length words.now < 2 ^ 32 }
+    requires { length words.now ≤ WORD_LIMIT }
     ensures leads { IfOk result (LeadsTo (IsRightOutput (texts_of words.now)
         (S.left source.old) (S.left source.new) (S.faults source.old) (S.faults source.new))) }
     ensures plain { ArePlain (texts_of words.now) → IfOk result NeedsNoThreads }

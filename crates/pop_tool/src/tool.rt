@@ -1,6 +1,7 @@
 //! The top call: words, then what they prepare, then what is still to be made, then one write.
 
-ghost use Rattle.std.specs.Prelude.{◌≡◌, ◌↔◌, ◌<◌, ◌^◌, length, false, IfOk, IsTrue};
+ghost use Rattle.std.specs.Prelude.{◌≡◌, ◌≤◌, ◌↔◌, length, false, IfOk, IsTrue};
+ghost use Rattle.pop_words.specs.declared.words.TheConstants.{WORD_LIMIT};
 ghost use Rattle.pop_words.specs.CommandLine.{texts_of};
 ghost use Rattle.pop_tool.specs.Plain.{ArePlain};
 ghost use Rattle.pop_tool.specs.Call.{AcceptsReplies, IsCall};
@@ -27,11 +28,12 @@ pub fn run_plain<S: Source, K: Sink, G: Gate>(
     sink: &mut K,
     gate: &G,
 ) -> Status
-    requires few { length words.now < 2 ^ 32 }
+    requires few { length words.now ≤ WORD_LIMIT }
     // The words ask neither for a run with two or more workers nor for `watch`.
     requires plain { ArePlain (texts_of words.now) }
     requires room { AcceptsReplies (K.accepts sink.old) (texts_of words.now) (S.left source.old) }
-    ensures { IsCall S.left S.faults K.holds K.faults (texts_of words.now) source.old source.new sink.old sink.new result }
+    ensures { IsCall S.left S.faults K.holds K.faults (texts_of words.now)
+        source.old source.new sink.old sink.new result }
 {
     let output = plain_output(alloc, words, source, gate);
     write(sink, output)
@@ -47,9 +49,10 @@ pub fn run_tool<R: Threads + Wait + Sync, S: Source, K: Sink, G: Gate>(
     sink: &mut K,
     gate: &G,
 ) -> Status
-    requires few { length words.now < 2 ^ 32 }
+    requires few { length words.now ≤ WORD_LIMIT }
     requires room { AcceptsReplies (K.accepts sink.old) (texts_of words.now) (S.left source.old) }
-    ensures { IsCall S.left S.faults K.holds K.faults (texts_of words.now) source.old source.new sink.old sink.new result }
+    ensures { IsCall S.left S.faults K.holds K.faults (texts_of words.now)
+        source.old source.new sink.old sink.new result }
 {
     if is_plain(words) {
         return run_plain(alloc, words, source, sink, gate);
@@ -60,7 +63,7 @@ pub fn run_tool<R: Threads + Wait + Sync, S: Source, K: Sink, G: Gate>(
 
 /// Whether `run_plain` answers the words: they ask neither for a run with two or more workers nor for `watch`.
 pub fn is_plain(words: &[&str]) -> bool
-    requires { length words.now < 2 ^ 32 }
+    requires { length words.now ≤ WORD_LIMIT }
     ensures { IsTrue result ↔ ArePlain (texts_of words.now) }
 {
     match read_words(words) {
@@ -76,7 +79,7 @@ fn plain_output<S: Source, G: Gate>(
     source: &mut S,
     gate: &G,
 ) -> Result<Output, NoMemory>
-    requires few { length words.now < 2 ^ 32 }
+    requires few { length words.now ≤ WORD_LIMIT }
     requires plain { ArePlain (texts_of words.now) }
     ensures output { IfOk result (IsRightOutput (texts_of words.now) (S.left source.old) (S.left source.new)
         (S.faults source.old) (S.faults source.new)) }
@@ -95,7 +98,7 @@ fn any_output<R: Threads + Wait + Sync, S: Source, G: Gate>(
     source: &mut S,
     gate: &G,
 ) -> Result<Output, NoMemory>
-    requires { length words.now < 2 ^ 32 }
+    requires { length words.now ≤ WORD_LIMIT }
     ensures output { IfOk result (IsRightOutput (texts_of words.now) (S.left source.old) (S.left source.new)
         (S.faults source.old) (S.faults source.new)) }
     ensures suffix { HasSuffix (S.left source.old) (S.left source.new) }

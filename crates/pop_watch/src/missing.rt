@@ -5,27 +5,21 @@ ghost use Rattle.pop_net.specs.Lanes.{AreValid};
 ghost use Rattle.pair_workers.specs.Run.{made_by};
 ghost use Rattle.pop_watch.specs.Playing.{HasPlayedOn, KeepsPlaying, AreAllMade};
 
-use pair_workers::{ROUND_TURNS, RoundEnd};
-use pop_crowd::Meeting;
+use pair_workers::{ROUND_TURNS, RoundEnd, meet_next};
 use pop_io::NoMemory;
 use pop_net::Net;
 use pop_words::WATCHED_WORKERS;
 
 /// The next meeting of one worker, for which there is room.
-fn meet_next(net: &Net, played: &mut RoundEnd, worker: u16)
+fn push_next(net: &Net, played: &mut RoundEnd, worker: u16)
     requires valid { AreValid net.now played.old.crowd }
     requires worker { worker < length played.old.pickers.items }
     requires room { length played.old.meetings.items < vec_capacity played.old.meetings }
     ensures { HasPlayedOn net.now worker 1 played.old played.new }
 {
-    let (a, b) = played.pickers[worker as usize].pick(played.crowd.len());
-    let changed = played.crowd.meet(net, a, b);
-    played.meetings.push_reserved(Meeting {
-        worker,
-        a,
-        b,
-        changed,
-    });
+    let picker = &mut played.pickers[worker as usize];
+    let meeting = meet_next(net, &mut played.crowd, picker, worker);
+    played.meetings.push_reserved(meeting);
 }
 
 /// The next meetings of one worker, for which there is room.
@@ -36,7 +30,7 @@ fn make_turns(net: &Net, played: &mut RoundEnd, worker: u16, turns: u64)
     ensures { HasPlayedOn net.now worker turns played.old played.new }
 {
     'turns: for turn in 0..turns {
-        meet_next(net, played, worker);
+        push_next(net, played, worker);
     }
 }
 

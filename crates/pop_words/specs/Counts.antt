@@ -1,6 +1,6 @@
 -- Crowd lines: `crowd`, and words `name=count` behind single spaces.
-use Rattle.std.specs.Prelude.{ℕ, ◌+◌, ◌==◌, List, [], ◌∷◌, codes, map, Option, Some, None, if◌then◌else◌, option_and_then, option_map}
-use Rattle.std.specs.Prelude.{unwrap_or, is_some, position, Result, Ok, Err}
+use Rattle.std.specs.Prelude.{ℕ, ◌+◌, ◌==◌, List, [], ◌∷◌, codes, map, Option, Some, None, if◌then◌else◌}
+use Rattle.std.specs.Prelude.{option_and_then, option_map, unwrap_or, is_some, position, Result, Ok, Err}
 use Rattle.std.specs.List.{slice_index_or, slice_set}
 use Rattle.std.specs.Str.{bytes_eq}
 use Rattle.pop_io.specs.Gives.{Gives}
@@ -18,12 +18,14 @@ split_once c (x ∷ xs) = if x == c then Some ([], xs) else option_map (λ p. (x
 abbrev pub entry_of : List (List ℕ) → List ℕ → Option (ℕ × ℕ)
 entry_of names word =
     option_and_then
-    (λ parts. option_and_then (λ variable. option_map (λ count. (variable, count)) (small_number_of parts.1)) (position (bytes_eq parts.0) names))
+    (λ parts. option_and_then
+    (λ variable. option_map (λ count. (variable, count)) (small_number_of parts.1)) (position (bytes_eq parts.0) names))
     (split_once 61 word)
 
 -- the counts with one more, where its variable has none yet
 abbrev pub with_entry : List (Option ℕ) → ℕ × ℕ → Option (List (Option ℕ))
-with_entry found entry = if is_some (slice_index_or found entry.0 None) then None else Some (slice_set found entry.0 (Some entry.1))
+with_entry found entry =
+    if is_some (slice_index_or found entry.0 None) then None else Some (slice_set found entry.0 (Some entry.1))
 
 -- the counts with that of a word, where it has the form, names a variable and names it for the first time
 unfoldable pub with_word : List (List ℕ) → List (Option ℕ) → List ℕ → Option (List (Option ℕ))
@@ -32,12 +34,14 @@ with_word names found word = option_and_then (with_entry found) (entry_of names 
 -- the counts that the words from number i on give, or the number of the first bad word
 abbrev pub with_words : List (List ℕ) → List (Option ℕ) → ℕ → List (List ℕ) → Result (List (Option ℕ)) ℕ
 with_words names found i [] = Ok found
-with_words names found i (w ∷ ws) = unwrap_or (option_map (λ more. with_words names more (i + 1) ws) (with_word names found w)) (Err i)
+with_words names found i (w ∷ ws) =
+    unwrap_or (option_map (λ more. with_words names more (i + 1) ws) (with_word names found w)) (Err i)
 
 -- every word after the first, which is `crowd`
 abbrev pub counts_behind : List (List ℕ) → List (List ℕ) → Result (List (Option ℕ)) ℕ
 counts_behind names [] = Err 0
-counts_behind names (first ∷ words) = if bytes_eq first (codes "crowd") then with_words names (map (λ _. None) names) 1 words else Err 0
+counts_behind names (first ∷ words) =
+    if bytes_eq first (codes "crowd") then with_words names (map (λ _. None) names) 1 words else Err 0
 
 -- a variable that isn't named counts 0
 abbrev pub with_zeros : Result (List (Option ℕ)) ℕ → Result (List ℕ) ℕ

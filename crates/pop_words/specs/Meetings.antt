@@ -1,6 +1,6 @@
 -- Meeting lines.
-use Rattle.std.specs.Prelude.{ℕ, ◌==◌, ◌&&◌, not, nat_lt, List, [], ◌∷◌, Option, Some, None, option_map, option_and_then, Result, Ok, Err}
-use Rattle.std.specs.Prelude.{if◌then◌else◌}
+use Rattle.std.specs.Prelude.{ℕ, ◌==◌, ◌&&◌, not, nat_lt, List, [], ◌∷◌, Option, Some, None, option_map}
+use Rattle.std.specs.Prelude.{option_and_then, Result, Ok, Err, if◌then◌else◌}
 use Rattle.pop_lines.specs.Lines.{pieces}
 use Rattle.pop_lines.specs.Numbers.{number_of}
 use Rattle.pop_words.specs.declared.meeting.MeetingFault.{MeetingFault}
@@ -14,7 +14,8 @@ pair_of _ = None
 -- two different agents
 abbrev pub two_agents_of : ℕ → Option (ℕ × ℕ) → Result (ℕ × ℕ) MeetingFault
 two_agents_of agents None = Err Form
-two_agents_of agents (Some pair) = if not (pair.0 == pair.1) && (nat_lt pair.0 agents && nat_lt pair.1 agents) then Ok pair else Err Agents
+two_agents_of agents (Some pair) =
+    if not (pair.0 == pair.1) && (nat_lt pair.0 agents && nat_lt pair.1 agents) then Ok pair else Err Agents
 
 -- a meeting line: two numbers with one space between them, and they are two different agents
 unfoldable pub meeting_of : ℕ → List ℕ → Result (ℕ × ℕ) MeetingFault

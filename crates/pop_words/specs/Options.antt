@@ -1,6 +1,7 @@
 -- The options of `run` and `watch`, in any order and each at most once.
-use Rattle.std.specs.Prelude.{ℕ, ◌+◌, ◌*◌, ◌-◌, ◌≤◌, ◌%◌, ◌==◌, nat_lt, List, [], ◌∷◌, length, take, codes, Option, Some, None, is_some}
-use Rattle.std.specs.Prelude.{option_map, option_and_then, unwrap_or, find, position, slice_index_or, if◌then◌else◌, Result, Ok, Err}
+use Rattle.std.specs.Prelude.{ℕ, ◌+◌, ◌*◌, ◌-◌, ◌≤◌, ◌%◌, ◌==◌, nat_lt, List, [], ◌∷◌, length, take, codes, Option}
+use Rattle.std.specs.Prelude.{Some, None, is_some, option_map, option_and_then, unwrap_or, find, position}
+use Rattle.std.specs.Prelude.{slice_index_or, if◌then◌else◌, Result, Ok, Err}
 use Rattle.std.specs.List.{list_any, range_with_len}
 use Rattle.std.specs.Str.{bytes_eq}
 use Rattle.pop_lines.specs.Numbers.{number_of_within}
@@ -50,7 +51,10 @@ number_behind kind option word = number_of_within (least_of option) (most_of kin
 
 -- an option that no word before it names
 abbrev pub name_fault : List (List ℕ) → List ℕ → Option UsageWhy
-name_fault before word = if is_some (option_named word) then (if list_any (bytes_eq word) before then Some Twice else None) else Some Unknown
+name_fault before word =
+    if is_some (option_named word)
+    then (if list_any (bytes_eq word) before then Some Twice else None)
+    else Some Unknown
 
 -- a number that the option before it may have
 abbrev pub number_fault : RunKind → Option RunOption → List ℕ → Option UsageWhy
@@ -80,7 +84,8 @@ first_fault kind words = first_given (fault_with_place kind words) (range_with_l
 abbrev pub option_value : RunKind → List (List ℕ) → RunOption → ℕ
 option_value kind words option =
     unwrap_or
-    (option_and_then (λ i. number_behind kind option (slice_index_or words (i + 1) [])) (position (λ word. bytes_eq word (name_of option)) words))
+    (option_and_then (λ i. number_behind kind option (slice_index_or words (i + 1) []))
+    (position (λ word. bytes_eq word (name_of option)) words))
     (default_of option)
 
 abbrev pub spec_of : RunKind → List (List ℕ) → RunSpec
@@ -96,7 +101,8 @@ spec_of kind words =
 abbrev pub bad_at : {A : Type 0} → ℕ → UsageWhy → Result A Usage
 bad_at word why = Err (record { word = word; why = why })
 
--- the run that options without a fault ask for, where the last one has its number, and workers times turns are within their limit
+-- the run that options without a fault ask for, where the last one has its number, and workers times turns are within
+-- their limit
 abbrev pub run_with : RunKind → List (List ℕ) → Result RunSpec Usage
 run_with kind words =
     if length words % 2 == 1
@@ -109,7 +115,8 @@ abbrev pub or_fault : Option (ℕ × UsageWhy) → Result RunSpec Usage → Resu
 or_fault None run = run
 or_fault (Some fault) run = bad_at (fault.0 + 1) fault.1
 
--- the run of this kind that the words behind the command's own ask for, or the first bad one; the command's own is word 0
+-- the run of this kind that the words behind the command's own ask for, or the first bad one; the command's own is
+-- word 0
 abbrev pub options_meaning : RunKind → List (List ℕ) → Result RunSpec Usage
 options_meaning kind words = or_fault (first_fault kind words) (run_with kind words)
 

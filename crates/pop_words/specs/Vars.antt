@@ -1,6 +1,6 @@
 -- Vars lines: `vars`, and the names of the variables behind single spaces.
-use Rattle.std.specs.Prelude.{◌≡◌, ◌≤◌, ℕ, Bool, true, ◌&&◌, not, nat_le, List, [], ◌∷◌, length, codes, Option, Some, None, Result, Ok, Err}
-use Rattle.std.specs.Prelude.{if◌then◌else◌}
+use Rattle.std.specs.Prelude.{◌≡◌, ◌≤◌, ℕ, Bool, true, ◌&&◌, not, nat_le, List, [], ◌∷◌, length, codes, Option, Some}
+use Rattle.std.specs.Prelude.{None, Result, Ok, Err, if◌then◌else◌}
 use Rattle.std.specs.List.{list_all, list_any}
 use Rattle.std.specs.Str.{bytes_eq}
 use Rattle.pop_io.specs.Names.{variable_name, AreNames}
@@ -16,7 +16,9 @@ are_distinct (name ∷ names) = not (list_any (bytes_eq name) names) && are_dist
 
 -- 1 to VARIABLE_LIMIT distinct names of variables
 abbrev pub are_variables : List (List ℕ) → Bool
-are_variables names = (nat_le 1 (length names) && nat_le (length names) VARIABLE_LIMIT) && (list_all variable_name names && are_distinct names)
+are_variables names =
+    (nat_le 1 (length names) && nat_le (length names) VARIABLE_LIMIT)
+    && (list_all variable_name names && are_distinct names)
 
 -- the words behind the first, which is `vars`
 abbrev pub behind_vars : List (List ℕ) → Option (List (List ℕ))

@@ -1,6 +1,6 @@
 -- The words of a line, one after the other.
-use Rattle.std.specs.Prelude.{◌≡◌, ℕ, ◌+◌, ◌&&◌, not, Bool, nat_lt, List, [], length, count_by, is_none, Option, Some, None, Result, Ok}
-use Rattle.std.specs.Prelude.{Err, true, false}
+use Rattle.std.specs.Prelude.{◌≡◌, ℕ, ◌+◌, ◌&&◌, not, Bool, nat_lt, List, [], length, count_by, is_none, Option, Some}
+use Rattle.std.specs.Prelude.{None, Result, Ok, Err, true, false}
 use Rattle.std.specs.List.{list_any}
 use Rattle.std.specs.Str.{bytes_eq}
 use Rattle.pop_io.specs.Names.{variable_name}
@@ -26,7 +26,8 @@ without_count found = count_by is_none found
 
 -- a further name
 abbrev pub can_join : List (List ℕ) → List ℕ → Bool
-can_join names word = variable_name word && (nat_lt (length names) VARIABLE_LIMIT && not (list_any (bytes_eq word) names))
+can_join names word =
+    variable_name word && (nat_lt (length names) VARIABLE_LIMIT && not (list_any (bytes_eq word) names))
 
 -- the words, where they are names of variables
 abbrev pub NamedBehind : Result (List (List ℕ)) VarsFault → List (List ℕ) → Type 0

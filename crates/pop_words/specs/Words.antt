@@ -1,8 +1,10 @@
 -- What a list of words means.
-use Rattle.std.specs.Prelude.{ℕ, ◌≤◌, List, [], ◌∷◌, codes, Option, Some, None, option_map, find, Result, Ok, Err, if◌then◌else◌}
+use Rattle.std.specs.Prelude.{ℕ, ◌≤◌, List, [], ◌∷◌, codes, Option, Some, None}
+use Rattle.std.specs.Prelude.{option_map, find, Result, Ok, Err, if◌then◌else◌}
 use Rattle.std.specs.Str.{bytes_eq}
 use Rattle.pop_words.specs.declared.command.Command.{Command}
-use Rattle.pop_words.specs.declared.command.Command.TheVariants.{Play, Eval, Check, Run, Watch, Replay, ReplayWatched, Settle, Compile, Flocks, Demo}
+use Rattle.pop_words.specs.declared.command.Command.TheVariants.{Play, Eval, Check, Run, Watch, Replay, ReplayWatched}
+use Rattle.pop_words.specs.declared.command.Command.TheVariants.{Settle, Compile, Flocks, Demo}
 use Rattle.pop_words.specs.declared.command.Usage.{Usage}
 use Rattle.pop_words.specs.declared.command.UsageWhy.TheVariants.{Missing, Unknown, Value}
 use Rattle.pop_words.specs.declared.words.Form.{Form}
@@ -67,9 +69,9 @@ abbrev pub flag_name : Flag → List ℕ
 flag_name OfCompile = codes "--flocks"
 flag_name OfReplay = codes "--watched"
 
-abbrev pub unflagged : Flag → Command
-unflagged OfCompile = Compile
-unflagged OfReplay = Replay
+abbrev pub unflagged_command : Flag → Command
+unflagged_command OfCompile = Compile
+unflagged_command OfReplay = Replay
 
 abbrev pub flagged_command : Flag → Command
 flagged_command OfCompile = Flocks
@@ -81,8 +83,9 @@ behind_flag command (word ∷ rest) = bad_at 2 Unknown
 
 -- no word stands behind the plain command's own, and just the flag behind that of the other one
 abbrev pub flag_meaning : Flag → List (List ℕ) → Result Command Usage
-flag_meaning flag [] = Ok (unflagged flag)
-flag_meaning flag (word ∷ rest) = if bytes_eq word (flag_name flag) then behind_flag (flagged_command flag) rest else bad_at 1 Unknown
+flag_meaning flag [] = Ok (unflagged_command flag)
+flag_meaning flag (word ∷ rest) =
+    if bytes_eq word (flag_name flag) then behind_flag (flagged_command flag) rest else bad_at 1 Unknown
 
 -- what the words behind the command's own mean
 abbrev pub meaning_behind : Option Form → List (List ℕ) → Result Command Usage

@@ -18,4 +18,4 @@ pub use kind::RunKind;
 pub use meeting::{MeetingFault, read_meeting};
 pub use spec::{DEMO_LIMIT, MEETING_LIMIT, RunSpec, SEED_LIMIT, TURN_LIMIT, WATCHED_WORKERS};
 pub use vars::{VarsFault, read_vars};
-pub use words::read_words;
+pub use words::{WORD_LIMIT, read_words};

@@ -1,9 +1,10 @@
 //! The options of `run` and `watch`: each is followed by its number.
 
-ghost use Rattle.std.specs.Prelude.{◌≡◌, ◌<◌, ◌≤◌, ◌^◌, ◌+◌, ◌*◌, length, Some, IfSome, IfOk, position};
+ghost use Rattle.std.specs.Prelude.{◌≡◌, ◌<◌, ◌≤◌, ◌+◌, ◌*◌, length, Some, IfSome, IfOk, position};
 ghost use Rattle.std.specs.List.{list_any};
 ghost use Rattle.std.specs.Str.{bytes_eq};
 ghost use Rattle.pop_io.specs.declared.gate.TheConstants.{WORKER_LIMIT};
+ghost use Rattle.pop_words.specs.declared.words.TheConstants.{WORD_LIMIT};
 ghost use Rattle.pop_words.specs.CommandLine.{texts_of};
 ghost use Rattle.pop_words.specs.declared.kind.RunKind.TheVariants.{Whole};
 ghost use Rattle.pop_words.specs.Kinds.{most_workers_of};
@@ -76,7 +77,7 @@ impl RunOption {
 
 /// The run of this kind that the words behind the command's own ask for. The command's own is word 0.
 pub(crate) fn read_options(kind: RunKind, words: &[&str]) -> Result<RunSpec, Usage>
-    requires { length words.now + 1 < 2 ^ 32 }
+    requires { length words.now < WORD_LIMIT }
     ensures meaning { result ≡ options_meaning kind (texts_of words.now) }
     ensures limits { IfOk result IsWithinLimits }
     ensures workers { IfOk result (λ spec. spec.workers ≤ most_workers_of kind) }
@@ -95,7 +96,7 @@ pub(crate) fn read_options(kind: RunKind, words: &[&str]) -> Result<RunSpec, Usa
 }
 
 fn behind(at: usize, why: UsageWhy) -> Usage
-    requires { at + 1 < 2 ^ 32 }
+    requires { at < WORD_LIMIT }
     ensures { result ≡ record { word = at + 1; why = why } }
 {
     Usage {

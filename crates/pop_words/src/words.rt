@@ -1,6 +1,7 @@
 //! The words of the command line.
 
-ghost use Rattle.std.specs.Prelude.{◌≡◌, ◌<◌, ◌≤◌, ◌^◌, ◌+◌, length, Some, IfSome, IfOk};
+ghost use Rattle.std.specs.Prelude.{◌≡◌, ◌<◌, ◌≤◌, length, Some, IfSome, IfOk};
+ghost use Rattle.pop_words.specs.declared.words.TheConstants.{WORD_LIMIT};
 ghost use Rattle.pop_words.specs.CommandLine.{texts_of};
 ghost use Rattle.pop_words.specs.Kinds.{most_workers_of};
 ghost use Rattle.pop_words.specs.Options.{IsWithinLimits};
@@ -12,6 +13,9 @@ use crate::kind::RunKind;
 use crate::options::read_options;
 use crate::spec::{DEMO_LIMIT, RunSpec};
 use pop_lines::number_within;
+
+/// The most words: the number of a bad one has 32 bits.
+pub const WORD_LIMIT: usize = u32::MAX as usize;
 
 /// What stands behind a command's own word.
 #[derive(Clone, Copy)]
@@ -35,7 +39,7 @@ pub(crate) enum Flag {
 
 impl Flag {
     ghost use Rattle.std.specs.Prelude.{◌≡◌};
-    ghost use Rattle.pop_words.specs.Words.{flag_name, unflagged, flagged_command};
+    ghost use Rattle.pop_words.specs.Words.{flag_name, unflagged_command, flagged_command};
 
     fn name(self) -> &'static str
         ensures { result.now ≡ flag_name self }
@@ -47,8 +51,8 @@ impl Flag {
     }
 
     /// The command without the flag.
-    fn plain(self) -> Command
-        ensures { result ≡ unflagged self }
+    fn unflagged(self) -> Command
+        ensures { result ≡ unflagged_command self }
     {
         match self {
             Flag::OfCompile => Command::Compile,
@@ -69,7 +73,7 @@ impl Flag {
 
 /// The command that the words ask for. Allocates nothing.
 pub fn read_words(words: &[&str]) -> Result<Command, Usage>
-    requires { length words.now < 2 ^ 32 }
+    requires { length words.now ≤ WORD_LIMIT }
     ensures meaning { result ≡ meaning_of (texts_of words.now) }
     ensures limits { IfOk result HasLimits }
 {
@@ -102,7 +106,7 @@ fn form_of(word: &str) -> Option<Form>
 }
 
 fn read_behind(form: Form, words: &[&str]) -> Result<Command, Usage>
-    requires few { length words.now + 1 < 2 ^ 32 }
+    requires few { length words.now < WORD_LIMIT }
     requires limits { FormHasLimits form }
     ensures meaning { result ≡ meaning_behind (Some form) (texts_of words.now) }
     ensures limits { IfOk result HasLimits }
@@ -152,7 +156,7 @@ fn read_flag(flag: Flag, words: &[&str]) -> Result<Command, Usage>
     ensures limits { IfOk result HasLimits }
 {
     match words {
-        [] => Ok(flag.plain()),
+        [] => Ok(flag.unflagged()),
         [first, ..] if *first != flag.name() => Err(bad(1, UsageWhy::Unknown)),
         [_] => Ok(flag.flagged()),
         _ => Err(bad(2, UsageWhy::Unknown)),

@@ -4,7 +4,7 @@ use Rattle.std.proofs.lemmas.List.{append-nil}
 use Rattle.pres_tokens.specs.declared.token.Relation.{Relation}
 use Rattle.pres_tokens.specs.declared.token.Relation.TheVariants.{Less, AtMost, Greater, AtLeast, Equal, Unequal}
 use Rattle.pres_tokens.specs.Symbols.{Symbol, Name, Number, Plus, Minus, Star, Compare, And, Or, Not, Open, Close, Mod, Stray}
-use Rattle.pres_read.specs.Grammar.{Term, bare, times, Sum, first, further, Atom, plain, modular, Part, APred, AConj, AUnit, Phrase, conj, either, unit, both, negate, group, atom, term_symbols, minus_if, plus_or_minus, sum_symbols, equal_or_not, constant_symbols, atom_symbols, symbols}
+use Rattle.pres_read.specs.Grammar.{Term, bare, times, Sum, first, further, Atom, relational, modular, Part, APred, AConj, AUnit, Phrase, conj, either, unit, both, negate, group, atom, term_symbols, minus_if, plus_or_minus, sum_symbols, equal_or_not, constant_symbols, atom_symbols, symbols}
 use Rattle.pres_read.proofs.Traces.{Lead, after, sum_with, IUnit, ITerm, IRelation, IModulo, Side, bare_side, Inside, Done, begun, negates, with_ands, with_ors, unit_done, trace_read, trace_compared}
 
 -- the symbols don't begin with `mod`
@@ -56,7 +56,7 @@ constant_run above side sum r true digits rest = refl
 
 -- where `mod` doesn't follow, the atom is done
 modulo_read : (above : List Side) (side : Side) (sum : Sum) (unequal negative : Bool) (digits : List ℕ) (rest : List Symbol) → NoMod rest
-    → trace_read (Inside above side (IModulo sum unequal negative digits)) rest ≡ trace_read (unit_done above side (atom (plain sum (equal_or_not unequal) negative digits))) rest
+    → trace_read (Inside above side (IModulo sum unequal negative digits)) rest ≡ trace_read (unit_done above side (atom (relational sum (equal_or_not unequal) negative digits))) rest
 modulo_read above side sum unequal negative digits [] h = refl
 modulo_read above side sum unequal negative digits (Name word ∷ ss) h = refl
 modulo_read above side sum unequal negative digits (Number ds ∷ ss) h = refl
@@ -73,7 +73,7 @@ modulo_read above side sum unequal negative digits (Mod ∷ ss) h = absurd h
 modulo_read above side sum unequal negative digits (Stray ∷ ss) h = refl
 
 compared_read : (above : List Side) (side : Side) (sum : Sum) (r : Relation) (negative : Bool) (digits : List ℕ) (rest : List Symbol) → NoMod rest
-    → trace_read (trace_compared above side sum r negative digits) rest ≡ trace_read (unit_done above side (atom (plain sum r negative digits))) rest
+    → trace_read (trace_compared above side sum r negative digits) rest ≡ trace_read (unit_done above side (atom (relational sum r negative digits))) rest
 compared_read above side sum Less negative digits rest h = refl
 compared_read above side sum AtMost negative digits rest h = refl
 compared_read above side sum Greater negative digits rest h = refl
@@ -88,7 +88,7 @@ modular_read above side sum true negative digits modulus rest = refl
 
 atom_read : (above : List Side) (side : Side) (a : Atom) (rest : List Symbol) → NoMod rest
     → trace_read (Inside above side IUnit) (atom_symbols a ++ rest) ≡ trace_read (unit_done above side (atom a)) rest
-atom_read above side (plain sum r negative digits) rest h =
+atom_read above side (relational sum r negative digits) rest h =
     ap (trace_read (Inside above side IUnit)) (append_assoc (sum_symbols sum) (Compare r ∷ constant_symbols negative digits) rest)
     ∙ sum_run above side sum (Compare r ∷ (constant_symbols negative digits ++ rest))
     ∙ constant_run above side sum r negative digits rest

@@ -3,7 +3,7 @@ use Rattle.std.proofs.Common.{◌≡◌, true, false, List, [], ◌∷◌, ◌++
 use Rattle.std.proofs.lemmas.List.{append-nil}
 use Rattle.pres_tokens.specs.declared.token.Relation.TheVariants.{Less}
 use Rattle.pres_tokens.specs.Symbols.{Symbol, Name, Number, Star, Compare, Close}
-use Rattle.pres_read.specs.Grammar.{bare, times, Sum, first, Atom, plain, modular, APred, AConj, Phrase, group, atom, equal_or_not, atom_symbols, symbols}
+use Rattle.pres_read.specs.Grammar.{bare, times, Sum, first, Atom, relational, modular, APred, AConj, Phrase, group, atom, equal_or_not, atom_symbols, symbols}
 use Rattle.pres_read.specs.Texts.{Begins}
 use Rattle.pres_read.proofs.Traces.{sum_with, Inner, IUnit, ITerm, IStar, IName, IRelation, IConstant, INumber, IModulo, IModulus, Side, Trace, Inside, Done, with_ors, conj_of}
 use Rattle.pres_read.proofs.Prefixes.{ors_prefix, side_prefix, above_prefix, inner_prefix, prefix, symbols-sum_with, symbols-with_ors, prefix-unit_done}
@@ -31,7 +31,7 @@ one : List Symbol
 one = Compare Less ∷ Number (codes "1") ∷ []
 
 less_one : Sum → Atom
-less_one sum = plain sum Less false (codes "1")
+less_one sum = relational sum Less false (codes "1")
 
 atom_from : (inner : Inner) → AtomFrom (inner_prefix inner)
 unfolding one less_one
@@ -52,10 +52,10 @@ atom_from (IName lead digits) = record {
   spelled = ap (λ ss. ss ++ one) (symbols-sum_with lead (times digits (codes "x"))) ∙ simp append_assoc;
 }
 atom_from (IRelation sum) = record { more = one; whole = less_one sum; spelled = refl }
-atom_from (IConstant sum r) = record { more = Number (codes "1") ∷ []; whole = plain sum r false (codes "1"); spelled = simp append_assoc }
-atom_from (INumber sum r) = record { more = Number (codes "1") ∷ []; whole = plain sum r true (codes "1"); spelled = simp append_assoc }
+atom_from (IConstant sum r) = record { more = Number (codes "1") ∷ []; whole = relational sum r false (codes "1"); spelled = simp append_assoc }
+atom_from (INumber sum r) = record { more = Number (codes "1") ∷ []; whole = relational sum r true (codes "1"); spelled = simp append_assoc }
 atom_from (IModulo sum unequal negative digits) =
-    record { more = []; whole = plain sum (equal_or_not unequal) negative digits; spelled = sym (append-nil (inner_prefix (IModulo sum unequal negative digits))) }
+    record { more = []; whole = relational sum (equal_or_not unequal) negative digits; spelled = sym (append-nil (inner_prefix (IModulo sum unequal negative digits))) }
 atom_from (IModulus sum unequal negative digits) =
     record { more = Number (codes "2") ∷ []; whole = modular sum unequal negative digits (codes "2"); spelled = simp append_assoc }
 

@@ -7,7 +7,7 @@ use Rattle.pres_tokens.specs.declared.token.Relation.TheVariants.{Less, AtMost, 
 use Rattle.pres_tokens.specs.Symbols.{Symbol, Name, Number, Plus, Minus, Star, Compare, And, Or, Not, Open, Close, Mod, Stray}
 use Rattle.pres_read.specs.Numbers.{value_of_digits}
 use Rattle.pres_read.specs.Atoms.{limit_of}
-use Rattle.pres_read.specs.Grammar.{Term, bare, times, Sum, first, further, Atom, plain, modular, Part, APred, AConj, AUnit, Phrase, conj, either, unit, both, negate, group, atom, term_symbols, minus_if, plus_or_minus, sum_symbols, equal_or_not, constant_symbols, atom_symbols, symbols, coefs_of}
+use Rattle.pres_read.specs.Grammar.{Term, bare, times, Sum, first, further, Atom, relational, modular, Part, APred, AConj, AUnit, Phrase, conj, either, unit, both, negate, group, atom, term_symbols, minus_if, plus_or_minus, sum_symbols, equal_or_not, constant_symbols, atom_symbols, symbols, coefs_of}
 use Rattle.pres_read.specs.Rules.{TermFits, SumFits, AtomFits, Fits}
 use Rattle.pres_read.proofs.Traces.{Lead, begin, after, sum_with, Inner, IUnit, ITerm, IStar, IName, IRelation, IConstant, INumber, IModulo, IModulus, Side, bare_side, Trace, Inside, Done, begun, with_ands, unit_done, trace_step, trace_compared}
 use Rattle.pres_read.proofs.Complete.{NoMod, negates-negate, ors_of, last_of, with_ors-last}
@@ -90,7 +90,7 @@ constant_kept names above side sum r false digits rest f k = (tt, (f, k))
 constant_kept names above side sum r true digits rest f k = (tt, (tt, (f, k)))
 
 modulo_kept : (names : List (List ℕ)) (above : List Side) (side : Side) (sum : Sum) (unequal negative : Bool) (digits : List ℕ) (rest : List Symbol) → NoMod rest
-    → Kept names (unit_done above side (atom (plain sum (equal_or_not unequal) negative digits))) rest → Kept names (Inside above side (IModulo sum unequal negative digits)) rest
+    → Kept names (unit_done above side (atom (relational sum (equal_or_not unequal) negative digits))) rest → Kept names (Inside above side (IModulo sum unequal negative digits)) rest
 modulo_kept names above side sum unequal negative digits [] h k = tt
 modulo_kept names above side sum unequal negative digits (Name word ∷ ss) h k = k
 modulo_kept names above side sum unequal negative digits (Number ds ∷ ss) h k = k
@@ -107,7 +107,7 @@ modulo_kept names above side sum unequal negative digits (Mod ∷ ss) h k = absu
 modulo_kept names above side sum unequal negative digits (Stray ∷ ss) h k = k
 
 compared_kept : (names : List (List ℕ)) (above : List Side) (side : Side) (sum : Sum) (r : Relation) (negative : Bool) (digits : List ℕ) (rest : List Symbol) → NoMod rest
-    → Kept names (unit_done above side (atom (plain sum r negative digits))) rest → Kept names (trace_compared above side sum r negative digits) rest
+    → Kept names (unit_done above side (atom (relational sum r negative digits))) rest → Kept names (trace_compared above side sum r negative digits) rest
 compared_kept names above side sum Less negative digits rest h k = k
 compared_kept names above side sum AtMost negative digits rest h k = k
 compared_kept names above side sum Greater negative digits rest h k = k
@@ -123,7 +123,7 @@ modular_kept names above side sum true negative digits modulus rest f k = (tt, (
 
 atom_kept : (names : List (List ℕ)) (above : List Side) (side : Side) (a : Atom) (rest : List Symbol) → NoMod rest → AtomFits names a
     → Kept names (unit_done above side (atom a)) rest → Kept names (Inside above side IUnit) (atom_symbols a ++ rest)
-atom_kept names above side (plain sum r negative digits) rest h f k =
+atom_kept names above side (relational sum r negative digits) rest h f k =
     subst (Kept names (Inside above side IUnit)) (sym (append_assoc (sum_symbols sum) (Compare r ∷ constant_symbols negative digits) rest))
     (sum_kept names above side sum (Compare r ∷ (constant_symbols negative digits ++ rest)) f.0
     (constant_kept names above side sum r negative digits rest f.1 (compared_kept names above side sum r negative digits rest h k)))

@@ -13,7 +13,7 @@ use Rattle.pres_read.specs.Outcome.{GivesParsed}
 use Rattle.pres_read.specs.Progress.{start}
 use Rattle.pres_read.specs.Depth.{surface}
 use Rattle.pres_read.specs.Reading.{run, over_names, pred_read}
-use Rattle.pres_read.specs.Grammar.{Atom, plain, modular, Part, Phrase, conj, either, unit, both, negate, group, atom, symbols, sum_symbols, equal_or_not, constant_symbols}
+use Rattle.pres_read.specs.Grammar.{Atom, relational, modular, Part, Phrase, conj, either, unit, both, negate, group, atom, symbols, sum_symbols, equal_or_not, constant_symbols}
 use Rattle.pres_read.specs.Rules.{AtomFits, Fits, last_is, opens, NumbersFit, KeepsRules}
 use Rattle.pres_read.specs.Texts.{text_symbols}
 use Rattle.pres_read.specs.PredText.{IsTextOf}
@@ -29,7 +29,7 @@ last_more (t ∷ u ∷ before) s = last_more (u ∷ before) s
 
 module _ (names : List (List ℕ)) (ss : List Symbol) (numbers : NumbersFit names ss) where
   atom_fits : (a : Atom) (before later : List Symbol) → ss ≡ before ++ (symbols (atom a) ++ later) → last_is opens true before ≡ true → AtomFits names a
-  atom_fits (plain sum relation negative digits) before later is begins =
+  atom_fits (relational sum relation negative digits) before later is begins =
       let constant = constant_symbols negative digits in
       let rest = Compare relation ∷ (constant ++ later) in
       let parts : ss ≡ before ++ (sum_symbols sum ++ rest) =

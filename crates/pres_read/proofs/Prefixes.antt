@@ -5,7 +5,7 @@ use Rattle.std.specs.Prelude.{IfSome}
 use Rattle.pres_tokens.specs.declared.token.Relation.{Relation}
 use Rattle.pres_tokens.specs.declared.token.Relation.TheVariants.{Less, AtMost, Greater, AtLeast, Equal, Unequal}
 use Rattle.pres_tokens.specs.Symbols.{Symbol, Name, Number, Plus, Minus, Star, Compare, And, Or, Not, Open, Close, Mod}
-use Rattle.pres_read.specs.Grammar.{Term, bare, times, Sum, Atom, plain, modular, APred, AConj, AUnit, Phrase, group, atom, term_symbols, minus_if, plus_or_minus, sum_symbols, equal_or_not, constant_symbols, atom_symbols, symbols}
+use Rattle.pres_read.specs.Grammar.{Term, bare, times, Sum, Atom, relational, modular, APred, AConj, AUnit, Phrase, group, atom, term_symbols, minus_if, plus_or_minus, sum_symbols, equal_or_not, constant_symbols, atom_symbols, symbols}
 use Rattle.pres_read.proofs.Traces.{Lead, begin, after, sum_with, Inner, IUnit, ITerm, IStar, IName, IRelation, IConstant, INumber, IModulo, IModulus, Side, Trace, Inside, Done, negates, with_ands, with_ors, conj_of, unit_done, trace_closed, trace_sign, trace_term, trace_unit, trace_star, trace_name, trace_relation, trace_compared, trace_number, trace_constant, equality_conj, trace_modulo, trace_modulus, trace_inner, trace_step, trace_goes_by, trace_run, trace_ended, trace_inner_end, trace_end}
 
 abbrev pub nots_prefix : ℕ → List Symbol
@@ -139,10 +139,10 @@ atom_done above side inner a s e = prefix-unit_done above side (atom a) ∙ grow
 compared_prefix : (above : List Side) (side : Side) (sum : Sum) (r : Relation) (negative : Bool) (digits : List ℕ) (inner : List Symbol) (s : Symbol)
     → (sum_symbols sum ++ Compare r ∷ constant_symbols negative digits) ≡ inner ++ s ∷ []
     → prefix (trace_compared above side sum r negative digits) ≡ (above_prefix above ++ (side_prefix side ++ inner)) ++ s ∷ []
-compared_prefix above side sum Less negative digits inner s e = atom_done above side inner (plain sum Less negative digits) s e
-compared_prefix above side sum AtMost negative digits inner s e = atom_done above side inner (plain sum AtMost negative digits) s e
-compared_prefix above side sum Greater negative digits inner s e = atom_done above side inner (plain sum Greater negative digits) s e
-compared_prefix above side sum AtLeast negative digits inner s e = atom_done above side inner (plain sum AtLeast negative digits) s e
+compared_prefix above side sum Less negative digits inner s e = atom_done above side inner (relational sum Less negative digits) s e
+compared_prefix above side sum AtMost negative digits inner s e = atom_done above side inner (relational sum AtMost negative digits) s e
+compared_prefix above side sum Greater negative digits inner s e = atom_done above side inner (relational sum Greater negative digits) s e
+compared_prefix above side sum AtLeast negative digits inner s e = atom_done above side inner (relational sum AtLeast negative digits) s e
 compared_prefix above side sum Equal negative digits inner s e =
     grown above side inner (sum_symbols sum ++ Compare Equal ∷ constant_symbols negative digits) s e
 compared_prefix above side sum Unequal negative digits inner s e =
@@ -170,7 +170,7 @@ equality_prefix sum unequal negative digits = sum_symbols sum ++ Compare (equal_
 -- an atom without a modulus, as a conjunction
 equality_conj_prefix : (above : List Side) (side : Side) (sum : Sum) (unequal negative : Bool) (digits : List ℕ)
     → above_prefix above ++ (ors_prefix side.ors ++ symbols (equality_conj side sum unequal negative digits)) ≡ above_prefix above ++ (side_prefix side ++ equality_prefix sum unequal negative digits)
-equality_conj_prefix above side sum unequal negative digits = prefix-unit_done above side (atom (plain sum (equal_or_not unequal) negative digits))
+equality_conj_prefix above side sum unequal negative digits = prefix-unit_done above side (atom (relational sum (equal_or_not unequal) negative digits))
 
 equality_follows : (above : List Side) (side : Side) (sum : Sum) (unequal negative : Bool) (digits : List ℕ) (s : Symbol)
     → Follows (trace_sign above side.ors (equality_conj side sum unequal negative digits) s) ((above_prefix above ++ (side_prefix side ++ equality_prefix sum unequal negative digits)) ++ s ∷ [])

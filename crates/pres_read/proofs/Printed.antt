@@ -13,7 +13,7 @@ use Rattle.pres_ast.specs.PredModel.{HasAtoms}
 use Rattle.pres_tokens.specs.declared.token.Relation.TheVariants.{Less}
 use Rattle.pres_tokens.specs.Symbols.{Symbol, Number, Star}
 use Rattle.pres_tokens.specs.Tokens.{digit}
-use Rattle.pres_read.specs.Grammar.{Term, bare, times, Sum, first, further, plain, modular, AUnit, Phrase, conj, either, unit, both, negate, group, atom, term_symbols, minus_if, plus_or_minus, sum_symbols}
+use Rattle.pres_read.specs.Grammar.{Term, bare, times, Sum, first, further, relational, modular, AUnit, Phrase, conj, either, unit, both, negate, group, atom, term_symbols, minus_if, plus_or_minus, sum_symbols}
 use Rattle.pres_read.specs.Canonical.{is_negative, is_zero, term_text, sign_text, terms_text, zero_text, sum_text, tree_text}
 use Rattle.pres_read.proofs.Digits.{decimal_writes}
 use Rattle.pres_read.proofs.Lexing.{lex, Stops, both_true, lex-name, lex-number, lex-minus, lex-star, NoEqual}
@@ -49,7 +49,7 @@ abbrev pub canonical_sum : List (List ℕ) → List ℤ → Sum
 canonical_sum names coefs = sum_or_zero names (terms_sum None names coefs)
 
 abbrev pub canonical : List (List ℕ) → PredTree → Phrase AUnit
-canonical names (LessThan coefs bound) = atom (plain (canonical_sum names coefs) Less (is_negative bound) (decimal (nat_abs bound)))
+canonical names (LessThan coefs bound) = atom (relational (canonical_sum names coefs) Less (is_negative bound) (decimal (nat_abs bound)))
 canonical names (Congruent coefs modulus rest) = atom (modular (canonical_sum names coefs) false false (decimal rest) (decimal modulus))
 canonical names (Negation p) = negate (canonical names p)
 canonical names (Conjunction p q) = group (conj (both (unit (canonical names p)) (canonical names q)))

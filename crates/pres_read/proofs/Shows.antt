@@ -13,7 +13,7 @@ use Rattle.pres_read.specs.Atoms.{signed_number, negation_if, equality_tree, com
 use Rattle.pres_read.specs.Progress.{Span, Around, Next, AUnit, ATerm, AStar, AName, ARelation, AConstant, ANumber, AModulo, AModulus, ASign, Progress, start}
 use Rattle.pres_read.specs.Reading.{negation, conjunction, disjunction, progress_after_unit, going_on, after_sum, term_step, unit_step, star_step, name_step, relation_step, progress_after_constant, given_constant, number_step, constant_step, given_modulus, modulus_step, close_step, sign_step, tree_up_to_unit, equality_step, modulo_step, by_next, step, end_step, finish_by, finish}
 use Rattle.pres_read.specs.Atoms.{zero_coefs}
-use Rattle.pres_read.specs.Grammar.{Term, bare, times, Sum, plain, modular, APred, AConj, AUnit, Phrase, group, atom, equal_or_not, raised, coefs_of, meaning}
+use Rattle.pres_read.specs.Grammar.{Term, bare, times, Sum, relational, modular, APred, AConj, AUnit, Phrase, group, atom, equal_or_not, raised, coefs_of, meaning}
 use Rattle.pres_read.proofs.Traces.{Lead, begin, after, sum_with, Inner, IUnit, ITerm, IStar, IName, IRelation, IConstant, INumber, IModulo, IModulus, Side, Trace, Inside, Done, begun, negates, with_ands, with_ors, conj_of, unit_done, trace_closed, trace_sign, trace_term, trace_unit, trace_star, trace_name, trace_relation, trace_compared, trace_number, trace_constant, equality_conj, trace_modulo, trace_modulus, trace_inner, trace_step, trace_ended, trace_inner_end, trace_end}
 
 abbrev pub side_span : List (List ℕ) → Side → Span
@@ -185,10 +185,10 @@ relation_agrees names above side sum place s = (refl, refl)
 
 compared_shown : (names : List (List ℕ)) (above : List Side) (side : Side) (sum : Sum) (r : Relation) (negative : Bool) (digits : List ℕ)
     → IsShown names (progress_after_constant (around_side names above side) (coefs_of names sum) r (signed_number negative (value_of_digits digits))) (trace_compared above side sum r negative digits)
-compared_shown names above side sum Less negative digits = unit_shown names above side (atom (plain sum Less negative digits)) (compared_tree (coefs_of names sum) Less (signed_number negative (value_of_digits digits))) refl
-compared_shown names above side sum AtMost negative digits = unit_shown names above side (atom (plain sum AtMost negative digits)) (compared_tree (coefs_of names sum) AtMost (signed_number negative (value_of_digits digits))) refl
-compared_shown names above side sum Greater negative digits = unit_shown names above side (atom (plain sum Greater negative digits)) (compared_tree (coefs_of names sum) Greater (signed_number negative (value_of_digits digits))) refl
-compared_shown names above side sum AtLeast negative digits = unit_shown names above side (atom (plain sum AtLeast negative digits)) (compared_tree (coefs_of names sum) AtLeast (signed_number negative (value_of_digits digits))) refl
+compared_shown names above side sum Less negative digits = unit_shown names above side (atom (relational sum Less negative digits)) (compared_tree (coefs_of names sum) Less (signed_number negative (value_of_digits digits))) refl
+compared_shown names above side sum AtMost negative digits = unit_shown names above side (atom (relational sum AtMost negative digits)) (compared_tree (coefs_of names sum) AtMost (signed_number negative (value_of_digits digits))) refl
+compared_shown names above side sum Greater negative digits = unit_shown names above side (atom (relational sum Greater negative digits)) (compared_tree (coefs_of names sum) Greater (signed_number negative (value_of_digits digits))) refl
+compared_shown names above side sum AtLeast negative digits = unit_shown names above side (atom (relational sum AtLeast negative digits)) (compared_tree (coefs_of names sum) AtLeast (signed_number negative (value_of_digits digits))) refl
 compared_shown names above side sum Equal negative digits = (0, refl)
 compared_shown names above side sum Unequal negative digits = (0, refl)
 
@@ -225,14 +225,14 @@ sign_agrees names above ors c place Close =
 sign_agrees names above ors c place s = (refl, refl)
 
 meaning-equality : (names : List (List ℕ)) (sum : Sum) (unequal negative : Bool) (digits : List ℕ)
-    → meaning names (atom (plain sum (equal_or_not unequal) negative digits)) ≡ negation_if unequal (equality_tree (coefs_of names sum) (signed_number negative (value_of_digits digits)))
+    → meaning names (atom (relational sum (equal_or_not unequal) negative digits)) ≡ negation_if unequal (equality_tree (coefs_of names sum) (signed_number negative (value_of_digits digits)))
 meaning-equality names sum false negative digits = refl
 meaning-equality names sum true negative digits = refl
 
 meaning-equality_conj : (names : List (List ℕ)) (side : Side) (sum : Sum) (unequal negative : Bool) (digits : List ℕ)
     → meaning names (equality_conj side sum unequal negative digits) ≡ tree_up_to_unit (side_span names side) (negation_if unequal (equality_tree (coefs_of names sum) (signed_number negative (value_of_digits digits))))
 meaning-equality_conj names side sum unequal negative digits =
-    meaning-conj_of names side (atom (plain sum (equal_or_not unequal) negative digits)) ∙ ap (tree_up_to_unit (side_span names side)) (meaning-equality names sum unequal negative digits)
+    meaning-conj_of names side (atom (relational sum (equal_or_not unequal) negative digits)) ∙ ap (tree_up_to_unit (side_span names side)) (meaning-equality names sum unequal negative digits)
 
 equality_agrees : (names : List (List ℕ)) (above : List Side) (side : Side) (sum : Sum) (unequal negative : Bool) (digits : List ℕ) (place : ℕ) (s : Symbol)
     → Agrees names (equality_step (around_side names above side) (coefs_of names sum) unequal (signed_number negative (value_of_digits digits)) place s) (trace_sign above side.ors (equality_conj side sum unequal negative digits) s) place

@@ -3,7 +3,7 @@ use Rattle.std.proofs.Common.{◌≡◌, ℕ, zero, suc, Bool, true, false, List
 use Rattle.pres_tokens.specs.declared.token.Relation.{Relation}
 use Rattle.pres_tokens.specs.declared.token.Relation.TheVariants.{Less, AtMost, Greater, AtLeast, Equal, Unequal}
 use Rattle.pres_tokens.specs.Symbols.{Symbol, Name, Number, Plus, Minus, Star, Compare, And, Or, Not, Open, Close, Mod}
-use Rattle.pres_read.specs.Grammar.{Term, bare, times, Sum, first, further, plain, modular, APred, AConj, AUnit, Phrase, conj, either, unit, both, negate, group, atom, equal_or_not}
+use Rattle.pres_read.specs.Grammar.{Term, bare, times, Sum, first, further, relational, modular, APred, AConj, AUnit, Phrase, conj, either, unit, both, negate, group, atom, equal_or_not}
 
 -- what stands before a term: nothing or `-`, or a sum and its sign
 pub data Lead : Type 0 where
@@ -96,10 +96,10 @@ trace_relation above side sum (Compare r) = Some (Inside above side (IConstant s
 trace_relation above side sum s = None
 
 abbrev pub trace_compared : List Side → Side → Sum → Relation → Bool → List ℕ → Trace
-trace_compared above side sum Less negative digits = unit_done above side (atom (plain sum Less negative digits))
-trace_compared above side sum AtMost negative digits = unit_done above side (atom (plain sum AtMost negative digits))
-trace_compared above side sum Greater negative digits = unit_done above side (atom (plain sum Greater negative digits))
-trace_compared above side sum AtLeast negative digits = unit_done above side (atom (plain sum AtLeast negative digits))
+trace_compared above side sum Less negative digits = unit_done above side (atom (relational sum Less negative digits))
+trace_compared above side sum AtMost negative digits = unit_done above side (atom (relational sum AtMost negative digits))
+trace_compared above side sum Greater negative digits = unit_done above side (atom (relational sum Greater negative digits))
+trace_compared above side sum AtLeast negative digits = unit_done above side (atom (relational sum AtLeast negative digits))
 trace_compared above side sum Equal negative digits = Inside above side (IModulo sum false negative digits)
 trace_compared above side sum Unequal negative digits = Inside above side (IModulo sum true negative digits)
 
@@ -112,7 +112,7 @@ trace_constant above side sum r Minus = Some (Inside above side (INumber sum r))
 trace_constant above side sum r s = trace_number above side sum r false s
 
 abbrev pub equality_conj : Side → Sum → Bool → Bool → List ℕ → Phrase AConj
-equality_conj side sum unequal negative digits = conj_of side (atom (plain sum (equal_or_not unequal) negative digits))
+equality_conj side sum unequal negative digits = conj_of side (atom (relational sum (equal_or_not unequal) negative digits))
 
 abbrev pub trace_modulo : List Side → Side → Sum → Bool → Bool → List ℕ → Symbol → Option Trace
 trace_modulo above side sum unequal negative digits Mod = Some (Inside above side (IModulus sum unequal negative digits))

@@ -1,6 +1,7 @@
 -- The trees of atoms, from their sum, relation and constant.
-use Rattle.std.specs.Prelude.{ℕ, ◌-◌, Bool, true, false, if◌then◌else◌, nat_lt, List, Option, Some, None, Result, Ok, Err, map, position}
-use Rattle.std.specs.Prelude.{slice_set, slice_index_or, ℤ, pos, ◌+ℤ◌, ◌-ℤ◌, neg_ℤ, nat_abs, codes, length, replicate}
+use Rattle.std.specs.Prelude.{ℕ, ◌-◌, Bool, true, false, if◌then◌else◌, nat_lt, List, Option, Some}
+use Rattle.std.specs.Prelude.{None, Result, Ok, Err, map, position, slice_set, slice_index_or, ℤ}
+use Rattle.std.specs.Prelude.{pos, ◌+ℤ◌, ◌-ℤ◌, neg_ℤ, nat_abs, codes, length, replicate}
 use Rattle.std.specs.Int.{int_rem_euclid}
 use Rattle.std.specs.Str.{bytes_eq}
 use Rattle.pres_ast.specs.declared.limits.TheConstants.{COEFFICIENT_LIMIT, BOUND_LIMIT}
@@ -65,15 +66,18 @@ lone negative place = record { negative = negative; digits = codes "1"; place = 
 
 -- the coefficients in which that of variable i is z, where that is at most 2^31 in size
 abbrev pub with_coef_at : List ℤ → ℕ → ℤ → ℕ → Result (List ℤ) TextFault
-with_coef_at coefs i z place = if nat_lt COEFFICIENT_LIMIT (nat_abs z) then Err (TooLarge place) else Ok (slice_set coefs i z)
+with_coef_at coefs i z place =
+    if nat_lt COEFFICIENT_LIMIT (nat_abs z) then Err (TooLarge place) else Ok (slice_set coefs i z)
 
 abbrev pub with_number : List ℤ → ℕ → Factor → Option ℕ → Result (List ℤ) TextFault
 with_number coefs i factor None = Err (TooLarge factor.place)
-with_number coefs i factor (Some n) = with_coef_at coefs i (slice_index_or coefs i (pos 0) +ℤ signed_number factor.negative n) factor.place
+with_number coefs i factor (Some n) =
+    with_coef_at coefs i (slice_index_or coefs i (pos 0) +ℤ signed_number factor.negative n) factor.place
 
 abbrev pub with_term : List ℤ → Option ℕ → Factor → ℕ → Result (List ℤ) TextFault
 with_term coefs None factor place = Err (UnknownName place)
-with_term coefs (Some i) factor place = with_number coefs i factor (value_within COEFFICIENT_LIMIT (value_of_digits factor.digits))
+with_term coefs (Some i) factor place =
+    with_number coefs i factor (value_within COEFFICIENT_LIMIT (value_of_digits factor.digits))
 
 -- the coefficients after a term at this name: those of equal names add up
 abbrev pub added : List (List ℕ) → List ℤ → Factor → ℕ → List ℕ → Result (List ℤ) TextFault

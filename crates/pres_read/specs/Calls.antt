@@ -34,7 +34,8 @@ pub record IsReadFrom (text : List ℕ) (variables : List (List ℕ)) (result : 
   pub kept_rules : IfOk result (λ pred. KeepsRules variables (text_symbols text))
   -- a text that the grammar relates to a tree is read to no other one, and is no fault of syntax
   pub only : (tree : PredTree) → Derives variables (text_symbols text) tree → IsReadAs tree result
-  -- a text of the grammar is read where it is short, its names are known, and its numbers and depth are within the limits
+  -- a text of the grammar is read where it is short, its names are known, and its numbers and depth are within the
+  -- limits
   pub kept : (phrase : Phrase APred) → symbols phrase ≡ text_symbols text → length text ≤ TEXT_LIMIT
       → Fits variables phrase → IsShallow surface (text_symbols text) → IsReadTo (meaning variables phrase) result
   -- the tokens before the place begin a text of the grammar and keep all rules, and this one breaks that of the fault

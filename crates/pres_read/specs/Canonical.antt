@@ -1,5 +1,6 @@
 -- The canonical text of a predicate.
-use Rattle.std.specs.Prelude.{ℕ, Bool, true, false, ◌==◌, if◌then◌else◌, List, [], ◌∷◌, ◌++◌, ℤ, pos, negsuc, nat_abs, codes, decimal}
+use Rattle.std.specs.Prelude.{ℕ, Bool, true, false, ◌==◌, if◌then◌else◌, List, []}
+use Rattle.std.specs.Prelude.{◌∷◌, ◌++◌, ℤ, pos, negsuc, nat_abs, codes, decimal}
 use Rattle.std.specs.List.{list_all}
 use Rattle.std.specs.Fmt.{signed_decimal}
 use Rattle.pres_ast.specs.PredTree.{PredTree, LessThan, Congruent, Negation, Conjunction, Disjunction}
@@ -45,7 +46,8 @@ sign_between p = codes " && "
 
 abbrev pub tree_text : List (List ℕ) → PredTree → List ℕ
 tree_text names (LessThan coefs bound) = sum_text names coefs ++ codes " < " ++ signed_decimal bound
-tree_text names (Congruent coefs modulus rest) = sum_text names coefs ++ codes " = " ++ decimal rest ++ codes " mod " ++ decimal modulus
+tree_text names (Congruent coefs modulus rest) =
+    sum_text names coefs ++ codes " = " ++ decimal rest ++ codes " mod " ++ decimal modulus
 tree_text names (Negation p) = codes "!" ++ tree_text names p
 tree_text names (Conjunction p q) = codes "(" ++ tree_text names p ++ codes " && " ++ tree_text names q ++ codes ")"
 tree_text names (Disjunction p q) = codes "(" ++ tree_text names p ++ codes " || " ++ tree_text names q ++ codes ")"

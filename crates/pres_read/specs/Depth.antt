@@ -4,7 +4,8 @@ use Rattle.pres_ast.specs.declared.limits.TheConstants.{WEIGHT_LIMIT}
 use Rattle.pres_read.specs.declared.depth.TheConstants.{PARENTHESIS_LIMIT}
 use Rattle.pres_tokens.specs.declared.token.Relation.{Relation}
 use Rattle.pres_tokens.specs.declared.token.Relation.TheVariants.{Less, AtMost, Greater, AtLeast, Equal, Unequal}
-use Rattle.pres_tokens.specs.Symbols.{Symbol, Name, Number, Plus, Minus, Star, Compare, And, Or, Not, Open, Close, Mod, Stray, Placed}
+use Rattle.pres_tokens.specs.Symbols.{Symbol, Name, Number, Plus, Minus, Star, Compare}
+use Rattle.pres_tokens.specs.Symbols.{And, Or, Not, Open, Close, Mod, Stray, Placed}
 use Rattle.pres_read.specs.TextFault.{TextFault, TooDeep}
 
 pub record Depth : Type 0 where
@@ -58,7 +59,8 @@ deeper d s = record { charge = d.charge + symbol_charge s; parentheses = parenth
 
 -- at most 64 of each
 abbrev pub within_depth : Placed → Depth → Result Depth TextFault
-within_depth t d = if nat_lt WEIGHT_LIMIT d.charge || nat_lt PARENTHESIS_LIMIT d.parentheses then Err (TooDeep t.place) else Ok d
+within_depth t d =
+    if nat_lt WEIGHT_LIMIT d.charge || nat_lt PARENTHESIS_LIMIT d.parentheses then Err (TooDeep t.place) else Ok d
 
 abbrev pub sunk : Depth → Placed → Result Depth TextFault
 sunk d t = within_depth t (deeper d t.symbol)

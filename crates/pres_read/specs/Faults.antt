@@ -33,7 +33,9 @@ pub record IsUnknownName (names : List (List ℕ)) (text : List ℕ) (at : ℕ) 
 
 -- the symbols of a term, which has no `*` before it, or of a constant or a modulus
 abbrev pub IsNumeral : List Symbol → List Symbol → Type 0
-IsNumeral before own = ((term : Term) × (own ≡ term_symbols term) × (last_is is_star false before ≡ false)) ⊎ ((digits : List ℕ) × (own ≡ Number digits ∷ []))
+IsNumeral before own =
+    ((term : Term) × (own ≡ term_symbols term) × (last_is is_star false before ≡ false))
+    ⊎ ((digits : List ℕ) × (own ≡ Number digits ∷ []))
 
 -- a term, a constant or a modulus that is beyond its limit, by its first token
 pub record IsTooLarge (names : List (List ℕ)) (text : List ℕ) (at : ℕ) : Type 0 where

@@ -6,7 +6,8 @@
 --   atom := sum rel [ "-" ] number | sum ( "=" | "!=" ) [ "-" ] number "mod" number
 --   sum  := [ "-" ] term | sum ( "+" | "-" ) term
 --   term := name | number "*" name
-use Rattle.std.specs.Prelude.{◌≡◌, ℕ, Bool, true, false, List, [], ◌∷◌, ◌++◌, Option, Some, None, position, slice_set, slice_index_or, ℤ, pos, ◌+ℤ◌}
+use Rattle.std.specs.Prelude.{◌≡◌, ℕ, Bool, true, false, List, [], ◌∷◌, ◌++◌, Option, Some, None, position, slice_set}
+use Rattle.std.specs.Prelude.{slice_index_or, ℤ, pos, ◌+ℤ◌}
 use Rattle.std.specs.Str.{bytes_eq}
 use Rattle.pres_ast.specs.PredTree.{PredTree, Negation, Conjunction, Disjunction}
 use Rattle.pres_tokens.specs.declared.token.Relation.{Relation}
@@ -25,7 +26,7 @@ pub data Sum : Type 0 where
   further : (sum : Sum) (negative : Bool) (term : Term) → Sum
 
 pub data Atom : Type 0 where
-  plain : (sum : Sum) (relation : Relation) (negative : Bool) (digits : List ℕ) → Atom
+  relational : (sum : Sum) (relation : Relation) (negative : Bool) (digits : List ℕ) → Atom
   modular : (sum : Sum) (unequal negative : Bool) (digits modulus : List ℕ) → Atom
 
 pub data Part : Type 0 where
@@ -69,7 +70,8 @@ abbrev pub constant_symbols : Bool → List ℕ → List Symbol
 constant_symbols negative digits = minus_if negative ++ Number digits ∷ []
 
 abbrev pub atom_symbols : Atom → List Symbol
-atom_symbols (plain sum relation negative digits) = sum_symbols sum ++ Compare relation ∷ constant_symbols negative digits
+atom_symbols (relational sum relation negative digits) =
+    sum_symbols sum ++ Compare relation ∷ constant_symbols negative digits
 atom_symbols (modular sum unequal negative digits modulus) =
     sum_symbols sum ++ Compare (equal_or_not unequal) ∷ (constant_symbols negative digits ++ Mod ∷ Number modulus ∷ [])
 
@@ -107,9 +109,11 @@ coefs_of names (first negative term) = with_a_term names (zero_coefs names) nega
 coefs_of names (further sum negative term) = with_a_term names (coefs_of names sum) negative term
 
 abbrev pub atom_meaning : List (List ℕ) → Atom → PredTree
-atom_meaning names (plain sum relation negative digits) = compared_tree (coefs_of names sum) relation (signed_number negative (value_of_digits digits))
+atom_meaning names (relational sum relation negative digits) =
+    compared_tree (coefs_of names sum) relation (signed_number negative (value_of_digits digits))
 atom_meaning names (modular sum unequal negative digits modulus) =
-    congruent_tree (coefs_of names sum) unequal (signed_number negative (value_of_digits digits)) (value_of_digits modulus)
+    congruent_tree (coefs_of names sum) unequal (signed_number negative (value_of_digits digits))
+    (value_of_digits modulus)
 
 abbrev pub meaning : {part : Part} → List (List ℕ) → Phrase part → PredTree
 meaning names (conj p) = meaning names p

@@ -1,6 +1,6 @@
 -- What reading a text gives: the tree, or the first token that breaks a rule.
-use Rattle.std.specs.Prelude.{ℕ, Bool, true, false, if◌then◌else◌, nat_lt, List, [], ◌∷◌, length, Option, Some, None, Result, Ok, Err}
-use Rattle.std.specs.Prelude.{ℤ}
+use Rattle.std.specs.Prelude.{ℕ, Bool, true, false, if◌then◌else◌, nat_lt, List, [], ◌∷◌, length, Option, Some, None}
+use Rattle.std.specs.Prelude.{Result, Ok, Err, ℤ}
 use Rattle.std.proofs.Common.{zero, suc}
 use Rattle.pres_ast.specs.declared.limits.TheConstants.{MODULUS_LIMIT}
 use Rattle.pres_read.specs.declared.read.TheConstants.{TEXT_LIMIT}
@@ -8,14 +8,16 @@ use Rattle.pres_ast.specs.PredTree.{PredTree, Negation, Conjunction, Disjunction
 use Rattle.pres_ast.specs.PredModel.{PredModel}
 use Rattle.pres_tokens.specs.declared.token.Relation.{Relation}
 use Rattle.pres_tokens.specs.declared.token.Relation.TheVariants.{Less, AtMost, Greater, AtLeast, Equal, Unequal}
-use Rattle.pres_tokens.specs.Symbols.{Symbol, Name, Number, Plus, Minus, Star, Compare, And, Or, Not, Open, Close, Mod, Placed}
+use Rattle.pres_tokens.specs.Symbols.{Symbol, Name, Number, Plus, Minus, Star}
+use Rattle.pres_tokens.specs.Symbols.{Compare, And, Or, Not, Open, Close, Mod, Placed}
 use Rattle.pres_tokens.specs.Tokens.{tokens_of}
 use Rattle.pres_read.specs.TextFault.{TextFault, Syntax, TooLarge, LongText}
 use Rattle.pres_read.specs.Outcome.{◌>>=◌}
-use Rattle.pres_read.specs.Atoms.{zero_coefs, signed_number, equality_tree, negation_if, compared_tree, congruent_tree, limit_of, Factor, lone, added}
+use Rattle.pres_read.specs.Atoms.{zero_coefs, signed_number, equality_tree, negation_if, compared_tree, congruent_tree}
+use Rattle.pres_read.specs.Atoms.{limit_of, Factor, lone, added}
 use Rattle.pres_read.specs.Numbers.{value_of_digits, value_within}
-use Rattle.pres_read.specs.Progress.{Span, clear, Around, Next, AUnit, ATerm, AStar, AName, ARelation, AConstant, ANumber, AModulo}
-use Rattle.pres_read.specs.Progress.{AModulus, ASign, Progress, start}
+use Rattle.pres_read.specs.Progress.{Span, clear, Around, Next, AUnit, ATerm, AStar, AName, ARelation, AConstant}
+use Rattle.pres_read.specs.Progress.{ANumber, AModulo, AModulus, ASign, Progress, start}
 use Rattle.pres_read.specs.Depth.{Depth, surface, sunk}
 
 abbrev pub negation : ℕ → PredTree → PredTree
@@ -57,7 +59,9 @@ first_step names a place s = term_step names a (zero_coefs names) false place s
 
 -- one more `!` before the unit
 abbrev pub after_not : Around → Progress
-after_not a = going_on (record { above = a.above; span = record { ors = a.span.ors; ands = a.span.ands; nots = suc a.span.nots } }) AUnit
+after_not a =
+    going_on
+    (record { above = a.above; span = record { ors = a.span.ors; ands = a.span.ands; nots = suc a.span.nots } }) AUnit
 
 -- inside a `(`
 abbrev pub after_open : Around → Progress
@@ -120,11 +124,19 @@ abbrev pub close_step : List Span → PredTree → ℕ → Result Progress TextF
 close_step [] p place = Err (Syntax place)
 close_step (span ∷ above) p place = Ok (progress_after_unit (record { above = above; span = span }) p)
 
+-- after a conjunction p and its `&&`
+abbrev pub progress_after_and : List Span → Option PredTree → PredTree → Progress
+progress_after_and above ors p =
+    going_on (record { above = above; span = record { ors = ors; ands = Some p; nots = 0 } }) AUnit
+
+-- after a conjunction p and its `||`
+abbrev pub progress_after_or : List Span → Option PredTree → PredTree → Progress
+progress_after_or above ors p =
+    going_on (record { above = above; span = record { ors = Some (disjunction ors p); ands = None; nots = 0 } }) AUnit
+
 abbrev pub sign_step : List Span → Option PredTree → PredTree → ℕ → Symbol → Result Progress TextFault
-sign_step above ors p place And =
-    Ok (going_on (record { above = above; span = record { ors = ors; ands = Some p; nots = 0 } }) AUnit)
-sign_step above ors p place Or =
-    Ok (going_on (record { above = above; span = record { ors = Some (disjunction ors p); ands = None; nots = 0 } }) AUnit)
+sign_step above ors p place And = Ok (progress_after_and above ors p)
+sign_step above ors p place Or = Ok (progress_after_or above ors p)
 sign_step above ors p place Close = close_step above (disjunction ors p) place
 sign_step above ors p place s = Err (Syntax place)
 
@@ -193,7 +205,9 @@ run names end p d (t ∷ ts) = read_on names p d t >>= λ q. run names end q.0 q
 
 abbrev pub tree_read : List (List ℕ) → List ℕ → Result PredTree TextFault
 tree_read names text =
-    if nat_lt TEXT_LIMIT (length text) then Err (LongText (length text)) else run names (length text) start surface (tokens_of text)
+    if nat_lt TEXT_LIMIT (length text)
+    then Err (LongText (length text))
+    else run names (length text) start surface (tokens_of text)
 
 abbrev pub over_names : ℕ → Result PredTree TextFault → Result PredModel TextFault
 over_names n (Ok p) = Ok (record { variables = n; tree = p })

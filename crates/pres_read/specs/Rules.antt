@@ -1,17 +1,19 @@
 -- The rules on names, numbers and depth, over trees of productions and their symbols.
-use Rattle.std.specs.Prelude.{◌≡◌, ◌≤◌, ℕ, Bool, true, false, ◌++◌, List, [], ◌∷◌, Option, Some, None, position, slice_index_or, IsSome, ℤ}
-use Rattle.std.specs.Prelude.{pos, ◌+ℤ◌, nat_abs}
+use Rattle.std.specs.Prelude.{◌≡◌, ◌≤◌, ℕ, Bool, true, false, ◌++◌, List, [], ◌∷◌, Option, Some, None, position}
+use Rattle.std.specs.Prelude.{slice_index_or, IsSome, ℤ, pos, ◌+ℤ◌, nat_abs}
 use Rattle.std.specs.Str.{bytes_eq}
 use Rattle.pres_ast.specs.declared.limits.TheConstants.{COEFFICIENT_LIMIT, MODULUS_LIMIT, WEIGHT_LIMIT}
 use Rattle.pres_read.specs.declared.depth.TheConstants.{PARENTHESIS_LIMIT}
 use Rattle.pres_tokens.specs.declared.token.Relation.{Relation}
-use Rattle.pres_tokens.specs.Symbols.{Symbol, Name, Number, Plus, Minus, Star, Compare, And, Or, Not, Open, Close, Mod, Stray}
+use Rattle.pres_tokens.specs.Symbols.{Symbol, Name, Number, Plus, Minus, Star}
+use Rattle.pres_tokens.specs.Symbols.{Compare, And, Or, Not, Open, Close, Mod, Stray}
 use Rattle.pres_read.specs.Numbers.{value_of_digits}
 use Rattle.pres_read.specs.Atoms.{signed_number, limit_of}
 use Rattle.pres_read.specs.Depth.{Depth, surface, deeper}
 use Rattle.pres_read.specs.Atoms.{zero_coefs}
-use Rattle.pres_read.specs.Grammar.{Term, Sum, first, further, Atom, plain, modular, Part, Phrase, conj, either, unit, both, negate, group}
-use Rattle.pres_read.specs.Grammar.{atom, sum_symbols, equal_or_not, constant_symbols, term_name, term_number, coefs_of}
+use Rattle.pres_read.specs.Grammar.{Term, Sum, first, further, Atom, relational, modular, Part, Phrase}
+use Rattle.pres_read.specs.Grammar.{conj, either, unit, both, negate, group, atom, sum_symbols}
+use Rattle.pres_read.specs.Grammar.{equal_or_not, constant_symbols, term_name, term_number, coefs_of}
 
 -- the name is a variable's, and its coefficient with z more is within the limit
 abbrev pub CoefFits : List ℤ → Option ℕ → ℤ → Type 0
@@ -20,16 +22,19 @@ CoefFits coefs (Some i) z = nat_abs (slice_index_or coefs i (pos 0) +ℤ z) ≤ 
 
 abbrev pub TermFits : List (List ℕ) → List ℤ → Bool → Term → Type 0
 TermFits names coefs negative term =
-    (term_number term ≤ COEFFICIENT_LIMIT) × CoefFits coefs (position (bytes_eq (term_name term)) names) (signed_number negative (term_number term))
+    (term_number term ≤ COEFFICIENT_LIMIT)
+    × CoefFits coefs (position (bytes_eq (term_name term)) names) (signed_number negative (term_number term))
 
 abbrev pub SumFits : List (List ℕ) → Sum → Type 0
 SumFits names (first negative term) = TermFits names (zero_coefs names) negative term
 SumFits names (further sum negative term) = SumFits names sum × TermFits names (coefs_of names sum) negative term
 
 abbrev pub AtomFits : List (List ℕ) → Atom → Type 0
-AtomFits names (plain sum relation negative digits) = SumFits names sum × (value_of_digits digits ≤ limit_of relation)
+AtomFits names (relational sum relation negative digits) =
+    SumFits names sum × (value_of_digits digits ≤ limit_of relation)
 AtomFits names (modular sum unequal negative digits modulus) =
-    SumFits names sum × (value_of_digits digits ≤ limit_of (equal_or_not unequal)) × (2 ≤ value_of_digits modulus) × (value_of_digits modulus ≤ MODULUS_LIMIT)
+    SumFits names sum × (value_of_digits digits ≤ limit_of (equal_or_not unequal))
+    × (2 ≤ value_of_digits modulus) × (value_of_digits modulus ≤ MODULUS_LIMIT)
 
 -- names are known, and numbers within their limits
 abbrev pub Fits : {part : Part} → List (List ℕ) → Phrase part → Type 0
@@ -44,7 +49,10 @@ Fits names (atom a) = AtomFits names a
 -- nowhere is more charged than the weight of a predicate, or are too many parentheses open
 abbrev pub IsShallow : Depth → List Symbol → Type 0
 IsShallow d [] = Unit {0}
-IsShallow d (s ∷ ss) = ((deeper d s).charge ≤ WEIGHT_LIMIT) × ((deeper d s).parentheses ≤ PARENTHESIS_LIMIT) × IsShallow (deeper d s) ss
+IsShallow d (s ∷ ss) =
+    ((deeper d s).charge ≤ WEIGHT_LIMIT)
+    × ((deeper d s).parentheses ≤ PARENTHESIS_LIMIT)
+    × IsShallow (deeper d s) ss
 
 -- a name is a variable's
 abbrev pub IsKnown : List (List ℕ) → Symbol → Type 0
@@ -86,7 +94,8 @@ is_star s = false
 
 -- each sum, constant and modulus that stands whole in the symbols is within the limits
 pub record NumbersFit (names : List (List ℕ)) (ss : List Symbol) : Type 0 where
-  pub sums : (before later : List Symbol) (sum : Sum) → ss ≡ before ++ (sum_symbols sum ++ later) → last_is opens true before ≡ true → SumFits names sum
+  pub sums : (before later : List Symbol) (sum : Sum) → ss ≡ before ++ (sum_symbols sum ++ later)
+      → last_is opens true before ≡ true → SumFits names sum
   pub constants : (before later : List Symbol) (relation : Relation) (negative : Bool) (digits : List ℕ)
       → ss ≡ before ++ Compare relation ∷ (constant_symbols negative digits ++ later)
       → value_of_digits digits ≤ limit_of relation

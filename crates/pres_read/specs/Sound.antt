@@ -1,9 +1,11 @@
--- What is known after a prefix of the tokens is within the limits of a predicate, and weighs what the signs are charged.
+-- What is known after a prefix of the tokens is within the limits of a predicate, and weighs what the signs are
+-- charged.
 use Rattle.std.specs.Prelude.{◌≡◌, ◌≤◌, ◌+◌, ◌-◌, ℕ, Bool, true, false, List, [], ◌∷◌, Option, Some, None, ℤ, nat_abs}
 use Rattle.pres_ast.specs.declared.limits.TheConstants.{BOUND_LIMIT}
 use Rattle.pres_ast.specs.PredTree.{PredTree}
 use Rattle.pres_ast.specs.PredModel.{AreCoefs, HasAtoms, weight_of}
-use Rattle.pres_read.specs.Progress.{Span, Next, AUnit, ATerm, AStar, AName, ARelation, AConstant, ANumber, AModulo, AModulus, ASign, Progress}
+use Rattle.pres_read.specs.Progress.{Span, Next, AUnit, ATerm, AStar, AName, ARelation}
+use Rattle.pres_read.specs.Progress.{AConstant, ANumber, AModulo, AModulus, ASign, Progress}
 use Rattle.pres_read.specs.Depth.{charge_of_relation}
 
 -- a part that waits for its right side, with its sign

@@ -5,7 +5,8 @@ use Rattle.pres_ast.specs.PredModel.{PredModel}
 use Rattle.pres_tokens.specs.Symbols.{Symbol, Placed}
 use Rattle.pres_tokens.specs.Tokens.{tokens_of}
 use Rattle.pres_read.specs.declared.fault.ReadPred.{ReadPred}
-use Rattle.pres_read.specs.declared.fault.ReadPred.TheVariants.{Syntax, UnknownName, TooLarge, TooDeep, LongText, NoMemory}
+use Rattle.pres_read.specs.declared.fault.ReadPred.TheVariants.{Syntax, UnknownName, TooLarge}
+use Rattle.pres_read.specs.declared.fault.ReadPred.TheVariants.{TooDeep, LongText, NoMemory}
 use Rattle.pres_read.specs.Grammar.{APred, Phrase, symbols}
 
 abbrev pub symbols_of : List Placed → List Symbol

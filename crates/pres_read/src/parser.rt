@@ -444,8 +444,8 @@ impl<'a> Parser<'a> {
         }
     }
 
-    /// The reader after a further token.
-    pub fn take(
+    /// Reads one token more.
+    pub fn read_token(
         &mut self,
         alloc: Global,
         names: &List<Text>,

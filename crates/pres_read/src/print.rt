@@ -11,7 +11,8 @@ ghost use Rattle.pres_read.specs.Calls.{IsPrinted};
 ghost use Rattle.pres_read.specs.Grammar.{Derives};
 ghost use Rattle.pres_read.specs.Texts.{text_symbols};
 ghost use Rattle.pres_read.specs.Reading.{pred_read};
-ghost use Rattle.pres_read.specs.Canonical.{is_zero, term_text, sign_text, terms_text, zero_text, sum_text, sign_between, tree_text};
+ghost use Rattle.pres_read.specs.Canonical.{is_zero, term_text, sign_text, terms_text, zero_text};
+ghost use Rattle.pres_read.specs.Canonical.{sum_text, sign_between, tree_text};
 
 use itoa::Buffer;
 use pop_io::{List, NoMemory, Text};

@@ -56,7 +56,7 @@ fn read_tree<'a>(alloc: Global, text: &'a [u8], names: &List<Text>) -> Result<Tr
         parser: Parser::new(alloc),
         depth: Depth::new(),
     };
-    reader.take_all(alloc, text, names)?;
+    reader.read_tokens(alloc, text, names)?;
     reader.parser.finish(alloc, names, text.len() as u32)
 }
 
@@ -67,8 +67,8 @@ struct Reader<'a> {
 }
 
 impl<'a> Reader<'a> {
-    /// Takes the tokens of a text.
-    fn take_all(
+    /// Reads the tokens of a text.
+    fn read_tokens(
         &mut self,
         alloc: Global,
         text: &'a [u8],
@@ -82,21 +82,27 @@ impl<'a> Reader<'a> {
             (λ _. IsSoundProgress (length names.now) (progress_of self.new.parser) self.new.depth.charge) }
         ensures charge { IfOk result (λ _. self.new.depth.charge ≤ WEIGHT_LIMIT) }
         ensures goes { IfOk result
-            (λ _. run names.now (length text.now) (progress_of self.old.parser) (depth_of self.old.depth) (tokens_of text.now)
-            ≡ finish (progress_of self.new.parser) (length text.now)) }
+            (λ _. run names.now (length text.now) (progress_of self.old.parser) (depth_of self.old.depth)
+            (tokens_of text.now) ≡ finish (progress_of self.new.parser) (length text.now)) }
         ensures fails { IfErr result
             (λ e. Fails text_fault_of e
-            (run names.now (length text.now) (progress_of self.old.parser) (depth_of self.old.depth) (tokens_of text.now))) }
+            (run names.now (length text.now) (progress_of self.old.parser) (depth_of self.old.depth)
+            (tokens_of text.now))) }
     {
         let mut at = 0;
         while let Some((token, end)) = next_token(text, at) {
-            self.take(alloc, names, token)?;
+            self.read_token(alloc, names, token)?;
             at = end;
         }
         Ok(())
     }
 
-    fn take(&mut self, alloc: Global, names: &List<Text>, token: Token<'a>) -> Result<(), ReadPred>
+    fn read_token(
+        &mut self,
+        alloc: Global,
+        names: &List<Text>,
+        token: Token<'a>,
+    ) -> Result<(), ReadPred>
         requires sound { IsSoundProgress (length names.now) (progress_of self.old.parser) self.old.depth.charge }
         requires charge { self.old.depth.charge ≤ WEIGHT_LIMIT }
         requires parentheses { self.old.depth.parentheses ≤ PARENTHESIS_LIMIT }
@@ -107,7 +113,7 @@ impl<'a> Reader<'a> {
         ensures exact { GivesParsed (λ _. (progress_of self.new.parser, depth_of self.new.depth)) result
             (read_on names.now (progress_of self.old.parser) (depth_of self.old.depth) (token_of token.entry)) }
     {
-        self.parser.take(alloc, names, token)?;
+        self.parser.read_token(alloc, names, token)?;
         self.depth = self.depth.after(token)?;
         Ok(())
     }

@@ -5,8 +5,8 @@ ghost use Rattle.pres_ast.specs.PredTree.{PredTree};
 ghost use Rattle.pres_ast.specs.TreeOf.{tree_of};
 ghost use Rattle.pres_tokens.specs.Symbols.{symbol_of};
 ghost use Rattle.pres_read.specs.Outcome.{GivesParsed};
-ghost use Rattle.pres_read.specs.Progress.{AUnit};
 ghost use Rattle.pres_read.specs.Reading.{negation, conjunction, disjunction, tree_up_to_unit, progress_after_unit};
+ghost use Rattle.pres_read.specs.Reading.{progress_after_and, progress_after_or};
 ghost use Rattle.pres_read.specs.Reading.{sign_step, end_step, close_step, going_on};
 ghost use Rattle.pres_read.specs.Views.{span_of_level, spans_of, around_of, next_expected};
 
@@ -48,7 +48,8 @@ fn disjoined(alloc: Global, left: Option<Tree>, right: Tree) -> Result<Tree, Rea
 
 /// The conjunction up to a unit, whose `!` and the `&&` before it are done.
 pub(crate) fn up_to_unit(alloc: Global, level: &mut Level, tree: Tree) -> Result<Tree, NoMemory>
-    ensures level { IfOk result (λ _. span_of_level level.new ≡ record { ors = option_map tree_of level.old.ors; ands = None; nots = 0 }) }
+    ensures level { IfOk result (λ _. span_of_level level.new
+        ≡ record { ors = option_map tree_of level.old.ors; ands = None; nots = 0 }) }
     ensures tree { IfOk result
         (λ whole. tree_of whole ≡ tree_up_to_unit (span_of_level level.old) (tree_of tree)) }
 {
@@ -84,33 +85,25 @@ pub(crate) fn at_sign<'a>(
     match token.kind {
         Kind::And => Ok(after_and(around, tree)),
         Kind::Or => after_or(alloc, around, tree),
-        Kind::Close => closed(alloc, around, tree, token.place),
+        Kind::Close => after_close(alloc, around, tree, token.place),
         _ => Err(ReadPred::Syntax(token.place)),
     }
 }
 
+/// What comes after a `&&`.
 fn after_and<'a>(around: &mut Around, tree: Tree) -> Expect<'a>
     ensures { going_on (around_of around.new) (next_expected result)
-        ≡ going_on (record {
-          above = spans_of around.old.above;
-          span = record { ors = option_map tree_of around.old.level.ors; ands = Some (tree_of tree); nots = 0 };
-        }) AUnit }
+        ≡ progress_after_and (spans_of around.old.above) (option_map tree_of around.old.level.ors) (tree_of tree) }
 {
     around.level.ands = Some(tree);
     around.level.nots = 0;
     Expect::Unit
 }
 
+/// What comes after a `||`.
 fn after_or<'a>(alloc: Global, around: &mut Around, tree: Tree) -> Result<Expect<'a>, ReadPred>
     ensures { GivesParsed (λ e. going_on (around_of around.new) (next_expected e)) result
-        (Ok (going_on (record {
-          above = spans_of around.old.above;
-          span = record {
-            ors = Some (disjunction (option_map tree_of around.old.level.ors) (tree_of tree));
-            ands = None;
-            nots = 0;
-          };
-        }) AUnit)) }
+        (Ok (progress_after_or (spans_of around.old.above) (option_map tree_of around.old.level.ors) (tree_of tree))) }
 {
     let left = disjoined(alloc, around.level.ors.take(), tree)?;
     around.level = Level {
@@ -122,7 +115,7 @@ fn after_or<'a>(alloc: Global, around: &mut Around, tree: Tree) -> Result<Expect
 }
 
 /// What comes after a `)`, which makes a unit of the disjunction before it.
-fn closed<'a>(
+fn after_close<'a>(
     alloc: Global,
     around: &mut Around,
     tree: Tree,

@@ -1,11 +1,13 @@
 -- The tokens of a text. The longest token is taken; blanks part tokens and are none.
-use Rattle.std.specs.Prelude.{ℕ, ◌+◌, ◌-◌, Bool, ◌&&◌, ◌||◌, ◌==◌, if◌then◌else◌, nat_le, List, [], ◌∷◌, Option, Some, None, codes}
+use Rattle.std.specs.Prelude.{ℕ, ◌+◌, ◌-◌, Bool, ◌&&◌, ◌||◌, ◌==◌, if◌then◌else◌}
+use Rattle.std.specs.Prelude.{nat_le, List, [], ◌∷◌, Option, Some, None, codes}
 use Rattle.std.proofs.Common.{zero, suc}
 use Rattle.std.specs.List.{take_while, prefix_len}
 use Rattle.std.specs.Str.{bytes_eq}
 use Rattle.pop_io.specs.Names.{is_name_start, is_name_byte}
 use Rattle.pres_tokens.specs.declared.token.Relation.TheVariants.{Less, AtMost, Greater, AtLeast, Equal, Unequal}
-use Rattle.pres_tokens.specs.Symbols.{Symbol, Name, Number, Plus, Minus, Star, Compare, And, Or, Not, Open, Close, Mod, Stray, Placed}
+use Rattle.pres_tokens.specs.Symbols.{Symbol, Name, Number, Plus, Minus, Star, Compare}
+use Rattle.pres_tokens.specs.Symbols.{And, Or, Not, Open, Close, Mod, Stray, Placed}
 
 -- a space or a tab
 abbrev pub is_blank_byte : ℕ → Bool
@@ -63,7 +65,8 @@ tokens_from skip place [] = []
 tokens_from (suc k) place (b ∷ bytes) = tokens_from k (place + 1) bytes
 tokens_from zero place (b ∷ bytes) =
     if is_blank_byte b then tokens_from 0 (place + 1) bytes
-    else (record { place = place; symbol = (first_symbol (b ∷ bytes)).0 } ∷ tokens_from ((first_symbol (b ∷ bytes)).1 - 1) (place + 1) bytes)
+    else (record { place = place; symbol = (first_symbol (b ∷ bytes)).0 }
+    ∷ tokens_from ((first_symbol (b ∷ bytes)).1 - 1) (place + 1) bytes)
 
 abbrev pub tokens_of : List ℕ → List Placed
 tokens_of text = tokens_from 0 0 text

@@ -6,5 +6,5 @@
 mod scan;
 mod token;
 
-pub use scan::next_token;
+pub use scan::{PLACE_LIMIT, next_token};
 pub use token::{Kind, Relation, Token};

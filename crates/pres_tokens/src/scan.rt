@@ -1,13 +1,18 @@
 //! The longest token at a place of a text.
 
-ghost use Rattle.std.specs.Prelude.{◌≡◌, ◌+◌, ◌<◌, ◌≤◌, ◌^◌, [], ◌∷◌, length, drop, MatchOption, option_map};
+ghost use Rattle.std.specs.Prelude.{◌≡◌, ◌+◌, ◌<◌, ◌≤◌, [], ◌∷◌, length, drop, MatchOption, option_map};
 ghost use Rattle.std.specs.List.{prefix_len};
-ghost use Rattle.pop_io.specs.Names.{is_name_start, is_name_byte};
+ghost use Rattle.pop_io.specs.Names.{is_name_byte};
+ghost use Rattle.pres_tokens.specs.declared.scan.TheConstants.{PLACE_LIMIT};
 ghost use Rattle.pres_tokens.specs.Symbols.{symbol_of, token_of};
 ghost use Rattle.pres_tokens.specs.Tokens.{is_blank_byte, digit, byte_symbol, pair_symbol, first_sign, word_symbol};
 ghost use Rattle.pres_tokens.specs.Tokens.{first_symbol, tokens_from};
 
 use crate::token::{Kind, Relation, Token};
+use pop_io::{begins_name, continues_name};
+
+/// The most bytes of a text: a token's place has 32 bits.
+pub const PLACE_LIMIT: usize = u32::MAX as usize;
 
 fn is_blank(byte: u8) -> bool
     ensures { result ≡ is_blank_byte byte }
@@ -19,18 +24,6 @@ fn is_digit(byte: u8) -> bool
     ensures { result ≡ digit byte }
 {
     b'0' <= byte && byte <= b'9'
-}
-
-fn starts_name(byte: u8) -> bool
-    ensures { result ≡ is_name_start byte }
-{
-    (b'A' <= byte && byte <= b'Z') || (b'a' <= byte && byte <= b'z') || byte == b'_'
-}
-
-fn continues_name(byte: u8) -> bool
-    ensures { result ≡ is_name_byte byte }
-{
-    starts_name(byte) || is_digit(byte)
 }
 
 // How many letters, digits and `_` the bytes begin with.
@@ -99,7 +92,7 @@ fn first_kind(bytes: &[u8]) -> (Kind<'_>, usize)
     ensures within { result.1 ≤ length bytes.now }
 {
     let first = bytes[0];
-    if starts_name(first) {
+    if begins_name(first) {
         let len = word_len(bytes);
         (word_kind(&bytes[..len]), len)
     } else if is_digit(first) {
@@ -126,7 +119,7 @@ fn signs(bytes: &[u8]) -> (Kind<'_>, usize)
 /// nothing.
 pub fn next_token(text: &[u8], at: usize) -> Option<(Token<'_>, usize)>
     requires within { at ≤ length text.now }
-    requires limit { length text.now < 2 ^ 32 }
+    requires limit { length text.now ≤ PLACE_LIMIT }
     ensures tokens { MatchOption result (tokens_from 0 at (drop at text.now) ≡ [])
         (λ found. tokens_from 0 at (drop at text.now)
         ≡ token_of found.0 ∷ tokens_from 0 found.1 (drop found.1 text.now)) }

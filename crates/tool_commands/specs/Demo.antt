@@ -1,5 +1,6 @@
 -- What `demo` makes of a number: the summary of a run of its case.
-use Rattle.std.specs.Prelude.{◌≡◌, ℕ, ◌+◌, ◌<◌, ◌≤◌, ◌^◌, List, [], ◌∷◌, ◌++◌, codes, decimal, length, count_by, Option, Result, Ok}
+use Rattle.std.specs.Prelude.{◌≡◌, ℕ, ◌+◌, ◌<◌, ◌≤◌, ◌^◌, List, [], ◌∷◌, ◌++◌}
+use Rattle.std.specs.Prelude.{codes, decimal, length, count_by, Option, Result, Ok}
 use Rattle.pres_ast.specs.PredModel.{PredModel}
 use Rattle.pres_ast.specs.PredicateValue.{predicate_value}
 use Rattle.pres_read.specs.Canonical.{tree_text}
@@ -63,7 +64,7 @@ abbrev pub DemoGives : ℕ → Result Output Refusal → Type 0
 DemoGives number given = (output : Output) × IsDemoOutput number output × (given ≡ Ok output)
 
 -- the net that is built of a predicate, and a valid proof within the limits of its file
-pub record IsBuilt (pred : PredModel) (both : NetModel × Proof) : Type 0 where
+pub record IsBuiltNet (pred : PredModel) (both : NetModel × Proof) : Type 0 where
   pub net : both.0 ≡ built_net names_of_demo pred.tree
   pub valid : ValidProof both.0 pred both.1
   pub within : IsProofWithin pred.variables (length both.0.leaves) both.1

@@ -1,5 +1,6 @@
 -- What `settle` makes of the lines of its input: a bundle and a crowd line.
-use Rattle.std.specs.Prelude.{◌≡◌, ℕ, ◌*◌, Bool, nat_lt, List, ◌++◌, length, map, codes, decimal, MatchBool, Option, Some, None, Result, Ok, Err}
+use Rattle.std.specs.Prelude.{◌≡◌, ℕ, ◌*◌, Bool, nat_lt, List, ◌++◌, length, map, codes, decimal, MatchBool, Option}
+use Rattle.std.specs.Prelude.{Some, None, Result, Ok, Err}
 use Rattle.pop_lines.specs.Lines.{ended}
 use Rattle.pres_ast.specs.PredicateValue.{predicate_value}
 use Rattle.pop_net.specs.NetModel.{NetModel, CrowdModel, number_of_helpers}

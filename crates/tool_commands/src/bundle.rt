@@ -17,7 +17,7 @@ use std::alloc::Global;
 use tool_texts::{Output, Refusal, Stop, value_of};
 
 /// The bundle of a line that has this value.
-fn bundle_of(alloc: Global, value: &Option<Value>) -> Result<Bundle, Stop>
+fn bundle_of_value(alloc: Global, value: &Option<Value>) -> Result<Bundle, Stop>
     ensures bundle { GivesStep (λ bundle. bundle) result (bundle_in (option_map view value.now)) }
     ensures limits { IfOk result IsBundleWithin }
 {
@@ -34,7 +34,7 @@ pub(crate) fn bundle_of_line(alloc: Global, line: &[u8]) -> Result<Bundle, Stop>
     ensures limits { IfOk result IsBundleWithin }
 {
     let value = value_of(alloc, line)?;
-    bundle_of(alloc, &value)
+    bundle_of_value(alloc, &value)
 }
 
 /// The bundle of a line that has this value, and how its net starts at a crowd line.
@@ -49,7 +49,7 @@ fn bundle_and_start(
     ensures limits { IfOk result (λ begin. IsBundleWithin begin.0) }
     ensures start { IfOk result (λ begin. IsStart begin.0.net begin.1) }
 {
-    let bundle = bundle_of(alloc, value)?;
+    let bundle = bundle_of_value(alloc, value)?;
     let start = start_of(alloc, &bundle.net, crowd)?;
     Ok((bundle, start))
 }

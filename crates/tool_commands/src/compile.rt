@@ -50,7 +50,7 @@ fn build_with(
 }
 
 /// The bundle of a predicate over these names: its built net, and a proof that the net computes it.
-fn bundle_of(
+fn built_bundle(
     alloc: Global,
     choice: LeafChoice,
     pred: Pred,
@@ -100,7 +100,7 @@ fn compile_asked(
     requires count { pred.variables ≡ length names.now }
     ensures { Obeys (OfAsked choice (names.now, pred)) (λ output. output) result }
 {
-    let bundle = bundle_of(alloc, choice, pred, names)?;
+    let bundle = built_bundle(alloc, choice, pred, names)?;
     output_of(alloc, choice, names, &bundle)
 }
 

@@ -12,7 +12,7 @@ ghost use Rattle.comp_net.specs.declared.choice.LeafChoice.TheVariants.{Plain};
 ghost use Rattle.tool_commands.specs.Prepared.{LeadsTo, NeedsNoThreads};
 ghost use Rattle.tool_commands.specs.Start.{IsStart};
 ghost use Rattle.tool_commands.specs.Demo.{changed, demo_start, summary_lines};
-ghost use Rattle.tool_commands.specs.Demo.{DemoGives, IsBuilt, IsCase, IsDemoOutput, IsRunOfCase, CanDemo};
+ghost use Rattle.tool_commands.specs.Demo.{DemoGives, IsBuiltNet, IsCase, IsDemoOutput, IsRunOfCase, CanDemo};
 
 use crate::prepared::Prepared;
 use crate::run::last_and_ending;
@@ -50,7 +50,7 @@ pub struct PendingDemo {
 fn built(alloc: Global, pred: &Pred) -> Result<(Net, Proof), NoMemory>
     requires fits { fault_with Plain pred.now.tree ≡ None }
     requires count { pred.now.variables ≡ length names_of_demo }
-    ensures { IfOk result (IsBuilt pred.now) }
+    ensures { IfOk result (IsBuiltNet pred.now) }
 {
     let names = demo_names(alloc)?;
     match compile(alloc, pred, &names) {

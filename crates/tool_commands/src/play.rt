@@ -6,7 +6,8 @@ ghost use Rattle.pop_lines.specs.Lines.{lines_of};
 ghost use Rattle.pop_words.specs.Meetings.{meeting_of};
 ghost use Rattle.pop_net.specs.Lanes.{crowd_of, AreValid};
 ghost use Rattle.tool_texts.specs.Steps.{After, GivesStep, Obeys};
-ghost use Rattle.tool_commands.specs.Play.{paired, on_from, played, end_crowd, IsLast, end_line, play_output, OfEnd, PlayGives};
+ghost use Rattle.tool_commands.specs.Play.{paired, on_from, played, end_crowd, IsLast};
+ghost use Rattle.tool_commands.specs.Play.{end_line, play_output, OfEnd, PlayGives};
 
 use crate::start::net_and_start;
 use pop_crowd::Crowd;
@@ -35,7 +36,8 @@ fn pair_of(line: &[u8], agents: u32, number: u64) -> Result<(u32, u32), Stop>
     }
 }
 
-/// Plays lines up to the first that `short_pair` doesn't take. The answer is what is left, and the number of its first line.
+/// Plays lines up to the first that `short_pair` doesn't take. The answer is what is left, and the number of its first
+/// line.
 fn play_short<'t>(net: &Net, crowd: &mut Crowd, lines: &'t [u8], number: u64) -> (&'t [u8], u64)
     requires few { number + length (lines_of lines.now) < 2 ^ 33 }
     requires valid { AreValid net.now crowd.old }

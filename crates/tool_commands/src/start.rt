@@ -16,7 +16,7 @@ use std::alloc::Global;
 use tool_texts::{Refusal, Stop};
 
 /// The net of a line that has this value.
-fn net_of(alloc: Global, value: &Option<Value>) -> Result<Net, Stop>
+fn net_of_value(alloc: Global, value: &Option<Value>) -> Result<Net, Stop>
     ensures { GivesStep (λ net. net) result (net_in (option_map view value.now)) }
 {
     let Some(value) = value else {
@@ -58,7 +58,7 @@ pub(crate) fn net_and_start(
         (start_in (option_map view value.now) crowd.now) }
     ensures valid { IfOk result (λ start. AreValid start.0 start.1) }
 {
-    let net = net_of(alloc, value)?;
+    let net = net_of_value(alloc, value)?;
     let start = start_of(alloc, &net, crowd)?;
     Ok((net, start.crowd))
 }

@@ -7,7 +7,8 @@ use Rattle.tool_texts.specs.declared.output.Output.{Output}
 -- three lines: the number of the first line that isn't the expected one, what was kept there, and what is found
 abbrev pub difference_text : Difference → List ℕ
 difference_text difference =
-    codes "differs " ++ decimal difference.line ++ codes "\nkept: " ++ difference.kept ++ codes "\nfound: " ++ difference.found ++ codes "\n"
+    codes "differs " ++ decimal difference.line ++ codes "\nkept: " ++ difference.kept
+    ++ codes "\nfound: " ++ difference.found ++ codes "\n"
 
 abbrev pub difference_output : Difference → Output
 difference_output difference = record { text = difference_text difference; ending = Differs }

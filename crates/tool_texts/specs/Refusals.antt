@@ -8,7 +8,8 @@ use Rattle.pop_journal.specs.Reasons.{journal_reason}
 use Rattle.tool_texts.specs.declared.refusal.LineWhy.{LineWhy}
 use Rattle.tool_texts.specs.declared.refusal.LineWhy.TheVariants as line
 use Rattle.tool_texts.specs.declared.refusal.Refusal.{Refusal}
-use Rattle.tool_texts.specs.declared.refusal.Refusal.TheVariants.{TooLong, Line, NotJson, Format, Pred, Count, Size, Journal, Atoms, Width, Wide, Settle}
+use Rattle.tool_texts.specs.declared.refusal.Refusal.TheVariants.{TooLong, Line, NotJson, Format, Pred, Count, Size}
+use Rattle.tool_texts.specs.declared.refusal.Refusal.TheVariants.{Journal, Atoms, Width, Wide, Settle}
 use Rattle.tool_texts.specs.declared.output.Output.{Output}
 use Rattle.tool_texts.specs.declared.output.Ending.TheVariants as ending
 

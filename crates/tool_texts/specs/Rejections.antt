@@ -6,7 +6,8 @@ use Rattle.cert_layers.specs.declared.fault.LayerFault.TheVariants as layer
 use Rattle.cert_tree.specs.declared.fault.TreeFault.{TreeFault}
 use Rattle.cert_tree.specs.declared.fault.TreeFault.TheVariants as tree
 use Rattle.cert_tree.specs.declared.fault.TreeWhy.{TreeWhy}
-use Rattle.cert_tree.specs.declared.fault.TreeWhy.TheVariants.{Missing, TooDeep, BadIndex, NoTwin, NotOpen, NotClosed, TooManyFacts, Rest}
+use Rattle.cert_tree.specs.declared.fault.TreeWhy.TheVariants.{Missing, TooDeep, BadIndex, NoTwin}
+use Rattle.cert_tree.specs.declared.fault.TreeWhy.TheVariants.{NotOpen, NotClosed, TooManyFacts, Rest}
 use Rattle.pop_checker.specs.declared.fault.Rejected.{Rejected}
 use Rattle.pop_checker.specs.declared.fault.Rejected.TheVariants.{Layers, Tree, Predicate}
 use Rattle.tool_texts.specs.declared.output.Ending.TheVariants as ending

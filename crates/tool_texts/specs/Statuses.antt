@@ -3,7 +3,8 @@ use Rattle.std.specs.Prelude.{ℕ}
 use Rattle.tool_texts.specs.declared.output.Ending.{Ending}
 use Rattle.tool_texts.specs.declared.output.Ending.TheVariants as ending
 use Rattle.tool_texts.specs.declared.status.Status.{Status}
-use Rattle.tool_texts.specs.declared.status.Status.TheVariants.{Done, Usage, Refused, Rejected, Undecided, Differs, ReadFault, WriteFault, NoMemory}
+use Rattle.tool_texts.specs.declared.status.Status.TheVariants.{Done, Usage, Refused, Rejected, Undecided}
+use Rattle.tool_texts.specs.declared.status.Status.TheVariants.{Differs, ReadFault, WriteFault, NoMemory}
 
 abbrev pub status_of : Ending → Status
 status_of ending.Done = Done

@@ -5,11 +5,11 @@ use Rattle.cert_json.proofs.bundle.read_bundle.Goals as goal
 pub returns : goal.returns
 returns c =
     let d = view c.args.value.now in
-    let given = c.bundle_of.ensures in
+    let given = c.read_exactly.ensures in
     record {
       exact = given.exact;
       variables = given.variables;
-      within = read-within d c.bundle_of.result given.exact;
-      file = read-file d c.bundle_of.result given.exact;
-      no_file = broken-no_file d c.bundle_of.result given.exact;
+      within = read-within d c.read_exactly.result given.exact;
+      file = read-file d c.read_exactly.result given.exact;
+      no_file = broken-no_file d c.read_exactly.result given.exact;
     }

@@ -4,13 +4,13 @@ use Rattle.serde_json.specs.View.{view}
 use Rattle.json_shape.specs.Paths.{path_text}
 use Rattle.pop_net.specs.NetModel.{after_item, depth_operators}
 use Rattle.pop_net.specs.NetFaults.{names_below, are_low}
-use Rattle.net_json.specs.Examined.{combine_item, items_at}
+use Rattle.net_json.specs.Examined.{combine_item, combine_items_at}
 use Rattle.json_shape.proofs.Each.{each-fails, each-goes, each-done}
 use Rattle.net_json.proofs.Items.{open_next, after_item-length, operand-fails, shape-fails, item-goes, and_second, put_some}
 use Rattle.net_json.proofs.combine.items_of.Goals as goal
 
 pub returns-in_err-operand-clause-items : goal.returns-in_err-operand-clause-items
-unfolding items_at
+unfolding combine_items_at
 returns-in_err-operand-clause-items c =
     let p = err_from_is_err_and c.from_residual-in_err-operand.result c.from_residual-in_err-operand.ensures.1 in
     let path = path_text c.args.path.now in
@@ -19,7 +19,7 @@ returns-in_err-operand-clause-items c =
     (each-fails (combine_item path c.args.leaves) c.loop-i.items.items c.deref-item-items.result.now c.loop-i.i c.in_err-operand.field-0.0 c.item-item.result _ c.loop-i-test.true c.item-item.is failed c.loop-i.invariant.read)
 
 pub returns-then-not-put-clause-items : goal.returns-then-not-put-clause-items
-unfolding items_at
+unfolding combine_items_at
 returns-then-not-put-clause-items c =
     let path = path_text c.args.path.now in
     let no : c.put.result ≡ false = cc in
@@ -43,7 +43,7 @@ loop-i-preserved c =
     }
 
 pub returns-clause-items : goal.returns-clause-items
-unfolding items_at
+unfolding combine_items_at
 returns-clause-items c =
     rw (c.in_ok-list.ensures.list, ← c.deref-item-items.ensures.value, c.from_vec.ensures)
     (each-done (combine_item (path_text c.args.path.now) c.args.leaves) c.loop-i.items.items c.deref-item-items.result.now c.loop-i.i _ c.loop-i-test.false c.loop-i.invariant.read)

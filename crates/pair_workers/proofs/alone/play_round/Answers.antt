@@ -4,7 +4,7 @@ use Rattle.pop_net.specs.Lanes.{crowd_of}
 use Rattle.pop_crowd.specs.declared.crowd.Meeting.{Meeting}
 use Rattle.pair_workers.specs.Picks.{words_from}
 use Rattle.pair_workers.specs.Played.{IsPlayed}
-use Rattle.pair_workers.proofs.Played.{played_more, played_none}
+use Rattle.pair_workers.proofs.Played.{played_more, played_none, played_one}
 use Rattle.pair_workers.proofs.alone.play_round.Goals as goal
 
 pub turns-preserved : goal.turns-preserved
@@ -13,10 +13,11 @@ turns-preserved g c =
     let pushed : c.push_reserved.new.self.items ≡ c.turns.log.items ++ c.meet_next.result ∷ [] = c.push_reserved.ensures.items in
     record {
       played = subst (λ (log : List Meeting). IsPlayed net (crowd_of net c.args.crowd.now) (words_from c.args.picker.now) log (crowd_of net c.meet_next.new.crowd) (words_from c.meet_next.new.picker)) (sym pushed)
-          (played_more net _ _ c.turns.log.items (c.meet_next.result ∷ []) _ _ _ _ c.turns.invariant.played c.meet_next.ensures.played);
+          (played_more net _ _ c.turns.log.items (c.meet_next.result ∷ []) _ _ _ _ c.turns.invariant.played
+          (played_one net c.meet_next.result c.turns.crowd c.meet_next.new.crowd c.turns.picker c.meet_next.new.picker c.meet_next.ensures));
       turns = ap length pushed ∙ length-append c.turns.log.items (c.meet_next.result ∷ []) ∙ ap (λ n. n + 1) c.turns.invariant.turns;
-      valid = c.meet_next.ensures.valid;
-      agents = c.meet_next.ensures.agents ∙ c.turns.invariant.agents;
+      valid = c.meet_next.ensures.met.valid;
+      agents = c.meet_next.ensures.met.agents ∙ c.turns.invariant.agents;
       room = let r = c.turns.invariant.room in let same = c.push_reserved.ensures.capacity in omega arith;
     }
 

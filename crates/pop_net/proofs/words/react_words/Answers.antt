@@ -20,8 +20,8 @@ react-x-requires-clause-y_in c =
 pub loop-i-preserved : goal.loop-i-preserved
 loop-i-preserved c =
     record {
-      first = reaction_more (2 ^ bits_of c.args.lanes) c.args.leaves.now c.loop-i.i c.index-leaves-i.result c.loop-i-test.true c.index-leaves-i.is (λ z. z.0) c.args.a c.args.b _ _ _ _ c.react-x.result c.requires.narrow c.state.ensures c.state-in-loop-i.ensures c.react-x.ensures.reaction c.react-x.ensures.first_in c.with_state-first.ensures.sum c.with_state-first.ensures.used c.loop-i.invariant.first;
-      second = reaction_more (2 ^ bits_of c.args.lanes) c.args.leaves.now c.loop-i.i c.index-leaves-i.result c.loop-i-test.true c.index-leaves-i.is (λ z. z.1) c.args.a c.args.b _ _ _ _ c.react-x.result c.requires.narrow c.state.ensures c.state-in-loop-i.ensures c.react-x.ensures.reaction c.react-x.ensures.second_in c.with_state-second.ensures.sum c.with_state-second.ensures.used c.loop-i.invariant.second;
+      first = reaction_more (2 ^ bits_of c.args.lanes) c.args.leaves.now c.loop-i.i c.index-leaves-i.result c.loop-i-test.true c.index-leaves-i.is (λ z. z.0) c.args.a c.args.b _ _ _ _ c.react-x.result c.requires.fits c.state.ensures c.state-in-loop-i.ensures c.react-x.ensures.reaction c.react-x.ensures.first_in c.with_state-first.ensures.sum c.with_state-first.ensures.used c.loop-i.invariant.first;
+      second = reaction_more (2 ^ bits_of c.args.lanes) c.args.leaves.now c.loop-i.i c.index-leaves-i.result c.loop-i-test.true c.index-leaves-i.is (λ z. z.1) c.args.a c.args.b _ _ _ _ c.react-x.result c.requires.fits c.state.ensures c.state-in-loop-i.ensures c.react-x.ensures.reaction c.react-x.ensures.second_in c.with_state-second.ensures.sum c.with_state-second.ensures.used c.loop-i.invariant.second;
     }
 
 pub returns-clause-first : goal.returns-clause-first

@@ -14,10 +14,10 @@ turns-init c = record {
 pub turns-preserved : goal.turns-preserved
 turns-preserved c =
     let was = c.turns.invariant in
-    let one = c.meet_next.ensures in
+    let one = c.push_next.ensures in
     record {
-      goes_on = goes_on_more c.args.net.now c.args.played.now c.turns.played c.meet_next.new.played was.goes_on one.goes_on;
-      more = has_more_on c.args.worker c.turns.turn 1 c.args.played.now c.turns.played c.meet_next.new.played was.more one.more;
+      goes_on = goes_on_more c.args.net.now c.args.played.now c.turns.played c.push_next.new.played was.goes_on one.goes_on;
+      more = has_more_on c.args.worker c.turns.turn 1 c.args.played.now c.turns.played c.push_next.new.played was.more one.more;
       valid = one.valid;
       made = let w = was.made in let o = one.made in omega arith;
       room = one.room ∙ was.room;

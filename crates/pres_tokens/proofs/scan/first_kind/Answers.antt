@@ -30,15 +30,15 @@ sign_len (b ∷ c ∷ bytes) h =
     let p = some_sign (byte_symbol b) (pair_symbol b c) in
     (p.0, omega (arith, p.1))
 
-pub returns-then-starts_name-clause-value : goal.returns-then-starts_name-clause-value
-returns-then-starts_name-clause-value c =
+pub returns-then-begins_name-clause-value : goal.returns-then-begins_name-clause-value
+returns-then-begins_name-clause-value c =
     rw (c.word_kind.ensures, c.word_len-len.ensures.value)
-    (word_first c.args.bytes.now c.requires (sym c.starts_name.ensures ∙ c.if-starts_name.true))
+    (word_first c.args.bytes.now c.requires (sym c.begins_name.ensures ∙ c.if-begins_name.true))
 
-pub returns-then-starts_name-clause-some : goal.returns-then-starts_name-clause-some
-returns-then-starts_name-clause-some c =
+pub returns-then-begins_name-clause-some : goal.returns-then-begins_name-clause-some
+returns-then-begins_name-clause-some c =
     rw c.word_len-len.ensures.value
-    (some_pass is_name_byte c.args.bytes.now c.requires (rw (sym c.starts_name.ensures ∙ c.if-starts_name.true) refl))
+    (some_pass is_name_byte c.args.bytes.now c.requires (rw (sym c.begins_name.ensures ∙ c.if-begins_name.true) refl))
 
 pub returns-then-is_digit-clause-value : goal.returns-then-is_digit-clause-value
 returns-then-is_digit-clause-value c = search rules
@@ -51,7 +51,7 @@ returns-then-is_digit-clause-some c =
 pub returns-else-is_digit-clause-value : goal.returns-else-is_digit-clause-value
 returns-else-is_digit-clause-value c =
     rw c.signs.ensures
-    (sign_first c.args.bytes.now c.requires (sym c.starts_name.ensures ∙ c.if-starts_name.false) (sym c.is_digit.ensures ∙ c.if-is_digit.false))
+    (sign_first c.args.bytes.now c.requires (sym c.begins_name.ensures ∙ c.if-begins_name.false) (sym c.is_digit.ensures ∙ c.if-is_digit.false))
 
 pub returns-else-is_digit-clause-some : goal.returns-else-is_digit-clause-some
 returns-else-is_digit-clause-some c = rw (ap (λ (p : Symbol × ℕ). p.1) c.signs.ensures) (sign_len c.args.bytes.now c.requires).0

@@ -8,4 +8,4 @@ use Rattle.tool_commands.proofs.bundle.bundle_of_line.Goals as goal
 pub returns-clause-bundle : goal.returns-clause-bundle
 returns-clause-bundle c =
     let value = option_map view c.in_ok-value.value in
-    gives_obeys (IsBundleOf c.args.line.now) _ c.bundle_of.result (bundle_in value) (value, c.in_ok-value.ensures, refl) c.bundle_of.ensures.bundle
+    gives_obeys (IsBundleOf c.args.line.now) _ c.bundle_of_value.result (bundle_in value) (value, c.in_ok-value.ensures, refl) c.bundle_of_value.ensures.bundle

@@ -13,5 +13,5 @@ returns-in-Some c start before h is =
     let spec = c.args.spec.now in
     let round = c.args.round in
     let open' : last_is_undecided (ending_of net (replay net before start)) ≡ true = ap last_is_undecided (sym is) ∙ sym c.is_undecided.ensures ∙ c.if-not-is_undecided.false in
-    let due = meeting_due net start spec before round c.in-Some.worker c.meet_next.result open' (c.meet_next.ensures.next start spec before h).0 in
+    let due = meeting_due net start spec before round c.in-Some.worker c.replay_next.result open' (c.replay_next.ensures.next start spec before h).0 in
     subst (λ (t : Option ℕ × List ℕ). IsForEnd (line_at_end net start spec before round t.0) (Some t.1)) (λ i. (sym c.in-Some.is i, sym c.in_ok-meeting_text.ensures i)) due

@@ -5,7 +5,7 @@ use Rattle.pres_tokens.specs.Tokens.{tokens_from, tokens_of}
 use Rattle.pres_read.specs.Reading.{run}
 use Rattle.pres_read.specs.Sound.{IsSoundProgress}
 use Rattle.pres_read.specs.Views.{progress_of, depth_of}
-use Rattle.pres_read.proofs.read.Reader.take_all.Given as goal
+use Rattle.pres_read.proofs.read.Reader.read_tokens.Given as goal
 
 abbrev pub invariant-loop-token : goal.invariant-loop-token
 invariant-loop-token l = record {
