@@ -9,6 +9,7 @@ use Rattle.std.proofs.lemmas.Option.{slice_get_read}
 use Rattle.std.proofs.lemmas.List.Elements.{Contains-append_left, All-push}
 use Rattle.std.proofs.lemmas.List.Sums.{AllPass-from_list_all, list_all-from_AllPass}
 use Rattle.std.proofs.Math.ListN.{length-set}
+use Rattle.std.specs.Cmp.{both_ways}
 use Rattle.cert_base.specs.declared.fact.Row.{Row}
 use Rattle.cert_base.specs.ClosingTests.{coefficient_in, each_coefficient}
 use Rattle.cert_linear.specs.declared.sum.Entry.{Entry}
@@ -18,7 +19,6 @@ use Rattle.pop_net.proofs.Reactions.{and_left, and_right}
 use Rattle.cert_linear.proofs.RowValues.{each_coefficient-at}
 use Rattle.list_laws.proofs.Lists.{take_one_more}
 use Rattle.list_laws.proofs.Numbers.{size-add}
-use Rattle.list_laws.proofs.Truth.{both_ways}
 use Rattle.cert_linear.specs.declared.sum.TheConstants.{PRODUCT_LIMIT, ENTER_LIMIT, REST_LIMIT, ENTRY_LIMIT}
 
 abbrev Tells : ℕ → ℕ → Type 0

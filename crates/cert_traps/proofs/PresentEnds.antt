@@ -4,7 +4,7 @@ use Rattle.std.specs.Prelude.{Some, pos, negsuc, ◌+ℤ◌, ◌≤ℤ◌, ◌*�
 use Rattle.std.specs.List.{range_with_len}
 use Rattle.std.proofs.Math.IntN.{pos-*ℤ-pos, *ℤ-zero}
 use Rattle.std.proofs.lemmas.Int.{ints}
-use Rattle.std.proofs.lemmas.Bool.{eq-eqb, cases_lt}
+use Rattle.std.proofs.lemmas.Bool.{eq-eqb, cases_lt, not-true}
 use Rattle.std.proofs.lemmas.Bool.Decides.{eqb_tells}
 use Rattle.std.proofs.lemmas.List.Elements.{All-nil, All-cons, All-map, All-append, All-head, All-tail}
 use Rattle.pop_net.specs.declared.leaf.Move.{Move}
@@ -12,7 +12,7 @@ use Rattle.pop_net.specs.LeafModel.{LeafModel, one_at, pre, silent_move}
 use Rattle.pop_net.specs.Step.{LeafStep}
 use Rattle.pop_net.specs.Terminal.{IsTerminal}
 use Rattle.pop_net.specs.Reaction.{takes_states}
-use Rattle.pop_net.proofs.Reactions.{and_left, and_right, not_true}
+use Rattle.pop_net.proofs.Reactions.{and_left, and_right}
 use Rattle.cert_base.specs.Rows.{state_variable}
 use Rattle.cert_base.specs.Valuation.{Valuation, MeetsFact}
 use Rattle.cert_base.specs.FactsAndCases.{states_of, can_meet_in, absent_fact, occurs_fact, alone_fact, not_twice, cases_of_present}
@@ -51,7 +51,7 @@ cannot_meet leaf crowd p q terminal e there =
     let found = list_any-contains (takes_states p q) leaf.moves e in
     let t = found.0 in
     let pair = same_pair_cases p q t.p t.q (and_right (not (silent_move t)) _ found.2) in
-    terminal_dead leaf crowd terminal found.1.0 t (listed leaf.moves found.1.0 t found.1.1 found.1.2) (not_true _ (and_left _ _ found.2)) (λ z. rw (pre_pair t p q z pair) (there z))
+    terminal_dead leaf crowd terminal found.1.0 t (listed leaf.moves found.1.0 t found.1.1 found.1.2) (not-true _ (and_left _ _ found.2)) (λ z. rw (pre_pair t p q z pair) (there z))
   where
     listed : (moves : List Move) (k : ℕ) (t : Move) → k < length moves → get_or moves k t ≡ t → slice_get moves k ≡ Some t
     listed [] k t l e = absurd (omega arith)
@@ -139,7 +139,7 @@ module _ (leaf : LeafModel) (count : Valuation) (end : List ℕ) (counts : Count
           absurd (cannot_meet leaf end p q terminal (and_right (not (q == p)) _ e) (two_kinds end p q (apart (and_left _ _ e)) some (let m : 1 ≤ number_in q end = omega (arith, l) in m)))
         where
           apart : not (q == p) ≡ true → p ≢ q
-          apart h same = let f : true ≡ false = sym (eq-eqb q p (sym same)) ∙ not_true _ h in cc
+          apart h same = let f : true ≡ false = sym (eq-eqb q p (sym same)) ∙ not-true _ h in cc
 
   others_met : 1 ≤ number_in p end → All (MeetsFact count) (map (absent_fact leaf) (filter meets (states_of leaf)))
   others_met some =

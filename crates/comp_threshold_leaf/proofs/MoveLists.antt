@@ -4,6 +4,7 @@ use Rattle.std.specs.Prelude.{◌==◌, nat_lt, All, Contains, flat_map}
 use Rattle.std.specs.List.{range_with_len}
 use Rattle.std.proofs.lemmas.Bool.{cases_lt, eq-eqb, ne_eqb, not-true}
 use Rattle.std.proofs.lemmas.List.Elements.{All-append, All-map, All-filter, Contains-append_left, Contains-append_right}
+use Rattle.std.proofs.Math.Bool.{and-false}
 use Rattle.pop_net.specs.declared.leaf.Move.{Move}
 use Rattle.pop_net.specs.LeafModel.{silent_move, IsMoveBelow}
 use Rattle.pop_net.specs.Reaction.{takes_states}
@@ -14,7 +15,6 @@ use Rattle.comp_threshold_leaf.specs.ThresholdLeaf.{span_of, threshold_place, th
 use Rattle.comp_threshold_leaf.proofs.Places.{IsCut, cut, Kind, kind_of, place-below, follower-above, follower-below}
 use Rattle.list_laws.proofs.Ranges.{all_range}
 use Rattle.list_laws.proofs.Lists.{has_map}
-use Rattle.list_laws.proofs.Truth.{and_false}
 use Rattle.pop_net.proofs.Silent.{same-self, same-other}
 
 -- ---- moves
@@ -67,7 +67,7 @@ pair-loud s t p q l m =
     let bit = nat_lt (joined_value s p (threshold_place s q)) t in
     let first = not-leader s (leftover s p (threshold_place s q)) q bit m in
     let second = not-leader s (leftover s p (threshold_place s q)) p bit l in
-    let left_side : ((p == joined_value s p (threshold_place s q)) && false) ≡ false = and_false (p == joined_value s p (threshold_place s q)) in
+    let left_side : ((p == joined_value s p (threshold_place s q)) && false) ≡ false = and-false (p == joined_value s p (threshold_place s q)) in
     rw (first, second, left_side) refl
 
 same_turned : (a b : ℕ) → (a == b) ≡ (b == a)
