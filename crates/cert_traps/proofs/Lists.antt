@@ -5,6 +5,7 @@ use Rattle.std.specs.List.{range_with_len}
 use Rattle.std.proofs.lemmas.List.{take_all, length-map, length-take, map-append, map_push}
 use Rattle.std.proofs.lemmas.Option.{slice_get_within, get_or_from_slice_get, slice_get_read}
 use Rattle.std.proofs.lemmas.List.FromFn.{get_or-map-range_with_len, length-range_with_len}
+use Rattle.std.proofs.lemmas.Simd.{map-map}
 use Rattle.cert_base.specs.declared.fact.Fact.{Fact}
 use Rattle.cert_base.specs.declared.fact.Fact.TheVariants.{Eq}
 use Rattle.cert_base.specs.Rows.{single_row, move_variable, state_variable}
@@ -22,10 +23,6 @@ use Rattle.cert_base.proofs.Indicators.{places_from-one}
 pub map-take_more : {A B : Type 0} (f : A → B) (xs : List A) (k : ℕ) (x : A) (before after : List B) → slice_get xs k ≡ Some x → before ≡ map f (take k xs) → after ≡ before ++ f x ∷ [] → after ≡ map f (take (k + 1) xs)
 map-take_more f xs k x before after h b e =
     e ∙ ap (λ ys. ys ++ f x ∷ []) b ∙ sym (ap (map f) (take_one_more xs k x h) ∙ map_push f (take k xs) x)
-
-pub map-map_list : {A B C : Type 0} (f : B → C) (g : A → B) (xs : List A) → map f (map g xs) ≡ map (λ x. f (g x)) xs
-map-map_list f g [] = refl
-map-map_list f g (x ∷ xs) = ap (λ ys. f (g x) ∷ ys) (map-map_list f g xs)
 
 -- ---- places
 
@@ -67,7 +64,7 @@ zeros_all first t flags start facts l e =
 -- ---- flags
 
 pub flags_coefs : {A : Type 0} (test : A → Bool) (xs : List A) (flags : List Bool) (coefs : List ℤ) → flags ≡ map test xs → coefs ≡ map indicator flags → coefs ≡ map (λ x. indicator (test x)) xs
-flags_coefs test xs flags coefs e f = f ∙ ap (map indicator) e ∙ map-map_list indicator test xs
+flags_coefs test xs flags coefs e f = f ∙ ap (map indicator) e ∙ map-map indicator test xs
 
 pub length-coefs : {A : Type 0} (test : A → Bool) (xs : List A) (flags : List Bool) (coefs : List ℤ) → flags ≡ map test xs → coefs ≡ map indicator flags → length coefs ≡ length xs
 length-coefs test xs flags coefs e f =

@@ -18,11 +18,11 @@ use Rattle.cert_base.specs.Valuation.{Valuation, MeetsFact}
 use Rattle.cert_base.specs.FactsAndCases.{states_of, can_meet_in, absent_fact, occurs_fact, alone_fact, not_twice, cases_of_present}
 use Rattle.cert_base.proofs.Agents.{agents_of, enabled_test-true, move_step}
 use Rattle.cert_base.proofs.Dead.{IsEnabledIn}
-use Rattle.cert_base.proofs.Numbers.{number_in, slice_get-set_other}
+use Rattle.cert_base.proofs.Numbers.{number_in}
 use Rattle.cert_base.proofs.Openings.{in_first, in_rest}
 use Rattle.cert_base.specs.Ends.{MeetsOne}
 use Rattle.cert_base.proofs.ListTests.{list_any-contains}
-use Rattle.list_laws.proofs.Lists.{slice_get-set_same}
+use Rattle.list_laws.proofs.Lists.{slice_get-set_same, slice_get-set_other, all_filtered}
 use Rattle.std.proofs.lemmas.Option.{same_Some}
 use Rattle.pop_net.proofs.Silent.{stays-silent, same_pair_cases}
 
@@ -81,16 +81,6 @@ not_twice_met : (leaf : LeafModel) (count : Valuation) (q : ℕ) → count (stat
 not_twice_met leaf count q l =
     let one = minus_one_times (count (state_variable leaf q)) l in omega (arith, ints, one)
 
--- what holds of the items that pass a test
-all_filtered : (P Q : ℕ → Type 0) (test : ℕ → Bool) (xs : List ℕ) → ((x : ℕ) → Q x → test x ≡ true → P x) → All Q xs → All P (filter test xs)
-all_filtered P Q test [] f all = All-nil P
-all_filtered P Q test (x ∷ xs) f all =
-    go (test x) refl (all_filtered P Q test xs f (All-tail Q x xs all))
-  where
-    go : (b : Bool) → test x ≡ b → All P (filter test xs) → All P (cond b (x ∷ filter test xs) (filter test xs))
-    go true e more = All-cons P x (filter test xs) (f x (All-head Q x xs all) e) more
-    go false e more = more
-
 in_range : (a n : ℕ) → All (λ q. q < a + n) (range_with_len a n)
 in_range a zero = All-nil (λ (q : ℕ). q < a + 0)
 in_range a (suc n) =
@@ -144,7 +134,7 @@ module _ (leaf : LeafModel) (count : Valuation) (end : List ℕ) (counts : Count
   others_met : 1 ≤ number_in p end → All (MeetsFact count) (map (absent_fact leaf) (filter meets (states_of leaf)))
   others_met some =
       All-map (MeetsFact count) (absent_fact leaf) (filter meets (states_of leaf))
-      (all_filtered (λ q. MeetsFact count (absent_fact leaf q)) (λ q. q < 0 + length leaf.states) meets (states_of leaf) (λ q l e. other_absent some q (omega (arith, l)) e) (in_range 0 (length leaf.states)))
+      (all_filtered meets (λ q. MeetsFact count (absent_fact leaf q)) (states_of leaf) (λ k d l. other_absent some (get_or (states_of leaf) k d) (let low = in_range 0 (length leaf.states) k d l in omega (arith, low))))
 
   alone_if : 1 ≤ number_in p end → (b : Bool) → can_meet_in leaf p p ≡ b → All (MeetsFact count) (if b then (alone_fact leaf p ∷ []) else [])
   alone_if some true e =

@@ -47,6 +47,9 @@ slice_get-set_apart (z ∷ xs) zero (suc b) x ne = refl
 slice_get-set_apart (z ∷ xs) (suc a) zero x ne = refl
 slice_get-set_apart (z ∷ xs) (suc a) (suc b) x ne = slice_get-set_apart xs a b x (λ e. ne (ap suc e))
 
+pub slice_get-set_other : {A : Type 0} (xs : List A) (a b : ℕ) (x y : A) → a ≢ b → slice_get xs b ≡ Some y → slice_get (slice_set xs a x) b ≡ Some y
+slice_get-set_other xs a b x y ne h = slice_get-set_apart xs a b x ne ∙ h
+
 -- ---- two lists in one
 
 pub at_front : {A : Type 0} (xs ys : List A) (k : ℕ) → k < length xs → slice_get (xs ++ ys) k ≡ slice_get xs k
