@@ -21,9 +21,10 @@ use Rattle.agent_field.specs.History.{IsHistory, calls, placed, placed_logs}
 use Rattle.agent_field.specs.Standing.{In, agents_opened, packed, agent_word, words_of_agents, crowd_after, IsLook, IsOwedByNone, StandsAt, FieldStands, idle}
 use Rattle.agent_field.specs.Seats.{IsWhole}
 use Rattle.agent_field.specs.Steps.{Mine}
-use Rattle.agent_field.proofs.Histories.{length-replay, calls_from-below}
+use Rattle.agent_field.proofs.Histories.{calls_from-below}
 use Rattle.agent_field.proofs.Moves.{founded}
 use Rattle.agent_field.proofs.Arranged.{nobody, AreLogsOf, calls_from-has, arranged}
+use Rattle.pop_crowd.proofs.Reached.{length-replay}
 
 pub some_value : {A : Type 0} (o : Option A) → IsSome o → (a : A) × (o ≡ Some a)
 some_value None h = absurd (true≢false (sym h))

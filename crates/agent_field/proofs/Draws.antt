@@ -20,10 +20,12 @@ use Rattle.agent_field.specs.History.{IsHistory, logged, calls, made}
 use Rattle.agent_field.specs.Standing.{agents_opened, lock_at, agent_at, shard_of, packed, crowd_after, tuple_after, In, locks_of, joined_away, IsFirst, IsLook, LooksPart, Agrees, IsHeldBySome, StandsAt}
 use Rattle.agent_field.specs.Steps.{IsReaction, without, meeting_made, IsNewest, IsDrawnAt}
 use Rattle.agent_field.proofs.Without.{in_without}
-use Rattle.agent_field.proofs.Histories.{length-replay, replay-push, history-push, calls-push_mine, calls-push_other, calls_from-below, length-most, after_meeting-first, after_meeting-second, after_meeting-other}
+use Rattle.agent_field.proofs.Histories.{history-push, calls-push_mine, calls-push_other, calls_from-below, length-most, after_meeting-first, after_meeting-second, after_meeting-other}
 use Rattle.agent_field.proofs.InTurns.{lock_behind, agent_behind}
 use Rattle.agent_field.proofs.Views.{at_length, set_each, one_seat, one_holder, owed_back, held_after, sits_set, not_dead}
 use Rattle.agent_field.proofs.Keeps.{owed_by_none}
+use Rattle.pop_crowd.proofs.Reached.{length-replay}
+use Rattle.pop_crowd.proofs.InARow.{replay-push}
 
 -- a look shows the same while the history goes on
 pub look_later : (net : NetModel) (opening : List Word) (history : List Meeting) (m : Meeting) (look : Look) → IsLook net opening history look → IsLook net opening (history ++ m ∷ []) look

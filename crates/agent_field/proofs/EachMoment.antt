@@ -22,12 +22,13 @@ use Rattle.agent_field.specs.Standing.{agents_opened, crowd_after, Stands, In, S
 use Rattle.agent_field.specs.Steps.{IsReaction, first_seat, meeting_made, looking}
 use Rattle.agent_field.specs.Kinds.{Sits, QuietStep, makes, locks, finds_locked, reads, writes, unlocks, splits, joins, looks, DrawStep, draws, FieldRun, stays, goes, meets, HasHistory, EachMomentStands}
 use Rattle.agent_field.proofs.Keeps.{locks_keep, releases_keep, reads_keep, writes_keep}
-use Rattle.agent_field.proofs.Histories.{length-replay, replay-push}
 use Rattle.agent_field.proofs.Draws.{known_after, draws_keep}
 use Rattle.agent_field.proofs.Watching.{looks_keep}
 use Rattle.agent_field.proofs.Seating.{splits_keep, joins_keep}
 use Rattle.agent_field.proofs.Founding.{founds_keep}
 use Rattle.agent_field.proofs.OneHistory.{one_history}
+use Rattle.pop_crowd.proofs.Reached.{length-replay}
+use Rattle.pop_crowd.proofs.InARow.{replay-push}
 
 abbrev At : Setup → List ℕ → List View → List Meeting → Type 0
 At k words views history = (seat : ℕ → Option ℕ) × StandsAt k words views history seat

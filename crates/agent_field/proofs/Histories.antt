@@ -2,7 +2,7 @@
 use Rattle.std.proofs.Common.{◌≡◌, ◌≢◌, ℕ, zero, suc, ◌+◌, ◌*◌, ◌<◌, ◌≤◌, Bool, true, false, eqb, eq-eqb, ne_eqb, List, [], ◌∷◌, ◌++◌, length, get_or, set, refl, sym, ap, ◌∙◌, subst, ⊎_elim, arith, length-set, get_or-set_same, get_or-set_other, add-zero}
 use Rattle.std.specs.Prelude.{All}
 use Rattle.std.proofs.lemmas.Bool.{cases_eq}
-use Rattle.std.proofs.lemmas.List.Elements.{All-head, All-tail, All-nil, All-cons, All-append}
+use Rattle.std.proofs.lemmas.List.Elements.{All-head, All-tail, All-nil, All-cons, All-append, All-push}
 use mathlib.Core.List.{append-nil}
 use Rattle.pop_net.specs.declared.net.Word.{Word}
 use Rattle.pop_net.specs.NetModel.{NetModel, CrowdModel}
@@ -15,16 +15,6 @@ use Rattle.pop_crowd.proofs.Reached.{length-after_meeting}
 use Rattle.agent_field.specs.declared.view.Logged.{Logged}
 use Rattle.agent_field.specs.History.{IsHistory, logged, listed_if, calls_from, calls}
 use Rattle.agent_field.specs.Standing.{In}
-
-pub length-replay : (net : NetModel) (history : List Meeting) (crowd : CrowdModel) → length (replay net history crowd) ≡ length crowd
-length-replay net [] crowd = refl
-length-replay net (m ∷ history) crowd = length-replay net history (after_meeting net m.a m.b crowd) ∙ length-after_meeting net m.a m.b crowd
-
-pub replay-push : (net : NetModel) (history : List Meeting) (m : Meeting) (crowd : CrowdModel) → replay net (history ++ m ∷ []) crowd ≡ after_meeting net m.a m.b (replay net history crowd)
-replay-push net history m crowd = replay_append net history (m ∷ []) crowd
-
-All-push : {A : Type 0} (P : A → Type 0) (xs : List A) (x : A) → All P xs → P x → All P (xs ++ x ∷ [])
-All-push P xs x all here = All-append P xs (x ∷ []) all (All-cons P x [] here (All-nil P))
 
 marked-push : (net : NetModel) (history : List Meeting) (m : Meeting) (crowd : CrowdModel) → AreMarked net history crowd → m.changed ≡ changes net m.a m.b (replay net history crowd) → AreMarked net (history ++ m ∷ []) crowd
 marked-push net [] m crowd marked is = (is, tt)

@@ -13,9 +13,9 @@ use Rattle.agent_field.specs.declared.view.View.{View}
 use Rattle.agent_field.specs.Standing.{agents_opened, packed, crowd_after, In, IsLook, LooksAscend, StandsAt}
 use Rattle.agent_field.specs.History.{IsHistory}
 use Rattle.agent_field.specs.Steps.{look_of, looking, IsSeenAt}
-use Rattle.agent_field.proofs.Histories.{length-replay}
 use Rattle.agent_field.proofs.Keeps.{views_keep}
 use Rattle.agent_field.proofs.Draws.{known_after}
+use Rattle.pop_crowd.proofs.Reached.{length-replay}
 
 In-push : {A : Type 0} (l : List A) (a x : A) → In x (l ++ a ∷ []) → In x l ⊎ (x ≡ a)
 In-push [] a x h = ⊎_elim (λ e. inr e) (λ (n : ⊥). absurd n) h

@@ -29,19 +29,15 @@ printed_low b h =
 name_byte_low : (b : ℕ) → is_name_byte b ≡ true → b < 128
 name_byte_low b h = grind (arith, h)
 
-true_of : (b : Bool) → IsTrue b → b ≡ true
-true_of true h = refl
-true_of false h = h
-
 pub state_utf8 : (name : List ℕ) → IsTrue (state_name name) → IsUtf8 name
 state_utf8 name h =
-    let shorter = and_parts (nat_le 1 (length name) && list_all is_printed name) (nat_le (length name) NAME_LIMIT) (true_of _ h) in
+    let shorter = and_parts (nat_le 1 (length name) && list_all is_printed name) (nat_le (length name) NAME_LIMIT) h in
     let printed = (and_parts (nat_le 1 (length name)) (list_all is_printed name) shorter.0).1 in
     IsUtf8-from_ascii name (ascii_by is_printed printed_low name printed)
 
 pub variable_utf8 : (name : List ℕ) → IsTrue (variable_name name) → IsUtf8 name
 variable_utf8 name h =
-    let other = and_parts (starts_name name && list_all is_name_byte name && nat_le (length name) NAME_LIMIT) (not (bytes_eq name (codes "mod"))) (true_of _ h) in
+    let other = and_parts (starts_name name && list_all is_name_byte name && nat_le (length name) NAME_LIMIT) (not (bytes_eq name (codes "mod"))) h in
     let shorter = and_parts (starts_name name && list_all is_name_byte name) (nat_le (length name) NAME_LIMIT) other.0 in
     let bytes = (and_parts (starts_name name) (list_all is_name_byte name) shorter.0).1 in
     IsUtf8-from_ascii name (ascii_by is_name_byte name_byte_low name bytes)

@@ -1,7 +1,7 @@
 -- Where the states that a move takes are there, two different agents can take it.
 use Rattle.std.proofs.Common.{◌≡◌, ◌≢◌, ◌⊎◌, inl, inr, ℕ, suc, ◌+◌, ◌<◌, ◌≤◌, Bool, true, false, ◌&&◌, List, [], ◌∷◌, length, refl, ap, sym, ◌∙◌, arith}
 use Rattle.std.specs.Prelude.{Some, slice_get, slice_set, nat_le, ◌==◌, All}
-use Rattle.std.proofs.lemmas.Bool.{eq-eqb, le-leb, leb-true}
+use Rattle.std.proofs.lemmas.Bool.{eq-eqb, le-leb, leb-true, and_from}
 use Rattle.std.proofs.lemmas.Bool.Decides.{eqb_tells}
 use Rattle.std.proofs.lemmas.List.Elements.{All-set}
 use Rattle.pop_net.specs.declared.leaf.Move.{Move}
@@ -11,9 +11,7 @@ use Rattle.pop_net.proofs.Quiet.{All-slice_get}
 use Rattle.pop_net.proofs.Reactions.{and_left, and_right}
 use Rattle.cert_base.proofs.Numbers.{number_in}
 use Rattle.cert_base.proofs.Dead.{IsEnabledIn, number_in-cons}
-
-abbrev Tells : ℕ → ℕ → Type 0
-Tells m n = ((m == n) ≡ true) × (m ≡ n) ⊎ ((m == n) ≡ false) × (m ≢ n)
+use Rattle.list_laws.proofs.Numbers.{Tells}
 
 -- an agent in a state
 abbrev pub Agent : List ℕ → ℕ → Type 0
@@ -85,10 +83,7 @@ test_by crowd t (inr h) enabled =
     let at_p : one_at t.p t.p ≡ 1 = rw (eq-eqb t.p t.p refl) refl in
     let at_q : one_at t.q t.q ≡ 1 = rw (eq-eqb t.q t.q refl) refl in
     ap (λ b. pair_test b crowd t.p t.q) h.0
-    ∙ both _ _ (le-leb 1 (number_in t.p crowd) (omega (arith, enabled t.p, at_p))) (le-leb 1 (number_in t.q crowd) (omega (arith, enabled t.q, at_q)))
-  where
-    both : (a b : Bool) → a ≡ true → b ≡ true → a && b ≡ true
-    both a b e f = rw (e, f) refl
+    ∙ and_from _ _ (le-leb 1 (number_in t.p crowd) (omega (arith, enabled t.p, at_p))) (le-leb 1 (number_in t.q crowd) (omega (arith, enabled t.q, at_q)))
 
 pub enabled_test-true : (crowd : List ℕ) (t : Move) → IsEnabledIn crowd t → enabled_test crowd t ≡ true
 enabled_test-true crowd t enabled = test_by crowd t (eqb_tells t.p t.q) enabled

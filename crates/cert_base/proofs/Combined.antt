@@ -10,10 +10,7 @@ use Rattle.pop_net.specs.NetModel.{after_item, after_items, only_one, combined, 
 use Rattle.pop_net.proofs.Trees.{after_items-append}
 use Rattle.cert_base.specs.declared.proof.LeafProof.{LeafProof}
 use Rattle.cert_base.specs.Combination.{leaf_trees, open_after, IsBegin}
-
-pub alone : {A : Type 0} (o : Option A) → option_and_then (λ x. (let p : Option A = Some x in p)) o ≡ o
-alone None = refl
-alone (Some x) = refl
+use Rattle.list_laws.proofs.Options.{then_itself, item_within}
 
 module _ (parts : List LeafProof) (items : List Item) where
   -- the trees after one more item
@@ -28,7 +25,7 @@ module _ (parts : List LeafProof) (items : List Item) where
     where
       last : (o : Option (List PredTree)) → option_and_then (after_items (leaf_trees parts) (item ∷ [])) o ≡ option_and_then (after_item (leaf_trees parts) item) o
       last None = refl
-      last (Some operands) = alone (after_item (leaf_trees parts) item operands)
+      last (Some operands) = then_itself (after_item (leaf_trees parts) item operands)
 
 -- what an item makes of the trees that stand open
 after_leaf : (parts : List LeafProof) (i : ℕ) (tree : PredTree) → (leaf_trees parts).leaf i ≡ tree → (o : Option (List PredTree)) (rest : List PredTree) → (option_and_then (after_item (leaf_trees parts) (Leaf i)) o ≡ Some (tree ∷ rest)) ↔ (o ≡ Some rest)
@@ -146,15 +143,10 @@ never_empty parts Or (Some []) = λ e. absurd cc
 never_empty parts Or (Some (t ∷ [])) = λ e. absurd cc
 never_empty parts Or (Some (t ∷ u ∷ ts)) = λ e. absurd cc
 
-item_at : (items : List Item) (k : ℕ) → k < length items → (item : Item) × (slice_get items k ≡ Some item)
-item_at [] k lt = absurd (omega arith)
-item_at (x ∷ xs) zero lt = (x, refl)
-item_at (x ∷ xs) (suc k) lt = item_at xs k (omega arith)
-
 none_closed : (parts : List LeafProof) (items : List Item) (k : ℕ) → k ≤ length items → open_after parts items k ≡ Some [] → k ≡ 0
 none_closed parts items zero le e = refl
 none_closed parts items (suc k) le e =
-    let i = item_at items k (omega arith) in
+    let i = item_within items k (omega arith) in
     absurd (never_empty parts i.0 (open_after parts items k) (sym (one_more_item parts items k i.0 i.1) ∙ rw add-one e))
 
 one_left : (o : Option (List PredTree)) (tree : PredTree) → (option_and_then only_one o ≡ Some tree) ↔ (o ≡ Some (tree ∷ []))

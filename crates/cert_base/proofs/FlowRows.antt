@@ -3,7 +3,7 @@ use Rattle.std.proofs.Common.{◌≡◌, ◌≢◌, ◌⊎◌, inl, inr, ℕ, ze
 use Rattle.std.specs.Prelude.{ℤ, pos, negsuc, neg_ℤ, option_map, ◌-ℤ◌, Some, slice_get, ◌==◌, ◌||◌, if◌then◌else◌}
 use Rattle.std.specs.List.{range_with_len, slice_set, zip}
 use Rattle.std.proofs.Math.ListN.{length-set}
-use Rattle.std.proofs.lemmas.List.{append-nil, length-map, take_all}
+use Rattle.std.proofs.lemmas.List.{append-nil, length-map, take_all, map_push}
 use Rattle.std.proofs.lemmas.List.FromFn.{length-map-range_with_len, length-range_with_len}
 use Rattle.std.proofs.lemmas.Bool.Decides.{eqb_tells}
 use Rattle.std.proofs.lemmas.Option.{slice_get-map, slice_get_within, get_or_from_slice_get}
@@ -17,9 +17,8 @@ use Rattle.cert_base.specs.declared.fact.Fact.TheVariants.{Eq}
 use Rattle.cert_base.specs.Rows.{terms_from, move_variable, state_variable}
 use Rattle.cert_base.specs.FactsAndCases.{indicator, states_of, helpers_starting, is_in, flow}
 use Rattle.cert_base.specs.Parts.{term_of, change_at, flow_terms, flow_rows_after, entered_rows}
-use Rattle.cert_base.proofs.Numbers.{slice_get-set_other}
 use Rattle.cert_base.proofs.TermLists.{terms_from-cons, terms_from-append, terms_from-next, minus_one_at, terms_from-state}
-use Rattle.list_laws.proofs.Lists.{map-one, get-set_same, take_one_more, same_lists}
+use Rattle.list_laws.proofs.Lists.{get-set_same, take_one_more, same_lists, slice_get-set_other}
 use Rattle.list_laws.proofs.Ranges.{get-range}
 
 -- ---- lists
@@ -42,7 +41,7 @@ flow_terms-more leaf t q taken h =
     let k = move_variable leaf 0 in
     let long : length before ≡ t = length-map (take t leaf.moves) (change_at q) ∙ length-take_short leaf.moves t (let l : t ≤ length leaf.moves = omega (arith, slice_get_within leaf.moves t taken h) in l) in
     let all : terms_from k (map (change_at q) (take (t + 1) leaf.moves)) ≡ terms_from k before ++ term_of (move_variable leaf t) (change_at q taken) =
-    ap (terms_from k) (ap (map (change_at q)) (take_one_more leaf.moves t taken h) ∙ map-one (change_at q) (take t leaf.moves) taken)
+    ap (terms_from k) (ap (map (change_at q)) (take_one_more leaf.moves t taken h) ∙ map_push (change_at q) (take t leaf.moves) taken)
     ∙ terms_from-append k before (change_at q taken ∷ [])
     ∙ ap (λ ts. terms_from k before ++ ts) (ap (λ n. terms_from n (change_at q taken ∷ [])) (let e : k + length before ≡ move_variable leaf t = omega (arith, long) in e) ∙ terms_from-one (move_variable leaf t) (change_at q taken)) in
     append_assoc start (own ∷ terms_from k before) (term_of (move_variable leaf t) (change_at q taken))

@@ -87,11 +87,11 @@ weighted_sum-map value fact by [] = refl
 weighted_sum-map value fact by (x ∷ xs) = ap (λ z. (by x *ℤ value (fact x)) +ℤ z) (weighted_sum-map value fact by xs)
 
 -- the total of one item
+pub one-times : (a : ℤ) → pos 1 *ℤ a ≡ a
+one-times a = omega (arith, ints)
+
 pub times-one : (a : ℤ) → a *ℤ pos 1 ≡ a
-times-one a = *ℤ_comm a (pos 1) ∙ one a
-  where
-    one : (a : ℤ) → pos 1 *ℤ a ≡ a
-    one a = omega (arith, ints)
+times-one a = *ℤ_comm a (pos 1) ∙ one-times a
 
 total-past : (w : ℕ → ℤ) (z a n : ℕ) → z < a → total (λ q. w q *ℤ indicator (z == q)) (range_with_len a n) ≡ pos 0
 total-past w z a zero l = refl

@@ -2,12 +2,12 @@
 use Rattle.std.proofs.Common.{◌≡◌, ℕ, Bool, true, false, cond, List, [], ◌∷◌, refl, sym, ◌∙◌}
 use Rattle.std.specs.Prelude.{Some, None, Option, find, is_some, not, ◌&&◌, ◌||◌, ◌==◌}
 use Rattle.std.specs.List.{list_any}
-use Rattle.std.proofs.lemmas.Bool.{eq-eqb, eqb-true}
+use Rattle.std.proofs.lemmas.Bool.{eq-eqb, eqb-true, not-true}
 use Rattle.pop_net.specs.declared.leaf.Move.{Move}
 use Rattle.pop_net.specs.LeafModel.{LeafModel, silent_move, same_pair}
 use Rattle.pop_net.specs.Reaction.{takes_states, after_move, by_move, leaf_reaction}
 use Rattle.pop_net.proofs.Found.{find_some}
-use Rattle.pop_net.proofs.Reactions.{and_left, and_right, or_right, not_true}
+use Rattle.pop_net.proofs.Reactions.{and_left, and_right, or_right}
 use Rattle.cert_base.specs.FactsAndCases.{can_meet_in}
 use Rattle.pop_net.proofs.Silent.{stays-silent}
 
@@ -32,12 +32,12 @@ loud-contradicts t e f = absurd (let g : true ≡ false = sym e ∙ f in cc)
 
 after-changes : (p q : ℕ) (t : Move) (b : Bool) → ((p == t.p) && (q == t.q)) ≡ b → takes_states p q t ≡ true → (not ((after_move b t).0 == p) || not ((after_move b t).1 == q)) ≡ true
 after-changes p q t true e h =
-    let loud = not_true (silent_move t) (and_left (not (silent_move t)) (same_pair p q t.p t.q) h) in
+    let loud = not-true (silent_move t) (and_left (not (silent_move t)) (same_pair p q t.p t.q) h) in
     let first = eqb-true p t.p (and_left (p == t.p) (q == t.q) e) in
     let second = eqb-true q t.q (and_right (p == t.p) (q == t.q) e) in
     changed t.r t.s p q (λ f g. loud-contradicts t (stays-silent t (f ∙ first) (g ∙ second)) loud)
 after-changes p q t false e h =
-    let loud = not_true (silent_move t) (and_left (not (silent_move t)) (same_pair p q t.p t.q) h) in
+    let loud = not-true (silent_move t) (and_left (not (silent_move t)) (same_pair p q t.p t.q) h) in
     let other = or_right ((p == t.p) && (q == t.q)) ((p == t.q) && (q == t.p)) (and_right (not (silent_move t)) (same_pair p q t.p t.q) h) e in
     let first = eqb-true p t.q (and_left (p == t.q) (q == t.p) other) in
     let second = eqb-true q t.p (and_right (p == t.q) (q == t.p) other) in

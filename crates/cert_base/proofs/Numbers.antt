@@ -6,14 +6,7 @@ use Rattle.std.proofs.lemmas.Option.{get_or_from_slice_get, slice_get_within}
 use Rattle.pop_net.specs.declared.leaf.Move.{Move}
 use Rattle.pop_net.specs.LeafModel.{LeafModel, one_at, times_in_pair, pre, post}
 use Rattle.pop_net.specs.Step.{Follows, LeafStep}
-
--- a write elsewhere keeps an element
-pub slice_get-set_other : {A : Type 0} (xs : List A) (a b : ℕ) (x y : A) → a ≢ b → slice_get xs b ≡ Some y → slice_get (slice_set xs a x) b ≡ Some y
-slice_get-set_other [] a b x y ne h = cc
-slice_get-set_other (z ∷ xs) zero zero x y ne h = absurd (ne refl)
-slice_get-set_other (z ∷ xs) zero (suc b) x y ne h = h
-slice_get-set_other (z ∷ xs) (suc a) zero x y ne h = h
-slice_get-set_other (z ∷ xs) (suc a) (suc b) x y ne h = slice_get-set_other xs a b x y (λ e. ne (ap suc e)) h
+use Rattle.list_laws.proofs.Lists.{slice_get-set_other}
 
 -- how many agents are in state z
 abbrev pub number_in : ℕ → List ℕ → ℕ

@@ -21,7 +21,7 @@ use Rattle.cert_base.specs.FactsAndCases.{plus, negated_row, signs_of, without_z
 use Rattle.cert_base.specs.Ends.{MeetsOne, MeetsAll, CoverValue, CoverAll}
 use Rattle.cert_base.proofs.Integers.{mul-pos_suc}
 use Rattle.cert_base.proofs.FlowFacts.{dot, terms_value-terms_from}
-use Rattle.std.proofs.lemmas.Bool.{or_cases}
+use Rattle.std.proofs.lemmas.Bool.{or_cases, or_parts, and_cases}
 
 -- ---- which case
 
@@ -113,14 +113,6 @@ one_met : (count : Valuation) (f g : Fact) → MeetsFact count f ⊎ MeetsFact c
 one_met count f g (inl m) = in_first count (f ∷ []) ((g ∷ []) ∷ []) (one_fact count f m)
 one_met count f g (inr m) = in_rest count (f ∷ []) ((g ∷ []) ∷ []) (in_first count (g ∷ []) [] (one_fact count g m))
 
-or_none : (a b : Bool) → a || b ≡ false → (a ≡ false) × (b ≡ false)
-or_none true b e = cc
-or_none false b e = (refl, e)
-
-and_cases : (a b : Bool) → a && b ≡ false → (a ≡ false) ⊎ (b ≡ false)
-and_cases true b e = inr e
-and_cases false b e = inl refl
-
 not_is : (a b : Bool) → not a ≡ b → a ≡ not b
 not_is true b e = ap not e
 not_is false b e = ap not e
@@ -137,7 +129,7 @@ tree_met count n (Conjunction p q) false has e =
 tree_met count n (Disjunction p q) true has e =
     one_met count (Holds (over_count n p) true) (Holds (over_count n q) true) (or_cases (predicate_value p (input_counts count n)) (predicate_value q (input_counts count n)) e)
 tree_met count n (Disjunction p q) false has e =
-    let none = or_none (predicate_value p (input_counts count n)) (predicate_value q (input_counts count n)) e in
+    let none = or_parts (predicate_value p (input_counts count n)) (predicate_value q (input_counts count n)) e in
     both_met count (Holds (over_count n p) false) (Holds (over_count n q) false) none.0 none.1
 
 pub open_cases-cover : (p : PredModel) (value : Bool) → HasAtoms p.variables p.tree → CoverValue p value (cases_of_open p value)

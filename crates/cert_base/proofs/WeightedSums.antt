@@ -3,7 +3,7 @@ use Rattle.std.proofs.Common.{◌≡◌, ℕ, zero, suc, ◌+◌, ◌≤◌, Boo
 use Rattle.std.specs.Prelude.{ℤ, pos, negsuc, ◌+ℤ◌, ◌*ℤ◌, ◌≤ℤ◌, Some, slice_get, Contains, if◌then◌else◌, ◌==◌, not, int_le}
 use Rattle.std.specs.Ordering.{int_eq}
 use lib.Dec.{T}
-use Rattle.std.proofs.lemmas.Bool.{eq-eqb}
+use Rattle.std.proofs.lemmas.Bool.{eq-eqb, or_right}
 use Rattle.pres_ast.specs.PredicateValue.{is_multiple}
 use Rattle.cert_base.specs.declared.fact.Fact.TheVariants.{NotCong}
 use Rattle.std.specs.List.{list_any}
@@ -135,7 +135,7 @@ from_T : (b : Bool) → T b → b ≡ true
 from_T true t = refl
 from_T false t = absurd t
 
-le-test : (a b : ℤ) → a ≤ℤ b → int_le a b ≡ true
+pub le-test : (a b : ℤ) → a ≤ℤ b → int_le a b ≡ true
 le-test a b l = from_T (int_le a b) l.le
 
 -- a test that the coefficient of each variable passes
@@ -148,11 +148,7 @@ pub list_any-from : {A : Type 0} (test : A → Bool) (xs : List A) (x : A) → C
 list_any-from test [] x c e = absurd (omega (arith, c.1))
 list_any-from {A} test (y ∷ xs) x (zero, l, h) e = let first : test y ≡ true = ap test h ∙ e in rw first refl
 list_any-from {A} test (y ∷ xs) x (suc k, l, h) e =
-    let rest = list_any-from test xs x (k, (omega (arith, l)), h) e in or_yes (test y) rest
-  where
-    or_yes : (b : Bool) → list_any test xs ≡ true → (b || list_any test xs) ≡ true
-    or_yes true r = refl
-    or_yes false r = r
+    let rest = list_any-from test xs x (k, (omega (arith, l)), h) e in or_right (test y) _ rest
 
 -- the closing tests
 pub linear_closes-weighted : (facts : List Fact) (ms : List ℤ) → may_weigh may_add facts ms ≡ true → ((x : ℕ) → sum_of_facts (coefficient x) facts ms ≤ℤ pos 0) → sum_of_facts constant_of facts ms ≤ℤ negsuc 0 → closes_by_sum facts (terms_from 0 ms) ≡ true

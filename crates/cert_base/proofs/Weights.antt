@@ -5,8 +5,8 @@ use Rattle.std.proofs.lemmas.Int.{ints}
 use Rattle.pop_net.specs.declared.leaf.Move.{Move}
 use Rattle.pop_net.specs.LeafModel.{LeafModel}
 use Rattle.pop_net.specs.Step.{Follows, LeafMove, LeafStep}
-use Rattle.cert_base.proofs.Numbers.{slice_get-set_other}
 use Rattle.cert_base.specs.ValidLayers.{weight_at, IsLower}
+use Rattle.list_laws.proofs.Lists.{slice_get-set_other}
 
 -- the weights of all agents together
 abbrev pub total : List ℤ → List ℕ → ℤ

@@ -3,7 +3,6 @@ pub mod Lasts
 pub mod PartLaws
 pub mod NodeLaws
 pub mod ProofLaws
-pub mod Short
 pub mod Members
 pub mod WrittenFiles
 pub mod BundleLaws

@@ -2,6 +2,7 @@
 use Rattle.std.proofs.Common.{◌≡◌, ℕ, zero, suc, ◌≤◌, Bool, true, false, List, [], ◌∷◌, length, ltb, IfOk, Result, Ok, Err, refl, subst, arith}
 use Rattle.std.specs.Prelude.{Some, slice_get, if◌then◌else◌, ◌||◌}
 use Rattle.std.proofs.lemmas.Bool.{ltb-false}
+use Rattle.std.proofs.lemmas.Option.{same_Some}
 use Rattle.serde_json.specs.Data.{Data}
 use Rattle.json_shape.specs.Parts.{AreItems}
 use Rattle.json_shape.specs.Shapes.{listed}
@@ -86,16 +87,13 @@ module _ (names : List (List ℕ)) (one : 1 ≤ length names) (most : length nam
   text_over : (p : PredModel) (d : Data) → IsPredText names p d → IsOver p
   text_over p d is = subst (λ (r : Result PredModel TextFault). IfOk r IsOver) (meant_read names is.0 p is.2) (read_fits is.0)
 
-  both_some : {A : Type 0} {x y : A} → Some x ≡ Some y → x ≡ y
-  both_some e = cc
-
   parts_over : (parts : List LeafProof) (ds : List Data) → AreItems (IsLeafProofFile names) parts ds
       → (i : ℕ) (part : LeafProof) → slice_get parts i ≡ Some part → IsOver part.pred
   parts_over [] [] are i part e = cc
   parts_over [] (d ∷ ds) are i part e = absurd are
   parts_over (p ∷ parts) [] are i part e = absurd are
   parts_over (p ∷ parts) (d ∷ ds) are zero part e =
-      subst (λ (q : LeafProof). IsOver q.pred) (both_some e) (text_over p.pred are.0.pred.0 are.0.pred.2)
+      subst (λ (q : LeafProof). IsOver q.pred) (same_Some p part e) (text_over p.pred are.0.pred.0 are.0.pred.2)
   parts_over (p ∷ parts) (d ∷ ds) are (suc i) part e = parts_over parts ds are.1 i part e
 
 pub file_net : (bundle : Bundle) (d : Data) → IsBundleFile bundle d → IsNet bundle.net

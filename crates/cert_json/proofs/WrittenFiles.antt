@@ -26,7 +26,7 @@ use Rattle.cert_json.specs.ProofFile.{IsPredText, IsTerm, IsNode, IsLayerFile, I
 use Rattle.cert_json.specs.Examined.{proof_at}
 use Rattle.cert_json.specs.Written.{integer_data, integers_data, term_data, terms_data, node_data, nodes_data, layer_data, leaf_proof_data, proof_data}
 use Rattle.cert_json.proofs.ProofLaws.{proof_again}
-use Rattle.cert_json.proofs.Short.{text_short}
+use Rattle.pres_read.proofs.PrintedLength.{printed_short}
 
 number_is : (n : ℕ) → n < 2 ^ 32 → IsNumber n (number_data n)
 number_is n small = let fits : n < 2 ^ 63 = omega arith in rw (lt-ltb n (2 ^ 63) fits) refl
@@ -74,7 +74,7 @@ module _ (names : List (List ℕ)) (named : AreNames variable_name names) where
     tree_text names p.tree,
     refl,
     read_meant names (tree_text names p.tree) p
-        (printed_read names p.tree named limits (text_short names p.tree named limits) ∙ ap (λ (n : ℕ). Ok (record { variables = n; tree = p.tree })) (sym over)),
+        (printed_read names p.tree named limits (printed_short names p.tree named limits) ∙ ap (λ (n : ℕ). Ok (record { variables = n; tree = p.tree })) (sym over)),
   )
 
   abbrev Fits : LeafProof → Type 0

@@ -3,9 +3,10 @@ use Rattle.std.proofs.Common.{◌≡◌, ℕ, ◌<◌, Bool, true, not, List, le
 use Rattle.std.specs.Prelude.{Option, Some, None, Contains, slice_get}
 use Rattle.std.specs.List.{list_any}
 use Rattle.std.proofs.lemmas.Option.{slice_get-get_or}
+use Rattle.std.proofs.lemmas.Bool.{not-true}
 use Rattle.pop_net.specs.declared.leaf.Move.{Move}
 use Rattle.pop_net.specs.LeafModel.{LeafModel, silent_move}
-use Rattle.pop_net.proofs.Reactions.{and_left, and_right, not_true}
+use Rattle.pop_net.proofs.Reactions.{and_left, and_right}
 use Rattle.cert_base.specs.declared.layer.Layer.{Layer}
 use Rattle.cert_base.specs.ValidLayers.{IsInLayer}
 use Rattle.cert_base.proofs.ListTests.{list_any-contains}
@@ -31,7 +32,7 @@ module _ (leaf : LeafModel) (layers : List Layer) where
           layer_is = slice_get-get_or layers i no_layer l;
           lists = c;
           move_is = m;
-          non_silent = not_true _ (and_left _ _ h);
+          non_silent = not-true _ (and_left _ _ h);
         },
         and_right (not (silent_move t)) _ h,
       )

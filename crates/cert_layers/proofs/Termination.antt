@@ -28,15 +28,7 @@ use Rattle.cert_layers.specs.Search.{layer_at, no_layer, some_move}
 use Rattle.cert_layers.proofs.LayerMoves.{any_move, any_move-at}
 use Rattle.cert_base.proofs.Spread.{within, total-above, total-below}
 use Rattle.cert_base.proofs.Weights.{total, total_falls}
-
-list_any-true : {X : Type 0} (p : X → Bool) (xs : List X) (k : ℕ) (x : X) → k < length xs → get_or xs k x ≡ x → p x ≡ true → list_any p xs ≡ true
-list_any-true p [] k x l e h = absurd (omega arith)
-list_any-true p (y ∷ xs) zero x l e h = rw (e, h) refl
-list_any-true p (y ∷ xs) (suc k) x l e h = rw (list_any-true p xs k x (omega arith) e h) (or_true (p y))
-  where
-    or_true : (b : Bool) → b || true ≡ true
-    or_true true = refl
-    or_true false = refl
+use Rattle.cert_base.proofs.WeightedSums.{list_any-from}
 
 some_move-true : (test : Move → Bool) (o : Option Move) (t : Move) → o ≡ Some t → silent_move t ≡ false → test t ≡ true → some_move test o ≡ true
 some_move-true test o t e s h = rw e (rw (s, h) refl)
@@ -45,7 +37,7 @@ some_move-true test o t e s h = rw e (rw (s, h) refl)
 any_move-true : (leaf : LeafModel) (layers : List Layer) (i : ℕ) (layer : Layer) (test : Move → Bool) (t : Move) → layer_at layers i ≡ layer → (at : IsInLayer leaf layers i t) → at.layer ≡ layer → test t ≡ true → any_move leaf layers i test ≡ true
 any_move-true leaf layers i layer test t e at same h =
     let lists : Contains (layer_at layers i).moves at.number = rw (e, ← same) at.lists in
-    list_any-true (λ n. some_move test (slice_get leaf.moves n)) (layer_at layers i).moves lists.0 at.number lists.1 lists.2
+    list_any-from (λ n. some_move test (slice_get leaf.moves n)) (layer_at layers i).moves at.number lists
     (some_move-true test (slice_get leaf.moves at.number) t at.move_is at.non_silent h)
 
 -- where a crowd comes to, within k steps, with no enabled move in the layers before layer i

@@ -9,6 +9,8 @@ use Rattle.std.proofs.lemmas.Option.{slice_get_read}
 use Rattle.std.proofs.lemmas.List.Elements.{Contains-append_left, All-push}
 use Rattle.std.proofs.lemmas.List.Sums.{AllPass-from_list_all, list_all-from_AllPass}
 use Rattle.std.proofs.Math.ListN.{length-set}
+use Rattle.std.specs.Cmp.{both_ways}
+use Rattle.std.proofs.lemmas.Bool.{and_from}
 use Rattle.cert_base.specs.declared.fact.Row.{Row}
 use Rattle.cert_base.specs.ClosingTests.{coefficient_in, each_coefficient}
 use Rattle.cert_linear.specs.declared.sum.Entry.{Entry}
@@ -17,12 +19,8 @@ use Rattle.cert_linear.specs.Sums.{blank, entry_at, rest_at, coefficient_of, Are
 use Rattle.pop_net.proofs.Reactions.{and_left, and_right}
 use Rattle.cert_linear.proofs.RowValues.{each_coefficient-at}
 use Rattle.list_laws.proofs.Lists.{take_one_more}
-use Rattle.list_laws.proofs.Numbers.{size-add}
-use Rattle.list_laws.proofs.Truth.{both_ways}
+use Rattle.list_laws.proofs.Numbers.{size-add, Tells}
 use Rattle.cert_linear.specs.declared.sum.TheConstants.{PRODUCT_LIMIT, ENTER_LIMIT, REST_LIMIT, ENTRY_LIMIT}
-
-abbrev Tells : ℕ → ℕ → Type 0
-Tells m n = ((m == n) ≡ true) × (m ≡ n) ⊎ ((m == n) ≡ false) × (m ≢ n)
 
 pub push-at : (entries : List Entry) (q : ℕ) → entry_at (entries ++ blank ∷ []) q ≡ entry_at entries q
 push-at [] zero = refl
@@ -193,16 +191,13 @@ pub none-positive-both : (row : Row) (sum other : Sum) (listed : List ℕ) → A
 none-positive-both row sum other listed are tidy all =
     both_ways _ _
     (λ e. list_all-from_AllPass (λ t. test (coefficient_in row.terms t.at)) row.terms (λ k d l. let at = (slice_index_or row.terms k d).at in ap test (sym (are.terms at)) ∙ passes at (and_left _ _ e) (and_right _ _ e) (entry_at sum.entries.items at).touched refl))
-    (λ e. both_true _ _ (list_all-from_AllPass both sum.touched.items (λ k d l. every e (slice_index_or sum.touched.items k d))) (list_all-from_AllPass both listed (λ k d l. every e (slice_index_or listed k d))))
+    (λ e. and_from _ _ (list_all-from_AllPass both sum.touched.items (λ k d l. every e (slice_index_or sum.touched.items k d))) (list_all-from_AllPass both listed (λ k d l. every e (slice_index_or listed k d))))
   where
     test : ℤ → Bool
     test a = int_le a (pos 0)
 
     both : ℕ → Bool
     both q = test (coefficient_of sum q +ℤ coefficient_of other q)
-
-    both_true : (a b : Bool) → a ≡ true → b ≡ true → (a && b) ≡ true
-    both_true a b e f = rw (e, f) refl
 
     every : each_coefficient test row ≡ true → (q : ℕ) → both q ≡ true
     every e q = ap test (are.terms q) ∙ each_coefficient-at test row q refl e

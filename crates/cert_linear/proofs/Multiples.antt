@@ -15,7 +15,7 @@ use Rattle.cert_base.specs.declared.fact.Fact.{Fact}
 use Rattle.cert_base.specs.declared.fact.Fact.TheVariants.{Ge, Eq, Cong, NotCong, Holds}
 use Rattle.cert_base.specs.Valuation.{Valuation, row_value, MeetsFact}
 use Rattle.cert_base.specs.ClosingTests.{row_of, times, add_rows, scaled, sum_of, coefficient_in, each_coefficient, may_have, all_named, may_add_modulo, is_zero_row, denies, closes_by_residue}
-use Rattle.cert_base.proofs.Integers.{add-mul, mul-mul-pos}
+use Rattle.cert_base.proofs.Integers.{add-mul, mul-mul-pos, divides-zero}
 use Rattle.cert_linear.proofs.RowValues.{row_value-add_rows, row_value-times, total, terms_value-total, each_coefficient-at, end_of}
 use Rattle.list_laws.proofs.Numbers.{size-neg}
 
@@ -68,9 +68,6 @@ multiple-less m y z h k =
 total-multiple : (m : ℕ) (f : ℕ → ℤ) (n : ℕ) → ((j : ℕ) → Multiple m (f j)) → Multiple m (total f n)
 total-multiple m f zero each = multiple-zero m
 total-multiple m f (suc n) each = multiple-add m (f n) (total f n) (each n) (total-multiple m f n each)
-
-pub divides-zero : (m : ℕ) → is_multiple m (pos 0) ≡ true
-divides-zero m = multiple-divides m (pos 0) (multiple-zero m)
 
 -- where all coefficients are multiples, the value of the terms is one
 terms-multiple : (count : Valuation) (m : ℕ) (row : Row) → each_coefficient (is_multiple m) row ≡ true → Multiple m (total (λ j. coefficient_in row.terms j *ℤ pos (count j)) (end_of row.terms))

@@ -5,6 +5,7 @@ use mir.Val.{SFits}
 use mir.Syntax.{w64}
 use Rattle.std.proofs.lemmas.List.Folds.{list_all_more, list_all_at}
 use Rattle.std.proofs.lemmas.Option.{slice_get_read}
+use Rattle.std.proofs.Math.Bool.{and-true}
 use Rattle.cert_base.specs.declared.fact.Term.{Term}
 use Rattle.cert_base.specs.declared.fact.Row.{Row}
 use Rattle.cert_base.specs.declared.fact.Fact.{Fact}
@@ -13,11 +14,7 @@ use Rattle.cert_linear.specs.Sums.{IsPlus}
 use Rattle.cert_linear.specs.declared.sum.Sum.{Sum}
 
 pub and_passed : (r e b : Bool) → r ≡ e → b ≡ true → r ≡ (e && b)
-and_passed r e b same passes = same ∙ sym (rw passes (and_true e))
-  where
-    and_true : (e : Bool) → e && true ≡ e
-    and_true true = refl
-    and_true false = refl
+and_passed r e b same passes = same ∙ sym (rw passes (and-true e))
 
 -- a named fact and its multiplier
 pub named_at : (facts : List Fact) (t : Term) (fact : Fact) → t.at < length facts → fact ≡ get_or facts t.at fact → slice_get facts t.at ≡ Some fact

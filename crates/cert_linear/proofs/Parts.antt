@@ -18,7 +18,7 @@ use Rattle.cert_linear.specs.declared.sum.Sum.{Sum}
 use Rattle.cert_linear.specs.declared.tally.Tally.{Tally}
 use Rattle.cert_linear.specs.Sums.{IsSum, AreSum, SumsUp}
 use Rattle.cert_linear.specs.Kept.{IsKept, Keeps}
-use Rattle.list_laws.proofs.Lists.{take_one_more}
+use Rattle.list_laws.proofs.Lists.{take_one_more, at_front}
 use Rattle.cert_base.proofs.WeightedSums.{coefficient-append}
 
 terms-parts : (facts : List Fact) (ts us : List Term) (q : ℕ) → coefficient_in (sum_of facts (ts ++ us)).terms q ≡ (coefficient_in (sum_of facts ts).terms q +ℤ coefficient_in (sum_of facts us).terms q)
@@ -111,11 +111,6 @@ same_term a b = (both, equal)
 
 -- ---- facts that come and go
 
-get-append : (facts more : List Fact) (n : ℕ) → n < length facts → slice_get (facts ++ more) n ≡ slice_get facts n
-get-append [] more n l = absurd (omega (arith, l))
-get-append (f ∷ facts) more zero l = refl
-get-append (f ∷ facts) more (suc n) l = get-append facts more n (omega (arith, l))
-
 get-take : (facts : List Fact) (k n : ℕ) → n < k → slice_get (take k facts) n ≡ slice_get facts n
 get-take facts zero n l = absurd (omega (arith, l))
 get-take [] (suc k) n l = refl
@@ -128,7 +123,7 @@ kept_append stable facts more other tally e room l is =
     let len : length other ≡ length facts + length more = ap length e ∙ length-append facts more in (
       omega (arith, len, room),
       omega (arith, len, l),
-      kept-same stable facts other tally (λ n m. ap (λ fs. slice_get fs n) e ∙ get-append facts more n (omega (arith, m, l))) is,
+      kept-same stable facts other tally (λ n m. ap (λ fs. slice_get fs n) e ∙ at_front facts more n (omega (arith, m, l))) is,
     )
 
 pub kept_equal : (stable : ℕ) (facts other : List Fact) (tally : Tally) → other ≡ facts → length facts ≤ FACT_LIMIT → stable ≤ length facts → IsKept stable facts tally → (length other ≤ FACT_LIMIT) × (stable ≤ length other) × IsKept stable other tally

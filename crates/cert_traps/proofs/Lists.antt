@@ -2,9 +2,10 @@
 use Rattle.std.proofs.Common.{◌≡◌, ℕ, suc, ◌+◌, ◌<◌, ◌≤◌, min, Bool, true, false, cond, List, [], ◌∷◌, ◌++◌, length, map, take, get_or, append_assoc, refl, ap, sym, ◌∙◌, zero-add, arith}
 use Rattle.std.specs.Prelude.{ℤ, pos, Some, None, slice_get, filter, if◌then◌else◌, not, ◌&&◌, ◌==◌}
 use Rattle.std.specs.List.{range_with_len}
-use Rattle.std.proofs.lemmas.List.{take_all, length-map, length-take, map-append}
+use Rattle.std.proofs.lemmas.List.{take_all, length-map, length-take, map-append, map_push}
 use Rattle.std.proofs.lemmas.Option.{slice_get_within, get_or_from_slice_get, slice_get_read}
 use Rattle.std.proofs.lemmas.List.FromFn.{get_or-map-range_with_len, length-range_with_len}
+use Rattle.std.proofs.lemmas.Simd.{map-map}
 use Rattle.cert_base.specs.declared.fact.Fact.{Fact}
 use Rattle.cert_base.specs.declared.fact.Fact.TheVariants.{Eq}
 use Rattle.cert_base.specs.Rows.{single_row, move_variable, state_variable}
@@ -14,18 +15,14 @@ use Rattle.cert_traps.specs.Partners.{ArePartners}
 use Rattle.pop_net.specs.declared.limits.TheConstants.{STATE_LIMIT}
 use Rattle.pop_net.specs.declared.leaf.Move.{Move}
 use Rattle.pop_net.specs.LeafModel.{LeafModel}
-use Rattle.list_laws.proofs.Lists.{take_one_more, map-one}
+use Rattle.list_laws.proofs.Lists.{take_one_more}
 use Rattle.list_laws.proofs.Ranges.{range_next}
 use Rattle.cert_base.proofs.Indicators.{places_from-one}
 
 -- one more item of a list that is mapped
 pub map-take_more : {A B : Type 0} (f : A → B) (xs : List A) (k : ℕ) (x : A) (before after : List B) → slice_get xs k ≡ Some x → before ≡ map f (take k xs) → after ≡ before ++ f x ∷ [] → after ≡ map f (take (k + 1) xs)
 map-take_more f xs k x before after h b e =
-    e ∙ ap (λ ys. ys ++ f x ∷ []) b ∙ sym (ap (map f) (take_one_more xs k x h) ∙ map-one f (take k xs) x)
-
-pub map-map_list : {A B C : Type 0} (f : B → C) (g : A → B) (xs : List A) → map f (map g xs) ≡ map (λ x. f (g x)) xs
-map-map_list f g [] = refl
-map-map_list f g (x ∷ xs) = ap (λ ys. f (g x) ∷ ys) (map-map_list f g xs)
+    e ∙ ap (λ ys. ys ++ f x ∷ []) b ∙ sym (ap (map f) (take_one_more xs k x h) ∙ map_push f (take k xs) x)
 
 -- ---- places
 
@@ -67,7 +64,7 @@ zeros_all first t flags start facts l e =
 -- ---- flags
 
 pub flags_coefs : {A : Type 0} (test : A → Bool) (xs : List A) (flags : List Bool) (coefs : List ℤ) → flags ≡ map test xs → coefs ≡ map indicator flags → coefs ≡ map (λ x. indicator (test x)) xs
-flags_coefs test xs flags coefs e f = f ∙ ap (map indicator) e ∙ map-map_list indicator test xs
+flags_coefs test xs flags coefs e f = f ∙ ap (map indicator) e ∙ map-map indicator test xs
 
 pub length-coefs : {A : Type 0} (test : A → Bool) (xs : List A) (flags : List Bool) (coefs : List ℤ) → flags ≡ map test xs → coefs ≡ map indicator flags → length coefs ≡ length xs
 length-coefs test xs flags coefs e f =
@@ -100,7 +97,7 @@ partners_more leaf p q flag before after b is e =
     e
     ∙ ap (λ flags. flags ++ flag ∷ []) b
     ∙ ap (λ f. map (can_meet_in leaf p) (range_with_len 0 q) ++ f ∷ []) is
-    ∙ sym (ap (map (can_meet_in leaf p)) (range-one 0 q ∙ ap (λ z. range_with_len 0 q ++ z ∷ []) (zero-add q)) ∙ map-one (can_meet_in leaf p) (range_with_len 0 q) q)
+    ∙ sym (ap (map (can_meet_in leaf p)) (range-one 0 q ∙ ap (λ z. range_with_len 0 q ++ z ∷ []) (zero-add q)) ∙ map_push (can_meet_in leaf p) (range_with_len 0 q) q)
 
 -- what the whole table says
 pub partners_all : (leaf : LeafModel) (p q : ℕ) (table : List Bool) → q ≡ length leaf.states → table ≡ map (can_meet_in leaf p) (range_with_len 0 q) → ArePartners leaf p table

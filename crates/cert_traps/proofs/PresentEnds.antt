@@ -4,7 +4,7 @@ use Rattle.std.specs.Prelude.{Some, pos, negsuc, ◌+ℤ◌, ◌≤ℤ◌, ◌*�
 use Rattle.std.specs.List.{range_with_len}
 use Rattle.std.proofs.Math.IntN.{pos-*ℤ-pos, *ℤ-zero}
 use Rattle.std.proofs.lemmas.Int.{ints}
-use Rattle.std.proofs.lemmas.Bool.{eq-eqb, cases_lt}
+use Rattle.std.proofs.lemmas.Bool.{eq-eqb, cases_lt, not-true}
 use Rattle.std.proofs.lemmas.Bool.Decides.{eqb_tells}
 use Rattle.std.proofs.lemmas.List.Elements.{All-nil, All-cons, All-map, All-append, All-head, All-tail}
 use Rattle.pop_net.specs.declared.leaf.Move.{Move}
@@ -12,17 +12,17 @@ use Rattle.pop_net.specs.LeafModel.{LeafModel, one_at, pre, silent_move}
 use Rattle.pop_net.specs.Step.{LeafStep}
 use Rattle.pop_net.specs.Terminal.{IsTerminal}
 use Rattle.pop_net.specs.Reaction.{takes_states}
-use Rattle.pop_net.proofs.Reactions.{and_left, and_right, not_true}
+use Rattle.pop_net.proofs.Reactions.{and_left, and_right}
 use Rattle.cert_base.specs.Rows.{state_variable}
 use Rattle.cert_base.specs.Valuation.{Valuation, MeetsFact}
 use Rattle.cert_base.specs.FactsAndCases.{states_of, can_meet_in, absent_fact, occurs_fact, alone_fact, not_twice, cases_of_present}
 use Rattle.cert_base.proofs.Agents.{agents_of, enabled_test-true, move_step}
 use Rattle.cert_base.proofs.Dead.{IsEnabledIn}
-use Rattle.cert_base.proofs.Numbers.{number_in, slice_get-set_other}
+use Rattle.cert_base.proofs.Numbers.{number_in}
 use Rattle.cert_base.proofs.Openings.{in_first, in_rest}
 use Rattle.cert_base.specs.Ends.{MeetsOne}
 use Rattle.cert_base.proofs.ListTests.{list_any-contains}
-use Rattle.list_laws.proofs.Lists.{slice_get-set_same}
+use Rattle.list_laws.proofs.Lists.{slice_get-set_same, slice_get-set_other, all_filtered}
 use Rattle.std.proofs.lemmas.Option.{same_Some}
 use Rattle.pop_net.proofs.Silent.{stays-silent, same_pair_cases}
 
@@ -51,7 +51,7 @@ cannot_meet leaf crowd p q terminal e there =
     let found = list_any-contains (takes_states p q) leaf.moves e in
     let t = found.0 in
     let pair = same_pair_cases p q t.p t.q (and_right (not (silent_move t)) _ found.2) in
-    terminal_dead leaf crowd terminal found.1.0 t (listed leaf.moves found.1.0 t found.1.1 found.1.2) (not_true _ (and_left _ _ found.2)) (λ z. rw (pre_pair t p q z pair) (there z))
+    terminal_dead leaf crowd terminal found.1.0 t (listed leaf.moves found.1.0 t found.1.1 found.1.2) (not-true _ (and_left _ _ found.2)) (λ z. rw (pre_pair t p q z pair) (there z))
   where
     listed : (moves : List Move) (k : ℕ) (t : Move) → k < length moves → get_or moves k t ≡ t → slice_get moves k ≡ Some t
     listed [] k t l e = absurd (omega arith)
@@ -80,16 +80,6 @@ minus_one_times (suc (suc n)) l = absurd (omega arith)
 not_twice_met : (leaf : LeafModel) (count : Valuation) (q : ℕ) → count (state_variable leaf q) ≤ 1 → MeetsFact count (not_twice leaf q)
 not_twice_met leaf count q l =
     let one = minus_one_times (count (state_variable leaf q)) l in omega (arith, ints, one)
-
--- what holds of the items that pass a test
-all_filtered : (P Q : ℕ → Type 0) (test : ℕ → Bool) (xs : List ℕ) → ((x : ℕ) → Q x → test x ≡ true → P x) → All Q xs → All P (filter test xs)
-all_filtered P Q test [] f all = All-nil P
-all_filtered P Q test (x ∷ xs) f all =
-    go (test x) refl (all_filtered P Q test xs f (All-tail Q x xs all))
-  where
-    go : (b : Bool) → test x ≡ b → All P (filter test xs) → All P (cond b (x ∷ filter test xs) (filter test xs))
-    go true e more = All-cons P x (filter test xs) (f x (All-head Q x xs all) e) more
-    go false e more = more
 
 in_range : (a n : ℕ) → All (λ q. q < a + n) (range_with_len a n)
 in_range a zero = All-nil (λ (q : ℕ). q < a + 0)
@@ -139,12 +129,12 @@ module _ (leaf : LeafModel) (count : Valuation) (end : List ℕ) (counts : Count
           absurd (cannot_meet leaf end p q terminal (and_right (not (q == p)) _ e) (two_kinds end p q (apart (and_left _ _ e)) some (let m : 1 ≤ number_in q end = omega (arith, l) in m)))
         where
           apart : not (q == p) ≡ true → p ≢ q
-          apart h same = let f : true ≡ false = sym (eq-eqb q p (sym same)) ∙ not_true _ h in cc
+          apart h same = let f : true ≡ false = sym (eq-eqb q p (sym same)) ∙ not-true _ h in cc
 
   others_met : 1 ≤ number_in p end → All (MeetsFact count) (map (absent_fact leaf) (filter meets (states_of leaf)))
   others_met some =
       All-map (MeetsFact count) (absent_fact leaf) (filter meets (states_of leaf))
-      (all_filtered (λ q. MeetsFact count (absent_fact leaf q)) (λ q. q < 0 + length leaf.states) meets (states_of leaf) (λ q l e. other_absent some q (omega (arith, l)) e) (in_range 0 (length leaf.states)))
+      (all_filtered meets (λ q. MeetsFact count (absent_fact leaf q)) (states_of leaf) (λ k d l. other_absent some (get_or (states_of leaf) k d) (let low = in_range 0 (length leaf.states) k d l in omega (arith, low))))
 
   alone_if : 1 ≤ number_in p end → (b : Bool) → can_meet_in leaf p p ≡ b → All (MeetsFact count) (if b then (alone_fact leaf p ∷ []) else [])
   alone_if some true e =

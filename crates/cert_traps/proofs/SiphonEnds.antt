@@ -2,7 +2,7 @@
 use Rattle.std.proofs.Common.{◌≡◌, ◌≢◌, ◌⊎◌, inl, inr, ℕ, suc, ◌+◌, ◌<◌, ◌≤◌, Bool, true, false, not, ◌&&◌, List, [], ◌∷◌, ◌++◌, length, map, replicate, refl, ap, sym, subst, ◌∙◌, zero-add, arith}
 use Rattle.std.specs.Prelude.{Some, pos, negsuc, ◌==◌, slice_get, slice_set, slice_index, All, count_by, ◌-ℤ◌}
 use Rattle.std.proofs.lemmas.Int.{ints}
-use Rattle.std.proofs.lemmas.Bool.{cases_lt}
+use Rattle.std.proofs.lemmas.Bool.{cases_lt, or_from, or_parts}
 use Rattle.std.proofs.lemmas.Bool.Decides.{eqb_tells}
 use Rattle.std.proofs.lemmas.List.Elements.{All-nil, All-cons, All-append, All-replicate, All-set}
 use Rattle.std.proofs.lemmas.List.FromFn.{length-range_with_len}
@@ -27,7 +27,7 @@ use Rattle.cert_base.proofs.Indicators.{sum_if, dot-indicators, row_value-behind
 use Rattle.cert_base.proofs.WrongEnds.{range_get}
 use Rattle.cert_base.proofs.Openings.{in_first, in_rest}
 use Rattle.cert_traps.proofs.TakenMoves.{sum_zero, taken_fails, others_untaken, untaken_met}
-use Rattle.cert_traps.proofs.TrapEnds.{or_false, or_left_false, or_right_false, takes_none, bit}
+use Rattle.cert_traps.proofs.TrapEnds.{takes_none, bit}
 
 -- no agent is in a state of the set
 abbrev NoneInside : List ℕ → List ℕ → Type 0
@@ -38,12 +38,12 @@ abbrev pub enters_set : List ℕ → Move → Bool
 enters_set set t = puts_into set t && not (takes_from set t)
 
 takes_by : (set : List ℕ) (t : Move) (x y x' y' : ℕ) → Follows t x y x' y' ⊎ Follows t y x y' x' → is_in set x ≡ false → is_in set y ≡ false → takes_from set t ≡ false
-takes_by set t x y x' y' (inl f) e g = or_false _ _ (ap (is_in set) (sym f.0) ∙ e) (ap (is_in set) (sym f.1) ∙ g)
-takes_by set t x y x' y' (inr f) e g = or_false _ _ (ap (is_in set) (sym f.0) ∙ g) (ap (is_in set) (sym f.1) ∙ e)
+takes_by set t x y x' y' (inl f) e g = or_from _ _ (ap (is_in set) (sym f.0) ∙ e) (ap (is_in set) (sym f.1) ∙ g)
+takes_by set t x y x' y' (inr f) e g = or_from _ _ (ap (is_in set) (sym f.0) ∙ g) (ap (is_in set) (sym f.1) ∙ e)
 
 both_outside : (set : List ℕ) (t : Move) (x y x' y' : ℕ) → Follows t x y x' y' ⊎ Follows t y x y' x' → puts_into set t ≡ false → (is_in set x' ≡ false) × (is_in set y' ≡ false)
-both_outside set t x y x' y' (inl f) e = (ap (is_in set) f.2 ∙ or_left_false _ _ e, ap (is_in set) f.3 ∙ or_right_false (is_in set t.r) _ e)
-both_outside set t x y x' y' (inr f) e = (ap (is_in set) f.3 ∙ or_right_false (is_in set t.r) _ e, ap (is_in set) f.2 ∙ or_left_false _ _ e)
+both_outside set t x y x' y' (inl f) e = (ap (is_in set) f.2 ∙ (or_parts _ _ e).0, ap (is_in set) f.3 ∙ (or_parts (is_in set t.r) _ e).1)
+both_outside set t x y x' y' (inr f) e = (ap (is_in set) f.3 ∙ (or_parts (is_in set t.r) _ e).1, ap (is_in set) f.2 ∙ (or_parts _ _ e).0)
 
 module _ (leaf : LeafModel) (set : List ℕ) (before after : List ℕ) (s : LeafStep leaf before after) (none : NoneInside set before) where
   x_outside : is_in set s.x ≡ false

@@ -3,11 +3,11 @@ use Rattle.std.proofs.Common.{◌≡◌, ◌≢◌, ◌⊎◌, inl, inr, ℕ, ze
 use Rattle.std.specs.Prelude.{Some, pos, negsuc, ◌==◌, slice_get, slice_set, slice_index, All, count_by, if◌then◌else◌}
 use Rattle.std.specs.List.{range_with_len}
 use Rattle.std.proofs.lemmas.Int.{ints}
-use Rattle.std.proofs.lemmas.Bool.{eq-eqb, cases_lt}
+use Rattle.std.proofs.lemmas.Bool.{eq-eqb, cases_lt, or_from, or_parts}
 use Rattle.std.proofs.lemmas.Bool.Decides.{eqb_tells}
 use Rattle.std.proofs.lemmas.List.Elements.{All-nil, All-cons, All-map, All-append}
 use Rattle.std.proofs.lemmas.List.Sums.{sum_by-cons}
-use Rattle.std.proofs.lemmas.Option.{slice_get_within, get_or_from_slice_get}
+use Rattle.std.proofs.lemmas.Option.{slice_get_within, get_or_from_slice_get, same_Some}
 use Rattle.pop_net.specs.declared.leaf.Move.{Move}
 use Rattle.pop_net.specs.LeafModel.{LeafModel, one_at}
 use Rattle.pop_net.specs.InputCrowd.{starts_from, leaf_input_crowd}
@@ -23,10 +23,9 @@ use Rattle.cert_base.proofs.Agents.{InRange}
 use Rattle.cert_base.proofs.Dead.{one_there}
 use Rattle.cert_base.proofs.Indicators.{sum_if, row_value-behind, sum_if-none, all_places}
 use Rattle.cert_base.specs.Ends.{MeetsOne}
-use Rattle.cert_base.proofs.Numbers.{slice_get-set_other}
 use Rattle.cert_base.proofs.Openings.{in_first, in_rest}
 use Rattle.cert_traps.proofs.TakenMoves.{sum_zero, taken_fails, others_untaken, single_none, untaken_met}
-use Rattle.list_laws.proofs.Lists.{slice_get-set_same}
+use Rattle.list_laws.proofs.Lists.{slice_get-set_same, slice_get-set_other, at_front, at_end}
 
 -- no agent is in a state of the set
 abbrev pub NoneIn : List ℕ → List ℕ → Type 0
@@ -36,29 +35,18 @@ NoneIn set crowd = (a x : ℕ) → slice_get crowd a ≡ Some x → is_in set x 
 abbrev pub leaves_set : List ℕ → Move → Bool
 leaves_set set t = takes_from set t && not (puts_into set t)
 
-pub or_false : (a b : Bool) → a ≡ false → b ≡ false → a || b ≡ false
-or_false a b e f = rw (e, f) refl
-
-pub or_left_false : (a b : Bool) → a || b ≡ false → a ≡ false
-or_left_false true b e = e
-or_left_false false b e = refl
-
-pub or_right_false : (a b : Bool) → a || b ≡ false → b ≡ false
-or_right_false true b e = cc
-or_right_false false b e = e
-
 pub takes_none : (a b : Bool) → a && not b ≡ false → b ≡ false → a ≡ false
 takes_none true b e f = let g : not b ≡ true = rw f refl in let h : true ≡ false = sym g ∙ e in cc
 takes_none false b e f = refl
 
 -- the states of a move, and those of the two agents that take it
 both_after : (set : List ℕ) (t : Move) (x y x' y' : ℕ) → Follows t x y x' y' ⊎ Follows t y x y' x' → is_in set x' ≡ false → is_in set y' ≡ false → puts_into set t ≡ false
-both_after set t x y x' y' (inl f) e g = or_false _ _ (ap (is_in set) (sym f.2) ∙ e) (ap (is_in set) (sym f.3) ∙ g)
-both_after set t x y x' y' (inr f) e g = or_false _ _ (ap (is_in set) (sym f.2) ∙ g) (ap (is_in set) (sym f.3) ∙ e)
+both_after set t x y x' y' (inl f) e g = or_from _ _ (ap (is_in set) (sym f.2) ∙ e) (ap (is_in set) (sym f.3) ∙ g)
+both_after set t x y x' y' (inr f) e g = or_from _ _ (ap (is_in set) (sym f.2) ∙ g) (ap (is_in set) (sym f.3) ∙ e)
 
 pub both_before : (set : List ℕ) (t : Move) (x y x' y' : ℕ) → Follows t x y x' y' ⊎ Follows t y x y' x' → takes_from set t ≡ false → (is_in set x ≡ false) × (is_in set y ≡ false)
-both_before set t x y x' y' (inl f) e = (ap (is_in set) f.0 ∙ or_left_false _ _ e, ap (is_in set) f.1 ∙ or_right_false (is_in set t.p) _ e)
-both_before set t x y x' y' (inr f) e = (ap (is_in set) f.1 ∙ or_right_false (is_in set t.p) _ e, ap (is_in set) f.0 ∙ or_left_false _ _ e)
+both_before set t x y x' y' (inl f) e = (ap (is_in set) f.0 ∙ (or_parts _ _ e).0, ap (is_in set) f.1 ∙ (or_parts (is_in set t.p) _ e).1)
+both_before set t x y x' y' (inr f) e = (ap (is_in set) f.1 ∙ (or_parts (is_in set t.p) _ e).1, ap (is_in set) f.0 ∙ (or_parts _ _ e).0)
 
 module _ (leaf : LeafModel) (set : List ℕ) (before after : List ℕ) (s : LeafStep leaf before after) (none : NoneIn set after) where
   after_a : slice_get after s.a ≡ Some s.x'
@@ -80,12 +68,9 @@ module _ (leaf : LeafModel) (set : List ℕ) (before after : List ℕ) (s : Leaf
   nobody : is_in set s.x ≡ false → is_in set s.y ≡ false → NoneIn set before
   nobody e f c z h = at (eqb_tells c s.a) (eqb_tells c s.b)
     where
-      same : (u v : ℕ) → Some u ≡ Some v → u ≡ v
-      same u v k = cc
-
       at : ((c == s.a) ≡ true) × (c ≡ s.a) ⊎ ((c == s.a) ≡ false) × (c ≢ s.a) → ((c == s.b) ≡ true) × (c ≡ s.b) ⊎ ((c == s.b) ≡ false) × (c ≢ s.b) → is_in set z ≡ false
-      at (inl k) m = ap (is_in set) (same z s.x (sym h ∙ ap (slice_get before) k.1 ∙ s.a_had)) ∙ e
-      at (inr k) (inl m) = ap (is_in set) (same z s.y (sym h ∙ ap (slice_get before) m.1 ∙ s.b_had)) ∙ f
+      at (inl k) m = ap (is_in set) (same_Some z s.x (sym h ∙ ap (slice_get before) k.1 ∙ s.a_had)) ∙ e
+      at (inr k) (inl m) = ap (is_in set) (same_Some z s.y (sym h ∙ ap (slice_get before) m.1 ∙ s.b_had)) ∙ f
       at (inr k) (inr m) = none c z (after_other c z k.1 m.1 h)
 
   -- what was never in the set after a step wasn't in it before, unless the step left the set; and the step put nothing into it
@@ -108,16 +93,6 @@ way_back leaf set start (next ∷ path) end way none leaves =
     let first = step_back leaf set start next way.0 later.0 way.0.change (λ n t h e. (sum_zero (is_by n way.0.change) (times_taken leaf n next path end way.1) (leaves n t h e)).0) in
     (first.0, λ n t h e. (let a = first.1 n t h e in let b = later.1 n t h e in let f : is_by n way.0.change + times_taken leaf n next path end way.1 ≡ 0 = omega (arith, a, b) in f))
 
-get-append_left : {A : Type 0} (xs ys : List A) (a : ℕ) (x : A) → slice_get xs a ≡ Some x → slice_get (xs ++ ys) a ≡ Some x
-get-append_left [] ys a x h = cc
-get-append_left (y ∷ xs) ys zero x h = h
-get-append_left (y ∷ xs) ys (suc a) x h = get-append_left xs ys a x h
-
-get-append_right : {A : Type 0} (xs ys : List A) (a : ℕ) → slice_get (xs ++ ys) (length xs + a) ≡ slice_get ys a
-get-append_right [] ys a = ap (slice_get ys) (zero-add a)
-get-append_right (x ∷ xs) ys a =
-    ap (slice_get (x ∷ (xs ++ ys))) (let e : suc (length xs) + a ≡ suc (length xs + a) = omega arith in e) ∙ get-append_right xs ys a
-
 -- an input that is there starts an agent
 abbrev Starts : (ℕ → ℕ) → ℕ → List ℕ → ℕ → Type 0
 Starts start k counts i = (a : ℕ) × (slice_get (starts_from start k counts) a ≡ Some (start (k + i)))
@@ -130,7 +105,7 @@ start_has start k (suc n ∷ counts) zero l =
 start_has start k (n ∷ counts) (suc i) l =
     let m = start_has start (k + 1) counts i l in (
       length (replicate n (start k)) + m.0,
-      get-append_right (replicate n (start k)) (starts_from start (k + 1) counts) m.0 ∙ m.1 ∙ ap (λ j. Some (start j)) (let e : k + 1 + i ≡ k + suc i = omega arith in e),
+      at_end (replicate n (start k)) (starts_from start (k + 1) counts) (length (replicate n (start k))) m.0 refl ∙ m.1 ∙ ap (λ j. Some (start j)) (let e : k + 1 + i ≡ k + suc i = omega arith in e),
     )
 
 -- an agent of an input that is there
@@ -138,7 +113,7 @@ start_state : (leaf : LeafModel) (counts : List ℕ) (j : ℕ) → 1 ≤ slice_i
 start_state leaf counts j l =
     let start = λ (variable : ℕ). slice_index leaf.inputs variable in
     let s = start_has start 0 counts j l in
-    (s.0, get-append_left (starts_from start 0 counts) leaf.helpers s.0 (slice_index leaf.inputs (0 + j)) s.1)
+    (s.0, at_front (starts_from start 0 counts) leaf.helpers s.0 (slice_get_within (starts_from start 0 counts) s.0 (slice_index leaf.inputs (0 + j)) s.1) ∙ s.1)
 
 -- 1 when a test passes, and 0 otherwise
 abbrev pub bit : Bool → ℕ
@@ -160,7 +135,7 @@ count_by-none test (x ∷ xs) f =
 helps-none : (leaf : LeafModel) (set counts : List ℕ) → NoneIn set (leaf_input_crowd leaf counts) → helpers_among leaf set ≡ 0
 helps-none leaf set counts none =
     let starts = starts_from (λ variable. slice_index leaf.inputs variable) 0 counts in
-    count_by-none (is_in set) leaf.helpers (λ a x h. none (length starts + a) x (get-append_right starts leaf.helpers a ∙ h))
+    count_by-none (is_in set) leaf.helpers (λ a x h. none (length starts + a) x (at_end starts leaf.helpers (length starts) a refl ∙ h))
 
 pub range_get : (a n j : ℕ) → j < n → slice_get (range_with_len a n) j ≡ Some (a + j)
 range_get a zero j l = absurd (omega arith)

@@ -3,9 +3,9 @@ use Rattle.std.proofs.Common.{◌≡◌, ℕ, ◌+◌, ◌-◌, ◌≤◌, List,
 use Rattle.std.specs.Prelude.{nat_le}
 use Rattle.std.specs.List.{list_all}
 use Rattle.std.proofs.lemmas.Bool.{leb-true, le-leb}
+use Rattle.std.specs.Cmp.{both_ways}
 use Rattle.cert_base.specs.declared.fact.Fact.{Fact}
 use Rattle.cert_tree.specs.Refusals.{all_fit}
-use Rattle.list_laws.proofs.Truth.{both_ways}
 
 same_room : (n k : ℕ) → n ≤ 65536 → nat_le k (65536 - n) ≡ nat_le (n + k) 65536
 same_room n k l =

@@ -100,12 +100,6 @@ cover_on leaf a b c f g count end meets = g count end (f count end meets)
 
 -- ---- the nodes that are left
 
-pub drop_all : (nodes : List Node) (n : ℕ) → length nodes ≤ n → drop n nodes ≡ []
-drop_all [] zero l = refl
-drop_all [] (suc n) l = refl
-drop_all (node ∷ nodes) zero l = absurd (omega arith)
-drop_all (node ∷ nodes) (suc n) l = drop_all nodes n (omega arith)
-
 pub item_at : (nodes items : List Node) (n : ℕ) (node : Node) → items ≡ nodes → n < length items → node ≡ get_or items n node → drop n nodes ≡ node ∷ drop (n + 1) nodes
 item_at nodes items n node same l is =
     let l' : n < length nodes = rw (← same) l in

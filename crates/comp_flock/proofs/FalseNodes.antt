@@ -10,6 +10,7 @@ use Rattle.std.proofs.lemmas.Bool.Decides.{eqb_tells}
 use Rattle.std.proofs.lemmas.List.{length-map, length-append, get_or-map, get_or_past, length-replicate}
 use Rattle.std.proofs.lemmas.List.Elements.{All-get_or}
 use Rattle.std.proofs.lemmas.List.FromFn.{length-range_with_len, length-map-range_with_len}
+use Rattle.std.proofs.Math.Bool.{and-false}
 use Rattle.pop_net.specs.declared.leaf.Move.{Move}
 use Rattle.pop_net.specs.LeafModel.{LeafModel, IsLeaf}
 use Rattle.pres_ast.specs.PredModel.{PredModel}
@@ -20,7 +21,7 @@ use Rattle.cert_base.specs.ClosingTests.{closes_by_sum, may_add}
 use Rattle.cert_base.specs.FactsAndCases.{indicator, states_of, is_in, takes_from, puts_into, places_from, some_taken_fact, no_moves, count_row}
 use Rattle.cert_base.specs.WeightedSums.{sum_of_facts, coefficient, constant_of, may_weigh}
 use Rattle.cert_base.proofs.WeightedSums.{weighted_sum-append, weighted_sum-zeros, may_weigh-append, may_weigh-zeros}
-use Rattle.cert_base.proofs.FlowSums.{coefficient-dense, times-one, mul-neg}
+use Rattle.cert_base.proofs.FlowSums.{coefficient-dense, times-one, mul-neg, one-times}
 use Rattle.comp_trees.proofs.LeaderEnds.{is_wrong}
 use Rattle.comp_trees.proofs.TrapNodes.{range-constant, states-state, states-input, states-past, places-all}
 use Rattle.comp_flock_leaf.specs.FlockLeaf.{is_flock_coefficient, flock_bound, size_in, flock_start, doubling_move, conversion_move, flock_moves, flock_leaf_of}
@@ -144,15 +145,11 @@ module _ (coefs : List ℤ) (k : ℕ) (some : 1 ≤ k) (are : list_all is_flock_
 
       converting : (q : ℕ) → q ≤ k → Loses (conversion_move k q)
       converting q l =
-          let none : joins k (conversion_move k q) ≡ false = ap (λ (c : Bool). puts_into (full k) (conversion_move k q) && not c) (conversion-takes k q) ∙ and_no (puts_into (full k) (conversion_move k q)) in
+          let none : joins k (conversion_move k q) ≡ false = ap (λ (c : Bool). puts_into (full k) (conversion_move k q) && not c) (conversion-takes k q) ∙ and-false (puts_into (full k) (conversion_move k q)) in
           let a = size-full k in
           let b = size-positive k q in
           let counts = ap (λ j. full_size *ℤ indicator j) none ∙ *ℤ-zero full_size in
           omega (arith, ints, a, b, counts)
-        where
-          and_no : (c : Bool) → (c && false) ≡ false
-          and_no true = refl
-          and_no false = refl
 
   first_low : IsLow leaf pred false coefs (neg_ℤ (flock_bound k)) first_facts below (pos 0) (pos 1) (full_size ∷ [])
   first_low = record {
@@ -161,7 +158,7 @@ module _ (coefs : List ℤ) (k : ℕ) (some : 1 ≤ k) (are : list_all is_flock_
         let low = start-low a in
         let first = ap below (start-at i l) ∙ size-other k (flock_start a) (λ e. omega arith) ∙ start-size a (coefficient-at coefs i are (omega (arith, length-map coefs flock_start))) in
         let none = first_none i (taken-before leaf (joins k) i (omega arith)) in
-        let one = one_times a in
+        let one = one-times a in
         omega (arith, ints, first, none, one));
     at_states = λ z l. (
         let none = first_none (n + z) (taken-before leaf (joins k) (n + z) (omega arith)) in
@@ -175,13 +172,10 @@ module _ (coefs : List ℤ) (k : ℕ) (some : 1 ≤ k) (are : list_all is_flock_
         omega (arith, ints, sum, here, low));
     at_past = λ j. (let none = first_none (n + length leaf.states + (length leaf.moves + j)) (taken-past leaf (joins k) j) in omega (arith, ints, none));
     at_end = (
-        let one = one_times (neg_ℤ (flock_bound k)) in
+        let one = one-times (neg_ℤ (flock_bound k)) in
         let sum : sum_of_facts constant_of first_facts (full_size ∷ []) ≡ neg_ℤ full_size = first_sum constant_of ∙ mul-neg full_size (pos 1) ∙ ap neg_ℤ (times-one full_size) in
         omega (arith, ints, one, sum));
   }
-    where
-      one_times : (a : ℤ) → (pos 1 *ℤ a) ≡ a
-      one_times a = omega (arith, ints)
 
   first_may : may_weigh may_add first_facts (full_size ∷ []) ≡ true
   first_may = ap (λ (c : Bool). (int_eq full_size (pos 0) || c) && true) (zero_le (2 ^ k)) ∙ or_yes (int_eq full_size (pos 0))

@@ -11,6 +11,7 @@ use Rattle.std.proofs.lemmas.List.{length-map, append-nil, get_or-map}
 use Rattle.std.proofs.lemmas.List.Elements.{All-get_or}
 use Rattle.std.proofs.lemmas.List.FromFn.{get_or-map-range_with_len}
 use Rattle.std.proofs.lemmas.List.Sums.{AllPass-from_list_all}
+use Rattle.std.proofs.Math.Bool.{or-true}
 use Rattle.pop_net.specs.LeafModel.{LeafModel, IsLeaf}
 use Rattle.pres_ast.specs.PredModel.{PredModel}
 use Rattle.cert_base.specs.declared.fact.Fact.{Fact}
@@ -19,7 +20,7 @@ use Rattle.cert_base.specs.ClosingTests.{closes_by_sum, may_add}
 use Rattle.cert_base.specs.FactsAndCases.{indicator, states_of, absent_fact, occurs_fact, not_twice}
 use Rattle.cert_base.specs.WeightedSums.{sum_of_facts, coefficient, constant_of, may_weigh, total}
 use Rattle.cert_base.proofs.WeightedSums.{weighted_sum-append, may_weigh-append, none_weighted}
-use Rattle.cert_base.proofs.FlowSums.{weighted_sum-map, total-same, total-none, total-neg, mul-neg}
+use Rattle.cert_base.proofs.FlowSums.{weighted_sum-map, total-same, total-none, total-neg, mul-neg, one-times}
 use Rattle.comp_trees.proofs.LeaderEnds.{absent-at, is_wrong, may_weigh-eqs}
 use Rattle.comp_trees.proofs.TrapNodes.{range-constant}
 use Rattle.comp_flock_leaf.specs.FlockLeaf.{is_flock_coefficient, flock_bound, size_in, flock_start, flock_moves, flock_leaf_of}
@@ -123,15 +124,11 @@ module _ (coefs : List ℤ) (k : ℕ) (are : list_all is_flock_coefficient coefs
       or_first true h = h
       or_first false h = h
 
-      or_yes : (c : Bool) → (c || true) ≡ true
-      or_yes true = refl
-      or_yes false = refl
-
       twins_may : (a m : ℕ) → may_weigh may_add (map (not_twice leaf) (range_with_len a m)) (map (λ q. pos (size_in q)) (range_with_len a m)) ≡ true
       twins_may a zero = refl
       twins_may a (suc m) =
           let rest = twins_may (a + 1) m in
-          let here : (int_eq (pos (size_in a)) (pos 0) || int_le (pos 0) (pos (size_in a))) ≡ true = ap (λ (c : Bool). int_eq (pos (size_in a)) (pos 0) || c) (zero_le (size_in a)) ∙ or_yes (int_eq (pos (size_in a)) (pos 0)) in
+          let here : (int_eq (pos (size_in a)) (pos 0) || int_le (pos 0) (pos (size_in a))) ≡ true = ap (λ (c : Bool). int_eq (pos (size_in a)) (pos 0) || c) (zero_le (size_in a)) ∙ or-true (int_eq (pos (size_in a)) (pos 0)) in
           rw (here, rest) refl
 
   -- no move loses agents
@@ -151,7 +148,7 @@ module _ (coefs : List ℤ) (k : ℕ) (are : list_all is_flock_coefficient coefs
         let first = ap (λ q. neg_ℤ (size q)) start ∙ ap neg_ℤ (start-size a (coefficient-at coefs i are below)) in
         let sum = few_sum i in
         let none = total-others n size (k + 2) i (λ q m e. omega arith) in
-        let one = one_times (get_or true_row i (pos 0)) in
+        let one = one-times (get_or true_row i (pos 0)) in
         omega (arith, ints, first, row, sum, none, one));
     at_states = λ z l. (
         let sum = few_sum (n + z) in
@@ -167,11 +164,8 @@ module _ (coefs : List ℤ) (k : ℕ) (are : list_all is_flock_coefficient coefs
         let sum = few_sum (n + length leaf.states + (length leaf.moves + j)) in
         let none = total-others n size (k + 2) (n + length leaf.states + (length leaf.moves + j)) (λ q m e. omega (arith, long)) in
         omega (arith, ints, sum, none));
-    at_end = (let sum = few_constant in let one = one_times (flock_bound k -ℤ pos 1) in omega (arith, ints, sum, one));
+    at_end = (let sum = few_constant in let one = one-times (flock_bound k -ℤ pos 1) in omega (arith, ints, sum, one));
   }
-    where
-      one_times : (a : ℤ) → (pos 1 *ℤ a) ≡ a
-      one_times a = omega (arith, ints)
 
   pub few_closes : closes_by_sum (all_facts leaf pred true true_row (flock_bound k -ℤ pos 1) (few_facts k)) (terms_from 0 (few_mix k)) ≡ true
   few_closes =

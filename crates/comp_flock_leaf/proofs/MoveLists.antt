@@ -6,6 +6,7 @@ use Rattle.std.proofs.lemmas.Bool.{ne_eqb}
 use Rattle.std.proofs.lemmas.List.{length-append}
 use Rattle.std.proofs.lemmas.List.FromFn.{length-map-range_with_len}
 use Rattle.std.proofs.lemmas.List.Elements.{All-append, All-map, Contains-append_left, Contains-append_right}
+use Rattle.std.proofs.Math.Bool.{and-false}
 use Rattle.pop_net.specs.declared.leaf.Move.{Move}
 use Rattle.pop_net.specs.LeafModel.{silent_move, same_pair}
 use Rattle.pop_net.specs.Reaction.{takes_states}
@@ -15,7 +16,6 @@ use Rattle.comp_layers.proofs.Single.{differ-by}
 use Rattle.comp_flock_leaf.specs.FlockLeaf.{doubling_move, conversion_move, flock_moves}
 use Rattle.list_laws.proofs.Ranges.{all_range}
 use Rattle.list_laws.proofs.Lists.{has_map}
-use Rattle.list_laws.proofs.Truth.{and_false}
 use Rattle.pop_net.proofs.Silent.{takes-own}
 
 abbrev doublings : ℕ → List Move
@@ -55,7 +55,7 @@ pub doubling-loud : (i : ℕ) → silent_move (doubling_move i) ≡ false
 doubling-loud i = differ_pair (i + 1) (i + 1) (i + 2) 0 (λ e. omega arith) (λ e. omega arith)
 
 pub conversion-loud : (k q : ℕ) → q ≤ k → silent_move (conversion_move k q) ≡ false
-conversion-loud k q l = let first = ne_eqb q (k + 1) (λ e. omega arith) in let none = and_false ((k + 1) == (k + 1)) in rw (first, none) refl
+conversion-loud k q l = let first = ne_eqb q (k + 1) (λ e. omega arith) in let none = and-false ((k + 1) == (k + 1)) in rw (first, none) refl
 
 -- ---- which states can meet
 

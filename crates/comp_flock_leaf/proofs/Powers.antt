@@ -11,6 +11,7 @@ use Rattle.cert_base.specs.WeightedSums.{total}
 use Rattle.cert_base.proofs.FlowSums.{times-one}
 use Rattle.comp_flock_leaf.specs.declared.limits.TheConstants.{POWER_LIMIT}
 use Rattle.comp_flock_leaf.specs.FlockLeaf.{size_in}
+use Rattle.cert_base.proofs.WeightedSums.{le-test}
 
 pub power-double : (i : ℕ) → 2 ^ (i + 1) ≡ 2 ^ i + 2 ^ i
 power-double i = ap (λ m. 2 ^ m) (let e : i + 1 ≡ suc i = omega arith in e) ∙ two-pow-succ i
@@ -70,11 +71,4 @@ sizes-total a (suc n) =
 
 -- a number that is no less than 0
 pub zero_le : (n : ℕ) → int_le (pos 0) (pos n) ≡ true
-zero_le n = test (pos 0) (pos n) (omega (arith, ints))
-  where
-    from_T : (b : Bool) → T b → b ≡ true
-    from_T true t = refl
-    from_T false t = absurd t
-
-    test : (a b : ℤ) → a ≤ℤ b → int_le a b ≡ true
-    test a b l = from_T (int_le a b) l.le
+zero_le n = le-test (pos 0) (pos n) (omega (arith, ints))

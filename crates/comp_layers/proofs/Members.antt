@@ -33,14 +33,6 @@ has_flat f (z ∷ xs) x y (zero, l, e) d = Contains-append_left (f z) (flat_map 
 has_flat f (z ∷ xs) x y (suc k, l, e) d =
     Contains-append_right (f z) (flat_map f xs) y (has_flat f xs x y (k, (omega (arith, l)), e) d)
 
-pub all_filtered : {A : Type 0} (test : A → Bool) (P : A → Type 0) (xs : List A) → All (λ x. test x ≡ true → P x) xs → All P (filter test xs)
-all_filtered test P [] all = All-nil P
-all_filtered {A} test P (x ∷ xs) all = go (test x) refl (all_filtered test P xs (λ k d l. all (suc k) d (omega arith)))
-  where
-    go : (b : Bool) → test x ≡ b → All P (filter test xs) → All P (cond b (x ∷ filter test xs) (filter test xs))
-    go true e rest = All-cons P x (filter test xs) (all 0 x (omega arith) e) rest
-    go false e rest = rest
-
 -- one more piece of a list of pieces
 pub flat_range_more : {A : Type 0} (f : ℕ → List A) (n : ℕ) (start before own after : List A) → before ≡ start ++ flat_map f (range_with_len 0 n) → own ≡ f n → after ≡ before ++ own → after ≡ start ++ flat_map f (range_with_len 0 (n + 1))
 flat_range_more f n start before own after b o e =

@@ -5,11 +5,11 @@ use Rattle.std.specs.List.{range_with_len}
 use Rattle.std.proofs.lemmas.Bool.{ne_eqb}
 use Rattle.std.proofs.lemmas.List.Elements.{All-map}
 use Rattle.std.proofs.lemmas.List.Kept.{AllPairs-cons}
+use Rattle.std.proofs.Math.Bool.{and-false}
 use Rattle.pop_net.specs.LeafModel.{same_pair}
 use Rattle.comp_layers.proofs.Members.{all_flat}
 use Rattle.comp_layers.proofs.SortedLayers.{AllPairs-append}
 use Rattle.list_laws.proofs.Ranges.{all_range}
-use Rattle.list_laws.proofs.Truth.{and_false}
 
 pub pairs_map : {A : Type 0} (R : A → A → Type 0) (g : ℕ → A) (a n : ℕ) → ((i j : ℕ) → a ≤ i → i < j → j < a + n → R (g i) (g j)) → AllPairs R (map g (range_with_len a n))
 pairs_map R g a zero f = λ i j d l m. absurd (omega (arith, m))
@@ -34,4 +34,4 @@ differ-by p q u v a b =
   where
     one : (p q u v : ℕ) → (p ≢ u) ⊎ (q ≢ v) → ((p == u) && (q == v)) ≡ false
     one p q u v (inl n) = let e = ne_eqb p u n in rw e refl
-    one p q u v (inr n) = let e = ne_eqb q v n in rw e (and_false (p == u))
+    one p q u v (inr n) = let e = ne_eqb q v n in rw e (and-false (p == u))

@@ -2,7 +2,7 @@
 use Rattle.std.proofs.Common.{◌≡◌, ◌≢◌, ◌⊎◌, inl, inr, subst, ℕ, zero, suc, ◌+◌, ◌<◌, ◌≤◌, Bool, true, false, List, [], ◌∷◌, ◌++◌, length, get_or, refl, ap, sym, ◌∙◌, zero-add, arith}
 use Rattle.std.specs.Prelude.{ℤ, if◌then◌else◌, ◌==◌, All, AllPairs, Contains, Some, slice_get}
 use Rattle.std.proofs.lemmas.Bool.{eq-eqb, eqb-true, cases_lt}
-use Rattle.std.proofs.lemmas.Option.{slice_get_within, get_or_from_slice_get, slice_get-get_or}
+use Rattle.std.proofs.lemmas.Option.{slice_get_within, get_or_from_slice_get, slice_get-get_or, same_Some}
 use Rattle.std.proofs.lemmas.List.Elements.{All-nil, All-cons, All-append, All-contains, Contains-append_left, Contains-append_right, All-weaker}
 use Rattle.std.proofs.lemmas.List.Kept.{AllPairs-cons}
 use Rattle.pop_net.specs.declared.leaf.Move.{Move}
@@ -72,12 +72,9 @@ module _ (moves : List Move) (kind : Move → ℕ) where
 
   other_kinds : (i k a b : ℕ) → i < k → IsOfKind i a → IsOfKind k b → a ≢ b
   other_kinds i k a b l x y e =
-      let same : x.taken ≡ y.taken = some_same (sym x.move_is ∙ ap (slice_get moves) e ∙ y.move_is) in
+      let same : x.taken ≡ y.taken = same_Some _ _ (sym x.move_is ∙ ap (slice_get moves) e ∙ y.move_is) in
       let kinds : i ≡ k = sym x.kind_is ∙ ap kind same ∙ y.kind_is in
       omega arith
-    where
-      some_same : Some x.taken ≡ Some y.taken → x.taken ≡ y.taken
-      some_same e = cc
 
   once : (i : ℕ) (ws : List (List ℤ)) → AllPairs ◌≢◌ (moves_of_layers (sorted_layers moves kind i ws))
   once i [] = λ i j d l m. absurd (omega (arith, m))
@@ -128,17 +125,11 @@ module _ (leaf : LeafModel) (kind : Move → ℕ) (ws : List (List ℤ)) (are : 
   in_layer : (i : ℕ) (t : Move) (at : IsInLayer leaf layers i t) → (kind t ≡ i) × (at.layer.weights ≡ get_or ws i [])
   in_layer i t at =
       let within : i < length ws = omega (arith, slice_get_within layers i at.layer at.layer_is, layers_long leaf.moves kind 0 ws) in
-      let layer_same : at.layer ≡ sorted_layer leaf.moves kind i (get_or ws i []) = some_same (sym at.layer_is ∙ layer_at leaf.moves kind 0 i ws within ∙ ap (λ n. Some (sorted_layer leaf.moves kind n (get_or ws i []))) (zero-add i)) in
+      let layer_same : at.layer ≡ sorted_layer leaf.moves kind i (get_or ws i []) = same_Some _ _ (sym at.layer_is ∙ layer_at leaf.moves kind 0 i ws within ∙ ap (λ n. Some (sorted_layer leaf.moves kind n (get_or ws i []))) (zero-add i)) in
       let lists : Contains (places_from 0 (λ t. kind t == i) leaf.moves) at.number = subst (λ (layer : Layer). Contains layer.moves at.number) layer_same at.lists in
       let of = All-contains (IsOfKind leaf.moves kind i) (places_from 0 (λ t. kind t == i) leaf.moves) at.number (of_kind leaf.moves kind i) lists in
-      let same : t ≡ of.taken = move_same (sym at.move_is ∙ of.move_is) in
+      let same : t ≡ of.taken = same_Some _ _ (sym at.move_is ∙ of.move_is) in
       (ap kind same ∙ of.kind_is, ap (λ (layer : Layer). layer.weights) layer_same)
-    where
-      some_same : {A : Type 0} {x y : A} → Some x ≡ Some y → x ≡ y
-      some_same e = cc
-
-      move_same : {A : Type 0} {x y : A} → Some x ≡ Some y → x ≡ y
-      move_same e = cc
 
   has_layer : (u : Move) → Contains leaf.moves u → silent_move u ≡ false → IsInLayer leaf layers (kind u) u
   has_layer u c loud =

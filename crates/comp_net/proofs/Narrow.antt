@@ -3,6 +3,7 @@ use Rattle.std.proofs.Common.{◌≡◌, ℕ, ◌<◌, ◌≤◌, Bool, true, fa
 use Rattle.std.specs.Prelude.{None, All, nat_lt, if◌then◌else◌, position, ℤ}
 use Rattle.std.proofs.lemmas.Bool.{ltb-true, ltb-false, le-ltb, not-true}
 use Rattle.std.proofs.lemmas.List.{length-map, get_or-map}
+use Rattle.std.proofs.Math.Bool.{not-not}
 use Rattle.pop_net.specs.declared.limits.TheConstants.{LEAF_LIMIT, WIDE_LEAF_LIMIT}
 use Rattle.pop_io.specs.declared.names.TheConstants.{VARIABLE_LIMIT}
 use Rattle.pop_net.proofs.FirstFault.{NoneIff, first_of-nil, first_of-cons, none_unless, none_map, none_position}
@@ -15,7 +16,6 @@ use Rattle.comp_net.specs.declared.fault.CompileFault.TheVariants as fault
 use Rattle.comp_net.specs.declared.choice.LeafChoice.{LeafChoice}
 use Rattle.comp_net.specs.Atoms.{atoms, atom_width, AreBuildable}
 use Rattle.comp_net.specs.CompileFaults.{widths_of, first_width_over, first_wide_width, fault_of_widths, fault_with}
-use Rattle.list_laws.proofs.Truth.{not_not}
 use Rattle.list_laws.proofs.Lists.{all_front, all_back}
 
 -- no width is over the limit
@@ -26,7 +26,7 @@ none_over limit ws = (λ e. all.0 (same ∙ e), λ h. sym same ∙ all.1 h)
     all = none_position (λ w. not (nat_lt limit w)) (λ w. w ≤ limit) (λ w. (λ e. ltb-false limit w (not-true _ e), λ l. ap not (le-ltb limit w l))) ws
 
     same : position (λ w. not (not (nat_lt limit w))) ws ≡ position (λ w. nat_lt limit w) ws
-    same = ap (λ p. position p ws) (λ i w. not_not (nat_lt limit w) i)
+    same = ap (λ p. position p ws) (λ i w. not-not (nat_lt limit w) i)
 
 none_wide : (ws : List ℕ) → NoneIff (first_wide_width ws) (WIDE_LEAF_LIMIT < length ws → All (λ w. w ≤ NARROW_WIDTH_LIMIT) ws)
 none_wide ws = go (nat_lt WIDE_LEAF_LIMIT (length ws)) refl

@@ -11,9 +11,6 @@ use Rattle.list_laws.proofs.Numbers.{size-neg}
 pub divides-multiple : (m k : ℕ) → is_multiple m (pos (k * m)) ≡ true
 divides-multiple m k = eq-eqb _ 0 (mul-mod_left k m)
 
-pub divides-zero : (m : ℕ) → is_multiple m (pos 0) ≡ true
-divides-zero m = ap (λ n. is_multiple m (pos n)) (sym (zero-mul m)) ∙ divides-multiple m 0
-
 pub divides-neg : (m n : ℕ) → is_multiple m (neg_ℤ (pos n)) ≡ is_multiple m (pos n)
 divides-neg m n = ap (λ k. (k % m) == 0) (size-neg n)
 

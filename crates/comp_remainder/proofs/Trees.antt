@@ -29,7 +29,8 @@ use Rattle.comp_remainder_leaf.proofs.Formed.{moves-few}
 use Rattle.comp_remainder_leaf.proofs.StateKinds.{Kind, a_leader, a_follower, kind_of}
 use Rattle.comp_remainder_leaf.proofs.Remainders.{residue-below}
 use Rattle.comp_remainder.proofs.Meetings.{leaders-meet, turned-meet}
-use Rattle.comp_remainder.proofs.Multiples.{divides-zero, residue-even, sum-even, differ-odd}
+use Rattle.comp_remainder.proofs.Multiples.{residue-even, sum-even, differ-odd}
+use Rattle.cert_base.proofs.Integers.{divides-zero}
 
 value-leader : (m q : ℕ) → q < m → remainder_value m q ≡ pos q
 value-leader m q l = rw (lt-ltb q m l) refl

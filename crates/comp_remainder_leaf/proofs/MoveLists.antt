@@ -4,13 +4,13 @@ use Rattle.std.specs.Prelude.{not, ◌==◌, All, Contains, flat_map}
 use Rattle.std.specs.List.{range_with_len}
 use Rattle.std.proofs.lemmas.Bool.{ne_eqb}
 use Rattle.std.proofs.lemmas.List.Elements.{All-append, All-map, Contains-append_left, Contains-append_right}
+use Rattle.std.proofs.Math.Bool.{and-false}
 use Rattle.pop_net.specs.declared.leaf.Move.{Move}
 use Rattle.pop_net.specs.LeafModel.{silent_move, same_pair}
 use Rattle.comp_layers.proofs.Members.{all_flat, range_has, has_flat}
 use Rattle.comp_remainder_leaf.specs.RemainderLeaf.{remainder_follower, leader_meeting, follower_turn, remainder_pairs, remainder_moves}
 use Rattle.list_laws.proofs.Ranges.{all_range}
 use Rattle.list_laws.proofs.Lists.{has_map}
-use Rattle.list_laws.proofs.Truth.{and_false}
 
 -- what holds of each meeting and of each turn
 pub all_moves : (m rest : ℕ) (P : Move → Type 0) → ((p q : ℕ) → p < m → q < m → P (leader_meeting m rest p q)) → ((p : ℕ) → p < m → P (follower_turn m rest p)) → All P (remainder_moves m rest)
@@ -46,7 +46,7 @@ not-leader m p bit l = let a = follower-above m bit in ne_eqb p (remainder_follo
 
 -- a silent move would have the same second state
 loud-by : (p q r s : ℕ) → (q == s) ≡ false → (p == s) ≡ false → same_pair p q r s ≡ false
-loud-by p q r s e f = let g = and_false (p == r) in rw (e, f, g) refl
+loud-by p q r s e f = let g = and-false (p == r) in rw (e, f, g) refl
 
 pub pair-loud : (m rest p q : ℕ) → p < m → q < m → silent_move (leader_meeting m rest p q) ≡ false
 pair-loud m rest p q l k =

@@ -4,18 +4,19 @@ use Rattle.std.specs.Prelude.{◌==◌, nat_lt, All, Contains, flat_map}
 use Rattle.std.specs.List.{range_with_len}
 use Rattle.std.proofs.lemmas.Bool.{cases_lt, eq-eqb, ne_eqb, not-true}
 use Rattle.std.proofs.lemmas.List.Elements.{All-append, All-map, All-filter, Contains-append_left, Contains-append_right}
+use Rattle.std.proofs.Math.Bool.{and-false}
 use Rattle.pop_net.specs.declared.leaf.Move.{Move}
 use Rattle.pop_net.specs.LeafModel.{silent_move, IsMoveBelow}
 use Rattle.pop_net.specs.Reaction.{takes_states}
 use Rattle.cert_base.specs.FactsAndCases.{can_meet_in}
 use Rattle.cert_base.proofs.WeightedSums.{list_any-from}
-use Rattle.comp_layers.proofs.Members.{all_flat, range_has, has_filter, has_flat, all_filtered}
+use Rattle.comp_layers.proofs.Members.{all_flat, range_has, has_filter, has_flat}
 use Rattle.comp_threshold_leaf.specs.ThresholdLeaf.{span_of, threshold_place, threshold_follower, joined_value, leftover, threshold_leader_move, alters_states, threshold_pairs, threshold_turns, threshold_moves, threshold_state_count, built}
 use Rattle.comp_threshold_leaf.proofs.Places.{IsCut, cut, Kind, kind_of, place-below, follower-above, follower-below}
 use Rattle.list_laws.proofs.Ranges.{all_range}
-use Rattle.list_laws.proofs.Lists.{has_map}
-use Rattle.list_laws.proofs.Truth.{and_false}
+use Rattle.list_laws.proofs.Lists.{has_map, all_filtered}
 use Rattle.pop_net.proofs.Silent.{same-self, same-other}
+use Rattle.list_laws.proofs.Numbers.{same_turned}
 
 -- ---- moves
 
@@ -67,17 +68,8 @@ pair-loud s t p q l m =
     let bit = nat_lt (joined_value s p (threshold_place s q)) t in
     let first = not-leader s (leftover s p (threshold_place s q)) q bit m in
     let second = not-leader s (leftover s p (threshold_place s q)) p bit l in
-    let left_side : ((p == joined_value s p (threshold_place s q)) && false) ≡ false = and_false (p == joined_value s p (threshold_place s q)) in
+    let left_side : ((p == joined_value s p (threshold_place s q)) && false) ≡ false = and-false (p == joined_value s p (threshold_place s q)) in
     rw (first, second, left_side) refl
-
-same_turned : (a b : ℕ) → (a == b) ≡ (b == a)
-same_turned a b = elim (cases_lt a b) [
-  | inl l ↦ ne_eqb a b (λ e. omega arith) ∙ sym (ne_eqb b a (λ e. omega arith))
-  | inr l ↦ elim (cases_lt b a) [
-    | inl m ↦ ne_eqb a b (λ e. omega arith) ∙ sym (ne_eqb b a (λ e. omega arith))
-    | inr m ↦ eq-eqb a b (omega arith) ∙ sym (eq-eqb b a (omega arith))
-  ]
-]
 
 pub turn-loud : (s t p q : ℕ) → p < span_of s → alters_states (threshold_leader_move s t p q) ≡ true → silent_move (threshold_leader_move s t p q) ≡ false
 turn-loud s t p q l c =

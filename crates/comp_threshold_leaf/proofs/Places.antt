@@ -4,6 +4,7 @@ use Rattle.std.specs.Prelude.{ℤ, pos, negsuc, ◌+ℤ◌, ◌≤ℤ◌, nat_lt
 use Rattle.std.proofs.lemmas.Int.{ints}
 use Rattle.std.proofs.lemmas.Bool.{lt-ltb, le-ltb, cases_lt}
 use Rattle.comp_threshold_leaf.specs.ThresholdLeaf.{greater, smaller, threshold_width, span_of, place_of_value, threshold_place, threshold_follower, joined_value, leftover, threshold_output, threshold_value}
+use Rattle.cert_base.proofs.Spread.{nat_abs-pos}
 
 -- ---- the smaller one
 
@@ -104,11 +105,7 @@ output-follower s t v false l =
 
 pub place-within : (s : ℕ) (u : ℤ) → nat_abs u ≤ s → pos (place_of_value s u) ≡ (u +ℤ pos s)
 place-within s (pos u) l = omega (arith, ints)
-place-within s (negsuc u) l = above (negsuc u +ℤ pos s) (omega (arith, ints))
-  where
-    above : (z : ℤ) → pos 0 ≤ℤ z → pos (nat_abs z) ≡ z
-    above (pos k) m = refl
-    above (negsuc k) m = absurd (omega (arith, ints))
+place-within s (negsuc u) l = nat_abs-pos (negsuc u +ℤ pos s) (omega (arith, ints))
 
 pub place-most : (s : ℕ) (u : ℤ) → nat_abs u ≤ s → place_of_value s u < span_of s
 place-most s (pos u) l = let e = place-within s (pos u) l in omega (arith, ints, e)

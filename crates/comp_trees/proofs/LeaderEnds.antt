@@ -23,8 +23,8 @@ use Rattle.cert_base.specs.WeightedSums.{total}
 use Rattle.comp_trees.specs.LeaderTree.{leaders, company_of, facts_of_trap, facts_without, facts_of_leader, LeaderMix, mix_of_trap, mix_of_leader, wrong_mix, value_mix}
 use Rattle.cert_base.proofs.WeightedSums.{may_weigh-append, may_weigh-zeros, linear_closes-weighted}
 use Rattle.cert_base.proofs.FlowSums.{coefficient-dense, total-same, total-none, total-none_range, total-one, weighted_sum-map, valued, law-input, law-state, law-move, law-past, each_variable, like, times-one, mul-neg}
-use Rattle.comp_trees.proofs.LeaderSums.{leader_sum}
-use Rattle.std.proofs.lemmas.Bool.{ne_eqb}
+use Rattle.comp_trees.proofs.LeaderSums.{leader_sum, as_long}
+use Rattle.std.proofs.lemmas.Bool.{ne_eqb, or_right}
 
 -- ---- totals over a filtered list
 
@@ -116,12 +116,8 @@ pub may_weigh-eqs : {A : Type 0} (may : ℤ → Fact → Bool) → ((a : ℤ) (r
 may_weigh-eqs may eqs row by [] = refl
 may_weigh-eqs may eqs row by (x ∷ xs) =
     let rest = may_weigh-eqs may eqs row by xs in
-    let here : (int_eq (by x) (pos 0) || may (by x) (Eq (row x))) ≡ true = or_yes (int_eq (by x) (pos 0)) (eqs (by x) (row x)) in
+    let here : (int_eq (by x) (pos 0) || may (by x) (Eq (row x))) ≡ true = or_right (int_eq (by x) (pos 0)) _ (eqs (by x) (row x)) in
     rw (here, rest) refl
-  where
-    or_yes : (c : Bool) → may (by x) (Eq (row x)) ≡ true → (c || may (by x) (Eq (row x))) ≡ true
-    or_yes true h = refl
-    or_yes false h = h
 
 pub may_leader : (may : ℤ → Fact → Bool) → ((a : ℤ) (row : Row) → may a (Eq row) ≡ true) → (leaf : LeafModel) (pred : PredModel) (b : Bool) (opened : Fact) (n p : ℕ) (mix : LeaderMix) → can_meet_in leaf p p ≡ true → (int_eq mix.wrong (pos 0) || may mix.wrong (wrong_output_fact leaf b)) ≡ true → (int_eq mix.opened (pos 0) || may mix.opened opened) ≡ true → may_weigh may (facts_of_leader leaf (facts_of_trap leaf (base_list leaf pred b) opened n) p) (mix_of_leader leaf (company_of leaf p) mix p) ≡ true
 may_leader may eqs leaf pred b opened n p mix twin wrong_may opened_may =
@@ -133,23 +129,18 @@ may_leader may eqs leaf pred b opened n p mix twin wrong_may opened_may =
     let absents = map (absent_fact leaf) (range_with_len 0 p) in
     let out = map (absent_fact leaf) (company_of leaf p) in
     let facts = facts_of_trap leaf base opened n in
-    let len_flows : length flows ≡ length mf = length-map (states_of leaf) (flow leaf) ∙ sym (length-map (states_of leaf) mix.flows) in
-    let len_base : length base ≡ length mb = omega (arith, length-append flows (two_agents_fact leaf ∷ Holds pred b ∷ wrong_output_fact leaf b ∷ []), length-append mf (pos 0 ∷ pos 0 ∷ mix.wrong ∷ []), len_flows) in
-    let len_open : length (base ++ opened ∷ []) ≡ length (mb ++ mix.opened ∷ []) = omega (arith, length-append base (opened ∷ []), length-append mb (mix.opened ∷ []), len_base) in
-    let len_trap : length facts ≡ length (mix_of_trap leaf mix) = omega (arith, length-append (base ++ opened ∷ []) (trap ∷ []), length-append (mb ++ mix.opened ∷ []) (pos 0 ∷ []), len_open) in
-    let len_without : length (facts_without leaf facts p) ≡ length (mix_of_trap leaf mix ++ zeros p) = omega (arith, length-append facts absents, length-append (mix_of_trap leaf mix) (zeros p), len_trap, length-map-range_with_len (absent_fact leaf) 0 p, length-replicate p (pos 0)) in
-    let len_out : length (occurs_fact leaf p ∷ out) ≡ length (pos 0 ∷ map mix.ruled_out (company_of leaf p)) = omega (arith, length-map (company_of leaf p) (absent_fact leaf), length-map (company_of leaf p) mix.ruled_out) in
+    let long = as_long leaf pred b opened n p mix in
     let m1 = may_weigh-eqs may eqs (λ q. row_of (flow leaf q)) mix.flows (states_of leaf) in
     let w2 : may_weigh may (two_agents_fact leaf ∷ Holds pred b ∷ wrong_output_fact leaf b ∷ []) (pos 0 ∷ pos 0 ∷ mix.wrong ∷ []) ≡ true = rw wrong_may refl in
-    let m2 = may_weigh-append may flows (two_agents_fact leaf ∷ Holds pred b ∷ wrong_output_fact leaf b ∷ []) mf (pos 0 ∷ pos 0 ∷ mix.wrong ∷ []) len_flows m1 w2 in
+    let m2 = may_weigh-append may flows (two_agents_fact leaf ∷ Holds pred b ∷ wrong_output_fact leaf b ∷ []) mf (pos 0 ∷ pos 0 ∷ mix.wrong ∷ []) long.flows m1 w2 in
     let w3 : may_weigh may (opened ∷ []) (mix.opened ∷ []) ≡ true = rw opened_may refl in
-    let m3 = may_weigh-append may base (opened ∷ []) mb (mix.opened ∷ []) len_base m2 w3 in
-    let m4 = may_weigh-append may (base ++ opened ∷ []) (trap ∷ []) (mb ++ mix.opened ∷ []) (pos 0 ∷ []) len_open m3 refl in
-    let m5 = may_weigh-append may facts absents (mix_of_trap leaf mix) (zeros p) len_trap m4 (may_weigh-zeros may absents p (omega (arith, length-map-range_with_len (absent_fact leaf) 0 p))) in
+    let m3 = may_weigh-append may base (opened ∷ []) mb (mix.opened ∷ []) long.base m2 w3 in
+    let m4 = may_weigh-append may (base ++ opened ∷ []) (trap ∷ []) (mb ++ mix.opened ∷ []) (pos 0 ∷ []) long.open_too m3 refl in
+    let m5 = may_weigh-append may facts absents (mix_of_trap leaf mix) (zeros p) long.trap m4 (may_weigh-zeros may absents p (omega (arith, length-map-range_with_len (absent_fact leaf) 0 p))) in
     let m6 = may_weigh-eqs may eqs (λ q. row_of (absent_fact leaf q)) mix.ruled_out (company_of leaf p) in
     let m7 = may_weigh-eqs may eqs (λ q. row_of (alone_fact leaf q)) (λ q. mix.alone) (p ∷ []) in
-    let m8 = may_weigh-append may (occurs_fact leaf p ∷ out) (alone_fact leaf p ∷ []) (pos 0 ∷ map mix.ruled_out (company_of leaf p)) (mix.alone ∷ []) len_out m6 m7 in
-    rw twin (may_weigh-append may (facts_without leaf facts p) ((occurs_fact leaf p ∷ out) ++ alone_fact leaf p ∷ []) (mix_of_trap leaf mix ++ zeros p) ((pos 0 ∷ map mix.ruled_out (company_of leaf p)) ++ mix.alone ∷ []) len_without m5 m8)
+    let m8 = may_weigh-append may (occurs_fact leaf p ∷ out) (alone_fact leaf p ∷ []) (pos 0 ∷ map mix.ruled_out (company_of leaf p)) (mix.alone ∷ []) long.out m6 m7 in
+    rw twin (may_weigh-append may (facts_without leaf facts p) ((occurs_fact leaf p ∷ out) ++ alone_fact leaf p ∷ []) (mix_of_trap leaf mix ++ zeros p) ((pos 0 ∷ map mix.ruled_out (company_of leaf p)) ++ mix.alone ∷ []) long.without m5 m8)
 
 -- ---- the node by a wrong output
 

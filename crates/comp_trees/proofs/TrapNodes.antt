@@ -10,6 +10,7 @@ use Rattle.std.proofs.lemmas.Bool.Decides.{eqb_tells}
 use Rattle.std.proofs.lemmas.List.{length-map, length-append, get_or-append-add, get_or_past, length-replicate, get_or-replicate, append-nil}
 use Rattle.std.proofs.lemmas.List.FromFn.{length-range_with_len, get_or-map-range_with_len, length-map-range_with_len}
 use Rattle.std.proofs.lemmas.List.Elements.{All-head, All-tail, All-weaker}
+use Rattle.std.proofs.Math.Bool.{and-false}
 use Rattle.pop_net.specs.declared.leaf.Move.{Move}
 use Rattle.pop_net.specs.LeafModel.{LeafModel}
 use Rattle.pres_ast.specs.PredModel.{PredModel}
@@ -25,6 +26,7 @@ use Rattle.comp_trees.specs.LeaderTree.{leaders, facts_of_trap, facts_without, I
 use Rattle.cert_base.proofs.WeightedSums.{weighted_sum-append, weighted_sum-zeros, may_weigh-append, may_weigh-zeros, linear_closes-weighted}
 use Rattle.cert_base.proofs.FlowSums.{coefficient-dense, total-same, total-none, total-none_range, total-one, weighted_sum-map, each_variable, like, times-one}
 use Rattle.comp_trees.proofs.LeaderEnds.{absent-at, shifted, may_weigh-eqs, apart, apart_past}
+use Rattle.list_laws.proofs.Numbers.{same_turned}
 
 -- ---- which states are leaders
 
@@ -126,11 +128,7 @@ module _ (leaf : LeafModel) (pred : PredModel) (b : Bool) (opened : Fact) (n : �
   leaks t = takes_from (leaders n) t && not (puts_into (leaders n) t)
 
   none_leaks : All (λ t. indicator (leaks t) ≡ pos 0) leaf.moves
-  none_leaks = All-weaker (λ t. t.r < n) (λ t. indicator (leaks t) ≡ pos 0) (λ t l. ap indicator (ap (λ (c : Bool). takes_from (leaders n) t && not c) (puts t l) ∙ and_no (takes_from (leaders n) t))) leaf.moves is.moves
-    where
-      and_no : (c : Bool) → (c && false) ≡ false
-      and_no true = refl
-      and_no false = refl
+  none_leaks = All-weaker (λ t. t.r < n) (λ t. indicator (leaks t) ≡ pos 0) (λ t l. ap indicator (ap (λ (c : Bool). takes_from (leaders n) t && not c) (puts t l) ∙ and-false (takes_from (leaders n) t))) leaf.moves is.moves
 
   leak_row : (x : ℕ) → coefficient x (some_taken_fact leaf leaks) ≡ pos 0
   leak_row x =
@@ -252,16 +250,9 @@ module _ (leaf : LeafModel) (pred : PredModel) (b : Bool) (opened : Fact) (n : �
       go true = refl
       go false = refl
 
-  equal_turned : (i x : ℕ) → (i == x) ≡ (x == i)
-  equal_turned i x = go (eqb_tells i x)
-    where
-      go : ((i == x) ≡ true) × (i ≡ x) ⊎ ((i == x) ≡ false) × (i ≢ x) → (i == x) ≡ (x == i)
-      go (inl h) = h.0 ∙ sym (like x i (sym h.1))
-      go (inr h) = h.0 ∙ sym (ne_eqb x i (λ e. h.1 (sym e)))
-
   started_in : (i : ℕ) → i < length leaf.inputs → total (λ j. negsuc 0 *ℤ coefficient i (started j)) (range_with_len 0 (length leaf.inputs)) ≡ negsuc 0
   started_in i l =
-      total-same (λ j. negsuc 0 *ℤ coefficient i (started j)) (λ j. negsuc 0 *ℤ indicator (i == j)) (range_with_len 0 (length leaf.inputs)) (λ j. ap (λ c. negsuc 0 *ℤ c) (started-at j i ∙ ap indicator (equal_turned j i)))
+      total-same (λ j. negsuc 0 *ℤ coefficient i (started j)) (λ j. negsuc 0 *ℤ indicator (i == j)) (range_with_len 0 (length leaf.inputs)) (λ j. ap (λ c. negsuc 0 *ℤ c) (started-at j i ∙ ap indicator (same_turned j i)))
       ∙ total-one (λ j. negsuc 0) (length leaf.inputs) i l
 
   apart_high : (v j y : ℕ) → j < v → v ≤ y → j ≢ y

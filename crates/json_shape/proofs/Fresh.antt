@@ -7,6 +7,7 @@ use Rattle.std.proofs.lemmas.List.Elements.{All-nil, All-cons, All-head, All-tai
 use Rattle.std.proofs.lemmas.List.Kept.{AllPairs-cons}
 use Rattle.std.proofs.lemmas.List.Folds.{list_any-append}
 use Rattle.std.proofs.lemmas.Slice.Eq.{bytes_eq-Decides}
+use Rattle.std.proofs.lemmas.Bool.{or_left, or_right, or_from, false_from_ne_true}
 use Rattle.json_shape.proofs.Readers.{EachFrom}
 
 module _ {A : Type 0} (P : A → Type 0) where
@@ -27,41 +28,19 @@ module _ {A : Type 0} (P Q : List A → A → Type 0) (so : (found : List A) (x 
 abbrev pub IsFresh : List (List ℕ) → List ℕ → Type 0
 IsFresh found s = list_any (bytes_eq s) found ≡ false
 
-bytes_self : (s : List ℕ) → bytes_eq s s ≡ true
-bytes_self s = (bytes_eq-Decides s s).1 refl
-
-told_false : {P : Type 0} (b : Bool) → (b ≡ true → P) → (P → ⊥) → b ≡ false
-told_false true tells never = absurd (never (tells refl))
-told_false false tells never = refl
-
-bytes_other : (s t : List ℕ) → s ≢ t → bytes_eq s t ≡ false
-bytes_other s t other = told_false (bytes_eq s t) (bytes_eq-Decides s t).0 other
-
-or_false : (a b : Bool) → a ≡ false → b ≡ false → (a || b) ≡ false
-or_false true b p q = absurd cc
-or_false false b p q = q
-
-or_front : (a b : Bool) → a ≡ true → (a || b) ≡ true
-or_front true b p = refl
-or_front false b p = absurd cc
-
-or_back : (a b : Bool) → b ≡ true → (a || b) ≡ true
-or_back true b p = refl
-or_back false b p = p
-
 -- one that was found is none of the fresh ones
 unlike : (s : List ℕ) (found xs : List (List ℕ)) → list_any (bytes_eq s) found ≡ true → EachFrom IsFresh found xs → All (λ t. s ≢ t) xs
 unlike s found [] is each_one = All-nil (λ t. s ≢ t)
 unlike s found (x ∷ xs) is each_one =
     All-cons (λ t. s ≢ t) x xs
     (λ same. absurd (cc (ap (λ (t : List ℕ). list_any (bytes_eq t) found) same, is, each_one.0)))
-    (unlike s (found ++ x ∷ []) xs (list_any-append (bytes_eq s) found (x ∷ []) ∙ or_front (list_any (bytes_eq s) found) (list_any (bytes_eq s) (x ∷ [])) is) each_one.1)
+    (unlike s (found ++ x ∷ []) xs (list_any-append (bytes_eq s) found (x ∷ []) ∙ or_left (list_any (bytes_eq s) found) (list_any (bytes_eq s) (x ∷ [])) is) each_one.1)
 
 pub fresh-distinct : (found xs : List (List ℕ)) → EachFrom IsFresh found xs → AllPairs ◌≢◌ xs
 fresh-distinct found [] each_one = λ i j d lt within. absurd (omega arith)
 fresh-distinct found (x ∷ xs) each_one =
     AllPairs-cons ◌≢◌ x xs
-    (unlike x (found ++ x ∷ []) xs (list_any-append (bytes_eq x) found (x ∷ []) ∙ or_back (list_any (bytes_eq x) found) (list_any (bytes_eq x) (x ∷ [])) (or_front (bytes_eq x x) false (bytes_self x))) each_one.1)
+    (unlike x (found ++ x ∷ []) xs (list_any-append (bytes_eq x) found (x ∷ []) ∙ or_right (list_any (bytes_eq x) found) (list_any (bytes_eq x) (x ∷ [])) (or_left (bytes_eq x x) false ((bytes_eq-Decides x x).1 refl))) each_one.1)
     (fresh-distinct (found ++ x ∷ []) xs each_one.1)
 
 pairs_head : (x : List ℕ) (xs : List (List ℕ)) → AllPairs ◌≢◌ (x ∷ xs) → All (λ t. x ≢ t) xs
@@ -72,7 +51,7 @@ pairs_tail x xs pairs = λ i j d lt within. pairs (suc i) (suc j) d (omega arith
 
 still_fresh : (found : List (List ℕ)) (x t : List ℕ) → IsFresh found t → x ≢ t → IsFresh (found ++ x ∷ []) t
 still_fresh found x t fresh other =
-    list_any-append (bytes_eq t) found (x ∷ []) ∙ or_false (list_any (bytes_eq t) found) (list_any (bytes_eq t) (x ∷ [])) fresh (or_false (bytes_eq t x) false (bytes_other t x (λ same. other (sym same))) refl)
+    list_any-append (bytes_eq t) found (x ∷ []) ∙ or_from (list_any (bytes_eq t) found) (list_any (bytes_eq t) (x ∷ [])) fresh (or_from (bytes_eq t x) false (false_from_ne_true (bytes_eq t x) (λ e. other (sym ((bytes_eq-Decides t x).0 e)))) refl)
 
 pub distinct-fresh : (found xs : List (List ℕ)) → All (IsFresh found) xs → AllPairs ◌≢◌ xs → EachFrom IsFresh found xs
 distinct-fresh found [] fresh pairs = tt

@@ -1,6 +1,6 @@
 -- What each reader reads, and that it reads each such value.
 use Rattle.std.proofs.Common.{◌≡◌, ℕ, suc, ◌+◌, ◌≤◌, ◌&&◌, Bool, nat_le, List, [], ◌∷◌, ◌++◌, length, Option, Some, None, option_and_then, ℤ, pos, negsuc, Result, Ok, refl, sym, ap, subst, ◌∙◌, append_assoc, append-nil}
-use Rattle.std.proofs.lemmas.Bool.{leb-true, le-leb}
+use Rattle.std.proofs.lemmas.Bool.{leb-true, le-leb, and_parts}
 use Rattle.serde_json.specs.Data.{Data, Items, null, boolean, number, string, array, object}
 use Rattle.serde_json.specs.Find.{get, as_number, as_i64, as_str, as_array, as_bool}
 use Rattle.json_shape.specs.declared.fault.Why.TheVariants.{Range}
@@ -8,7 +8,7 @@ use Rattle.json_shape.specs.Faults.{Fault, ◌>>=◌}
 use Rattle.json_shape.specs.Paths.{member_path}
 use Rattle.json_shape.specs.Shapes.{listed, of_kind, object_at, member_at, within, list_at, in_range, number_at, text_at, truth_at, each}
 use Rattle.json_shape.specs.Parts.{IsNumber, IsText, IsTruth, AreItems, IsList}
-use Rattle.json_shape.proofs.Steps.{bind_ok, guard_ok, both_true, same_ok}
+use Rattle.json_shape.proofs.Steps.{bind_ok, guard_ok, same_ok}
 
 pub kind_takes : {A : Type 0} (path : List ℕ) (o : Option A) (x : A) → of_kind path o ≡ Ok x → o ≡ Some x
 kind_takes path None x e = absurd cc
@@ -33,7 +33,7 @@ truth_at-again path d b is = rw is refl
 in_range_takes : (path : List ℕ) (least most : ℕ) (z : ℤ) (n : ℕ) → in_range path least most z ≡ Ok n → (z ≡ pos n) × (least ≤ n) × (n ≤ most)
 in_range_takes path least most (pos m) n e =
     let g = guard_ok (nat_le least m && nat_le m most) path Range m n e in
-    let t = both_true (nat_le least m) (nat_le m most) g.0 in
+    let t = and_parts (nat_le least m) (nat_le m most) g.0 in
     (ap (λ k. pos k) g.1, rw (← g.1) (leb-true least m t.0), rw (← g.1) (leb-true m most t.1))
 in_range_takes path least most (negsuc m) n e = absurd cc
 
@@ -53,7 +53,7 @@ unfolding list_at
 list_at-takes path least most d ds e =
     let a = bind_ok (of_kind path (as_array d)) (λ is. within path least most (listed is)) ds e in
     let g = guard_ok (nat_le least (length (listed a.0)) && nat_le (length (listed a.0)) most) path Range (listed a.0) ds a.2 in
-    let t = both_true (nat_le least (length (listed a.0))) (nat_le (length (listed a.0)) most) g.0 in
+    let t = and_parts (nat_le least (length (listed a.0))) (nat_le (length (listed a.0)) most) g.0 in
     (a.0, kind_takes path (as_array d) a.0 a.1, g.1, subst (λ (xs : List Data). least ≤ length xs) g.1 (leb-true _ _ t.0), subst (λ (xs : List Data). length xs ≤ most) g.1 (leb-true _ _ t.1))
 
 pub list_at-again : (path : List ℕ) (least most : ℕ) (d : Data) (items : Items) → as_array d ≡ Some items → least ≤ length (listed items) → length (listed items) ≤ most → list_at path least most d ≡ Ok (listed items)

@@ -12,14 +12,5 @@ pub guard_ok : {A : Type 0} (b : Bool) (path : List ℕ) (why : Why) (x y : A) �
 guard_ok true path why x y e = (refl, cc)
 guard_ok false path why x y e = absurd cc
 
-pub both_true : (a b : Bool) → (a && b) ≡ true → (a ≡ true) × (b ≡ true)
-both_true true true e = (refl, refl)
-both_true true false e = absurd cc
-both_true false b e = absurd cc
-
-pub not_true : (b : Bool) → not b ≡ true → b ≡ false
-not_true true e = absurd cc
-not_true false e = refl
-
 pub same_ok : {A : Type 0} (x y : A) → (let o : Result A Fault = Ok x in o ≡ Ok y) → x ≡ y
 same_ok x y e = cc

@@ -1,4 +1,4 @@
-pub mod Truth
+pub mod Options
 pub mod Numbers
 pub mod Lists
 pub mod Ranges

@@ -1,8 +1,9 @@
 -- Laws of lists: their ends, one item more, one item written anew.
-use Rattle.std.proofs.Common.{◌≡◌, ◌≢◌, ℕ, zero, suc, pred, ◌+◌, ◌<◌, List, [], ◌∷◌, ◌++◌, length, map, take, subst, refl, ap, ◌∙◌, arith}
+use Rattle.std.proofs.Common.{◌≡◌, ◌≢◌, ℕ, zero, suc, pred, ◌+◌, ◌<◌, Bool, true, false, cond, replicate, filter, List, [], ◌∷◌, ◌++◌, length, map, take, subst, refl, ap, ◌∙◌, arith}
 use Rattle.std.specs.Prelude.{Some, slice_get, slice_set, All, Contains}
 use Rattle.std.proofs.lemmas.List.{length-append, get_or-append-add, get_or_append_left, take_more}
 use Rattle.std.proofs.lemmas.Option.{slice_get_within, get_or_from_slice_get}
+use Rattle.std.proofs.lemmas.List.Elements.{All-nil, All-cons}
 
 -- lists that are the same begin and go on alike
 pub heads : {A : Type 0} (x y : A) (xs ys : List A) → x ∷ xs ≡ y ∷ ys → x ≡ y
@@ -28,10 +29,6 @@ pub take_one_more : {A : Type 0} (xs : List A) (k : ℕ) (x : A) → slice_get x
 take_one_more xs k x h =
     take_more xs k x (slice_get_within xs k x h) ∙ ap (λ z. take k xs ++ z ∷ []) (get_or_from_slice_get xs k x x h)
 
-pub map-one : {A B : Type 0} (f : A → B) (xs : List A) (x : A) → map f (xs ++ x ∷ []) ≡ map f xs ++ f x ∷ []
-map-one f [] x = refl
-map-one f (y ∷ xs) x = ap (λ zs. f y ∷ zs) (map-one f xs x)
-
 -- ---- one item written anew
 
 pub get-set_same : {A : Type 0} (xs : List A) (a : ℕ) (y : A) → a < length xs → slice_get (slice_set xs a y) a ≡ Some y
@@ -49,7 +46,23 @@ get-set_other (y ∷ xs) (suc i) (suc k) x ne = get-set_other xs i k x (λ e. ne
 pub slice_get-set_same : {A : Type 0} (xs : List A) (a : ℕ) (x y : A) → slice_get xs a ≡ Some x → slice_get (slice_set xs a y) a ≡ Some y
 slice_get-set_same xs a x y h = get-set_same xs a y (slice_get_within xs a x h)
 
+-- a write elsewhere changes nothing here
+pub slice_get-set_apart : {A : Type 0} (xs : List A) (a b : ℕ) (x : A) → a ≢ b → slice_get (slice_set xs a x) b ≡ slice_get xs b
+slice_get-set_apart [] a b x ne = refl
+slice_get-set_apart (z ∷ xs) zero zero x ne = absurd (ne refl)
+slice_get-set_apart (z ∷ xs) zero (suc b) x ne = refl
+slice_get-set_apart (z ∷ xs) (suc a) zero x ne = refl
+slice_get-set_apart (z ∷ xs) (suc a) (suc b) x ne = slice_get-set_apart xs a b x (λ e. ne (ap suc e))
+
+pub slice_get-set_other : {A : Type 0} (xs : List A) (a b : ℕ) (x y : A) → a ≢ b → slice_get xs b ≡ Some y → slice_get (slice_set xs a x) b ≡ Some y
+slice_get-set_other xs a b x y ne h = slice_get-set_apart xs a b x ne ∙ h
+
 -- ---- two lists in one
+
+pub at_front : {A : Type 0} (xs ys : List A) (k : ℕ) → k < length xs → slice_get (xs ++ ys) k ≡ slice_get xs k
+at_front [] ys k l = absurd (omega arith)
+at_front (x ∷ xs) ys zero l = refl
+at_front (x ∷ xs) ys (suc k) l = at_front xs ys k (omega arith)
 
 -- what stands behind the first list
 pub at_end : {A : Type 0} (xs ys : List A) (n k : ℕ) → length xs ≡ n → slice_get (xs ++ ys) (n + k) ≡ slice_get ys k
@@ -76,3 +89,18 @@ pub has_map : {A B : Type 0} (g : A → B) (xs : List A) (x : A) → Contains xs
 has_map g [] x c = absurd (omega (arith, c.1))
 has_map g (y ∷ xs) x (zero, l, e) = subst (λ b. Contains (g y ∷ map g xs) b) (ap g e) (has_first (g y) (map g xs))
 has_map g (y ∷ xs) x (suc k, l, e) = has_later (g x) (g y) (map g xs) (has_map g xs x (k, (omega (arith, l)), e))
+
+-- what holds of the items that pass a test
+pub all_filtered : {A : Type 0} (test : A → Bool) (P : A → Type 0) (xs : List A) → All (λ x. test x ≡ true → P x) xs → All P (filter test xs)
+all_filtered test P [] all = All-nil P
+all_filtered {A} test P (x ∷ xs) all = go (test x) refl (all_filtered test P xs (λ k d l. all (suc k) d (omega arith)))
+  where
+    go : (b : Bool) → test x ≡ b → All P (filter test xs) → All P (cond b (x ∷ filter test xs) (filter test xs))
+    go true e rest = All-cons P x (filter test xs) (all 0 x (omega arith) e) rest
+    go false e rest = rest
+
+-- ---- lists of one item
+
+pub map-replicate : {A B : Type 0} (f : A → B) (n : ℕ) (x : A) → map f (replicate n x) ≡ replicate n (f x)
+map-replicate f zero x = refl
+map-replicate f (suc n) x = ap (λ xs. f x ∷ xs) (map-replicate f n x)

@@ -1,7 +1,18 @@
 -- Laws of numbers.
-use Rattle.std.proofs.Common.{◌≡◌, ℕ, zero, suc, ◌+◌, ◌≤◌, refl, arith}
-use Rattle.std.specs.Prelude.{ℤ, pos, neg_ℤ, ◌+ℤ◌, nat_abs}
+use Rattle.std.proofs.Common.{◌≡◌, ◌≢◌, ◌⊎◌, inl, inr, true, false, sym, ◌∙◌, eq-eqb, ne_eqb, ℕ, zero, suc, ◌+◌, ◌≤◌, refl, arith}
+use Rattle.std.specs.Prelude.{ℤ, pos, neg_ℤ, ◌+ℤ◌, nat_abs, ◌==◌}
 use Rattle.std.proofs.lemmas.Int.{ints}
+use Rattle.std.proofs.lemmas.Bool.Decides.{eqb_tells}
+
+-- what the test of two numbers tells
+abbrev pub Tells : ℕ → ℕ → Type 0
+Tells m n = ((m == n) ≡ true) × (m ≡ n) ⊎ ((m == n) ≡ false) × (m ≢ n)
+
+pub same_turned : (a b : ℕ) → (a == b) ≡ (b == a)
+same_turned a b = elim (eqb_tells a b) [
+  | inl h ↦ h.0 ∙ sym (eq-eqb b a (sym h.1))
+  | inr h ↦ h.0 ∙ sym (ne_eqb b a (λ e. h.1 (sym e)))
+]
 
 -- a sum is no greater than both parts
 pub size-add : (a b : ℤ) → nat_abs (a +ℤ b) ≤ nat_abs a + nat_abs b

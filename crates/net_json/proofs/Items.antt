@@ -14,7 +14,8 @@ use Rattle.pop_net.specs.declared.net.Item.TheVariants.{Leaf, Not, And, Or}
 use Rattle.pop_net.specs.NetModel.{after_item, after_items, depth_operators}
 use Rattle.pop_net.specs.NetFaults.{are_low}
 use Rattle.net_json.specs.Examined.{operand_at, open_depths, item_at, combine_item}
-use Rattle.net_json.proofs.Postfix.{after_items-append}
+use Rattle.list_laws.proofs.Options.{then_itself}
+use Rattle.pop_net.proofs.Trees.{after_items-append}
 
 -- what the loop over the items keeps
 pub record Reading (so_far : Type 0) (items : List Item) (trees : List ℕ) (i : ℕ) : Type 0 where
@@ -22,29 +23,10 @@ pub record Reading (so_far : Type 0) (items : List Item) (trees : List ℕ) (i :
   pub trees_open : open_depths items ≡ Some trees
   pub few : length trees ≤ i
 
-then_some_same : {A : Type 0} (o : Option A) → option_and_then (λ x. (let p : Option A = Some x in p)) o ≡ o
-then_some_same None = refl
-then_some_same (Some x) = refl
-
 -- the trees after one more item
 pub open_next : (items : List Item) (trees : List ℕ) (item : Item) → open_depths items ≡ Some trees → open_depths (items ++ item ∷ []) ≡ after_item depth_operators item trees
 open_next items trees item is =
-    after_items-append depth_operators items (item ∷ []) [] ∙ ap (option_and_then (after_items depth_operators (item ∷ []))) is ∙ then_some_same (after_item depth_operators item trees)
-
-abbrev length_of : Option (List ℕ) → ℕ
-length_of None = 0
-length_of (Some ds) = length ds
-
-pub after_item-length : (item : Item) (trees after : List ℕ) → after_item depth_operators item trees ≡ Some after → length after ≤ length trees + 1
-after_item-length (Leaf i) trees after e = let is : 1 ∷ trees ≡ after = cc in subst (λ (ds : List ℕ). length ds ≤ length trees + 1) is (omega arith)
-after_item-length Not [] after e = absurd cc
-after_item-length Not (d ∷ ds) after e = let is : (d + 1) ∷ ds ≡ after = cc in subst (λ (xs : List ℕ). length xs ≤ length (d ∷ ds) + 1) is (omega arith)
-after_item-length And [] after e = absurd cc
-after_item-length And (d ∷ []) after e = absurd cc
-after_item-length And (d ∷ c ∷ ds) after e = let is = ap length_of e in omega (arith, is)
-after_item-length Or [] after e = absurd cc
-after_item-length Or (d ∷ []) after e = absurd cc
-after_item-length Or (d ∷ c ∷ ds) after e = let is = ap length_of e in omega (arith, is)
+    after_items-append depth_operators items (item ∷ []) [] ∙ ap (option_and_then (after_items depth_operators (item ∷ []))) is ∙ then_itself (after_item depth_operators item trees)
 
 fails_on : {A B : Type 0} (e : FormatFault) (read : Result A Fault) (f : A → Result B Fault) → FailsRead e read → FailsRead e (read >>= f)
 fails_on NoMemory read f failed = tt
@@ -67,7 +49,3 @@ module _ (path : List ℕ) (leaves : ℕ) (found : List Item) (i : ℕ) (d : Dat
 pub and_second : (r a b : Bool) → r ≡ (a && b) → a ≡ true → b ≡ r
 and_second r true b e is = sym e
 and_second r false b e is = absurd cc
-
-pub put_some : (r : Bool) {P : Type 0} → r ≡ true → OnTrue r P → P
-put_some true is on = on
-put_some false is on = absurd cc

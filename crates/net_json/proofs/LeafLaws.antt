@@ -4,6 +4,7 @@ use Rattle.std.specs.Prelude.{All, Option, Some, None, IfSome}
 use Rattle.std.proofs.lemmas.List.Elements.{All-nil}
 use Rattle.std.specs.List.{list_any}
 use Rattle.std.specs.Str.{bytes_eq}
+use Rattle.std.proofs.lemmas.Bool.{and_parts, not-true}
 use Rattle.serde_json.specs.Data.{Data}
 use Rattle.serde_json.specs.Find.{as_array}
 use Rattle.pop_io.specs.Names.{state_name, AreNames}
@@ -12,7 +13,7 @@ use Rattle.json_shape.specs.Faults.{Fault, ◌>>=◌, broken}
 use Rattle.json_shape.specs.Paths.{member_path, item_path}
 use Rattle.json_shape.specs.Shapes.{of_kind, listed, object_at, member_at, member_by, number_at, text_at, item_by, each_at}
 use Rattle.json_shape.specs.Parts.{IsNumber, IsText, IsTruth, HasMember, AreItems, IsList}
-use Rattle.json_shape.proofs.Steps.{bind_ok, guard_ok, both_true, not_true, same_ok}
+use Rattle.json_shape.proofs.Steps.{bind_ok, guard_ok, same_ok}
 use Rattle.json_shape.proofs.Readers
 use Rattle.json_shape.proofs.Fresh
 use Rattle.pop_net.specs.declared.leaf.Move.{Move}
@@ -26,14 +27,6 @@ use Rattle.net_json.specs.Examined.{name_at, names_at, four_at, move_at, move_it
 abbrev IsNewName : (List ℕ → Bool) → List (List ℕ) → List ℕ → Type 0
 IsNewName is_name found s = IsTrue (is_name s) × Fresh.IsFresh found s
 
-from_true : (b : Bool) → b ≡ true → IsTrue b
-from_true true e = search
-from_true false e = absurd cc
-
-to_true : (b : Bool) → IsTrue b → b ≡ true
-to_true true h = refl
-to_true false h = search
-
 module _ (is_name : List ℕ → Bool) where
   name_takes : (path : List ℕ) (found : List (List ℕ)) (i : ℕ) (d : Data) (s : List ℕ) → item_by (name_at is_name) path found i d ≡ Ok s → IsText s d × IsNewName is_name found s
   unfolding name_at
@@ -41,15 +34,15 @@ module _ (is_name : List ℕ → Bool) where
       let at = item_path path i in
       let a = bind_ok (text_at at d) (λ t. cond (is_name t && not (list_any (bytes_eq t) found)) (Ok t) (broken at Name)) s e in
       let g = guard_ok (is_name a.0 && not (list_any (bytes_eq a.0) found)) at Name a.0 s a.2 in
-      let t = both_true (is_name a.0) (not (list_any (bytes_eq a.0) found)) g.0 in (
+      let t = and_parts (is_name a.0) (not (list_any (bytes_eq a.0) found)) g.0 in (
         subst (λ (x : List ℕ). IsText x d) g.1 (Readers.text_at-takes at d a.0 a.1),
-        subst (λ (x : List ℕ). IsNewName is_name found x) g.1 (from_true (is_name a.0) t.0, not_true (list_any (bytes_eq a.0) found) t.1),
+        subst (λ (x : List ℕ). IsNewName is_name found x) g.1 (t.0, not-true (list_any (bytes_eq a.0) found) t.1),
       )
 
   name_again : (path : List ℕ) (found : List (List ℕ)) (i : ℕ) (d : Data) (s : List ℕ) → IsText s d → IsNewName is_name found s → item_by (name_at is_name) path found i d ≡ Ok s
   unfolding name_at
   name_again path found i d s is fresh =
-      rw (Readers.text_at-again (item_path path i) d s is, to_true (is_name s) fresh.0, fresh.1) refl
+      rw (Readers.text_at-again (item_path path i) d s is, fresh.0, fresh.1) refl
 
   pub names_at-takes : (most : ℕ) (path : List ℕ) (d : Data) (ss : List (List ℕ)) → names_at is_name most path d ≡ Ok ss → IsList IsText ss d × AreNames is_name ss × (1 ≤ length ss) × (length ss ≤ most)
   unfolding each_at

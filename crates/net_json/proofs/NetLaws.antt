@@ -25,13 +25,13 @@ use Rattle.pop_net.specs.NetModel.{NetModel, IsNet, NamesBelow, combined, depth_
 use Rattle.pop_net.specs.NetFaults.{are_low, first_wide_leaf}
 use Rattle.pop_io.specs.declared.names.TheConstants.{VARIABLE_LIMIT}
 use Rattle.pop_net.specs.declared.limits.TheConstants.{HELPER_LIMIT, LEAF_LIMIT, ITEM_LIMIT, DEPTH_LIMIT}
-use Rattle.pop_net.proofs.NetFaults.{none_wide}
+use Rattle.pop_net.proofs.NetFaults.{none_wide, some_item}
 use Rattle.net_json.specs.declared.format.TheConstants.{PLAIN_FORMAT, HELPER_FORMAT}
 use Rattle.net_json.specs.NetFile.{IsItem, AreHelpers, IsLeafFile, IsNetFile}
 use Rattle.net_json.specs.Kept.{IsBroken}
 use Rattle.net_json.specs.Examined.{names_at, range_after, helpers_allowed, leaf_item, leaves_at, fitting_net, operand_at, open_depths, item_at, combine_item, combine_items_at, combine_at, net_at}
 use Rattle.net_json.proofs.LeafLaws.{names_at-takes, names_at-again, Allows, TellsHelpers, Follows, leaf_at-takes, leaf_at-again}
-use Rattle.net_json.proofs.Postfix.{IsPlaced, placed-takes, placed-again, one_tree, some_item}
+use Rattle.net_json.proofs.Postfix.{IsPlaced, placed-takes, placed-again, one_tree}
 
 same_bytes : (s t : List ℕ) → bytes_eq s t ≡ true → s ≡ t
 same_bytes s t e = (bytes_eq-Decides s t).0 e

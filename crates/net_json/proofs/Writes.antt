@@ -3,7 +3,7 @@ use Rattle.std.proofs.Common.{◌≡◌, inl, inr, ℕ, zero, suc, ◌+◌, ◌�
 use Rattle.std.specs.Prelude.{slice_get, All, if◌then◌else◌, Result, IfOk, IsOkAnd}
 use Rattle.std.proofs.lemmas.Bool.{lt-ltb, ltb-false}
 use Rattle.std.proofs.lemmas.List.Elements.{All-head, All-tail}
-use Rattle.std.proofs.lemmas.List.{map-append}
+use Rattle.std.proofs.lemmas.List.{map-append, take_all}
 use Rattle.serde_json.specs.Data.{Data, string, boolean, array, object, Members, member, no_members, put}
 use Rattle.serde_json.specs.View.{view, items_of}
 use Rattle.serde_json.specs.declared.value.Value.{Value}
@@ -18,22 +18,9 @@ use Rattle.pop_net.specs.NetModel.{NetModel, IsNet, NamesBelow, number_of_helper
 use Rattle.pop_net.specs.declared.limits.TheConstants.{STATE_LIMIT, LEAF_LIMIT}
 use Rattle.net_json.specs.NetFile.{IsMove, IsItem, IsLeafFile, IsNetFile}
 use Rattle.net_json.specs.Written.{number_data, list_data, texts_data, numbers_data, truths_data, move_data, item_data, leaf_data, is_helped, format_of, net_data}
-
-whole_taken : {A : Type 0} (xs : List A) (i : ℕ) → length xs ≤ i → take i xs ≡ xs
-whole_taken [] zero le = refl
-whole_taken [] (suc i) le = refl
-whole_taken (x ∷ xs) zero le = absurd (omega arith)
-whole_taken (x ∷ xs) (suc i) le = ap (λ ys. x ∷ ys) (whole_taken xs i (omega arith))
-
-take_next : {A : Type 0} (xs : List A) (i : ℕ) (x : A) → slice_get xs i ≡ Some x → take (suc i) xs ≡ take i xs ++ x ∷ []
-take_next [] i x e = absurd cc
-take_next (y ∷ ys) zero x e = let same : y ≡ x = cc in ap (λ z. z ∷ []) same
-take_next (y ∷ ys) (suc i) x e = ap (λ zs. y ∷ zs) (take_next ys i x e)
+use Rattle.list_laws.proofs.Lists.{take_one_more}
 
 module _ {A : Type 0} (f : A → Data) where
-  take_one_more : (xs : List A) (i : ℕ) (x : A) → slice_get xs i ≡ Some x → take (i + 1) xs ≡ take i xs ++ x ∷ []
-  take_one_more xs i x e = rw add-one (take_next xs i x e)
-
   -- one more value is written
   pub one_more : (list new : List Value) (xs : List A) (i : ℕ) (x : A) (v : Value) → map view list ≡ map f (take i xs) → slice_get xs i ≡ Some x → view v ≡ f x → new ≡ list ++ v ∷ [] → map view new ≡ map f (take (i + 1) xs)
   one_more list new xs i x v so_far e is pushed =
@@ -47,7 +34,7 @@ module _ {A : Type 0} (f : A → Data) where
   -- all values are written
   pub all_written : (list : List Value) (xs : List A) (i : ℕ) → map view list ≡ map f (take i xs) → length xs ≤ i → array (items_of (map view list)) ≡ list_data (map f xs)
   all_written list xs i so_far whole =
-      ap (λ (ds : List Data). array (items_of ds)) so_far ∙ ap (λ (ys : List A). array (items_of (map f ys))) (whole_taken xs i whole)
+      ap (λ (ds : List Data). array (items_of ds)) so_far ∙ ap (λ (ys : List A). array (items_of (map f ys))) (take_all i xs whole)
 
 -- the items of a list that is written
 written_items : {A : Type 0} (P : A → Type 0) (Is : A → Data → Type 0) (f : A → Data) → ((x : A) → P x → Is x (f x)) → (xs : List A) → All P xs → AreItems Is xs (listed (items_of (map f xs)))

@@ -11,11 +11,11 @@ use Rattle.agent_field.specs.declared.field.FieldSeat.{FieldSeat}
 use Rattle.agent_field.specs.declared.view.Logged.{Logged}
 use Rattle.agent_field.specs.History.{IsHistory, calls, calls_from, logged, listed_if}
 use Rattle.agent_field.specs.Seats.{log_of, taken_of}
-use Rattle.agent_field.proofs.Histories.{length-replay}
 use Rattle.pair_workers.specs.declared.work.Worker.{Worker}
 use Rattle.pair_workers.specs.Run.{meetings_of, pairs}
 use Rattle.pair_workers.specs.Turns.{HasPicked, ArePlayed}
 use Rattle.pair_workers.specs.Work.{HasMade, HasWorked, IsReady, IsDone, AreReady, AreDone, HasAll, agents_of_field, pairs_of}
+use Rattle.pop_crowd.proofs.Reached.{length-replay}
 
 -- a whole slice that was lent and written
 pub whole_written : {A : Type 0} (n : ℕ) (new old : List A) → length new ≡ length old → n ≡ length old → take n (new ++ drop (length new) old) ≡ new

@@ -11,7 +11,6 @@ use Rattle.pop_net.specs.Terminal.{IsTerminal}
 use Rattle.pop_crowd.specs.declared.crowd.Meeting.{Meeting}
 use Rattle.pop_crowd.specs.Replay.{replay, AreMarked}
 use Rattle.pop_crowd.proofs.InARow.{replay_append}
-use Rattle.agent_field.proofs.Histories.{length-replay}
 use Rattle.pop_words.specs.declared.spec.RunSpec.{RunSpec}
 use Rattle.pair_workers.specs.Picks.{picks, picks_from, words_from, first_state}
 use Rattle.pair_workers.specs.Run.{IsRun, IsRound, joined, pairs, meetings_of, turns_in}
@@ -20,6 +19,7 @@ use Rattle.pair_workers.specs.Turns.{HasPicked, ArePlayed}
 use Rattle.pair_workers.proofs.Played.{marked_append}
 use Rattle.pair_workers.proofs.Rounds.{get_pushed, joined_push, all_mine}
 use Rattle.pair_workers.proofs.Turns.{picked_none, picked_on}
+use Rattle.pop_crowd.proofs.Reached.{length-replay}
 
 -- what one worker plays alone is a round of one worker
 pub alone_played : (net : NetModel) (start : CrowdModel) (turns : ℕ) (pickers : List (List ℕ)) (before after : List ℕ) (ms : List Meeting) (end : CrowdModel) → IsPlayed net start (words_from before) ms end (words_from after)
@@ -72,7 +72,7 @@ first_alone spec picker one is (suc w) d l = absurd (omega (arith, l, one))
 
 module _ (net : NetModel) (start : CrowdModel) (spec : RunSpec) (rounds : List (List Meeting)) (crowd : CrowdModel) (pickers : List (List ℕ)) (left : ℕ) (h : AreOnTheRun net start spec rounds crowd pickers left) where
   -- the turns of the next round
-  next_turns : turns_in spec (length rounds + 1) ≡ min 4096 left
+  pub next_turns : turns_in spec (length rounds + 1) ≡ min 4096 left
   next_turns = ap (λ n. min 4096 n) (let e : spec.turns - 4096 * (length rounds + 1 - 1) ≡ left = omega (arith, h.unspent) in e)
 
   some : 1 ≤ left → 1 ≤ min 4096 left
@@ -85,15 +85,32 @@ module _ (net : NetModel) (start : CrowdModel) (spec : RunSpec) (rounds : List (
       by_size (inl l) = let all : left ≤ min 4096 left = (let m : left ≤ 4096 = omega (arith, l) in let n : left ≤ left = omega arith in le-min m n) in omega (arith, l, all, h.unspent)
       by_size (inr l) = omega (arith, l, h.unspent, min-eq_left l)
 
-  as_many : length crowd ≡ length start
+  pub as_many : length crowd ≡ length start
   as_many = ap length (sym h.replays) ∙ length-replay net (joined rounds) start
+
+  -- what one round more makes of the rounds so far
+  module _ (round : List Meeting) where
+    pub all_of : (w : ℕ) → meetings_of w (joined (rounds ++ round ∷ [])) ≡ meetings_of w (joined rounds) ++ meetings_of w round
+    all_of w = ap (meetings_of w) (joined_push rounds round) ∙ filter-append (λ (m : Meeting). m.worker == w) (joined rounds) round
+
+    pub all_marked : AreMarked net round crowd → AreMarked net (joined (rounds ++ round ∷ [])) start
+    all_marked marked = subst (λ (ms : List Meeting). AreMarked net ms start) (sym (joined_push rounds round)) (marked_append net (joined rounds) round start h.marked (subst (AreMarked net round) (sym h.replays) marked))
+
+    pub all_replayed : (end : CrowdModel) → replay net round crowd ≡ end → replay net (joined (rounds ++ round ∷ [])) start ≡ end
+    all_replayed end is = ap (λ (ms : List Meeting). replay net ms start) (joined_push rounds round) ∙ replay_append net (joined rounds) round start ∙ ap (replay net round) h.replays ∙ is
+
+    pub all_go_on : (IsTerminal (Step net) crowd → ⊥) → (k : ℕ) → k < length (rounds ++ round ∷ []) → IsTerminal (Step net) (replay net (joined (take k (rounds ++ round ∷ []))) start) → ⊥
+    all_go_on goes k b t = by_place (cases_lt k (length rounds))
+      where
+        by_place : (k < length rounds) ⊎ (length rounds ≤ k) → ⊥
+        by_place (inl c) = h.goes_on k c (subst (λ (rs : List (List Meeting)). IsTerminal (Step net) (replay net (joined rs) start)) (take-append-le k rounds (round ∷ []) (omega (arith, c))) t)
+        by_place (inr c) =
+            let all : take k (rounds ++ round ∷ []) ≡ rounds = take-append-le k rounds (round ∷ []) (omega (arith, b, length-append rounds (round ∷ []))) ∙ take_all k rounds c in
+            goes (subst (IsTerminal (Step net)) (ap (λ (rs : List (List Meeting)). replay net (joined rs) start) all ∙ h.replays) t)
 
   module _ (end : CrowdModel) (after : List (List ℕ)) (round : List Meeting) (p : ArePlayed net crowd spec.workers (min 4096 left) pickers after round end) where
     made : (w : ℕ) → w < spec.workers → length (meetings_of w round) ≡ min 4096 left
     made w l = sym (length-map (meetings_of w round) (λ (m : Meeting). (m.a, m.b))) ∙ (p.picked w [] l).long
-
-    all_of : (w : ℕ) → meetings_of w (joined (rounds ++ round ∷ [])) ≡ meetings_of w (joined rounds) ++ meetings_of w round
-    all_of w = ap (meetings_of w) (joined_push rounds round) ∙ filter-append (λ (m : Meeting). m.worker == w) (joined rounds) round
 
     more_picked : (w : ℕ) (d : List ℕ) → w < spec.workers → HasPicked (length start) (length (meetings_of w (joined rounds) ++ meetings_of w round)) (first_state spec.seed w) (get_or after w d) (pairs (meetings_of w (joined rounds) ++ meetings_of w round))
     more_picked w d l =
@@ -110,10 +127,10 @@ module _ (net : NetModel) (start : CrowdModel) (spec : RunSpec) (rounds : List (
     all_more_rounds l goes =
         record {
           each = λ k meetings e. each_case k meetings (get_pushed rounds round meetings k e);
-          picked = λ w d b. subst (λ (ms : List Meeting). HasPicked (length start) (length ms) (first_state spec.seed w) (get_or after w d) (pairs ms)) (sym (all_of w)) (more_picked w d b);
-          marked = subst (λ (ms : List Meeting). AreMarked net ms start) (sym (joined_push rounds round)) (marked_append net (joined rounds) round start h.marked (subst (AreMarked net round) (sym h.replays) p.marked));
-          replays = ap (λ (ms : List Meeting). replay net ms start) (joined_push rounds round) ∙ replay_append net (joined rounds) round start ∙ ap (replay net round) h.replays ∙ p.replays;
-          goes_on = λ k b t. goes_case k (cases_lt k (length rounds)) (let c : k < length rounds + 1 = rw (← length-append rounds (round ∷ [])) b in c) t;
+          picked = λ w d b. subst (λ (ms : List Meeting). HasPicked (length start) (length ms) (first_state spec.seed w) (get_or after w d) (pairs ms)) (sym (all_of round w)) (more_picked w d b);
+          marked = all_marked round p.marked;
+          replays = all_replayed round end p.replays;
+          goes_on = all_go_on round goes;
           unspent = fewer ∙ ap (λ n. spec.turns - 4096 * n) (sym (length-append rounds (round ∷ [])));
         }
       where
@@ -125,12 +142,6 @@ module _ (net : NetModel) (start : CrowdModel) (spec : RunSpec) (rounds : List (
               each_worker = λ w b. made w b ∙ sym next_turns;
               nobody_else = p.nobody_else;
             })
-
-        goes_case : (k : ℕ) → (k < length rounds) ⊎ (length rounds ≤ k) → k < length rounds + 1 → IsTerminal (Step net) (replay net (joined (take k (rounds ++ round ∷ []))) start) → ⊥
-        goes_case k (inl b) c t = h.goes_on k b (subst (λ (rs : List (List Meeting)). IsTerminal (Step net) (replay net (joined rs) start)) (take-append-le k rounds (round ∷ []) (omega (arith, b))) t)
-        goes_case k (inr b) c t =
-            let all : take k (rounds ++ round ∷ []) ≡ rounds = take-append-le k rounds (round ∷ []) (omega (arith, c)) ∙ take_all k rounds b in
-            goes (subst (IsTerminal (Step net)) (ap (λ (rs : List (List Meeting)). replay net (joined rs) start) all ∙ h.replays) t)
 
   -- a run that is over
   pub all_run_over : IsTerminal (Step net) crowd ⊎ (left ≡ 0) → IsRun net start spec rounds crowd

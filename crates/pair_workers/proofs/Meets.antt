@@ -9,7 +9,7 @@ use Rattle.pop_crowd.specs.declared.crowd.Meeting.{Meeting}
 use Rattle.pop_crowd.specs.Replay.{IsMeeting, AreMeetings}
 use Rattle.pair_workers.specs.Picks.{pick_of, picks_from}
 use Rattle.pair_workers.specs.Run.{pairs}
-use Rattle.pair_workers.proofs.Fronts.{same_head, same_tail}
+use Rattle.list_laws.proofs.Lists.{heads, tails}
 
 abbrev IsPair : ℕ → ℕ × ℕ → Type 0
 IsPair n p = (p.0 ≢ p.1) × (p.0 < n) × (p.1 < n)
@@ -27,6 +27,6 @@ picked_meet words n [] two is = All-nil (IsMeeting n)
 picked_meet words n (m ∷ meetings) two is =
     let pick = pick_of n (next_u64 words).0 in
     let rest = (next_u64 words).1 in
-    let pair = subst (IsPair n) (sym (same_head (m.a, m.b) pick (pairs meetings) (picks_from rest n (length meetings)) is)) (pick_in n (next_u64 words).0 two) in
+    let pair = subst (IsPair n) (sym (heads (m.a, m.b) pick (pairs meetings) (picks_from rest n (length meetings)) is)) (pick_in n (next_u64 words).0 two) in
     All-cons (IsMeeting n) m meetings (record { different = pair.0; first = pair.1; second = pair.2 })
-    (picked_meet rest n meetings two (same_tail (m.a, m.b) pick (pairs meetings) (picks_from rest n (length meetings)) is))
+    (picked_meet rest n meetings two (tails (m.a, m.b) pick (pairs meetings) (picks_from rest n (length meetings)) is))

@@ -17,9 +17,9 @@ use Rattle.pair_workers.specs.Picks.{pick_of, picks_from, words_from, first_stat
 use Rattle.pair_workers.specs.Run.{IsRun, IsRound, joined, pairs, turns_in}
 use Rattle.pair_workers.specs.OneRun.{IsOnlyRun}
 use Rattle.pair_workers.proofs.Rounds.{all_mine}
-use Rattle.pair_workers.proofs.Fronts.{same_head, same_tail}
+use Rattle.list_laws.proofs.Lists.{heads, tails}
 
-same_meeting : (m n : Meeting) → m.worker ≡ n.worker → m.a ≡ n.a → m.b ≡ n.b → m.changed ≡ n.changed → m ≡ n
+pub same_meeting : (m n : Meeting) → m.worker ≡ n.worker → m.a ≡ n.a → m.b ≡ n.b → m.changed ≡ n.changed → m ≡ n
 same_meeting m n w a b c = λ i. record { worker = w i; a = a i; b = b i; changed = c i }
 
 take_none : {A : Type 0} (xs : List A) → take 0 xs ≡ []
@@ -37,14 +37,14 @@ firsts net words n crowd (m ∷ ms) [] h k p q a b l = absurd (omega (arith, l))
 firsts net words n crowd (m ∷ ms) (o ∷ more) h k p q a b l =
     let pick = pick_of n (next_u64 words).0 in
     let rest = (next_u64 words).1 in
-    let first = same_head (m.a, m.b) pick (pairs ms) (picks_from rest n (length ms)) p in
-    let other = same_head (o.a, o.b) pick (pairs more) (picks_from rest n (length more)) q in
+    let first = heads (m.a, m.b) pick (pairs ms) (picks_from rest n (length ms)) p in
+    let other = heads (o.a, o.b) pick (pairs more) (picks_from rest n (length more)) q in
     let agents : ◌≡◌ {A = ℕ × ℕ} (m.a, m.b) (o.a, o.b) = first ∙ sym other in
     let worker = All-head Mine m ms h ∙ sym (All-head Mine o more k) in
     let changed : m.changed ≡ o.changed = a.0 ∙ ap (λ (t : ℕ × ℕ). changes net t.0 t.1 crowd) agents ∙ sym b.0 in
     let same = same_meeting m o worker (ap (λ (t : ℕ × ℕ). t.0) agents) (ap (λ (t : ℕ × ℕ). t.1) agents) changed in
     let tail =
-    firsts net rest n (after_meeting net m.a m.b crowd) ms more (All-tail Mine m ms h) (All-tail Mine o more k) (same_tail (m.a, m.b) pick (pairs ms) (picks_from rest n (length ms)) p) (same_tail (o.a, o.b) pick (pairs more) (picks_from rest n (length more)) q)
+    firsts net rest n (after_meeting net m.a m.b crowd) ms more (All-tail Mine m ms h) (All-tail Mine o more k) (tails (m.a, m.b) pick (pairs ms) (picks_from rest n (length ms)) p) (tails (o.a, o.b) pick (pairs more) (picks_from rest n (length more)) q)
     a.1 (subst (λ (t : ℕ × ℕ). AreMarked net more (after_meeting net t.0 t.1 crowd)) (sym agents) b.1) (omega (arith, l)) in
     ap (λ (x : Meeting). x ∷ ms) same ∙ ap (λ (xs : List Meeting). o ∷ xs) tail
 
@@ -54,8 +54,8 @@ parts [] [] b b' l e = (refl, e)
 parts [] (y ∷ a') b b' l e = absurd (omega (arith, l))
 parts (x ∷ a) [] b b' l e = absurd (omega (arith, l))
 parts (x ∷ a) (y ∷ a') b b' l e =
-    let more = parts a a' b b' (omega (arith, l)) (same_tail x y (a ++ b) (take (length (a ++ b)) (a' ++ b')) e) in
-    let head = same_head x y (a ++ b) (take (length (a ++ b)) (a' ++ b')) e in
+    let more = parts a a' b b' (omega (arith, l)) (tails x y (a ++ b) (take (length (a ++ b)) (a' ++ b')) e) in
+    let head = heads x y (a ++ b) (take (length (a ++ b)) (a' ++ b')) e in
     (ap (λ z. z ∷ a) head ∙ ap (λ zs. y ∷ zs) more.0, more.1)
 
 -- equally many meetings in each round that both have

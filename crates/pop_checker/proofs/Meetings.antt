@@ -1,10 +1,11 @@
 -- In a single leaf each step of the leaf's crowd is made by a meeting, whatever the meeting does to the other leaves.
 use Rattle.std.proofs.Common.{◌≡◌, ◌≢◌, ◌⊎◌, inl, inr, ℕ, zero, suc, ◌<◌, ◌≤◌, Bool, true, false, not, List, [], ◌∷◌, length, refl, ap, sym, subst, ◌∙◌, arith}
 use Rattle.std.specs.Prelude.{Option, Some, None, find, cond, slice_get, slice_set, slice_index_or, All, AllPairs}
-use Rattle.std.proofs.lemmas.Bool.{eq-eqb, cases_lt}
+use Rattle.std.proofs.lemmas.Bool.{eq-eqb, cases_lt, not-true}
 use Rattle.std.proofs.lemmas.List.{set_comm, length-map}
 use Rattle.std.proofs.lemmas.List.Elements.{All-nil, All-cons, All-get_or}
 use Rattle.std.proofs.lemmas.Option.{slice_get_within, slice_get-get_or, get_or_from_slice_get}
+use Rattle.std.proofs.Math.Bool.{or-true}
 use Rattle.pop_net.specs.declared.leaf.Move.{Move}
 use Rattle.pop_net.specs.LeafModel.{LeafModel, silent_move, same_pair}
 use Rattle.pop_net.specs.NetModel.{NetModel, CrowdModel, IsTuple, state_of}
@@ -12,14 +13,13 @@ use Rattle.pop_net.specs.Step.{Follows, LeafChange, LeafStep}
 use Rattle.pop_net.specs.Reachable.{Leads}
 use Rattle.pop_net.specs.Reaction.{takes_states, by_move, leaf_reaction, reactions, reaction, Differ, after_meeting}
 use Rattle.pop_net.proofs.Found.{find_some}
-use Rattle.pop_net.proofs.Reactions.{and_left, and_right, not_true, get-reactions, state_of-map}
+use Rattle.pop_net.proofs.Reactions.{and_left, and_right, get-reactions, state_of-map}
 use Rattle.pop_net.proofs.Silent.{same_pair_cases, same-self, takes-own}
 use Rattle.pop_net.proofs.Quiet.{set_same}
 use Rattle.pop_net.proofs.Projection.{component, component-set, slice_get-component}
 use Rattle.pop_crowd.specs.declared.crowd.Meeting.{Meeting}
 use Rattle.pop_crowd.specs.Replay.{replay, IsMeeting, AreMeetings}
 use Rattle.pop_crowd.proofs.Reached.{length-after_meeting, tuples_after_meeting}
-use Rattle.list_laws.proofs.Truth.{or_true}
 
 -- no two non-silent moves of the leaf have the same states before them
 abbrev pub IsSingleLeaf : LeafModel → Type 0
@@ -30,7 +30,7 @@ turned x y u v e = go (same_pair_cases x y u v e)
   where
     go : ((x ≡ u) × (y ≡ v)) ⊎ ((x ≡ v) × (y ≡ u)) → same_pair u v x y ≡ true
     go (inl h) = rw (← h.0, ← h.1) (same-self x y)
-    go (inr h) = rw (eq-eqb u y (sym h.1), eq-eqb v x (sym h.0)) (or_true _)
+    go (inr h) = rw (eq-eqb u y (sym h.1), eq-eqb v x (sym h.0)) (or-true _)
 
 finds_none : (p : Move → Bool) (moves : List Move) (n : ℕ) (t : Move) → slice_get moves n ≡ Some t → p t ≡ true → find p moves ≡ None → ⊥
 finds_none p [] n t h e f = cc
@@ -54,7 +54,7 @@ module _ (moves : List Move) (single : AllPairs Differ moves) where
   the_only n k t u ht hu e f = go (cases_lt k n) (cases_lt n k)
     where
       loud : silent_move u ≡ false
-      loud = not_true (silent_move u) (and_left (not (silent_move u)) (same_pair t.p t.q u.p u.q) f)
+      loud = not-true (silent_move u) (and_left (not (silent_move u)) (same_pair t.p t.q u.p u.q) f)
 
       same : same_pair t.p t.q u.p u.q ≡ true
       same = and_right (not (silent_move u)) (same_pair t.p t.q u.p u.q) f

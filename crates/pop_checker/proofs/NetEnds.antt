@@ -25,6 +25,8 @@ use Rattle.cert_base.specs.ValidLayers.{ValidLayers}
 use Rattle.cert_base.proofs.Agents.{InRange}
 use Rattle.cert_base.proofs.InRange.{leads_in_range, input_in_range}
 use Rattle.cert_layers.proofs.Termination.{valid_layers-end, leads-append}
+use Rattle.list_laws.proofs.Numbers.{Tells}
+use Rattle.list_laws.proofs.Options.{same_value}
 
 -- at each leaf each agent has a state of the leaf
 abbrev pub InRanges : NetModel → CrowdModel → Type 0
@@ -42,19 +44,13 @@ pub record Brought (net : NetModel) (i : ℕ) (crowd : CrowdModel) (k : ℕ) : T
   pub tuples : All (IsTuple net) last
   pub ended : EndedBefore net i last
 
-same_leaf : (net : NetModel) (j : ℕ) (one other : LeafModel) → slice_get net.leaves j ≡ Some one → slice_get net.leaves j ≡ Some other → one ≡ other
-same_leaf net j one other e f = cc
-
-abbrev Tells : ℕ → ℕ → Type 0
-Tells m n = ((m == n) ≡ true) × (m ≡ n) ⊎ ((m == n) ≡ false) × (m ≢ n)
-
 module _ (net : NetModel) (i : ℕ) (leaf : LeafModel) (h : slice_get net.leaves i ≡ Some leaf) (crowd : CrowdModel) (end : List ℕ) (k : ℕ) (l : Lifted net i crowd end k) where
   ranges_after : InRanges net crowd → InRange leaf end → (j : ℕ) (other : LeafModel) → slice_get net.leaves j ≡ Some other → Tells j i → InRange other (component j l.last)
   ranges_after ranges range j other e (inr ne) =
       subst (λ (c : List ℕ). InRange other c) (sym (l.others j ne.1)) (ranges j other e)
   ranges_after ranges range j other e (inl same) =
       let at : slice_get net.leaves i ≡ Some other = rw same.1 at e in
-      let one = same_leaf net i leaf other h at in
+      let one = same_value (slice_get net.leaves i) leaf other h at in
       subst (λ (n : ℕ). InRange other (component n l.last)) (sym same.1) (subst (λ (c : List ℕ). InRange other c) (sym l.here) (subst (λ (o : LeafModel). InRange o end) one range))
 
   ended_after : EndedBefore net i crowd → IsTerminal (LeafStep leaf) end → (j : ℕ) (other : LeafModel) → j < suc i → slice_get net.leaves j ≡ Some other → Tells j i → IsTerminal (LeafStep other) (component j l.last)
@@ -65,7 +61,7 @@ module _ (net : NetModel) (i : ℕ) (leaf : LeafModel) (h : slice_get net.leaves
       below j i b ne = omega arith
   ended_after ended terminal j other b e (inl same) =
       let at : slice_get net.leaves i ≡ Some other = rw same.1 at e in
-      let one = same_leaf net i leaf other h at in
+      let one = same_value (slice_get net.leaves i) leaf other h at in
       subst (λ (n : ℕ). IsTerminal (LeafStep other) (component n l.last)) (sym same.1) (subst (λ (c : List ℕ). IsTerminal (LeafStep other) c) (sym l.here) (subst (λ (o : LeafModel). IsTerminal (LeafStep o) end) one terminal))
 
 -- the leaf and its layers

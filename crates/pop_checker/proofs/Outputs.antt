@@ -26,6 +26,8 @@ use Rattle.cert_base.specs.Ends.{EndsRight}
 use Rattle.pop_checker.specs.Computes.{Computes}
 use Rattle.pop_checker.specs.Parts.{IsRightPart, AreRightBefore}
 use Rattle.pop_checker.proofs.NetEnds.{valid_ends}
+use Rattle.pop_net.proofs.Whole.{one_left}
+use Rattle.list_laws.proofs.Options.{item_within}
 
 -- ---- the combination of the leaves' outputs is the value of the combined tree
 
@@ -72,11 +74,6 @@ module _ (counts : List ℕ) (parts : List PredTree) (outputs : List Bool) where
           let rest : after_items (trees parts) items next ≡ Some after = sym (ap (option_and_then (after_items (trees parts) items)) is) ∙ e in
           ap (option_and_then (after_items (truth outputs) items)) first ∙ more next rest
 
-  only_tree : (after : List PredTree) (tree : PredTree) → only_one after ≡ Some tree → after ≡ tree ∷ []
-  only_tree [] tree e = cc
-  only_tree (a ∷ []) tree e = cc
-  only_tree (a ∷ b ∷ after) tree e = cc
-
   combined_value : (items : List Item) (tree : PredTree) → All Agrees items → combined (trees parts) items ≡ Some tree → combined (truth outputs) items ≡ Some (predicate_value tree counts)
   combined_value items tree agrees e = go (after_items (trees parts) items []) refl
     where
@@ -85,7 +82,7 @@ module _ (counts : List ℕ) (parts : List PredTree) (outputs : List Bool) where
       go (Some after) is =
           let one : only_one after ≡ Some tree = sym (ap (option_and_then only_one) is) ∙ e in
           let all = items_value items [] after agrees is in
-          ap (option_and_then only_one) (all ∙ ap (λ (o : List PredTree). Some (values o)) (only_tree after tree one))
+          ap (option_and_then only_one) (all ∙ ap (λ (o : List PredTree). Some (values o)) (one_left after tree one))
 
 -- ---- one agent at the end
 
@@ -95,11 +92,6 @@ output_at (first ∷ leaves) [] i leaf e h = absurd (omega (arith, e))
 output_at (first ∷ leaves) (p ∷ x) zero leaf e h =
     let same : first ≡ leaf = cc in ap (λ (l : LeafModel). slice_index_or l.outputs p false) same
 output_at (first ∷ leaves) (p ∷ x) (suc i) leaf e h = output_at leaves x i leaf (ap pred e) h
-
-part_of : (parts : List LeafProof) (i : ℕ) → i < length parts → (part : LeafProof) × (slice_get parts i ≡ Some part)
-part_of [] i l = absurd (omega arith)
-part_of (part ∷ parts) zero l = (part, refl)
-part_of (part ∷ parts) (suc i) l = part_of parts i (omega arith)
 
 tree_at : (parts : List LeafProof) (i : ℕ) (part : LeafProof) (other : PredTree) → slice_get parts i ≡ Some part → slice_index_or (map (λ q. q.pred.tree) parts) i other ≡ part.pred.tree
 tree_at [] i part other h = cc
@@ -130,7 +122,7 @@ module _ (net : NetModel) (proof : Proof) (is : IsNet net) (one_each : length pr
   agent_agrees a x there (Leaf i) l =
       let leaf = get_or net.leaves i nothing in
       let h : slice_get net.leaves i ≡ Some leaf = slice_get-get_or net.leaves i nothing l in
-      let part = part_of proof.leaves i (omega (arith, l, one_each)) in
+      let part = item_within proof.leaves i (omega (arith, l, one_each)) in
       let tuple : length x ≡ length net.leaves = All-slice_get (IsTuple net) crowd a x are_tuples there in
       let state = slice_get-component i crowd a x there in
       output_at net.leaves x i leaf tuple h

@@ -21,7 +21,7 @@ use Rattle.pop_net.proofs.Tuples.{leads_terminal, reachable_tuples}
 use Rattle.pop_crowd.specs.declared.crowd.Meeting.{Meeting}
 use Rattle.pop_crowd.specs.Replay.{replay, IsMeeting, AreMeetings}
 use Rattle.pop_crowd.proofs.InARow.{replay_append}
-use Rattle.pop_crowd.proofs.Reached.{length-after_meeting, replay_leads}
+use Rattle.pop_crowd.proofs.Reached.{length-after_meeting, replay_leads, length-replay}
 use Rattle.cert_base.specs.declared.proof.Proof.{Proof}
 use Rattle.cert_base.specs.declared.proof.LeafProof.{LeafProof}
 use Rattle.cert_base.specs.ProofBound.{layers_bound, proof_bound}
@@ -32,11 +32,6 @@ use Rattle.cert_base.proofs.InRange.{leads_in_range}
 use Rattle.cert_layers.proofs.Termination.{valid_layers-end}
 use Rattle.pop_checker.specs.Computes.{EndsByMeetings}
 use Rattle.pop_checker.proofs.Meetings.{IsSingleLeaf, meet_way}
-
-length-replay : (net : NetModel) (meetings : List Meeting) (crowd : CrowdModel) → length (replay net meetings crowd) ≡ length crowd
-length-replay net [] crowd = refl
-length-replay net (m ∷ meetings) crowd =
-    length-replay net meetings (after_meeting net m.a m.b crowd) ∙ length-after_meeting net m.a m.b crowd
 
 -- a leaf that is single, and its valid layers
 abbrev CanSettle : LeafModel → LeafProof → Type 0

@@ -1,5 +1,5 @@
 -- The tuples of a crowd in order, and counting them one by one.
-use Rattle.std.proofs.Common.{◌≡◌, ◌≢◌, ◌⊎◌, inl, inr, ℕ, zero, suc, ◌+◌, ◌<◌, false, cond, List, [], ◌∷◌, ◌++◌, length, map, fold, append_assoc, zero-add, refl, ap, sym, subst, ◌∙◌, arith}
+use Rattle.std.proofs.Common.{◌≡◌, ◌≢◌, ◌⊎◌, inl, inr, ℕ, zero, suc, ◌+◌, ◌<◌, false, cond, List, [], ◌∷◌, ◌++◌, length, map, fold, append_assoc, zero-add, refl, ap, sym, subst, ◌∙◌, arith, append-nil}
 use Rattle.std.specs.Prelude.{Some, None, All, Contains, Vec, Decides, unwrap_or, nat_eq}
 use Rattle.std.specs.List.{AllByRecursion}
 use Rattle.std.specs.List.Sorted.{IsStrictlySortedBy}
@@ -18,10 +18,10 @@ use Rattle.std.proofs.lemmas.Bool.{false_from_ne_true}
 use Rattle.std.proofs.lemmas.Bool.Decides.{Decides-eqb}
 use Rattle.std.proofs.lemmas.Slice.Eq.{slice_eq-Decides}
 use Rattle.std.proofs.lemmas.Map.Views.{All-insert_key}
-use Rattle.pop_crowd.proofs.Inputs.{append_nil}
 use Rattle.pop_net.specs.NetModel.{Tuple, CrowdModel}
 use Rattle.pop_crowd.specs.Tally.{tuple_cmp, tuples_of, agents_with, tuple_counts, AreTuplesOf}
 use Rattle.pop_crowd.specs.Shown.{shown}
+use Rattle.list_laws.proofs.Lists.{has_first, has_later}
 
 -- which way an order goes, with its equation
 data Way (o : Ordering) : Type 0 where
@@ -94,20 +94,14 @@ sorted_insert (u ∷ ts) x h = go (way (tuple_cmp x u)) (sorted_insert ts x h.1)
     go (equal e) ih = rw e h
     go (greater e) ih = rw e (each_insert (λ t. tuple_cmp u t ≡ Less) ts x h.0 (below_from_above x u e), ih)
 
-here : (x : Tuple) (ts : List Tuple) → Contains (x ∷ ts) x
-here x ts = (0, (let l : 0 < suc (length ts) = omega arith in l), refl)
-
-later : (x u : Tuple) (ts : List Tuple) → Contains ts x → Contains (u ∷ ts) x
-later x u ts h = (suc h.0, (let l : suc h.0 < suc (length ts) = omega (arith, h.1) in l), h.2)
-
 inserted : (ts : List Tuple) (x : Tuple) → Contains (insert_key tuple_cmp ts x) x
-inserted [] x = here x []
+inserted [] x = has_first x []
 inserted (u ∷ ts) x = go (way (tuple_cmp x u)) (inserted ts x)
   where
     go : Way (tuple_cmp x u) → Contains (insert_key tuple_cmp ts x) x → Contains (match_ordering (tuple_cmp x u) (x ∷ u ∷ ts) (u ∷ ts) (u ∷ insert_key tuple_cmp ts x)) x
-    go (less e) ih = rw e (here x (u ∷ ts))
-    go (equal e) ih = let same : u ≡ x = sym (exact_bytes x u e) in rw e (subst (λ (t : Tuple). Contains (u ∷ ts) t) same (here u ts))
-    go (greater e) ih = rw e (later x u (insert_key tuple_cmp ts x) ih)
+    go (less e) ih = rw e (has_first x (u ∷ ts))
+    go (equal e) ih = let same : u ≡ x = sym (exact_bytes x u e) in rw e (subst (λ (t : Tuple). Contains (u ∷ ts) t) same (has_first u ts))
+    go (greater e) ih = rw e (has_later x u (insert_key tuple_cmp ts x) ih)
 
 first_or_later : (u y : Tuple) (ts : List Tuple) → Contains (u ∷ ts) y → (u ≡ y) ⊎ Contains ts y
 first_or_later u y ts (zero, l, e) = inl e
@@ -118,11 +112,11 @@ kept [] x y h = absurd (omega (arith, h.1))
 kept (u ∷ ts) x y h = go (way (tuple_cmp x u)) (λ m. kept ts x y m)
   where
     rest : (u ≡ y) ⊎ Contains ts y → (Contains ts y → Contains (insert_key tuple_cmp ts x) y) → Contains (u ∷ insert_key tuple_cmp ts x) y
-    rest (inl e) ih = subst (λ (t : Tuple). Contains (u ∷ insert_key tuple_cmp ts x) t) e (here u (insert_key tuple_cmp ts x))
-    rest (inr m) ih = later y u (insert_key tuple_cmp ts x) (ih m)
+    rest (inl e) ih = subst (λ (t : Tuple). Contains (u ∷ insert_key tuple_cmp ts x) t) e (has_first u (insert_key tuple_cmp ts x))
+    rest (inr m) ih = has_later y u (insert_key tuple_cmp ts x) (ih m)
 
     go : Way (tuple_cmp x u) → (Contains ts y → Contains (insert_key tuple_cmp ts x) y) → Contains (match_ordering (tuple_cmp x u) (x ∷ u ∷ ts) (u ∷ ts) (u ∷ insert_key tuple_cmp ts x)) y
-    go (less e) ih = rw e (later y x (u ∷ ts) h)
+    go (less e) ih = rw e (has_later y x (u ∷ ts) h)
     go (equal e) ih = rw e h
     go (greater e) ih = rw e (rest (first_or_later u y ts h) ih)
 
@@ -135,7 +129,7 @@ tuples_more done x ts a =
     }
 
 tuples_from : (done rest : CrowdModel) (ts : List Tuple) → AreTuplesOf done ts → AreTuplesOf (done ++ rest) (fold (insert_key tuple_cmp) ts rest)
-tuples_from done [] ts a = subst (λ (c : CrowdModel). AreTuplesOf c ts) (sym (append_nil done)) a
+tuples_from done [] ts a = subst (λ (c : CrowdModel). AreTuplesOf c ts) (sym (append-nil done)) a
 tuples_from done (x ∷ rest) ts a =
     subst (λ (c : CrowdModel). AreTuplesOf c (fold (insert_key tuple_cmp) (insert_key tuple_cmp ts x) rest)) (append_assoc done (x ∷ []) rest)
     (tuples_from (done ++ x ∷ []) rest (insert_key tuple_cmp ts x) (tuples_more done x ts a))

@@ -1,5 +1,5 @@
 -- The input crowd, one variable after the other.
-use Rattle.std.proofs.Common.{◌≡◌, ℕ, zero, suc, ◌+◌, ◌<◌, ◌≤◌, List, [], ◌∷◌, ◌++◌, length, map, take, replicate, get_or, sum, append_assoc, refl, ap, sym, ◌∙◌, arith}
+use Rattle.std.proofs.Common.{◌≡◌, ℕ, zero, suc, ◌+◌, ◌<◌, ◌≤◌, List, [], ◌∷◌, ◌++◌, length, map, take, replicate, get_or, sum, append_assoc, refl, ap, sym, ◌∙◌, arith, append-nil}
 use Rattle.std.proofs.lemmas.List.{length-append, length-map, map-append, take_more, take_all, length-take-le}
 use Rattle.std.proofs.lemmas.List.Elements.{All-append, All-replicate}
 use Rattle.pop_net.specs.declared.net.Word.{Word}
@@ -10,21 +10,14 @@ use Rattle.pop_net.specs.InputCrowd.{starts_from, start_of, helper_of, input_cro
 use Rattle.pop_net.specs.Lanes.{tuple_of, crowd_of, IsValid, AreValid}
 use Rattle.pop_crowd.specs.Crowds.{input_size}
 use Rattle.pop_net.proofs.Tuples.{length-starts_from}
-
-pub append_nil : {A : Type 0} (xs : List A) → xs ++ [] ≡ xs
-append_nil [] = refl
-append_nil (x ∷ xs) = ap (λ ys. x ∷ ys) (append_nil xs)
+use Rattle.list_laws.proofs.Lists.{map-replicate}
 
 starts_from-push : {A : Type 0} (start : ℕ → A) (k n : ℕ) (counts : List ℕ) → starts_from start k (counts ++ n ∷ []) ≡ starts_from start k counts ++ replicate n (start (k + length counts))
-starts_from-push start k n [] = append_nil (replicate n (start k)) ∙ ap (λ j. replicate n (start j)) (let s : k ≡ k + 0 = omega arith in s)
+starts_from-push start k n [] = append-nil (replicate n (start k)) ∙ ap (λ j. replicate n (start j)) (let s : k ≡ k + 0 = omega arith in s)
 starts_from-push start k n (c ∷ counts) =
     ap (λ ys. replicate c (start k) ++ ys) (starts_from-push start (k + 1) n counts)
     ∙ ap (λ j. replicate c (start k) ++ (starts_from start (k + 1) counts ++ replicate n (start j))) (let s : k + 1 + length counts ≡ k + suc (length counts) = omega arith in s)
     ∙ sym (append_assoc (replicate c (start k)) (starts_from start (k + 1) counts) (replicate n (start (k + suc (length counts)))))
-
-map-replicate : {A B : Type 0} (f : A → B) (n : ℕ) (x : A) → map f (replicate n x) ≡ replicate n (f x)
-map-replicate f zero x = refl
-map-replicate f (suc n) x = ap (λ xs. f x ∷ xs) (map-replicate f n x)
 
 -- the words of one more variable
 pub start_more : (net : NetModel) (counts : List ℕ) (v : ℕ) (old new : List Word) (word : Word) → v < length counts → new ≡ old ++ replicate (get_or counts v 0) word → tuple_of net word ≡ start_of net v → crowd_of net old ≡ starts_from (start_of net) 0 (take v counts) → crowd_of net new ≡ starts_from (start_of net) 0 (take (v + 1) counts)

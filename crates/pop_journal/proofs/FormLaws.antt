@@ -161,9 +161,6 @@ module _ (kind : RunKind) (spec : RunSpec) (agents : ℕ) (workers : spec.worker
       subst (λ (n : Reading). Fits n × (told_lines n ≡ told_lines (rounds, None) ++ line ∷ [])) told.2
       ((form, no_meetings k some), ap (λ (l : List ℕ). round_lines 1 rounds ++ l ∷ []) (sym same) ∙ ap (λ (ls : List (List ℕ)). ls ++ line ∷ []) (sym (append-nil (round_lines 1 rounds))))
 
-  unequal : (a b : ℕ) → not (a == b) ≡ true → a ≢ b
-  unequal a b e same = absurd (false≢true (sym (not-true (a == b) e) ∙ eq-eqb a b same))
-
   -- one meeting more in an open round
   open_more : (k : ℕ) (ms : List Meeting) (m : Meeting) → IsOpen k ms → Below m → length (meetings_of m.worker ms) < turns_in spec k → InRange m → IsOpen k (ms ++ m ∷ [])
   open_more k ms m h below less range =
@@ -194,7 +191,7 @@ module _ (kind : RunKind) (spec : RunSpec) (agents : ℕ) (workers : spec.worker
       let below : w < spec.workers = ltb-true w spec.workers turn.0 in
       let la : a < agents = ltb-true a agents both.0 in
       let lb : b < agents = ltb-true b agents both.1 in
-      let range : InRange m = record { different = unequal a b apart.0; first = la; second = lb } in
+      let range : InRange m = record { different = eqb-false a b (not-true (a == b) apart.0); first = la; second = lb } in
       let more = open_more k ms m h below (ltb-true (length (meetings_of w ms)) (turns_in spec k) turn.1) range in
       let spelled = told_spelled line w a b mark is (omega (arith, below, workers)) (omega (arith, la, few)) (omega (arith, lb, few)) in
       let done = settled_fits rounds (ms ++ m ∷ []) form more in

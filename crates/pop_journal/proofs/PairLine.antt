@@ -5,21 +5,18 @@ use Rattle.std.proofs.lemmas.Bool.{ne_eqb, lt-ltb}
 use Rattle.std.proofs.lemmas.List.Splits.{slice_split_none}
 use Rattle.pop_lines.specs.Lines.{pieces, lines_of, ended}
 use Rattle.pop_lines.specs.Numbers.{number_of, has_no_leading_zero}
-use Rattle.pop_lines.proofs.Printed.{printed_number_of-decimal}
+use Rattle.pop_lines.proofs.Printed.{printed_number_of-decimal, number_of-decimal}
 use Rattle.pop_words.specs.Meetings.{meeting_of, two_agents_of, pair_of}
 use Rattle.pop_journal.specs.FirstPair.{IsFirstPair}
 use Rattle.pop_journal.proofs.Spelled.{decimal_no_space}
 use Rattle.pop_journal.proofs.RunLine.{cut_number, test}
 use Rattle.pop_lines.proofs.Unbroken.{line_first, both_unbroken, decimal_unbroken}
 
-number_back : (n : ℕ) → n < 2 ^ 64 → number_of (decimal n) ≡ Some n
-number_back n small = (test (has_no_leading_zero (decimal n)) (number_of (decimal n)) n (printed_number_of-decimal n small)).1
-
 words : (a b : ℕ) → a < 2 ^ 64 → b < 2 ^ 64 → pieces 32 (decimal a ++ 32 ∷ decimal b) ≡ decimal a ∷ decimal b ∷ []
 words a b la lb = cut_number a (decimal b) la ∙ ap (λ (ws : List (List ℕ)). decimal a ∷ ws) (slice_split_none (λ c. c == 32) (decimal b) (decimal_no_space b lb))
 
 both_back : (a b : ℕ) → a < 2 ^ 64 → b < 2 ^ 64 → pair_of (decimal a ∷ decimal b ∷ []) ≡ Some (a, b)
-both_back a b la lb = rw (number_back a la, number_back b lb) refl
+both_back a b la lb = rw (number_of-decimal a la, number_of-decimal b lb) refl
 
 agents_back : (agents a b : ℕ) → a ≢ b → a < agents → b < agents → two_agents_of agents (Some (a, b)) ≡ Ok (a, b)
 agents_back agents a b ne ia ib = rw (ne_eqb a b ne, lt-ltb a agents ia, lt-ltb b agents ib) refl

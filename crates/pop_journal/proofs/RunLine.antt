@@ -20,6 +20,7 @@ use Rattle.pop_journal.specs.Journal.{run_line}
 use Rattle.pop_journal.specs.Form.{number_named, at_the_end, spec_words, spec_in}
 use Rattle.pop_journal.proofs.RunKinds.{few_workers}
 use Rattle.pop_journal.proofs.Spelled.{decimal_no_space}
+use Rattle.list_laws.proofs.Options.{some_before}
 
 abbrev space : ℕ → Bool
 space b = b == 32
@@ -47,10 +48,6 @@ run_right kind spec =
 pub test : {A : Type 0} (b : Bool) (o : Option A) (y : A) → (if b then o else None) ≡ Some y → (b ≡ true) × (o ≡ Some y)
 test true o y e = (refl, e)
 test false o y e = absurd cc
-
-then_some : {A B : Type 0} (o : Option A) (f : A → Option B) (y : B) → option_and_then f o ≡ Some y → (x : A) × (o ≡ Some x) × (f x ≡ Some y)
-then_some None f y e = absurd cc
-then_some (Some x) f y e = (x, refl, e)
 
 abbrev Between : ℕ → ℕ → ℕ → Type 0
 Between least most n = (least ≤ n) × (n ≤ most)
@@ -107,10 +104,10 @@ words_are kind (first ∷ words) spec e =
     let run = test (bytes_eq first (kind_word kind)) _ spec e in
     let few = few_workers kind in
     let most : most_workers_of kind ≤ 64 = few (most_workers_of kind) (omega arith) in
-    let w = then_some _ _ spec run.1 in
-    let s = then_some _ _ spec w.2 in
-    let t = then_some _ _ spec s.2 in
-    let n = then_some _ _ spec t.2 in
+    let w = some_before _ _ spec run.1 in
+    let s = some_before _ _ spec w.2 in
+    let t = some_before _ _ spec s.2 in
+    let n = some_before _ _ spec t.2 in
     let read : RunSpec = record { workers = w.0.0; shards = s.0.0; turns = t.0.0; seed = n.0.0 } in
     let done = end_is read spec n.0.1 n.2 in
     let workers = named_is (codes "workers") 1 (most_workers_of kind) words w.0.0 w.0.1 (omega (arith, most)) w.1 in
@@ -164,16 +161,13 @@ named_back name least most n more low high small =
     cond-true (bytes_eq name name) (option_map (λ (m : ℕ). let t : Named = (m, more) in t) (printed_number_of_within least most (decimal n))) None ((bytes_eq-Decides name name).1 refl)
     ∙ ap (option_map (λ (m : ℕ). let t : Named = (m, more) in t)) (printed_back least most n low high small)
 
-same_bytes : (text : List ℕ) → bytes_eq text text ≡ true
-same_bytes text = (bytes_eq-Decides text text).1 refl
-
 -- the line of a run is read
 pub spec_back : (kind : RunKind) (spec : RunSpec) → IsWithinLimits spec → spec.workers ≤ most_workers_of kind → spec.workers * spec.turns ≤ MEETING_LIMIT → spec_in kind (run_line kind spec) ≡ Some spec
 unfolding spec_in
 spec_back kind spec limits hands few =
     ap (spec_words kind) (words_cut kind spec limits)
     ∙ rw (
-      same_bytes (kind_word kind),
+      (bytes_eq-Decides (kind_word kind) (kind_word kind)).1 refl,
       named_back (codes "workers") 1 (most_workers_of kind) spec.workers _ limits.workers.0 hands (omega (arith, limits.workers.1)),
       named_back (codes "shards") 1 SHARD_LIMIT spec.shards _ limits.shards.0 limits.shards.1 (omega (arith, limits.shards.1)),
       named_back (codes "turns") 0 TURN_LIMIT spec.turns _ limits.turns.0 limits.turns.1 (omega (arith, limits.turns.1)),

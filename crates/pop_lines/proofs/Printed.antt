@@ -8,7 +8,7 @@ use Rattle.std.proofs.lemmas.Fmt.{decimal-digits_value, digits_decimal, digits_v
 use Rattle.pop_lines.specs.declared.numbers.TheConstants.{DIGIT_LIMIT}
 use Rattle.pop_lines.specs.Numbers.{number_of, number_of_within, has_no_leading_zero, printed_number_of}
 
-own : IsNumeralModel (λ ds. all_ascii_digits ds ≡ true) (digits_value 10)
+pub own : IsNumeralModel (λ ds. all_ascii_digits ds ≡ true) (digits_value 10)
 own = numerals_by_value (λ ds. all_ascii_digits ds ≡ true) tells_all_ascii_digits
 
 -- a value that is there only where a test holds
@@ -45,7 +45,7 @@ form-decimal : (n : ℕ) → n < 2 ^ 64 → has_no_leading_zero (decimal n) ≡ 
 form-decimal zero small = rw (decimal_digit 0 (omega arith)) refl
 form-decimal (suc n) small = positive_first (decimal (suc n)) (decimal_nonempty (suc n) small) (first_decimal (suc n) (omega arith) small)
 
-number_of-decimal : (n : ℕ) → n < 2 ^ 64 → number_of (decimal n) ≡ Some n
+pub number_of-decimal : (n : ℕ) → n < 2 ^ 64 → number_of (decimal n) ≡ Some n
 number_of-decimal n small =
     let sizes = and_from (nat_le 1 (length (decimal n))) (nat_le (length (decimal n)) DIGIT_LIMIT) (le-leb 1 (length (decimal n)) (decimal_nonempty n small))
     (le-leb (length (decimal n)) DIGIT_LIMIT (length-decimal-le DIGIT_LIMIT n (omega arith) (omega arith) small)) in

@@ -11,6 +11,7 @@ use Rattle.std.proofs.lemmas.List.Folds.{list_any-append}
 use Rattle.std.proofs.lemmas.List.Splits.{slice_split-cons_no, length-slice_split}
 use Rattle.pop_lines.specs.Lines.{pieces, without_last_empty, lines_of, ended}
 use Rattle.pop_lines.proofs.Pieces.{goes_on}
+use Rattle.pop_lines.proofs.Printed.{own}
 
 abbrev feed : ℕ → Bool
 feed b = b == 10
@@ -34,9 +35,6 @@ line_first line rest none =
 
 pub both_unbroken : (xs ys : List ℕ) → IsUnbroken xs → IsUnbroken ys → IsUnbroken (xs ++ ys)
 both_unbroken xs ys none more = list_any-append feed xs ys ∙ or_from (list_any feed xs) (list_any feed ys) none more
-
-own : IsNumeralModel (λ ds. all_ascii_digits ds ≡ true) (digits_value 10)
-own = numerals_by_value (λ ds. all_ascii_digits ds ≡ true) tells_all_ascii_digits
 
 digits_unbroken : (text : List ℕ) → all_ascii_digits text ≡ true → IsUnbroken text
 digits_unbroken [] digits = refl

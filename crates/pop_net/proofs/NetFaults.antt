@@ -4,6 +4,7 @@ use Rattle.std.specs.Prelude.{None, All, IsSomeAnd, ◌==◌, position, if◌the
 use Rattle.std.proofs.lemmas.List.Folds.{list_any_none, list_any_at}
 use Rattle.std.proofs.lemmas.Bool.{not-true, false≢true, false_from_ne_true, ltb-true, ltb-false}
 use Rattle.std.proofs.lemmas.Bool.Decides.{Decides-eqb}
+use Rattle.std.proofs.Math.Bool.{not-not}
 use Rattle.pop_io.specs.Names.{AreNames, variable_name}
 use Rattle.pop_net.specs.declared.net.Item.{Item}
 use Rattle.pop_net.specs.declared.fault.NetFault.{NetFault}
@@ -16,7 +17,6 @@ use Rattle.pop_net.specs.NetFaults.{fault_of_net, net_fault, first_wide_leaf, Is
 use Rattle.pop_net.proofs.FirstFault.{NoneIff, first_of-nil, first_of-cons, none_unless, none_map, none_position, none_bad}
 use Rattle.pop_net.proofs.LeafFaults.{within}
 use Rattle.pop_net.proofs.Whole.{none_broken}
-use Rattle.list_laws.proofs.Truth.{not_not}
 
 -- the first wide leaf
 first_wide : (leaves : List LeafModel) → NoneIff (position is_wide_leaf leaves) (is_wide leaves ≡ false)
@@ -26,7 +26,7 @@ first_wide leaves = (there, back)
     all = none_position (λ leaf. not (is_wide_leaf leaf)) (λ leaf. is_wide_leaf leaf ≡ false) (λ leaf. (λ e. not-true _ e, λ e. ap not e)) leaves
 
     same : position (λ leaf. not (not (is_wide_leaf leaf))) leaves ≡ position is_wide_leaf leaves
-    same = ap (λ p. position p leaves) (λ i leaf. not_not (is_wide_leaf leaf) i)
+    same = ap (λ p. position p leaves) (λ i leaf. not-not (is_wide_leaf leaf) i)
 
     there : position is_wide_leaf leaves ≡ None → is_wide leaves ≡ false
     there e = list_any_none is_wide_leaf leaves (all.0 (same ∙ e))
@@ -80,7 +80,7 @@ unbroken_net net leaves e =
       wide = k.1.1.1.1.1.1.1.0;
     }
 
-some_item : (items : List Item) → IsSomeAnd (combined depth_operators items) (λ d. d ≤ DEPTH_LIMIT) → 1 ≤ length items
+pub some_item : (items : List Item) → IsSomeAnd (combined depth_operators items) (λ d. d ≤ DEPTH_LIMIT) → 1 ≤ length items
 some_item [] h = absurd h
 some_item (item ∷ items) h = omega arith
 

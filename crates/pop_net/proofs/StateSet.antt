@@ -5,10 +5,7 @@ use Rattle.std.proofs.lemmas.Bool.{cases_eq}
 use Rattle.std.proofs.lemmas.List.{get_or-set_same, get_or-set_other}
 use Rattle.pop_net.specs.LeafModel.{LeafModel}
 use Rattle.pop_net.specs.NetModel.{Tuple, AreStates, state_of}
-
--- an option has one value
-same_leaf : (o : Option LeafModel) (x y : LeafModel) → o ≡ Some x → o ≡ Some y → x ≡ y
-same_leaf o x y e f = cc
+use Rattle.list_laws.proofs.Options.{same_value}
 
 pub states_set : (leaves : List LeafModel) (tuple : Tuple) (i q : ℕ) (leaf : LeafModel) → slice_get leaves i ≡ Some leaf → i < length tuple → q < length leaf.states → AreStates leaves tuple → AreStates leaves (slice_set tuple i q)
 states_set leaves tuple i q leaf h within l states j other k = by_leaf (cases_eq j i)
@@ -16,5 +13,5 @@ states_set leaves tuple i q leaf h within l states j other k = by_leaf (cases_eq
     by_leaf : (j ≡ i) ⊎ (j ≡ i → ⊥) → state_of (slice_set tuple i q) j < length other.states
     by_leaf (inr ne) = rw (get_or-set_other tuple i j q 0 ne) (states j other k)
     by_leaf (inl e) =
-        let same : leaf ≡ other = same_leaf (slice_get leaves i) leaf other h (subst (λ (n : ℕ). slice_get leaves n ≡ Some other) e k) in
+        let same : leaf ≡ other = same_value (slice_get leaves i) leaf other h (subst (λ (n : ℕ). slice_get leaves n ≡ Some other) e k) in
         rw (e, get_or-set_same tuple i q 0 within, ← same) l

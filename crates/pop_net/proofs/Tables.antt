@@ -2,7 +2,7 @@
 use Rattle.std.proofs.Common.{◌≡◌, ◌≢◌, ◌⊎◌, inl, inr, ℕ, zero, suc, ◌+◌, ◌-◌, ◌*◌, ◌/◌, ◌%◌, ◌<◌, Bool, true, false, not, cond, List, [], ◌∷◌, ◌++◌, length, drop, take, get_or, refl, ap, sym, subst, ◌∙◌, arith}
 use Rattle.std.specs.Prelude.{All, Some, ◌==◌, ◌&&◌, ◌||◌, if◌then◌else◌, find, slice_get, slice_set}
 use Rattle.std.proofs.Math.Nat.{add-mul-div_right, add-mul-mod_self_right, div-eq_of_lt, mod-eq_of_lt}
-use Rattle.std.proofs.lemmas.Nat.{mul-add-lt}
+use Rattle.std.proofs.lemmas.Nat.{mul-add-lt, div-mul-add, mod-mul-add, same_from_place}
 use Rattle.std.proofs.lemmas.Bool.Decides.{eqb_tells}
 use Rattle.std.proofs.lemmas.List.{length-append, length-set, get_or-set_same, get_or-set_other, get_or_append_left}
 use Rattle.std.proofs.Math.Seq.{get_or-append_seam, take-append_seam}
@@ -12,35 +12,10 @@ use Rattle.pop_net.specs.LeafModel.{silent_move, same_pair, IsMoveBelow}
 use Rattle.pop_net.specs.Reaction.{takes_states, after_move, by_move}
 use Rattle.pop_net.proofs.Quiet.{All-slice_get}
 use Rattle.pop_net.specs.ReactionTable.{IsTable, with_reaction}
-
--- the place of a pair names the pair
-row_of : (n x y : ℕ) → y < n → (x * n + y) / n ≡ x
-row_of n x y l =
-    ap (λ m. m / n) (let s : x * n + y ≡ y + x * n = omega arith in s) ∙ add-mul-div_right y x (let p : 0 < n = omega (arith, l) in p)
-    ∙ (let z : y / n ≡ 0 = div-eq_of_lt l in let s : y / n + x ≡ x = omega (arith, z) in s)
-
-column_of : (n x y : ℕ) → y < n → (x * n + y) % n ≡ y
-column_of n x y l =
-    ap (λ m. m % n) (let s : x * n + y ≡ y + x * n = omega arith in s) ∙ add-mul-mod_self_right y x n ∙ mod-eq_of_lt l
-
-pub same_place : (n x y p q : ℕ) → y < n → q < n → x * n + y ≡ p * n + q → (x ≡ p) × (y ≡ q)
-same_place n x y p q ly lq e =
-    let rows : x ≡ p = sym (row_of n x y ly) ∙ ap (λ m. m / n) e ∙ row_of n p q lq in
-    (rows, (let s : x * n ≡ p * n = ap (λ m. m * n) rows in omega (arith, s, e)))
+use Rattle.list_laws.proofs.Lists.{get-set_same, slice_get-set_apart}
 
 pub place_in : (n x y : ℕ) → x < n → y < n → x * n + y < n * n
 place_in n x y lx ly = mul-add-lt x n y n lx ly
-
-module _ {A : Type 0} (xs : List A) (i : ℕ) (v : A) (d : A) where
-  written : i < length xs → slice_get (slice_set xs i v) i ≡ Some v
-  written l =
-      slice_get-get_or (slice_set xs i v) i d (let s : length (slice_set xs i v) ≡ length xs = length-set xs i v in omega (arith, s, l))
-      ∙ ap Some (get_or-set_same xs i v d l)
-
-  kept : (k : ℕ) → k ≢ i → k < length xs → slice_get (slice_set xs i v) k ≡ slice_get xs k
-  kept k ne l =
-      slice_get-get_or (slice_set xs i v) k d (let s : length (slice_set xs i v) ≡ length xs = length-set xs i v in omega (arith, s, l))
-      ∙ ap Some (get_or-set_other xs i k v d ne) ∙ sym (slice_get-get_or xs k d l)
 
 -- a table of no moves, built place by place
 pub record IsStill (n k : ℕ) (table : List (ℕ × ℕ)) : Type 0 where
@@ -76,8 +51,8 @@ still_table n table h =
       size = h.size;
       entry = λ x y lx ly.
           h.entry (x * n + y) (place_in n x y lx ly)
-          ∙ ap (λ r. Some (r, (x * n + y) % n)) (row_of n x y ly)
-          ∙ ap (λ c. Some (x, c)) (column_of n x y ly);
+          ∙ ap (λ r. Some (r, (x * n + y) % n)) (div-mul-add x n y ly)
+          ∙ ap (λ c. Some (x, c)) (mod-mul-add x n y ly);
     }
 
 module _ (n : ℕ) (t : Move) (rest : List Move) (table : List (ℕ × ℕ)) (below : IsMoveBelow n t) (h : IsTable n rest table) where
@@ -125,25 +100,25 @@ module _ (n : ℕ) (t : Move) (rest : List Move) (table : List (ℕ × ℕ)) (be
     first_way ea eb ex ey =
         let place : x * n + y ≡ t.p * n + t.q = ap (λ x. x * n + y) ex ∙ ap (λ y. t.p * n + y) ey in
         ap (slice_get whole) place
-        ∙ written half (t.p * n + t.q) (t.r, t.s) (0, 0) (let l = in_half in omega (arith, l, place))
+        ∙ get-set_same half (t.p * n + t.q) (t.r, t.s) (let l = in_half in omega (arith, l, place))
         ∙ sym (ap Some (after x y false true true (x == t.q) (y == t.p) e ea eb refl refl))
 
     module _ (a b : Bool) (ea : (x == t.p) ≡ a) (eb : (y == t.q) ≡ b) (not_first : a && b ≡ false) (ne : (x ≡ t.p) × (y ≡ t.q) → ⊥) where
       past_first : slice_get whole (x * n + y) ≡ slice_get half (x * n + y)
       past_first =
-          kept half (t.p * n + t.q) (t.r, t.s) (0, 0) (x * n + y) (λ same. ne (same_place n x y t.p t.q ly below.1 same)) in_half
+          slice_get-set_apart half (t.p * n + t.q) (x * n + y) (t.r, t.s) (λ same. ne (same_from_place x y t.p t.q n ly below.1 (sym same)))
 
       second_way : (x == t.q) ≡ true → (y == t.p) ≡ true → x ≡ t.q → y ≡ t.p → Entry
       second_way ec ed ex ey =
           let place : x * n + y ≡ t.q * n + t.p = ap (λ x. x * n + y) ex ∙ ap (λ y. t.q * n + y) ey in
           past_first ∙ ap (slice_get half) place
-          ∙ written table (t.q * n + t.p) (t.s, t.r) (0, 0) (let l = in_table in omega (arith, l, place))
+          ∙ get-set_same table (t.q * n + t.p) (t.s, t.r) (let l = in_table in omega (arith, l, place))
           ∙ sym (ap Some (after x y false a b true true e ea eb ec ed ∙ ap (λ z. by_choice x y (z || true) z) not_first))
 
       neither : (c d : Bool) → (x == t.q) ≡ c → (y == t.p) ≡ d → c && d ≡ false → ((x ≡ t.q) × (y ≡ t.p) → ⊥) → Entry
       neither c d ec ed not_second ne2 =
           past_first
-          ∙ kept table (t.q * n + t.p) (t.s, t.r) (0, 0) (x * n + y) (λ same. ne2 (same_place n x y t.q t.p ly below.0 same)) in_table
+          ∙ slice_get-set_apart table (t.q * n + t.p) (x * n + y) (t.s, t.r) (λ same. ne2 (same_from_place x y t.q t.p n ly below.0 (sym same)))
           ∙ h.entry x y lx ly
           ∙ sym (ap Some (after x y false a b c d e ea eb ec ed ∙ ap (λ z. by_choice x y (z || c && d) z) not_first ∙ ap (λ z. by_choice x y z false) not_second))
 

@@ -12,10 +12,12 @@ use Rattle.pop_net.specs.declared.fault.CombinationFault.TheVariants as combinat
 use Rattle.pop_net.specs.FirstFault.{unless, first_of}
 use Rattle.pop_net.proofs.FirstFault.{none_below, found_below}
 use Rattle.std.proofs.lemmas.List.Elements.{All-head, All-tail, All-drop}
+use Rattle.std.proofs.Math.Bool.{and-true}
 use Rattle.pop_net.specs.declared.net.Item.{Item}
 use Rattle.pop_net.specs.declared.net.Item.TheVariants.{Leaf, Not, And, Or}
 use Rattle.pop_net.specs.NetModel.{Operators, after_item, after_items, depth_operators}
 use Rattle.pop_net.specs.NetFaults.{names_below, are_low, stands, operands_left, fault_of_combination}
+use Rattle.list_laws.proofs.Options.{then_itself}
 
 abbrev pub is_low : ℕ → Bool
 is_low d = nat_le d 65
@@ -75,18 +77,10 @@ module _ (leaves : ℕ) (items : List Item) (k : ℕ) (d : Item) (l : k < length
 
   found_next : after_items depth_operators (take (k + 1) items) [] ≡ after_item depth_operators (get_or items k d) old
   found_next =
-      ap (λ xs. after_items depth_operators xs []) one_more ∙ after_items-append depth_operators (take k items) (get_or items k d ∷ []) [] ∙ ap (option_and_then (after_items depth_operators (get_or items k d ∷ []))) w.found ∙ alone (after_item depth_operators (get_or items k d) old)
-    where
-      alone : (o : Option (List ℕ)) → option_and_then (after_items depth_operators []) o ≡ o
-      alone None = refl
-      alone (Some next) = refl
+      ap (λ xs. after_items depth_operators xs []) one_more ∙ after_items-append depth_operators (take k items) (get_or items k d ∷ []) [] ∙ ap (option_and_then (after_items depth_operators (get_or items k d ∷ []))) w.found ∙ then_itself (after_item depth_operators (get_or items k d) old)
 
   named_next : list_all (names_below leaves) (take (k + 1) items) ≡ names_below leaves (get_or items k d)
-  named_next = ap (list_all (names_below leaves)) one_more ∙ list_all-append (names_below leaves) (take k items) (get_or items k d ∷ []) ∙ ap (λ b. b && (names_below leaves (get_or items k d) && true)) w.named ∙ and_true (names_below leaves (get_or items k d))
-    where
-      and_true : (b : Bool) → b && true ≡ b
-      and_true true = refl
-      and_true false = refl
+  named_next = ap (list_all (names_below leaves)) one_more ∙ list_all-append (names_below leaves) (take k items) (get_or items k d ∷ []) ∙ ap (λ b. b && (names_below leaves (get_or items k d) && true)) w.named ∙ and-true (names_below leaves (get_or items k d))
 
   pub stands_next : stands leaves (take (k + 1) items) ≡ (names_below leaves (get_or items k d) && are_low (after_item depth_operators (get_or items k d) old))
   stands_next = rw (named_next, found_next) refl

@@ -16,6 +16,7 @@ use Rattle.pop_net.specs.NetModel.{after_item, after_items, depth_operators, onl
 use Rattle.pop_net.specs.NetFaults.{names_below, are_low, stands, operands_left, IsTree, fault_of_combination}
 use Rattle.pop_net.proofs.FirstFault.{NoneIff, first_of-nil, first_of-cons, none_unless, none_map, none_below}
 use Rattle.pop_net.proofs.Trees.{low_decides, after_items-append}
+use Rattle.list_laws.proofs.Options.{some_before, some_and}
 
 name_below : (n : ℕ) (item : Item) → Decides (names_below n item) (NamesBelow n item)
 name_below n (Leaf i) = Decides-ltb i n
@@ -26,7 +27,7 @@ name_below n Or = (λ _. tt, λ _. refl)
 all_named : (n : ℕ) (items : List Item) → Decides (list_all (names_below n) items) (All (NamesBelow n) items)
 all_named n = Decides-by_and (names_below n) (NamesBelow n) (list_all (names_below n)) (name_below n) refl (λ _ _. refl)
 
-abbrev AllLow : List ℕ → Type 0
+abbrev pub AllLow : List ℕ → Type 0
 AllLow xs = All (λ d. d ≤ 65) xs
 
 -- operands of a tree that is low are low
@@ -58,25 +59,16 @@ low_before Or (b ∷ a ∷ old) new e h = both (same_Some _ _ e) h
         let top : max a b + 1 ≤ 65 = All-head (λ d. d ≤ 65) (max a b + 1) old g in
         All-cons (λ d. d ≤ 65) b (a ∷ old) (omega (arith, top)) (All-cons (λ d. d ≤ 65) a old (omega (arith, top)) (All-tail (λ d. d ≤ 65) (max a b + 1) old g))
 
--- what stands before something
-pub some_before : {A B : Type 0} (f : A → Option B) (o : Option A) (b : B) → option_and_then f o ≡ Some b → (a : A) × (o ≡ Some a) × (f a ≡ Some b)
-some_before f None b e = cc
-some_before f (Some a) b e = (a, refl, e)
-
-all_low_before : (items : List Item) (old new : List ℕ) → after_items depth_operators items old ≡ Some new → AllLow new → AllLow old
+pub all_low_before : (items : List Item) (old new : List ℕ) → after_items depth_operators items old ≡ Some new → AllLow new → AllLow old
 all_low_before [] old new e h = All-same (λ d. d ≤ 65) old new (same_Some _ _ e) h
 all_low_before (item ∷ items) old new e h =
     let s = some_before (after_items depth_operators items) (after_item depth_operators item old) new e in
     low_before item old s.0 s.1 (all_low_before items s.0 new s.2 h)
 
-one_left : (operands : List ℕ) (d : ℕ) → only_one operands ≡ Some d → operands ≡ d ∷ []
+pub one_left : {A : Type 0} (operands : List A) (d : A) → only_one operands ≡ Some d → operands ≡ d ∷ []
 one_left [] d e = cc
 one_left (a ∷ []) d e = ap (λ x. x ∷ []) (same_Some a d e)
 one_left (a ∷ b ∷ operands) d e = cc
-
-the_depth : (o : Option ℕ) → IsSomeAnd o (λ d. d ≤ 65) → (d : ℕ) × (o ≡ Some d) × (d ≤ 65)
-the_depth None h = absurd h
-the_depth (Some d) h = (d, refl, h)
 
 one_tree : (found : Option (List ℕ)) → are_low found ≡ true → option_map_or length found 0 ≡ 1 → IsSomeAnd (option_and_then only_one found) (λ d. d ≤ 65)
 one_tree None low one = cc
@@ -87,7 +79,7 @@ one_tree (Some (d ∷ e ∷ operands)) low one = absurd (omega (arith, one))
 -- all prefixes stand where the whole is a tree
 front_stands : (leaves : ℕ) (items : List Item) (n : ℕ) → IsTree leaves items → stands leaves (take n items) ≡ true
 front_stands leaves items n t =
-    let d = the_depth (combined depth_operators items) t.depth in
+    let d = some_and (combined depth_operators items) (λ d. d ≤ 65) t.depth in
     let s = some_before only_one (after_items depth_operators items []) d.0 d.1 in
     let one = one_left s.0 d.0 s.2 in
     let cut : option_and_then (after_items depth_operators (drop n items)) (after_items depth_operators (take n items) []) ≡ Some (d.0 ∷ []) =
@@ -98,7 +90,7 @@ front_stands leaves items n t =
 
 one_operand : (leaves : ℕ) (items : List Item) → IsTree leaves items → operands_left items ≡ 1
 one_operand leaves items t =
-    let d = the_depth (combined depth_operators items) t.depth in
+    let d = some_and (combined depth_operators items) (λ d. d ≤ 65) t.depth in
     let s = some_before only_one (after_items depth_operators items []) d.0 d.1 in
     ap (λ o. option_map_or length o 0) (s.1 ∙ ap Some (one_left s.0 d.0 s.2))
 

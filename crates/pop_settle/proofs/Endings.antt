@@ -19,12 +19,7 @@ use Rattle.pop_settle.specs.Settlement.{states_in, CanMake, CanTake, crowd_after
 use Rattle.pop_settle.specs.Settling.{AreLayersValid}
 use Rattle.pop_settle.specs.Laws.{AreSteps, AreTerminal}
 use Rattle.pop_settle.proofs.Taking.{net_step, taken_tuples}
-
--- an element within a list
-pub element : {A : Type 0} (xs : List A) (i : ℕ) → i < length xs → (x : A) × (slice_get xs i ≡ Some x)
-element [] i l = absurd (omega arith)
-element (x ∷ xs) zero l = (x, refl)
-element (x ∷ xs) (suc i) l = element xs i (omega arith)
+use Rattle.list_laws.proofs.Options.{item_within}
 
 module _ (net : NetModel) (proof : Proof) (crowd : CrowdModel) (none : (layer place : ℕ) (take : Take) → CanTake net proof crowd layer place take → ⊥) (i : ℕ) (leaf : LeafModel) (part : LeafProof) (h : slice_get net.leaves i ≡ Some leaf) (k : slice_get proof.leaves i ≡ Some part) (v : ValidLayers leaf part.layers) where
   -- no two agents can make a move that is not silent
@@ -73,7 +68,7 @@ pub none_terminal : (net : NetModel) (proof : Proof) (crowd : CrowdModel) → Ar
 none_terminal net proof crowd v tuples none =
     terminal_from_components net crowd tuples
     (λ i leaf h.
-    let part = element proof.leaves i (omega (arith, slice_get_within net.leaves i leaf h, v.one_each)) in
+    let part = item_within proof.leaves i (omega (arith, slice_get_within net.leaves i leaf h, v.one_each)) in
     leaf_terminal net proof crowd none i leaf part.0 h part.1 (v.valid i leaf part.0 h part.1))
 
 -- takes keep that each agent has one state of each leaf

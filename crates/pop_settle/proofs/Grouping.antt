@@ -10,15 +10,8 @@ use Rattle.pop_net.specs.declared.leaf.Move.{Move}
 use Rattle.pop_net.specs.LeafModel.{silent_move}
 use Rattle.pop_settle.specs.Settlement.{CanMake, Then}
 use Rattle.pop_settle.specs.Groups.{holds, AreAlike, AreGroups, IsEmptyGroup, IsLeastOf, Changes, Puts, Takes, IsLeastPairFor, states_after_move}
-use Rattle.list_laws.proofs.Lists.{slice_get-set_same}
-
--- a write elsewhere changes nothing here
-pub slice_get-set_apart : {A : Type 0} (xs : List A) (a b : ℕ) (x : A) → a ≢ b → slice_get (slice_set xs a x) b ≡ slice_get xs b
-slice_get-set_apart [] a b x ne = refl
-slice_get-set_apart (z ∷ xs) zero zero x ne = absurd (ne refl)
-slice_get-set_apart (z ∷ xs) zero (suc b) x ne = refl
-slice_get-set_apart (z ∷ xs) (suc a) zero x ne = refl
-slice_get-set_apart (z ∷ xs) (suc a) (suc b) x ne = slice_get-set_apart xs a b x (λ e. ne (ap suc e))
+use Rattle.list_laws.proofs.Lists.{slice_get-set_same, slice_get-set_apart}
+use Rattle.pop_net.proofs.Quiet.{set_same}
 
 -- what Changes says at the changed place, and elsewhere
 at_change : (there : Bool) (g : List (BTreeSet ℕ)) (q a : ℕ) (after : List (BTreeSet ℕ)) → Changes there g q a after → holds after q a ≡ there
@@ -160,12 +153,7 @@ module _ (states : List ℕ) (g : List (BTreeSet ℕ)) (t : Move) (a : ℕ) (wit
   put_back back size size' puts =
       let out = taken_out states g t.p a (length g) without are a_holds (omega arith) size takes in
       let again = put_in (slice_set states a (length g)) without t.p a (length g) back out (slice_get-set_same states a t.p (length g) a_holds) (omega (arith, size)) (size' ∙ sym size) puts in
-      subst (λ (s : List ℕ). AreGroups s back) (set-set states a (length g) t.p ∙ set_it states a t.p a_holds) again
-    where
-      set_it : (xs : List ℕ) (i x : ℕ) → slice_get xs i ≡ Some x → slice_set xs i x ≡ xs
-      set_it [] i x h = cc
-      set_it (y ∷ xs) zero x h = let same : y ≡ x = cc in ap (λ z. z ∷ xs) (sym same)
-      set_it (y ∷ xs) (suc i) x h = ap (λ zs. y ∷ zs) (set_it xs i x h)
+      subst (λ (s : List ℕ). AreGroups s back) (set-set states a (length g) t.p ∙ set_same states a t.p a_holds) again
 
   module _ (b : ℕ) (second : IsLeastOf without t.q b) where
     b_apart : b ≢ a

@@ -25,9 +25,10 @@ use Rattle.pop_settle.specs.Settlement.{states_in, CanTake, IsNext, crowd_after_
 use Rattle.pop_settle.specs.Settling.{AreLayersValid}
 use Rattle.pop_settle.specs.Laws.{IsCrowd, AreShort}
 use Rattle.pop_settle.specs.Walks.{IsQuietBefore}
-use Rattle.pop_settle.proofs.Taking.{same_value, leaf_step, elsewhere, here, net_step, taken_tuples}
+use Rattle.pop_settle.proofs.Taking.{leaf_step, elsewhere, here, net_step, taken_tuples}
 use Rattle.pop_settle.proofs.Hushed.{in_layer, stays_quiet, least_quiet}
 use Rattle.pop_settle.proofs.Fuel.{fuel, fuel_falls, fuel_most}
+use Rattle.list_laws.proofs.Options.{same_value}
 
 -- each agent has a state of each leaf
 pub record InRanges (net : NetModel) (crowd : CrowdModel) : Type 0 where

@@ -19,9 +19,9 @@ use Rattle.pop_settle.proofs.Taking.{here}
 use Rattle.pop_settle.proofs.Hushed.{stays_quiet}
 use Rattle.pop_settle.proofs.Firsts.{can_first, next_first}
 use Rattle.pop_settle.proofs.Fuel.{fuel}
-use Rattle.pop_settle.proofs.Endings.{element}
 use Rattle.pop_settle.proofs.Lasting.{InRanges, uses_fuel}
 use Rattle.list_laws.proofs.Lists.{all_front, all_back}
+use Rattle.list_laws.proofs.Options.{item_within}
 
 -- layer j of leaf i
 pub record AtLayer (net : NetModel) (proof : Proof) (j : ℕ) (layer : Layer) (leaf : LeafModel) (i : ℕ) : Type 0 where
@@ -33,7 +33,7 @@ pub record AtLayer (net : NetModel) (proof : Proof) (j : ℕ) (layer : Layer) (l
 
 pub at_layer : (net : NetModel) (proof : Proof) (i j : ℕ) (layer : Layer) (leaf : LeafModel) → AreLayersValid net proof → slice_get net.leaves i ≡ Some leaf → IfSome (slice_get proof.leaves i) (λ part. slice_get part.layers j ≡ Some layer) → AtLayer net proof j layer leaf i
 at_layer net proof i j layer leaf v h k =
-    let part = element proof.leaves i (omega (arith, slice_get_within net.leaves i leaf h, v.one_each)) in
+    let part = item_within proof.leaves i (omega (arith, slice_get_within net.leaves i leaf h, v.one_each)) in
     record {
       part = part.0;
       leaf_is = h;

@@ -10,7 +10,7 @@ use Rattle.cert_base.specs.declared.proof.LeafProof.{LeafProof}
 use Rattle.pop_settle.specs.declared.take.Take.{Take}
 use Rattle.pop_settle.specs.Settlement.{CanTake, Then, IsNext, crowd_after_take, LeadsBy}
 use Rattle.pop_settle.specs.Laws.{AreOne}
-use Rattle.pop_settle.proofs.Taking.{same_value}
+use Rattle.list_laws.proofs.Options.{same_value}
 
 -- two numbers of which neither comes first are the same, and what is compared next decides
 apart : (m n : ℕ) (P Q : Type 0) → (Then m n P → ⊥) → (Then n m Q → ⊥) → (m ≡ n) × (P → ⊥) × (Q → ⊥)

@@ -8,8 +8,7 @@ use Rattle.pop_net.specs.declared.leaf.Move.{Move}
 use Rattle.pop_net.specs.LeafModel.{LeafModel}
 use Rattle.pop_settle.specs.Groups.{holds, AreGroups, IsEmptyGroup}
 use Rattle.pop_settle.specs.Search.{IsIdle, BeginAlike, IsStretch}
-use Rattle.pop_settle.proofs.Taking.{same_value}
-use Rattle.pop_settle.proofs.Endings.{element}
+use Rattle.list_laws.proofs.Options.{same_value, item_within}
 
 alike_itself : (leaf : LeafModel) (moves : List ℕ) (k j : ℕ) → j ≡ k → BeginAlike leaf moves k j
 alike_itself leaf moves k j e step step' t t' h m h' m' =
@@ -34,7 +33,7 @@ longer_run leaf moves k end l m alike run =
     by_place j l' n (inr r) = alike_itself leaf moves k j (omega arith)
     by_place j l' n (inl r) = λ s s' u u' a b a' b'.
         let next = slice_get-get_or moves (k + 1) 0 l in
-        let t = element leaf.moves (get_or moves (k + 1) 0) m in
+        let t = item_within leaf.moves (get_or moves (k + 1) 0) m in
         run.alike j (omega arith) n (get_or moves (k + 1) 0) s' t.0 u' next t.1 a' b' ∙ alike s (get_or moves (k + 1) 0) u t.0 a b next t.1
 
 -- where nobody holds the first state of a run, all its moves are idle

@@ -19,10 +19,10 @@ use Rattle.tool_texts.specs.Refusals.{output_for}
 use Rattle.tool_commands.specs.Compile.{bundle_line, IsCompiled, asked_by, fits_its_leaves, OfFitting, OfAsked, CompileGives}
 use Rattle.pop_tool.specs.Headline.{IsBundleLine, CompileSays}
 
-abbrev IsDone : Result Output Refusal → Type 0
+abbrev pub IsDone : Result Output Refusal → Type 0
 IsDone given = status_of (output_for given).ending ≡ Done
 
-refused : (refusal : Refusal) (given : Result Output Refusal) → given ≡ Err refusal → IsDone given → ⊥
+pub refused : (refusal : Refusal) (given : Result Output Refusal) → given ≡ Err refusal → IsDone given → ⊥
 refused refusal given is done = let e = subst IsDone is done in cc e
 
 -- the line of a bundle that was compiled is that of the bundle

@@ -2,6 +2,7 @@
 use Rattle.std.proofs.Common.{◌≡◌, inl, inr, ℕ, List, Option, Result, Ok, Err, refl, sym, ap, subst, ◌∙◌}
 use Rattle.std.specs.Prelude.{◌≢◌, false, IfOk, MatchResult}
 use Rattle.std.specs.Io.KnownBytes.{Appends, Keeps}
+use Rattle.std.proofs.lemmas.Result.{IfOk-weaker}
 use Rattle.pop_io.specs.Causes.{HasRisen}
 use Rattle.tool_texts.specs.declared.output.Output.{Output}
 use Rattle.tool_texts.specs.declared.output.Ending.{Ending}
@@ -15,7 +16,6 @@ use Rattle.pop_tool.specs.Written.{ReadFailed, IsRightOutput, IsWritten}
 use Rattle.pop_tool.specs.Call.{AcceptsReplies, IsCall}
 use Rattle.pop_tool.proofs.Complete.{not_refused}
 use Rattle.pop_tool.proofs.Headlines.{outcome_says}
-use Rattle.pop_tool.proofs.Replies.{IfOk-weaker}
 
 no_write_fault : (end : Ending) → status_of end ≡ WriteFault → ⊥
 no_write_fault ending.Done e = absurd cc
@@ -113,7 +113,7 @@ module _ {E : Type 0} (old new : Option (List ℕ)) (low high : ℕ) (result : S
 pub call_accepts : {E : Type 0} (accepts : List ℕ → Type 0) (words : List (List ℕ)) (left rest held : Option (List ℕ)) (before after : ℕ) (output : Result Output E)
     → AcceptsReplies accepts words left → IfOk output (IsRightOutput words left rest before after) → IfOk output (λ o. accepts o.text)
 call_accepts accepts words left rest held before after output room right =
-    IfOk-weaker _ _ (λ o is. room o (may_write words left rest held held o before after is)) output right
+    IfOk-weaker output _ _ (λ o is. room o (may_write words left rest held held o before after is)) right
 
 module _ {S K E : Type 0} (left : S → Option (List ℕ)) (read_faults : S → ℕ) (holds : K → Option (List ℕ)) (write_faults : K → ℕ) (words : List (List ℕ))
     (source rest : S) (sink grown : K) (status : Status) (output : Result Output E) where

@@ -22,10 +22,6 @@ use Rattle.pop_tool.specs.Source.{IsReadToEnd, meaning_reads}
 use Rattle.pop_tool.specs.Outcome.{HasLeft}
 use Rattle.pop_tool.specs.Written.{IsRightOutput}
 
-pub IfOk-weaker : {T E : Type 0} (P Q : T → Type 0) → ((x : T) → P x → Q x) → (r : Result T E) → IfOk r P → IfOk r Q
-IfOk-weaker P Q so (Ok x) is = so x is
-IfOk-weaker P Q so (Err e) is = tt
-
 some_input : (left : Option (List ℕ)) → (input : List ℕ) × HasLeft left input
 some_input None = ([], tt)
 some_input (Some left) = (left, refl)

@@ -12,7 +12,7 @@ use Rattle.pop_net.specs.InputCrowd.{input_crowd}
 use Rattle.pop_net.specs.Reaction.{after_meeting}
 use Rattle.pop_crowd.specs.declared.crowd.Meeting.{Meeting}
 use Rattle.pop_crowd.specs.Replay.{replay}
-use Rattle.pop_crowd.proofs.Reached.{length-after_meeting}
+use Rattle.pop_crowd.proofs.Reached.{length-after_meeting, length-replay}
 use Rattle.pop_crowd.specs.Crowds.{input_size}
 use Rattle.pop_crowd.specs.declared.limits.TheConstants.{AGENT_LEAST, AGENT_LIMIT}
 use Rattle.pop_words.specs.declared.kind.RunKind.{RunKind}
@@ -67,10 +67,6 @@ two_unbroken input first second is =
     let rest = All-tail (λ (line : List ℕ). All (λ b. b ≢ 10) line) first (second ∷ []) all in
     (all_unbroken first (All-head (λ (line : List ℕ). All (λ b. b ≢ 10) line) first (second ∷ []) all), all_unbroken second (All-head (λ (line : List ℕ). All (λ b. b ≢ 10) line) second [] rest))
 
-length_replay : (net : NetModel) (meetings : List Meeting) (crowd : CrowdModel) → length (replay net meetings crowd) ≡ length crowd
-length_replay net [] crowd = refl
-length_replay net (m ∷ meetings) crowd = length_replay net meetings (after_meeting net m.a m.b crowd) ∙ length-after_meeting net m.a m.b crowd
-
 module _ (kind : RunKind) (spec : RunSpec) (input : List ℕ) (output : Output) (made : IsMade kind spec input output)
     (bounded : IsWithinLimits spec × (spec.workers ≤ most_workers_of kind) × (spec.workers * spec.turns ≤ MEETING_LIMIT)) where
   abbrev net : NetModel
@@ -115,7 +111,7 @@ module _ (kind : RunKind) (spec : RunSpec) (input : List ℕ) (output : Output) 
     where
       some_agent : 1 ≤ length end
       some_agent =
-          let same : length (replay net (joined made.is.rounds) start) ≡ length start = length_replay net (joined made.is.rounds) start in
+          let same : length (replay net (joined made.is.rounds) start) ≡ length start = length-replay net (joined made.is.rounds) start in
           let ends : length (replay net (joined made.is.rounds) start) ≡ length end = ap (length {A = Tuple}) (is_watched net start spec made.is.rounds end kind made.is.run).replays in
           omega (arith, same, ends, two)
   last_is (Some (a, b)) is = sym (ap (λ (o : Option (ℕ × ℕ)). ending_for o (common_output net end)) (least_some net end a b is))

@@ -25,12 +25,7 @@ use Rattle.pop_tool.specs.Answer.{InputGives}
 use Rattle.pop_tool.specs.Headline.{SettleSays}
 use Rattle.pop_tool.proofs.BundleInput.{begins_input, file_computes}
 use Rattle.pop_tool.proofs.RunHeadline.{two_lines}
-
-abbrev IsDone : Result Output Refusal → Type 0
-IsDone given = status_of (output_for given).ending ≡ Done
-
-refused : (refusal : Refusal) (given : Result Output Refusal) → given ≡ Err refusal → IsDone given → ⊥
-refused refusal given is done = let e = subst IsDone is done in cc e
+use Rattle.pop_tool.proofs.CompileHeadline.{IsDone, refused}
 
 module _ (input : List ℕ) (given : Result Output Refusal) (done : IsDone given) where
   module _ (first second : List ℕ) (lines : lines_of input ≡ first ∷ second ∷ []) where

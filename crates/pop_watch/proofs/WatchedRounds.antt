@@ -11,7 +11,6 @@ use Rattle.pop_net.specs.Terminal.{IsTerminal}
 use Rattle.pop_crowd.specs.declared.crowd.Meeting.{Meeting}
 use Rattle.pop_crowd.specs.Replay.{replay, AreMarked}
 use Rattle.pop_crowd.proofs.InARow.{replay_append}
-use Rattle.agent_field.proofs.Histories.{length-replay}
 use Rattle.pop_words.specs.declared.spec.RunSpec.{RunSpec}
 use Rattle.pair_workers.specs.Picks.{picks, first_state}
 use Rattle.pair_workers.specs.Run.{IsRound, joined, pairs, meetings_of, turns_in, made_by}
@@ -19,7 +18,7 @@ use Rattle.pair_workers.specs.Turns.{HasPicked, ArePlayed}
 use Rattle.pair_workers.proofs.Played.{marked_append}
 use Rattle.pair_workers.proofs.Rounds.{get_pushed, joined_push}
 use Rattle.pair_workers.proofs.Turns.{picked_on}
-use Rattle.pair_workers.proofs.ManyRounds.{AreOnTheRun, all_more_rounds, all_run_over}
+use Rattle.pair_workers.proofs.ManyRounds.{AreOnTheRun, all_more_rounds, all_run_over, next_turns, as_many, all_of, all_marked, all_replayed, all_go_on}
 use Rattle.pair_workers.specs.WatchedRun.{IsWatchedRound, IsWatchedRun, AreSpent}
 use Rattle.pair_workers.proofs.WholeWatched.{watched_round, whole_is_watched}
 use Rattle.pair_workers.specs.declared.alone.End.{End}
@@ -27,6 +26,7 @@ use Rattle.pair_workers.specs.declared.alone.End.TheVariants.{Terminal, Open}
 use Rattle.pair_workers.specs.Ends.{IsEndOf}
 use Rattle.pop_watch.specs.Playing.{ArePlaying, AreAllMade}
 use Rattle.pop_watch.specs.WatchedEnds.{WatchedEndsBy}
+use Rattle.pop_crowd.proofs.Reached.{length-replay}
 
 -- the run goes on, or it is over in a terminal crowd
 abbrev pub IsOnTheWay : NetModel → CrowdModel → RunSpec → List (List Meeting) → CrowdModel → List (List ℕ) → ℕ → Type 0
@@ -45,27 +45,18 @@ module _ (net : NetModel) (start : CrowdModel) (spec : RunSpec) (rounds : List (
     }
 
     module _ (h : AreOnTheRun net start spec rounds crowd pickers left) (some : 1 ≤ left) (goes : IsTerminal (Step net) crowd → ⊥) (few : (w : ℕ) → w < spec.workers → made_by w round ≤ min 4096 left) where
-      next_turns : turns_in spec (length rounds + 1) ≡ min 4096 left
-      next_turns = ap (λ n. min 4096 n) (let e : spec.turns - 4096 * (length rounds + 1 - 1) ≡ left = omega (arith, h.unspent) in e)
-
-      as_many : length crowd ≡ length start
-      as_many = ap length (sym h.replays) ∙ length-replay net (joined rounds) start
-
       last_round : IsWatchedRound spec (length rounds + 1) round
       last_round = record {
-        some_turn = subst (λ n. 1 ≤ n) (sym next_turns) (let four : 1 ≤ 4096 = omega arith in le-min four some);
-        each_worker = λ w l. subst (λ n. made_by w round ≤ n) (sym next_turns) (few w l);
+        some_turn = subst (λ n. 1 ≤ n) (sym (next_turns net start spec rounds crowd pickers left h)) (let four : 1 ≤ 4096 = omega arith in le-min four some);
+        each_worker = λ w l. subst (λ n. made_by w round ≤ n) (sym (next_turns net start spec rounds crowd pickers left h)) (few w l);
         nobody_else = p.nobody_else;
       }
-
-      all_of : (w : ℕ) → meetings_of w (joined (rounds ++ round ∷ [])) ≡ meetings_of w (joined rounds) ++ meetings_of w round
-      all_of w = ap (meetings_of w) (joined_push rounds round) ∙ filter-append (λ (m : Meeting). m.worker == w) (joined rounds) round
 
       more_picked : (w : ℕ) → w < spec.workers → pairs (meetings_of w (joined rounds) ++ meetings_of w round) ≡ picks spec.seed w (length start) (length (meetings_of w (joined rounds) ++ meetings_of w round))
       more_picked w l =
           let xs = meetings_of w (joined rounds) in
           let ys = meetings_of w round in
-          let next = subst (λ (n : ℕ). HasPicked n (length ys) (get_or pickers w []) (get_or after w []) (pairs ys)) as_many (p.picked w [] l) in
+          let next = subst (λ (n : ℕ). HasPicked n (length ys) (get_or pickers w []) (get_or after w []) (pairs ys)) (as_many net start spec rounds crowd pickers left h) (p.picked w [] l) in
           let both = picked_on (length start) (length xs) (length ys) (first_state spec.seed w) (get_or pickers w []) (get_or after w []) (pairs xs) (pairs ys) (h.picked w [] l) next in
           map-append (λ (m : Meeting). (m.a, m.b)) xs ys
           ∙ sym (append-nil (pairs xs ++ pairs ys))
@@ -78,10 +69,10 @@ module _ (net : NetModel) (start : CrowdModel) (spec : RunSpec) (rounds : List (
           record {
             each_round = λ k meetings e. each_case k meetings (get_pushed rounds round meetings k e);
             whole = λ k meetings l e. whole_case k meetings (omega (arith, l, length-append rounds (round ∷ []))) (get_pushed rounds round meetings k e);
-            picked = λ w l. subst (λ (ms : List Meeting). pairs ms ≡ picks spec.seed w (length start) (length ms)) (sym (all_of w)) (more_picked w l);
-            marked = subst (λ (ms : List Meeting). AreMarked net ms start) (sym (joined_push rounds round)) (marked_append net (joined rounds) round start h.marked (subst (AreMarked net round) (sym h.replays) p.marked));
-            replays = ap (λ (ms : List Meeting). replay net ms start) (joined_push rounds round) ∙ replay_append net (joined rounds) round start ∙ ap (replay net round) h.replays ∙ p.replays;
-            goes_on = λ k b t. goes_case k (cases_lt k (length rounds)) (omega (arith, b, length-append rounds (round ∷ []))) t;
+            picked = λ w l. subst (λ (ms : List Meeting). pairs ms ≡ picks spec.seed w (length start) (length ms)) (sym (all_of net start spec rounds crowd pickers left h round w)) (more_picked w l);
+            marked = all_marked net start spec rounds crowd pickers left h round p.marked;
+            replays = all_replayed net start spec rounds crowd pickers left h round end p.replays;
+            goes_on = all_go_on net start spec rounds crowd pickers left h round goes;
             over = inl terminal;
           }
         where
@@ -92,12 +83,6 @@ module _ (net : NetModel) (start : CrowdModel) (spec : RunSpec) (rounds : List (
           whole_case : (k : ℕ) (meetings : List Meeting) → k < length rounds → (slice_get rounds k ≡ Some meetings) ⊎ ((k ≡ length rounds) × (round ≡ meetings)) → IsRound spec (k + 1) meetings
           whole_case k meetings l (inl e) = h.each k meetings e
           whole_case k meetings l (inr e) = absurd (omega (arith, l, e.0))
-
-          goes_case : (k : ℕ) → (k < length rounds) ⊎ (length rounds ≤ k) → k < length rounds + 1 → IsTerminal (Step net) (replay net (joined (take k (rounds ++ round ∷ []))) start) → ⊥
-          goes_case k (inl b) c t = h.goes_on k b (subst (λ (rs : List (List Meeting)). IsTerminal (Step net) (replay net (joined rs) start)) (take-append-le k rounds (round ∷ []) (omega (arith, b))) t)
-          goes_case k (inr b) c t =
-              let all : take k (rounds ++ round ∷ []) ≡ rounds = take-append-le k rounds (round ∷ []) (omega (arith, c)) ∙ take_all k rounds b in
-              goes (subst (IsTerminal (Step net)) (ap (λ (rs : List (List Meeting)). replay net (joined rs) start) all ∙ h.replays) t)
 
     -- one more round of a run that goes on
     pub one_round_more : IsOnTheWay net start spec rounds crowd pickers left → 1 ≤ left → (IsTerminal (Step net) crowd → ⊥) → ((w : ℕ) → w < spec.workers → made_by w round ≤ min 4096 left)

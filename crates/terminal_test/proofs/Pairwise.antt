@@ -5,6 +5,7 @@ use Rattle.std.specs.Cmp.Lexicographic.{pointwise}
 use Rattle.std.proofs.lemmas.Bool.{and_parts, and_from, not-true, not-false, not_from_true, false≢true, eqb-true, eq-eqb}
 use Rattle.std.proofs.lemmas.Bool.Decides.{Decides-eqb}
 use Rattle.std.proofs.lemmas.Slice.Eq.{slice_eq-Decides}
+use Rattle.std.proofs.Math.Bool.{or_comm, and_comm}
 use Rattle.pop_net.specs.declared.leaf.Move.{Move}
 use Rattle.pop_net.specs.LeafModel.{LeafModel, silent_move, same_pair}
 use Rattle.pop_net.specs.NetModel.{NetModel, Tuple}
@@ -12,6 +13,7 @@ use Rattle.pop_net.specs.Reaction.{takes_states, after_move, by_move, leaf_react
 use Rattle.pop_net.proofs.Found.{find_some}
 use Rattle.pop_net.proofs.Quiet.{leaf_quiet, leaves_quiet}
 use Rattle.pop_crowd.specs.Replay.{reacts}
+use Rattle.list_laws.proofs.Lists.{heads, tails}
 
 -- the reaction of two tuples leaves both as they are
 pub still : (net : NetModel) (x y : Tuple) → reacts net x y ≡ false → ((reaction net x y).0 ≡ x) × ((reaction net x y).1 ≡ y)
@@ -45,12 +47,6 @@ quiet_leaf leaf x y (Some t) e h k =
     let silent = after_itself t x y ((x == t.p) && (y == t.q)) refl parts.1 h k in
     absurd (false≢true (sym (not-true _ parts.0) ∙ silent))
 
-heads : (x y : ℕ) (xs ys : List ℕ) → x ∷ xs ≡ y ∷ ys → x ≡ y
-heads x y xs ys e = cc
-
-tails : (x y : ℕ) (xs ys : List ℕ) → x ∷ xs ≡ y ∷ ys → xs ≡ ys
-tails x y xs ys e = cc
-
 -- where a reaction changes nothing, no leaf has a move for the two tuples
 pub quiet_leaves : (leaves : List LeafModel) (x y : Tuple) → length x ≡ length leaves → length y ≡ length leaves → map (λ z. z.0) (reactions leaves x y) ≡ x → map (λ z. z.1) (reactions leaves x y) ≡ y → leaves_quiet leaves x y ≡ true
 quiet_leaves [] x y hx hy e f = refl
@@ -61,22 +57,10 @@ quiet_leaves (leaf ∷ leaves) (p ∷ x) (q ∷ y) hx hy e f =
     (quiet_leaf leaf p q (find (takes_states p q) leaf.moves) refl (heads (leaf_reaction leaf p q).0 p _ x e) (heads (leaf_reaction leaf p q).1 q _ y f))
     (quiet_leaves leaves x y (ap pred hx) (ap pred hy) (tails (leaf_reaction leaf p q).0 p _ x e) (tails (leaf_reaction leaf p q).1 q _ y f))
 
-or_turned : (a b : Bool) → a || b ≡ b || a
-or_turned true true = refl
-or_turned true false = refl
-or_turned false true = refl
-or_turned false false = refl
-
-and_turned : (a b : Bool) → a && b ≡ b && a
-and_turned true true = refl
-and_turned true false = refl
-and_turned false true = refl
-and_turned false false = refl
-
 takes_turned : (x y : ℕ) (t : Move) → takes_states x y t ≡ takes_states y x t
 takes_turned x y t =
     ap (λ b. not (silent_move t) && b)
-    (or_turned ((x == t.p) && (y == t.q)) ((x == t.q) && (y == t.p)) ∙ ap (λ b. b || (x == t.p) && (y == t.q)) (and_turned (x == t.q) (y == t.p)) ∙ ap (λ b. (y == t.p) && (x == t.q) || b) (and_turned (x == t.p) (y == t.q)))
+    (or_comm ((x == t.p) && (y == t.q)) ((x == t.q) && (y == t.p)) ∙ ap (λ b. b || (x == t.p) && (y == t.q)) (and_comm (x == t.q) (y == t.p)) ∙ ap (λ b. (y == t.p) && (x == t.q) || b) (and_comm (x == t.p) (y == t.q)))
 
 leaf_turned : (leaf : LeafModel) (x y : ℕ) → leaf_quiet leaf x y ≡ leaf_quiet leaf y x
 leaf_turned leaf x y = ap (λ p. is_none (find p leaf.moves)) (λ i t. takes_turned x y t i)

@@ -1,7 +1,7 @@
 -- The crowd at the end of a play has one state per leaf in each tuple.
 use Rattle.std.proofs.Common.{◌≡◌, ℕ, ◌+◌, ◌<◌, ◌&&◌, Bool, true, false, cond, not, nat_lt, List, [], ◌∷◌, length, Option, Some, None, Result, Ok, Err, refl, ap, subst}
 use Rattle.std.specs.Prelude.{◌≢◌, ◌==◌, All}
-use Rattle.std.proofs.lemmas.Bool.{eq-eqb, ltb-true}
+use Rattle.std.proofs.lemmas.Bool.{eq-eqb, ltb-true, and_parts, eqb-false, not-true}
 use Rattle.std.proofs.lemmas.List.Elements.{All-nil, All-cons}
 use Rattle.serde_json.specs.Data.{Data}
 use Rattle.pop_lines.specs.Lines.{pieces}
@@ -24,21 +24,13 @@ chosen : {A : Type 0} (b : Bool) (x y : A) (fault : MeetingFault) → cond b (le
 chosen true x y fault e = (refl, cc)
 chosen false x y fault e = absurd cc
 
-parts : (a b : Bool) → (a && b) ≡ true → (a ≡ true) × (b ≡ true)
-parts true true e = (refl, refl)
-parts true false e = absurd cc
-parts false b e = absurd cc
-
-unequal : (x y : ℕ) → not (x == y) ≡ true → x ≢ y
-unequal x y e same = absurd (cc (e, eq-eqb x y same))
-
 agents_are : (agents : ℕ) (o : Option (ℕ × ℕ)) (pair : ℕ × ℕ) → two_agents_of agents o ≡ Ok pair → (pair.0 ≢ pair.1) × (pair.0 < agents) × (pair.1 < agents)
 agents_are agents None pair e = absurd cc
 agents_are agents (Some p) pair e =
     let c = chosen (not (p.0 == p.1) && (nat_lt p.0 agents && nat_lt p.1 agents)) p pair meeting.Agents e in
-    let t = parts (not (p.0 == p.1)) (nat_lt p.0 agents && nat_lt p.1 agents) c.0 in
-    let u = parts (nat_lt p.0 agents) (nat_lt p.1 agents) t.1 in
-    subst (λ (q : ℕ × ℕ). (q.0 ≢ q.1) × (q.0 < agents) × (q.1 < agents)) c.1 (unequal p.0 p.1 t.0, ltb-true p.0 agents u.0, ltb-true p.1 agents u.1)
+    let t = and_parts (not (p.0 == p.1)) (nat_lt p.0 agents && nat_lt p.1 agents) c.0 in
+    let u = and_parts (nat_lt p.0 agents) (nat_lt p.1 agents) t.1 in
+    subst (λ (q : ℕ × ℕ). (q.0 ≢ q.1) × (q.0 < agents) × (q.1 < agents)) c.1 (eqb-false p.0 p.1 (not-true (p.0 == p.1) t.0), ltb-true p.0 agents u.0, ltb-true p.1 agents u.1)
 
 paired_ok : (number : ℕ) (r : Result (ℕ × ℕ) MeetingFault) (pair : ℕ × ℕ) → paired number r ≡ Ok pair → r ≡ Ok pair
 paired_ok number (Ok p) pair e = let same : p ≡ pair = cc in ap (λ (q : ℕ × ℕ). Ok q) same

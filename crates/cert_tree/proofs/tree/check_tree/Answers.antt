@@ -1,12 +1,13 @@
 use Rattle.std.proofs.Common.{◌≡◌, ◌≤◌, ◌+◌, ◌∙◌, List, ◌∷◌, [], ap, sym, subst, drop, length, arith}
 use Rattle.std.specs.Prelude.{Some}
+use Rattle.std.proofs.lemmas.List.{drop_all}
 use Rattle.cert_base.specs.FactsAndCases.{base_list}
 use Rattle.cert_tree.specs.declared.fault.TreeWhy.TheVariants.{Missing}
 use Rattle.cert_tree.specs.declared.fault.TreeFault.TheVariants.{Broken}
 use Rattle.cert_tree.specs.Refusals.{Waiting, first_from, IsTreeFault}
 use Rattle.cert_tree.specs.Frames.{waiting, MeetsWaiting, StandsAtFirst}
 use Rattle.cert_tree.proofs.ClosedWalk.{unrefused-Closes}
-use Rattle.cert_tree.proofs.Verdicts.{broken_at, missing_at, none_at, only_memory, closed_right, cover_on, drop_all, item_at}
+use Rattle.cert_tree.proofs.Verdicts.{broken_at, missing_at, none_at, only_memory, closed_right, cover_on, item_at}
 use Rattle.cert_tree.proofs.tree.check_tree.Goals as goal
 
 pub loop-number-init : goal.loop-number-init
@@ -47,7 +48,7 @@ pub returns-then-branch : goal.returns-then-branch
 returns-then-branch c =
     let at : StandsAtFirst (waiting c.loop-number.walk) c.next_case.new.self = rw c.if-branch.true at c.in_ok-next_case.ensures in
     let past : length c.args.nodes.now ≤ c.loop-number.number = rw c.as_slice-node-items.ensures at c.loop-number-test.false in
-    let missing = missing_at c.args.leaf.now c.args.pred.now c.args.value c.args.nodes.now (at.above, c.next_case.new.self.trail) (waiting c.loop-number.walk) (waiting c.next_case.new.self) c.loop-number.number c.loop-number.invariant.same (drop_all c.args.nodes.now c.loop-number.number past) at.first in
+    let missing = missing_at c.args.leaf.now c.args.pred.now c.args.value c.args.nodes.now (at.above, c.next_case.new.self.trail) (waiting c.loop-number.walk) (waiting c.next_case.new.self) c.loop-number.number c.loop-number.invariant.same (drop_all c.loop-number.number c.args.nodes.now past) at.first in
     let end : c.loop-number.number ≡ length c.as_slice.result.now = omega (arith, past, c.loop-number.auto.number-end, ap length c.as_slice-node-items.ensures, ap length c.as_slice.ensures) in
     let fault : IsTreeFault c.args.leaf.now c.args.pred.now c.args.value c.args.nodes.now (Broken (length c.as_slice.result.now) Missing) = missing ∙ ap (λ n. Some (n, Missing)) end in
     record {
@@ -62,7 +63,7 @@ returns c =
     let none : waiting c.loop-number.walk ≡ [] = rw c.if-branch.false at c.in_ok-next_case.ensures in
     let past : length c.args.nodes.now ≤ c.loop-number.number = rw c.as_slice-node-items.ensures at c.loop-number-test.false in
     record {
-      closes = unrefused-Closes c.args.leaf.now c.args.pred.now c.args.value c.args.nodes.now c.in_ok-walk.ensures.start.few (none_at c.args.leaf.now c.args.pred.now c.args.value c.args.nodes.now (waiting c.loop-number.walk) c.loop-number.number c.loop-number.invariant.same (drop_all c.args.nodes.now c.loop-number.number past) none);
+      closes = unrefused-Closes c.args.leaf.now c.args.pred.now c.args.value c.args.nodes.now c.in_ok-walk.ensures.start.few (none_at c.args.leaf.now c.args.pred.now c.args.value c.args.nodes.now (waiting c.loop-number.walk) c.loop-number.number c.loop-number.invariant.same (drop_all c.loop-number.number c.args.nodes.now past) none);
       fault = tt;
       accepts = λ closed. tt;
       right = closed_right c.args.leaf.now c.args.pred.now c.args.value (waiting c.loop-number.walk) c.in_ok-walk.ensures.start.met c.loop-number.invariant.cover none;

@@ -1,4 +1,5 @@
 use Rattle.std.proofs.Common.{◌≡◌, true, false, arith, ◌∙◌}
+use Rattle.std.proofs.lemmas.Bool.{OnTrue_at}
 use Rattle.std.proofs.lemmas.Result.{err_from_is_err_and}
 use Rattle.serde_json.specs.View.{view}
 use Rattle.json_shape.specs.Paths.{path_text}
@@ -6,8 +7,9 @@ use Rattle.pop_net.specs.NetModel.{after_item, depth_operators}
 use Rattle.pop_net.specs.NetFaults.{names_below, are_low}
 use Rattle.net_json.specs.Examined.{combine_item, combine_items_at}
 use Rattle.json_shape.proofs.Each.{each-fails, each-goes, each-done}
-use Rattle.net_json.proofs.Items.{open_next, after_item-length, operand-fails, shape-fails, item-goes, and_second, put_some}
+use Rattle.net_json.proofs.Items.{open_next, operand-fails, shape-fails, item-goes, and_second}
 use Rattle.net_json.proofs.combine.items_of.Goals as goal
+use Rattle.pop_net.proofs.Trees.{after_item_few}
 
 pub returns-in_err-operand-clause-items : goal.returns-in_err-operand-clause-items
 unfolding combine_items_at
@@ -34,12 +36,12 @@ loop-i-preserved c =
     let item = c.in_ok-operand.operand in
     let yes : c.put.result ≡ true = cc in
     let low : are_low (after_item depth_operators item c.loop-i.trees) ≡ true = and_second c.put.result (names_below c.args.leaves item) _ c.put.ensures.good c.in_ok-operand.ensures.below ∙ yes in
-    let after = put_some c.put.result yes c.put.ensures.put in
+    let after = OnTrue_at yes c.put.ensures.put in
     let goes = item-goes path c.args.leaves c.loop-i.items.items c.loop-i.i (view c.item-item.result) item c.loop-i.trees c.in_ok-operand.ensures.operand c.loop-i.invariant.trees_open low in
     record {
       read = rw c.in_ok-push.ensures.items (each-goes (combine_item path c.args.leaves) c.loop-i.items.items c.deref-item-items.result.now c.loop-i.i item c.item-item.result _ c.loop-i-test.true c.item-item.is goes c.loop-i.invariant.read);
       trees_open = rw c.in_ok-push.ensures.items (open_next c.loop-i.items.items c.loop-i.trees item c.loop-i.invariant.trees_open ∙ after);
-      few = omega (arith, after_item-length item c.loop-i.trees c.put.new.self after, c.loop-i.invariant.few);
+      few = omega (arith, after_item_few depth_operators item c.loop-i.trees c.put.new.self after, c.loop-i.invariant.few);
     }
 
 pub returns-clause-items : goal.returns-clause-items

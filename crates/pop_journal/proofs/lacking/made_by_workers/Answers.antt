@@ -1,11 +1,10 @@
 use Rattle.std.proofs.Common.{◌≡◌, ℕ, ◌+◌, ◌<◌, ◌==◌, not, false, List, length, get_or, take, refl, sym, ap, ◌∙◌, arith}
-use Rattle.std.proofs.lemmas.List.{length-set, length-take-le}
+use Rattle.std.proofs.lemmas.List.{length-set, length-take-le, take_more}
 use Rattle.std.proofs.lemmas.List.Elements.{All-get_or}
 use Rattle.std.proofs.lemmas.List.Filters.{length-filter_both}
 use Rattle.pop_crowd.specs.declared.crowd.Meeting.{Meeting}
 use Rattle.pair_workers.specs.Run.{meetings_of}
 use Rattle.pop_journal.proofs.ReadBack.{counts_next}
-use Rattle.pop_journal.proofs.Walk.{take_next}
 use Rattle.pop_journal.proofs.lacking.made_by_workers.Goals as goal
 
 abbrev blank : Meeting
@@ -24,7 +23,7 @@ loop-meeting-preserved c =
     record {
       workers = length-set old m.worker (c.index_mut.result.now + 1) ∙ was.workers;
       counts = λ w d l. counts_next c.args.workers (take i ms) m old c.index_mut.result.now within was.counts c.index_mut.ensures.value w d l
-          ∙ ap (λ (xs : List Meeting). length (meetings_of w xs)) (sym (take_next ms i blank less));
+          ∙ ap (λ (xs : List Meeting). length (meetings_of w xs)) (sym (take_more ms i blank less));
     }
 
 pub overflow_add-index_mut : goal.overflow_add-index_mut

@@ -1,7 +1,8 @@
 use Rattle.std.proofs.Common.{◌≡◌, false, map, Err, sym, ap, rules}
+use Rattle.std.proofs.lemmas.Result.{IfOk-weaker}
 use Rattle.tool_commands.specs.Commands.{reads}
 use Rattle.tool_commands.proofs.Leads.{text_leads, leads_wider}
-use Rattle.pop_tool.proofs.Replies.{IfOk-weaker, usage_right, command_right, long_right, fault_right, unread_right, long_input, whole_input}
+use Rattle.pop_tool.proofs.Replies.{usage_right, command_right, long_right, fault_right, unread_right, long_input, whole_input}
 use Rattle.pop_tool.proofs.prepare.prepare.Goals as goal
 
 pub returns-in-Err-clause-leads : goal.returns-in-Err-clause-leads
@@ -12,9 +13,9 @@ returns-in-Err-clause-leads g c =
 pub returns-in-Ok-read_all-clause-leads : goal.returns-in-Ok-read_all-clause-leads
 returns-in-Ok-read_all-clause-leads g c =
     let has = whole_input (g.S.Source.left c.args.source.now) c.in-Ok-read_all.input c.in-Ok-read_all.ensures.whole in
-    IfOk-weaker _ _
+    IfOk-weaker c.prepare_for-in-Ok-read_all.result _ _
     (λ p leads. leads_wider _ _ (λ o of. command_right (map (λ w. w.now) c.args.words.now) (g.S.Source.left c.args.source.now) _ _ _ c.in-Ok.command (sym c.in-Ok.ensures.meaning) c.in-Ok-read_all.input has c.in-Ok-read_all.ensures.fits c.in-Ok-read_all.ensures.end o (rw c.as_slice.ensures at of)) p leads)
-    c.prepare_for-in-Ok-read_all.result c.prepare_for-in-Ok-read_all.ensures.leads
+    c.prepare_for-in-Ok-read_all.ensures.leads
 
 pub returns-in_ok-of_refusal-in-Err-TooLong-clause-leads : goal.returns-in_ok-of_refusal-in-Err-TooLong-clause-leads
 returns-in_ok-of_refusal-in-Err-TooLong-clause-leads g c =
@@ -33,6 +34,6 @@ returns-in_ok-of_read_fault-in-Err-ReadFault-clause-leads g c =
 pub returns-then-not-reads_input-clause-leads : goal.returns-then-not-reads_input-clause-leads
 returns-then-not-reads_input-clause-leads g c =
     let unread : reads c.in-Ok.command ≡ false = search rules in
-    IfOk-weaker _ _
+    IfOk-weaker c.prepare_for.result _ _
     (λ p leads. leads_wider _ _ (λ o of. unread_right (map (λ w. w.now) c.args.words.now) (g.S.Source.left c.args.source.now) _ _ _ c.in-Ok.command (sym c.in-Ok.ensures.meaning) unread _ o of) p leads)
-    c.prepare_for.result c.prepare_for.ensures.leads
+    c.prepare_for.ensures.leads

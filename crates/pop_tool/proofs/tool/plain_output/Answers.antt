@@ -1,5 +1,5 @@
-use Rattle.pop_tool.proofs.Replies.{IfOk-weaker}
+use Rattle.std.proofs.lemmas.Result.{IfOk-weaker}
 use Rattle.pop_tool.proofs.tool.plain_output.Goals as goal
 
 pub returns-clause-output : goal.returns-clause-output
-returns-clause-output g c = IfOk-weaker _ _ (λ o is. c.in_ok-prepared.ensures.leads.allowed o is) c.perform_alone.result c.perform_alone.ensures
+returns-clause-output g c = IfOk-weaker c.perform_alone.result _ _ (λ o is. c.in_ok-prepared.ensures.leads.allowed o is) c.perform_alone.ensures

@@ -3,12 +3,12 @@ use Rattle.std.proofs.lemmas.List.{get_or_default, length-map}
 use Rattle.pop_net.specs.NetModel.{CrowdModel}
 use Rattle.pop_net.specs.Lanes.{crowd_of, tuple_of}
 use Rattle.pop_crowd.specs.declared.crowd.Meeting.{Meeting}
-use Rattle.agent_field.proofs.Histories.{length-replay}
 use Rattle.pair_workers.specs.Picks.{picks_from, words_from}
 use Rattle.pair_workers.specs.Run.{made_by}
 use Rattle.pop_watch.specs.Playing.{ArePlaying}
 use Rattle.pop_watch.proofs.MoreMeetings.{one_more, made_more}
 use Rattle.pop_watch.proofs.missing.push_next.Goals as goal
+use Rattle.pop_crowd.proofs.Reached.{length-replay}
 
 pub returns : goal.returns
 returns c =
