@@ -1,7 +1,8 @@
-#!/usr/bin/env python3
+#!/usr/bin/python3
 """Refuses each request for memory in turn, in runs of the built program of their own.
 
-Run from the top of the repository: python3 bench/refused.py [--short] [PROGRAM]; --short leaves out the cases with most requests.
+Run from the top of the repository: tests/refused.py [--short | --long] [PROGRAM]; --short is the usual, and --long has the cases
+with most requests too.
 The C library's allocating calls are replaced, for the program alone, by ones of which the call with a given number gives
 nothing; they stand below, and gcc builds them. For each case the number counts up from 1, until a run in which nothing was
 refused. A run in which something was refused must end with the status 8 and print nothing, or give the whole answer. The
@@ -15,8 +16,8 @@ import sys
 import tempfile
 
 TOP = os.path.dirname(os.path.dirname(os.path.abspath(__file__)))
-IS_SHORT = "--short" in sys.argv[1:]
-GIVEN = [word for word in sys.argv[1:] if word != "--short"]
+IS_SHORT = "--long" not in sys.argv[1:]
+GIVEN = [word for word in sys.argv[1:] if word not in ("--short", "--long")]
 PROGRAM = GIVEN[0] if GIVEN else os.path.join(TOP, "crates/pop_main/out/pop_main")
 TESTS = os.path.join(TOP, "crates/run_tests/out/run_tests_tests")
 FIELD_TEST = "refusals::a_refusal_leaves_the_seats"
