@@ -65,16 +65,26 @@ def main_table(rows):
                 before = name
 
 
-def growth_table(rows):
+def sentence(text):
+    return [*textwrap.wrap(text, 118), ""]
+
+
+def growth(rows):
     """Nanoseconds for a unit of work, at the least and at the greatest work."""
-    yield "| Command | Grows with | Nanoseconds each | Commit |"
-    yield "|---|---|---|---|"
     steps = {}
     for commit, (_, name, unit, work, each) in rows:
         steps.setdefault((commit, name, unit), []).append((int(work), each))
-    for (commit, name, unit), found in steps.items():
-        told = ", ".join(f"{each} at {work:,}" for work, each in sorted(found))
-        yield f"| `{name}` | {unit} | {told} | {commit} |"
+    told = [
+        f"`{name}` " + " and ".join(f"{int(each):,} at {work:,}" for work, each in sorted(found)) + f" {unit} ({commit})"
+        for (commit, name, unit), found in steps.items()
+    ]
+    return sentence(f"Growth, in nanoseconds for each: {'; '.join(told)}.")
+
+
+def stack(rows):
+    """The least stack with which a command ends."""
+    told = ", ".join(f"{name} {size}" for _, (_, name, size) in rows)
+    return sentence(f"The least stack with which a command ends, in KB of `ulimit -s` ({rows[0][0]}): {told}. The usual limit is 8,192.")
 
 
 def tables(folder):
@@ -89,16 +99,15 @@ def tables(folder):
         out += ["| Workers of `run` | Seconds of all processors | Page faults | Commit |", "|---|---|---|---|"]
         out += [f"| {workers} | {seconds} | {faults} | {commit} |" for commit, (_, workers, seconds, faults) in rows("threads")] + [""]
     if rows("growth"):
-        out += [*growth_table(rows("growth")), ""]
+        out += growth(rows("growth"))
     if rows("stack"):
-        out += ["| Least stack | KB | Commit |", "|---|---|---|"]
-        out += [f"| {name} | {size} | {commit} |" for commit, (_, name, size) in rows("stack")] + [""]
+        out += stack(rows("stack"))
     for commit, (_, workers, seeds, whole, watched) in rows("watched"):
-        out += textwrap.wrap(
+        out += sentence(
             f"By {workers} workers on a certified epidemic of 1,000 agents `run` makes {int(whole):,} meetings, and `watch` {int(watched):,} "
-            f"(the average of {seeds} seeds, {commit}).", 118
+            f"(the average of {seeds} seeds, {commit})."
         )
-    return out
+    return out[:-1]
 
 
 def main():

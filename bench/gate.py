@@ -29,6 +29,7 @@ from common import first_line, heading, write_between
 TOP = Path(__file__).resolve().parent.parent
 RESULT = TOP / "bench/results/gate.txt"
 TICKS = os.sysconf("SC_CLK_TCK")
+ACROSS = 3
 KINDS = ["proofs", "tests", "seeds", "edits", "other"]
 
 # The crate stands on no other one.
@@ -152,23 +153,20 @@ def read_log(lines):
 
 def cells(name, row):
     """A crate's part of the table; what was not done is left blank."""
-    if row is None:
-        return ["", "", "", "", ""]
     proofs, tests, seeds, edits = (f"{row[kind]:.1f}" if row[kind] >= 0.05 else "" for kind in KINDS[:4])
     return [f"`{name}`", proofs, tests, seeds, f"{edits} for {row['tried']:.0f}" if row["tried"] else edits]
 
 
 def table(lines):
-    """The table of docs/PROVING.md, two crates a row, and a sentence with the sums."""
+    """The table of docs/PROVING.md, some crates a row, and a sentence with the sums."""
     rows, told = read_log(lines)
     known = order()
     names = sorted((name for name in rows if name != "none"), key=lambda name: (known.index(name) if name in known else len(known), name))
-    half = (len(names) + 1) // 2
-    head = "| Crate | Proofs | Tests | Seed | Edits "
-    out = [head * 2 + "|", "|---" * 10 + "|"]
-    for at in range(half):
-        right = names[half + at] if half + at < len(names) else ""
-        out.append("| " + " | ".join(cells(names[at], rows[names[at]]) + cells(right, rows.get(right))) + " |")
+    height = -(-len(names) // ACROSS)
+    out = ["| Crate | Proofs | Tests | Seed | Edits " * ACROSS + "|", "|---" * 5 * ACROSS + "|"]
+    for at in range(height):
+        found = [cells(name, rows[name]) for name in names[at::height]]
+        out.append("| " + " | ".join(sum(found + [[""] * 5] * (ACROSS - len(found)), [])) + " |")
     sums = {kind: sum(row[kind] for row in rows.values()) for kind in [*KINDS, "tried"]}
     everything = sum(sums[kind] for kind in KINDS)
     parts = f"proofs {sums['proofs']:.0f}, tests {sums['tests']:.0f}, seeds {sums['seeds']:.0f}, {sums['tried']:.0f} edits {sums['edits']:.0f}"

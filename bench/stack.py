@@ -25,8 +25,8 @@ def cases():
     yield "`compile` of two atoms", ["compile"], b"vars x y\nx - y < 3 || x + y = 1 mod 2\n"
     yield "`eval` of 40 nested negations", ["eval"], b"vars x\n" + b"!(" * 40 + b"x < 1" + b")" * 40 + b"\ncrowd x=1\n"
     yield "`demo 21`", ["demo", "21"], b""
-    yield "`run` by two workers, of the first thread", ["run", "--workers", "2"], bundle + crowd
-    yield "`check` of a JSON value nested 127 deep, the most that is read", ["check"], b"[" * 127 + b"]" * 127 + b"\n"
+    yield "`run` by two workers (the first thread)", ["run", "--workers", "2"], bundle + crowd
+    yield "`check` of JSON nested 127 deep", ["check"], b"[" * 127 + b"]" * 127 + b"\n"
 
 
 def status(kilobytes, words, data):
