@@ -207,7 +207,7 @@ OTHER = (
         files=False,
     ),
     Page(
-        "--version", "the commit, the toolchain, and whether the program is that of the sources",
+        "--version", "the version, the commit, the toolchain, and whether the program is that of the sources",
         ("pop --version",),
         "",
         ("pop --version",
