@@ -26,7 +26,7 @@ SECTION = re.compile(r'([\w./]*[A-Z]{4,}\.md),\s+"([^"]+)"|"([^"]+)"\s+(?:in|of)
 CLAUSE = re.compile(r"\b[Cc]lauses?\s+`(\w+)`")
 COMMAND = re.compile(r"^\s*(?:\$ )?((?:bin|tests|bench)/\w[\w.]*|pop|rt|make)(?: +([a-z][\w-]*|--[a-z][\w-]*))?")
 # what stands in the toolchain, in std, or in no file: names, options and commands of the kit, files that are made
-ELSEWHERE = {"div_ceil", "lang", "made", "Over", "Deserialize", "Lts", "specification", "user"}
+ELSEWHERE = {"CRATE", "div_ceil", "lang", "made", "Over", "Deserialize", "Lts", "specification", "user"}
 KIT = {"all", "check", "ci", "fmt", "must-fail", "new", "plant", "run", "tidy", "try", "verdict", "version"}
 KIT_OPTIONS = {"--anew", "--fail-alloc", "--only", "--stage-times", "--test"}
 BUILT = "out"

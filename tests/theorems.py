@@ -348,7 +348,7 @@ def document() -> str:
         "",
         "Every clause that a public call promises, the headline first, then crate by crate downwards: what it says (the clause's",
         "comment, or else the call's), where it stands, and how many lines of definitions of this repository it rests on.",
-        "`tests/theorems.py --write` writes this file. Before it, what a reader has to believe. `certified` stands exactly for",
+        "`tests/theorems.py --write` writes this file. Before it, the trusted definitions. `certified` is printed exactly for",
         "valid proofs, and a valid proof gives that the net computes the predicate; who asks only what `certified` tells of a",
         "protocol need not read what a valid proof is. MODEL.md says the definitions in words, READING.md how to read them.",
         "",
