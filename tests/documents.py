@@ -161,7 +161,8 @@ def text_faults(prose: str, folder: Path, repository: Repository) -> Iterator[tu
     for found in SECTION.finditer(prose):
         document, title = (found[1], found[2]) if found[1] else (found[4], found[3])
         path = found_document(document.removeprefix("../"), folder)
-        if path is None or " ".join(title.split()) not in {name.replace("`", "") for name in sections(path)} | sections(path):
+        title = " ".join(title.split())
+        if path is None or title not in sections(path):
             yield found.start(), f'"{title}" of {document}'
     for found in CLAUSE.finditer(prose):
         if found[1] not in repository.clauses:
