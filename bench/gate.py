@@ -5,8 +5,8 @@ and those of the seed of its edits: the check of the crate as it stands with whi
 Run from the top of the repository: bench/gate.py [FOLDER [COMMIT]], or bench/gate.py --from LOG
 
 The clone is made in FOLDER, or in a new temporary folder. `rt ci --anew` proves and tries all, whatever earlier runs kept. With a COMMIT it is that
-one's gate, so that an earlier gate and this one can be measured on one machine; nothing is written then. Without one what is printed goes into
-bench/results/gate.txt too, and the table of docs/PROVING.md is made of it. --from does both with what an earlier run printed.
+one's gate, so that an earlier gate and this one can be measured on one machine; nothing is written then. Without one what is printed of a
+gate that passed goes into bench/results/gate.txt too, and the table of docs/PROVING.md is made of it. --from does both with what an earlier run printed.
 A process counts for the crate that its command line names. Times are read twice a second, so the last half second of each
 process is missing; what a process took that names no crate stands in the last line.
 
@@ -211,7 +211,7 @@ def main():
         return 0
     lines, status = measure(sys.argv[1:])
     print("\n".join(lines))
-    if len(sys.argv) < 3:
+    if len(sys.argv) < 3 and status == 0:
         keep(lines)
     return status
 
