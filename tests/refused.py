@@ -6,8 +6,9 @@ with most requests too.
 The C library's allocating calls are replaced, for the program alone, by ones of which the call with a given number gives
 nothing; they stand below, and gcc builds them. For each case the number counts up from 1, until a run in which nothing was
 refused. A run in which something was refused must end with the status 8 and print nothing, or give the whole answer. The
-status of the script is 1 where one does neither. On threads the runs differ, so there the whole answer is one that `replay` holds,
-with a status of an end. Last, the same is done to a test of the field, which `rt ci` builds: no assertion of it may fail.
+status of the script is 1 where one does neither, or where no call of a case was refused. On threads the runs differ, so there the
+whole answer is one that `replay` holds, with a status of an end. Last, the same is done to a test of the field, which `rt ci`
+builds: no assertion of it may fail.
 """
 
 import os
@@ -134,6 +135,9 @@ def count(library, name):
             wrong += 1
             print(f"DIFFERS {name}: call {call} refused, status {status}, {text[:80]!r}")
         call += 1
+    if call == 1:
+        wrong += 1
+        print(f"DIFFERS {name}: no call was refused, so it takes no memory of the C library, as a program of `rt try`")
     print(f"{name}: {call - 1} calls refused in turn, {silent} times out of memory, {call - 1 - silent} times the whole answer", flush=True)
     return wrong
 
@@ -162,7 +166,7 @@ def main():
         if os.path.exists(TESTS):
             wrong += count_test(library)
         else:
-            print(f"{FIELD_TEST}: not built")
+            print(f"skipped {FIELD_TEST}: it isn't built (rt ci)")
         return 1 if wrong else 0
 
 
