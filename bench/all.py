@@ -66,7 +66,7 @@ def main_table(rows):
 
 
 def sentence(text):
-    return [*textwrap.wrap(text, 118), ""]
+    return [*textwrap.wrap(text, 120), ""]
 
 
 def growth(rows):

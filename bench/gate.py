@@ -174,7 +174,7 @@ def table(lines):
         f"In all {everything:.0f} processor minutes ({parts}, no crate {sums['other']:.0f}), {told.get('wall', '').removeprefix('clock ')}; the gate of "
         f"{told.get('commit', 'unknown')}, on {told.get('machine', 'unknown')}. Beside it a check of `{GAUGE_CRATE}` {told.get(GAUGE_CRATE, 'was not timed')}."
     )
-    return [*out, "", *textwrap.wrap(sentence, 118)]
+    return [*out, "", *textwrap.wrap(sentence, 120)]
 
 
 def keep(lines):
