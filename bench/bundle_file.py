@@ -1,7 +1,7 @@
-#!/usr/bin/env python3
+#!/usr/bin/python3
 """Reads a bundle of 100 MB with `read_proof`, beside serde_json's own parse of the same bytes.
 
-python3 bench/bundle_file.py [MEGABYTES]
+bench/bundle_file.py [MEGABYTES]
 
 Both programs stand below; they are proved and built in a folder of their own over copies of the crates they call. A
 proof has at most 2,000,000 nodes for a leaf, so the nodes are long where the bundle is to be long.

@@ -1,7 +1,7 @@
-#!/usr/bin/env python3
+#!/usr/bin/python3
 """Takes the processor time of `check` of the built program beside a plain Rust program that does the same work.
 
-Run from the top of the repository: python3 bench/check.py [PROGRAM]
+Run from the top of the repository: bench/check.py [--short]
 The plain program is bench/plain/check.rs. Both must say the same, byte for byte: first of each bundle in examples/, then of those
 that are timed: the widest leaf of bench/tree.py, and compiled bundles with 16 variables.
 """
@@ -12,11 +12,10 @@ import subprocess
 import sys
 import tempfile
 
+from common import PROGRAM, TOP, expect_program, few, row
 import tree
 
-TOP = os.path.dirname(os.path.dirname(os.path.abspath(__file__)))
-PROGRAM = sys.argv[1] if len(sys.argv) > 1 else os.path.join(TOP, "crates/pop_main/out/pop_main")
-RUNS = 5
+RUNS = few(5, 1)
 
 
 def examples():
@@ -40,7 +39,7 @@ def bundles(folder):
     with open(paths[0], "w") as f:
         f.write(list(tree.bundles())[-1][1] + "\n")
     variables = " ".join(f"x{i}" for i in range(16))
-    for count, width in [(1, 80), (8, 42), (4, 80)]:
+    for count, width in few([(1, 80), (8, 42), (4, 80)], [(1, 20)]):
         names.append(f"{count} compiled atoms of width {width}")
         paths.append(os.path.join(folder, f"compiled{len(paths)}"))
         lines = f"vars {variables}\n{' && '.join([atom(width)] * count)}\n"
@@ -68,8 +67,7 @@ def contents(path):
 
 
 def main():
-    if not os.path.exists(PROGRAM):
-        sys.exit("build the program first: bin/pop build")
+    expect_program()
     with tempfile.TemporaryDirectory() as folder:
         plain, ours, theirs = (os.path.join(folder, name) for name in ("plain", "ours", "theirs"))
         source = os.path.join(TOP, "bench/plain/check.rs")
@@ -90,6 +88,7 @@ def main():
                 f"{name}, {size} bytes, {contents(ours).decode().strip()}: pop {our_time:.3f} s, plain {plain_time:.3f} s, "
                 f"ratio {our_time / plain_time:.2f}; memory: pop {memory / size:.1f} times the bytes, plain {plain_memory / size:.1f}"
             )
+            row("check", f"{name}, {size / 1e6:.1f} MB", our_time, plain_time, f"{memory / size:.0f} times the input")
 
 
 if __name__ == "__main__":

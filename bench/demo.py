@@ -1,20 +1,19 @@
-#!/usr/bin/env python3
+#!/usr/bin/python3
 """Runs demo cases, and takes the time of each.
 
-Run from the top of the repository: python3 bench/demo.py [PROGRAM]
+Run from the top of the repository: bench/demo.py [--short]
 The cases 0 to 99 are run twice and must say the same both times, with the status 0 or 4; then 200 cases spread over all 10,000.
 The first four lines of each summary are compared with the definition of the case, written again here, and a verdict with the
 predicate's value.
 """
 
-import os
 import subprocess
-import sys
 import time
 
-TOP = os.path.dirname(os.path.dirname(os.path.abspath(__file__)))
-PROGRAM = sys.argv[1] if len(sys.argv) > 1 else os.path.join(TOP, "crates/pop_main/out/pop_main")
-SPREAD = range(0, 10_000, 50)
+from common import PROGRAM, expect_program, few, row
+
+SPREAD = range(0, 10_000, few(50, 2_500))
+TWICE = few(100, 2)
 ENDINGS = {0: "verdict ", 4: "undecided "}
 
 
@@ -52,13 +51,14 @@ def check(number, status, text):
 
 
 def main():
+    expect_program()
     ended = 0
-    for number in range(100):
+    for number in range(TWICE):
         status, text, _ = run(number)
         check(number, status, text)
         assert run(number)[:2] == (status, text), number
         ended += status == 0
-    print(f"cases 0 to 99: {ended} ended with a verdict, {100 - ended} with their turns used up")
+    print(f"cases 0 to {TWICE - 1}: {ended} ended with a verdict, {TWICE - ended} with their turns used up")
     times = []
     ended = 0
     for number in SPREAD:
@@ -69,6 +69,7 @@ def main():
     seconds, slowest = max(times)
     mean = sum(time for time, _ in times) / len(times)
     print(f"{len(times)} of 10,000: {ended} with a verdict; {mean:.3f} s on the average, at most {seconds:.3f} s (case {slowest})")
+    row("demo", f"{len(times)} cases over all 10,000, of which {ended} come to their end; each", mean)
 
 
 main()

@@ -1,7 +1,7 @@
-#!/usr/bin/env python3
+#!/usr/bin/python3
 """Meetings per second of `run` on threads, beside one worker and beside a plain Rust program with a mutex per shard.
 
-Run from the top of the repository: python3 bench/field.py [PROGRAM]
+Run from the top of the repository: bench/field.py [--short]
 Majority with 1,000 and with 65,536 agents, nearly as many of one kind as of the other, so that the turns are used up. The times are
 of whole commands, the printing of the journal included. The plain program does the same work: it has a word of 64 bits for each agent's
 tuple and a table for each leaf, makes rounds of the same length, and looks before each round whether the crowd is terminal, first at the
@@ -15,10 +15,9 @@ import tempfile
 import time
 
 import generator
+from common import PROGRAM, TOP, few
 
-TOP = os.path.dirname(os.path.dirname(os.path.abspath(__file__)))
-PROGRAM = sys.argv[1] if len(sys.argv) > 1 else os.path.join(TOP, "crates/pop_main/out/pop_main")
-MEETINGS = 1_000_000
+MEETINGS = few(1_000_000, 10_000)
 
 PLAIN = r"""
 use std::io::Write;
@@ -189,7 +188,7 @@ fn main() {
 def timed(command, standard_input):
     """The least of three times, and the lines of the rounds."""
     best, lines = None, []
-    for _ in range(3):
+    for _ in range(few(3, 1)):
         with open(standard_input) as given:
             start = time.perf_counter()
             out = subprocess.run(command, stdin=given, stdout=subprocess.PIPE).stdout

@@ -1,10 +1,12 @@
+#!/usr/bin/python3
 """Runs the merge gate from nothing in a clone, and prints the processor minutes of each crate's proofs, tests and edits,
 and those of the seed of its edits: the check of the crate as it stands with which they begin.
 
-Usage: python3 bench/gate.py [FOLDER [COMMIT]]
+Run from the top of the repository: bench/gate.py [FOLDER [COMMIT]], or bench/gate.py --from LOG
 
 The clone is made in FOLDER, or in a new temporary folder. `rt ci --anew` proves and tries all, whatever earlier runs kept. With a COMMIT it is that
-one's gate, so that an earlier gate and this one can be measured on one machine.
+one's gate, so that an earlier gate and this one can be measured on one machine; nothing is written then. Without one what is printed of a
+gate that passed goes into bench/results/gate.txt too, and the table of docs/PROVING.md is made of it. --from does both with what an earlier run printed.
 A process counts for the crate that its command line names. Times are read twice a second, so the last half second of each
 process is missing; what a process took that names no crate stands in the last line.
 
@@ -17,11 +19,17 @@ import shutil
 import subprocess
 import sys
 import tempfile
+import textwrap
 import time
 from collections import defaultdict
 from pathlib import Path
 
+from common import first_line, heading, write_between
+
+TOP = Path(__file__).resolve().parent.parent
+RESULT = TOP / "bench/results/gate.txt"
 TICKS = os.sysconf("SC_CLK_TCK")
+ACROSS = 3
 KINDS = ["proofs", "tests", "seeds", "edits", "other"]
 
 # The crate stands on no other one.
@@ -114,30 +122,98 @@ def watch(gate, gauge):
     return seconds.values()
 
 
-def report(seconds):
+def report(seconds, folder):
+    """The lines of all crates, with how many edits each has."""
     minutes = defaultdict(lambda: dict.fromkeys(KINDS, 0.0))
     for crate, kind, taken in seconds:
-        minutes[crate or "no crate"][kind] += taken / 60
-    print(f"{'crate':16}" + "".join(f"{kind:>10}" for kind in KINDS))
+        minutes[crate or "none"][kind] += taken / 60
+    yield f"{'crate':20}" + "".join(f"{kind:>10}" for kind in [*KINDS, "tried"])
     for crate, row in sorted(minutes.items(), key=lambda item: -sum(item[1].values())):
-        print(f"{crate:16}" + "".join(f"{row[kind]:10.1f}" for kind in KINDS))
-    print(f"{'all':16}" + "".join(f"{sum(row[kind] for row in minutes.values()):10.1f}" for kind in KINDS))
+        tried = len(list(Path(folder, "crates", crate, "must-fail").glob("*.edit")))
+        yield f"{crate:20}" + "".join(f"{row[kind]:10.1f}" for kind in KINDS) + f"{tried:10}"
 
 
-def main():
-    top = Path(__file__).resolve().parent.parent
-    folder = sys.argv[1] if len(sys.argv) > 1 else tempfile.mkdtemp()
+def order():
+    """The crates from the bottom up, as crates.txt lists them."""
+    lines = (TOP / "crates.txt").read_text().splitlines()
+    return [line.split(":")[0].strip() for line in lines if ":" in line and not line.startswith("#")]
+
+
+def read_log(lines):
+    """The minutes of each crate of a log by kind of work, with the number of its edits, and what stands around them."""
+    rows, told = {}, {}
+    for line in lines:
+        words = line.split()
+        if len(words) == len(KINDS) + 2 and words[1][0].isdigit():
+            rows[words[0]] = dict(zip([*KINDS, "tried"], map(float, words[1:])))
+        elif words:
+            told[words[0]] = line.split(" ", 1)[-1]
+    return rows, told
+
+
+def cells(name, row):
+    """A crate's part of the table; what was not done is left blank."""
+    proofs, tests, seeds, edits = (f"{row[kind]:.1f}" if row[kind] >= 0.05 else "" for kind in KINDS[:4])
+    return [f"`{name}`", proofs, tests, seeds, f"{edits} for {row['tried']:.0f}" if row["tried"] else edits]
+
+
+def table(lines):
+    """The table of docs/PROVING.md, some crates a row, and a sentence with the sums."""
+    rows, told = read_log(lines)
+    known = order()
+    names = sorted((name for name in rows if name != "none"), key=lambda name: (known.index(name) if name in known else len(known), name))
+    height = -(-len(names) // ACROSS)
+    out = ["| Crate | Proofs | Tests | Seed | Edits " * ACROSS + "|", "|---" * 5 * ACROSS + "|"]
+    for at in range(height):
+        found = [cells(name, rows[name]) for name in names[at::height]]
+        out.append("| " + " | ".join(sum(found + [[""] * 5] * (ACROSS - len(found)), [])) + " |")
+    sums = {kind: sum(row[kind] for row in rows.values()) for kind in [*KINDS, "tried"]}
+    everything = sum(sums[kind] for kind in KINDS)
+    parts = f"proofs {sums['proofs']:.0f}, tests {sums['tests']:.0f}, seeds {sums['seeds']:.0f}, {sums['tried']:.0f} edits {sums['edits']:.0f}"
+    sentence = (
+        f"In all {everything:.0f} processor minutes ({parts}, no crate {sums['other']:.0f}), {told.get('wall', '').removeprefix('clock ')}; the gate of "
+        f"{told.get('commit', 'unknown')}, on {told.get('machine', 'unknown')}. Beside it a check of `{GAUGE_CRATE}` {told.get(GAUGE_CRATE, 'was not timed')}."
+    )
+    return [*out, "", *textwrap.wrap(sentence, 120)]
+
+
+def keep(lines):
+    """Keeps a log as the raw figures, and writes the table."""
+    RESULT.parent.mkdir(exist_ok=True)
+    RESULT.write_text("\n".join(lines) + "\n")
+    write_between("PROVING.md", "gate", table(lines))
+
+
+def measure(words):
+    """Runs a gate; its lines and its status."""
+    top = TOP
+    folder = words[0] if words else tempfile.mkdtemp()
     subprocess.run(["git", "clone", "-q", str(top), folder], check=True)
-    if len(sys.argv) > 2:
-        subprocess.run(["git", "checkout", "-q", sys.argv[2]], cwd=folder, check=True)
+    commit = words[1] if len(words) > 1 else first_line(["git", "rev-parse", "--short", "HEAD"])
+    if len(words) > 1:
+        subprocess.run(["git", "checkout", "-q", commit], cwd=folder, check=True)
     gauge = Gauge(top, f"{folder}-gauge")
     start = time.time()
     gate = subprocess.Popen(["rt", "ci", "--anew"], cwd=folder, stdout=sys.stderr)
     seconds = watch(gate, gauge)
-    report(seconds)
-    print(f"{GAUGE_CRATE} of {GAUGE_COMMIT} by one job: " + " ".join(f"{taken:.0f}" for taken in gauge.seconds) + " seconds")
-    print(f"wall clock {(time.time() - start) / 60:.1f} minutes, status {gate.returncode}")
-    return gate.returncode
+    gauge_seconds = " ".join(f"{taken:.0f}" for taken in gauge.seconds)
+    return [
+        *heading(commit),
+        *report(seconds, folder),
+        f"{GAUGE_CRATE} of {GAUGE_COMMIT} by one job: {gauge_seconds} seconds",
+        f"wall clock {(time.time() - start) / 60:.1f} minutes, status {gate.returncode}",
+    ], gate.returncode
+
+
+def main():
+    if sys.argv[1:2] == ["--from"]:
+        keep(Path(sys.argv[2]).read_text().splitlines())
+        return 0
+    lines, status = measure(sys.argv[1:])
+    print("\n".join(lines))
+    if len(sys.argv) < 3 and status == 0:
+        keep(lines)
+    return status
 
 
 if __name__ == "__main__":

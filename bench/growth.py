@@ -1,7 +1,7 @@
-#!/usr/bin/env python3
+#!/usr/bin/python3
 """Doubles the work of each command, and prints the processor time beside it.
 
-Run from the top of the repository: python3 bench/growth.py [PROGRAM]
+Run from the top of the repository: bench/growth.py [--short]
 `check` against the width of a compiled leaf, whose moves and terms grow with its square; `play` against meeting lines, `run`
 against turns, `replay` against the lines of what `run` printed. The best of three runs each.
 """
@@ -9,10 +9,9 @@ against turns, `replay` against the lines of what `run` printed. The best of thr
 import os
 import resource
 import subprocess
-import sys
 
-TOP = os.path.dirname(os.path.dirname(os.path.abspath(__file__)))
-PROGRAM = sys.argv[1] if len(sys.argv) > 1 else os.path.join(TOP, "crates/pop_main/out/pop_main")
+from common import PROGRAM, TOP, expect_program, few
+
 MAJORITY = os.path.join(TOP, "examples/majority")
 
 
@@ -25,7 +24,7 @@ def timed(words, data):
 
 
 def best(words, data):
-    runs = [timed(words, data) for _ in range(3)]
+    runs = [timed(words, data) for _ in range(few(3, 1))]
     return runs[0][0], min(seconds for _, seconds in runs)
 
 
@@ -35,11 +34,12 @@ def table(name, unit, steps):
     print("|---|---|---|")
     for work, seconds in steps:
         print(f"| {work:,} | {seconds:.3f} | {seconds / work * 1e9:.0f} |", flush=True)
+        print(f"growth\t{name}\t{unit}\t{work}\t{seconds / work * 1e9:.0f}")
     print()
 
 
 def checks():
-    for width in (10, 20, 40, 80):
+    for width in few((10, 20, 40, 80), (10, 20)):
         bundle, _ = timed(["compile"], f"vars x y\nx - y < {width - 1}\n".encode())
         moves = bundle.split(b'"moves":[[')[1].split(b"]]")[0].count(b"],[") + 1
         yield moves, best(["check"], bundle)[1]
@@ -48,7 +48,7 @@ def checks():
 def plays():
     with open(os.path.join(MAJORITY, "net.json"), "rb") as file:
         net = file.read()
-    for lines in (500_000, 1_000_000, 2_000_000):
+    for lines in few((500_000, 1_000_000, 2_000_000), (5_000, 10_000)):
         yield lines, best(["play"], net + b"crowd x=501 y=499\n" + b"17 420\n" * lines)[1]
 
 
@@ -56,7 +56,7 @@ def runs_and_replays():
     with open(os.path.join(MAJORITY, "bundle.json"), "rb") as file:
         data = file.read() + b"crowd x=501 y=500\n"
     runs, replays = [], []
-    for turns in (250_000, 500_000, 1_000_000):
+    for turns in few((250_000, 500_000, 1_000_000), (5_000, 10_000)):
         journal, seconds = best(["run", "--turns", str(turns)], data)
         lines = journal.count(b"\n")
         runs.append((lines, seconds))
@@ -65,6 +65,7 @@ def runs_and_replays():
 
 
 def main():
+    expect_program()
     table("check", "moves of the leaf", checks())
     table("play", "meeting lines", plays())
     runs, replays = runs_and_replays()

@@ -1,7 +1,7 @@
-#!/usr/bin/env python3
+#!/usr/bin/python3
 """Times the check of three ranking layers over 16,560 moves of one leaf of 256 states.
 
-python3 bench/layers.py
+bench/layers.py
 
 The program stands below; it is proved and built in a folder of its own over copies of the crates it calls.
 """

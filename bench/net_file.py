@@ -1,7 +1,7 @@
-#!/usr/bin/env python3
+#!/usr/bin/python3
 """Reads a net line of 100 MB with the built program, beside serde_json's own parse of the same bytes.
 
-python3 bench/net_file.py [MEGABYTES]
+bench/net_file.py [MEGABYTES]
 
 The program is crates/pop_main/out/pop_main (bin/pop builds it). The plain parse is a small Rattle program that this
 script writes and builds in a folder of its own, over a copy of crates/pop_io.
@@ -9,11 +9,11 @@ script writes and builds in a folder of its own, over a copy of crates/pop_io.
 import os
 import shutil
 import subprocess
-import sys
 import tempfile
 import time
 
-TOP = os.path.dirname(os.path.dirname(os.path.abspath(__file__)))
+from common import PROGRAM, TOP, IS_SHORT, WORDS, few, row
+
 NET = ('{"format":1,"vars":["x","y"],"leaves":[{"states":["A","B","a","b"],"moves":[[0,1,2,3],[0,3,0,2],[1,2,1,3],'
        '[3,2,3,3]],"input":[0,1],"output":[true,false,true,false]}],"combine":[0],"more":[%s]}\n')
 
@@ -65,7 +65,7 @@ def measured(program, words, path):
 
 
 def main():
-    size = int(sys.argv[1]) * 1_000_000 if len(sys.argv) > 1 else 100_000_000
+    size = int(WORDS[0]) * 1_000_000 if WORDS else few(100_000_000, 1_000_000)
     with tempfile.TemporaryDirectory() as folder:
         line = NET % ','.join(['1234567'] * ((size - len(NET)) // 8))
         net, play = os.path.join(folder, 'net'), os.path.join(folder, 'play')
@@ -73,12 +73,17 @@ def main():
             file.write(line)
         with open(play, 'w') as file:
             file.write(line + 'crowd x=2 y=1\n0 2\n')
-        plain = built_plain(os.path.join(folder, 'plain'))
-        for name, program, words, path in [('serde_json alone', plain, [], net),
-                                           ('play', os.path.join(TOP, 'crates/pop_main/out/pop_main'), ['play'], play)]:
+        programs = [('play', PROGRAM, ['play'], play)]
+        if not IS_SHORT:
+            programs.insert(0, ('serde_json alone', built_plain(os.path.join(folder, 'plain')), [], net))
+        taken = {}
+        for name, program, words, path in programs:
             seconds, memory = measured(program, words, path)
             print(f'{name}: {seconds:.2f} s, {len(line) / seconds / 1e6:.0f} MB/s, '
                   f'{memory / len(line):.1f} times the bytes in memory')
+            taken[name] = seconds
+        row('play', f'a net line of {len(line) / 1e6:.0f} MB; plain: the parse of `serde_json` alone', taken['play'],
+            taken.get('serde_json alone'), f'{memory / 1e6:.0f} MB')
 
 
 if __name__ == '__main__':

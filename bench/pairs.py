@@ -1,7 +1,7 @@
-#!/usr/bin/env python3
+#!/usr/bin/python3
 """Times the look for an enabled pair in terminal crowds whose agents all have different tuples of eight leaves.
 
-python3 bench/pairs.py
+bench/pairs.py
 
 No command makes such a crowd. So a program of its own, which stands below, is proved and built in a folder over copies of
 the crates it calls. It reads a net and a number of agents, gives agent n the states that the digits of n to the base four

@@ -1,7 +1,7 @@
-#!/usr/bin/env python3
+#!/usr/bin/python3
 """Where the time of `run` goes, by part: samples of Linux's `perf`, put to the parts that their functions belong to.
 
-Run from the top of the repository: python3 bench/parts.py
+Run from the top of the repository: bench/parts.py
 Majority with 65,536 agents, 1,024 shards and 1,000,000 meetings. The parts of each run add up to 100 percent of the processors' time.
 """
 
@@ -10,11 +10,11 @@ import subprocess
 import tempfile
 from collections import defaultdict
 
-TOP = os.path.dirname(os.path.dirname(os.path.abspath(__file__)))
-PROGRAM = os.environ.get("POP_PROGRAM", os.path.join(TOP, "crates/pop_main/out/pop_main"))
+from common import PROGRAM, TOP, few
+
 AGENTS = 65_536
 SHARDS = 1_024
-MEETINGS = 1_000_000
+MEETINGS = few(1_000_000, 10_000)
 WORKERS = (1, 2, 4)
 
 # The first part with a word that a function's name has.

@@ -1,20 +1,19 @@
-#!/usr/bin/env python3
+#!/usr/bin/python3
 """Takes the processor time of `play` of the built program beside a plain Rust program that does the same work.
 
-Run from the top of the repository: python3 bench/play.py [PROGRAM]
+Run from the top of the repository: bench/play.py [--short]
 Both play 2,000,000 and 16,000,000 meeting lines of majority with 1,000 agents and must print the same. The plain program has the
 net as constants and a table of the pairs of states; it refuses a malformed line by its number. The best of five runs each.
 """
 
 import os
 import random
-import resource
 import subprocess
 import sys
 import tempfile
 
-TOP = os.path.dirname(os.path.dirname(os.path.abspath(__file__)))
-PROGRAM = sys.argv[1] if len(sys.argv) > 1 else os.path.join(TOP, "crates/pop_main/out/pop_main")
+from common import PROGRAM, TOP, expect_program, few, row
+
 AGENTS = 1_000
 
 PLAIN = r"""
@@ -119,12 +118,12 @@ def timed(command, data):
 
 
 def best(command, data):
-    runs = [timed(command, data) for _ in range(5)]
+    runs = [timed(command, data) for _ in range(few(5, 1))]
     return runs[0][0], min(run[1] for run in runs), runs[0][2]
 
 
 def main():
-    resource.setrlimit(resource.RLIMIT_CORE, (0, 0))
+    expect_program()
     drawn = random.Random(7)
     pairs = [drawn.sample(range(AGENTS), 2) for _ in range(100_000)]
     part = "".join(f"{a} {b}\n" for a, b in pairs)
@@ -135,7 +134,7 @@ def main():
         with open(source, "w") as file:
             file.write(PLAIN)
         subprocess.run(["rustc", "-O", "--edition", "2021", "-A", "warnings", "-o", plain, source], check=True)
-        for repeats in (20, 160):
+        for repeats in few((20, 160), (1,)):
             with open(data, "w") as file:
                 file.write(head + part * repeats)
             ours, our_time, memory = best([PROGRAM, "play"], data)
@@ -144,6 +143,7 @@ def main():
                 sys.exit(f"the texts differ: {ours!r} and {theirs!r}")
             print(f"{repeats * len(pairs):,} lines: pop {our_time:.3f} s, plain {plain_time:.3f} s, ratio {our_time / plain_time:.2f}; "
                   f"memory {memory / 1e6:.0f} MB, plain {plain_memory / 1e6:.0f} MB", flush=True)
+            row("play", f"{repeats * len(pairs):,} meeting lines", our_time, plain_time, f"{memory / 1e6:.0f} MB, plain {plain_memory / 1e6:.0f}")
 
 
 if __name__ == "__main__":

@@ -1,7 +1,7 @@
-#!/usr/bin/env python3
+#!/usr/bin/python3
 """Which functions take the time of each command's largest case: samples of Linux's `perf`.
 
-Run from the top of the repository: python3 bench/profile.py
+Run from the top of the repository: bench/profile.py
 Each function with a twentieth of a command's samples or more has a row; the shares are percent of the command's own time.
 """
 
@@ -10,8 +10,8 @@ import re
 import subprocess
 import tempfile
 
-TOP = os.path.dirname(os.path.dirname(os.path.abspath(__file__)))
-PROGRAM = os.environ.get("POP_PROGRAM", os.path.join(TOP, "crates/pop_main/out/pop_main"))
+from common import PROGRAM, TOP
+
 LEAST_SHARE = 5.0
 FOUR_WIDE_ATOMS = b"vars x y\nx - y < 79 && x - y < 78 && x - y < 77 && x - y < 76\n"
 

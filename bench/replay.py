@@ -1,7 +1,7 @@
-#!/usr/bin/env python3
+#!/usr/bin/python3
 """Takes the processor time of `replay` of the built program beside a plain Rust program that does the same work.
 
-Run from the top of the repository: python3 bench/replay.py
+Run from the top of the repository: bench/replay.py
 Both read and verify the journal of 1,000,000 meetings of majority with 1,000 agents, by one worker and by four, and must say
 the same; the time of the run by one worker stands beside. The built program reads a bundle and checks its proof first, which
 the plain one does not. A journal whose last line is changed must be told by both at its line.
@@ -9,15 +9,13 @@ the plain one does not. A journal whose last line is changed must be told by bot
 
 import json
 import os
-import resource
 import subprocess
 import sys
 import tempfile
 
 import generator
+from common import PROGRAM, TOP, expect_program, few, row
 
-TOP = os.path.dirname(os.path.dirname(os.path.abspath(__file__)))
-PROGRAM = os.path.join(TOP, "crates/pop_main/out/pop_main")
 AGENTS = [501, 499]
 
 PLAIN = r"""
@@ -264,7 +262,7 @@ def timed(command, standard_input, standard_output):
 
 def best(command, standard_input, standard_output):
     """The least time of five runs, and the memory of the first."""
-    runs = [timed(command, standard_input, standard_output) for _ in range(5)]
+    runs = [timed(command, standard_input, standard_output) for _ in range(few(5, 1))]
     return min(run[0] for run in runs), runs[0][1]
 
 
@@ -300,7 +298,7 @@ def measure(workers, plain, folder):
     with open(head, "w") as f:
         f.write(f"{bundle}\ncrowd x={AGENTS[0]} y={AGENTS[1]}\n")
     journal = os.path.join(folder, "journal")
-    turns = 1_000_000 // workers
+    turns = few(1_000_000, 10_000) // workers
     run_time, _ = timed([PROGRAM, "run", "--workers", str(workers), "--turns", str(turns)], head, journal)
     said, (our_time, memory), (plain_time, plain_memory) = both_say(journal, plain, folder)
     size = os.path.getsize(journal)
@@ -309,6 +307,8 @@ def measure(workers, plain, folder):
         f"ratio {our_time / plain_time:.2f}, the run {run_time:.2f} s; memory: pop {memory / size:.1f} times the bytes, "
         f"plain {plain_memory / size:.1f}"
     )
+    work = f"{turns * workers:,} meetings of {sum(AGENTS):,} agents by {workers} worker{'s' if workers > 1 else ''}, {size / 1e6:.1f} MB"
+    row("replay", work, our_time, plain_time, f"{memory / size:.1f} times the input")
     change_last_line(journal)
     said, _, _ = both_say(journal, plain, folder)
     if not said.startswith(b"differs "):
@@ -316,9 +316,7 @@ def measure(workers, plain, folder):
 
 
 def main():
-    if not os.path.exists(PROGRAM):
-        sys.exit("build the program first: bin/pop build")
-    resource.setrlimit(resource.RLIMIT_CORE, (0, 0))
+    expect_program()
     with tempfile.TemporaryDirectory() as folder:
         source = os.path.join(folder, "plain.rs")
         plain = os.path.join(folder, "plain_program")

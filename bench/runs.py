@@ -1,7 +1,7 @@
-#!/usr/bin/env python3
+#!/usr/bin/python3
 """Takes the processor time of `run` of the built program beside a plain Rust program that does the same work.
 
-Run from the top of the repository: python3 bench/runs.py [PROGRAM]
+Run from the top of the repository: bench/runs.py [--short]
 Both run 1,000,000 turns of one worker, on majority with 1,000 and with 65,536 agents and on a threshold leaf of 255 states, and
 must print the same journal. The built program reads a bundle and checks its proof first, which the plain one does not. The plain
 one keeps each agent's digits and puts lines together on a page, as the built one does, in a text whose room is reserved. The least
@@ -10,18 +10,16 @@ of seven runs each, in turn.
 
 import json
 import os
-import resource
 import subprocess
 import sys
 import tempfile
 
 import generator
+from common import PROGRAM, TOP, expect_program, few, row
 import tree
 
-TOP = os.path.dirname(os.path.dirname(os.path.abspath(__file__)))
-PROGRAM = sys.argv[1] if len(sys.argv) > 1 else os.path.join(TOP, "crates/pop_main/out/pop_main")
-RUNS = 7
-TURNS = 1_000_000
+RUNS = few(7, 1)
+TURNS = few(1_000_000, 10_000)
 
 PLAIN = r"""
 use std::collections::BTreeMap;
@@ -226,12 +224,11 @@ def measure(name, bundle, counts, plain, folder):
         f"{name}: {meetings} meetings, pop {our_time:.3f} s, plain {plain_time:.3f} s, ratio {our_time / plain_time:.2f}; "
         f"memory per meeting: pop {memory / max(meetings, 1):.0f} bytes, plain {plain_memory / max(meetings, 1):.0f} bytes"
     )
+    row("run", f"{name}, {meetings:,} meetings", our_time, plain_time, f"{memory / max(meetings, 1):.0f} bytes a meeting")
 
 
 def main():
-    if not os.path.exists(PROGRAM):
-        sys.exit("build the program first: bin/pop build")
-    resource.setrlimit(resource.RLIMIT_CORE, (0, 0))
+    expect_program()
     with tempfile.TemporaryDirectory() as folder:
         source = os.path.join(folder, "plain.rs")
         plain = os.path.join(folder, "plain_program")

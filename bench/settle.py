@@ -1,7 +1,7 @@
-#!/usr/bin/env python3
+#!/usr/bin/python3
 """Takes the processor time of `settle` of the built program beside a plain Rust program that does the same work.
 
-Run from the top of the repository: python3 bench/settle.py [PROGRAM]
+Run from the top of the repository: bench/settle.py [--short]
 Majority with 65,536 agents, and compiled thresholds and remainders with as many as their bound allows, up to 65,536. The plain
 program, which stands below, has the net and the layers as constants; its text must be the built program's. The built program
 reads a bundle and checks its proof first, which the plain one does not: the time of `check` stands beside.
@@ -11,13 +11,12 @@ import json
 import os
 import resource
 import subprocess
-import sys
 import tempfile
 
-TOP = os.path.dirname(os.path.dirname(os.path.abspath(__file__)))
-PROGRAM = sys.argv[1] if len(sys.argv) > 1 else os.path.join(TOP, "crates/pop_main/out/pop_main")
+from common import PROGRAM, TOP, expect_program, few, row
+
 TAKES = 8_000_000
-AGENTS = 65_536
+AGENTS = few(65_536, 1_000)
 
 PLAIN = r"""
 use std::collections::BTreeSet;
@@ -96,7 +95,7 @@ def measured(command, data):
 
 
 def best(command, data):
-    runs = [measured(command, data) for _ in range(3)]
+    runs = [measured(command, data) for _ in range(few(3, 1))]
     return runs[0][0], min(seconds for _, seconds in runs)
 
 
@@ -124,7 +123,7 @@ def plain(folder, bundle, counts):
 def cases():
     with open(os.path.join(TOP, "examples/majority/bundle.json")) as file:
         yield "majority", json.load(file), [AGENTS // 2 + 1, AGENTS // 2 - 1]
-    for pred in ["x - y < 3", "x + 2*y = 1 mod 20", "x - y < 20"]:
+    for pred in few(["x - y < 3", "x + 2*y = 1 mod 20", "x - y < 20"], ["x - y < 3"]):
         line = subprocess.run([PROGRAM, "compile"], input=f"vars x y\n{pred}\n".encode(), capture_output=True, check=True).stdout
         bound = int(subprocess.run([PROGRAM, "check"], input=line, capture_output=True, check=True).stdout.split()[1])
         agents = min(AGENTS, TAKES // bound)
@@ -132,6 +131,7 @@ def cases():
 
 
 def main():
+    expect_program()
     for name, bundle, counts in cases():
         line = json.dumps(bundle, separators=(",", ":")) + "\n"
         crowd = f"crowd x={counts[0]} y={counts[1]}\n"
@@ -143,6 +143,7 @@ def main():
         takes = text.count(b"take ")
         print(f"{name}, {sum(counts)} agents, {takes} takes: {seconds:.2f} s, of which `check` {check_seconds:.2f} s; "
               f"plain {plain_seconds:.2f} s", flush=True)
+        row("settle", f"{name}, {sum(counts):,} agents, {takes:,} takes", seconds, plain_seconds)
 
 
 main()

@@ -1,7 +1,7 @@
-#!/usr/bin/env python3
+#!/usr/bin/python3
 """Times the check of both trees of the widest built leaf: a threshold leaf of 255 states and 17,936 moves.
 
-python3 bench/tree.py
+bench/tree.py
 
 The program stands below; it is proved and built in a folder of its own over copies of the crates it calls. It reads a
 bundle and checks its proof, whose parts are examined in order, so a bundle whose later parts are empty stops there.

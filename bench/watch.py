@@ -1,24 +1,23 @@
-#!/usr/bin/env python3
+#!/usr/bin/python3
 """Counts the meetings of `watch` of the built program beside those of `run`, and replays what `watch` wrote.
 
-Run from the top of the repository: python3 bench/watch.py [PROGRAM]
+Run from the top of the repository: bench/watch.py [--short]
 Both run a certified epidemic with 1,000 agents, one of them infected, by four workers with 20 seeds; `watch` must need fewer
 meetings on average. Then `replay --watched` must count the meetings of each of 100 watched runs, by 1 to 63 workers.
 """
 
 import json
 import os
-import resource
 import subprocess
 import sys
 
-TOP = os.path.dirname(os.path.dirname(os.path.abspath(__file__)))
-PROGRAM = sys.argv[1] if len(sys.argv) > 1 else os.path.join(TOP, "crates/pop_main/out/pop_main")
+from common import PROGRAM, TOP, expect_program, few
+
 CROWD = "crowd x=1 y=999"
 TURNS = 20_000
 WORKERS = 4
-SEEDS = 20
-REPLAYS = 100
+SEEDS = few(20, 2)
+REPLAYS = few(100, 3)
 WATCHED_WORKERS = 63
 
 
@@ -57,14 +56,13 @@ def expect_held(workers, seed):
 
 
 def main():
-    if not os.path.exists(PROGRAM):
-        sys.exit("build the program first: bin/pop build")
-    resource.setrlimit(resource.RLIMIT_CORE, (0, 0))
+    expect_program()
     whole, watched = average("run"), average("watch")
     print(
         f"epidemic, 1,000 agents, {WORKERS} workers, {SEEDS} seeds: run {whole:,.0f} meetings on average, "
         f"watch {watched:,.0f}, {watched / whole:.2f} of them"
     )
+    print(f"watched\t{WORKERS}\t{SEEDS}\t{whole:.0f}\t{watched:.0f}")
     if watched >= whole:
         sys.exit("watch needs no fewer meetings")
     for number in range(REPLAYS):

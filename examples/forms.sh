@@ -29,6 +29,6 @@ jq . examples/some-agent/bundle.json | jq -c . | bin/pop check
 sed '5s/^0/1/' examples/replays/held.txt | bin/pop replay
 head -n 6 examples/replays/held.txt | bin/pop replay
 head -n 2 examples/replays/held.txt | bin/pop replay
-# a certified net with two moves for the same states: its meetings go round for ever, the moves of its proof lead to the end
+# a certified net with two moves for the same states: its meetings go round forever, the moves of its proof lead to the end
 (cat examples/accepted/two-moves.json; echo 'crowd x=1 y=1') | bin/pop run | tail -n 1
 (cat examples/accepted/two-moves.json; echo 'crowd x=1 y=1') | bin/pop settle | tail -n 1

@@ -1,4 +1,4 @@
-#!/usr/bin/env python3
+#!/usr/bin/python3
 """Names that nothing uses: lemmas and definitions that stand nowhere else, and names of `ghost use` that a scope lacks.
 
 Run it at the top of the repository; with folders of crates it looks at these alone. It prints a line for each name, and

@@ -23,6 +23,39 @@ NAME = re.compile(r"[^\s(){}\[\],;`]+")
 SENTENCE = re.compile(r"(.*?\.)(?: |$)", re.S)
 NO_PART_OF_THE_PROGRAM = {"sample_nets"}
 HEADLINE = ("Headline", "CheckSays", "RunSays", "SettleSays", "IsHeldInput", "CompileSays")
+PROMISES = (
+    ("the whole input was read, or the fault has its cause", "read_all"),
+    ("the whole text was written, or a prefix of it and the fault has its cause", "write_all"),
+    ("the words mean this command, or this is the first bad word", "read_words"),
+    ("a line names these variables, counts, agents", "read_vars, read_counts, read_meeting"),
+    ("a value is the file of this net, or this is the first broken rule", "read_net"),
+    ("the input crowd, a meeting, a replay, the crowd lines", "Crowd::of_counts, Crowd::meet, Crowd::replay, Crowd::tally"),
+    ("a crowd is terminal", "PairTable::is_terminal"),
+    ("a crowd is terminal, or this is the least pair that changes", "PairTable::enabled_pair"),
+    ("the rounds are a run of the model; by one worker the only one", "run_all, run_alone"),
+    ("the rounds are a watched run, of which the last may lack meetings where its end is terminal", "run_watched, whole_runs_are_watched"),
+    ("a meeting is one event of one history, whatever the schedule", "Field::meet, Field::close, each_moment_stands"),
+    ("the text of a run", "write_journal, push_journal"),
+    ("a text is this journal, or this is its first malformed line", "read_journal"),
+    ("a journal is that of a run, or this is its first line that isn't the expected one", "verify"),
+    ("a journal that holds has one spelling; what a run wrote holds", "one_spelling, written_holds, replay_holds"),
+    ("layers end every crowd within a bound; a tree leaves no wrong end", "check_layers, check_tree"),
+    (
+        "every fair execution stabilises where a right terminal crowd can always be reached",
+        "fair_executions_stabilise, standing_crowds, times_are_found",
+    ),
+    ("a crowd's only settlement, within the proof's bound, and its last crowd is terminal", "settle, settlements_end"),
+    ("a value is the file of this proof or bundle, or this is the first broken rule", "read_proof, read_bundle"),
+    ("a leaf computes a threshold, a remainder, a flock, and its proof is valid", "threshold, remainder, flock"),
+    ("a proof is valid, or this is its first part that fails; a checked net computes its predicate", "check, Checked::bound"),
+    ("a text is read to this predicate, or this is the first fault; the grammar gives it this meaning", "read_pred"),
+    ("a predicate has this net, with a valid proof, or this is why it has none", "compile, compile_flocks"),
+    ("a bundle's line is read back to the bundle; what was compiled is certified", "bundles_are_read_back, compiled_is_certified"),
+    ("the predicate's value", "Pred::eval"),
+    ("the text and the status are the answer to the words and the bytes; what `certified`, a journal, a verdict and `holds` say", "run_plain, run_tool"),
+    ("the words and the input have one answer, where nothing is left to threads or to the compiler", "one_answer"),
+    ("valid input is answered over a source and a sink that never fail", "run_calm"),
+)
 BELOW_CHECK = (("pop_checker", "Sound", "IsRight"), ("pop_fair", "StablyComputes", "StablyComputes"))
 
 
@@ -265,10 +298,10 @@ def reading_list(title: str, told: str, keys: set[tuple[str, str, str]], rests: 
     for key in keys:
         definition = rests.known[key]
         files.setdefault((order.get(definition.crate, -1), definition.file), []).append(definition)
-    out = [f"## {title}", "", told, "", f"{rests.lines(keys)} lines in {len(files)} files:", ""]
+    out = [f"## {title}", "", told, "", f"{rests.lines(keys)} lines in {len(files)} files:", "", "| File | Lines | Definitions |", "|---|---|---|"]
     for (_, file), definitions in sorted(files.items()):
         names = ", ".join(f"`{d.name}`" for d in sorted(definitions, key=lambda d: d.line))
-        out.append(f"- {file} ({sum(len(d.text) for d in definitions)}): {names}")
+        out.append(f"| {file} | {sum(len(d.text) for d in definitions)} | {names} |")
     return [*out, ""]
 
 
@@ -289,6 +322,19 @@ def headline(rests: Rests) -> list[str]:
     return [*out, ""]
 
 
+def promises(clauses: dict[str, list[Clause]]) -> list[str]:
+    """Which call carries which promise, and where it stands. A call that isn't there ends the script."""
+    places = {row.call: f"{row.file.removeprefix('crates/')}:{row.line}" for rows in clauses.values() for row in reversed(rows)}
+    out = ["## Which contract carries which promise", "", "| Promise | Contract | Where |", "|---|---|---|"]
+    for promise, listed in PROMISES:
+        calls = listed.split(", ")
+        for call in calls:
+            if call not in places:
+                sys.exit(f"tests/theorems.py: no public call {call}, which carries a promise")
+        out.append(f"| {promise} | {', '.join(f'`{call}`' for call in calls)} | {', '.join(places[call] for call in calls)} |")
+    return [*out, ""]
+
+
 def cell(text: str) -> str:
     return text.replace("|", "\\|")
 
@@ -300,23 +346,24 @@ def document() -> str:
     out = [
         "# Theorems",
         "",
-        "Every clause that a public call promises, the headline first, then crate by crate downwards: what it says (the clause's comment,",
-        "or else the call's), where it stands, and how many lines of definitions of this repository it rests on. `tests/theorems.py --write`",
-        "writes this file. Before it, what a reader has to believe. `certified` stands exactly for valid proofs, and a valid proof gives that",
-        "the net computes the predicate; who asks only what `certified` tells of a protocol need not read what a valid proof is.",
+        "Every clause that a public call promises, the headline first, then crate by crate downwards: what it says (the clause's",
+        "comment, or else the call's), where it stands, and how many lines of definitions of this repository it rests on.",
+        "`tests/theorems.py --write` writes this file. Before it, the trusted definitions. `certified` is printed exactly for",
+        "valid proofs, and a valid proof gives that the net computes the predicate; who asks only what `certified` tells of a",
+        "protocol need not read what a valid proof is. MODEL.md says the definitions in words, READING.md how to read them.",
         "",
         *reading_list(
             "To believe `certified`",
-            "Without what a valid proof is: the printed line, the file of a bundle, and what it means that its net computes the predicate, for "
-            "fair executions too.",
+            "Without what a valid proof is: the printed line, the file of a bundle, and what it means that its net computes the\n"
+            "predicate, for fair executions too.",
             rests.beneath([check, ("pop_tool", "Headline", "IsBundleLine")], frozenset({"ValidProof"})),
             rests,
         ),
         *reading_list("To believe the whole answer", "What a call promises, all commands and refusals among it.", rests.beneath([call]), rests),
     ]
-    out += headline(rests)
-    for crate in crate_order():
-        rows = list(clauses_of(CRATES / crate, rests))
+    clauses = {crate: list(clauses_of(CRATES / crate, rests)) for crate in crate_order()}
+    out += headline(rests) + promises(clauses)
+    for crate, rows in clauses.items():
         if not rows:
             continue
         out += [f"## `{crate}`", "", "| Call | Clause | Says | Where | Lines beneath |", "|---|---|---|---|---|"]

@@ -181,7 +181,7 @@ def _wakes_lacks(names: Names, leaf: Leaf, layers: Sequence[Layer], fault: Layer
     before = agents_before(leaf, t, u)
     after = [*leaf.moves[t][2:], *before[2:]]
     return [
-        f"move {t}, `{names.move(t)}`, of layer {place[t]} makes move {u}, `{names.move(u)}`, of layer {place[u]} possible anew",
+        f"move {t}, `{names.move(t)}`, of layer {place[t]} makes move {u}, `{names.move(u)}`, of layer {place[u]} possible again",
         f"before it the agents {', '.join(map(names.state, before))} stand there, and no move of a layer before {place[t]} is possible among them",
         f"after it there are {', '.join(map(names.state, after))}, and `{names.move(u)}` is possible",
     ]

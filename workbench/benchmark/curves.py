@@ -1,4 +1,4 @@
-"""Measures the gallery: `python3 -m workbench.benchmark.curves` writes docs/pictures and a list in docs/WORKBENCH.md.
+"""Measures the gallery: `python3 -m workbench.benchmark.curves` writes docs/pictures and a list in CURVES.md beside this file.
 
 Each protocol has a run for its picture, and a sweep for its growth. All of it is a function of the words below.
 """
@@ -20,7 +20,7 @@ from ..files import Loaded, load_path
 from ..program import TOP
 
 PICTURES = "docs/pictures"
-PAGE = TOP / "docs" / "WORKBENCH.md"
+PAGE = TOP / "workbench" / "benchmark" / "CURVES.md"
 BEGIN = "<!-- curves: written by `/usr/bin/python3 -m workbench.benchmark.curves` -->"
 END = "<!-- end of the curves -->"
 PICTURE_CHANGES, SWEEP_CHANGES = 300_000, 100_000
@@ -115,9 +115,8 @@ def growth(rows: list[Row], name: str) -> str:
 
 def cell(name: str, path: str, loaded: Loaded, told: str, ranges: str) -> str:
     """One protocol of the list."""
-    where = path.removeprefix("docs/")
     predicate = (loaded.predicate or "").replace("|", "\\|")      # (a bar would end the table's cell)
-    return f"**{name}**: `{predicate}`<br>{told}; `{ranges}`<br>![{name}]({where})"
+    return f"**{name}**: `{predicate}`<br>{told}; `{ranges}`<br>![{name}](../../{path})"
 
 
 def main() -> None:

@@ -1,4 +1,4 @@
-"""The tables of docs/WORKBENCH.md from the lines of `run`: `python3 -m workbench.benchmark.table FILE [--each]`."""
+"""The tables of MEASURED.md, beside this file, from the lines of `run`: `python3 -m workbench.benchmark.table FILE [--each]`."""
 from __future__ import annotations
 
 import sys

@@ -12,6 +12,7 @@ from .sources import KEPT, is_of_sources
 from .unproved import unproved
 
 INSTALLED = TOP / "VERSION"
+RELEASE = "1.0.0"
 
 
 def _first_line(words: list[str], instead: str) -> str:
@@ -36,12 +37,12 @@ def program_told() -> str:
 
 
 def version() -> int:
-    """Prints the commit, the toolchain, and which program answers."""
+    """Prints the version, the commit, the toolchain, and which program answers."""
     if INSTALLED.exists():
         print(INSTALLED.read_text(), end="")
         return DONE
     commit = _first_line(["git", "rev-parse", "--short", "HEAD"], "unknown")
-    print(f"hurleyoak {commit}, {_first_line(['rt', 'version'], 'no toolchain')}")
+    print(f"hurleyoak {RELEASE}, commit {commit}, {_first_line(['rt', 'version'], 'no toolchain')}")
     print(program_told())
     if KEPT.exists() and is_held():
         print(Lock().holder())

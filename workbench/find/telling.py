@@ -61,7 +61,7 @@ def flaw_told(net: Net, at: int, tree: Predicate, text: str, flaw: Flaw, played:
         lines.append(
             "from there it goes round: " + "; ".join(agents_told(names, crowd) for crowd in shown) + more
             if len(shown) > 1
-            else f"it goes on for ever: {agents_told(names, shown[0])}"
+            else f"it goes on forever: {agents_told(names, shown[0])}"
         )
     return "\n".join([*lines, *(_played(net, flaw, played) if played else _unplayed(names, flaw))])
 
@@ -113,7 +113,7 @@ def _no_layers(names: Names, result: Result) -> str:
         told += f"\nthese moves, some times each, leave a crowd as it was, so they fit into no layer together, and no order of layers was found for them: {moves_told(names, ((t, 1) for t in result.moves))}"
     return told + (
         "\nWhat helps: let one of them need a state that the others don't bring back; merge leaders or helpers by moves of their own, which come first; "
-        "or leave out a move that isn't needed. A protocol whose agents change for ever has no layers, and can't be certified"
+        "or leave out a move that isn't needed. A protocol whose agents change forever has no layers, and can't be certified"
     )
 
 

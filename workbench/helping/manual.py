@@ -1,12 +1,13 @@
 """Prints man/pop.1: `python3 -m workbench.helping.manual`."""
 from __future__ import annotations
 
+from ..building.commands import RELEASE
 from .page import Page
 from .pages import OTHER, PROGRAM, STATUSES, workbench_pages
 from .showing import PROVED, UNPROVED
 
 HEAD = (
-    '.TH POP 1 "" hurleyoak "User Commands"',
+    f'.TH POP 1 "" "hurleyoak {RELEASE}" "User Commands"',
     ".SH NAME",
     "pop \\- population protocols, checked and run",
     ".SH SYNOPSIS",

@@ -169,7 +169,7 @@ WORKBENCH = (
         ("pop find examples/epidemic/net.json 'x >= 1'",
          "pop find examples/majority/net.json 'y - x < 0' | pop check"),
         (("--seconds N", "gives up after so long (60)"),
-         ("--small N", "first tries all crowds of up to N agents (4)"),
+         ("--small N", "seconds for making each tree smaller (4; 0 takes the first tree)"),
          ("--jobs N", "processes beside each other"),
          ("--write FILE", "writes the wrong crowd's meetings, for `pop play`"),
          ("--anew", "looks for all parts, also those that are written"),
@@ -207,7 +207,7 @@ OTHER = (
         files=False,
     ),
     Page(
-        "--version", "the commit, the toolchain, and whether the program is that of the sources",
+        "--version", "the version, the commit, the toolchain, and whether the program is that of the sources",
         ("pop --version",),
         "",
         ("pop --version",

@@ -186,7 +186,7 @@ MISTAKES: tuple[Mistake, ...] = (
     Mistake(("check", "trap.json"), None, 3, "rejected leaf 0 false 5 not-closed",
             "the proof isn't valid: leaf 0, tree for false: the sum of node 5 doesn't close its branch"),
     Mistake(("check", "layers.json"), None, 3, "rejected leaf 0 layers wakes 0 7",
-            "the proof isn't valid: leaf 0, layers: move 0 makes a move of an earlier layer possible anew"),
+            "the proof isn't valid: leaf 0, layers: move 0 makes a move of an earlier layer possible again"),
     # crowds
     Mistake(("run", "majority.json"), None, 2, "fault: line 2 missing",
             "the crowd is missing: give the counts behind the file, as in `pop run majority.json x=30 y=10`, or a "

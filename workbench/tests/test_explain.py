@@ -91,7 +91,7 @@ def told_of(bundle: Bundle) -> str:
             "layers-wakes",
             [
                 "`N0 + N0 -> N0 + f`",
-                "possible anew",
+                "possible again",
                 "before it the agents N0, N0, N1 stand there",
                 "after it there are N0, f, N1, and `N1 + f -> N1 + t` is possible",
             ],

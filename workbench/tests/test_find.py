@@ -122,7 +122,7 @@ def test_trees_are_as_small_as_they_are_known() -> None:
     assert (len(bundle.proof[0].true), len(bundle.proof[0].false)) == (19, 5)
 
 
-def test_each_example_is_found_anew() -> None:
+def test_each_example_is_found_again() -> None:
     for path in example_paths():
         if path.name == "bundle.json":
             bundle = bundle_at(path)

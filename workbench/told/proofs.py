@@ -12,7 +12,7 @@ GENERAL = {
     "shape": "layer {at} has not one weight for each state, or lists a move that isn't there or stood before",
     "no-layer": "move {at} changes something, and is in no layer",
     "not-lower": "move {at} doesn't lower the weights of its layer",
-    "wakes": "move {at} makes a move of an earlier layer possible anew",
+    "wakes": "move {at} makes a move of an earlier layer possible again",
     "missing": "the nodes end, and a case has none",
     "too-deep": "node {at} has over 4,095 nodes above it",
     "bad-index": "node {at} names a fact, state or variable that isn't there",

@@ -75,7 +75,7 @@ fn majority_stays<R: Wait>(rt: &R, alloc: Global) -> Option<bool> {
     Some(stay_as_they_were(rt, alloc, &net))
 }
 
-/// `bench/refused.py` runs it once for each allocation, which is refused in that run.
+/// `tests/refused.py` runs it once for each allocation, which is refused in that run.
 #[test]
 fn a_refusal_leaves_the_seats(rt: HostRuntime) -> Result<(), Fail> {
     let stayed = majority_stays(&rt, rt.alloc()).ok_or("a net")?;

@@ -1,12 +1,14 @@
-#!/usr/bin/env python3
+#!/usr/bin/python3
 """Refuses each request for memory in turn, in runs of the built program of their own.
 
-Run from the top of the repository: python3 bench/refused.py [--short] [PROGRAM]; --short leaves out the cases with most requests.
+Run from the top of the repository: tests/refused.py [--short | --long] [PROGRAM]; --short is the usual, and --long has the cases
+with most requests too.
 The C library's allocating calls are replaced, for the program alone, by ones of which the call with a given number gives
 nothing; they stand below, and gcc builds them. For each case the number counts up from 1, until a run in which nothing was
 refused. A run in which something was refused must end with the status 8 and print nothing, or give the whole answer. The
-status of the script is 1 where one does neither. On threads the runs differ, so there the whole answer is one that `replay` holds,
-with a status of an end. Last, the same is done to a test of the field, which `rt ci` builds: no assertion of it may fail.
+status of the script is 1 where one does neither, or where no call of a case was refused. On threads the runs differ, so there the
+whole answer is one that `replay` holds, with a status of an end. Last, the same is done to a test of the field, which `rt ci`
+builds: no assertion of it may fail.
 """
 
 import os
@@ -15,8 +17,8 @@ import sys
 import tempfile
 
 TOP = os.path.dirname(os.path.dirname(os.path.abspath(__file__)))
-IS_SHORT = "--short" in sys.argv[1:]
-GIVEN = [word for word in sys.argv[1:] if word != "--short"]
+IS_SHORT = "--long" not in sys.argv[1:]
+GIVEN = [word for word in sys.argv[1:] if word not in ("--short", "--long")]
 PROGRAM = GIVEN[0] if GIVEN else os.path.join(TOP, "crates/pop_main/out/pop_main")
 TESTS = os.path.join(TOP, "crates/run_tests/out/run_tests_tests")
 FIELD_TEST = "refusals::a_refusal_leaves_the_seats"
@@ -133,6 +135,9 @@ def count(library, name):
             wrong += 1
             print(f"DIFFERS {name}: call {call} refused, status {status}, {text[:80]!r}")
         call += 1
+    if call == 1:
+        wrong += 1
+        print(f"DIFFERS {name}: no call was refused, so it takes no memory of the C library, as a program of `rt try`")
     print(f"{name}: {call - 1} calls refused in turn, {silent} times out of memory, {call - 1 - silent} times the whole answer", flush=True)
     return wrong
 
@@ -161,7 +166,7 @@ def main():
         if os.path.exists(TESTS):
             wrong += count_test(library)
         else:
-            print(f"{FIELD_TEST}: not built")
+            print(f"skipped {FIELD_TEST}: it isn't built (rt ci)")
         return 1 if wrong else 0
 
 

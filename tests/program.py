@@ -1,9 +1,10 @@
-#!/usr/bin/env python3
+#!/usr/bin/python3
 """Runs the built program as a process, where its streams or its words are not the usual ones.
 
-Run from the top of the repository: python3 bench/program.py [PROGRAM]
-One line for each case: what is done, and whether the status and the text are the expected ones. The status is 1 where any
-differs. What the program does with such streams is the operating system's part: no contract speaks of it.
+Run from the top of the repository: tests/program.py [--short | --long] [PROGRAM]; --short is the usual, and --long does to each
+command what --short does to `check` and `run`. One line for each case: what is done, and whether the status and the text are
+the expected ones. The status is 1 where any differs. What the program does with such streams is the operating system's part:
+no contract speaks of it.
 """
 
 import os
@@ -11,7 +12,9 @@ import subprocess
 import sys
 
 TOP = os.path.dirname(os.path.dirname(os.path.abspath(__file__)))
-PROGRAM = sys.argv[1] if len(sys.argv) > 1 else os.path.join(TOP, "crates/pop_main/out/pop_main")
+IS_LONG = "--long" in sys.argv[1:]
+GIVEN = [word for word in sys.argv[1:] if word not in ("--short", "--long")]
+PROGRAM = GIVEN[0] if GIVEN else os.path.join(TOP, "crates/pop_main/out/pop_main")
 MAJORITY = os.path.join(TOP, "examples/majority")
 
 
@@ -74,9 +77,33 @@ def cases():
     yield "the last of many words counts", (last[0], first_line), (4, b"run workers 1 shards 16 turns 0 seed 7")
 
 
+def commands():
+    """Each command's words, with an input that it carries out."""
+    bundle, counts, net = text_of("bundle.json"), text_of("crowd.txt"), text_of("play.txt")
+    predicate = b"vars x y\nx - y < 3\n"
+    run = bundle + counts
+    journal, watched = piped(["run"], run)[1], piped(["watch"], run)[1]
+    return [
+        (["play"], net), (["eval"], predicate + counts), (["check"], bundle), (["run", "--workers", "4"], run), (["watch"], run),
+        (["settle"], run), (["compile"], predicate), (["compile", "--flocks"], predicate), (["replay"], journal),
+        (["replay", "--watched"], watched),
+    ]
+
+
+def long_cases():
+    """The streams of each command, closed, full and broken."""
+    for words, data in commands():
+        name = " ".join(words)
+        yield f"{name}, standard input closed", closed_input(words), (6, b"fault: read\n")
+        for how, output in (("full", full_output), ("closed", closed_output), ("a pipe that nobody reads", broken_pipe)):
+            yield f"{name}, standard output {how}", output(words, data), (7, b"")
+    yield "demo, standard input closed", (closed_input(["demo", "21"])[0] in (0, 4), b""), (True, b"")
+    yield "demo, standard output full", full_output(["demo", "21"], b""), (7, b"")
+
+
 def main():
     differing = 0
-    for name, found, wanted in cases():
+    for name, found, wanted in [*cases(), *(long_cases() if IS_LONG else ())]:
         same = found == wanted
         differing += not same
         print(f"{'same   ' if same else 'DIFFERS'} {name}: status {found[0]}")
