@@ -12,7 +12,7 @@ import subprocess
 import sys
 import tempfile
 
-from common import PROGRAM, TOP, expect_program, few, row
+from common import PROGRAM, TOP, expect_program, few, row, run_apart
 import tree
 
 RUNS = few(5, 1)
@@ -50,9 +50,7 @@ def bundles(folder):
 
 def timed(command, standard_input, said):
     with open(standard_input, "rb") as source, open(said, "wb") as sink:
-        child = subprocess.Popen(command, stdin=source, stdout=sink)
-        _, _, usage = os.wait4(child.pid, 0)
-    return usage.ru_utime + usage.ru_stime, usage.ru_maxrss * 1024
+        return run_apart(command, source, sink)[1:3]
 
 
 def best(command, standard_input, said):

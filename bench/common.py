@@ -25,17 +25,37 @@ def row(command, work, seconds, plain=None, memory=""):
     print("\t".join(["row", command, work, f"{seconds:.3f}", "" if plain is None else f"{plain:.3f}", memory]), flush=True)
 
 
+# The peak of a process's memory counts that of the process that started it, so a small one starts what is measured.
+STARTER = """
+import os, sys
+child = os.posix_spawn(sys.argv[2], sys.argv[2:], os.environ)
+_, _, usage = os.wait4(child, 0)
+os.write(int(sys.argv[1]), f"{usage.ru_utime + usage.ru_stime} {usage.ru_maxrss} {usage.ru_minflt}".encode())
+"""
+
+
+def run_apart(command, source, sink, data=None):
+    """Runs a command; what it wrote where the sink is a pipe, the seconds of all processors, the peak of memory, the page faults."""
+    usage, to = os.pipe()
+    starter = [sys.executable, "-S", "-E", "-c", STARTER, str(to)]
+    child = subprocess.Popen(starter + command, stdin=source, stdout=sink, pass_fds=[to])
+    os.close(to)
+    if data is not None:
+        try:
+            child.stdin.write(data)
+            child.stdin.close()
+        except BrokenPipeError:
+            pass
+    text = child.stdout.read() if child.stdout else b""
+    child.wait()
+    with os.fdopen(usage) as told:
+        seconds, memory, faults = told.read().split()
+    return text, float(seconds), int(memory) * 1024, int(faults)
+
+
 def measured(command, data):
-    """What a command prints over some bytes, the seconds of all processors, the peak of memory, and the page faults."""
-    child = subprocess.Popen(command, stdin=subprocess.PIPE, stdout=subprocess.PIPE)
-    try:
-        child.stdin.write(data)
-        child.stdin.close()
-    except BrokenPipeError:
-        pass
-    text = child.stdout.read()
-    _, _, usage = os.wait4(child.pid, 0)
-    return text, usage.ru_utime + usage.ru_stime, usage.ru_maxrss * 1024, usage.ru_minflt
+    """The same of a command over some bytes."""
+    return run_apart(command, subprocess.PIPE, subprocess.PIPE, data)
 
 
 def least(command, data, runs):

@@ -5,7 +5,7 @@ Run from the top of the repository: bench/field.py [--short]
 Majority with 1,000 and with 65,536 agents, nearly as many of one kind as of the other, so that the turns are used up. The times are
 of whole commands, the printing of the journal included. The plain program does the same work: it has a word of 64 bits for each agent's
 tuple and a table for each leaf, makes rounds of the same length, and looks before each round whether the crowd is terminal, first at the
-pair that was found last. Its mutexes serve all rounds. With one worker both must make the same rounds, byte for byte.
+pair that was found last. Its mutexes serve all rounds, its text is reserved, and it keeps each agent's digits. With one worker both must make the same rounds, byte for byte.
 """
 
 import os
@@ -142,7 +142,9 @@ fn main() {
     }
     let mut field: Vec<Shard> = field.into_iter().map(Mutex::new).collect();
     let mut picks: Vec<Words> = (0..workers).map(Words::new).collect();
-    let mut out = Vec::new();
+    let numerals = Numerals::new(n.max(workers as usize));
+    let mut out = Vec::with_capacity((turns * workers) as usize * LINE_ROOM / 2);
+    let (mut page, mut at) = ([0u8; PAGE], 0);
     let mut left = turns;
     let mut round = 0;
     let mut last = None;
@@ -176,8 +178,21 @@ fn main() {
         }
         write!(out, "round {round}\n").unwrap();
         for (worker, a, b, changed) in all {
-            write!(out, "{worker} {a} {b}{}\n", if changed { " *" } else { "" }).unwrap();
+            if at > PAGE - LINE_ROOM {
+                out.extend_from_slice(&page[..at]);
+                at = 0;
+            }
+            at = numerals.put(&mut page, at, worker as usize);
+            page[at] = b' ';
+            at = numerals.put(&mut page, at + 1, a as usize);
+            page[at] = b' ';
+            at = numerals.put(&mut page, at + 1, b as usize);
+            page[at..at + 3].copy_from_slice(b" *\n");
+            at += if changed { 3 } else { 1 };
+            page[at - 1] = b'\n';
         }
+        out.extend_from_slice(&page[..at]);
+        at = 0;
         left -= count;
     }
     std::io::stdout().write_all(&out).unwrap();
@@ -207,7 +222,7 @@ def main():
         source = os.path.join(folder, "plain.rs")
         plain = os.path.join(folder, "plain")
         with open(source, "w") as f:
-            f.write(PLAIN + generator.WORDS)
+            f.write(PLAIN + generator.WORDS + generator.NUMERALS)
         subprocess.run(["rustc", "-O", "--edition", "2021", "-o", plain, source], check=True)
         with open(os.path.join(TOP, "examples/majority/bundle.json")) as f:
             bundle = f.read().rstrip("\n")

@@ -12,7 +12,7 @@ import subprocess
 import sys
 import tempfile
 
-from common import PROGRAM, TOP, expect_program, few, row
+from common import PROGRAM, TOP, expect_program, few, row, run_apart
 
 AGENTS = 1_000
 
@@ -111,10 +111,7 @@ fn main() {
 def timed(command, data):
     """The text, the seconds of a processor, and the peak of memory in bytes."""
     with open(data, "rb") as given:
-        child = subprocess.Popen(command, stdin=given, stdout=subprocess.PIPE)
-        out = child.stdout.read()
-        _, _, usage = os.wait4(child.pid, 0)
-    return out, usage.ru_utime + usage.ru_stime, usage.ru_maxrss * 1024
+        return run_apart(command, given, subprocess.PIPE)[:3]
 
 
 def best(command, data):

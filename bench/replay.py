@@ -14,7 +14,7 @@ import sys
 import tempfile
 
 import generator
-from common import PROGRAM, TOP, expect_program, few, row
+from common import PROGRAM, TOP, expect_program, few, row, run_apart
 
 AGENTS = [501, 499]
 
@@ -255,9 +255,7 @@ fn main() {
 
 def timed(command, standard_input, standard_output):
     with open(standard_input) as source, open(standard_output, "wb") as sink:
-        child = subprocess.Popen(command, stdin=source, stdout=sink)
-        _, _, usage = os.wait4(child.pid, 0)
-    return usage.ru_utime + usage.ru_stime, usage.ru_maxrss * 1024
+        return run_apart(command, source, sink)[1:3]
 
 
 def best(command, standard_input, standard_output):

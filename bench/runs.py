@@ -15,7 +15,7 @@ import sys
 import tempfile
 
 import generator
-from common import PROGRAM, TOP, expect_program, few, row
+from common import PROGRAM, TOP, expect_program, few, row, run_apart
 import tree
 
 RUNS = few(7, 1)
@@ -68,35 +68,16 @@ fn enabled(table: &Table, crowd: &[u16]) -> Option<(usize, usize)> {
     Some((a, b))
 }
 
-/// The digits of each agent's number, eight bytes each, and how many of them count.
-struct Numerals {
-    bytes: Vec<[u8; 8]>,
-    lengths: Vec<u8>,
-}
-
-impl Numerals {
-    fn new(agents: usize) -> Numerals {
-        let (mut bytes, mut lengths) = (Vec::with_capacity(agents), Vec::with_capacity(agents));
-        for n in 0..agents {
-            let digits = n.to_string();
-            let mut eight = [0u8; 8];
-            eight[..digits.len()].copy_from_slice(digits.as_bytes());
-            bytes.push(eight);
-            lengths.push(digits.len() as u8);
+/// Whether the crowd is terminal. The pair that was found last is looked at first.
+fn is_terminal(table: &Table, crowd: &[u16], last: &mut Option<(usize, usize)>) -> bool {
+    if let Some((x, y)) = last.map(|(a, b)| (crowd[a], crowd[b])) {
+        if table.react(x, y) != (x, y) {
+            return false;
         }
-        Numerals { bytes, lengths }
     }
-
-    /// Puts a number on the page; behind its end the page may hold anything.
-    fn put(&self, page: &mut [u8; PAGE], at: usize, n: usize) -> usize {
-        page[at..at + 8].copy_from_slice(&self.bytes[n]);
-        at + usize::from(self.lengths[n])
-    }
+    *last = enabled(table, crowd);
+    last.is_none()
 }
-
-/// The bytes of a page, and of the longest meeting line with room for the last eight bytes that are copied.
-const PAGE: usize = 4096;
-const LINE_ROOM: usize = 32;
 
 fn main() {
     let text = std::fs::read_to_string(std::env::args().nth(1).unwrap()).unwrap();
@@ -121,12 +102,8 @@ fn main() {
     let (mut page, mut at) = ([0u8; PAGE], 0);
     let (mut left, mut round) = (turns, 0);
     let n = crowd.len() as u64;
-    let mut open;
-    loop {
-        open = enabled(&table, &crowd);
-        if open.is_none() || left == 0 {
-            break;
-        }
+    let mut last = None;
+    while left > 0 && !is_terminal(&table, &crowd, &mut last) {
         let count = left.min(4096);
         round += 1;
         write!(out, "round {round}\n").unwrap();
@@ -170,7 +147,7 @@ fn main() {
     for (state, count) in counts {
         write!(out, "{} {}\n", names[state as usize], count).unwrap();
     }
-    match open {
+    match enabled(&table, &crowd) {
         None => write!(out, "verdict {}\n", outputs[crowd[0] as usize]).unwrap(),
         Some((a, b)) => write!(out, "undecided {a} {b}\n").unwrap(),
     }
@@ -190,10 +167,8 @@ def threshold():
 
 
 def timed(command, standard_input):
-    child = subprocess.Popen(command, stdin=open(standard_input), stdout=subprocess.PIPE)
-    out = child.stdout.read()
-    _, _, usage = os.wait4(child.pid, 0)
-    return out, usage.ru_utime + usage.ru_stime, usage.ru_maxrss * 1024
+    with open(standard_input, "rb") as given:
+        return run_apart(command, given, subprocess.PIPE)[:3]
 
 
 def measure(name, bundle, counts, plain, folder):
@@ -233,7 +208,7 @@ def main():
         source = os.path.join(folder, "plain.rs")
         plain = os.path.join(folder, "plain_program")
         with open(source, "w") as f:
-            f.write(PLAIN + generator.WORDS)
+            f.write(PLAIN + generator.WORDS + generator.NUMERALS)
         subprocess.run(["rustc", "-O", "--edition", "2021", "-A", "warnings", "-o", plain, source], check=True)
         measure("majority, 1,000 agents", majority(), [501, 499], plain, folder)
         measure("majority, 65,536 agents", majority(), [32_769, 32_767], plain, folder)

@@ -7,6 +7,7 @@ from functools import lru_cache
 from pathlib import Path
 
 import pytest
+from hypothesis import settings
 
 from workbench import program
 from workbench.proofs import Bundle, bundle_of
@@ -19,6 +20,10 @@ COMPILED = [
     "vars x\nx >= 64\n",
     "vars x y\n!(x >= 8) && y != 1\n",
 ]
+# each run tries the same examples; WORKBENCH_RANDOM=1 for others
+settings.register_profile("same", derandomize=True)
+if not os.environ.get("WORKBENCH_RANDOM"):
+    settings.load_profile("same")
 # how many seeded changes are held against the program: WORKBENCH_CHANGES=2000 for the whole
 CHANGES = int(os.environ.get("WORKBENCH_CHANGES", "60"))
 
