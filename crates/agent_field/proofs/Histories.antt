@@ -2,7 +2,7 @@
 use Rattle.std.proofs.Common.{◌≡◌, ◌≢◌, ℕ, zero, suc, ◌+◌, ◌*◌, ◌<◌, ◌≤◌, Bool, true, false, eqb, eq-eqb, ne_eqb, List, [], ◌∷◌, ◌++◌, length, get_or, set, refl, sym, ap, ◌∙◌, subst, ⊎_elim, arith, length-set, get_or-set_same, get_or-set_other, add-zero}
 use Rattle.std.specs.Prelude.{All}
 use Rattle.std.proofs.lemmas.Bool.{cases_eq}
-use Rattle.std.proofs.lemmas.List.Elements.{All-head, All-tail, All-nil, All-cons, All-append, All-push}
+use Rattle.std.proofs.lemmas.List.Elements.{All-head, All-tail, All-push}
 use mathlib.Core.List.{append-nil}
 use Rattle.pop_net.specs.declared.net.Word.{Word}
 use Rattle.pop_net.specs.NetModel.{NetModel, CrowdModel}
@@ -10,8 +10,6 @@ use Rattle.pop_net.specs.Lanes.{crowd_of}
 use Rattle.pop_net.specs.Reaction.{reaction, after_meeting}
 use Rattle.pop_crowd.specs.declared.crowd.Meeting.{Meeting}
 use Rattle.pop_crowd.specs.Replay.{replay, changes, IsMeeting, AreMarked}
-use Rattle.pop_crowd.proofs.InARow.{replay_append}
-use Rattle.pop_crowd.proofs.Reached.{length-after_meeting}
 use Rattle.agent_field.specs.declared.view.Logged.{Logged}
 use Rattle.agent_field.specs.History.{IsHistory, logged, listed_if, calls_from, calls}
 use Rattle.agent_field.specs.Standing.{In}

@@ -1,5 +1,5 @@
 -- Where the states that a move takes are there, two different agents can take it.
-use Rattle.std.proofs.Common.{◌≡◌, ◌≢◌, ◌⊎◌, inl, inr, ℕ, suc, ◌+◌, ◌<◌, ◌≤◌, Bool, true, false, ◌&&◌, List, [], ◌∷◌, length, refl, ap, sym, ◌∙◌, arith}
+use Rattle.std.proofs.Common.{◌≡◌, ◌≢◌, inl, inr, ℕ, suc, ◌+◌, ◌<◌, ◌≤◌, Bool, true, false, ◌&&◌, List, [], ◌∷◌, length, refl, ap, sym, ◌∙◌, arith}
 use Rattle.std.specs.Prelude.{Some, slice_get, slice_set, nat_le, ◌==◌, All}
 use Rattle.std.proofs.lemmas.Bool.{eq-eqb, le-leb, leb-true, and_from}
 use Rattle.std.proofs.lemmas.Bool.Decides.{eqb_tells}

@@ -1,12 +1,12 @@
 -- At a terminal end the counts meet all facts of one of the cases of a `Present` or a `Twin` node.
-use Rattle.std.proofs.Common.{◌≡◌, ◌≢◌, ◌⊎◌, inl, inr, ℕ, zero, suc, ◌+◌, ◌*◌, ◌<◌, ◌≤◌, Bool, true, false, cond, not, ◌&&◌, List, [], ◌∷◌, ◌++◌, length, map, get_or, refl, ap, sym, ◌∙◌, arith}
+use Rattle.std.proofs.Common.{◌≡◌, ◌≢◌, ◌⊎◌, inl, inr, ℕ, zero, suc, ◌+◌, ◌*◌, ◌<◌, ◌≤◌, Bool, true, false, not, ◌&&◌, List, [], ◌∷◌, ◌++◌, length, map, get_or, refl, ap, sym, ◌∙◌, arith}
 use Rattle.std.specs.Prelude.{Some, pos, negsuc, ◌+ℤ◌, ◌≤ℤ◌, ◌*ℤ◌, ◌==◌, if◌then◌else◌, slice_get, slice_set, filter, All}
 use Rattle.std.specs.List.{range_with_len}
 use Rattle.std.proofs.Math.IntN.{pos-*ℤ-pos, *ℤ-zero}
 use Rattle.std.proofs.lemmas.Int.{ints}
 use Rattle.std.proofs.lemmas.Bool.{eq-eqb, cases_lt, not-true}
 use Rattle.std.proofs.lemmas.Bool.Decides.{eqb_tells}
-use Rattle.std.proofs.lemmas.List.Elements.{All-nil, All-cons, All-map, All-append, All-head, All-tail}
+use Rattle.std.proofs.lemmas.List.Elements.{All-nil, All-cons, All-map, All-append}
 use Rattle.pop_net.specs.declared.leaf.Move.{Move}
 use Rattle.pop_net.specs.LeafModel.{LeafModel, one_at, pre, silent_move}
 use Rattle.pop_net.specs.Step.{LeafStep}
@@ -134,7 +134,8 @@ module _ (leaf : LeafModel) (count : Valuation) (end : List ℕ) (counts : Count
   others_met : 1 ≤ number_in p end → All (MeetsFact count) (map (absent_fact leaf) (filter meets (states_of leaf)))
   others_met some =
       All-map (MeetsFact count) (absent_fact leaf) (filter meets (states_of leaf))
-      (all_filtered meets (λ q. MeetsFact count (absent_fact leaf q)) (states_of leaf) (λ k d l. other_absent some (get_or (states_of leaf) k d) (let low = in_range 0 (length leaf.states) k d l in omega (arith, low))))
+      (all_filtered meets (λ q. MeetsFact count (absent_fact leaf q)) (states_of leaf)
+      (λ k d l. other_absent some (get_or (states_of leaf) k d) (let low = in_range 0 (length leaf.states) k d l in omega (arith, low))))
 
   alone_if : 1 ≤ number_in p end → (b : Bool) → can_meet_in leaf p p ≡ b → All (MeetsFact count) (if b then (alone_fact leaf p ∷ []) else [])
   alone_if some true e =

@@ -1,9 +1,9 @@
 -- Remainders and multiples of a modulus.
-use Rattle.std.proofs.Common.{◌≡◌, ◌≢◌, ◌⊎◌, inl, inr, ℕ, ◌+◌, ◌-◌, ◌*◌, ◌/◌, ◌%◌, ◌<◌, ◌≤◌, true, false, ap, sym, ◌∙◌, arith}
+use Rattle.std.proofs.Common.{◌≡◌, ◌≢◌, ◌⊎◌, inl, inr, ℕ, ◌+◌, ◌-◌, ◌*◌, ◌/◌, ◌%◌, ◌<◌, ◌≤◌, true, false, ap, ◌∙◌, arith}
 use Rattle.std.specs.Prelude.{ℤ, pos, negsuc, neg_ℤ, ◌+ℤ◌, ◌-ℤ◌, ◌==◌}
 use Rattle.std.proofs.lemmas.Int.{ints}
 use Rattle.std.proofs.lemmas.Bool.{eq-eqb, ne_eqb, cases_lt}
-use Rattle.std.proofs.Math.Nat.{mul-mod_left, mod-add-div', mod-lt, mod-eq_of_lt, add-mul, one-mul, zero-mul}
+use Rattle.std.proofs.Math.Nat.{mul-mod_left, mod-add-div', mod-lt, mod-eq_of_lt, add-mul, one-mul}
 use Rattle.pres_ast.specs.PredicateValue.{is_multiple}
 use Rattle.comp_remainder_leaf.specs.RemainderLeaf.{residue_of}
 use Rattle.list_laws.proofs.Numbers.{size-neg}

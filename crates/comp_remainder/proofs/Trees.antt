@@ -19,7 +19,7 @@ use Rattle.cert_base.specs.ClosingTests.{closes_by_sum, closes_by_residue}
 use Rattle.cert_base.specs.Closes.{refutes, Closes}
 use Rattle.cert_base.specs.FactsAndCases.{base_list, differs, can_meet_in}
 use Rattle.comp_trees.specs.LeaderTree.{IsLed, facts_of_trap, facts_of_leader, company_of, mix_of_leader, value_mix, wrong_mix}
-use Rattle.comp_trees.proofs.LeaderEnds.{is_wrong, rules_out, wrong_closes, IsOpened}
+use Rattle.comp_trees.proofs.LeaderEnds.{wrong_closes, IsOpened, wrong_ruled_out}
 use Rattle.comp_trees.proofs.ValueNodes.{AreEven, residue_closes-true, residue_closes-false}
 use Rattle.comp_trees.proofs.LeaderClosing.{leader_tree-closes}
 use Rattle.comp_remainder_leaf.specs.RemainderLeaf.{residue_of, remainder_follower, leader_meeting, follower_turn, remainder_state_name, remainder_output, remainder_leaf_of}
@@ -82,7 +82,8 @@ module _ (coefs : List ℤ) (m rest : ℕ) (two : 2 ≤ m) (high : m ≤ 200) (r
       go false false h = refl
 
   wrong-node : (b : Bool) (opened : Fact) (p : ℕ) → p < m → differs b (remainder_output m rest p) ≡ false → closes_by_sum (facts_of_leader leaf (facts_of_trap leaf (base_list leaf pred b) opened m) p) (terms_from 0 (mix_of_leader leaf (company_of leaf p) (wrong_mix leaf b) p)) ≡ true
-  wrong-node b opened p l right = wrong_closes leaf pred b opened m p (leaders-meet coefs m rest p p l l) all
+  wrong-node b opened p l right = wrong_closes leaf pred b opened m p (leaders-meet coefs m rest p p l l)
+      (wrong_ruled_out leaf b p (remainder_output m rest) output-at right (λ z k. out z (kind_of m z (omega (arith, states_long)))))
     where
       out : (z : ℕ) → Kind m z → differs b (remainder_output m rest z) ≡ true → can_meet_in leaf p z ≡ true
       out _ (a_leader q k) wrong = leaders-meet coefs m rest p q l k
@@ -93,13 +94,6 @@ module _ (coefs : List ℤ) (m rest : ℕ) (two : 2 ≤ m) (high : m ≤ 200) (r
           go false e =
               let same : remainder_output m rest p ≡ remainder_output m rest (remainder_follower m bit) = output-leader m rest p l ∙ sym (left_follower p bit l e) ∙ sym (output-follower m rest bit) in
               absurd (let g : true ≡ false = sym wrong ∙ ap (differs b) (sym same) ∙ right in cc)
-
-      all : (z : ℕ) → z < length leaf.states → is_wrong leaf b z ≡ true → rules_out leaf p z ≡ true
-      all z k wrong =
-          let wrong_out : differs b (remainder_output m rest z) ≡ true = ap (differs b) (sym (output-at z k)) ∙ wrong in
-          let apart : (z == p) ≡ false = ne_eqb z p (λ e. let g : true ≡ false = sym wrong_out ∙ ap (λ q. differs b (remainder_output m rest q)) e ∙ right in cc) in
-          let meets = out z (kind_of m z (omega (arith, states_long))) wrong_out in
-          rw (apart, meets) refl
 
   -- ---- the nodes by values
 

@@ -1,8 +1,8 @@
 -- The trees of a built leaf of `Less` close.
 use Rattle.std.proofs.Common.{◌≡◌, ◌⊎◌, inl, inr, subst, ℕ, ◌+◌, ◌<◌, ◌≤◌, Bool, true, false, List, [], length, map, get_or, refl, ap, sym, ◌∙◌, zero-add, arith}
-use Rattle.std.specs.Prelude.{ℤ, pos, negsuc, neg_ℤ, ◌+ℤ◌, ◌-ℤ◌, ◌≤ℤ◌, ◌==◌, nat_lt, nat_abs, All, slice_index_or}
+use Rattle.std.specs.Prelude.{ℤ, pos, negsuc, neg_ℤ, ◌+ℤ◌, ◌-ℤ◌, ◌≤ℤ◌, nat_lt, nat_abs, All, slice_index_or}
 use Rattle.std.proofs.lemmas.Int.{ints}
-use Rattle.std.proofs.lemmas.Bool.{ltb-true, ltb-false, eqb-true, ne_eqb, not-false, and_parts}
+use Rattle.std.proofs.lemmas.Bool.{ltb-true, ltb-false, eqb-true, not-false, and_parts}
 use Rattle.std.proofs.lemmas.List.{length-map, get_or-map}
 use Rattle.std.proofs.lemmas.List.Elements.{All-map, All-from_get_or}
 use Rattle.std.proofs.lemmas.List.FromFn.{length-map-range_with_len, get_or-map-range_with_len}
@@ -17,7 +17,7 @@ use Rattle.cert_base.specs.ClosingTests.{closes_by_sum}
 use Rattle.cert_base.specs.Closes.{refutes, Closes}
 use Rattle.cert_base.specs.FactsAndCases.{base_list, differs, can_meet_in}
 use Rattle.comp_trees.specs.LeaderTree.{IsLed, facts_of_trap, facts_of_leader, company_of, mix_of_leader, value_mix, wrong_mix}
-use Rattle.comp_trees.proofs.LeaderEnds.{is_wrong, rules_out, wrong_closes}
+use Rattle.comp_trees.proofs.LeaderEnds.{wrong_closes, wrong_ruled_out}
 use Rattle.comp_trees.proofs.ValueNodes.{value_closes}
 use Rattle.comp_trees.proofs.LeaderClosing.{leader_tree-closes}
 use Rattle.comp_threshold_leaf.specs.ThresholdLeaf.{threshold_width, span_of, place_of_value, threshold_place, threshold_follower, joined_value, leftover, threshold_output, threshold_leader_move, alters_states, threshold_state_count, threshold_state_name, threshold_leaf_of, threshold_value}
@@ -149,7 +149,8 @@ module _ (coefs : List ℤ) (bound : ℤ) (formed : IsLeaf (threshold_leaf_of co
   -- ---- the nodes by a wrong output
 
   wrong-node : (b : Bool) (opened : Fact) (p : ℕ) → p < span_of s → differs b (threshold_output s t p) ≡ false → closes_by_sum (facts_of_leader leaf (facts_of_trap leaf (base_list leaf pred b) opened (span_of s)) p) (terms_from 0 (mix_of_leader leaf (company_of leaf p) (wrong_mix leaf b) p)) ≡ true
-  wrong-node b opened p l right = wrong_closes leaf pred b opened (span_of s) p (leaders-meet s t p p leaf.inputs l l) all
+  wrong-node b opened p l right = wrong_closes leaf pred b opened (span_of s) p (leaders-meet s t p p leaf.inputs l l)
+      (wrong_ruled_out leaf b p (threshold_output s t) output-at right (λ z m. out z (kind_of s z (omega (arith, states_long))) m))
     where
       out : (z : ℕ) → Kind s z → z < length leaf.states → differs b (threshold_output s t z) ≡ true → can_meet_in leaf p z ≡ true
       out _ (a_leader q k) m wrong = leaders-meet s t p q leaf.inputs l k
@@ -161,13 +162,6 @@ module _ (coefs : List ℤ) (bound : ℤ) (formed : IsLeaf (threshold_leaf_of co
               let is = kept s t p v bit l k h in
               let same : threshold_output s t p ≡ threshold_output s t (threshold_follower s bit v) = output-leader s t p l ∙ is.turned ∙ sym (output-follower s t v bit k) in
               absurd (let g : true ≡ false = sym wrong ∙ ap (differs b) (sym same) ∙ right in cc)
-
-      all : (z : ℕ) → z < length leaf.states → is_wrong leaf b z ≡ true → rules_out leaf p z ≡ true
-      all z m wrong =
-          let wrong_out : differs b (threshold_output s t z) ≡ true = ap (differs b) (sym (output-at z m)) ∙ wrong in
-          let apart : (z == p) ≡ false = ne_eqb z p (λ e. let g : true ≡ false = sym wrong_out ∙ ap (λ q. differs b (threshold_output s t q)) e ∙ right in cc) in
-          let meets = out z (kind_of s z (omega (arith, states_long))) m wrong_out in
-          rw (apart, meets) refl
 
   -- ---- the nodes by values
 

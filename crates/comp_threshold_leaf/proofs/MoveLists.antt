@@ -1,8 +1,8 @@
 -- The moves of a built leaf: what holds of each meeting holds of each move, and which of them are moves.
-use Rattle.std.proofs.Common.{◌≡◌, ◌⊎◌, inl, inr, ℕ, ◌+◌, ◌-◌, ◌<◌, ◌≤◌, Bool, true, false, ◌&&◌, List, map, refl, ap, sym, ◌∙◌, arith}
+use Rattle.std.proofs.Common.{◌≡◌, ◌⊎◌, inl, inr, ℕ, ◌+◌, ◌-◌, ◌<◌, ◌≤◌, Bool, true, false, ◌&&◌, List, map, refl, ap, ◌∙◌, arith}
 use Rattle.std.specs.Prelude.{◌==◌, nat_lt, All, Contains, flat_map}
 use Rattle.std.specs.List.{range_with_len}
-use Rattle.std.proofs.lemmas.Bool.{cases_lt, eq-eqb, ne_eqb, not-true}
+use Rattle.std.proofs.lemmas.Bool.{cases_lt, ne_eqb, not-true}
 use Rattle.std.proofs.lemmas.List.Elements.{All-append, All-map, All-filter, Contains-append_left, Contains-append_right}
 use Rattle.std.proofs.Math.Bool.{and-false}
 use Rattle.pop_net.specs.declared.leaf.Move.{Move}

@@ -7,7 +7,7 @@ use Rattle.std.proofs.lemmas.Int.{ints}
 use Rattle.std.proofs.Math.IntN.{*ℤ-zero, zero-*ℤ, *ℤ_comm}
 use Rattle.std.proofs.Math.ListN.{get_or-append}
 use Rattle.std.proofs.lemmas.Bool.Decides.{eqb_tells}
-use Rattle.std.proofs.lemmas.List.{length-map, length-append, get_or-append-add, get_or_past, length-replicate, get_or-replicate}
+use Rattle.std.proofs.lemmas.List.{length-append, get_or-append-add, get_or_past, length-replicate, get_or-replicate}
 use Rattle.std.proofs.lemmas.List.FromFn.{get_or-map-range_with_len, length-map-range_with_len}
 use Rattle.pop_net.specs.declared.leaf.Move.{Move}
 use Rattle.pop_net.specs.LeafModel.{LeafModel, IsMoveBelow}
@@ -86,6 +86,18 @@ wrong-past leaf b j =
 -- whether a leader's presence rules out a state
 abbrev pub rules_out : LeafModel → ℕ → ℕ → Bool
 rules_out leaf p q = not (q == p) && can_meet_in leaf p q
+
+-- a leader rules out the states with a wrong output that it can meet, if its own is right
+pub wrong_ruled_out : (leaf : LeafModel) (b : Bool) (p : ℕ) (output : ℕ → Bool)
+    → ((z : ℕ) → z < length leaf.states → slice_index_or leaf.outputs z false ≡ output z) → differs b (output p) ≡ false
+    → ((z : ℕ) → z < length leaf.states → differs b (output z) ≡ true → can_meet_in leaf p z ≡ true)
+    → (z : ℕ) → z < length leaf.states → is_wrong leaf b z ≡ true → rules_out leaf p z ≡ true
+wrong_ruled_out leaf b p output at right meet z k wrong =
+    let wrong_out : differs b (output z) ≡ true = ap (differs b) (sym (at z k)) ∙ wrong in
+    let clash : (z ≡ p) → true ≡ false = (λ e. sym wrong_out ∙ ap (λ q. differs b (output q)) e ∙ right) in
+    let apart : (z == p) ≡ false = ne_eqb z p (λ e. let g = clash e in cc) in
+    let meets = meet z k wrong_out in
+    rw (apart, meets) refl
 
 abbrev out_total : LeafModel → ℕ → (ℕ → ℤ) → ℕ → ℤ
 out_total leaf p f x = total (λ q. f q *ℤ coefficient x (absent_fact leaf q)) (company_of leaf p)

@@ -22,12 +22,15 @@ use Rattle.cert_base.proofs.FlowSums.{weighted_sum-map}
 pub record AreAsLong (leaf : LeafModel) (pred : PredModel) (b : Bool) (opened : Fact) (n p : ℕ) (mix : LeaderMix) : Type 0 where
   pub flows : length (map (flow leaf) (states_of leaf)) ≡ length (map mix.flows (states_of leaf))
   pub base : length (base_list leaf pred b) ≡ length (map mix.flows (states_of leaf) ++ pos 0 ∷ pos 0 ∷ mix.wrong ∷ [])
-  pub open_too : length (base_list leaf pred b ++ opened ∷ []) ≡ length ((map mix.flows (states_of leaf) ++ pos 0 ∷ pos 0 ∷ mix.wrong ∷ []) ++ mix.opened ∷ [])
+  pub open_too : length (base_list leaf pred b ++ opened ∷ [])
+      ≡ length ((map mix.flows (states_of leaf) ++ pos 0 ∷ pos 0 ∷ mix.wrong ∷ []) ++ mix.opened ∷ [])
   pub trap : length (facts_of_trap leaf (base_list leaf pred b) opened n) ≡ length (mix_of_trap leaf mix)
-  pub without : length (facts_without leaf (facts_of_trap leaf (base_list leaf pred b) opened n) p) ≡ length (mix_of_trap leaf mix ++ zeros p)
+  pub without : length (facts_without leaf (facts_of_trap leaf (base_list leaf pred b) opened n) p)
+      ≡ length (mix_of_trap leaf mix ++ zeros p)
   pub out : length (occurs_fact leaf p ∷ map (absent_fact leaf) (company_of leaf p)) ≡ length (pos 0 ∷ map mix.ruled_out (company_of leaf p))
 
-pub as_long : (leaf : LeafModel) (pred : PredModel) (b : Bool) (opened : Fact) (n p : ℕ) (mix : LeaderMix) → AreAsLong leaf pred b opened n p mix
+pub as_long : (leaf : LeafModel) (pred : PredModel) (b : Bool) (opened : Fact) (n p : ℕ) (mix : LeaderMix)
+    → AreAsLong leaf pred b opened n p mix
 as_long leaf pred b opened n p mix =
     let base = base_list leaf pred b in
     let mf = map mix.flows (states_of leaf) in

@@ -24,7 +24,7 @@ use Rattle.cert_base.specs.WeightedSums.{sum_of_facts, coefficient, constant_of,
 use Rattle.cert_base.specs.WeightedSums.{total}
 use Rattle.comp_trees.specs.LeaderTree.{leaders, facts_of_trap, facts_without, IsLed, no_leader_mix, no_leak_mix, no_start_mix}
 use Rattle.cert_base.proofs.WeightedSums.{weighted_sum-append, weighted_sum-zeros, may_weigh-append, may_weigh-zeros, linear_closes-weighted}
-use Rattle.cert_base.proofs.FlowSums.{coefficient-dense, total-same, total-none, total-none_range, total-one, weighted_sum-map, each_variable, like, times-one}
+use Rattle.cert_base.proofs.FlowSums.{coefficient-dense, total-same, total-none, total-none_range, total-one, weighted_sum-map, each_variable, times-one}
 use Rattle.comp_trees.proofs.LeaderEnds.{absent-at, shifted, may_weigh-eqs, apart, apart_past}
 use Rattle.list_laws.proofs.Numbers.{same_turned}
 

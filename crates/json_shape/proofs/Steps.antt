@@ -1,5 +1,5 @@
 -- Readings that went well, step by step.
-use Rattle.std.proofs.Common.{◌≡◌, ℕ, ◌&&◌, Bool, true, false, cond, not, List, Result, Ok, Err, refl}
+use Rattle.std.proofs.Common.{◌≡◌, ℕ, Bool, true, false, cond, List, Result, Ok, Err, refl}
 use Rattle.json_shape.specs.declared.fault.Why.{Why}
 use Rattle.json_shape.specs.Faults.{Fault, ◌>>=◌, broken}
 

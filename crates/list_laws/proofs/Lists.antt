@@ -47,14 +47,16 @@ pub slice_get-set_same : {A : Type 0} (xs : List A) (a : ℕ) (x y : A) → slic
 slice_get-set_same xs a x y h = get-set_same xs a y (slice_get_within xs a x h)
 
 -- a write elsewhere changes nothing here
-pub slice_get-set_apart : {A : Type 0} (xs : List A) (a b : ℕ) (x : A) → a ≢ b → slice_get (slice_set xs a x) b ≡ slice_get xs b
+pub slice_get-set_apart : {A : Type 0} (xs : List A) (a b : ℕ) (x : A) → a ≢ b
+    → slice_get (slice_set xs a x) b ≡ slice_get xs b
 slice_get-set_apart [] a b x ne = refl
 slice_get-set_apart (z ∷ xs) zero zero x ne = absurd (ne refl)
 slice_get-set_apart (z ∷ xs) zero (suc b) x ne = refl
 slice_get-set_apart (z ∷ xs) (suc a) zero x ne = refl
 slice_get-set_apart (z ∷ xs) (suc a) (suc b) x ne = slice_get-set_apart xs a b x (λ e. ne (ap suc e))
 
-pub slice_get-set_other : {A : Type 0} (xs : List A) (a b : ℕ) (x y : A) → a ≢ b → slice_get xs b ≡ Some y → slice_get (slice_set xs a x) b ≡ Some y
+pub slice_get-set_other : {A : Type 0} (xs : List A) (a b : ℕ) (x y : A) → a ≢ b → slice_get xs b ≡ Some y
+    → slice_get (slice_set xs a x) b ≡ Some y
 slice_get-set_other xs a b x y ne h = slice_get-set_apart xs a b x ne ∙ h
 
 -- ---- two lists in one
@@ -91,7 +93,8 @@ has_map g (y ∷ xs) x (zero, l, e) = subst (λ b. Contains (g y ∷ map g xs) b
 has_map g (y ∷ xs) x (suc k, l, e) = has_later (g x) (g y) (map g xs) (has_map g xs x (k, (omega (arith, l)), e))
 
 -- what holds of the items that pass a test
-pub all_filtered : {A : Type 0} (test : A → Bool) (P : A → Type 0) (xs : List A) → All (λ x. test x ≡ true → P x) xs → All P (filter test xs)
+pub all_filtered : {A : Type 0} (test : A → Bool) (P : A → Type 0) (xs : List A)
+    → All (λ x. test x ≡ true → P x) xs → All P (filter test xs)
 all_filtered test P [] all = All-nil P
 all_filtered {A} test P (x ∷ xs) all = go (test x) refl (all_filtered test P xs (λ k d l. all (suc k) d (omega arith)))
   where

@@ -8,7 +8,8 @@ pub same_value : {A : Type 0} (o : Option A) (x y : A) → o ≡ Some x → o �
 same_value o x y e f = same_Some x y (sym e ∙ f)
 
 -- what stands before something
-pub some_before : {A B : Type 0} (f : A → Option B) (o : Option A) (b : B) → option_and_then f o ≡ Some b → (a : A) × (o ≡ Some a) × (f a ≡ Some b)
+pub some_before : {A B : Type 0} (f : A → Option B) (o : Option A) (b : B) → option_and_then f o ≡ Some b
+    → (a : A) × (o ≡ Some a) × (f a ≡ Some b)
 some_before f o b e = option_and_then_some f o b e (λ a is next. (a, is, next))
 
 -- what is said of the value

@@ -1,6 +1,5 @@
 -- Reading a combination item by item.
-use Rattle.std.proofs.Common.{◌≡◌, ℕ, ◌+◌, ◌≤◌, ◌&&◌, Bool, true, false, List, [], ◌∷◌, ◌++◌, length, Option, Some, None, option_and_then, Result, Ok, refl, sym, ap, subst, ◌∙◌, arith}
-use Rattle.std.specs.Bool.{OnTrue}
+use Rattle.std.proofs.Common.{◌≡◌, ℕ, ◌≤◌, ◌&&◌, Bool, true, false, List, [], ◌∷◌, ◌++◌, length, Some, option_and_then, Result, Ok, refl, sym, ap, ◌∙◌}
 use Rattle.serde_json.specs.Data.{Data}
 use Rattle.serde_json.specs.Find.{as_str}
 use Rattle.json_shape.specs.declared.fault.Why.TheVariants.{Shape}
@@ -10,7 +9,6 @@ use Rattle.json_shape.specs.Faults.{Fault, ◌>>=◌, Says, FailsRead}
 use Rattle.json_shape.specs.Paths.{item_path}
 use Rattle.json_shape.proofs.FaultLemmas.{Fails-said}
 use Rattle.pop_net.specs.declared.net.Item.{Item}
-use Rattle.pop_net.specs.declared.net.Item.TheVariants.{Leaf, Not, And, Or}
 use Rattle.pop_net.specs.NetModel.{after_item, after_items, depth_operators}
 use Rattle.pop_net.specs.NetFaults.{are_low}
 use Rattle.net_json.specs.Examined.{operand_at, open_depths, item_at, combine_item}

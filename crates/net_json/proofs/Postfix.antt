@@ -17,12 +17,15 @@ abbrev pub IsPlaced : List Item → Item → Type 0
 IsPlaced found item = are_low (open_depths (found ++ item ∷ [])) ≡ true
 
 -- after each item of a combination of depth at most 65 all trees are so shallow
-all_shallow : (found items : List Item) (after : List ℕ) → after_items depth_operators (found ++ items) [] ≡ Some after → AllLow after → EachFrom IsPlaced found items
+all_shallow : (found items : List Item) (after : List ℕ)
+    → after_items depth_operators (found ++ items) [] ≡ Some after → AllLow after → EachFrom IsPlaced found items
 all_shallow found [] after e low = tt
 all_shallow found (item ∷ items) after e low =
     let next = found ++ item ∷ [] in
-    let whole : after_items depth_operators (next ++ items) [] ≡ Some after = ap (λ (xs : List Item). after_items depth_operators xs []) (append_assoc found (item ∷ []) items) ∙ e in
-    let f = some_before (after_items depth_operators items) (open_depths next) after (sym (after_items-append depth_operators next items []) ∙ whole) in
+    let put = λ (xs : List Item). after_items depth_operators xs [] in
+    let whole : put (next ++ items) ≡ Some after = ap put (append_assoc found (item ∷ []) items) ∙ e in
+    let split = sym (after_items-append depth_operators next items []) ∙ whole in
+    let f = some_before (after_items depth_operators items) (open_depths next) after split in
     (ap are_low f.1 ∙ (low_decides f.0).1 (all_low_before items f.0 after f.2 low), all_shallow next items after whole low)
 
 pub placed-again : (items : List Item) → IsSomeAnd (combined depth_operators items) (λ d. d ≤ 65) → EachFrom IsPlaced [] items

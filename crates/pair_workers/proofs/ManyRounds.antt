@@ -94,12 +94,18 @@ module _ (net : NetModel) (start : CrowdModel) (spec : RunSpec) (rounds : List (
     all_of w = ap (meetings_of w) (joined_push rounds round) ∙ filter-append (λ (m : Meeting). m.worker == w) (joined rounds) round
 
     pub all_marked : AreMarked net round crowd → AreMarked net (joined (rounds ++ round ∷ [])) start
-    all_marked marked = subst (λ (ms : List Meeting). AreMarked net ms start) (sym (joined_push rounds round)) (marked_append net (joined rounds) round start h.marked (subst (AreMarked net round) (sym h.replays) marked))
+    all_marked marked =
+        subst (λ (ms : List Meeting). AreMarked net ms start) (sym (joined_push rounds round))
+        (marked_append net (joined rounds) round start h.marked (subst (AreMarked net round) (sym h.replays) marked))
 
     pub all_replayed : (end : CrowdModel) → replay net round crowd ≡ end → replay net (joined (rounds ++ round ∷ [])) start ≡ end
-    all_replayed end is = ap (λ (ms : List Meeting). replay net ms start) (joined_push rounds round) ∙ replay_append net (joined rounds) round start ∙ ap (replay net round) h.replays ∙ is
+    all_replayed end is =
+        ap (λ (ms : List Meeting). replay net ms start) (joined_push rounds round)
+        ∙ replay_append net (joined rounds) round start
+        ∙ ap (replay net round) h.replays ∙ is
 
-    pub all_go_on : (IsTerminal (Step net) crowd → ⊥) → (k : ℕ) → k < length (rounds ++ round ∷ []) → IsTerminal (Step net) (replay net (joined (take k (rounds ++ round ∷ []))) start) → ⊥
+    pub all_go_on : (IsTerminal (Step net) crowd → ⊥) → (k : ℕ) → k < length (rounds ++ round ∷ [])
+        → IsTerminal (Step net) (replay net (joined (take k (rounds ++ round ∷ []))) start) → ⊥
     all_go_on goes k b t = by_place (cases_lt k (length rounds))
       where
         by_place : (k < length rounds) ⊎ (length rounds ≤ k) → ⊥

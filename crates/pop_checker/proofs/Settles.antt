@@ -13,7 +13,7 @@ use Rattle.pop_net.specs.NetModel.{NetModel, CrowdModel, IsTuple, HasStates, IsN
 use Rattle.pop_net.specs.Step.{Step, LeafStep}
 use Rattle.pop_net.specs.Reachable.{Reachable}
 use Rattle.pop_net.specs.Terminal.{IsTerminal}
-use Rattle.pop_net.specs.Reaction.{IsSingle, after_meeting}
+use Rattle.pop_net.specs.Reaction.{IsSingle}
 use Rattle.pop_net.proofs.Lifting.{terminal_from_components}
 use Rattle.pop_net.proofs.Projection.{component, reachable_component}
 use Rattle.pop_net.proofs.Quiet.{All-slice_get}
@@ -21,7 +21,7 @@ use Rattle.pop_net.proofs.Tuples.{leads_terminal, reachable_tuples}
 use Rattle.pop_crowd.specs.declared.crowd.Meeting.{Meeting}
 use Rattle.pop_crowd.specs.Replay.{replay, IsMeeting, AreMeetings}
 use Rattle.pop_crowd.proofs.InARow.{replay_append}
-use Rattle.pop_crowd.proofs.Reached.{length-after_meeting, replay_leads, length-replay}
+use Rattle.pop_crowd.proofs.Reached.{replay_leads, length-replay}
 use Rattle.cert_base.specs.declared.proof.Proof.{Proof}
 use Rattle.cert_base.specs.declared.proof.LeafProof.{LeafProof}
 use Rattle.cert_base.specs.ProofBound.{layers_bound, proof_bound}

@@ -1,6 +1,6 @@
 -- What a take does to a crowd, seen in each leaf.
 use Rattle.std.proofs.Common.{◌≡◌, ◌≢◌, inr, ℕ, ◌<◌, [], length, refl, ap, ◌∙◌, arith}
-use Rattle.std.specs.Prelude.{Some, Option, slice_get, slice_set, slice_index_or, All}
+use Rattle.std.specs.Prelude.{Some, slice_get, slice_set, slice_index_or, All}
 use Rattle.std.proofs.lemmas.List.{length-map, get_or-set_same, get_or-set_other}
 use Rattle.std.proofs.lemmas.Option.{slice_get_within, slice_get-get_or}
 use Rattle.pop_net.specs.NetModel.{NetModel, Tuple, CrowdModel, IsTuple, state_of}

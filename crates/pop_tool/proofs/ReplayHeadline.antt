@@ -76,13 +76,13 @@ module _ (kind : RunKind) (first second : List ℕ) (bundle : Bundle) (counts : 
   abbrev start : CrowdModel
   start = input_crowd bundle.net counts
 
-  two : AGENT_LEAST ≤ length start
-  two =
+  pub least_start : AGENT_LEAST ≤ length start
+  least_start =
       let l = begun_two begins.0 second bundle counts (sym begins.2) in
       let e = length-input_crowd bundle.net counts in omega (arith, l, e)
 
-  few : length start ≤ AGENT_LIMIT
-  few =
+  pub most_start : length start ≤ AGENT_LIMIT
+  most_start =
       let l = begun_few begins.0 second bundle counts (sym begins.2) in
       let e = length-input_crowd bundle.net counts in omega (arith, l, e)
 
@@ -97,14 +97,14 @@ module _ (kind : RunKind) (first second : List ℕ) (bundle : Bundle) (counts : 
     formed : IsWithinLimits journal.spec × AreRoundsOf journal.kind journal.spec (length start) journal.rounds
     formed =
         let is = read_ok (journal_in kind (length start) JOURNAL_LINE more) journal read in
-        let form = journal_form kind (length start) JOURNAL_LINE more journal.spec (journal.rounds, journal.tail) (omega (arith, few)) is.0 in
+        let form = journal_form kind (length start) JOURNAL_LINE more journal.spec (journal.rounds, journal.tail) (omega (arith, most_start)) is.0 in
         (form.1, subst (λ (k : RunKind). AreRoundsOf k journal.spec (length start) journal.rounds) is.1 form.2)
 
     none_differs : Holds bundle.net start journal → first_difference (journal.first + 1) (journal_compared bundle.net start journal) ≡ None
-    none_differs = held_none bundle.net start journal two few formed.0.workers (input_tuples bundle.net counts) formed.1
+    none_differs = held_none bundle.net start journal least_start most_start formed.0.workers (input_tuples bundle.net counts) formed.1
 
     none_is_held : first_difference (journal.first + 1) (journal_compared bundle.net start journal) ≡ None → Holds bundle.net start journal
-    none_is_held = none_held bundle.net start journal two few formed.0.workers (input_tuples bundle.net counts) formed.1
+    none_is_held = none_held bundle.net start journal least_start most_start formed.0.workers (input_tuples bundle.net counts) formed.1
 
     -- a journal that holds is said to hold
     pub held_output : Holds bundle.net start journal → replay_output kind bundle.net start more ≡ Ok (holds_output (length (joined journal.rounds)))

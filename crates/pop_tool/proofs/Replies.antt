@@ -1,6 +1,6 @@
 -- What is prepared leads to outputs that may be written.
 use Rattle.std.proofs.Common.{◌≡◌, inl, inr, ℕ, ◌≤◌, ◌<◌, List, [], length, Option, Some, None, Result, Ok, Err, refl, sym, ap, subst, ◌∙◌, arith}
-use Rattle.std.specs.Prelude.{◌≢◌, ◌&&◌, Bool, true, false, nat_lt, MatchBool, IfOk, IfSome}
+use Rattle.std.specs.Prelude.{◌≢◌, ◌&&◌, Bool, true, false, nat_lt, MatchBool, IfSome}
 use Rattle.std.specs.Io.KnownBytes.{IsAtEnd}
 use Rattle.std.proofs.lemmas.Bool.{le-ltb, lt-ltb}
 use Rattle.pop_io.specs.Causes.{HasRisen}

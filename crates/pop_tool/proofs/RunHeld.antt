@@ -9,10 +9,8 @@ use Rattle.pop_lines.proofs.Joined.{lines-joined}
 use Rattle.pres_ast.specs.PredicateValue.{predicate_value}
 use Rattle.pop_net.specs.NetModel.{NetModel, CrowdModel, Tuple}
 use Rattle.pop_net.specs.InputCrowd.{input_crowd}
-use Rattle.pop_net.specs.Reaction.{after_meeting}
-use Rattle.pop_crowd.specs.declared.crowd.Meeting.{Meeting}
 use Rattle.pop_crowd.specs.Replay.{replay}
-use Rattle.pop_crowd.proofs.Reached.{length-after_meeting, length-replay}
+use Rattle.pop_crowd.proofs.Reached.{length-replay}
 use Rattle.pop_crowd.specs.Crowds.{input_size}
 use Rattle.pop_crowd.specs.declared.limits.TheConstants.{AGENT_LEAST, AGENT_LIMIT}
 use Rattle.pop_words.specs.declared.kind.RunKind.{RunKind}
@@ -44,8 +42,7 @@ use Rattle.tool_commands.specs.Bundles.{begun}
 use Rattle.tool_commands.specs.Play.{IsLast}
 use Rattle.tool_commands.specs.Run.{journal_end}
 use Rattle.tool_commands.specs.Replay.{journal_read}
-use Rattle.tool_commands.proofs.InputSize.{length-input_crowd}
-use Rattle.tool_commands.proofs.Begun.{begun_two, begun_few}
+use Rattle.tool_commands.proofs.Begun.{begun_two}
 use Rattle.tool_commands.proofs.Ran.{run_reaches, run_tuples}
 use Rattle.pop_journal.proofs.RunKinds.{is_watched}
 use Rattle.pop_tool.specs.Headline.{IsBundleInput, WasRun, IsHeldInput}
@@ -53,7 +50,7 @@ use Rattle.pop_tool.specs.ReplayHeld.{replay_words, IsReplayHeld}
 use Rattle.pop_tool.proofs.BundleInput.{begins_input, file_computes}
 use Rattle.pop_tool.proofs.Replies.{given_for}
 use Rattle.pop_tool.proofs.RunHeadline.{IsMade, run_made}
-use Rattle.pop_tool.proofs.ReplayHeadline.{held_given}
+use Rattle.pop_tool.proofs.ReplayHeadline.{held_given, least_start, most_start}
 
 all_unbroken : (line : List ℕ) → All (λ b. b ≢ 10) line → IsUnbroken line
 all_unbroken [] all = refl
@@ -94,12 +91,10 @@ module _ (kind : RunKind) (spec : RunSpec) (input : List ℕ) (output : Output) 
   enough = begun_two made.begins.0 made.second made.bundle made.counts begins
 
   two : AGENT_LEAST ≤ length start
-  two = let l = enough in let e = length-input_crowd net made.counts in omega (arith, l, e)
+  two = least_start kind made.first made.second made.bundle made.counts made.begins
 
   few : length start ≤ AGENT_LIMIT
-  few =
-      let l = begun_few made.begins.0 made.second made.bundle made.counts begins in
-      let e = length-input_crowd net made.counts in omega (arith, l, e)
+  few = most_start kind made.first made.second made.bundle made.counts made.begins
 
   -- the last line of the run is that of its last crowd
   last_is : (pair : Option (ℕ × ℕ)) → IsLast net end pair → journal_end truth pair ≡ ending_of net end

@@ -14,8 +14,6 @@ use Rattle.pop_checker.specs.declared.fault.Rejected.{Rejected}
 use Rattle.tool_texts.specs.declared.refusal.Refusal.{Refusal}
 use Rattle.tool_texts.specs.declared.refusal.Refusal.TheVariants.{TooLong, Settle as TooManyTakes}
 use Rattle.tool_texts.specs.declared.output.Output.{Output}
-use Rattle.tool_texts.specs.declared.status.Status.TheVariants.{Done}
-use Rattle.tool_texts.specs.Statuses.{status_of}
 use Rattle.tool_texts.specs.Steps.{After}
 use Rattle.tool_texts.specs.Lines.{just_two}
 use Rattle.tool_texts.specs.Refusals.{output_for}

@@ -1,22 +1,17 @@
 -- Rounds of a watched run, one after the other, and its last round.
-use Rattle.std.proofs.Common.{◌≡◌, ◌⊎◌, inl, inr, ℕ, ◌+◌, ◌-◌, ◌*◌, ◌<◌, ◌≤◌, ◌==◌, min, List, [], ◌∷◌, ◌++◌, length, get_or, take, ap, sym, subst, ◌∙◌, arith}
+use Rattle.std.proofs.Common.{◌≡◌, ◌⊎◌, inl, inr, ℕ, ◌+◌, ◌-◌, ◌<◌, ◌≤◌, min, List, [], ◌∷◌, ◌++◌, length, get_or, ap, sym, subst, ◌∙◌, arith}
 use Rattle.std.specs.Prelude.{Some, slice_get}
-use Rattle.std.proofs.lemmas.Bool.{cases_lt}
 use Rattle.std.proofs.Math.Nat.{le-min}
-use Rattle.std.proofs.lemmas.List.{append-nil, length-append, map-append, take_all, take-append-le}
-use Rattle.std.proofs.lemmas.List.Elements.{filter-append}
+use Rattle.std.proofs.lemmas.List.{append-nil, length-append, map-append}
 use Rattle.pop_net.specs.NetModel.{NetModel, CrowdModel}
 use Rattle.pop_net.specs.Step.{Step}
 use Rattle.pop_net.specs.Terminal.{IsTerminal}
 use Rattle.pop_crowd.specs.declared.crowd.Meeting.{Meeting}
-use Rattle.pop_crowd.specs.Replay.{replay, AreMarked}
-use Rattle.pop_crowd.proofs.InARow.{replay_append}
 use Rattle.pop_words.specs.declared.spec.RunSpec.{RunSpec}
 use Rattle.pair_workers.specs.Picks.{picks, first_state}
-use Rattle.pair_workers.specs.Run.{IsRound, joined, pairs, meetings_of, turns_in, made_by}
+use Rattle.pair_workers.specs.Run.{IsRound, joined, pairs, meetings_of, made_by}
 use Rattle.pair_workers.specs.Turns.{HasPicked, ArePlayed}
-use Rattle.pair_workers.proofs.Played.{marked_append}
-use Rattle.pair_workers.proofs.Rounds.{get_pushed, joined_push}
+use Rattle.pair_workers.proofs.Rounds.{get_pushed}
 use Rattle.pair_workers.proofs.Turns.{picked_on}
 use Rattle.pair_workers.proofs.ManyRounds.{AreOnTheRun, all_more_rounds, all_run_over, next_turns, as_many, all_of, all_marked, all_replayed, all_go_on}
 use Rattle.pair_workers.specs.WatchedRun.{IsWatchedRound, IsWatchedRun, AreSpent}
@@ -26,7 +21,6 @@ use Rattle.pair_workers.specs.declared.alone.End.TheVariants.{Terminal, Open}
 use Rattle.pair_workers.specs.Ends.{IsEndOf}
 use Rattle.pop_watch.specs.Playing.{ArePlaying, AreAllMade}
 use Rattle.pop_watch.specs.WatchedEnds.{WatchedEndsBy}
-use Rattle.pop_crowd.proofs.Reached.{length-replay}
 
 -- the run goes on, or it is over in a terminal crowd
 abbrev pub IsOnTheWay : NetModel → CrowdModel → RunSpec → List (List Meeting) → CrowdModel → List (List ℕ) → ℕ → Type 0

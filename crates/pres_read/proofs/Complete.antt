@@ -118,7 +118,7 @@ pub with_ors-last : (p : Phrase APred) → with_ors (ors_of p) (last_of p) ≡ p
 with_ors-last (conj c) = refl
 with_ors-last (either p c) = refl
 
-abbrev alone : Option (Phrase APred) → Option (Phrase AConj) → Side
+abbrev pub alone : Option (Phrase APred) → Option (Phrase AConj) → Side
 alone ors ands = record { ors = ors; ands = ands; nots = 0 }
 
 abbrev Reads : (part : Part) → Phrase part → Type 0

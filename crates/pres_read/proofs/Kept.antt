@@ -10,7 +10,7 @@ use Rattle.pres_read.specs.Atoms.{limit_of}
 use Rattle.pres_read.specs.Grammar.{Term, bare, times, Sum, first, further, Atom, relational, modular, Part, APred, AConj, AUnit, Phrase, conj, either, unit, both, negate, group, atom, term_symbols, minus_if, plus_or_minus, sum_symbols, equal_or_not, constant_symbols, atom_symbols, symbols, coefs_of}
 use Rattle.pres_read.specs.Rules.{TermFits, SumFits, AtomFits, Fits}
 use Rattle.pres_read.proofs.Traces.{Lead, begin, after, sum_with, Inner, IUnit, ITerm, IStar, IName, IRelation, IConstant, INumber, IModulo, IModulus, Side, bare_side, Trace, Inside, Done, begun, with_ands, unit_done, trace_step, trace_compared}
-use Rattle.pres_read.proofs.Complete.{NoMod, negates-negate, ors_of, last_of, with_ors-last}
+use Rattle.pres_read.proofs.Complete.{NoMod, negates-negate, ors_of, last_of, with_ors-last, alone}
 use Rattle.pres_read.proofs.Shows.{lead_coefs, lead_negative}
 
 -- the rule on a symbol after a trace
@@ -133,9 +133,6 @@ atom_kept names above side (modular sum unequal negative digits modulus) rest h 
     (sum_kept names above side sum (Compare (equal_or_not unequal) ∷ (constant_symbols negative digits ++ (Mod ∷ Number modulus ∷ rest))) f.0
     (constant_kept names above side sum (equal_or_not unequal) negative digits (Mod ∷ Number modulus ∷ rest) f.1
     (modular_kept names above side sum unequal negative digits modulus rest (f.2, f.3) k)))
-
-abbrev alone : Option (Phrase APred) → Option (Phrase AConj) → Side
-alone ors ands = record { ors = ors; ands = ands; nots = 0 }
 
 abbrev KeepsTo : List (List ℕ) → (part : Part) → Phrase part → Type 0
 KeepsTo names APred p = (above : List Side) (rest : List Symbol) → NoMod rest → Kept names (Done above (ors_of p) (last_of p)) rest

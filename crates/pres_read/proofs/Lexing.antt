@@ -5,6 +5,7 @@ use Rattle.std.specs.List.{list_all, prefix_len, take_while}
 use Rattle.std.specs.Str.{bytes_eq}
 use Rattle.std.proofs.Math.Seq.{take-append_seam, drop-append_seam}
 use Rattle.std.proofs.lemmas.Bool.Decides.{nat_tests}
+use Rattle.std.proofs.lemmas.Bool.{and_parts, cond-true, cond-false}
 use Rattle.pop_io.specs.Names.{is_name_start, is_name_byte, variable_name}
 use Rattle.pres_tokens.specs.Symbols.{Symbol, Name, Number, Minus, Star, Compare, Not, Open, Close, Mod, Placed}
 use Rattle.pres_tokens.specs.Tokens.{is_blank_byte, digit, first_sign, first_symbol, tokens_from, word_symbol, sign_or}
@@ -43,30 +44,17 @@ abbrev pub Stops : List ℕ → Type 0
 Stops [] = Unit {0}
 Stops (b ∷ bytes) = is_name_byte b ≡ false
 
-pub both_true : (a b : Bool) → (a && b) ≡ true → (a ≡ true) × (b ≡ true)
-both_true true true e = (refl, refl)
-both_true true false e = cc
-both_true false b e = cc
-
 prefix_whole : (p : ℕ → Bool) (word rest : List ℕ) → list_all p word ≡ true → prefix_len p rest ≡ 0 → prefix_len p (word ++ rest) ≡ length word
 prefix_whole p [] rest h e = e
 prefix_whole p (b ∷ word) rest h e =
-    let parts = both_true (p b) (list_all p word) h in
+    let parts = and_parts (p b) (list_all p word) h in
     let further = prefix_whole p word rest parts.1 e in
     rw parts.0 (omega (arith, further))
-
-if_true : {A : Type 0} (c : Bool) (x y : A) → c ≡ true → (if c then x else y) ≡ x
-if_true true x y e = refl
-if_true false x y e = cc
-
-if_false : {A : Type 0} (c : Bool) (x y : A) → c ≡ false → (if c then x else y) ≡ y
-if_false true x y e = cc
-if_false false x y e = refl
 
 -- the symbol at the prefix, with its length
 lex_first : (b : ℕ) (bytes : List ℕ) (s : Symbol) (m : ℕ) → is_blank_byte b ≡ false → first_symbol (b ∷ bytes) ≡ (s, suc m) → lex 0 (b ∷ bytes) ≡ s ∷ lex 0 (drop m bytes)
 lex_first b bytes s m solid e =
-    if_false (is_blank_byte b) (lex 0 bytes) ((first_symbol (b ∷ bytes)).0 ∷ lex ((first_symbol (b ∷ bytes)).1 - 1) bytes) solid
+    cond-false (is_blank_byte b) (lex 0 bytes) ((first_symbol (b ∷ bytes)).0 ∷ lex ((first_symbol (b ∷ bytes)).1 - 1) bytes) solid
     ∙ ap (λ (f : Symbol × ℕ). f.0 ∷ lex (f.1 - 1) bytes) e
     ∙ ap (λ k. s ∷ lex k bytes) (let same : suc m - 1 ≡ m = omega arith in same)
     ∙ ap (λ ss. s ∷ ss) (lex-skip m bytes)
@@ -86,7 +74,7 @@ number_or b bytes =
 first_word : (b : ℕ) (bs rest : List ℕ) → is_name_start b ≡ true → list_all is_name_byte (b ∷ bs) ≡ true → Stops rest
     → first_symbol (b ∷ (bs ++ rest)) ≡ (word_symbol (b ∷ bs), suc (length bs))
 first_word b bs rest start all stops =
-    if_true (is_name_start b) (word_symbol (take_while is_name_byte (b ∷ (bs ++ rest))), prefix_len is_name_byte (b ∷ (bs ++ rest))) (number_or b (bs ++ rest)) start
+    cond-true (is_name_start b) (word_symbol (take_while is_name_byte (b ∷ (bs ++ rest))), prefix_len is_name_byte (b ∷ (bs ++ rest))) (number_or b (bs ++ rest)) start
     ∙ ap (λ n. (word_symbol (take n (b ∷ (bs ++ rest))), n)) (prefix_whole is_name_byte (b ∷ bs) rest all (none_stops is_name_byte rest (λ c e. e) stops))
     ∙ ap (λ word. (word_symbol word, suc (length bs))) (take-append_seam (b ∷ bs) rest)
 
@@ -101,9 +89,9 @@ no_digit b h = grind (arith, nat_tests)
 
 first_number : (b : ℕ) (bs rest : List ℕ) → list_all digit (b ∷ bs) ≡ true → Stops rest → first_symbol (b ∷ (bs ++ rest)) ≡ (Number (b ∷ bs), suc (length bs))
 first_number b bs rest all stops =
-    let parts = both_true (digit b) (list_all digit bs) all in
-    if_false (is_name_start b) (word_symbol (take_while is_name_byte (b ∷ (bs ++ rest))), prefix_len is_name_byte (b ∷ (bs ++ rest))) (number_or b (bs ++ rest)) (digit_no_start b parts.0)
-    ∙ if_true (digit b) (Number (take_while digit (b ∷ (bs ++ rest))), prefix_len digit (b ∷ (bs ++ rest))) (first_sign (b ∷ (bs ++ rest))) parts.0
+    let parts = and_parts (digit b) (list_all digit bs) all in
+    cond-false (is_name_start b) (word_symbol (take_while is_name_byte (b ∷ (bs ++ rest))), prefix_len is_name_byte (b ∷ (bs ++ rest))) (number_or b (bs ++ rest)) (digit_no_start b parts.0)
+    ∙ cond-true (digit b) (Number (take_while digit (b ∷ (bs ++ rest))), prefix_len digit (b ∷ (bs ++ rest))) (first_sign (b ∷ (bs ++ rest))) parts.0
     ∙ ap (λ n. (Number (take n (b ∷ (bs ++ rest))), n)) (prefix_whole digit (b ∷ bs) rest all (none_stops digit rest no_digit stops))
     ∙ ap (λ word. (Number word, suc (length bs))) (take-append_seam (b ∷ bs) rest)
 
@@ -117,9 +105,9 @@ lex_word b bs rest start all stops =
 pub lex-name : (name rest : List ℕ) → variable_name name ≡ true → Stops rest → lex 0 (name ++ rest) ≡ Name name ∷ lex 0 rest
 lex-name [] rest h stops = cc
 lex-name (b ∷ bs) rest h stops =
-    let outer = both_true ((is_name_start b && list_all is_name_byte (b ∷ bs)) && nat_le (length (b ∷ bs)) 32) (not (bytes_eq (b ∷ bs) (codes "mod"))) h in
-    let middle = both_true (is_name_start b && list_all is_name_byte (b ∷ bs)) (nat_le (length (b ∷ bs)) 32) outer.0 in
-    let inner = both_true (is_name_start b) (list_all is_name_byte (b ∷ bs)) middle.0 in
+    let outer = and_parts ((is_name_start b && list_all is_name_byte (b ∷ bs)) && nat_le (length (b ∷ bs)) 32) (not (bytes_eq (b ∷ bs) (codes "mod"))) h in
+    let middle = and_parts (is_name_start b && list_all is_name_byte (b ∷ bs)) (nat_le (length (b ∷ bs)) 32) outer.0 in
+    let inner = and_parts (is_name_start b) (list_all is_name_byte (b ∷ bs)) middle.0 in
     lex_word b bs rest inner.0 inner.1 stops ∙ ap (λ s. s ∷ lex 0 rest) (no_mod (bytes_eq (b ∷ bs) (codes "mod")) (b ∷ bs) outer.1)
   where
     no_mod : (c : Bool) (word : List ℕ) → not c ≡ true → (if c then Mod else Name word) ≡ Name word
@@ -130,7 +118,7 @@ lex-name (b ∷ bs) rest h stops =
 pub lex-number : (digits rest : List ℕ) → list_all digit digits ≡ true → 0 < length digits → Stops rest → lex 0 (digits ++ rest) ≡ Number digits ∷ lex 0 rest
 lex-number [] rest all some stops = absurd (omega arith)
 lex-number (b ∷ bs) rest all some stops =
-    lex_first b (bs ++ rest) (Number (b ∷ bs)) (length bs) (digit_solid b (both_true (digit b) (list_all digit bs) all).0) (first_number b bs rest all stops)
+    lex_first b (bs ++ rest) (Number (b ∷ bs)) (length bs) (digit_solid b (and_parts (digit b) (list_all digit bs) all).0) (first_number b bs rest all stops)
     ∙ ap (λ bytes. Number (b ∷ bs) ∷ lex 0 bytes) (drop-append_seam bs rest)
 
 -- ---- signs

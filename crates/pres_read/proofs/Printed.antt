@@ -6,6 +6,7 @@ use Rattle.std.specs.Fmt.{signed_decimal}
 use Rattle.std.proofs.lemmas.List.Elements.{All-head, All-tail}
 use Rattle.std.specs.Str.{bytes_eq}
 use Rattle.std.proofs.lemmas.Bool.Decides.{nat_tests}
+use Rattle.std.proofs.lemmas.Bool.{and_parts}
 use Rattle.pres_ast.specs.declared.limits.TheConstants.{COEFFICIENT_LIMIT}
 use Rattle.pop_io.specs.Names.{is_name_start, is_name_byte, variable_name}
 use Rattle.pres_ast.specs.PredTree.{PredTree, LessThan, Congruent, Negation, Conjunction, Disjunction}
@@ -16,7 +17,7 @@ use Rattle.pres_tokens.specs.Tokens.{digit}
 use Rattle.pres_read.specs.Grammar.{Term, bare, times, Sum, first, further, relational, modular, AUnit, Phrase, conj, either, unit, both, negate, group, atom, term_symbols, minus_if, plus_or_minus, sum_symbols}
 use Rattle.pres_read.specs.Canonical.{is_negative, is_zero, term_text, sign_text, terms_text, zero_text, sum_text, tree_text}
 use Rattle.pres_read.proofs.Digits.{decimal_writes}
-use Rattle.pres_read.proofs.Lexing.{lex, Stops, both_true, lex-name, lex-number, lex-minus, lex-star, NoEqual}
+use Rattle.pres_read.proofs.Lexing.{lex, Stops, lex-name, lex-number, lex-minus, lex-star, NoEqual}
 
 abbrev pub term_by : Bool → ℕ → List ℕ → Term
 term_by true k name = bare name
@@ -147,7 +148,7 @@ zero_terms : (o : Option Sum) (names : List (List ℕ)) (coefs : List ℤ) → l
 zero_terms o [] coefs h = refl
 zero_terms o (name ∷ names) [] h = refl
 zero_terms o (name ∷ names) (a ∷ coefs) h =
-    let parts = both_true (is_zero a) (list_all is_zero coefs) h in
+    let parts = and_parts (is_zero a) (list_all is_zero coefs) h in
     zero_terms_if (is_zero a) o (terms_sum (Some (extended o (is_negative a) (canonical_term (nat_abs a) name))) names coefs) (terms_sum o names coefs)
     parts.0 (zero_terms o names coefs parts.1)
 
@@ -206,13 +207,13 @@ digit_no_equal b h = grind (arith, nat_tests)
 name_no_equal : (name rest : List ℕ) → variable_name name ≡ true → NoEqual (name ++ rest)
 name_no_equal [] rest h = cc
 name_no_equal (b ∷ bs) rest h =
-    let outer = both_true ((is_name_start b && list_all is_name_byte (b ∷ bs)) && nat_le (length (b ∷ bs)) 32) (not (bytes_eq (b ∷ bs) (codes "mod"))) h in
-    let middle = both_true (is_name_start b && list_all is_name_byte (b ∷ bs)) (nat_le (length (b ∷ bs)) 32) outer.0 in
-    start_no_equal b (both_true (is_name_start b) (list_all is_name_byte (b ∷ bs)) middle.0).0
+    let outer = and_parts ((is_name_start b && list_all is_name_byte (b ∷ bs)) && nat_le (length (b ∷ bs)) 32) (not (bytes_eq (b ∷ bs) (codes "mod"))) h in
+    let middle = and_parts (is_name_start b && list_all is_name_byte (b ∷ bs)) (nat_le (length (b ∷ bs)) 32) outer.0 in
+    start_no_equal b (and_parts (is_name_start b) (list_all is_name_byte (b ∷ bs)) middle.0).0
 
 number_no_equal : (digits rest : List ℕ) → list_all digit digits ≡ true → 0 < length digits → NoEqual (digits ++ rest)
 number_no_equal [] rest h some = absurd (omega arith)
-number_no_equal (b ∷ bs) rest h some = digit_no_equal b (both_true (digit b) (list_all digit bs) h).0
+number_no_equal (b ∷ bs) rest h some = digit_no_equal b (and_parts (digit b) (list_all digit bs) h).0
 
 term_no_equal : (k : ℕ) (name rest : List ℕ) → variable_name name ≡ true → k < 2 ^ 64 → NoEqual (term_text k name ++ rest)
 term_no_equal k name rest h small = by_one (k == 1)

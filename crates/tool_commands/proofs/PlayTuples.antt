@@ -1,7 +1,7 @@
 -- The crowd at the end of a play has one state per leaf in each tuple.
 use Rattle.std.proofs.Common.{◌≡◌, ℕ, ◌+◌, ◌<◌, ◌&&◌, Bool, true, false, cond, not, nat_lt, List, [], ◌∷◌, length, Option, Some, None, Result, Ok, Err, refl, ap, subst}
 use Rattle.std.specs.Prelude.{◌≢◌, ◌==◌, All}
-use Rattle.std.proofs.lemmas.Bool.{eq-eqb, ltb-true, and_parts, eqb-false, not-true}
+use Rattle.std.proofs.lemmas.Bool.{ltb-true, and_parts, eqb-false, not-true}
 use Rattle.std.proofs.lemmas.List.Elements.{All-nil, All-cons}
 use Rattle.serde_json.specs.Data.{Data}
 use Rattle.pop_lines.specs.Lines.{pieces}
