@@ -79,25 +79,36 @@ def bundle_and_crowd(name):
     return contents(f"{name}/bundle.json") + contents(f"{name}/crowd.txt")
 
 
-# the words, the input, and the words that judge the text where it is no function of both
-CASES = {
-    "play": (["play"], contents("majority/play.txt"), None),
-    "eval": (["eval"], b"vars x y\n2*x - y < 5 && x + y = 1 mod 3\ncrowd x=0 y=1\n", None),
-    "check": (["check"], contents("majority/bundle.json"), None),
-    "check of two leaves": (["check"], contents("and/bundle.json"), None),
-    "compile": (["compile"], b"vars x\nx < 1\n", None),
-    "compile --flocks": (["compile", "--flocks"], b"vars x\nx >= 4\n", None),
-    "run": (["run", "--turns", "2"], bundle_and_crowd("threshold"), None),
-    "run by two workers": (["run", "--turns", "2", "--workers", "2"], bundle_and_crowd("majority"), REPLAY),
-    "watch": (["watch", "--turns", "2", "--workers", "2"], bundle_and_crowd("majority"), REPLAY_WATCHED),
-    "replay": (["replay"], contents("replays/held.txt"), None),
-    "replay of a changed mark": (["replay"], contents("replays/changed-mark.txt"), None),
-    "settle": (["settle"], bundle_and_crowd("majority"), None),
-    "demo": (["demo", "0"], b"", None),
-}
+def written(words, data):
+    """What the program writes with all memory."""
+    return subprocess.run([PROGRAM, *words], input=data, capture_output=True, timeout=60).stdout
 
 
-LONG = {"check of two leaves", "run", "demo"}
+def cases():
+    """The words, the input, and the words that judge the text where it is no function of both, of each case."""
+    majority, short_run = contents("majority/bundle.json"), ["run", "--turns", "2"]
+    compiled, crowded = written(["compile"], b"vars x\nx = 2\n"), ["run", "--workers", "4", "--shards", "2"]
+    many = majority + b"crowd x=120 y=80\n"
+    return {
+        "play": (["play"], contents("majority/play.txt"), None),
+        "eval": (["eval"], b"vars x y\n2*x - y < 5 && x + y = 1 mod 3\ncrowd x=0 y=1\n", None),
+        "check": (["check"], majority, None),
+        "check of two leaves": (["check"], contents("and/bundle.json"), None),
+        "compile": (["compile"], b"vars x\nx < 1\n", None),
+        "compile --flocks": (["compile", "--flocks"], b"vars x\nx >= 4\n", None),
+        "run of two compiled leaves": (short_run, compiled + b"crowd x=2\n", None),
+        "run": (short_run, majority + b"crowd x=1 y=1\n", None),
+        "run by four workers": (crowded, many, REPLAY),
+        "watch": (["watch", "--turns", "2", "--workers", "2"], bundle_and_crowd("majority"), REPLAY_WATCHED),
+        "replay": (["replay"], contents("replays/held.txt"), None),
+        "replay of four workers": (["replay"], written(crowded, many), None),
+        "replay of a changed mark": (["replay"], contents("replays/changed-mark.txt"), None),
+        "settle": (["settle"], bundle_and_crowd("majority"), None),
+        "demo": (["demo", "0"], b"", None),
+    }
+
+
+LONG = {"check of two leaves", "run of two compiled leaves", "demo"}
 
 
 def run(library, words, data, call):
@@ -120,9 +131,8 @@ def is_whole(answer, judge, status, text):
     return status in ENDED and holds(judge, text)
 
 
-def count(library, name):
+def count(library, name, words, data, judge):
     """Prints how many calls were refused in turn, and gives the number of runs that did what they may not."""
-    words, data, judge = CASES[name]
     answer = run(library, words, data, 0)[:2]
     silent, wrong, call = 0, 0, 1
     while True:
@@ -162,7 +172,7 @@ def main():
         with open(source, "w") as file:
             file.write(REFUSING)
         subprocess.run(["gcc", "-O1", "-shared", "-fPIC", "-o", library, source], check=True)
-        wrong = sum(count(library, name) for name in CASES if not (IS_SHORT and name in LONG))
+        wrong = sum(count(library, name, *case) for name, case in cases().items() if not (IS_SHORT and name in LONG))
         if os.path.exists(TESTS):
             wrong += count_test(library)
         else:

@@ -13,7 +13,8 @@ use Rattle.cert_base.specs.ValidLayers.{moves_of_layers, ValidLayers}
 use Rattle.cert_base.specs.ProofBound.{layers_bound}
 use Rattle.cert_layers.specs.LayerFaults.{ShapedAt, ListedAt, LowerAt, SleepsAt, Each, IsLayerFault, EndsWithin}
 use Rattle.cert_layers.specs.declared.fault.LayerFault.{LayerFault}
-use Rattle.cert_layers.specs.declared.fault.LayerFault.TheVariants.{Shape, NoLayer, NotLower, Wakes, NoMemory}
+use Rattle.cert_layers.specs.declared.fault.LayerFault.TheVariants.{Broken, NoMemory}
+use Rattle.cert_layers.specs.declared.fault.LayerWhy.TheVariants.{Shape, NoLayer, NotLower, Wakes}
 use Rattle.cert_layers.proofs.NotLower.{contains-listed}
 use Rattle.cert_layers.proofs.Termination.{listed_at, valid_layers-end}
 
@@ -55,10 +56,10 @@ module _ (leaf : LeafModel) (layers : List Layer) (v : ValidLayers leaf layers) 
 
   -- valid layers fail nowhere
   pub valid-fault : (fault : LayerFault) → IsLayerFault leaf layers fault → fault ≡ NoMemory
-  valid-fault (Shape n) f = absurd (f.0 (each-shaped n))
-  valid-fault (NoLayer n) f = absurd (f.1.0 (v.all n))
-  valid-fault (NotLower n) f = absurd (f.2.0 (λ i t at number. v.lower i t at))
-  valid-fault (Wakes n m) f = absurd (f.4.0 (λ i j t u before at number earlier number'. v.wakes_none i j t u before at earlier))
+  valid-fault (Broken (Shape n)) f = absurd (f.0 (each-shaped n))
+  valid-fault (Broken (NoLayer n)) f = absurd (f.1.0 (v.all n))
+  valid-fault (Broken (NotLower n)) f = absurd (f.2.0 (λ i t at number. v.lower i t at))
+  valid-fault (Broken (Wakes n m)) f = absurd (f.4.0 (λ i j t u before at number earlier number'. v.wakes_none i j t u before at earlier))
   valid-fault NoMemory f = refl
 
 -- valid layers bring every crowd to an end

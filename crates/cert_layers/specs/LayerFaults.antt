@@ -11,7 +11,9 @@ use Rattle.cert_base.specs.declared.layer.Layer.{Layer}
 use Rattle.cert_base.specs.ProofBound.{layers_bound}
 use Rattle.cert_base.specs.ValidLayers.{moves_of_layers, IsInLayer, IsLower, IsEnabledBefore, ValidLayers}
 use Rattle.cert_layers.specs.declared.fault.LayerFault.{LayerFault}
-use Rattle.cert_layers.specs.declared.fault.LayerFault.TheVariants.{Shape, NoLayer, NotLower, Wakes, NoMemory}
+use Rattle.cert_layers.specs.declared.fault.LayerFault.TheVariants.{Broken, NoMemory}
+use Rattle.cert_layers.specs.declared.fault.LayerWhy.{LayerWhy}
+use Rattle.cert_layers.specs.declared.fault.LayerWhy.TheVariants.{Shape, NoLayer, NotLower, Wakes}
 
 -- layer n, where there is one, has one weight per state and lists numbers of moves, and up to it no number stands twice
 pub record IsShaped (leaf : LeafModel) (layers : List Layer) (n : ℕ) (layer : Layer) : Type 0 where
@@ -49,16 +51,20 @@ Each P = (k : ℕ) → P k
 abbrev pub IsFirstFailing : (ℕ → Type 0) → ℕ → Type 0
 IsFirstFailing P n = ¬ (P n) × ((k : ℕ) → k < n → P k)
 
--- the first place at which the layers fail: all layer_of_move of a kind come before those of the next kind
-abbrev pub IsLayerFault : LeafModel → List Layer → LayerFault → Type 0
-IsLayerFault leaf layers (Shape n) = IsFirstFailing (ShapedAt leaf layers) n
-IsLayerFault leaf layers (NoLayer n) = Each (ShapedAt leaf layers) × IsFirstFailing (ListedAt leaf layers) n
-IsLayerFault leaf layers (NotLower n) =
+-- the first place at which the layers fail: all of a kind come before those of the next kind
+abbrev pub AreBrokenFirst : LeafModel → List Layer → LayerWhy → Type 0
+AreBrokenFirst leaf layers (Shape n) = IsFirstFailing (ShapedAt leaf layers) n
+AreBrokenFirst leaf layers (NoLayer n) = Each (ShapedAt leaf layers) × IsFirstFailing (ListedAt leaf layers) n
+AreBrokenFirst leaf layers (NotLower n) =
     Each (ShapedAt leaf layers) × Each (ListedAt leaf layers) × IsFirstFailing (LowerAt leaf layers) n
-IsLayerFault leaf layers (Wakes n m) =
+AreBrokenFirst leaf layers (Wakes n m) =
     Each (ShapedAt leaf layers) × Each (ListedAt leaf layers) × Each (LowerAt leaf layers)
     × IsFirstFailing (λ t. Each (SleepsAt leaf layers t)) n
     × IsFirstFailing (SleepsAt leaf layers n) m
+
+-- the fault tells where the layers fail first
+abbrev pub IsLayerFault : LeafModel → List Layer → LayerFault → Type 0
+IsLayerFault leaf layers (Broken why) = AreBrokenFirst leaf layers why
 IsLayerFault leaf layers NoMemory = Unit {0}
 
 -- a weight within the limits of a proof

@@ -6,7 +6,8 @@ use Rattle.pop_net.specs.LeafModel.{LeafModel}
 use Rattle.cert_base.specs.declared.layer.Layer.{Layer}
 use Rattle.cert_layers.specs.LayerFaults.{Each, ShapedAt, IsFirstFailing}
 use Rattle.cert_layers.specs.declared.fault.LayerFault.{LayerFault}
-use Rattle.cert_layers.specs.declared.fault.LayerFault.TheVariants.{Shape, NoMemory}
+use Rattle.cert_layers.specs.declared.fault.LayerFault.TheVariants.{Broken, NoMemory}
+use Rattle.cert_layers.specs.declared.fault.LayerWhy.TheVariants.{Shape}
 
 abbrev pub layer_of : List (Option ℕ) → ℕ → Option ℕ
 layer_of layer_of_move n = slice_index_or layer_of_move n None
@@ -37,6 +38,6 @@ pub record AreMoveLayers (leaf : LeafModel) (layers : List Layer) (layer_of_move
 
 abbrev pub FindsMoveLayers : LeafModel → List Layer → Result (List (Option ℕ)) LayerFault → Type 0
 FindsMoveLayers leaf layers (Ok layer_of_move) = AreMoveLayers leaf layers layer_of_move
-FindsMoveLayers leaf layers (Err (Shape n)) = IsFirstFailing (ShapedAt leaf layers) n
+FindsMoveLayers leaf layers (Err (Broken (Shape n))) = IsFirstFailing (ShapedAt leaf layers) n
 FindsMoveLayers leaf layers (Err NoMemory) = Unit {0}
 FindsMoveLayers leaf layers (Err _) = ⊥

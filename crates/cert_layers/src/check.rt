@@ -8,7 +8,7 @@ ghost use Rattle.cert_base.specs.ProofBound.{layers_bound};
 ghost use Rattle.cert_layers.specs.LayerFaults.{IsLayerFault, AreLayersWithin, ChecksLayers};
 
 use crate::bound::bound_of;
-use crate::fault::LayerFault;
+use crate::fault::{LayerFault, LayerWhy};
 use crate::lower::{first_not_lower, first_unlisted};
 use crate::move_layers::layers_of_moves;
 use crate::pairs::pair_table;
@@ -53,14 +53,14 @@ fn check_moves(
     ensures fault { IfErr result (IsLayerFault leaf.now layers.now) }
 {
     if let Some(t) = first_unlisted(leaf, layer_of_move) {
-        return Err(LayerFault::NoLayer(t));
+        return Err(LayerFault::Broken(LayerWhy::NoLayer(t)));
     }
     if let Some(t) = first_not_lower(leaf, layers, layer_of_move) {
-        return Err(LayerFault::NotLower(t));
+        return Err(LayerFault::Broken(LayerWhy::NotLower(t)));
     }
     let table = pair_table(alloc, leaf, layer_of_move)?;
     match first_waking(leaf, layer_of_move, &table) {
-        Some((t, u)) => Err(LayerFault::Wakes(t, u)),
+        Some((t, u)) => Err(LayerFault::Broken(LayerWhy::Wakes(t, u))),
         None => Ok(()),
     }
 }

@@ -5,7 +5,7 @@ use std::alloc::{AllocError, AllocFailed};
 /// The first place at which layers fail; a shape before a missing layer, that before a weight, and that before a
 /// waking.
 #[derive(Clone, Copy, PartialEq, Eq)]
-pub enum LayerFault {
+pub enum LayerWhy {
     /// The first layer that hasn't one weight per state, or lists a number that no move has or that was listed before.
     Shape(u32),
     /// The least non-silent move in no layer.
@@ -14,6 +14,13 @@ pub enum LayerFault {
     NotLower(u32),
     /// The least non-silent move that wakes a move of an earlier layer, and the least such move.
     Wakes(u32, u32),
+}
+
+/// Why a check of layers doesn't give their bound.
+#[derive(Clone, Copy, PartialEq, Eq)]
+pub enum LayerFault {
+    /// They are not valid.
+    Broken(LayerWhy),
     /// Out of memory.
     NoMemory,
 }

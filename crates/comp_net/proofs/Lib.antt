@@ -2,3 +2,4 @@ pub mod Postfix
 pub mod Narrow
 pub mod Valid
 pub mod Adding
+pub mod AtLeastTwoProof

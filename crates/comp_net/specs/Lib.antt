@@ -3,3 +3,4 @@ pub mod CompileFaults
 pub mod BuiltNet
 pub mod Building
 pub mod Compiles
+pub mod AtLeastTwo

@@ -9,11 +9,13 @@
 mod building;
 mod choice;
 mod fault;
+mod law;
 mod limits;
 mod whole;
 mod widths;
 
 pub use choice::LeafChoice;
 pub use fault::CompileFault;
+pub use law::at_least_two_computes;
 pub use limits::NARROW_WIDTH_LIMIT;
 pub use whole::{compile, compile_flocks};

@@ -36,13 +36,6 @@ get-set_same [] a y l = absurd (omega arith)
 get-set_same (x ∷ xs) zero y l = refl
 get-set_same (x ∷ xs) (suc a) y l = get-set_same xs a y (omega arith)
 
-pub get-set_other : {A : Type 0} (xs : List A) (i k : ℕ) (x : A) → k ≢ i → slice_get (slice_set xs i x) k ≡ slice_get xs k
-get-set_other [] i k x ne = refl
-get-set_other (y ∷ xs) zero zero x ne = absurd (ne refl)
-get-set_other (y ∷ xs) zero (suc k) x ne = refl
-get-set_other (y ∷ xs) (suc i) zero x ne = refl
-get-set_other (y ∷ xs) (suc i) (suc k) x ne = get-set_other xs i k x (λ e. ne (ap suc e))
-
 pub slice_get-set_same : {A : Type 0} (xs : List A) (a : ℕ) (x y : A) → slice_get xs a ≡ Some x → slice_get (slice_set xs a y) a ≡ Some y
 slice_get-set_same xs a x y h = get-set_same xs a y (slice_get_within xs a x h)
 

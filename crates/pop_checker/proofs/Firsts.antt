@@ -22,11 +22,11 @@ right-valid net proof n right = λ i leaf part l h k. (right i leaf part l h k).
 
 -- the fault of the first leaf that is not right is the whole check's
 pub first_fault : (net : NetModel) (proof : Proof) (p : PredModel) (i : ℕ) (leaf : LeafModel) (part : LeafProof) (fault : CheckFault) → AreRightBefore net proof.leaves i → slice_get net.leaves i ≡ Some leaf → slice_get proof.leaves i ≡ Some part → IsPartFault leaf part i fault → IsCheckFault net p proof fault
-first_fault net proof p i leaf part (Rejects (Layers j fault)) right h k is =
-    subst (λ (n : ℕ). IsFirstRejected net proof n (λ l q. RejectsLayers l q fault)) (sym is.0)
+first_fault net proof p i leaf part (Rejects (Layers j why)) right h k is =
+    subst (λ (n : ℕ). IsFirstRejected net proof n (λ l q. RejectsLayers l q why)) (sym is.0)
     (record { before = right-valid net proof i right; leaf = leaf; part = part; leaf_is = h; part_is = k; rejected = is.1 })
-first_fault net proof p i leaf part (Rejects (Tree j value fault)) right h k is =
-    subst (λ (n : ℕ). IsFirstRejected net proof n (λ l q. RejectsTree l q value fault)) (sym is.0)
+first_fault net proof p i leaf part (Rejects (Tree j value node why)) right h k is =
+    subst (λ (n : ℕ). IsFirstRejected net proof n (λ l q. RejectsTree l q value node why)) (sym is.0)
     (record { before = right-valid net proof i right; leaf = leaf; part = part; leaf_is = h; part_is = k; rejected = is.1 })
 first_fault net proof p i leaf part (Rejects Predicate) right h k is = absurd is
 first_fault net proof p i leaf part NoMemory right h k is = tt

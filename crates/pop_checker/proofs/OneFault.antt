@@ -1,6 +1,6 @@
 -- A proof that is rejected has one first fault, and a valid proof has none.
 use Rattle.std.proofs.Common.{◌≡◌, ◌⊎◌, inl, inr, ℕ, ◌<◌, ◌≤◌, Bool, true, false, List, [], length, refl, sym, ap, subst, ◌∙◌, arith}
-use Rattle.std.specs.Prelude.{◌≢◌, Some, Err}
+use Rattle.std.specs.Prelude.{Some, Err}
 use Rattle.std.proofs.lemmas.Bool.{cases_lt}
 use Rattle.std.proofs.lemmas.Option.{slice_get_within}
 use Rattle.pres_ast.specs.PredModel.{PredModel}
@@ -14,14 +14,14 @@ use Rattle.cert_base.specs.Closes.{Closes}
 use Rattle.cert_base.specs.FactsAndCases.{base_list}
 use Rattle.cert_base.specs.ValidLayers.{ValidLayers}
 use Rattle.cert_base.specs.ValidProof.{ValidLeafProof, ValidProof}
-use Rattle.cert_layers.specs.declared.fault.LayerFault.{LayerFault}
-use Rattle.cert_layers.specs.declared.fault.LayerFault.TheVariants.{Shape, NoLayer, NotLower, Wakes, NoMemory as LayerMemory}
-use Rattle.cert_layers.specs.LayerFaults.{ShapedAt, ListedAt, LowerAt, SleepsAt, Each, IsFirstFailing, IsLayerFault}
+use Rattle.cert_layers.specs.declared.fault.LayerFault.TheVariants.{Broken as LayersBroken}
+use Rattle.cert_layers.specs.declared.fault.LayerWhy.{LayerWhy}
+use Rattle.cert_layers.specs.declared.fault.LayerWhy.TheVariants.{Shape, NoLayer, NotLower, Wakes}
+use Rattle.cert_layers.specs.LayerFaults.{ShapedAt, ListedAt, LowerAt, SleepsAt, Each, IsFirstFailing, AreBrokenFirst}
 use Rattle.cert_layers.proofs.Valid.{accepted}
 use Rattle.cert_tree.specs.declared.fault.TreeWhy.{TreeWhy}
-use Rattle.cert_tree.specs.declared.fault.TreeFault.{TreeFault}
-use Rattle.cert_tree.specs.declared.fault.TreeFault.TheVariants.{Broken, NoMemory as TreeMemory}
-use Rattle.cert_tree.specs.Refusals.{IsTreeFault}
+use Rattle.cert_tree.specs.declared.fault.TreeFault.TheVariants.{Broken}
+use Rattle.cert_tree.specs.Refusals.{first_refused}
 use Rattle.cert_tree.proofs.Verdicts.{only_memory}
 use Rattle.pop_checker.specs.declared.fault.Rejected.{Rejected}
 use Rattle.pop_checker.specs.declared.fault.Rejected.TheVariants.{Layers, Tree, Predicate}
@@ -38,77 +38,71 @@ one_first P m n f g = go (cases_lt m n) (cases_lt n m)
     go (inr l) (inl k) = absurd (g.0 (f.1 n k))
     go (inr l) (inr k) = omega (arith, l, k)
 
-pub one_layer_fault : (leaf : LeafModel) (layers : List Layer) (fault other : LayerFault) → IsLayerFault leaf layers fault → IsLayerFault leaf layers other → fault ≢ LayerMemory → other ≢ LayerMemory → fault ≡ other
-one_layer_fault leaf layers LayerMemory other f g some more = absurd (some refl)
-one_layer_fault leaf layers (Shape n) LayerMemory f g some more = absurd (more refl)
-one_layer_fault leaf layers (Shape n) (Shape m) f g some more =
+pub one_layer_fault : (leaf : LeafModel) (layers : List Layer) (why other : LayerWhy) → AreBrokenFirst leaf layers why → AreBrokenFirst leaf layers other → why ≡ other
+one_layer_fault leaf layers (Shape n) (Shape m) f g =
     ap (λ (k : ℕ). Shape k) (one_first (ShapedAt leaf layers) n m f g)
-one_layer_fault leaf layers (Shape n) (NoLayer m) f g some more = absurd (f.0 (g.0 n))
-one_layer_fault leaf layers (Shape n) (NotLower m) f g some more = absurd (f.0 (g.0 n))
-one_layer_fault leaf layers (Shape n) (Wakes m u) f g some more = absurd (f.0 (g.0 n))
-one_layer_fault leaf layers (NoLayer n) LayerMemory f g some more = absurd (more refl)
-one_layer_fault leaf layers (NoLayer n) (Shape m) f g some more = absurd (g.0 (f.0 m))
-one_layer_fault leaf layers (NoLayer n) (NoLayer m) f g some more =
+one_layer_fault leaf layers (Shape n) (NoLayer m) f g = absurd (f.0 (g.0 n))
+one_layer_fault leaf layers (Shape n) (NotLower m) f g = absurd (f.0 (g.0 n))
+one_layer_fault leaf layers (Shape n) (Wakes m u) f g = absurd (f.0 (g.0 n))
+one_layer_fault leaf layers (NoLayer n) (Shape m) f g = absurd (g.0 (f.0 m))
+one_layer_fault leaf layers (NoLayer n) (NoLayer m) f g =
     ap (λ (k : ℕ). NoLayer k) (one_first (ListedAt leaf layers) n m f.1 g.1)
-one_layer_fault leaf layers (NoLayer n) (NotLower m) f g some more = absurd (f.1.0 (g.1 n))
-one_layer_fault leaf layers (NoLayer n) (Wakes m u) f g some more = absurd (f.1.0 (g.1 n))
-one_layer_fault leaf layers (NotLower n) LayerMemory f g some more = absurd (more refl)
-one_layer_fault leaf layers (NotLower n) (Shape m) f g some more = absurd (g.0 (f.0 m))
-one_layer_fault leaf layers (NotLower n) (NoLayer m) f g some more = absurd (g.1.0 (f.1 m))
-one_layer_fault leaf layers (NotLower n) (NotLower m) f g some more =
+one_layer_fault leaf layers (NoLayer n) (NotLower m) f g = absurd (f.1.0 (g.1 n))
+one_layer_fault leaf layers (NoLayer n) (Wakes m u) f g = absurd (f.1.0 (g.1 n))
+one_layer_fault leaf layers (NotLower n) (Shape m) f g = absurd (g.0 (f.0 m))
+one_layer_fault leaf layers (NotLower n) (NoLayer m) f g = absurd (g.1.0 (f.1 m))
+one_layer_fault leaf layers (NotLower n) (NotLower m) f g =
     ap (λ (k : ℕ). NotLower k) (one_first (LowerAt leaf layers) n m f.2 g.2)
-one_layer_fault leaf layers (NotLower n) (Wakes m u) f g some more = absurd (f.2.0 (g.2 n))
-one_layer_fault leaf layers (Wakes n t) LayerMemory f g some more = absurd (more refl)
-one_layer_fault leaf layers (Wakes n t) (Shape m) f g some more = absurd (g.0 (f.0 m))
-one_layer_fault leaf layers (Wakes n t) (NoLayer m) f g some more = absurd (g.1.0 (f.1 m))
-one_layer_fault leaf layers (Wakes n t) (NotLower m) f g some more = absurd (g.2.0 (f.2 m))
-one_layer_fault leaf layers (Wakes n t) (Wakes m u) f g some more =
+one_layer_fault leaf layers (NotLower n) (Wakes m u) f g = absurd (f.2.0 (g.2 n))
+one_layer_fault leaf layers (Wakes n t) (Shape m) f g = absurd (g.0 (f.0 m))
+one_layer_fault leaf layers (Wakes n t) (NoLayer m) f g = absurd (g.1.0 (f.1 m))
+one_layer_fault leaf layers (Wakes n t) (NotLower m) f g = absurd (g.2.0 (f.2 m))
+one_layer_fault leaf layers (Wakes n t) (Wakes m u) f g =
     let first = one_first (λ k. Each (SleepsAt leaf layers k)) n m f.3 g.3 in
     let second = one_first (SleepsAt leaf layers m) t u (subst (λ (k : ℕ). IsFirstFailing (SleepsAt leaf layers k) t) first f.4) g.4 in
     ap (λ (k : ℕ). Wakes k t) first ∙ ap (λ (k : ℕ). Wakes m k) second
 
 -- ---- the trees of a leaf
 
-abbrev fault_of : ℕ × TreeWhy → TreeFault
-fault_of named = Broken named.0 named.1
+-- the number and the reason of a node that is refused
+abbrev Named : Type 0
+Named = ℕ × TreeWhy
 
-same_fault : (named other : ℕ × TreeWhy) → Some named ≡ Some other → fault_of named ≡ fault_of other
-same_fault named other same = let names : named ≡ other = cc in ap (λ (n : ℕ × TreeWhy). fault_of n) names
+same_named : (named other : Named) → Some named ≡ Some other → named ≡ other
+same_named named other same = cc
 
-pub one_tree_fault : (leaf : LeafModel) (p : PredModel) (value : Bool) (nodes : List Node) (fault other : TreeFault) → IsTreeFault leaf p value nodes fault → IsTreeFault leaf p value nodes other → fault ≢ TreeMemory → other ≢ TreeMemory → fault ≡ other
-one_tree_fault leaf p value nodes TreeMemory other f g some more = absurd (some refl)
-one_tree_fault leaf p value nodes (Broken n why) TreeMemory f g some more = absurd (more refl)
-one_tree_fault leaf p value nodes (Broken n why) (Broken m reason) f g some more =
-    same_fault (n, why) (m, reason) (sym f ∙ g)
+pub one_tree_fault : (leaf : LeafModel) (p : PredModel) (value : Bool) (nodes : List Node) (named other : Named) → first_refused leaf p value nodes ≡ Some named → first_refused leaf p value nodes ≡ Some other → named ≡ other
+one_tree_fault leaf p value nodes named other f g = same_named named other (sym f ∙ g)
 
-not_closed : (leaf : LeafModel) (p : PredModel) (value : Bool) (nodes : List Node) (fault : TreeFault) → Closes leaf (base_list leaf p value) nodes [] → IsTreeFault leaf p value nodes fault → fault ≢ TreeMemory → ⊥
-not_closed leaf p value nodes fault closes is some = some (only_memory leaf p value nodes fault is closes)
+not_closed : (leaf : LeafModel) (p : PredModel) (value : Bool) (nodes : List Node) (named : Named) → Closes leaf (base_list leaf p value) nodes [] → first_refused leaf p value nodes ≡ Some named → ⊥
+not_closed leaf p value nodes named closes is =
+    let none = only_memory leaf p value nodes (Broken named.0 named.1) is closes in cc
 
 -- ---- a leaf's proof
 
-not_valid_layers : (leaf : LeafModel) (part : LeafProof) (fault : LayerFault) → ValidLayers leaf part.layers → RejectsLayers leaf part fault → ⊥
-not_valid_layers leaf part fault valid rejects =
-    rejects.1 (accepted leaf part.layers part.layers (Err fault) refl rejects.0 valid)
+not_valid_layers : (leaf : LeafModel) (part : LeafProof) (why : LayerWhy) → ValidLayers leaf part.layers → RejectsLayers leaf part why → ⊥
+not_valid_layers leaf part why valid rejects =
+    let none = accepted leaf part.layers part.layers (Err (LayersBroken why)) refl rejects valid in cc
 
-not_valid_tree : (leaf : LeafModel) (part : LeafProof) (value : Bool) (fault : TreeFault) → ValidLeafProof leaf part → RejectsTree leaf part value fault → ⊥
-not_valid_tree leaf part true fault valid rejects =
-    not_closed leaf part.pred true part.on_true fault valid.on_true rejects.1 rejects.2
-not_valid_tree leaf part false fault valid rejects =
-    not_closed leaf part.pred false part.on_false fault valid.on_false rejects.2 rejects.3
+not_valid_tree : (leaf : LeafModel) (part : LeafProof) (value : Bool) (named : Named) → ValidLeafProof leaf part → RejectsTree leaf part value named.0 named.1 → ⊥
+not_valid_tree leaf part true named valid rejects =
+    not_closed leaf part.pred true part.on_true named valid.on_true rejects.1
+not_valid_tree leaf part false named valid rejects =
+    not_closed leaf part.pred false part.on_false named valid.on_false rejects.2
 
-tree_layers : (leaf : LeafModel) (part : LeafProof) (value : Bool) (fault : TreeFault) → RejectsTree leaf part value fault → ValidLayers leaf part.layers
-tree_layers leaf part true fault rejects = rejects.0
-tree_layers leaf part false fault rejects = rejects.0
+tree_layers : (leaf : LeafModel) (part : LeafProof) (value : Bool) (named : Named) → RejectsTree leaf part value named.0 named.1 → ValidLayers leaf part.layers
+tree_layers leaf part true named rejects = rejects.0
+tree_layers leaf part false named rejects = rejects.0
 
-one_tree : (leaf : LeafModel) (part : LeafProof) (value another : Bool) (fault other : TreeFault) → RejectsTree leaf part value fault → RejectsTree leaf part another other → (value ≡ another) × (fault ≡ other)
-one_tree leaf part true true fault other r s =
-    (refl, one_tree_fault leaf part.pred true part.on_true fault other r.1 s.1 r.2 s.2)
-one_tree leaf part true false fault other r s =
-    absurd (not_closed leaf part.pred true part.on_true fault s.1 r.1 r.2)
-one_tree leaf part false true fault other r s =
-    absurd (not_closed leaf part.pred true part.on_true other r.1 s.1 s.2)
-one_tree leaf part false false fault other r s =
-    (refl, one_tree_fault leaf part.pred false part.on_false fault other r.2 s.2 r.3 s.3)
+one_tree : (leaf : LeafModel) (part : LeafProof) (value another : Bool) (named other : Named) → RejectsTree leaf part value named.0 named.1 → RejectsTree leaf part another other.0 other.1 → (value ≡ another) × (named ≡ other)
+one_tree leaf part true true named other r s =
+    (refl, one_tree_fault leaf part.pred true part.on_true named other r.1 s.1)
+one_tree leaf part true false named other r s =
+    absurd (not_closed leaf part.pred true part.on_true named s.1 r.1)
+one_tree leaf part false true named other r s =
+    absurd (not_closed leaf part.pred true part.on_true other r.1 s.1)
+one_tree leaf part false false named other r s =
+    (refl, one_tree_fault leaf part.pred false part.on_false named other r.2 s.2)
 
 -- ---- the first leaf whose proof is rejected
 
@@ -116,11 +110,11 @@ one_tree leaf part false false fault other r s =
 abbrev Refuses : (LeafModel → LeafProof → Type 0) → Type 0
 Refuses R = (leaf : LeafModel) (part : LeafProof) → ValidLeafProof leaf part → R leaf part → ⊥
 
-layers_refuse : (fault : LayerFault) → Refuses (λ leaf part. RejectsLayers leaf part fault)
-layers_refuse fault leaf part valid rejects = not_valid_layers leaf part fault valid.layers rejects
+layers_refuse : (why : LayerWhy) → Refuses (λ leaf part. RejectsLayers leaf part why)
+layers_refuse why leaf part valid rejects = not_valid_layers leaf part why valid.layers rejects
 
-tree_refuses : (value : Bool) (fault : TreeFault) → Refuses (λ leaf part. RejectsTree leaf part value fault)
-tree_refuses value fault leaf part valid rejects = not_valid_tree leaf part value fault valid rejects
+tree_refuses : (value : Bool) (node : ℕ) (why : TreeWhy) → Refuses (λ leaf part. RejectsTree leaf part value node why)
+tree_refuses value node why leaf part valid rejects = not_valid_tree leaf part value (node, why) valid rejects
 
 module _ (net : NetModel) (proof : Proof) (R S : LeafModel → LeafProof → Type 0) where
   not_later : (i j : ℕ) → Refuses R → IsFirstRejected net proof i R → IsFirstRejected net proof j S → i < j → ⊥
@@ -161,34 +155,36 @@ one_rejected net p proof (Layers i f) (Layers j g) r s =
     let place = one_place net proof (λ leaf part. RejectsLayers leaf part f) (λ leaf part. RejectsLayers leaf part g) (layers_refuse f) (layers_refuse g) i j r s in
     let both = place.1 in
     ap (λ (k : ℕ). Layers k f) place.0
-    ∙ ap (λ (h : LayerFault). Layers j h) (one_layer_fault both.0 both.1.layers f g both.2.0 both.3.0 both.2.1 both.3.1)
-one_rejected net p proof (Layers i f) (Tree j value g) r s =
-    let place = one_place net proof (λ leaf part. RejectsLayers leaf part f) (λ leaf part. RejectsTree leaf part value g) (layers_refuse f) (tree_refuses value g) i j r s in
+    ∙ ap (λ (h : LayerWhy). Layers j h) (one_layer_fault both.0 both.1.layers f g both.2 both.3)
+one_rejected net p proof (Layers i f) (Tree j value n g) r s =
+    let place = one_place net proof (λ leaf part. RejectsLayers leaf part f) (λ leaf part. RejectsTree leaf part value n g) (layers_refuse f) (tree_refuses value n g) i j r s in
     let both = place.1 in
-    absurd (not_valid_layers both.0 both.1 f (tree_layers both.0 both.1 value g both.3) both.2)
+    absurd (not_valid_layers both.0 both.1 f (tree_layers both.0 both.1 value (n, g) both.3) both.2)
 one_rejected net p proof (Layers i f) Predicate r s =
     absurd (none_before net proof i (λ leaf part. RejectsLayers leaf part f) (layers_refuse f) r s.0)
-one_rejected net p proof (Tree i value f) (Layers j g) r s =
-    let place = one_place net proof (λ leaf part. RejectsTree leaf part value f) (λ leaf part. RejectsLayers leaf part g) (tree_refuses value f) (layers_refuse g) i j r s in
+one_rejected net p proof (Tree i value m f) (Layers j g) r s =
+    let place = one_place net proof (λ leaf part. RejectsTree leaf part value m f) (λ leaf part. RejectsLayers leaf part g) (tree_refuses value m f) (layers_refuse g) i j r s in
     let both = place.1 in
-    absurd (not_valid_layers both.0 both.1 g (tree_layers both.0 both.1 value f both.2) both.3)
-one_rejected net p proof (Tree i value f) (Tree j another g) r s =
-    let place = one_place net proof (λ leaf part. RejectsTree leaf part value f) (λ leaf part. RejectsTree leaf part another g) (tree_refuses value f) (tree_refuses another g) i j r s in
+    absurd (not_valid_layers both.0 both.1 g (tree_layers both.0 both.1 value (m, f) both.2) both.3)
+one_rejected net p proof (Tree i value m f) (Tree j another n g) r s =
+    let place = one_place net proof (λ leaf part. RejectsTree leaf part value m f) (λ leaf part. RejectsTree leaf part another n g) (tree_refuses value m f) (tree_refuses another n g) i j r s in
     let both = place.1 in
-    let same = one_tree both.0 both.1 value another f g both.2 both.3 in
-    ap (λ (k : ℕ). Tree k value f) place.0 ∙ ap (λ (b : Bool). Tree j b f) same.0 ∙ ap (λ (h : TreeFault). Tree j another h) same.1
-one_rejected net p proof (Tree i value f) Predicate r s =
-    absurd (none_before net proof i (λ leaf part. RejectsTree leaf part value f) (tree_refuses value f) r s.0)
+    let same = one_tree both.0 both.1 value another (m, f) (n, g) both.2 both.3 in
+    ap (λ (k : ℕ). Tree k value m f) place.0
+    ∙ ap (λ (b : Bool). Tree j b m f) same.0
+    ∙ ap (λ (h : Named). Tree j another h.0 h.1) same.1
+one_rejected net p proof (Tree i value m f) Predicate r s =
+    absurd (none_before net proof i (λ leaf part. RejectsTree leaf part value m f) (tree_refuses value m f) r s.0)
 one_rejected net p proof Predicate (Layers j g) r s =
     absurd (none_before net proof j (λ leaf part. RejectsLayers leaf part g) (layers_refuse g) s r.0)
-one_rejected net p proof Predicate (Tree j value g) r s =
-    absurd (none_before net proof j (λ leaf part. RejectsTree leaf part value g) (tree_refuses value g) s r.0)
+one_rejected net p proof Predicate (Tree j value n g) r s =
+    absurd (none_before net proof j (λ leaf part. RejectsTree leaf part value n g) (tree_refuses value n g) s r.0)
 one_rejected net p proof Predicate Predicate r s = refl
 
 -- a valid proof has none
 pub none_rejected : (net : NetModel) (p : PredModel) (proof : Proof) (rejected : Rejected) → ValidProof net p proof → IsRejected net p proof rejected → ⊥
 none_rejected net p proof (Layers i f) valid r =
     none_before net proof i (λ leaf part. RejectsLayers leaf part f) (layers_refuse f) r (all_valid net proof p valid)
-none_rejected net p proof (Tree i value f) valid r =
-    none_before net proof i (λ leaf part. RejectsTree leaf part value f) (tree_refuses value f) r (all_valid net proof p valid)
+none_rejected net p proof (Tree i value m f) valid r =
+    none_before net proof i (λ leaf part. RejectsTree leaf part value m f) (tree_refuses value m f) r (all_valid net proof p valid)
 none_rejected net p proof Predicate valid r = r.1 valid.combination

@@ -1,5 +1,5 @@
 -- Parts: what the check of one leaf's proof says.
-use Rattle.std.specs.Prelude.{◌≡◌, ◌≢◌, ℕ, ◌<◌, Bool, true, false, List, Some, slice_get}
+use Rattle.std.specs.Prelude.{◌≡◌, ℕ, ◌<◌, Bool, true, false, List, Some, slice_get}
 use Rattle.pres_ast.specs.PredModel.{PredModel}
 use Rattle.pop_net.specs.LeafModel.{LeafModel}
 use Rattle.pop_net.specs.NetModel.{NetModel}
@@ -7,8 +7,7 @@ use Rattle.cert_base.specs.declared.proof.LeafProof.{LeafProof}
 use Rattle.cert_base.specs.declared.node.Node.{Node}
 use Rattle.cert_base.specs.ValidProof.{ValidLeafProof}
 use Rattle.cert_base.specs.Ends.{EndsRight}
-use Rattle.cert_tree.specs.Refusals.{IsTreeFault}
-use Rattle.cert_tree.specs.declared.fault.TreeFault.TheVariants.{NoMemory as TreeMemory}
+use Rattle.cert_tree.specs.Refusals.{first_refused}
 use Rattle.pop_checker.specs.declared.fault.Rejected.TheVariants.{Layers, Tree, Predicate}
 use Rattle.pop_checker.specs.declared.fault.CheckFault.{CheckFault}
 use Rattle.pop_checker.specs.declared.fault.CheckFault.TheVariants.{Rejected as Rejects, NoMemory}
@@ -28,22 +27,22 @@ AreRightBefore net parts n =
 
 -- the fault of the layers of the leaf with this number
 abbrev pub IsLayersFault : LeafModel → LeafProof → ℕ → CheckFault → Type 0
-IsLayersFault leaf part number (Rejects (Layers i fault)) = (i ≡ number) × RejectsLayers leaf part fault
-IsLayersFault leaf part number (Rejects (Tree i value fault)) = ⊥
+IsLayersFault leaf part number (Rejects (Layers i why)) = (i ≡ number) × RejectsLayers leaf part why
+IsLayersFault leaf part number (Rejects (Tree i value node why)) = ⊥
 IsLayersFault leaf part number (Rejects Predicate) = ⊥
 IsLayersFault leaf part number NoMemory = Unit {0}
 
 -- the fault of the tree for a value
 abbrev pub IsValueFault : LeafModel → PredModel → Bool → List Node → ℕ → CheckFault → Type 0
-IsValueFault leaf p value nodes number (Rejects (Layers i fault)) = ⊥
-IsValueFault leaf p value nodes number (Rejects (Tree i v fault)) =
-    (i ≡ number) × (v ≡ value) × IsTreeFault leaf p value nodes fault × (fault ≢ TreeMemory)
+IsValueFault leaf p value nodes number (Rejects (Layers i why)) = ⊥
+IsValueFault leaf p value nodes number (Rejects (Tree i v node why)) =
+    (i ≡ number) × (v ≡ value) × (first_refused leaf p value nodes ≡ Some (node, why))
 IsValueFault leaf p value nodes number (Rejects Predicate) = ⊥
 IsValueFault leaf p value nodes number NoMemory = Unit {0}
 
 -- the fault of a leaf's proof
 abbrev pub IsPartFault : LeafModel → LeafProof → ℕ → CheckFault → Type 0
-IsPartFault leaf part number (Rejects (Layers i fault)) = (i ≡ number) × RejectsLayers leaf part fault
-IsPartFault leaf part number (Rejects (Tree i value fault)) = (i ≡ number) × RejectsTree leaf part value fault
+IsPartFault leaf part number (Rejects (Layers i why)) = (i ≡ number) × RejectsLayers leaf part why
+IsPartFault leaf part number (Rejects (Tree i value node why)) = (i ≡ number) × RejectsTree leaf part value node why
 IsPartFault leaf part number (Rejects Predicate) = ⊥
 IsPartFault leaf part number NoMemory = Unit {0}

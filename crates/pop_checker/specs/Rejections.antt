@@ -1,5 +1,5 @@
 -- Rejections: the first part of a proof that is not valid.
-use Rattle.std.specs.Prelude.{◌≡◌, ◌≢◌, ℕ, ◌<◌, Bool, true, false, [], length, Some, slice_get}
+use Rattle.std.specs.Prelude.{◌≡◌, ℕ, ◌<◌, Bool, true, false, [], length, Some, slice_get}
 use Rattle.pres_ast.specs.PredModel.{PredModel}
 use Rattle.pop_net.specs.LeafModel.{LeafModel}
 use Rattle.pop_net.specs.NetModel.{NetModel}
@@ -9,12 +9,10 @@ use Rattle.cert_base.specs.FactsAndCases.{base_list}
 use Rattle.cert_base.specs.ValidLayers.{ValidLayers}
 use Rattle.cert_base.specs.Closes.{Closes}
 use Rattle.cert_base.specs.ValidProof.{ValidLeafProof, CombinesTo}
-use Rattle.cert_layers.specs.declared.fault.LayerFault.{LayerFault}
-use Rattle.cert_layers.specs.declared.fault.LayerFault.TheVariants.{NoMemory as LayerMemory}
-use Rattle.cert_layers.specs.LayerFaults.{IsLayerFault}
-use Rattle.cert_tree.specs.declared.fault.TreeFault.{TreeFault}
-use Rattle.cert_tree.specs.declared.fault.TreeFault.TheVariants.{NoMemory as TreeMemory}
-use Rattle.cert_tree.specs.Refusals.{IsTreeFault}
+use Rattle.cert_layers.specs.declared.fault.LayerWhy.{LayerWhy}
+use Rattle.cert_layers.specs.LayerFaults.{AreBrokenFirst}
+use Rattle.cert_tree.specs.declared.fault.TreeWhy.{TreeWhy}
+use Rattle.cert_tree.specs.Refusals.{first_refused}
 use Rattle.pop_checker.specs.declared.fault.Rejected.{Rejected}
 use Rattle.pop_checker.specs.declared.fault.Rejected.TheVariants.{Layers, Tree, Predicate}
 use Rattle.pop_checker.specs.declared.fault.CheckFault.{CheckFault}
@@ -28,16 +26,15 @@ AreValidBefore net proof n =
 
 -- the fault is the first of a leaf's proof: the layers come before the tree for true, and that before the tree for
 -- false
-abbrev pub RejectsLayers : LeafModel → LeafProof → LayerFault → Type 0
-RejectsLayers leaf part fault = IsLayerFault leaf part.layers fault × (fault ≢ LayerMemory)
+abbrev pub RejectsLayers : LeafModel → LeafProof → LayerWhy → Type 0
+RejectsLayers leaf part why = AreBrokenFirst leaf part.layers why
 
-abbrev pub RejectsTree : LeafModel → LeafProof → Bool → TreeFault → Type 0
-RejectsTree leaf part true fault =
-    ValidLayers leaf part.layers × IsTreeFault leaf part.pred true part.on_true fault × (fault ≢ TreeMemory)
-RejectsTree leaf part false fault =
+abbrev pub RejectsTree : LeafModel → LeafProof → Bool → ℕ → TreeWhy → Type 0
+RejectsTree leaf part true node why =
+    ValidLayers leaf part.layers × (first_refused leaf part.pred true part.on_true ≡ Some (node, why))
+RejectsTree leaf part false node why =
     ValidLayers leaf part.layers × Closes leaf (base_list leaf part.pred true) part.on_true []
-    × IsTreeFault leaf part.pred false part.on_false fault
-    × (fault ≢ TreeMemory)
+    × (first_refused leaf part.pred false part.on_false ≡ Some (node, why))
 
 -- leaf i and its proof are the first that are rejected
 pub record IsFirstRejected (net : NetModel) (proof : Proof) (i : ℕ) (Rejects : LeafModel → LeafProof → Type 0)
@@ -50,9 +47,9 @@ pub record IsFirstRejected (net : NetModel) (proof : Proof) (i : ℕ) (Rejects :
   pub rejected : Rejects leaf part
 
 abbrev pub IsRejected : NetModel → PredModel → Proof → Rejected → Type 0
-IsRejected net p proof (Layers i fault) = IsFirstRejected net proof i (λ leaf part. RejectsLayers leaf part fault)
-IsRejected net p proof (Tree i value fault) =
-    IsFirstRejected net proof i (λ leaf part. RejectsTree leaf part value fault)
+IsRejected net p proof (Layers i why) = IsFirstRejected net proof i (λ leaf part. RejectsLayers leaf part why)
+IsRejected net p proof (Tree i value node why) =
+    IsFirstRejected net proof i (λ leaf part. RejectsTree leaf part value node why)
 IsRejected net p proof Predicate = AreValidBefore net proof (length net.leaves) × ¬ (CombinesTo net proof p)
 
 -- the fault names the first part that is not valid: leaf by leaf its layers and its two trees, and last the predicate

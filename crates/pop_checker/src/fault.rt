@@ -1,22 +1,23 @@
 //! Why a proof is not accepted.
 
-use cert_layers::LayerFault;
-use cert_tree::TreeFault;
+use cert_layers::LayerWhy;
+use cert_tree::TreeWhy;
 
 /// The first part that is not valid: leaf by leaf the layers, the tree for true and the tree for false; last the
 /// predicate.
 #[derive(Clone, Copy, PartialEq, Eq)]
 pub enum Rejected {
-    /// The layers of a leaf; the fault is not `NoMemory`.
+    /// The layers of a leaf.
     Layers {
         leaf: u8,
-        fault: LayerFault,
+        why: LayerWhy,
     },
-    /// The tree of a leaf for this value of its predicate; the fault is not `NoMemory`.
+    /// A node of the tree of a leaf for this value of its predicate.
     Tree {
         leaf: u8,
         value: bool,
-        fault: TreeFault,
+        node: u32,
+        why: TreeWhy,
     },
     /// The leaves' predicates combine to another one.
     Predicate,

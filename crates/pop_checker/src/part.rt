@@ -51,11 +51,11 @@ fn check_order(alloc: Global, leaf: &Leaf, number: u8, part: &LeafProof) -> Resu
 {
     match check_layers(alloc, leaf, &part.layers) {
         Ok(bound) => Ok(bound),
-        Err(LayerFault::NoMemory) => Err(CheckFault::NoMemory),
-        Err(fault) => Err(CheckFault::Rejected(Rejected::Layers {
+        Err(LayerFault::Broken(why)) => Err(CheckFault::Rejected(Rejected::Layers {
             leaf: number,
-            fault,
+            why,
         })),
+        Err(LayerFault::NoMemory) => Err(CheckFault::NoMemory),
     }
 }
 
@@ -77,11 +77,12 @@ fn check_value(
 {
     match check_tree(alloc, leaf, pred, value, nodes) {
         Ok(()) => Ok(()),
-        Err(TreeFault::NoMemory) => Err(CheckFault::NoMemory),
-        Err(fault) => Err(CheckFault::Rejected(Rejected::Tree {
+        Err(TreeFault::Broken { node, why }) => Err(CheckFault::Rejected(Rejected::Tree {
             leaf: number,
             value,
-            fault,
+            node,
+            why,
         })),
+        Err(TreeFault::NoMemory) => Err(CheckFault::NoMemory),
     }
 }

@@ -32,8 +32,8 @@ refusal_begins (Settle takes) = refl
 -- an r
 pub rejection_begins : (rejected : Rejected) → first_byte (ended (rejected_text rejected)) ≡ 114
 unfolding first_byte
-rejection_begins (Layers leaf fault) = refl
-rejection_begins (Tree leaf value fault) = refl
+rejection_begins (Layers leaf why) = refl
+rejection_begins (Tree leaf value node why) = refl
 rejection_begins Predicate = refl
 
 -- a d

@@ -1,26 +1,22 @@
 //! Why a proof is not valid, and the line that says so.
 
 ghost use Rattle.std.specs.Prelude.{Some};
-ghost use Rattle.tool_texts.specs.Rejections.{layer_words, tree_reason, tree_words, rejected_text};
+ghost use Rattle.tool_texts.specs.Rejections.{layer_words, tree_words, rejected_text};
 
 use crate::output::{Ending, Output};
-use cert_layers::LayerFault;
-use cert_tree::{TreeFault, TreeWhy};
+use cert_layers::LayerWhy;
+use cert_tree::TreeWhy;
 use pop_checker::Rejected;
 use std::alloc::{AllocError, Global};
 use std::fmt;
 
 /// What is wrong with the layers of a leaf.
 #[derive(Clone, Copy)]
-struct LayerWords(LayerFault);
+struct LayerWords(LayerWhy);
 
 /// What is wrong with a node.
 #[derive(Clone, Copy)]
-struct NodeWords(TreeWhy);
-
-/// What is wrong with a tree of a leaf.
-#[derive(Clone, Copy)]
-struct TreeWords(TreeFault);
+struct TreeWords(TreeWhy);
 
 /// The line without its line feed.
 #[derive(Clone, Copy)]
@@ -31,17 +27,16 @@ impl fmt::Display for LayerWords {
 
     fn fmt<W: fmt::Write>(&self, f: &mut fmt::Formatter<W>) -> fmt::Result {
         match self.0 {
-            LayerFault::Shape(number) => write!(f, "shape {number}"),
-            LayerFault::NoLayer(number) => write!(f, "no-layer {number}"),
-            LayerFault::NotLower(number) => write!(f, "not-lower {number}"),
-            LayerFault::Wakes(number, woken) => write!(f, "wakes {number} {woken}"),
-            LayerFault::NoMemory => Ok(()),
+            LayerWhy::Shape(number) => write!(f, "shape {number}"),
+            LayerWhy::NoLayer(number) => write!(f, "no-layer {number}"),
+            LayerWhy::NotLower(number) => write!(f, "not-lower {number}"),
+            LayerWhy::Wakes(number, woken) => write!(f, "wakes {number} {woken}"),
         }
     }
 }
 
-impl fmt::Display for NodeWords {
-    ghost output = { λ words. Some (tree_reason words.0) };
+impl fmt::Display for TreeWords {
+    ghost output = { λ words. Some (tree_words words.0) };
 
     fn fmt<W: fmt::Write>(&self, f: &mut fmt::Formatter<W>) -> fmt::Result {
         match self.0 {
@@ -57,32 +52,23 @@ impl fmt::Display for NodeWords {
     }
 }
 
-impl fmt::Display for TreeWords {
-    ghost output = { λ words. Some (tree_words words.0) };
-
-    fn fmt<W: fmt::Write>(&self, f: &mut fmt::Formatter<W>) -> fmt::Result {
-        match self.0 {
-            TreeFault::Broken { node, why } => {
-                let why = NodeWords(why);
-                write!(f, "{node} {why}")
-            }
-            TreeFault::NoMemory => Ok(()),
-        }
-    }
-}
-
 impl fmt::Display for Rejection {
     ghost output = { λ words. Some (rejected_text words.0) };
 
     fn fmt<W: fmt::Write>(&self, f: &mut fmt::Formatter<W>) -> fmt::Result {
         match self.0 {
-            Rejected::Layers { leaf, fault } => {
-                let fault = LayerWords(fault);
-                write!(f, "rejected leaf {leaf} layers {fault}")
+            Rejected::Layers { leaf, why } => {
+                let why = LayerWords(why);
+                write!(f, "rejected leaf {leaf} layers {why}")
             }
-            Rejected::Tree { leaf, value, fault } => {
-                let fault = TreeWords(fault);
-                write!(f, "rejected leaf {leaf} {value} {fault}")
+            Rejected::Tree {
+                leaf,
+                value,
+                node,
+                why,
+            } => {
+                let why = TreeWords(why);
+                write!(f, "rejected leaf {leaf} {value} {node} {why}")
             }
             Rejected::Predicate => write!(f, "rejected predicate"),
         }

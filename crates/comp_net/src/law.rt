@@ -1,0 +1,9 @@
+//! A compiled net as an example.
+
+ghost use Rattle.comp_net.specs.AtLeastTwo.{AtLeastTwoComputes};
+
+/// The net that is built for `x >= 2` has three states and three moves, and computes it. The call does nothing: it is its
+/// contract.
+pub fn at_least_two_computes()
+    ensures { AtLeastTwoComputes }
+{}
