@@ -3,10 +3,9 @@ use Rattle.std.proofs.Common.{◌≡◌, ◌≢◌, ℕ, zero, suc, ◌+◌, ◌
 use Rattle.std.proofs.lemmas.Bool.{cases_lt}
 use Rattle.std.proofs.lemmas.List.{append-nil, replicate-append-replicate}
 use Rattle.std.proofs.Math.ListN.{replicate, length-replicate}
-use Rattle.pop_net.specs.declared.net.Word.{Word}
 use Rattle.agent_field.specs.declared.places.TheConstants.{HEAD_WORDS}
 use Rattle.agent_field.specs.declared.view.Setup.{Setup}
-use Rattle.agent_field.specs.Standing.{agents_opened, packed, lock_place, agent_place, lock_at, agent_at, in_turns}
+use Rattle.agent_field.specs.Standing.{agents_opened, lock_place, agent_place, lock_at, agent_at, in_turns}
 
 pub lock_place-inside : (shards agents s : ℕ) → s < shards → lock_place agents s < HEAD_WORDS + shards + agents
 lock_place-inside shards agents s h = omega arith

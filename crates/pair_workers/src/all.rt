@@ -33,8 +33,7 @@ pub fn first_pickers(alloc: Global, spec: &RunSpec) -> Result<Vec<Picker>, NoMem
 }
 
 /// A run by all workers that the numbers of the run name, round by round: one worker meets on the plain crowd, and more
-/// on
-/// fields. Before each round the crowd is looked at.
+/// on fields. Before each round the crowd is looked at.
 pub fn run_all<R: Threads + Wait + Sync, G: Gate>(
     rt: &R,
     alloc: Global,

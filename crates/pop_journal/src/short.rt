@@ -67,8 +67,7 @@ pub(crate) fn short_meeting(text: &[u8]) -> Option<(u32, u32, u32, bool, &[u8])>
 }
 
 /// The two agents that the first line of a text names, if its numbers are short and printed and it has a line feed, and
-/// what
-/// stands behind it. It may be `None` of another meeting line.
+/// what stands behind it. It may be `None` of another meeting line.
 #[inline(always)]
 pub fn short_pair(text: &[u8], agents: u32) -> Option<((u32, u32), &[u8])>
     ensures { IfSome result (λ m. IsFirstPair agents text.now m.0.0 m.0.1 m.1.now) }

@@ -1,4 +1,4 @@
-use Rattle.std.proofs.Common.{◌≡◌, ◌+◌, ◌≤◌, ◌∷◌, List, ℕ, length, map, min, replicate, take}
+use Rattle.std.proofs.Common.{◌≡◌, ◌+◌, ◌≤◌, ◌∷◌, length, map, min, replicate, take}
 use Rattle.std.specs.Prelude.{vec_capacity}
 use Rattle.pop_net.specs.declared.net.Word.{Word}
 use Rattle.agent_field.specs.declared.places.TheConstants.{HEAD_WORDS}
