@@ -2,8 +2,7 @@
 
 ghost use Rattle.bundle_text.specs.ReadBack.{BundlesAreReadBack};
 
-/// The text of a bundle within the limits of a file is read back to the bundle. The call does nothing: it is its
-/// contract.
+/// The text of a bundle within the limits of a file is read back to the bundle. A theorem; the body is empty.
 pub fn bundles_are_read_back()
     ensures { BundlesAreReadBack }
 {}

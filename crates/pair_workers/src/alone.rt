@@ -37,7 +37,7 @@ pub struct RunEnd {
 }
 
 /// A run by the worker 0 alone. Before each round the crowd is looked at, and the round's log is reserved.
-/// `shards` plays no part.
+/// `shards` is ignored.
 pub fn run_alone<G: Gate>(
     alloc: Global,
     net: &Net,

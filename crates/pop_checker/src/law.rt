@@ -3,12 +3,12 @@
 ghost use Rattle.pop_checker.specs.Sound.{IsSound};
 ghost use Rattle.pop_checker.specs.Majority.{MajorityComputes};
 
-/// A valid proof shows that its net computes the predicate. The call does nothing: it is its contract.
+/// A valid proof shows that its net computes the predicate. A theorem; the body is empty.
 pub fn valid_is_right()
     ensures { IsSound }
 {}
 
-/// The majority protocol computes `y - x < 0`. The call does nothing: it is its contract.
+/// The majority protocol computes `y - x < 0`. A theorem; the body is empty.
 pub fn majority_computes()
     ensures { MajorityComputes }
 {}

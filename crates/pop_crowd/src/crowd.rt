@@ -117,7 +117,7 @@ impl Crowd {
         differ((x, y), (first, second))
     }
 
-    /// Makes meetings one after the other. What they say of changes plays no part.
+    /// Makes meetings one after the other. What they say of changes is ignored.
     /// The answer is the number of meetings that changed a word.
     pub fn replay(&mut self, net: &Net, meetings: &[Meeting]) -> u64
         requires meetings { AreMeetings (length self.old) meetings.now }

@@ -1,4 +1,4 @@
-//! Laws of the definitions. A call does nothing: it is its contract.
+//! Laws of the definitions. Theorems: each body is empty.
 
 ghost use Rattle.pop_journal.specs.Laws.{IsOneSpelling, IsWrittenHeld};
 

@@ -5,19 +5,19 @@ ghost use Rattle.pop_tool.specs.CompileCertified.{IsCompiledCertified};
 ghost use Rattle.pop_tool.specs.ReplayHeld.{IsReplayHeld};
 
 /// The output is a function of the words and the input, but for a run with two or more workers, for `watch` and for
-/// `compile`, of which any valid proof will do. The call does nothing: it is its contract.
+/// `compile`, of which any valid proof will do. A theorem; the body is empty.
 pub fn one_answer()
     ensures { IsOneAnswer }
 {}
 
 /// What `run` wrote, if its run was made, holds for `replay`, unless it is too long for an input, and so does what
-/// `watch` wrote for `replay --watched`. The call does nothing: it is its contract.
+/// `watch` wrote for `replay --watched`. A theorem; the body is empty.
 pub fn replay_holds()
     ensures { IsReplayHeld }
 {}
 
-/// What `compile` wrote, with flocks or without, is certified by `check`, unless it is too long for an input. The call
-/// does nothing: it is its contract.
+/// What `compile` wrote, with flocks or without, is certified by `check`, unless it is too long for an input. A theorem;
+/// the body is empty.
 pub fn compiled_is_certified()
     ensures { IsCompiledCertified }
 {}
