@@ -5,8 +5,9 @@ use serde_json::Value;
 /// A row: a JSON object whose members are read where they are used. It has a `name`, the `words` and the pieces of the
 /// `input` that the program is given, the pieces of the `text` that it must write, and its exit `status`, which is one of
 /// these numbers. It may say that the text `begins` with these pieces, what stands `with` them somewhere in the text,
-/// that each of the `prefixes` of the input, ended by a line feed, is an input of its own, and which troubles the source
-/// (`reads`) and the sink (`writes`) have. Such a member of another type counts as left out.
+/// how many states each of the `leaves` of a bundle has, that each of the `prefixes` of the input, ended by a line feed,
+/// is an input of its own, and which troubles the source (`reads`) and the sink (`writes`) have. Such a member of another
+/// type counts as left out.
 #[derive(Drop)]
 pub(crate) struct Row<'r> {
     value: &'r Value,
@@ -36,6 +37,12 @@ impl<'r> Row<'r> {
     /// The text of a member, empty if it is left out.
     pub(crate) fn text(&self, member: &str) -> &'r str {
         text_of(self.value.get(member))
+    }
+
+    /// Whether it asks for a compiled bundle.
+    pub(crate) fn compiles(&self) -> bool {
+        text_of(self.items("words").first()) == "compile"
+            && number_of(self.items("status").first()) == 0
     }
 
     /// Whether a member says so.

@@ -104,7 +104,8 @@ impl Rows {
         self.try_row(rt, alloc, &row)
     }
 
-    /// Runs a row as it stands, and, if its input is short and nothing upsets it, byte by byte.
+    /// Runs a row as it stands, and, if its input is short and nothing upsets it, byte by byte. What `compile` wrote is
+    /// given to `check`.
     fn try_row<R: Threads + Wait + Sync>(
         &mut self,
         rt: &R,
@@ -113,7 +114,10 @@ impl Rows {
     ) -> Result<()> {
         let input = self.joined(alloc, row.items("input"))?;
         let wanted = self.joined(alloc, row.items("text"))?;
-        let (text, holds) = tried(rt, alloc, row, &input, &wanted)?;
+        let (text, mut holds) = tried(rt, alloc, row, &input, &wanted)?;
+        if holds && row.compiles() {
+            holds = is_valid_bundle(rt, alloc, &text, row.items("leaves"))?;
+        }
         let name = String::from_str(alloc, row.text("name"))?;
         self.given.push(Given { name, text, holds })?;
         Ok(())
@@ -145,6 +149,60 @@ fn tried<R: Threads + Wait + Sync>(
         holds = holds && prefixes_hold(rt, alloc, row, input, wanted)?;
     }
     Ok((text, holds))
+}
+
+/// Whether `check` certifies a bundle, and its net has leaves of these numbers of states, where there are such numbers.
+fn is_valid_bundle<R: Threads + Wait + Sync>(
+    rt: &R,
+    alloc: Global,
+    text: &[u8],
+    leaves: &[Value],
+) -> Result<bool> {
+    let (answer, status) = answer_to(rt, alloc, &["check"], text, &[], &[])?;
+    if status != 0 || !is_certificate(&answer) {
+        return Ok(false);
+    }
+    if leaves.is_empty() {
+        return Ok(true);
+    }
+    has_leaves(alloc, text, leaves)
+}
+
+/// Whether a text says that a proof is valid, with its bound.
+fn is_certificate(text: &[u8]) -> bool {
+    let Some(number) = text.strip_prefix(b"certified ".as_slice()) else {
+        return false;
+    };
+    match number.split_last() {
+        Some((end, digits)) => *end == b'\n' && are_digits(digits),
+        None => false,
+    }
+}
+
+fn are_digits(bytes: &[u8]) -> bool {
+    !bytes.is_empty() && bytes.iter().all(|byte| byte.is_ascii_digit())
+}
+
+/// Whether a bundle's net has leaves of these numbers of states, one number for each leaf.
+fn has_leaves(alloc: Global, text: &[u8], wanted: &[Value]) -> Result<bool> {
+    let bundle = Value::from_slice(alloc, text)?;
+    match bundle.pointer("/net/leaves").and_then(Value::as_array) {
+        Some(leaves) => Ok(have_states(leaves.as_slice(), wanted)),
+        None => Ok(false),
+    }
+}
+
+fn have_states(leaves: &[Value], wanted: &[Value]) -> bool {
+    leaves.len() == wanted.len()
+        && leaves.iter().zip(wanted).all(|(leaf, count)| state_count(leaf)
+            == number_of(Some(count)))
+}
+
+fn state_count(leaf: &Value) -> u64 {
+    match leaf.get("states").and_then(Value::as_array) {
+        Some(states) => states.len() as u64,
+        None => 0,
+    }
 }
 
 /// Whether a row holds where each call moves one byte.
@@ -289,23 +347,36 @@ fn answer<R: Threads + Wait + Sync>(
     reads: &[Trouble],
     writes: &[Trouble],
 ) -> Result<(Vec<u8>, u8)> {
+    let words = words_of(alloc, row)?;
+    answer_to(rt, alloc, &words, input, reads, writes)
+}
+
+/// The text and the exit status that the program's call gives for these words and this input.
+fn answer_to<R: Threads + Wait + Sync>(
+    rt: &R,
+    alloc: Global,
+    words: &[&str],
+    input: &[u8],
+    reads: &[Trouble],
+    writes: &[Trouble],
+) -> Result<(Vec<u8>, u8)> {
     let mut sink = sink_of(alloc, writes)?;
-    let status = status_of(rt, alloc, row, source_of(alloc, input, reads)?, &mut sink)?;
+    let source = source_of(alloc, input, reads)?;
+    let status = status_of(rt, alloc, words, source, &mut sink)?;
     let text = Vec::from_slice(alloc, sink.held())?;
     Ok((text, status))
 }
 
-/// The exit status that the program's call gives for a row's words.
+/// The exit status that the program's call gives for these words.
 fn status_of<R: Threads + Wait + Sync>(
     rt: &R,
     alloc: Global,
-    row: &Row<'_>,
+    words: &[&str],
     mut source: MemorySource,
     sink: &mut MemorySink,
 ) -> Result<u8> {
-    let words = words_of(alloc, row)?;
     if WORD_LIMIT < words.len() {
         return Err(anyhow::Error::msg("too many words"));
     }
-    Ok(run_tool(rt, alloc, &words, &mut source, sink, &OpenGate).code())
+    Ok(run_tool(rt, alloc, words, &mut source, sink, &OpenGate).code())
 }
