@@ -16,7 +16,7 @@ from workbench.proofs import Bundle, bundle_of
 from .conftest import EXAMPLES, TOP, bundle_at, compiled, needs_program
 
 POP = str(TOP / "bin" / "pop")
-START_SECONDS = 0.4  # some 0.15 on an idle machine
+START_SECONDS = 0.6  # some 0.15 on an idle machine
 
 
 def pop(*words: str, text: str = "", folder: Path = TOP) -> "subprocess.CompletedProcess[str]":
