@@ -16,6 +16,7 @@ from .trees import Terms
 
 DENOMINATORS = (60, 2_000, 1_000_000)  # the multipliers' greatest ones that are tried
 TINY = 1e-9
+PRESOLVED = 1_500  # variables at most of a program that is made smaller first; that costs time, but its points make smaller trees
 WHOLE_SECONDS = 4.0
 SAFE = 1 << 62
 
@@ -36,6 +37,7 @@ class Solver:
         numbers = [float(k) for fact in flow for _, k in fact.terms]
         self.flow: Matrix = matrix_of(rows, columns, numbers, cases.states, cases.variables)
         self.flow_at = np.array([-fact.constant for fact in flow], dtype=float)
+        self.presolve = cases.variables <= PRESOLVED
         self.cost = np.concatenate([np.full(cases.inputs, 1.0), np.full(cases.states, 0.01), np.full(cases.moves, 0.1)])
 
     def _extended(self, rows: Sequence[Row], wider: int) -> Matrix:
@@ -62,14 +64,14 @@ class Solver:
         most = np.maximum(top.most, top.least)
         if eager is not None:
             wish, once = self.cost.copy(), most.copy()
-            wish[eager] = -1
+            wish[eager] = -10
             once[eager] = np.maximum(np.minimum(most[eager], 1), top.least[eager])
             self.calls += 1
-            got = minimise(wish, matrix, low, high, top.least, once)
+            got = minimise(wish, matrix, low, high, top.least, once, presolve=self.presolve)
             if got.status == FOUND:
                 return got.point
         self.calls += 1
-        got = minimise(self.cost if cost is None else cost, matrix, low, high, top.least, most)
+        got = minimise(self.cost if cost is None else cost, matrix, low, high, top.least, most, presolve=self.presolve)
         if got.status == FOUND:
             return got.point
         if got.status == NONE:
