@@ -14,7 +14,7 @@ from .highs import FOUND, Array, matrix_of, minimise
 from .waking import Moves, Waking
 
 TRIES = 8  # shuffled orders of choices
-TRY_SECONDS = 1.0  # of this thread's processor time
+TRY_SECONDS = 0.7  # of this thread's processor time
 WHOLE_SECONDS = 10.0
 HOPELESS = 50  # closures without weights that are remembered
 SAMPLE = 400  # closures that are sorted by size before the others are made

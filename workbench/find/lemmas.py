@@ -73,7 +73,7 @@ class Lemmas(Branch):
         empty = set(np.nonzero(self.sets.crowd(point) <= EPSILON)[0].tolist())
         for turn in range(PATIENCE):
             inside = empty if word == "trap" else set(range(self.cases.states)) - starts
-            states = self.sets.greatest(word, inside, np.nonzero(moves)[0])
+            states = self.sets.greatest(word, inside, np.nonzero(moves)[0].tolist())
             if not self.sets.breaks(word, states, point, taken):
                 return False
             cases = self.cases.of(node_of(word, states))
@@ -85,7 +85,7 @@ class Lemmas(Branch):
             else:
                 other = self.side_point(next(cases))
                 if other is None:
-                    self.promote(word, states if word == "siphon" else self._smaller_trap(states, np.nonzero(moves)[0], point, taken))
+                    self.promote(word, states if word == "siphon" else self._smaller_trap(states, np.nonzero(moves)[0].tolist(), point, taken))
                     return True
                 if word == "trap":
                     return False
