@@ -39,13 +39,6 @@ class Matrix:
         """How many columns it has."""
         return len(self.starts) - 1
 
-    def of_columns(self, columns: Array) -> "Matrix":
-        """The matrix of these columns alone."""
-        first, counts = self.starts[columns], self.starts[columns + 1] - self.starts[columns]
-        starts = np.concatenate([[0], np.cumsum(counts)])
-        at = np.repeat(first - starts[:-1], counts) + np.arange(starts[-1])
-        return Matrix(starts, self.rows[at], self.numbers[at], self.height)
-
     def with_rows(self, rows: Array, columns: Array, numbers: Array, more: int, wider: int = 0) -> "Matrix":
         """The matrix with `more` rows below and `wider` empty columns behind, and these entries in them."""
         starts = np.concatenate([self.starts, np.full(wider, self.starts[-1], dtype=self.starts.dtype)]) if wider else self.starts
