@@ -59,7 +59,6 @@ PATCHES: list[tuple[str, list[Patch]]] = [
     ("programs made smaller before they are solved", [(solver, "PRESOLVED", 0)]),
     ("known points kept for a branch", [(frames, "POOL", 1), (branch, "POOL", 1)]),
     ("look-ahead at both cases of `present`", [(treefinder, "AHEADS", (1,))]),
-    ("points that show that no residue closes", [(branch, "meets_rests", lambda point, mods: False)]),
     ("layers of a sample of closures first", [(layers, "SAMPLE", 1 << 30)]),
 ]
 

@@ -9,7 +9,7 @@ import numpy as np
 
 from ..predicates import And, Less, Not, Or, Predicate, Rest
 from .exact import ExactSolver
-from .frames import POOL, Frame, Stack, all_items, has_rests, meets_rests
+from .frames import POOL, Frame, Stack, all_items, has_rests
 from .items import Array, Case, Cases
 from .residues import Residues, closes
 from .sets import Sets
@@ -107,11 +107,8 @@ class Branch:
         line = self.stack.line(frame)
         if not has_rests(line):
             return None
-        mods = [row for one in line for row in one.mods]
-        if any(meets_rests(point, mods) for point in frame.pool):
-            return None
         items = all_items(line)
-        for m in sorted({row.modulus for row in mods}):
+        for m in sorted({row.modulus for one in line for row in one.mods}):
             found = self.residues.closing(items, m)
             if found is not None and closes(found, self.cases.variables):
                 return found

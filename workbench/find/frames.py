@@ -6,7 +6,7 @@ from typing import Sequence
 
 import numpy as np
 
-from ..facts import AT_LEAST, DIVIDES, EQUAL, HOLDS
+from ..facts import AT_LEAST, EQUAL, HOLDS
 from ..proofs import Node
 from .items import Array, Case, Item, Row, Zeros, is_modular
 
@@ -96,15 +96,6 @@ def meets(point: Array, items: Sequence[Item]) -> bool:
         elif item.kind == EQUAL and abs(item.at(point)) > EPSILON:
             return False
     return True
-
-
-def meets_rests(point: Array, mods: Sequence[Row]) -> bool:
-    """Whether a point is whole where the congruences look, and meets them."""
-    for item in mods:
-        value = item.at(point)
-        if abs(value - round(value)) > EPSILON or (round(value) % item.modulus == 0) != (item.kind == DIVIDES):
-            return False
-    return all(abs(v - round(v)) < EPSILON for v in point.tolist())
 
 
 @dataclass
