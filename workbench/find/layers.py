@@ -13,8 +13,8 @@ from ..proofs import Layer
 from .highs import FOUND, Array, matrix_of, minimise
 from .waking import Moves, Waking
 
-TRIES = 8  # shuffled orders of choices
-TRY_SECONDS = 0.7  # of this thread's processor time
+TRIES = 8  # orders of choices at most, all but the first one shuffled
+TRY_MOVES = 5_000  # moves of all tries together, where there are several
 WHOLE_SECONDS = 10.0
 HOPELESS = 50  # closures without weights that are remembered
 SAMPLE = 400  # closures that are sorted by size before the others are made
@@ -184,14 +184,13 @@ class LayerFinder:
     def peeled(self) -> list[Moves] | None:
         """The best groups of several tries, or None."""
         best: list[Moves] | None = None
-        start = time.thread_time()
-        for k in range(TRIES):
+        for k in range(min(TRIES, max(1, TRY_MOVES // len(self.leaf.active)))):
             found = self.groups(random.Random(k) if k else None)
             if found is not None:
                 found = self.merged(found)
                 if best is None or self.bound(found) < self.bound(best) - 1e-6:
                     best = found
-            if (best is not None and len(best) == 1) or time.thread_time() - start > TRY_SECONDS or time.time() > self.deadline:
+            if (best is not None and len(best) == 1) or time.time() > self.deadline:
                 break
         return best
 
