@@ -8,7 +8,7 @@ from contextlib import ExitStack, contextmanager
 from typing import Any, Iterator
 
 from ..files import Loaded
-from ..find import branch, frames, layers, lemmas, treefinder
+from ..find import branch, frames, layers, lemmas, solver, treefinder
 from ..find.finding import find
 from . import own_protocols as own
 from . import protocols as p
@@ -54,10 +54,11 @@ PATCHES: list[tuple[str, list[Patch]]] = [
     ("lemmas as high in the tree as they close", [(lemmas.Lemmas, "promote", _as_low)]),
     ("smaller traps", [(lemmas.Lemmas, "_smaller_trap", lambda self, states, *_: states)]),
     ("points that take many untaken moves at once", [(lemmas.Lemmas, "_untaken", lambda self, moves: None)]),
-    ("impatience where lemmas failed before", [(lemmas, "IMPATIENCE", lemmas.PATIENCE)]),
+    ("moves of other branches' points where lemmas failed before", [(lemmas, "FAILURES", 1 << 30)]),
+    ("the cases of `present` that are known to be closed higher up", [(branch.Branch, "known_shut", lambda self: set())]),
+    ("programs made smaller before they are solved", [(solver, "PRESOLVED", 0)]),
     ("known points kept for a branch", [(frames, "POOL", 1), (branch, "POOL", 1)]),
     ("look-ahead at both cases of `present`", [(treefinder, "AHEADS", (1,))]),
-    ("points that show that no residue closes", [(branch, "meets_rests", lambda point, mods: False)]),
     ("layers of a sample of closures first", [(layers, "SAMPLE", 1 << 30)]),
 ]
 

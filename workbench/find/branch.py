@@ -2,15 +2,16 @@
 from __future__ import annotations
 
 import time
+from dataclasses import dataclass
 from typing import Sequence
 
 import numpy as np
 
 from ..predicates import And, Less, Not, Or, Predicate, Rest
 from .exact import ExactSolver
-from .frames import POOL, Frame, Stack, all_items, has_rests, meets_rests
+from .frames import POOL, Frame, Stack, all_items, has_rests
 from .items import Array, Case, Cases
-from .residues import closes, closing_residue
+from .residues import Residues, closes
 from .sets import Sets
 from .solver import Solver
 from .trees import Grown, RestSum, Sum, ending
@@ -45,6 +46,15 @@ def greatest_number(tree: Predicate) -> int:
     return max(greatest_number(tree.left), greatest_number(tree.right))
 
 
+@dataclass
+class Tried:
+    """Whether a case closes; its frame, and the residue that closes it."""
+
+    is_closed: bool
+    frame: Frame | None = None
+    residue: RestSum | None = None
+
+
 class Branch:
     """The stack of a search with its solver."""
 
@@ -52,8 +62,10 @@ class Branch:
         self.cases, self.deadline = cases, deadline
         self.sets = Sets(cases)
         self.solver: Solver = ExactSolver(cases) if exact else Solver(cases)
+        self.residues = Residues(cases.variables, cases.first_move)
         self.base = cases.base(tree, value)
         self.failed = {"siphon": 0, "trap": 0}
+        self.seen = np.zeros(cases.moves, dtype=bool)
         self.stack = Stack(cases.variables)
         self.stack.push(self.base)
 
@@ -95,26 +107,36 @@ class Branch:
         line = self.stack.line(frame)
         if not has_rests(line):
             return None
-        mods = [row for one in line for row in one.mods]
-        if any(meets_rests(point, mods) for point in frame.pool):
-            return None
         items = all_items(line)
-        for m in sorted({row.modulus for row in mods}):
-            found = closing_residue(items, m, self.cases.variables)
+        for m in sorted({row.modulus for one in line for row in one.mods}):
+            found = self.residues.closing(items, m)
             if found is not None and closes(found, self.cases.variables):
                 return found
         return None
 
-    def shut(self, items: Case) -> RestSum | bool:
-        """Whether a case of the branch closes at once; a residue itself, as it is known then."""
+    def known_shut(self) -> set[tuple[int, int]]:
+        """The cases of `present` at the branch that are known to be closed by sums: states, and numbers of cases."""
+        return self.stack.top.shut
+
+    def tried(self, state: int, case: int, items: Case) -> Tried:
+        """Whether a case of `present` at the branch closes at once."""
+        known = self.known_shut()
+        if (state, case) in known:
+            return Tried(True)
         frame = self.stack.beside(len(self.stack.frames) - 1, items)
         if self.point_of(frame) is None:
-            return True
-        return self.residue(frame) or False
+            known.add((state, case))
+            return Tried(True)
+        found = self.residue(frame)
+        if found is None:
+            frame.open_at = self.stack.added
+        return Tried(found is not None, frame, found)
 
     def closed(self) -> Grown | None:
         """The node that closes the branch at once, if there is one."""
         top = self.stack.top
+        if top.open_at == self.stack.added:
+            return None
         if self.point_of(top) is None:
             return ending(Sum(self.solver.sums(all_items(self.stack.line(top)))))
         found = self.residue(top)

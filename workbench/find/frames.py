@@ -6,7 +6,7 @@ from typing import Sequence
 
 import numpy as np
 
-from ..facts import AT_LEAST, DIVIDES, EQUAL, HOLDS
+from ..facts import AT_LEAST, EQUAL, HOLDS
 from ..proofs import Node
 from .items import Array, Case, Item, Row, Zeros, is_modular
 
@@ -37,6 +37,8 @@ class Frame:
         self.least: Array = below.least.copy() if below else np.zeros(variables)
         self.most: Array = below.most.copy() if below else np.full(variables, np.inf)
         self.is_false: bool = below.is_false if below else False
+        self.shut: set[tuple[int, int]] = set()  # states and cases of `present` that are closed by sums
+        self.open_at = -1  # how many facts the stack had got below frames when this one was seen to be open
 
     def add(self, items: Sequence[Item]) -> None:
         """Adds facts."""
@@ -96,31 +98,27 @@ def meets(point: Array, items: Sequence[Item]) -> bool:
     return True
 
 
-def meets_rests(point: Array, mods: Sequence[Row]) -> bool:
-    """Whether a point is whole where the congruences look, and meets them."""
-    for item in mods:
-        value = item.at(point)
-        if abs(value - round(value)) > EPSILON or (round(value) % item.modulus == 0) != (item.kind == DIVIDES):
-            return False
-    return all(abs(v - round(v)) < EPSILON for v in point.tolist())
-
-
 @dataclass
 class Stack:
     """The frames of a branch, the base facts' first."""
 
     variables: int
     frames: list[Frame] = field(default_factory=list)
+    added: int = 0  # how often facts were added below the top
 
     @property
     def top(self) -> Frame:
         """The last frame."""
         return self.frames[-1]
 
-    def push(self, items: Case) -> Frame:
-        """A frame more."""
-        frame = Frame(self.frames[-1] if self.frames else None, self.variables)
-        frame.add(items)
+    def push(self, items: Case, tried: Frame | None = None) -> Frame:
+        """A frame more; one that was tried before, where no facts were added below it since."""
+        if tried is not None and tried.open_at == self.added:
+            frame = tried
+        else:
+            frame = Frame(self.frames[-1] if self.frames else None, self.variables)
+            frame.add(items)
+        frame.shut = set(frame.below.shut) if frame.below else set()
         self.frames.append(frame)
         return frame
 
@@ -132,6 +130,7 @@ class Stack:
 
     def add(self, level: int, items: Case) -> None:
         """More facts in a frame; those above it hold them too."""
+        self.added += 1
         self.frames[level].add(items)
         for frame in self.frames[level + 1 :]:
             frame.refresh()

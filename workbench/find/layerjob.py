@@ -9,7 +9,7 @@ from ..nets import Leaf
 from ..proofreader import LayerDraft
 from ..proofs import Layer
 from .layers import LayerFinder
-from .least import MOST_MOVES, least_groups
+from .least import lowered
 from .smt import FOUND, MOST_LAYERS, NONE, SECONDS, layers_by_smt
 from .smt import MOST_MOVES as SMT_MOVES
 
@@ -31,9 +31,8 @@ def find_layers(leaf: Leaf, deadline: float) -> list[Layer]:
         return []
     finder = LayerFinder(leaf, deadline)
     groups = finder.peeled()
-    if groups is not None and len(leaf.active) <= MOST_MOVES:
-        known = sum(layer.spread for layer in finder.layers_of(groups) or [])
-        groups = least_groups(finder, min(deadline, time.time() + LEAST_SECONDS), known) or groups
+    if groups is not None:
+        groups = lowered(finder, groups, min(deadline, time.time() + LEAST_SECONDS))
     excluded = 0
     if groups is None and len(leaf.active) <= SMT_MOVES:
         for count in range(1, MOST_LAYERS + 1):

@@ -6,17 +6,21 @@ import time
 from typing import Sequence
 
 import numpy as np
+from scipy import sparse
 
 from ..nets import Leaf
 from ..proofs import Layer
 from .highs import FOUND, Array, matrix_of, minimise
 from .waking import Moves, Waking
 
-TRIES = 8  # shuffled orders of choices
-TRY_SECONDS = 1.5
+TRIES = 8  # orders of choices at most, all but the first one shuffled
+TRY_MOVES = 5_000  # moves of all tries together, where there are several
 WHOLE_SECONDS = 10.0
 HOPELESS = 50  # closures without weights that are remembered
 SAMPLE = 400  # closures that are sorted by size before the others are made
+
+FEW = 50  # kinds of moves with which a program begins, and that are added at once
+TOLERANCE = 1e-7
 
 Change = tuple[tuple[int, int], ...]
 
@@ -28,27 +32,62 @@ class LayerFinder:
         self.leaf, self.deadline = leaf, deadline
         self.waking = Waking(leaf)
         self.changes: dict[int, Change] = {t: tuple(sorted(leaf.change(t).items())) for t in leaf.active}
-        self.known: dict[frozenset[Change], tuple[float, Array] | None] = {}
+        numbers = {change: i for i, change in enumerate(sorted(set(self.changes.values())))}
+        self.kinds = np.zeros(len(leaf.moves), dtype=np.int64)  # moves of one kind change the same
+        for t, change in self.changes.items():
+            self.kinds[t] = numbers[change]
+        self.lowers = _matrix(list(numbers), len(leaf.states))
+        self.hard = np.zeros(len(numbers), dtype=bool)  # kinds that were not lowered by weights for others
+        self.last: tuple[Array, tuple[float, Array] | None] = (self.hard.copy(), None)
+        self.known: dict[bytes, tuple[float, Array] | None] = {}
         self.stuck: Moves = frozenset()
 
     def weights(self, moves: Moves, whole: bool = False) -> tuple[float, Array] | None:
         """Weights from 0 on that all these moves lower by 1 or more, with the least greatest weight; in whole numbers where asked."""
-        kinds = frozenset(self.changes[t] for t in moves)
-        if not whole and kinds in self.known:
-            return self.known[kinds]
-        found = None if () in kinds else self._program(sorted(kinds), whole)
-        if not whole:
-            self.known[kinds] = found
-        return found
+        mask = np.zeros(self.lowers.shape[0], dtype=bool)
+        mask[self.kinds[np.fromiter(moves, dtype=np.int64)]] = True
+        if whole:
+            return self._program(np.nonzero(mask)[0], True)
+        key = mask.tobytes()
+        if key not in self.known:
+            self.known[key] = self._by_few(mask)
+        return self.known[key]
 
-    def _program(self, kinds: Sequence[Change], whole: bool) -> tuple[float, Array] | None:
-        used = sorted({q for change in kinds for q, _ in change})
-        at = {q: i for i, q in enumerate(used)}
+    def _by_few(self, mask: Array) -> tuple[float, Array] | None:
+        """The program of those kinds of moves that were hard to lower before, and of more, as long as others aren't lowered."""
+        kinds = np.nonzero(mask)[0]
+        lowers = self.lowers[kinds]
+        part, found = self.last
+        if found is not None and not (part & ~mask).any() and (lowers @ found[1] < TOLERANCE - 1).all():
+            return found  # (what a part of these kinds needs at least does for all)
+        few = self.hard[kinds]
+        few[:: max(1, len(kinds) // FEW)] = True
+        while True:
+            found = self._program(kinds[few], False)
+            if found is None:
+                return None
+            over = lowers @ found[1] + 1
+            over[few] = 0
+            worst = np.argsort(-over)[:FEW]
+            worst = worst[over[worst] > TOLERANCE]
+            if not len(worst):
+                self.last = mask, found
+                return found
+            few[worst] = True
+            self.hard[kinds[worst]] = True
+
+    def _program(self, kinds: Array, whole: bool) -> tuple[float, Array] | None:
+        part = self.lowers[kinds].tocoo()
+        used, columns = np.unique(part.col, return_inverse=True)
         width, count = len(used), len(kinds)
-        rows = [i for i, change in enumerate(kinds) for _ in change] + [count + i for i in range(width) for _ in (0, 1)]
-        columns = [at[q] for change in kinds for q, _ in change] + [c for i in range(width) for c in (i, width)]
-        numbers = [float(k) for change in kinds for _, k in change] + [1.0, -1.0] * width
-        matrix = matrix_of(rows, columns, numbers, count + width, width + 1)
+        own = np.arange(width)
+        matrix = matrix_of(
+            np.concatenate([part.row, count + own, count + own]),
+            np.concatenate([columns, own, np.full(width, width)]),
+            np.concatenate([part.data, np.ones(width), -np.ones(width)]),
+            count + width,
+            width + 1,
+        )
         high = np.concatenate([np.full(count, -1.0), np.zeros(width)])
         cost = np.append(np.full(width, 1e-4 / max(width, 1)), 1.0)
         got = minimise(
@@ -145,14 +184,13 @@ class LayerFinder:
     def peeled(self) -> list[Moves] | None:
         """The best groups of several tries, or None."""
         best: list[Moves] | None = None
-        start = time.time()
-        for k in range(TRIES):
+        for k in range(min(TRIES, max(1, TRY_MOVES // len(self.leaf.active)))):
             found = self.groups(random.Random(k) if k else None)
             if found is not None:
                 found = self.merged(found)
                 if best is None or self.bound(found) < self.bound(best) - 1e-6:
                     best = found
-            if (best is not None and len(best) == 1) or time.time() - start > TRY_SECONDS or time.time() > self.deadline:
+            if (best is not None and len(best) == 1) or time.time() > self.deadline:
                 break
         return best
 
@@ -179,3 +217,10 @@ class LayerFinder:
         at[-1] = 1
         got = minimise(np.ones(len(moves)), matrix, at, at, np.zeros(len(moves)), np.full(len(moves), np.inf))
         return [t for t, k in zip(moves, got.point) if k > 1e-9] if got.status == FOUND else []
+
+
+def _matrix(changes: Sequence[Change], states: int) -> Array:
+    """A row for each change."""
+    rows = [i for i, change in enumerate(changes) for _ in change]
+    columns = [q for change in changes for q, _ in change]
+    return sparse.csr_matrix(([float(k) for change in changes for _, k in change], (rows, columns)), shape=(len(changes), states))

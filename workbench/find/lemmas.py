@@ -12,8 +12,8 @@ from .items import Array
 from .sets import States
 
 SHRINK = 40  # trials at most to make one trap smaller
-PATIENCE, IMPATIENCE = 100, 3  # points at most that make a set smaller, at first and after so many failures in a row
-FAILURES = 3
+PATIENCE = 100  # points at most that make a set smaller
+FAILURES = 5  # in a row, behind which the moves of other branches' points count too
 WORDS = ("siphon", "trap")
 
 
@@ -28,6 +28,7 @@ class Lemmas(Branch):
 
     floor = 1
     failed: dict[str, int]
+    seen: Array
 
     def add_lemma(self, level: int, lemma: Lemma) -> None:
         """Puts a lemma above the subtree of a frame."""
@@ -50,25 +51,29 @@ class Lemmas(Branch):
         self.add_lemma(low, Lemma(node, cases, main))
 
     def easy_lemma(self, point: Array) -> bool:
-        """Adds a siphon or trap that excludes the point and needs no branch, if there is one; with less patience where that failed before."""
+        """Adds a siphon or trap that excludes the point and needs no branch, if there is one."""
         for word in WORDS:
-            found = self._easy(word, point, PATIENCE if self.failed[word] < FAILURES else IMPATIENCE)
+            found = self._easy(word, point, self.failed[word] >= FAILURES)
             self.failed[word] = 0 if found else self.failed[word] + 1
             if found:
                 return True
         return False
 
-    def _easy(self, word: str, point: Array, turns: int) -> bool:
+    def _easy(self, word: str, point: Array, seen_too: bool) -> bool:
         """The set is the greatest one that the moves of the branch's known points respect. Where another case has a point too,
-        its moves are added and the set gets smaller, until its other cases are closed or it excludes nothing."""
+        its moves are added and the set gets smaller, until its other cases are closed or it excludes nothing.
+        Where this failed before, the moves of points of other branches count from the start."""
         known = np.stack([*self.stack.top.pool, point])
-        moves = set(np.nonzero((known[:, self.cases.first_move :] > 1 - EPSILON).any(axis=0))[0].tolist())
+        first = self.cases.first_move
+        moves = (known[:, first:] > 1 - EPSILON).any(axis=0)
         starts = set(self.cases.leaf.helpers).union(*(self.sets.started(s, 1 - EPSILON) for s in known))
+        if seen_too:
+            moves |= self.seen & (self.stack.top.most[first:] > 0)
         taken = self.sets.taken(point)
         empty = set(np.nonzero(self.sets.crowd(point) <= EPSILON)[0].tolist())
-        for turn in range(turns):
-            first = empty if word == "trap" else set(range(self.cases.states)) - starts
-            states = self.sets.greatest(word, first, sorted(moves))
+        for turn in range(PATIENCE):
+            inside = empty if word == "trap" else set(range(self.cases.states)) - starts
+            states = self.sets.greatest(word, inside, np.nonzero(moves)[0].tolist())
             if not self.sets.breaks(word, states, point, taken):
                 return False
             cases = self.cases.of(node_of(word, states))
@@ -76,23 +81,23 @@ class Lemmas(Branch):
             row = crossed[0].variables
             other = self.side_point(crossed, self._untaken(moves) if turn else None)
             if other is not None:
-                moves.update((row[other[row] > EPSILON] - self.cases.first_move).tolist())
+                moves[row[other[row] > EPSILON] - first] = True
             else:
                 other = self.side_point(next(cases))
                 if other is None:
-                    self.promote(word, states if word == "siphon" else self._smaller_trap(states, sorted(moves), point, taken))
+                    self.promote(word, states if word == "siphon" else self._smaller_trap(states, np.nonzero(moves)[0].tolist(), point, taken))
                     return True
                 if word == "trap":
                     return False
                 starts |= {q for i, q in enumerate(self.cases.leaf.inputs) if other[i] > EPSILON}
-            moves.update(self.sets.taken(other, 1 - EPSILON))
+            moves |= other[first:] > 1 - EPSILON
+            self.seen |= moves
         return False
 
-    def _untaken(self, moves: set[int]) -> Array:
+    def _untaken(self, moves: Array) -> Array:
         """The moves that may be taken and that no known point takes."""
-        free = self.stack.top.most[self.cases.first_move :] > 0
-        free[list(moves)] = False
-        return np.nonzero(free)[0] + self.cases.first_move
+        first = self.cases.first_move
+        return np.nonzero(~moves & (self.stack.top.most[first:] > 0))[0] + first
 
     def _is_closed_trap(self, states: Iterable[int]) -> bool:
         cases = self.cases.of(node_of("trap", states))

@@ -103,72 +103,88 @@ def _fewer(columns: Array, m: int) -> Array:
     return columns[:, np.unique(marks, return_index=True)[1]]
 
 
+def _howell(work: Array, width: int, m: int) -> tuple[list[Array], list[tuple[int, Array]]]:
+    """Of rows modulo m: sums of them whose first `width` columns are zero, which give all others such, and the pivots with their rows."""
+    bare: list[Array] = []
+    pivots: list[tuple[int, Array]] = []
+    while len(work):
+        left = np.nonzero(work[0, :width])[0]
+        if not len(left):
+            bare.append(work[0])
+            work = work[1:]
+            continue
+        column = int(left[0])
+        row = _eliminated(work, column, m)
+        pivots.append((column, row))
+        rest = row * (m // gcd(int(row[column]), m)) % m  # zero where the pivot is a unit
+        if rest.any():
+            work = np.concatenate([work, rest[None]])
+    return bare, pivots
+
+
+class Residues:
+    """Looks for a `residue` over one leaf's variables. What rows say without the moves that may be taken is worked out once."""
+
+    def __init__(self, variables: int, first_move: int) -> None:
+        self.variables, self.first_move = variables, first_move
+        self._bare: dict[tuple[int, tuple[int, ...], bytes], tuple[list[Row], Array]] = {}
+
+    def _has_moves(self, row: Row) -> bool:
+        return bool(row.variables.max(initial=-1) >= self.first_move)
+
+    def _moveless(self, rows: list[Row], taken: Array, m: int) -> Array:
+        """Multipliers of sums of the rows in which no move stands of a mask; they give all others such."""
+        key = m, tuple(map(id, rows)), taken.tobytes()
+        if key not in self._bare:
+            full = np.zeros((len(rows), self.variables), dtype=np.int64)
+            for i, row in enumerate(rows):
+                full[i, row.variables] = row.numbers % m
+            columns = _fewer(full[:, self.first_move :][:, taken], m)
+            bare, _ = _howell(np.concatenate([columns, np.eye(len(rows), dtype=np.int64)], axis=1), columns.shape[1], m)
+            made = np.array(bare, dtype=np.int64).reshape(len(bare), -1)[:, columns.shape[1] :]
+            self._bare[key] = list(rows), made  # (the rows are kept, so that no other one gets the same id)
+        return self._bare[key][1]
+
+    def closing(self, items: Sequence[Item], m: int) -> RestSum | None:
+        """The `residue m` that closes a branch with these facts, or None where there is none."""
+        known, rows, denials = _known(items, m, self.variables)
+        taken = ~known.mask[self.first_move :]
+        moving = [row for row in rows if self._has_moves(row)]
+        rows = moving + [row for row in rows if not self._has_moves(row)]
+        bare = self._moveless(moving, taken, m)
+        n = len(rows)
+        first = np.zeros((len(bare) + n - len(moving), n), dtype=np.int64)
+        first[: len(bare), : len(moving)] = bare
+        first[len(bare) :, len(moving) :] = np.eye(n - len(moving), dtype=np.int64)
+        system = _System(rows, [row for row in denials if not self._has_moves(row)], known, first, m, self.first_move)
+        return system.closing(self.variables)
+
+
 class _System:
-    """Rows over the unknown variables modulo m, and their Howell form."""
+    """Sums of rows in which no move stands, and facts that m doesn't divide something, over the other variables modulo m."""
 
-    def __init__(self, items: Sequence[Item], m: int, variables: int) -> None:
-        self.m, self.variables = m, variables
-        self.known, self.rows, self.denials = _known(items, m, variables)
-        both = [*self.rows, *self.denials]
-        full = np.zeros((len(both), variables), dtype=np.int64)
-        for i, row in enumerate(both):
-            full[i, row.variables] = row.numbers % m
-        constants = (
-            np.array([row.constant % m for row in both], dtype=np.int64) + full[:, self.known.mask] @ self.known.values[self.known.mask]
-        ) % m
-        free = _fewer(full[:, ~self.known.mask], m)
-        self.width = free.shape[1]
-        self.small = np.concatenate([free, constants[:, None]], axis=1)
-        self.work, self.pivots = self._howell()
+    def __init__(self, rows: list[Row], denials: list[Row], known: _Known, first: Array, m: int, width: int) -> None:
+        self.rows, self.denials, self.known, self.m = rows, denials, known, m
+        full = np.zeros((len(rows) + len(denials), width), dtype=np.int64)
+        for i, row in enumerate([*rows, *denials]):
+            still = row.variables < width
+            full[i, row.variables[still]] = row.numbers[still] % m
+        mask, values = known.mask[:width], known.values[:width]
+        constants = (np.array([row.constant % m for row in [*rows, *denials]], dtype=np.int64) + full[:, mask] @ values[mask]) % m
+        free = np.concatenate([full[:, ~mask], constants[:, None]], axis=1)
+        self.width = free.shape[1] - 1
+        self.goals = free[len(rows) :]
+        work = np.concatenate([first @ free[: len(rows)] % m, first], axis=1)
+        self.bare, self.pivots = _howell(work, self.width, m)
 
-    def _howell(self) -> tuple[list[Array], list[tuple[int, Array]]]:
-        """Rows whose left side is zero, and the pivots with their rows."""
-        n, w, m = len(self.rows), self.width, self.m
-        todo = [row for row in np.concatenate([self.small[:n], np.eye(n, dtype=np.int64)], axis=1)]
-        work = np.array(todo).reshape(len(todo), -1)
-        bare: list[Array] = []
-        pivots: list[tuple[int, Array]] = []
-        first = 0
-        while first < len(work):
-            left = np.nonzero(work[first, :w])[0]
-            if not len(left):
-                bare.append(work[first].copy())
-                first += 1
-                continue
-            column = int(left[0])
-            row = _eliminated(work[first:], column, m)
-            pivots.append((column, row))
-            rest = row * (m // gcd(int(row[column]), m)) % m  # zero where the pivot is a unit
-            if rest[: w + 1].any():
-                work = np.concatenate([work[first:], rest[None]])
-                first = 0
-        return bare, pivots
-
-    def terms(self, multipliers: Array, goal: Row | None) -> Terms:
-        """The rows times their multipliers, with the facts of the known variables that are left."""
-        m = self.m
-        over = np.zeros(self.variables, dtype=object)
-        out: list[tuple[Ref, int]] = []
-        for row, k in zip(self.rows, multipliers.tolist()):
-            if k % m:
-                out.append(((row, 0), k % m))
-                over[row.variables] += row.numbers.astype(object) * (k % m)
-        if goal is not None:
-            over[goal.variables] -= goal.numbers.astype(object)
-        for a in np.nonzero(self.known.mask)[0].tolist():
-            if over[a] % m:
-                ref, inverse = self.known.refs[a]
-                out.append((ref, int(-over[a] * inverse % m)))
-        return [(ref, k - m if 2 * k > m else k) for ref, k in out if k % m]
-
-    def closing(self) -> RestSum | None:
+    def closing(self, variables: int) -> RestSum | None:
         """What closes, if something does."""
         w, m, n = self.width, self.m, len(self.rows)
-        for row in self.work:
+        for row in self.bare:
             if row[w] % m:
-                return RestSum(m, self.terms(row[w + 1 :], None))
-        for i, goal in enumerate(self.denials):
-            left = np.concatenate([self.small[n + i], np.zeros(n, dtype=np.int64)])
+                return RestSum(m, self._terms(row[w + 1 :], None, variables))
+        for goal, denied in zip(self.goals, self.denials):
+            left = np.concatenate([goal, np.zeros(n, dtype=np.int64)])
             for column, row in self.pivots:
                 k, p = int(left[column]) % m, int(row[column])
                 g = gcd(p, m)
@@ -177,8 +193,24 @@ class _System:
                 z = (k // g) * pow(p // g, -1, m // g) if m > g else 0
                 left = (left - z * row) % m
             if not left[: w + 1].any():
-                return RestSum(m, self.terms(-left[w + 1 :], goal), goal)
+                return RestSum(m, self._terms(-left[w + 1 :], denied, variables), denied)
         return None
+
+    def _terms(self, multipliers: Array, goal: Row | None, variables: int) -> Terms:
+        """The rows times their multipliers, with the facts of the known variables that are left."""
+        m = self.m
+        over = np.zeros(variables, dtype=np.int64)
+        out: list[tuple[Ref, int]] = []
+        for row, k in zip(self.rows, (multipliers % m).tolist()):
+            if k:
+                out.append(((row, 0), k))
+                over[row.variables] = (over[row.variables] + row.numbers % m * k) % m
+        if goal is not None:
+            over[goal.variables] = (over[goal.variables] - goal.numbers) % m
+        for a in np.nonzero(self.known.mask & (over != 0))[0].tolist():
+            ref, inverse = self.known.refs[a]
+            out.append((ref, int(-over[a]) * inverse % m))
+        return [(ref, k - m if 2 * k > m else k) for ref, k in out if k % m]
 
 
 def closes(kind: RestSum, variables: int) -> bool:
@@ -197,8 +229,3 @@ def closes(kind: RestSum, variables: int) -> bool:
     assert isinstance(kind.denied, Row)
     total[kind.denied.variables] -= kind.denied.numbers.astype(object)
     return (constant - kind.denied.constant) % m == 0 and not (total % m).any()
-
-
-def closing_residue(items: Sequence[Item], m: int, variables: int) -> RestSum | None:
-    """The `residue m` that closes a branch with these facts, or None where there is none."""
-    return _System(items, m, variables).closing()

@@ -10,11 +10,10 @@ from ..facts import EQUAL, HOLDS, open_cases
 from ..predicates import Predicate
 from ..treereader import DraftNode
 from ..proofs import Hole, Linear, Node, Open, Present, Residue, Split, Twin
-from .branch import GaveUp, WrongEnd
+from .branch import GaveUp, Tried, WrongEnd
 from .frames import EPSILON, Frame, Lemma
 from .items import Array, Case, Cases, Item, Row, Zeros, fact_of, row_of
 from .lemmas import WORDS, Lemmas, node_of
-from .residues import closing_residue
 from .trees import Grown, Opened, RestSum, Sum, ending, grown
 
 SPLITS = 24  # fractions that are tried for a split
@@ -71,7 +70,7 @@ class Prover(Lemmas):
             return self.summed(self.stack.frames, [])
         items = [item for frame in self.stack.frames for item in frame.items]
         if hole.kind == "residue":
-            found = closing_residue(items, hole.modulus, self.cases.variables)
+            found = self.residues.closing(items, hole.modulus)
             if found is None:
                 raise GaveUp(f"no multipliers close the `residue {hole.modulus} ?`")
             return ending(found)
@@ -166,28 +165,28 @@ class Prover(Lemmas):
         alive = self.stack.top.most[first : self.cases.first_move] > 0
         partners = (self.cases.near & alive).sum(axis=1)
         able.sort(key=lambda p: (-partners[p], p))
-        best: tuple[tuple[int, int], Node, list[Case], list[RestSum | bool]] | None = None
+        best: tuple[tuple[int, int], Node, list[Case], list[Tried]] | None = None
         for k, p in enumerate(able[: self.ahead]):
             cases = list(self.cases.of(Present(p)))
-            shut = [self.shut(items) for items in cases]
-            count = sum(bool(one) for one in shut)
-            rank = (count, int(partners[p]) if count == 0 or shut[0] else 0)
+            tried = [self.tried(p, i, items) for i, items in enumerate(cases)]
+            count = sum(one.is_closed for one in tried)
+            rank = (count, int(partners[p]) if count == 0 or tried[0].is_closed else 0)
             if best is None or rank > best[0]:
-                best = rank, Present(p), cases, shut
+                best = rank, Present(p), cases, tried
             if count == 2 or (best[0][0] == 1 and k and self.ahead < PATIENT):
                 break
         assert best is not None
         return self._with_known(best[1], best[2], best[3])
 
-    def _with_known(self, node: Node, cases: list[Case], shut: list[RestSum | bool]) -> Grown:
+    def _with_known(self, node: Node, cases: list[Case], tried: list[Tried]) -> Grown:
         done = []
-        for items, known in zip(cases, shut):
-            if isinstance(known, RestSum):
-                done.append((items, ending(known)))
-            elif known:
+        for items, known in zip(cases, tried):
+            if known.residue is not None:
+                done.append((items, ending(known.residue)))
+            elif known.is_closed:
                 done.append((items, self.summed(self.stack.frames, items)))
             else:
-                frame = self.stack.push(items)
+                frame = self.stack.push(items, known.frame)
                 done.append((items, self._popped(frame, self._branch())))
         return grown(node, done)
 

@@ -6,7 +6,7 @@ from collections import defaultdict
 from typing import Sequence
 
 from .items import Case, Item
-from .residues import closes, closing_residue
+from .residues import Residues, closes
 from .solver import Solver, Trouble
 from .trees import Grown, Opened, RestSum, Sum, ending, grown
 
@@ -49,7 +49,7 @@ class _Survey:
         return sorted(free, key=lambda g: (-self.gain[g] / len(self.users[g]), g))
 
 
-def _closed_anew(node: Grown, items: Sequence[Item], solver: Solver) -> Grown | None:
+def _closed_anew(node: Grown, items: Sequence[Item], solver: Solver, residues: Residues) -> Grown | None:
     """A leaf of the same kind over these facts alone."""
     if isinstance(node.kind, Sum):
         try:
@@ -57,7 +57,7 @@ def _closed_anew(node: Grown, items: Sequence[Item], solver: Solver) -> Grown | 
         except Trouble:
             return None
     assert isinstance(node.kind, RestSum)
-    found = closing_residue(items, node.kind.modulus, solver.cases.variables)
+    found = residues.closing(items, node.kind.modulus)
     return ending(found) if found and closes(found, solver.cases.variables) else None
 
 
@@ -67,7 +67,7 @@ def _rebuilt(node: Grown, fresh: dict[Grown, Grown]) -> Grown:
     return grown(node.kind, [(items, _rebuilt(sub, fresh)) for items, sub in node.cases])
 
 
-def _round(base: Sequence[Item], root: Grown, solver: Solver, deadline: float) -> dict[Grown, Grown]:
+def _round(base: Sequence[Item], root: Grown, solver: Solver, residues: Residues, deadline: float) -> dict[Grown, Grown]:
     """Leaves closed anew, so that some cases aren't used any more."""
     survey = _Survey(root)
     fresh: dict[Grown, Grown] = {}
@@ -78,7 +78,7 @@ def _round(base: Sequence[Item], root: Grown, solver: Solver, deadline: float) -
         for i in survey.users[g]:
             node, path = survey.leaves[i]
             items = [*base, *(item for k in path if k != g for item in survey.cases[k])]
-            new = None if node in fresh else _closed_anew(node, items, solver)  # one that changed is looked at in the next round
+            new = None if node in fresh else _closed_anew(node, items, solver, residues)  # one that changed is looked at in the next round
             if new is None:
                 trial = {}
                 break
@@ -87,10 +87,10 @@ def _round(base: Sequence[Item], root: Grown, solver: Solver, deadline: float) -
     return fresh
 
 
-def shrunk(base: Sequence[Item], root: Grown, solver: Solver, deadline: float) -> Grown:
+def shrunk(base: Sequence[Item], root: Grown, solver: Solver, residues: Residues, deadline: float) -> Grown:
     """The tree with nodes dropped that it can do without, until none is found or the time is up."""
     while time.time() < deadline:
-        fresh = _round(base, root, solver, deadline)
+        fresh = _round(base, root, solver, residues, deadline)
         less = _rebuilt(root, fresh) if fresh else root
         if less.size >= root.size:
             return root

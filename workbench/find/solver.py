@@ -16,7 +16,9 @@ from .trees import Terms
 
 DENOMINATORS = (60, 2_000, 1_000_000)  # the multipliers' greatest ones that are tried
 TINY = 1e-9
+PRESOLVED = 1_500  # variables at most of a program that is made smaller first; that costs time, but its points make smaller trees
 WHOLE_SECONDS = 4.0
+EAGER = 10.0  # what a move is worth that is to be taken once, where an agent costs 1
 SAFE = 1 << 62
 
 
@@ -36,6 +38,7 @@ class Solver:
         numbers = [float(k) for fact in flow for _, k in fact.terms]
         self.flow: Matrix = matrix_of(rows, columns, numbers, cases.states, cases.variables)
         self.flow_at = np.array([-fact.constant for fact in flow], dtype=float)
+        self.presolve = cases.variables <= PRESOLVED
         self.cost = np.concatenate([np.full(cases.inputs, 1.0), np.full(cases.states, 0.01), np.full(cases.moves, 0.1)])
 
     def _extended(self, rows: Sequence[Row], wider: int) -> Matrix:
@@ -62,14 +65,14 @@ class Solver:
         most = np.maximum(top.most, top.least)
         if eager is not None:
             wish, once = self.cost.copy(), most.copy()
-            wish[eager] = -1
+            wish[eager] = -EAGER
             once[eager] = np.maximum(np.minimum(most[eager], 1), top.least[eager])
             self.calls += 1
-            got = minimise(wish, matrix, low, high, top.least, once)
+            got = minimise(wish, matrix, low, high, top.least, once, presolve=self.presolve)
             if got.status == FOUND:
                 return got.point
         self.calls += 1
-        got = minimise(self.cost if cost is None else cost, matrix, low, high, top.least, most)
+        got = minimise(self.cost if cost is None else cost, matrix, low, high, top.least, most, presolve=self.presolve)
         if got.status == FOUND:
             return got.point
         if got.status == NONE:
@@ -141,9 +144,10 @@ class Solver:
 
     def _duals(self, rows: Sequence[Row], zeros: Sequence[Zeros]) -> Array:
         n = self.cases.variables
-        at = np.repeat(np.arange(len(rows)), [len(row.variables) + 1 for row in rows])
-        columns = np.concatenate([np.append(row.variables, n) for row in rows])
-        numbers = np.concatenate([np.append(row.numbers, row.constant) for row in rows]).astype(float)
+        own = np.arange(len(rows))
+        at = np.concatenate([np.repeat(own, [len(row.variables) for row in rows]), own])
+        columns = np.concatenate([*(row.variables for row in rows), np.full(len(rows), n)])
+        numbers = np.concatenate([*(row.numbers for row in rows), [row.constant for row in rows]]).astype(float)
         matrix = matrix_of(at, columns, numbers, len(rows), n + 1)
         prices = np.array([row.price for row in rows])
         most = np.full(n + 1, np.inf)
@@ -174,8 +178,9 @@ def added(rows: Sequence[tuple[Row, int]], variables: int) -> tuple[Array, int]:
     """The sum of rows times numbers: coefficients, and the constant, exactly."""
     small = sum(abs(k) * int(np.abs(row.numbers).max(initial=0)) for row, k in rows) < SAFE
     total = np.zeros(variables, dtype=np.int64 if small else object)
-    for row, k in rows:
-        np.add.at(total, row.variables, row.numbers * k if small else row.numbers.astype(object) * k)
+    if rows:
+        numbers = [row.numbers * k if small else row.numbers.astype(object) * k for row, k in rows]
+        np.add.at(total, np.concatenate([row.variables for row, _ in rows]), np.concatenate(numbers))
     return total, sum(k * row.constant for row, k in rows)
 
 

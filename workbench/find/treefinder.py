@@ -52,7 +52,7 @@ def find_tree(leaf: Leaf, tree: Predicate, value: bool, nodes: Sequence[DraftNod
                 raise
             continue
         if is_whole and not exact:
-            root = shrunk(made.base, root, made.solver, stop)
+            root = shrunk(made.base, root, made.solver, made.residues, stop)
         if best is None or root.size < best[1].size:
             best = made, root
         if time.time() - start > small / 3 or not is_whole:

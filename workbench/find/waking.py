@@ -17,7 +17,8 @@ class Waking:
     def __init__(self, leaf: Leaf) -> None:
         self.leaf = leaf
         self.active = np.array(leaf.active, dtype=np.int64)
-        self.place = {t: i for i, t in enumerate(leaf.active)}
+        self.place = np.zeros(len(leaf.moves), dtype=np.int64)
+        self.place[self.active] = np.arange(len(self.active))
         self.ends = np.array([leaf.moves[t] for t in leaf.active], dtype=np.int64).reshape(-1, 4).T
         self.states = len(leaf.states)
         p, q = self.ends[:2]
@@ -27,7 +28,7 @@ class Waking:
     def mask(self, moves: Iterable[int]) -> Array:
         """Moves as a mask over the active ones."""
         out = np.zeros(len(self.active), dtype=bool)
-        out[[self.place[t] for t in moves]] = True
+        out[self.place[np.fromiter(moves, dtype=np.int64)]] = True
         return out
 
     def near(self, have: Array) -> Array:
@@ -37,19 +38,19 @@ class Waking:
         out[p[have], q[have]] = out[q[have], p[have]] = True
         return out
 
-    def wake(self, near: Array, at: Array) -> tuple[Array, Array, Array]:
-        """Of these moves: which wake a pair of `near`; which put such a pair themselves; and the states that they make react."""
+    def wake(self, near: Array, at: Array) -> Array:
+        """Which of these moves wake a pair of `near`."""
         p, q, r, s = self.ends[:, at]
-        fresh = (near[r] | near[s]) & ~(near[p] | near[q])
-        own = near[r, s]
-        return ~near[p, q] & (own | fresh.any(axis=1)), own, fresh
+        words = _words(near)
+        fresh = (words[r] | words[s]) & ~(words[p] | words[q])
+        return ~near[p, q] & (near[r, s] | fresh.any(axis=1))
 
     def wakes_none(self, earlier: Iterable[int], moves: Iterable[int]) -> bool:
         """Whether none of the moves wakes an earlier one."""
         have = self.mask(earlier)
         if not have.any():
             return True
-        return not bool(self.wake(self.near(have), np.nonzero(self.mask(moves))[0])[0].any())
+        return not bool(self.wake(self.near(have), np.nonzero(self.mask(moves))[0]).any())
 
     def closure(self, done: Moves, seed: Moves, mend: bool = False) -> Moves:
         """A set with the seed, less `done`, that no move outside wakes.
@@ -61,14 +62,17 @@ class Waking:
         while True:
             near = self.near(have)
             left = np.nonzero(~have & ~near[p, q])[0]
-            wakes, own, fresh = self.wake(near, left)
+            wakes = self.wake(near, left)
             if not wakes.any():
                 return frozenset(self.active[have].tolist()) - done
+            left = left[wakes]
             if mend:
-                fixable = wakes & ~own & ~(fresh & ~(self.full[p[left]] | self.full[q[left]])).any(axis=1)
+                a, b, r, s = self.ends[:, left]
+                fresh = (near[r] | near[s]) & ~(near[a] | near[b])
+                fixable = ~near[r, s] & ~(fresh & ~(self.full[a] | self.full[b])).any(axis=1)
                 have |= self._wanted(left, fixable, fresh)[p, q]
-                wakes = wakes & ~fixable
-            have[left[wakes]] = True
+                left = left[~fixable]
+            have[left] = True
 
     def _wanted(self, left: Array, fixable: Array, fresh: Array) -> Array:
         p, q = self.ends[:2]
@@ -78,3 +82,11 @@ class Waking:
                 others = fresh[i] & self.full[y]
                 want[y, others] = want[others, y] = True
         return want
+
+
+def _words(near: Array) -> Array:
+    """The rows as bits, 64 in a number."""
+    bits = np.packbits(near, axis=1)
+    out = np.zeros((len(near), (bits.shape[1] + 7) // 8 * 8), dtype=np.uint8)
+    out[:, : bits.shape[1]] = bits
+    return out.view(np.uint64)
