@@ -8,4 +8,6 @@ mod sums;
 #[cfg(test)]
 mod threshold_sizes;
 #[cfg(test)]
+mod trails;
+#[cfg(test)]
 mod written_proofs;

@@ -5,7 +5,7 @@ ghost use Rattle.cert_base.specs.declared.fact.Fact.TheVariants.{Ge};
 ghost use Rattle.cert_linear.specs.Conditions.{AreMultipliers, AreNamed, IsOrdered};
 
 use cert_base::{Fact, Row, Term};
-use cert_linear::{Trail, linear_closes, residue_closes};
+use cert_linear::{linear_closes, residue_closes};
 use pop_io::List;
 use std::alloc::{AllocError, Global};
 
@@ -52,7 +52,7 @@ fn facts(alloc: Global) -> Result<List<Fact>, AllocError>
     Ok(List::from_vec(facts))
 }
 
-fn list(alloc: Global, terms: &[Term]) -> Option<List<Term>>
+pub(crate) fn list(alloc: Global, terms: &[Term]) -> Option<List<Term>>
     ensures { IfSome result (λ list. list ≡ terms.now) }
 {
     Some(List::from_vec(Vec::from_slice(alloc, terms).ok()?))
@@ -77,18 +77,6 @@ fn closes(alloc: Global, modulus: u32, terms: &[Term]) -> Option<bool>
 {
     let terms = list(alloc, terms)?;
     closes_by(alloc, modulus, &terms)
-}
-
-/// The number of facts on a trail of those of the table to which one more was added.
-fn count_of_added(alloc: Global) -> Option<u32> {
-    let mut trail = Trail::new(alloc, facts(alloc).ok()?);
-    trail.add(fact(alloc, b'>', 3, 0).ok()?).ok()?;
-    Some(trail.len())
-}
-
-#[test]
-fn a_fact_is_added(rt: HostRuntime) {
-    assert!(rt; count_of_added(rt.alloc()) == Some(COUNT as u32 + 1));
 }
 
 #[test]
