@@ -68,6 +68,7 @@ def find(loaded: Loaded, seconds: float, small: float, jobs: int, anew: bool = F
         )
     tasks = tasks_of(loaded, drafts_of(loaded, anew), seconds, small)
     # (before processes are made, so that they share what is loaded, and a missing package is told once)
+    import_module(".highs", __package__)
     import_module(".layerjob", __package__)
     import_module(".treefinder", __package__)
     out = Outcome()

@@ -9,7 +9,7 @@ from ..files import InputFault
 
 try:
     import numpy as np
-    import scipy.sparse as sparse
+    from scipy import sparse as sparse
     from scipy.optimize import Bounds, LinearConstraint, linprog, milp
 except ImportError:
     raise InputFault("pop: this command needs SciPy: apt-get install python3-scipy") from None

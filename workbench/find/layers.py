@@ -6,11 +6,10 @@ import time
 from typing import Sequence
 
 import numpy as np
-from scipy import sparse
 
 from ..nets import Leaf
 from ..proofs import Layer
-from .highs import FOUND, Array, matrix_of, minimise
+from .highs import FOUND, Array, matrix_of, minimise, sparse
 from .waking import Moves, Waking
 
 TRIES = 8  # orders of choices at most, all but the first one shuffled

@@ -9,9 +9,9 @@ from math import gcd, log2
 from typing import Sequence
 
 import numpy as np
-from scipy import sparse
 
 from ..facts import DIVIDES, EQUAL, NOT_DIVIDES
+from .highs import sparse
 from .items import Array, Item, Ref, Row, Zeros
 from .trees import RestSum, Terms
 

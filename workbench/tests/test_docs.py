@@ -1,7 +1,10 @@
 """What the documents show is what the workbench does."""
 from __future__ import annotations
 
+import os
 import re
+import subprocess
+from pathlib import Path
 
 import pytest
 
@@ -70,14 +73,11 @@ def test_the_limits_of_the_documents() -> None:
     assert f"at most {least.MOST_MOVES} moves" in WORKBENCH
 
 
-def test_a_missing_package_is_asked_for_by_name(tmp_path: "object") -> None:
-    import os
-    import subprocess
-    from pathlib import Path
-
-    assert isinstance(tmp_path, Path)
-    (tmp_path / "scipy").mkdir()
-    (tmp_path / "scipy" / "__init__.py").write_text("raise ImportError\n")
+@pytest.mark.parametrize("missing", [["scipy"], ["numpy", "scipy"]])
+def test_a_missing_package_is_asked_for_by_name(tmp_path: Path, missing: list[str]) -> None:
+    for package in missing:
+        (tmp_path / package).mkdir()
+        (tmp_path / package / "__init__.py").write_text("raise ImportError\n")
     run = subprocess.run(
         [str(TOP / "bin" / "pop"), "find", str(EXAMPLES / "majority" / "majority.pop")],
         capture_output=True,
