@@ -56,7 +56,9 @@ class Progress:
 
 def _run(words: list[str], folder: Path, log: list[str], progress: Progress) -> None:
     try:
-        run = subprocess.Popen(words, cwd=folder, stdin=subprocess.DEVNULL, stdout=subprocess.PIPE, stderr=subprocess.STDOUT)
+        # (the toolchain's command is Python's, and keeps its lines back where nobody asks for them)
+        told = {**os.environ, "PYTHONUNBUFFERED": "1"}
+        run = subprocess.Popen(words, cwd=folder, env=told, stdin=subprocess.DEVNULL, stdout=subprocess.PIPE, stderr=subprocess.STDOUT)
     except OSError as error:
         log.append(f"{words[0]}: {error.strerror}; the toolchain's command `rt` has to be on the path\n")
         return
