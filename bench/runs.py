@@ -212,7 +212,7 @@ def main():
         subprocess.run(["rustc", "-O", "--edition", "2021", "-A", "warnings", "-o", plain, source], check=True)
         measure("majority, 1,000 agents", majority(), [501, 499], plain, folder)
         measure("majority, 65,536 agents", majority(), [32_769, 32_767], plain, folder)
-        measure("threshold leaf of 255 states, 1,000 agents", threshold(), [510, 490], plain, folder)
+        measure("threshold leaf of 255 states, its proof checked first, 1,000 agents", threshold(), [510, 490], plain, folder)
 
 
 main()
