@@ -1,4 +1,4 @@
--- A digit that is written anew.
+-- Replacing one digit of a number.
 use Rattle.std.proofs.Common.{◌≡◌, ℕ, zero, suc, ◌+◌, ◌*◌, ◌/◌, ◌%◌, ◌^◌, ◌<◌, ◌≤◌, ◌∷◌, ap, sym, ◌∙◌, arith}
 use Rattle.std.specs.Prelude.{slice_set}
 use Rattle.std.proofs.Math.Nat.{pow-zero, pow-suc, div-one, add-mul-mod_self_right, add-mul-div_right, mod-eq_of_lt, div-eq_of_lt, mul-le-mul_right}
@@ -6,7 +6,7 @@ use Rattle.std.proofs.lemmas.Nat.{div_below, div-add-mod', mod_below}
 use Rattle.pop_net.specs.Lanes.{digits}
 use Rattle.pop_net.proofs.Digits.{low_part, high_part, shifted}
 
--- a quotient that is small enough makes a small number
+-- a small enough quotient means a small number
 below_from : (base n x : ℕ) → 0 < base → x / base < base ^ n → x < base ^ suc n
 below_from base n x l h =
     let whole = div-add-mod' x base in
@@ -16,7 +16,7 @@ below_from base n x l h =
     let power = pow-suc base n in
     omega (arith, whole, rest, product, power)
 
--- digit i is new, and the others are as they were
+-- digit i is replaced, and the others stay
 pub digit_set : (base n word i old new result : ℕ) → 0 < base → i < n → word < base ^ n → old ≡ word / base ^ i % base → new < base → result + old * base ^ i ≡ word + new * base ^ i → (digits base n result ≡ slice_set (digits base n word) i new) × (result < base ^ n)
 digit_set base zero word i old new result pos l below e small sum = absurd (omega arith)
 digit_set base (suc n) word zero old new result pos l below e small sum =

@@ -12,7 +12,7 @@ use Rattle.std.proofs.lemmas.Slice.Eq.{bytes_eq-Decides}
 use Rattle.pop_io.specs.Names.{AreNames}
 use Rattle.pop_net.specs.FirstFault.{unless, first_of, first_below, is_bad_name, first_bad_name}
 
--- there is none exactly when P holds
+-- there is no fault exactly when P holds
 abbrev pub NoneIff : {F : Type 0} → Option F → Type 0 → Type 0
 NoneIff o P = (o ≡ None → P) × (P → o ≡ None)
 
@@ -67,7 +67,7 @@ none_below n p =
     let f = find_range p 0 n in
     (λ e k l. ap p (let s : k ≡ 0 + k = omega arith in s) ∙ f.0 e k l, λ h. f.1 (λ k l. ap p (let s : 0 + k ≡ k = omega arith in s) ∙ h k l))
 
--- the earlier names are all different from this one
+-- the earlier names all differ from this one
 none_earlier : (names : List (List ℕ)) (k : ℕ) (name : List ℕ) → k ≤ length names → (list_any (bytes_eq name) (take k names) ≡ false → (i : ℕ) (d : List ℕ) → i < k → get_or names i d ≢ name) × (((i : ℕ) (d : List ℕ) → i < k → get_or names i d ≢ name) → list_any (bytes_eq name) (take k names) ≡ false)
 none_earlier names k name l = (there, back)
   where
@@ -84,7 +84,7 @@ none_earlier names k name l = (there, back)
         let n : i < k = omega (arith, long) in
         false_from_ne_true _ (λ e. h i d n (sym (get_or-take k names i d n) ∙ sym ((bytes_eq-Decides name _).0 e))))
 
--- no name is bad exactly when all are in form and no two are equal
+-- no name is bad exactly when all are well-formed and distinct
 pub none_bad : (is_name : List ℕ → Bool) (names : List (List ℕ)) → NoneIff (first_bad_name is_name names) (AreNames is_name names)
 none_bad is_name names = (there, back)
   where
@@ -120,13 +120,13 @@ find_first p a (suc n) (suc k) l h e =
     (find_first p (a + 1) n k (omega arith) (λ j m. ap p (let s : a + 1 + j ≡ a + suc j = omega arith in s) ∙ h (suc j) (omega arith)) (ap p (let s : a + 1 + k ≡ a + suc k = omega arith in s) ∙ e)
     ∙ ap Some (let s : a + 1 + k ≡ a + suc k = omega arith in s))
 
--- the first that passes, where none before it does
+-- the first number that passes, since none before it does
 pub found_below : (n : ℕ) (p : ℕ → Bool) (k : ℕ) → k < n → ((j : ℕ) → j < k → p j ≡ false) → p k ≡ true → first_below n p ≡ Some k
 found_below n p k l h e =
     find_first p 0 n k l (λ j m. ap p (let s : 0 + j ≡ j = omega arith in s) ∙ h j m) (ap p (let s : 0 + k ≡ k = omega arith in s) ∙ e)
     ∙ ap Some (let s : 0 + k ≡ k = omega arith in s)
 
--- the first element that passes, where none before it does
+-- the first element that passes, since none before it does
 pub found_position : {X : Type 0} (p : X → Bool) (xs : List X) (i : ℕ) (d : X) → i < length xs → ((k : ℕ) → k < i → p (get_or xs k d) ≡ false) → p (get_or xs i d) ≡ true → position p xs ≡ Some i
 found_position p xs i d l h e =
     let at : position_or_len p xs ≡ i = position_or_len_is p xs i d (omega arith) h (λ _. e) in

@@ -1,4 +1,4 @@
--- The steps of loops that go over the leaves of a word.
+-- The steps of the loops over the leaves of a word.
 use Rattle.std.proofs.Common.{◌≡◌, inl, inr, ◌⊎◌, ℕ, zero, suc, pred, ◌+◌, ◌*◌, ◌/◌, ◌%◌, ◌^◌, ◌<◌, ◌≤◌, Bool, false, List, [], ◌∷◌, ◌++◌, length, map, take, get_or, set, refl, ap, sym, ◌∙◌, arith}
 use Rattle.std.specs.Prelude.{Some, All, slice_get, slice_index, slice_index_or}
 use Rattle.std.proofs.lemmas.Bool.{cases_eq}
@@ -36,7 +36,7 @@ module _ (base : ℕ) (leaves : List LeafModel) (i : ℕ) (leaf : LeafModel) (l 
       get-reactions leaves (digits base (length leaves) a) (digits base (length leaves) b) i leaf (length-digits base (length leaves) a) (length-digits base (length leaves) b) here
       ∙ ap Some (sym (e ∙ ap (λ x. leaf_reaction leaf x y) (lane_state a x ex) ∙ ap (leaf_reaction leaf (state_of (digits base (length leaves) a) i)) (lane_state b y ey)))
 
-  -- one more lane of a reaction, seen by f
+  -- one more lane of a reaction; f picks one of its two states
   pub reaction_more : (f : ℕ × ℕ → ℕ) (a b x y word next : ℕ) (both : ℕ × ℕ) → Fit → x ≡ a / base ^ i % base → y ≡ b / base ^ i % base → both ≡ leaf_reaction leaf x y → f both < length leaf.states → next ≡ word + f both * base ^ i → next < base ^ (i + 1) → Packed base i (map f (reactions leaves (digits base (length leaves) a) (digits base (length leaves) b))) word → Packed base (i + 1) (map f (reactions leaves (digits base (length leaves) a) (digits base (length leaves) b))) next
   reaction_more f a b x y word next both formed ex ey e m sum free p =
       let all = reactions leaves (digits base (length leaves) a) (digits base (length leaves) b) in

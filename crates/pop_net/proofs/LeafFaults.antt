@@ -1,4 +1,4 @@
--- A leaf breaks no rule exactly when its names are in form and its numbers in range.
+-- A leaf breaks no rule exactly when its names are well-formed and its numbers in range.
 use Rattle.std.proofs.Common.{◌≡◌, inl, inr, ℕ, ◌<◌, ◌≤◌, ◌&&◌, nat_le, nat_lt, length}
 use Rattle.std.specs.Prelude.{None, Decides, All}
 use Rattle.std.proofs.lemmas.Bool.Decides.{Decides-eqb, Decides-ltb, Decides-and, Decides-like}
@@ -24,7 +24,7 @@ move_below n t =
     Decides-like (is_move_below n t) (λ w. (w.0.0.0, w.0.0.1, w.0.1, w.1)) (λ w. (((w.0, w.1), w.2), w.3))
     (Decides-and _ _ (Decides-and _ _ (Decides-and _ _ (Decides-ltb t.p n) (Decides-ltb t.q n)) (Decides-ltb t.r n)) (Decides-ltb t.s n))
 
--- the rules, one after the other
+-- the rules in their order
 abbrev KeepsRules : LeafModel → Type 0
 KeepsRules leaf =
     ((1 ≤ length leaf.states) × (length leaf.states ≤ STATE_LIMIT)) × (AreNames state_name leaf.states × ((length leaf.moves ≤ MOVE_LIMIT) × (All (IsMoveBelow (length leaf.states)) leaf.moves
@@ -60,7 +60,7 @@ unbroken_leaf leaf e =
       helpers = k.1.1.1.1.1.1.1.1.0;
     }
 
--- where a leaf is right, it is refused only when out of memory
+-- a leaf that breaks no rule is refused only when memory runs out
 pub right_leaf : (leaf : LeafModel) (f : LeafFault) → RefusesLeaf leaf f → IsLeaf leaf → f ≡ fault.NoMemory
 right_leaf leaf f (inl memory) h = memory
 right_leaf leaf f (inr e) h =

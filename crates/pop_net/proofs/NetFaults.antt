@@ -1,4 +1,5 @@
--- A net of leaves that are right breaks no rule exactly when its names are in form, its numbers in range, and its combination is one tree.
+-- A net whose leaves break no rule breaks none itself exactly when its names are well-formed, its numbers in range,
+-- and its combination is one tree.
 use Rattle.std.proofs.Common.{◌≡◌, inl, inr, ◌≤◌, Bool, true, false, not, nat_lt, length, List, [], ◌∷◌, refl, ap, sym, ◌∙◌, arith}
 use Rattle.std.specs.Prelude.{None, All, IsSomeAnd, ◌==◌, position, if◌then◌else◌}
 use Rattle.std.proofs.lemmas.List.Folds.{list_any_none, list_any_at}
@@ -61,7 +62,7 @@ rules_of net =
     (first_of-cons _ _ (none_map fault.LeafHelpers _ (none_position (λ (leaf : LeafModel). length leaf.helpers == number_of_helpers net) (λ (leaf : LeafModel). length leaf.helpers ≡ number_of_helpers net) (λ leaf. Decides-eqb (length leaf.helpers) (number_of_helpers net)) net.leaves))
     (first_of-cons _ _ (none_map fault.Wide _ (none_wide net.leaves)) first_of-nil)))))))
 
--- a net of right leaves that breaks no rule
+-- a net that breaks no rule, of leaves that break none
 pub unbroken_net : (net : NetModel) → All IsLeaf net.leaves → fault_of_net net ≡ None → IsNet net
 unbroken_net net leaves e =
     let k = (rules_of net).0 e in
@@ -84,7 +85,7 @@ pub some_item : (items : List Item) → IsSomeAnd (combined depth_operators item
 some_item [] h = absurd h
 some_item (item ∷ items) h = omega arith
 
--- where a net is right, it is refused only when out of memory
+-- a net that breaks no rule is refused only when memory runs out
 pub right_net : (net : NetModel) (f : NetFault) → RefusesNet net f → IsNet net → f ≡ fault.NoMemory
 right_net net f (inl memory) h = memory
 right_net net f (inr e) h =

@@ -46,7 +46,7 @@ packed_all base n i states word e l m p =
 pub lane_at : (base n word i : ℕ) → i < n → state_of (digits base n word) i ≡ word / base ^ i % base
 lane_at base n word i l = get_or-digits base n word i l
 
--- a number below a power has that many digits, which it is made of
+-- a number below base ^ n is determined by its n digits
 digits-same : (base n x y : ℕ) → 0 < base → x < base ^ n → y < base ^ n → digits base n x ≡ digits base n y → x ≡ y
 digits-same base zero x y l hx hy e = omega (arith, hx, hy, pow-zero base)
 digits-same base (suc n) x y l hx hy e =

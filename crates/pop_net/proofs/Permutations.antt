@@ -1,4 +1,4 @@
--- Meetings don't know the order of the agents: what two agents of a crowd do, they do in each order of its agents.
+-- Meetings don't depend on the order of the agents: what two agents do in one order they can do in every order.
 use Rattle.std.proofs.Common.{◌≡◌, ℕ, ◌<◌, List, [], ◌∷◌, length, refl, ap, sym, subst, ◌∙◌, arith}
 use Rattle.std.specs.Prelude.{slice_get, slice_set}
 use Rattle.std.specs.List.{swap}
@@ -44,7 +44,7 @@ module _ {A : Type 0} (Change : A → A → A → A → Type 0) where
       meets_swapped (apply_swaps before ms) (apply_swaps after ms) m.0 m.1 (omega (arith, h.0, same)) (omega (arith, h.1, same))
       (meets_moved before after ms h.2 s)
 
-  -- in another order of the agents the same meeting can be made, and leads to the same crowd in that order
+  -- the same meeting is possible in another order of the agents, and leads to the same crowd in that order
   pub meets_permuted : (before after other : List A) → Meets Change before after → IsPermutation before other → (next : List A) × Meets Change other next × IsPermutation after next
   meets_permuted before after other s p = (
     apply_swaps after p.moves,
@@ -52,7 +52,7 @@ module _ {A : Type 0} (Change : A → A → A → A → Type 0) where
     record { moves = p.moves; below = subst (λ n. SwapsInRange n p.moves) (sym (meets_length Change before after s)) p.below; is = refl },
   )
 
-  -- a terminal crowd is so in every order
+  -- a terminal crowd is terminal in every order
   pub terminal_permuted : (c d : List A) → IsTerminal (Meets Change) c → IsPermutation c d → IsTerminal (Meets Change) d
   terminal_permuted c d terminal p e s =
       let q = IsPermutation-sym c d p in

@@ -151,7 +151,7 @@ drop-slice_get [] k x e = cc
 drop-slice_get (y ∷ xs) zero x e = let same : y ≡ x = cc in ap (λ z. z ∷ xs) same
 drop-slice_get (y ∷ xs) (suc k) x e = drop-slice_get xs k x e
 
--- a slice that was written whole
+-- a slice that was written completely
 pub all_written : {A : Type 0} (new old : List A) (n : ℕ) → n ≡ length new → take n (new ++ drop (length new) old) ≡ new
 all_written new old n e = ap (λ k. take k (new ++ drop (length new) old)) e ∙ take-append_seam new (drop (length new) old)
 
@@ -180,7 +180,7 @@ entered_slice n i moves d old slice new len below l made value long h =
     let size : len ≡ length new = long ∙ h.size ∙ sym next.size in
     subst (IsTable n (drop (length moves - (i + 1)) moves)) (sym (all_written new old len size)) next
 
--- a reaction is what the table has
+-- the table's entry is the reaction
 pub entry_read : (n x y : ℕ) (moves : List Move) (table : List (ℕ × ℕ)) (d : ℕ × ℕ) (len : ℕ) → IsTable n moves table → x < n → y < n → len ≡ n → get_or table (x * len + y) d ≡ by_move x y (find (takes_states x y) moves)
 entry_read n x y moves table d len h lx ly e =
     let s = h.size in

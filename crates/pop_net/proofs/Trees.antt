@@ -1,4 +1,4 @@
--- Which combinations in postfix are one tree of a depth that is not too great.
+-- Which combinations in postfix are one tree within the depth limit.
 use Rattle.std.proofs.Common.{◌≡◌, inl, inr, ℕ, suc, ◌+◌, ◌<◌, ◌≤◌, nat_le, Bool, true, false, not, ◌&&◌, List, [], ◌∷◌, ◌++◌, length, take, drop, get_or, refl, ap, sym, subst, ◌⊎◌, ◌∙◌, arith}
 use Rattle.std.specs.Prelude.{Option, Some, None, All, Decides, option_and_then, ◌==◌}
 use Rattle.std.specs.List.{list_all}
@@ -25,7 +25,7 @@ is_low d = nat_le d 65
 pub low_decides : (xs : List ℕ) → Decides (list_all is_low xs) (All (λ d. d ≤ 65) xs)
 low_decides = Decides-by_and is_low (λ d. d ≤ 65) (list_all is_low) (λ d. (leb-true d 65, le-leb d 65)) refl (λ _ _. refl)
 
--- the two newest of low operands
+-- the two newest operands, where all are low
 pub low_two : (xs ys zs : List ℕ) (a b : ℕ) → All (λ d. d ≤ 65) xs → xs ≡ b ∷ ys → ys ≡ a ∷ zs → (a ≤ 65) × (b ≤ 65)
 low_two xs ys zs a b low e f =
     let h : All (λ d. d ≤ 65) (b ∷ ys) = rw e at low in
@@ -35,7 +35,7 @@ low_two xs ys zs a b low e f =
 pub second_rest : (xs ys zs : List ℕ) (a b : ℕ) → xs ≡ b ∷ ys → ys ≡ a ∷ zs → zs ≡ drop 2 xs
 second_rest xs ys zs a b e f = rw (e, f) refl
 
--- a low tree on what is left of low operands
+-- a low tree, put on what is left of low operands
 pub put_low : (old rest : List ℕ) (depth n : ℕ) (found : Option (List ℕ)) → All (λ d. d ≤ 65) old → rest ≡ drop n old → found ≡ Some (depth ∷ rest) → depth ≤ 65 → are_low found ≡ true
 put_low old rest depth n found low e f h =
     let kept : All (λ d. d ≤ 65) rest = rw e (All-drop (λ d. d ≤ 65) n old low) in
@@ -106,7 +106,7 @@ module _ (leaves : ℕ) (items : List Item) (k : ℕ) (d : Item) (l : k < length
       ap (λ o. first_of (option_map combination.Item o ∷ unless (operands_left items == 1) (combination.Open (operands_left items)) ∷ []))
       (found_below (length items) (λ k. not (stands leaves (take (k + 1) items))) k l w.fine (ap not (stands_next ∙ bad)))
 
--- where all items were put, one operand is left or the number of operands is the fault
+-- after all items, either one operand is left or the number of operands is the fault
 pub fault_at_end : (leaves : ℕ) (items : List Item) (k : ℕ) (operands : List ℕ) → length items ≤ k → Walked leaves items k operands → fault_of_combination leaves items ≡ unless (length operands == 1) (combination.Open (length operands))
 fault_at_end leaves items k operands l w =
     let all : take k items ≡ items = take_all k items l in

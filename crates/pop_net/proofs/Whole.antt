@@ -1,4 +1,4 @@
--- A combination breaks no rule exactly when it is one tree of a depth that is not too great, over leaves that are there.
+-- A combination breaks no rule exactly when it is one tree within the depth limit, over leaves of the net.
 use Rattle.std.proofs.Common.{◌≡◌, ℕ, ◌+◌, max, ◌<◌, ◌≤◌, true, false, not, List, [], ◌∷◌, length, take, drop, refl, ap, sym, ◌∙◌, arith}
 use Rattle.std.specs.Prelude.{Option, Some, None, All, Decides, IsSomeAnd, option_and_then}
 use Rattle.std.specs.List.{list_all}
@@ -30,7 +30,7 @@ all_named n = Decides-by_and (names_below n) (NamesBelow n) (list_all (names_bel
 abbrev pub AllLow : List ℕ → Type 0
 AllLow xs = All (λ d. d ≤ 65) xs
 
--- operands of a tree that is low are low
+-- operands of a low tree are low
 low_before : (item : Item) (old new : List ℕ) → after_item depth_operators item old ≡ Some new → AllLow new → AllLow old
 low_before (Leaf i) old new e h =
     let same : 1 ∷ old ≡ new = same_Some _ _ e in All-tail (λ d. d ≤ 65) 1 old (All-same (λ d. d ≤ 65) (1 ∷ old) new same h)

@@ -1,4 +1,4 @@
--- A reaction of states of a leaf gives states of the leaf, and of valid tuples valid tuples.
+-- A reaction of states of a leaf gives states of the leaf, and a reaction of valid tuples gives valid tuples.
 use Rattle.std.proofs.Common.{◌≡◌, ℕ, ◌<◌, Bool, true, false, List, length, refl, arith}
 use Rattle.std.specs.Prelude.{Option, Some, None, All, find, ◌==◌, ◌&&◌, slice_get}
 use Rattle.pop_net.specs.declared.leaf.Move.{Move}
@@ -30,7 +30,7 @@ move_small leaf t taken is h =
     let few = is.states in
     (omega (arith, few, below.0), omega (arith, few, below.1), omega (arith, few, below.2), omega (arith, few, below.3))
 
--- a reaction of tuples with states of the leaves
+-- a reaction of tuples whose states are those of the leaves
 pub reaction_states : (net : NetModel) (x y : Tuple) → All IsLeaf net.leaves → IsTuple net x → IsTuple net y → HasStates net x → HasStates net y → HasStates net (reaction net x y).0 × HasStates net (reaction net x y).1
 reaction_states net x y leaves tx ty hx hy = (first, second)
   where

@@ -1,10 +1,10 @@
--- The first rule that is broken, and the first place at which one is.
+-- The first rule that is broken, and the first place that breaks it.
 use Rattle.std.specs.Prelude.{ℕ, Bool, true, false, not, ◌||◌, List, [], ◌∷◌, length, take, Option, Some, None, find}
 use Rattle.std.specs.Prelude.{slice_index_or}
 use Rattle.std.specs.List.{list_any, range_with_len}
 use Rattle.std.specs.Str.{bytes_eq}
 
--- the fault, where the test of its rule fails
+-- the fault, if the test of its rule fails
 abbrev pub unless : {F : Type 0} → Bool → F → Option F
 unless true fault = None
 unless false fault = Some fault

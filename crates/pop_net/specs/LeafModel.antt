@@ -14,14 +14,14 @@ pub record LeafModel : Type 0 where
   pub inputs : List ℕ
   -- the output of each state
   pub outputs : List Bool
-  -- the state of each helper, an agent that stands in every input
+  -- the state of each helper, an agent that is in every input
   pub helpers : List ℕ
 
 -- 1 when the states are the same, and 0 otherwise
 abbrev pub one_at : ℕ → ℕ → ℕ
 one_at x z = if x == z then 1 else 0
 
--- how often state z stands in the pair x, y
+-- how often state z occurs in the pair x, y
 abbrev pub times_in_pair : ℕ → ℕ → ℕ → ℕ
 times_in_pair x y z = one_at x z + one_at y z
 
@@ -36,7 +36,7 @@ post t z = times_in_pair t.r t.s z
 abbrev pub same_pair : ℕ → ℕ → ℕ → ℕ → Bool
 same_pair x y u v = (x == u) && (y == v) || (x == v) && (y == u)
 
--- whether a move leaves the multiset of its states as it is
+-- whether a move leaves the multiset of its states unchanged
 abbrev pub silent_move : Move → Bool
 silent_move t = same_pair t.p t.q t.r t.s
 
@@ -44,7 +44,7 @@ silent_move t = same_pair t.p t.q t.r t.s
 abbrev pub IsMoveBelow : ℕ → Move → Type 0
 IsMoveBelow n t = (t.p < n) × (t.q < n) × (t.r < n) × (t.s < n)
 
--- the names of a leaf are in form, and its numbers in range
+-- the names of a leaf are well-formed, and its numbers in range
 pub record IsLeaf (leaf : LeafModel) : Type 0 where
   pub names : AreNames state_name leaf.states
   pub some_state : 1 ≤ length leaf.states

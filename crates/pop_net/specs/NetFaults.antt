@@ -17,22 +17,22 @@ use Rattle.pop_net.specs.NetModel.{NetModel, NamesBelow, number_of_helpers, is_w
 use Rattle.pop_net.specs.NetModel.{depth_operators}
 use Rattle.pop_net.specs.FirstFault.{unless, first_of, first_below, first_bad_name}
 
--- whether an item names one of n leaves, where it names one
+-- whether an item is an operator or names one of n leaves
 abbrev pub names_below : ℕ → Item → Bool
 names_below n (item.Leaf i) = nat_lt i n
 names_below n item.Not = true
 names_below n item.And = true
 names_below n item.Or = true
 
--- whether operands were found, of which none has too great a depth
+-- whether the operands were found and none is too deep
 abbrev pub are_low : Option (List ℕ) → Bool
 are_low operands = option_map_or (list_all (λ d. nat_le d DEPTH_LIMIT)) operands false
 
--- whether items name leaves alone, find their operands, and make no tree of too great a depth
+-- whether the items name only leaves of the net, find their operands, and make no tree that is too deep
 abbrev pub stands : ℕ → List Item → Bool
 stands leaves items = list_all (names_below leaves) items && are_low (after_items depth_operators items [])
 
--- the first item with which the items no longer stand
+-- the first item that breaks one of these rules
 abbrev pub first_bad_item : ℕ → List Item → Option ℕ
 first_bad_item leaves items = first_below (length items) (λ k. not (stands leaves (take (k + 1) items)))
 
@@ -47,7 +47,7 @@ fault_of_combination leaves items =
     ∷ unless (operands_left items == 1) (combination.Open (operands_left items))
     ∷ [])
 
--- a combination of n leaves that is one tree whose depth is within the limit
+-- a combination of n leaves that is one tree within the depth limit
 pub record IsTree (leaves : ℕ) (items : List Item) : Type 0 where
   pub named : All (NamesBelow leaves) items
   pub depth : IsSomeAnd (combined depth_operators items) (λ d. d ≤ DEPTH_LIMIT)
@@ -56,7 +56,7 @@ abbrev pub net_fault : CombinationFault → NetFault
 net_fault (combination.Item k) = fault.Item k
 net_fault (combination.Open n) = fault.Open n
 
--- the first wide leaf among too many leaves for it
+-- the first wide leaf, if there are too many leaves for one
 abbrev pub first_wide_leaf : List LeafModel → Option ℕ
 first_wide_leaf leaves = if nat_lt WIDE_LEAF_LIMIT (length leaves) then position is_wide_leaf leaves else None
 

@@ -49,7 +49,7 @@ IsTuple net tuple = length tuple ≡ length net.leaves
 abbrev pub state_of : Tuple → ℕ → ℕ
 state_of tuple i = slice_index tuple i
 
--- each state of a tuple is one of its leaf
+-- each state of a tuple is a state of its leaf
 abbrev pub AreStates : List LeafModel → Tuple → Type 0
 AreStates leaves tuple =
     (i : ℕ) (leaf : LeafModel) → slice_get leaves i ≡ Some leaf → state_of tuple i < length leaf.states
@@ -65,7 +65,7 @@ pub record Operators (A : Type 0) : Type 0 where
   pub disjunction : A → A → A
 
 module _ {A : Type 0} where
-  -- the operands after one item, the newest first; None where there are too few of them
+  -- the operands after one item, the newest first; None if there are too few of them
   abbrev pub after_item : Operators A → Item → List A → Option (List A)
   after_item ops (Leaf i) operands = Some (ops.leaf i ∷ operands)
   after_item ops Not (a ∷ operands) = Some (ops.negation a ∷ operands)
@@ -87,7 +87,7 @@ module _ {A : Type 0} where
   only_one (a ∷ []) = Some a
   only_one (a ∷ b ∷ operands) = None
 
-  -- the value of a combination in postfix, where it is one
+  -- the value of a combination in postfix, if it is one tree
   abbrev pub combined : Operators A → List Item → Option A
   combined ops items = option_and_then only_one (after_items ops items [])
 
@@ -117,7 +117,7 @@ NamesBelow n Not = Unit {0}
 NamesBelow n And = Unit {0}
 NamesBelow n Or = Unit {0}
 
--- the names of a net are in form, its numbers in range, and its combination is one tree
+-- the names of a net are well-formed, its numbers in range, and its combination is one tree
 pub record IsNet (net : NetModel) : Type 0 where
   pub variable_names : AreNames variable_name net.variables
   pub some_variable : 1 ≤ length net.variables

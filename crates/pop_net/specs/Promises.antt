@@ -1,4 +1,4 @@
--- Promises: what calls of leaves and nets say, each in one record.
+-- Promises: what the calls of leaves and nets promise, each in one record.
 use Rattle.std.specs.Prelude.{◌≡◌, ℕ, ◌<◌, length, Result, IfOk, IfErr}
 use Rattle.pop_net.specs.declared.net.Word.{Word}
 use Rattle.pop_net.specs.declared.fault.LeafFault.{LeafFault}

@@ -15,7 +15,7 @@ use crate::operands::Operands;
 pub fn combination_fault(leaves: u8, combine: &[Item]) -> Option<CombinationFault>
     requires { length combine.now ≤ ITEM_LIMIT }
     ensures first { result ≡ fault_of_combination leaves combine.now }
-    // No rule is broken exactly when the combination is one tree, as a net needs it.
+    // No rule is broken exactly when the combination is one tree, as a net requires.
     ensures none { (result ≡ None) ↔ IsTree leaves combine.now }
 {
     let mut depths = Operands::new(0);
@@ -31,7 +31,7 @@ pub fn combination_fault(leaves: u8, combine: &[Item]) -> Option<CombinationFaul
     }
 }
 
-/// Takes an item in, unless it is a bad one.
+/// Takes an item in, unless it is bad.
 pub(crate) fn put_depth(depths: &mut Operands<u8>, leaves: u8, item: Item) -> bool
     requires room { length depths.old < ITEM_LIMIT }
     requires low { All (λ d. d ≤ DEPTH_LIMIT) depths.old }
@@ -51,7 +51,7 @@ pub(crate) fn put_depth(depths: &mut Operands<u8>, leaves: u8, item: Item) -> bo
     }
 }
 
-/// Takes an item's operands away, and gives the depth of its tree.
+/// Removes an item's operands and gives the depth of its tree.
 fn take_depth(depths: &mut Operands<u8>, item: Item) -> Option<u8>
     requires { All (λ d. d ≤ DEPTH_LIMIT) depths.old }
     ensures found { MatchOption result (after_item depth_operators item depths.old ≡ None)
@@ -69,7 +69,7 @@ fn take_depth(depths: &mut Operands<u8>, item: Item) -> Option<u8>
     }
 }
 
-/// The value of a combination at the leaves' outputs; false where it is no tree.
+/// The value of a combination at the leaves' outputs; false if it is not one tree.
 pub(crate) fn value_of(combine: &[Item], outputs: &[bool]) -> bool
     requires { length combine.now ≤ ITEM_LIMIT }
     ensures { result ≡ unwrap_or (combined (truth outputs.now) combine.now) false }
@@ -84,7 +84,7 @@ pub(crate) fn value_of(combine: &[Item], outputs: &[bool]) -> bool
     values.len() == 1 && values.pop() == Some(true)
 }
 
-/// Takes an item's operands away, and gives its value.
+/// Removes an item's operands and gives its value.
 fn take_value(values: &mut Operands<bool>, outputs: &[bool], item: Item) -> Option<bool>
     ensures found { MatchOption result (after_item (truth outputs.now) item values.old ≡ None)
         (λ value. after_item (truth outputs.now) item values.old ≡ Some (value ∷ values.new)) }

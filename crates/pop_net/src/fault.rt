@@ -39,27 +39,27 @@ pub enum NetFault {
     VarName(u32),
     /// The number of leaves is outside 1 to `LEAF_LIMIT`.
     Leaves(u64),
-    /// The first leaf with another number of inputs than variables.
+    /// The first leaf whose number of inputs isn't that of the variables.
     LeafInputs(u8),
     /// The number of items of the combination is outside 1 to `ITEM_LIMIT`.
     Items(u64),
-    /// The first item that names no leaf, finds too few operands, or makes a tree of a depth over `DEPTH_LIMIT`.
+    /// The first item that names no leaf, finds too few operands, or makes a tree deeper than `DEPTH_LIMIT`.
     Item(u32),
-    /// The number of operands that the items leave, where it isn't 1.
+    /// The number of operands that the items leave, if it isn't 1.
     Open(u32),
-    /// The first leaf with another number of helpers than leaf 0.
+    /// The first leaf whose number of helpers isn't that of leaf 0.
     LeafHelpers(u8),
     /// The first wide leaf among more than `WIDE_LEAF_LIMIT` leaves.
     Wide(u8),
     NoMemory,
 }
 
-/// The first rule that a combination breaks, which has at most `ITEM_LIMIT` items.
+/// The first rule that a combination of at most `ITEM_LIMIT` items breaks.
 #[derive(Clone, Copy, PartialEq, Eq)]
 pub enum CombinationFault {
-    /// The first item that names no leaf, finds too few operands, or makes a tree of a depth over `DEPTH_LIMIT`.
+    /// The first item that names no leaf, finds too few operands, or makes a tree deeper than `DEPTH_LIMIT`.
     Item(u32),
-    /// The number of operands that the items leave, where it isn't 1.
+    /// The number of operands that the items leave, if it isn't 1.
     Open(u32),
 }
 

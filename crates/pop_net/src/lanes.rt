@@ -53,7 +53,7 @@ impl LaneWidth {
         ((word >> (self.bits() * i)) & self.mask()) as u16
     }
 
-    /// The word with a state in lane i, in which lane i and those past it are 0.
+    /// Puts a state into lane i of a word whose lanes from i on are 0.
     pub(crate) fn with_state(self, word: u64, i: usize, state: u16) -> u64
         requires lane { bits_of self * (i + 1) ≤ WORD_BITS }
         requires free { word < (2 ^ bits_of self) ^ i }

@@ -25,14 +25,14 @@ impl Move {
     ghost use Rattle.pop_net.specs.LeafModel.{silent_move};
     ghost use Rattle.pop_net.specs.Reaction.{takes_states};
 
-    /// Whether it leaves the pair of its states as it is.
+    /// Whether it leaves the pair of its states unchanged, up to order.
     pub fn is_silent(&self) -> bool
         ensures { result ≡ silent_move self.now }
     {
         (self.p == self.r && self.q == self.s) || (self.p == self.s && self.q == self.r)
     }
 
-    /// Whether it is not silent and takes two states, in one order or the other.
+    /// Whether it is non-silent and takes two states, in one order or the other.
     pub fn takes(&self, x: u16, y: u16) -> bool
         ensures { result ≡ takes_states x y self.now }
     {
@@ -58,7 +58,7 @@ pub struct Leaf {
     inputs: List<u16>,
     outputs: List<bool>,
     helpers: List<u16>,
-    /// What reacts, for each ordered pair of states.
+    /// The states after a reaction, for each ordered pair of states.
     table: Vec<(u16, u16)>,
 }
 
@@ -89,7 +89,7 @@ impl Leaf {
     ghost use Rattle.pop_net.specs.Promises.{MakesLeaf, LeafReacts};
 
     /// A leaf without helpers: the names of its states, its moves, the start state of each variable,
-    /// and the output of each state. It answers neither `Helpers` nor `Helper`.
+    /// and the output of each state. It returns neither `Helpers` nor `Helper`.
     pub fn new(
         alloc: Global,
         states: List<Text>,
@@ -105,7 +105,7 @@ impl Leaf {
         Leaf::with_helpers(alloc, states, moves, inputs, outputs, helpers)
     }
 
-    /// A leaf with the state of each helper too.
+    /// A leaf with helpers, given by the state of each.
     pub fn with_helpers(
         alloc: Global,
         states: List<Text>,
@@ -130,7 +130,7 @@ impl Leaf {
         }
     }
 
-    /// A leaf of parts that are known to break no rule.
+    /// A leaf of parts that are known to be valid.
     pub fn of_valid(
         alloc: Global,
         states: List<Text>,
@@ -186,7 +186,7 @@ impl Leaf {
         self.moves.as_slice()[t as usize]
     }
 
-    /// Whether a move leaves the pair of its states as it is.
+    /// Whether a move leaves the pair of its states unchanged, up to order.
     pub fn silent(&self, t: u32) -> bool
         requires { t < length self.now.moves }
         ensures { IfSome (slice_get self.now.moves t) (λ taken. result ≡ silent_move taken) }
@@ -211,7 +211,7 @@ impl Leaf {
         self.inputs.as_slice()[variable as usize]
     }
 
-    /// What an agent in a state answers.
+    /// The output of an agent in a state.
     pub fn output(&self, state: u16) -> bool
         requires { state < length self.now.states }
         ensures { slice_get self.now.outputs state ≡ Some result }
@@ -242,7 +242,7 @@ impl Leaf {
         NARROW_STATE_LIMIT < self.states.as_slice().len()
     }
 
-    /// The first non-silent move that matches, in the order of the list, is taken, the first way before the second.
+    /// Takes the first non-silent move in the list that matches, and prefers its first way to its second.
     pub fn react(&self, x: u16, y: u16) -> (u16, u16)
         requires x_in { x < length self.now.states }
         requires y_in { y < length self.now.states }
@@ -251,7 +251,7 @@ impl Leaf {
         self.table[x as usize * self.states.as_slice().len() + y as usize]
     }
 
-    /// A leaf that is equal.
+    /// An equal leaf.
     pub fn copy(&self, alloc: Global) -> Result<Leaf, NoMemory>
         ensures { IfOk result (λ leaf. leaf ≡ self.now) }
     {

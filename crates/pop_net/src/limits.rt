@@ -1,6 +1,6 @@
-//! The limits of leaves and nets. That of variables, and so of a leaf's inputs, is `VARIABLE_LIMIT` of `pop_io`.
+//! The limits of leaves and nets. The limit of variables, and so of a leaf's inputs, is `VARIABLE_LIMIT` of `pop_io`.
 
-/// The most states of a leaf, which has one at least.
+/// The most states of a leaf, which has at least one.
 pub const STATE_LIMIT: usize = 512;
 
 /// The most states of a leaf that isn't wide.
@@ -12,10 +12,10 @@ pub const MOVE_LIMIT: usize = 65_536;
 /// The most helpers of a net.
 pub const HELPER_LIMIT: usize = 1_024;
 
-/// The most leaves of a net, which has one at least.
+/// The most leaves of a net, which has at least one.
 pub const LEAF_LIMIT: usize = 8;
 
-/// The most leaves of a net of which one is wide.
+/// The most leaves of a net that has a wide one.
 pub const WIDE_LEAF_LIMIT: usize = 4;
 
 /// The most items of a combination.

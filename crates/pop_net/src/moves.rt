@@ -20,7 +20,7 @@ pub(crate) fn reaction_table(
     ensures { IfOk result (λ table. IsTable states moves.now table.items) }
 {
     let mut table = all_pairs(alloc, states)?;
-    // The last entry stands, so the first move has to come last.
+    // The last write wins, so the first move is entered last.
     for i in 0..moves.len() {
         enter(&mut table, states, moves[moves.len() - 1 - i]);
     }
@@ -40,7 +40,7 @@ fn all_pairs(alloc: Global, states: usize) -> Result<Vec<(u16, u16)>, NoMemory>
     Ok(pairs)
 }
 
-/// Enters a move for its two pairs, over what stood there.
+/// Enters a move for its two pairs, replacing what was there.
 fn enter(table: &mut [(u16, u16)], states: usize, taken: Move)
     requires few { states ≤ STATE_LIMIT }
     requires below { IsMoveBelow states taken }

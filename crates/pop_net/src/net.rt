@@ -28,7 +28,7 @@ pub enum Item {
 }
 
 impl Item {
-    /// Whether it names one of so many leaves, where it names one.
+    /// Whether it is an operator or names one of so many leaves.
     pub(crate) fn is_below(&self, leaves: u8) -> bool
         ensures { result ≡ names_below leaves self.now }
     {
@@ -67,7 +67,7 @@ impl Net {
     ghost use Rattle.pop_net.specs.Lanes.{tuple_of, IsValid};
     ghost use Rattle.pop_net.specs.Promises.{MakesNet, NetReacts, IsWordOf, StartsAs};
 
-    /// The names of the variables, the leaves, and the combination in postfix. It allocates nothing.
+    /// A net of the variables' names, the leaves, and the combination in postfix. It allocates nothing.
     pub fn new(
         alloc: Global,
         vars: List<Text>,
@@ -83,7 +83,7 @@ impl Net {
         }
     }
 
-    /// A net of parts that are known to break no rule. It allocates nothing.
+    /// A net of parts that are known to be valid. It allocates nothing.
     pub fn of_valid(vars: List<Text>, leaves: List<Leaf>, combine: List<Item>) -> Net
         requires { IsNet (record { variables = vars; leaves = leaves; combine = combine }) }
         ensures { result ≡ record { variables = vars; leaves = leaves; combine = combine } }
@@ -158,7 +158,7 @@ impl Net {
         ensures state { result ≡ state_of (tuple_of self.now word) leaf }
         ensures bound { IfSome (slice_get self.now.leaves leaf) (λ l. result < length l.states) }
     {
-        // What the invariant says is known from here on: a word has a lane for each leaf.
+        // Makes the invariant known here: a word has a lane for each leaf.
         let _formed = &self.leaves;
         self.lanes.state(word.0, leaf as usize)
     }
@@ -204,7 +204,7 @@ impl Net {
         Word(start_word(self.lanes, self.leaves.as_slice(), variable))
     }
 
-    /// How many helpers stand in every input.
+    /// How many helpers are in every input.
     pub fn helper_count(&self) -> u32
         ensures { result ≡ number_of_helpers self.now }
     {
@@ -222,7 +222,7 @@ impl Net {
         Word(helper_word(self.lanes, self.leaves.as_slice(), helper))
     }
 
-    /// A net that is equal.
+    /// An equal net.
     pub fn copy(&self, alloc: Global) -> Result<Net, NoMemory>
         ensures { IfOk result (λ net. net ≡ self.now) }
     {

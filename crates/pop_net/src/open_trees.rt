@@ -1,4 +1,4 @@
-//! A combination that is read item by item.
+//! A combination, read item by item.
 
 ghost use Rattle.std.specs.Prelude.{◌≡◌, ◌<◌, ◌&&◌, [], length, Some};
 ghost use Rattle.std.specs.Bool.{OnTrue};
@@ -11,7 +11,7 @@ use crate::net::Item;
 use crate::operands::Operands;
 use std::marker::Model;
 
-/// The trees that stand open after the items so far. Contracts see their depths, the newest first.
+/// The trees left open by the items so far. Contracts see their depths, the newest first.
 #[derive(Drop)]
 pub struct OpenTrees {
     depths: Operands<u8>,
@@ -29,7 +29,7 @@ impl Model for OpenTrees {
 }
 
 impl OpenTrees {
-    /// No items were read. It allocates nothing.
+    /// No items read so far. It allocates nothing.
     pub fn new() -> OpenTrees
         ensures { result ≡ [] }
     {
@@ -38,7 +38,7 @@ impl OpenTrees {
         }
     }
 
-    /// Takes an item in, unless it names no leaf, finds too few trees or makes one of a depth over `DEPTH_LIMIT`.
+    /// Takes an item in, unless it names no leaf, finds too few trees, or makes one deeper than `DEPTH_LIMIT`.
     pub fn put(&mut self, leaves: u8, item: Item) -> bool
         requires { length self.old < ITEM_LIMIT }
         ensures good { result ≡ (names_below leaves item && are_low (after_item depth_operators item self.old)) }
@@ -47,7 +47,7 @@ impl OpenTrees {
         put_depth(&mut self.depths, leaves, item)
     }
 
-    /// How many trees stand open.
+    /// How many trees are open.
     pub fn count(&self) -> usize
         ensures { result ≡ length self.now }
     {

@@ -1,4 +1,4 @@
-//! The operands of a combination in postfix, without memory.
+//! The operands of a combination in postfix, without allocation.
 
 ghost use Rattle.std.specs.Prelude.{◌≡◌, ◌<◌, ◌∷◌, [], length, Some, None, MatchOption};
 
@@ -27,7 +27,7 @@ impl<T> Model for Operands<T> {
 }
 
 impl<T: Copy> Operands<T> {
-    /// No operands. The blank is not seen.
+    /// No operands. The blank is never seen.
     pub(crate) fn new(blank: T) -> Operands<T>
         ensures { result ≡ [] }
     {

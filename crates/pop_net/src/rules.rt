@@ -84,7 +84,7 @@ fn bad_move(moves: &[Move], states: usize) -> Option<usize>
     moves.iter().position(|t| !t.is_below(states))
 }
 
-/// The first of some numbers that no state has.
+/// The place of the first number that no state has.
 fn outside(numbers: &[u16], states: usize) -> Option<usize>
     ensures first { result ≡ position (λ q. not (nat_lt q states)) numbers.now }
     ensures bound { IfSome result (λ k. k < length numbers.now) }
@@ -92,7 +92,7 @@ fn outside(numbers: &[u16], states: usize) -> Option<usize>
     numbers.iter().position(|q| !((*q as usize) < states))
 }
 
-/// The leaves are right by their type; where no rule is broken, all of them were looked at.
+/// Leaves are valid by their type; if no rule is broken, all of them were looked at.
 pub(crate) fn net_fault(vars: &[Text], leaves: &[Leaf], combine: &[Item]) -> Option<NetFault>
     ensures first { result
         ≡ fault_of_net (record { variables = vars.now; leaves = leaves.now; combine = combine.now }) }
@@ -123,7 +123,7 @@ pub(crate) fn net_fault(vars: &[Text], leaves: &[Leaf], combine: &[Item]) -> Opt
     Some(NetFault::Wide(wide as u8))
 }
 
-/// The first leaf with another number of helpers than leaf 0.
+/// The first leaf whose number of helpers isn't that of leaf 0.
 fn other_helpers(leaves: &[Leaf]) -> Option<usize>
     ensures first { result ≡ position (λ leaf. not (length leaf.helpers == helpers_of leaves.now)) leaves.now }
     ensures bound { IfSome result (λ i. i < length leaves.now) }
@@ -134,7 +134,7 @@ fn other_helpers(leaves: &[Leaf]) -> Option<usize>
         .position(|leaf| !(leaf.helper_count() == first))
 }
 
-/// The first wide leaf, when there are too many leaves for it. It allocates nothing.
+/// The first wide leaf, if there are too many leaves for one. It allocates nothing.
 pub fn wide_leaf(leaves: &[Leaf]) -> Option<usize>
     ensures first { result ≡ first_wide_leaf leaves.now }
     ensures bound { IfSome result (λ i. i < length leaves.now) }

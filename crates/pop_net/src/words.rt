@@ -1,4 +1,4 @@
-//! What packed words do, leaf by leaf.
+//! Operations on packed words, leaf by leaf.
 
 ghost use Rattle.std.specs.Prelude.{◌≡◌, ◌*◌, ◌^◌, ◌<◌, ◌≤◌, ◌↔◌, length, map, take, All, IsTrue, slice_index};
 ghost use Rattle.pop_net.specs.NetModel.{AreStates, leaf_outputs};

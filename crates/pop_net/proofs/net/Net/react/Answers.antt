@@ -19,7 +19,7 @@ formed c = subst IsNet c.self.view_is c.self.invariant.0
 the_base : (c : goal.After-react_words-first) → 2 ^ bits_of c.self.inside.lanes ≡ lane_size c.args.self.now
 the_base c = ap (λ w. 2 ^ bits_of w) (c.self.invariant.1 ∙ ap (λ (n : NetModel). width_of n.leaves) c.self.view_is)
 
--- the tuple of a word whose lanes are those of a reaction, seen by f
+-- the tuple of a word whose lanes are those of a reaction; f picks one of its two states
 reacted : (f : ℕ × ℕ → ℕ) (net : NetModel) (base a b word : ℕ) (leaves : List LeafModel) → base ≡ lane_size net → leaves ≡ net.leaves → digits base (length leaves) word ≡ map f (reactions leaves (digits base (length leaves) a) (digits base (length leaves) b)) → tuple_of net (record { 0 = word }) ≡ map f (reactions net.leaves (tuple_of net (record { 0 = a })) (tuple_of net (record { 0 = b })))
 reacted f net base a b word leaves same e h =
     subst (λ (n : ℕ). digits n (length net.leaves) word ≡ map f (reactions net.leaves (digits n (length net.leaves) a) (digits n (length net.leaves) b))) same
