@@ -19,7 +19,7 @@ module _ (history : List Meeting) where
   length-placed number ms [] = refl
   length-placed number ms (e ∷ es) = length-placed number (set ms e.ticket (made number e.a e.b e.changed)) es ∙ length-set ms e.ticket (made number e.a e.b e.changed)
 
-  -- a place that is right stays so
+  -- a correct place stays correct
   after_one : (number : ℕ) (ms : List Meeting) (e : Logged) (k : ℕ) → length ms ≡ length history → (e.ticket < length history) × (get_or history e.ticket nobody ≡ made number e.a e.b e.changed)
       → ((k ≡ e.ticket) ⊎ (get_or ms k nobody ≡ get_or history k nobody)) → get_or (set ms e.ticket (made number e.a e.b e.changed)) k nobody ≡ get_or history k nobody
   after_one number ms e k long is right =
@@ -87,7 +87,7 @@ module _ (history : List Meeting) where
   logs_hit number ms (o ∷ os) (suc j) l d e long are h =
       logs_hit (number + 1) (placed_some number ms o) os j l d e (some_length number ms o ∙ long) (later_logs number o os are) h
 
--- what stands in the log of a number is a meeting of the history, at its ticket
+-- an entry of a number's log is a meeting of the history, at its ticket
 found_if : (b : Bool) (number ticket : ℕ) (x : Meeting) (xs : List Meeting) (e : Logged) → eqb x.worker number ≡ b
     → (In e (calls_from number (ticket + 1) xs) → (i : ℕ) × (i < length xs) × (e.ticket ≡ ticket + 1 + i) × (get_or xs i nobody ≡ made number e.a e.b e.changed))
     → In e (listed_if b (logged ticket x.a x.b x.changed) (calls_from number (ticket + 1) xs)) → (i : ℕ) × (i < length (x ∷ xs)) × (e.ticket ≡ ticket + i) × (get_or (x ∷ xs) i nobody ≡ made number e.a e.b e.changed)
@@ -114,7 +114,7 @@ listed_later : (b : Bool) (d e : Logged) (es : List Logged) → In e es → In e
 listed_later true d e es h = inr h
 listed_later false d e es h = h
 
--- a meeting of the history stands in its number's log
+-- a meeting of the history is in its number's log
 pub calls_from-has : (number ticket : ℕ) (xs : List Meeting) (i : ℕ) → i < length xs → (get_or xs i nobody).worker ≡ number
     → In (logged (ticket + i) (get_or xs i nobody).a (get_or xs i nobody).b (get_or xs i nobody).changed) (calls_from number ticket xs)
 calls_from-has number ticket [] i h who = absurd (omega arith)

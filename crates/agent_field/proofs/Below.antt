@@ -31,7 +31,7 @@ read-more known out now a x longer long each i d h =
     inl (λ k. (here k, found k)))
     (cases_lt i a)
 
--- a seat in other words: with its own locks and words, where nothing is due
+-- where nothing is due, putting back a seat's own locks and words changes nothing
 pub held_again : (m : Mine) (held : List ℕ) → m.0.held ≡ held → m.0.due ≡ [] → m ≡ (with_known m.0.known (with_locks held m.0), m.1)
 held_again m held locks due i = (
   record { setup = m.0.setup; founding = m.0.founding; live = m.0.live; number = m.0.number; held = locks i; known = m.0.known; due = due i; log = m.0.log; next = m.0.next; taken = m.0.taken; looks = m.0.looks },

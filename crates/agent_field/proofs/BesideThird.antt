@@ -10,7 +10,7 @@ of_two : (low high s : ℕ) (one : Bool) → In s (pair_locks low high one) → 
 of_two low high s true h = ⊎_elim (λ e. inl e) (λ (none : ⊥). absurd none) h
 of_two low high s false h = ⊎_elim (λ e. inr e) (λ (rest : (s ≡ low) ⊎ ⊥). ⊎_elim (λ e. inl e) (λ (none : ⊥). absurd none) rest) h
 
--- the least and the greatest of two numbers are they themselves
+-- the minimum of two numbers is one of them, and so is the maximum
 of_pair : (p q s : ℕ) → (s ≡ min p q) ⊎ (s ≡ max p q) → (s ≡ p) ⊎ (s ≡ q)
 of_pair p q s h =
     ⊎_elim

@@ -1,4 +1,4 @@
--- What stands when every seat was taken in.
+-- What holds once every seat was taken in.
 use Rattle.std.proofs.Common.{◌≡◌, ◌≢◌, ℕ, zero, suc, ◌<◌, ◌≤◌, true, true≢false, List, [], ◌∷◌, length, get_or, refl, sym, ap, ◌∙◌, subst, inl, inr, ⊎_elim, arith, zero-add, Option, Some, None}
 use Rattle.std.specs.Prelude.{IsSome, All}
 use Rattle.std.proofs.lemmas.Bool.{cases_eq, cases_lt}
@@ -158,7 +158,7 @@ pub record IsRoundOf (k : Setup) (own : List Logged) (taken : List (Option (List
   pub no_others : (w : ℕ) → w ≢ 0 → get_or taken w None ≡ None → calls w meetings ≡ []
   pub looked : All (IsLook k.net.value k.opening.value meetings) looks
 
--- what is read from the words and put together from the logs is the history and its replay
+-- the meetings put together from the logs are the history, and the words read are its replay
 pub rounds : (k : Setup) (all : List ℕ) (own : List Logged) (taken : List (Option (List Logged))) (looks : List Look) (count : ℕ) (words : List Word) (meetings : List Meeting)
     → Ended k all own taken looks → get_elem? all 0 ≡ some count → words ≡ agent_words k all → meetings ≡ placed_logs (0, placed 0 (replicate count nobody) own) taken → IsRoundOf k own taken looks words meetings
 rounds k all own taken looks count words meetings e first are put =

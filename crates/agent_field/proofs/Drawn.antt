@@ -1,4 +1,4 @@
--- What a draw gives, where the words that were read and what they react to are known.
+-- What a draw gives, once the words that were read and what they react to are known.
 use Rattle.std.proofs.Common.{◌≡◌, ◌≢◌, ℕ, ◌<◌, List, [], ◌∷◌, length, get_or, refl, inl, inr, sym, ap, subst, ◌∙◌}
 use Rattle.pop_net.specs.declared.net.Word.{Word}
 use Rattle.pop_net.specs.NetModel.{NetModel, Tuple}
@@ -41,7 +41,7 @@ drawn_is ticket m m' a b x y x' y' known reacted h =
     ∙ (λ i. (meeting_made ticket (first i).0 (second i).0 (is_x i) (is_y i) (is_x' i) (is_y' i) m.0, m.1))
     ∙ ap (λ (l : List (ℕ × Word)). (record (meeting_made ticket a b x y x' y' m.0) { known = l }, m.1)) gone
 
--- the same from before the two reads on, where nothing was known
+-- the same, from before the two reads, when nothing was known
 pub pair_drawn : (f : Field) (locks : List ℕ) (ticket : ℕ) (t t₁ t₂ t₃ : SeatToken) (a b : ℕ) (x y x' y' : Word) → HasLocked f locks t
     → Becomes t t₁ (knowing a x t.me.0) → Becomes t₁ t₂ (knowing b y t₁.me.0) → IsReaction f.net.now x y x' y' → IsDraw ticket t₂ t₃
     → Becomes t t₃ (pair_made ticket a b x y x' y' t.me.0)
@@ -54,7 +54,7 @@ pair_drawn f locks ticket t t₁ t₂ t₃ a b x y x' y' locked read_a read_b re
           ∙ ap (λ (n : Mine). (pair_made ticket a b x y x' y' n.0, n.1)) read;
     }
 
--- where nothing was known, the two words are read for a draw
+-- two words, read when nothing was known, allow a draw
 pub pair_read : (f : Field) (t t₁ t₂ : SeatToken) (a b : ℕ) (x y x' y' : Word) → HasLocked f (locks_of f.table.shared.key a b) t
     → Becomes t t₁ (knowing a x t.me.0) → Becomes t₁ t₂ (knowing b y t₁.me.0) → IsReaction f.net.now x y x' y' → a ≢ b → length t.me.0.log < LOG_LIMIT → MayDrawPair f t₂
 pair_read f t t₁ t₂ a b x y x' y' locked read_a read_b reacted apart room =

@@ -27,7 +27,7 @@ use Rattle.agent_field.proofs.Keeps.{owed_by_none}
 use Rattle.pop_crowd.proofs.Reached.{length-replay}
 use Rattle.pop_crowd.proofs.InARow.{replay-push}
 
--- a look shows the same while the history goes on
+-- a look still shows the same as the history grows
 pub look_later : (net : NetModel) (opening : List Word) (history : List Meeting) (m : Meeting) (look : Look) → IsLook net opening history look → IsLook net opening (history ++ m ∷ []) look
 look_later net opening history m look h = (
   omega (arith, h.0, length-append history (m ∷ [])),
@@ -41,7 +41,7 @@ looks_later k history m looks h = record {
   ascending = h.ascending;
 }
 
--- in a crowd that a and b, with the tuples of x and y, leave by a meeting, theirs are those of x' and y'
+-- once a and b, with the tuples of x and y, have met, their tuples are those of x' and y'
 module _ (net : NetModel) (crowd : CrowdModel) (a b : ℕ) (x y x' y' : Word) (reacted : IsReaction net x y x' y') (apart : a ≢ b) (fits_a : a < length crowd) (fits_b : b < length crowd)
     (is_a : get_or crowd a [] ≡ tuple_of net x) (is_b : get_or crowd b [] ≡ tuple_of net y) where
   met_first : tuple_of net x' ≡ get_or (after_meeting net a b crowd) a []

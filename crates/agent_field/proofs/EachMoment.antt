@@ -34,7 +34,7 @@ abbrev At : Setup → List ℕ → List View → List Meeting → Type 0
 At k words views history = (seat : ℕ → Option ℕ) × StandsAt k words views history seat
 
 module _ (k : Setup) where
-  -- where a seat is live, the field is founded
+  -- a field with a live seat is founded
   is_founded : (words : List ℕ) (views : List View) (history : List Meeting) (id : ℕ) (v : View) → HasHistory k words views history → Sits views id v → At k words views history
   is_founded words views history id v h s =
       ⊎_elim

@@ -102,7 +102,7 @@ length-sum seats ticket (x ∷ xs) known =
     (more_below x.worker seats (logged ticket x.a x.b x.changed) (λ w. calls_from w (ticket + 1) xs)).0 (All-head (λ (m : Meeting). m.worker < seats) x xs known)
     ∙ (let ih = length-sum seats (ticket + 1) xs (All-tail (λ (m : Meeting). m.worker < seats) x xs known) in omega arith)
 
--- where no number has made more than so many meetings, the history has no more than that for each number
+-- if no number has made more than `most` meetings, the history has at most that many for each number
 pub length-most : (seats most : ℕ) (history : List Meeting) → All (λ (m : Meeting). m.worker < seats) history → ((w : ℕ) → length (calls w history) ≤ most) → length history ≤ seats * most
 length-most seats most history known all =
     subst (λ (n : ℕ). n ≤ seats * most) (length-sum seats 0 history known) (sum_below-most (λ w. length (calls w history)) seats most all)

@@ -31,7 +31,7 @@ module _ (k : Setup) where
   pub agent_behind : (i a : ℕ) → i < HEAD_WORDS → i ≢ agent_at k a
   agent_behind i a h same = omega arith
 
--- what stands in a list of two that take turns
+-- the elements of two lists in turns
 pub length-in_turns : {A : Type 0} (xs ys : List A) → length (in_turns xs ys) ≡ length xs + length ys
 length-in_turns [] ys = omega arith
 length-in_turns (x ∷ xs) [] = omega arith
@@ -55,8 +55,7 @@ get_or-in_turns_second d (x ∷ xs) (y ∷ ys) (suc a) h =
     ap (λ (i : ℕ). get_or (x ∷ y ∷ in_turns xs ys) i d) (let at : suc a + min (suc a + 1) (length (x ∷ xs)) ≡ suc (suc (a + min (a + 1) (length xs))) = omega arith in at)
     ∙ get_or-in_turns_second d xs ys a (omega arith)
 
--- one of the second list is written
--- one more of each, one more of the second where the first are at their end, and more of the first where the second are
+-- one more of each; one more of the second once the first has run out; more of the first once the second has
 pub in_turns-both : {A : Type 0} (xs ys : List A) (x y : A) → length xs ≡ length ys → in_turns xs ys ++ x ∷ y ∷ [] ≡ in_turns (xs ++ x ∷ []) (ys ++ y ∷ [])
 in_turns-both [] [] x y h = refl
 in_turns-both [] (z ∷ ys) x y h = absurd (omega arith)
@@ -80,7 +79,7 @@ length-opening words shards agents count =
     let turns = length-in_turns (replicate shards 0) words in
     let locks : length (replicate {A = ℕ} shards 0) ≡ shards = length-replicate shards 0 in omega arith
 
--- so many locks that are open, with words behind them: one word more, with a lock or without, and all further locks
+-- open locks in turns with words: one more word, with a lock or without, and all further locks
 pub word_with_lock : (shards a x : ℕ) (words : List ℕ) → length words ≡ a → a < shards
     → in_turns (replicate (min a shards) 0) words ++ 0 ∷ x ∷ [] ≡ in_turns (replicate (min (a + 1) shards) 0) (words ++ x ∷ [])
 word_with_lock shards a x words count inside =

@@ -1,4 +1,4 @@
--- The steps that leave the history as it is keep the field's rule: a lock, an unlock, a read, a write and a look.
+-- The steps that leave the history unchanged keep the field's rule: a lock, an unlock, a read, a write and a look.
 use Rattle.std.proofs.Common.{◌≡◌, ◌≢◌, ℕ, ◌+◌, ◌<◌, true, false, List, [], ◌∷◌, length, get_or, set, refl, sym, ap, ◌∙◌, subst, inl, inr, ⊎_elim, arith, length-set, get_or-set_same, get_or-set_other}
 use Rattle.std.proofs.lemmas.Bool.{cases_eq}
 use mathlib.Core.Option.{Option, some, some-injective}
@@ -67,7 +67,7 @@ module _ (k : Setup) (words : List ℕ) (views : List View) (history : List Meet
         others = set_each views id w (λ j u. u.live ≡ false → u ≡ joined_away) (not_dead v live (w ≡ joined_away)) (λ j u apart e. st.others j u e);
       }
 
-  -- the last lock that was taken, where nothing is due
+  -- giving back the lock that was taken last, while nothing is due
   pub releases_keep : (s : ℕ) (held : List ℕ) → v.held ≡ s ∷ held → (In s held → ⊥) → v.due ≡ [] → StandsAt k (set words (lock_at k s) 0) (set views id (releasing v)) history seat
   releases_keep s held is once none_due =
       let w = releasing v in
@@ -114,7 +114,7 @@ module _ (k : Setup) (words : List ℕ) (views : List View) (history : List Meet
         others = set_each views id w (λ j u. u.live ≡ false → u ≡ joined_away) (not_dead v live (w ≡ joined_away)) (λ j u apart e. st.others j u e);
       }
 
-  -- a step that changes this view alone, and neither its locks nor what it owes
+  -- a step that changes only this view, and neither its locks nor what it owes
   pub views_keep : (w : View) → w.live ≡ true → w.number ≡ v.number → w.held ≡ v.held → w.due ≡ v.due → Agrees k words history seat id w → StandsAt k words (set views id w) history seat
   views_keep w alive number held due new = record {
     wide = st.wide;

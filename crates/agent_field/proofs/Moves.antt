@@ -1,4 +1,4 @@
--- Each step of a seat on the table is allowed, and what it tells.
+-- Each step of a seat on the table is allowed, and what it establishes.
 use Rattle.std.proofs.Common.{◌≡◌, ℕ, ◌+◌, ◌%◌, ◌^◌, ◌<◌, Bool, true, true≢false, eqb, List, [], ◌∷◌, ◌++◌, length, get_or, set, refl, sym, ap, ◌∙◌, subst, inr, ⊎_elim, arith, eq-eqb, ne_eqb}
 use Rattle.std.proofs.lemmas.List.{set-get_or}
 use mathlib.Core.Logic.{dite}
@@ -31,7 +31,7 @@ abbrev pub Standing : Setup → List ℕ → List View → Type 0
 Standing k words views = (history : List Meeting) × (seat : ℕ → Option ℕ) × StandsAt k words views history seat
 
 module _ (k : Setup) where
-  -- where a seat is live, the field is founded
+  -- a field with a live seat is founded
   pub founded : (s : St) → FieldStands k s → (id : ℕ) (v : View) → get_elem? s.views id ≡ some v → v.live ≡ true → Standing k s.words s.views
   founded s h id v at live =
       ⊎_elim
@@ -188,7 +188,7 @@ module _ (k : Setup) where
       absurd (true≢false (ap (λ (v : View). v.founding) (sym is) ∙ ap (λ (v : View). v.founding) (t.2.others id me.0 at (ap (λ (v : View). v.live) is)))))
       h
 
-  -- the same, where the word's place is written in another way
+  -- the same, with the word's place written in another way
   pub locks_at : (slots id : ℕ) (me : Mine) (s n i : ℕ) → i ≡ lock_at k s → me.0.live ≡ true → me.0.setup ≡ k → me.0.number + 1 ≡ n → s < k.shards → me.0.due ≡ []
       → Allows (FieldStands k) slots id me i (λ r. either (eqb r 0) n r) (Locks (step slots i 0 n none) me)
   locks_at slots id me s n i is live setup number inside none_due =

@@ -14,7 +14,7 @@ use Rattle.agent_field.proofs.Closing.{some_value}
 use Rattle.agent_field.proofs.Founding.{founder_word}
 
 module _ (k : Setup) (words : List ℕ) (views : List View) (first second : List Meeting) (seat seat' : ℕ → Option ℕ) (s : StandsAt k words views first seat) (t : StandsAt k words views second seat') where
-  -- what a number has called stands in its log, wherever that is
+  -- a number's meetings are in its log, wherever that is
   same_calls : (w : ℕ) → calls w first ≡ calls w second
   same_calls w = go (seat w) (λ i. seat w)
     where

@@ -25,14 +25,14 @@ pub seat_for-other : (seat : ℕ → Option ℕ) (n w : ℕ) (i : Option ℕ) �
 unfolding seat_for
 seat_for-other seat n w i apart = ap (λ (b : Bool). cond b i (seat w)) (ne_eqb w n apart)
 
--- a view behind the last one
+-- a view added at the end
 at_push : {A : Type 0} (l : List A) (a b : A) (j : ℕ) → get_elem? (l ++ a ∷ []) j ≡ some b → (get_elem? l j ≡ some b) ⊎ ((j ≡ length l) × (a ≡ b))
 at_push [] a b zero e = inr (refl, some-injective a b e)
 at_push [] a b (suc j) e = absurd (some-ne-none b (sym e))
 at_push (x ∷ xs) a b zero e = inl e
 at_push (x ∷ xs) a b (suc j) e = ⊎_elim (λ was. inl was) (λ (t : (j ≡ length xs) × (a ≡ b)). inr (ap suc t.0, t.1)) (at_push xs a b j e)
 
--- what stands of a view where only the seats of other numbers change
+-- what still holds for a view when only the seats of other numbers change
 reseated : (k : Setup) (words : List ℕ) (history : List Meeting) (seat seat' : ℕ → Option ℕ) (id : ℕ) (u : View) → Agrees k words history seat id u → seat' u.number ≡ some id → (u.number ≡ 0 → IsFirst k history seat' u.next u.taken) → Agrees k words history seat' id u
 reseated k words history seat seat' id u g seated first = record {
   setup = g.setup;

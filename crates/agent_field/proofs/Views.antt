@@ -1,4 +1,4 @@
--- What a step of one seat leaves as it was: the other views, and what is said of them.
+-- What a step of one seat leaves unchanged: the other views, and what holds for them.
 use Rattle.std.proofs.Common.{◌≡◌, ◌≢◌, ℕ, zero, suc, ◌<◌, true, false, true≢false, List, [], ◌∷◌, length, set, sym, ap, ◌∙◌, subst, ⊎_elim, arith, get_or-set_other}
 use Rattle.std.proofs.lemmas.Bool.{cases_eq}
 use mathlib.Core.Option.{Option, some, some-injective, some-ne-none}
@@ -15,7 +15,7 @@ at_length [] i a e = absurd (some-ne-none a (sym e))
 at_length (x ∷ xs) zero a e = omega arith
 at_length (x ∷ xs) (suc i) a e = let h = at_length xs i a e in omega arith
 
--- what holds of one view's new value and of the others holds of all
+-- what holds for one view's new value and for the others holds for all
 pub set_each : (views : List View) (id : ℕ) (w : View) (P : ℕ → View → Type 0) → P id w → ((j : ℕ) (u : View) → j ≢ id → get_elem? views j ≡ some u → P j u) → (j : ℕ) (u : View) → get_elem? (set views id w) j ≡ some u → P j u
 set_each views id w P mine others j u e =
     ⊎_elim
@@ -23,7 +23,7 @@ set_each views id w P mine others j u e =
     (λ (x : (j ≢ id) × (get_elem? views j ≡ some u)). others j u x.0 x.1)
     (at_set views id j w u e)
 
--- a word is changed that this view says nothing of
+-- changing a word of which this view says nothing
 pub agrees_word : (k : Setup) (words : List ℕ) (history : List Meeting) (seat : ℕ → Option ℕ) (id : ℕ) (u : View) (i n : ℕ) → Agrees k words history seat id u
     → ((s : ℕ) → In s u.held → lock_at k s ≢ i) → ((a : ℕ) (x : Word) → In (a, x) u.known → a < agents_opened k → agent_at k a ≢ i) → Agrees k (set words i n) history seat id u
 agrees_word k words history seat id u i n f locks agents = record {
@@ -48,7 +48,7 @@ module _ (k : Setup) (words : List ℕ) (history : List Meeting) (seat : ℕ →
   one_holder i j v u f g s mine theirs =
       let a = (f.locks s mine).1 in let b = (g.locks s theirs).1 in one_seat i j v u f g (omega arith)
 
--- an agent that no seat owes after a step of one seat was owed by none before it, where that seat owed no less
+-- an agent that no seat owes after a step of one seat was owed by none before it, if that seat still owes all it did
 pub owed_back : (views : List View) (id : ℕ) (v w : View) (a : ℕ) → get_elem? views id ≡ some v → w.live ≡ true → ((x : Word) → In (a, x) v.due → (y : Word) × In (a, y) w.due) → IsOwedByNone (set views id w) a → IsOwedByNone views a
 owed_back views id v w a at live keeps none_now j u x e alive h =
     ⊎_elim
@@ -81,6 +81,6 @@ sits_set seat views id v w at live number sits n j e =
     (λ (apart : j ≢ id). (h.0, set_else views id j w apart ∙ h.1, h.2, h.3))
     (cases_eq j id)
 
--- a live view is no other
+-- a live view isn't dead
 pub not_dead : (v : View) → v.live ≡ true → (A : Type 0) → v.live ≡ false → A
 not_dead v live A dead = absurd (true≢false (sym live ∙ dead))

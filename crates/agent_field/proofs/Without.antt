@@ -11,7 +11,7 @@ without-here a x l = ap (λ (t : Bool). cond (not t) ((a, x) ∷ without a l) (w
 pub without-other : (a b : ℕ) (x : Word) (l : List (ℕ × Word)) → b ≢ a → without a ((b, x) ∷ l) ≡ (b, x) ∷ without a l
 without-other a b x l apart = ap (λ (t : Bool). cond (not t) ((b, x) ∷ without a l) (without a l)) (ne_eqb b a apart)
 
--- what is left is of the others
+-- what is left belongs to the others
 pub in_without : (a c : ℕ) (z : Word) (l : List (ℕ × Word)) → In (c, z) (without a l) → In (c, z) l × (c ≢ a)
 in_without a c z [] h = absurd h
 in_without a c z (p ∷ ps) h = by_test (λ i. in_without a c z ps i) (eqb p.0 a) refl h
@@ -25,7 +25,7 @@ in_without a c z (p ∷ ps) h = by_test (λ i. in_without a c z ps i) (eqb p.0 a
         (λ (j : In (c, z) (without a ps)). let r = below j in (inr r.0, r.1))
         i
 
--- and of all others
+-- and all that belongs to the others is left
 pub in_without_back : (a c : ℕ) (z : Word) (l : List (ℕ × Word)) → In (c, z) l → c ≢ a → In (c, z) (without a l)
 in_without_back a c z [] h apart = absurd h
 in_without_back a c z (p ∷ ps) h apart = by_test (λ i. in_without_back a c z ps i apart) (eqb p.0 a) refl
@@ -44,7 +44,7 @@ in_without_back a c z (p ∷ ps) h apart = by_test (λ i. in_without_back a c z 
         (λ (j : In (c, z) ps). inr (below j))
         h
 
--- where the words of a pair alone are known, none is left
+-- if only the words of a pair are known, none is left
 pub pair_gone : (a b : ℕ) (x y : Word) → without a (without b ((b, y) ∷ (a, x) ∷ [])) ≡ []
 pair_gone a b x y = ap (without a) (without-here b y ((a, x) ∷ [])) ∙ first (eqb a b) refl
   where

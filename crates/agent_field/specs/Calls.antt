@@ -32,7 +32,7 @@ pub record IsOpening (f : Field) (s : FieldSeat) (net : NetModel) (words : List 
   pub first : (seat_number s ≡ 0) × (next_of s ≡ 1) × (left_of s + 1 ≡ seats)
   pub fresh : IsFresh s × (taken_of s ≡ replicate seats None)
 
--- number 0 has given its least number that is left to a new seat, or stays as it was
+-- number 0 has given its least remaining number to a new seat, or is unchanged
 pub record HasSplit (f : Field) (result : Result FieldSeat NoMemory) (before after : FieldSeat) : Type 0 where
   pub ours : IsSeatOf f after
   pub theirs : IfOk result (IsSeatOf f)
@@ -41,7 +41,7 @@ pub record HasSplit (f : Field) (result : Result FieldSeat NoMemory) (before aft
   pub rest : KeepsOwn before after × (taken_of after ≡ taken_of before)
   pub refused : OnErr result ((next_of after ≡ next_of before) × (left_of after ≡ left_of before))
 
--- number 0 has taken in the other seat's log under its number, or gives the seat back and stays as it was
+-- number 0 has taken in the other seat's log under its number, or gives the seat back and is unchanged
 pub record HasJoined (f : Field) (other : FieldSeat) (result : Result (Unit {0}) (FieldSeat × NoMemory))
     (before after : FieldSeat) : Type 0 where
   pub ours : IsSeatOf f after
@@ -50,7 +50,7 @@ pub record HasJoined (f : Field) (other : FieldSeat) (result : Result (Unit {0})
   pub rest : KeepsOwn before after × (next_of after ≡ next_of before) × (left_of after ≡ left_of before)
   pub refused : IfErr result (λ r. (r.0 ≡ other) × (taken_of after ≡ taken_of before))
 
--- the seat has room for so many more meetings, or as much as before; all else stays
+-- the seat has room for so many more meetings, or as much as before, and nothing else changes
 pub record HasReserved (turns : ℕ) (result : Result (Unit {0}) NoMemory) (before after : FieldSeat) : Type 0 where
   pub room : OnOk result (turns ≤ spare_of after)
   pub none : OnErr result (spare_of after ≡ spare_of before)
@@ -58,7 +58,7 @@ pub record HasReserved (turns : ℕ) (result : Result (Unit {0}) NoMemory) (befo
   pub rest : KeepsRest before after
   pub field : KeepsField before after
 
--- the seat has room for so many more looks, or as much as before; all else stays
+-- the seat has room for so many more looks, or as much as before, and nothing else changes
 pub record HasReservedLooks (f : Field) (count : ℕ) (result : Result (Unit {0}) NoMemory)
     (before after : FieldSeat) : Type 0 where
   pub ours : IsSeatOf f after
@@ -67,17 +67,17 @@ pub record HasReservedLooks (f : Field) (count : ℕ) (result : Result (Unit {0}
   pub looks : looks_of after ≡ looks_of before
   pub rest : KeepsLogs before after
 
--- the agents a and b have met, and the seat's log has one meeting more
+-- the agents a and b have met, and the seat's log has one more meeting
 pub record HasMetOnField (f : Field) (a b : ℕ) (met : Met) (before after : FieldSeat) : Type 0 where
   pub ours : IsSeatOf f after
   pub logged : log_of after ≡ log_of before ++ logged met.ticket a b met.changed ∷ []
   pub spare : spare_of after + 1 ≡ spare_of before
-  -- the ticket is above all that the seat knew, and whether a tuple changed is right at its moment
+  -- the ticket is above all that the seat knew, and whether a tuple changed is correct at its moment
   pub newest : IsNewestOf met.ticket before
   pub moment : IsMoment f before a b met
   pub rest : KeepsRest before after
 
--- the seat has one look more, of all agents at one moment
+-- the seat has one more look, at all agents at one moment
 pub record HasLooked (f : Field) (ticket : ℕ) (before after : FieldSeat) : Type 0 where
   pub ours : IsSeatOf f after
   pub looked : (words : List Word) × (looks_of after ≡ looks_of before ++ look_of ticket words ∷ [])

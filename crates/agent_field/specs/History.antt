@@ -8,8 +8,8 @@ use Rattle.pop_crowd.specs.declared.crowd.Meeting.{Meeting}
 use Rattle.pop_crowd.specs.Replay.{AreMeetings, AreMarked}
 use Rattle.agent_field.specs.declared.view.Logged.{Logged}
 
--- from these words on, each meeting is of two different agents, by a number below so many, and says rightly whether it
--- changed a tuple
+-- from these words on, each meeting is of two different agents, by a number below so many, and correctly says whether
+-- it changed a tuple
 pub record IsHistory (net : NetModel) (seats : ℕ) (opening : List Word) (history : List Meeting) : Type 0 where
   pub meetings : AreMeetings (length opening) history
   pub marked : AreMarked net history (crowd_of net opening)
@@ -25,7 +25,7 @@ abbrev pub listed_if : Bool → Logged → List Logged → List Logged
 listed_if true e es = e ∷ es
 listed_if false e es = es
 
--- the meetings of one number, where the first of the list has this ticket
+-- the meetings of one number, if the first of the list has this ticket
 abbrev pub calls_from : ℕ → ℕ → List Meeting → List Logged
 calls_from number ticket [] = []
 calls_from number ticket (m ∷ meetings) =
@@ -44,7 +44,7 @@ abbrev pub placed_some : ℕ → List Meeting → Option (List Logged) → List 
 placed_some number meetings None = meetings
 placed_some number meetings (Some log) = placed number meetings log
 
--- the same for the logs of many numbers, of which this is the first
+-- the same for the logs of many numbers, from this one on
 abbrev pub placed_logs : ℕ × List Meeting → List (Option (List Logged)) → List Meeting
 placed_logs start [] = start.1
 placed_logs start (log ∷ logs) = placed_logs (start.0 + 1, placed_some start.0 start.1 log) logs

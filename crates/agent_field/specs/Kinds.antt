@@ -1,5 +1,5 @@
--- The kinds of atomic step of a seat, each with where it is allowed and what it changes; and runs of steps, by any
--- seats in any order.
+-- The kinds of atomic step of a seat, when each is allowed and what it changes; and runs of steps, by any seats in any
+-- order.
 use Rattle.std.specs.Prelude.{◌≡◌, ◌≢◌, ◌⊎◌, ℕ, ◌+◌, ◌<◌, ◌≤◌, ◌++◌, true, List, [], ◌∷◌, slice_index, slice_set}
 use mathlib.Core.Option.{Option, some}
 use lib.ListN.{get_elem?}
@@ -73,7 +73,7 @@ pub data FieldRun (k : Setup) : List ℕ → List View → List Meeting → List
       → DrawStep k words views m words' views' → FieldRun k words' views' meetings words'' views''
       → FieldRun k words views (m ∷ meetings) words'' views''
 
--- the field stands at this history: none before it is founded
+-- the field stands at this history, which is empty until it is founded
 abbrev pub HasHistory : Setup → List ℕ → List View → List Meeting → Type 0
 HasHistory k words views history =
     (IsUnfounded k words views × (history ≡ [])) ⊎ ((seat : ℕ → Option ℕ) × StandsAt k words views history seat)
@@ -86,11 +86,11 @@ pub record MomentsStand (k : Setup) : Type 0 where
       → Stands k words views
   pub has_history : (words : List ℕ) (views : List View) → Stands k words views → (history : List Meeting)
       × HasHistory k words views history
-  -- there is just one such history
+  -- there is only one such history
   pub one : (words : List ℕ) (views : List View) (first second : List Meeting) → HasHistory k words views first
       → HasHistory k words views second
       → first ≡ second
-  -- no step but the draw changes the history, and so what it gives for any agent
+  -- no step but the draw changes the history, nor what it gives for any agent
   pub quiet : (words : List ℕ) (views : List View) (words' : List ℕ) (views' : List View) (history : List Meeting)
       → QuietStep k words views words' views' → HasHistory k words views history → HasHistory k words' views' history
   -- the draw adds its meeting, which is a step of the model

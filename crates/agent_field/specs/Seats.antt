@@ -1,4 +1,4 @@
--- Which field a seat is of, what it keeps, and what its calls say.
+-- Which field a seat belongs to, what it keeps, and what its calls promise.
 use Rattle.std.specs.Prelude.{◌≡◌, ◌≢◌, All, ℕ, ◌<◌, ◌≤◌, Bool, List, [], length, IsSome, None, Some, Option}
 use Rattle.std.specs.Prelude.{slice_index_or}
 use Rattle.pop_net.specs.declared.net.Word.{Word}
@@ -39,11 +39,11 @@ pub record IsOpened (f : Field) (net : NetModel) (words : List Word) (shards sea
 abbrev pub field_start : Field → CrowdModel
 field_start f = crowd_of (net_of f) (opening_of f)
 
--- the seat is of this field
+-- the seat belongs to this field
 abbrev pub IsSeatOf : Field → FieldSeat → Type 0
 IsSeatOf f s = (s.seat.table_id ≡ f.table.shared.table_id) × (s.seat.me.0.setup ≡ f.table.shared.key)
 
--- the seat is still of the same field
+-- the seat still belongs to the same field
 abbrev pub KeepsField : FieldSeat → FieldSeat → Type 0
 KeepsField s t = (t.seat.table_id ≡ s.seat.table_id) × (t.seat.me.0.setup ≡ s.seat.me.0.setup)
 
@@ -71,7 +71,7 @@ made_of s = length s.log.items
 abbrev pub spare_of : FieldSeat → ℕ
 spare_of s = s.spare
 
--- of number 0: the least number that is left, how many are left, and the logs that it has taken in, by number
+-- for number 0: the least remaining number, how many remain, and the logs that it has taken in, by number
 abbrev pub next_of : FieldSeat → ℕ
 next_of s = s.next
 
@@ -87,7 +87,7 @@ looks_of s = s.looks.items
 abbrev pub spare_looks_of : FieldSeat → ℕ
 spare_looks_of s = length s.rooms.items
 
--- all but the own log and the room for it stays
+-- all but the seat's own log and the room for it stays
 abbrev pub KeepsRest : FieldSeat → FieldSeat → Type 0
 KeepsRest s t =
     (seat_number t ≡ seat_number s) × (next_of t ≡ next_of s) × (left_of t ≡ left_of s) × (taken_of t ≡ taken_of s)
@@ -105,7 +105,7 @@ KeepsLogs s t =
     (seat_number t ≡ seat_number s) × (next_of t ≡ next_of s) × (left_of t ≡ left_of s) × (taken_of t ≡ taken_of s)
     × (log_of t ≡ log_of s) × (spare_of t ≡ spare_of s)
 
--- a seat that has made nothing, nor has room for anything
+-- a seat that has made nothing and has no room
 abbrev pub IsFresh : FieldSeat → Type 0
 IsFresh s = (log_of s ≡ []) × (spare_of s ≡ 0) × (looks_of s ≡ []) × (spare_looks_of s ≡ 0)
 
@@ -113,21 +113,20 @@ IsFresh s = (log_of s ≡ []) × (spare_of s ≡ 0) × (looks_of s ≡ []) × (s
 abbrev pub IsWhole : FieldSeat → Type 0
 IsWhole s = (seat_number s ≡ 0) × ((w : ℕ) → 0 < w → w < next_of s → IsSome (slice_index_or (taken_of s) w None))
 
--- the ticket is greater than all in the seat's own log and in those that it took in, and at least that of each of its
--- looks
+-- the ticket is greater than all in the seat's own log and those it took in, and at least that of each of its looks
 pub record IsNewestOf (ticket : ℕ) (s : FieldSeat) : Type 0 where
   pub own : (e : Logged) → In e (log_of s) → e.ticket < ticket
   pub taken_in : seat_number s ≡ 0 → (w : ℕ) (l : List Logged) (e : Logged)
       → slice_index_or (taken_of s) w None ≡ Some l → In e l → e.ticket < ticket
   pub looks : (look : Look) → In look (looks_of s) → look.ticket ≤ ticket
 
--- a history of the field so far, with just this log for the number
+-- a history of the field so far, with exactly this log for the number
 pub record IsSoFar (f : Field) (number : ℕ) (log : List Logged) (ticket : ℕ) (history : List Meeting) : Type 0 where
   pub long : length history ≡ ticket
   pub right : IsHistory (net_of f) (seats_of f) (opening_of f) history
   pub own : log ≡ calls number history
 
--- at the ticket there was such a history, and `changed` says whether in the crowd after it the meeting of a and b
+-- at the ticket there was such a history, and `changed` says whether a meeting of a and b in the crowd after it
 -- changes a tuple
 abbrev pub IsMetAt : Field → ℕ → List Logged → ℕ → ℕ → ℕ → Bool → Type 0
 IsMetAt f number log a b ticket changed =
@@ -143,7 +142,7 @@ IsGlance f s look =
     (history : List Meeting) × IsSoFar f (seat_number s) (log_of s) look.ticket history
     × IsLook (net_of f) (opening_of f) history look
 
--- what the field is closed with, once this seat is whole: the words, and the history that they are the replay of
+-- what closing the field gives, once this seat is whole: the words, and the history whose replay they are
 pub record IsRoundOf (f : Field) (s : FieldSeat) (r : Round) : Type 0 where
   pub words : crowd_of (net_of f) r.words ≡ replay (net_of f) r.meetings (field_start f)
   pub valid : AreValid (net_of f) r.words

@@ -1,5 +1,5 @@
 -- FieldStands: the rule of the field's table, over its words and the views of all seats.
--- The clock and the founder word come first. Behind them the lock words of the shards and the words of the agents take
+-- The clock and the founder word come first. After them the lock words of the shards and the words of the agents take
 -- turns, as long as there are both.
 use Rattle.std.specs.Prelude.{◌≡◌, ℕ, ◌+◌, ◌<◌, ◌≤◌, ◌%◌, ◌⊎◌, ◌==◌, min, max, IsSome, Bool, true, false, List, [], ◌∷◌}
 use Rattle.std.specs.Prelude.{◌++◌}
@@ -25,7 +25,7 @@ use Rattle.agent_field.specs.History.{IsHistory, calls}
 abbrev pub agents_opened : Setup → ℕ
 agents_opened k = length k.opening.value
 
--- the place of a shard's lock in a table of so many agents, and that of an agent's word in a table of so many shards
+-- the place of a shard's lock, given the number of agents, and that of an agent's word, given the number of shards
 abbrev pub lock_place : ℕ → ℕ → ℕ
 lock_place agents s = HEAD_WORDS + s + min s agents
 
@@ -71,7 +71,7 @@ crowd_after k history = replay k.net.value history (crowd_of k.net.value k.openi
 abbrev pub tuple_after : Setup → List Meeting → ℕ → Tuple
 tuple_after k history a = slice_index_or (crowd_after k history) a []
 
--- x is one of the list
+-- x is in the list
 abbrev pub In : {X : Type 0} → X → List X → Type 0
 In x [] = ⊥
 In x (y ∷ ys) = (x ≡ y) ⊎ In x ys
@@ -140,22 +140,21 @@ pub record IsFirst (k : Setup) (history : List Meeting) (seat : ℕ → Option �
 abbrev pub LocksPart : Setup → List ℕ → View → Type 0
 LocksPart k words v = (s : ℕ) → In s v.held → (s < k.shards) × (slice_index words (lock_at k s) ≡ v.number + 1)
 
--- KnownPart: of whom it knows the word, it holds the shard, that agent is not due, and that is the agent's word
+-- KnownPart: if it knows an agent's word, it holds the agent's shard, the table has that word, and none is due
 abbrev pub KnownPart : Setup → List ℕ → View → Type 0
 KnownPart k words v =
     (a : ℕ) (x : Word) → In (a, x) v.known → (a < agents_opened k) × In (shard_of k a) v.held
     × (agent_word k words a ≡ x) × ((y : Word) → In (a, y) v.due → ⊥)
 
--- DuePart and ValidPart: of whom a word is due, it holds the shard, and the due word is what the history gives, and
--- valid
+-- DuePart and ValidPart: if it owes an agent's word, it holds the agent's shard, and that word is valid and what the
+-- history gives
 abbrev pub DuePart : Setup → List Meeting → View → Type 0
 DuePart k history v =
     (a : ℕ) (x : Word) → In (a, x) v.due
     → (a < agents_opened k) × In (shard_of k a) v.held × (tuple_of k.net.value x ≡ tuple_after k history a)
     × IsValid k.net.value x
 
--- while words of a pair are due, that pair made the view's last meeting, and the view holds the pair's shards and no
--- other
+-- while words of a pair are due, the pair made the view's last meeting, and the view holds exactly the pair's shards
 abbrev pub TightPart : Setup → View → Type 0
 TightPart k v =
     (c : ℕ) (x : Word) → In (c, x) v.due → (earlier : List Logged) × (last : Logged) × (v.log ≡ earlier ++ last ∷ [])
@@ -178,7 +177,7 @@ pub record LooksPart (k : Setup) (history : List Meeting) (looks : List Look) : 
   pub each : (look : Look) → In look looks → IsLook k.net.value k.opening.value history look
   pub ascending : LooksAscend looks
 
--- what stands of the view of the seat `id`
+-- what holds for the view of the seat `id`
 pub record Agrees (k : Setup) (words : List ℕ) (history : List Meeting) (seat : ℕ → Option ℕ) (id : ℕ)
     (v : View) : Type 0 where
   pub setup : v.setup ≡ k
@@ -207,7 +206,7 @@ IsHeldBySome views s = (id : ℕ) × (v : View) × (get_elem? views id ≡ some 
 abbrev pub ValidPart : Setup → List ℕ → Type 0
 ValidPart k words = (a : ℕ) → a < agents_opened k → IsValid k.net.value (agent_word k words a)
 
--- SettledPart: the word of an agent that is due nowhere is what the history gives
+-- SettledPart: the word of an agent that no seat owes is what the history gives
 abbrev pub SettledPart : Setup → List ℕ → List View → List Meeting → Type 0
 SettledPart k words views history =
     (a : ℕ) → a < agents_opened k → IsOwedByNone views a
@@ -236,7 +235,7 @@ pub record StandsAt (k : Setup) (words : List ℕ) (views : List View) (history 
   pub each : (id : ℕ) (v : View) → get_elem? views id ≡ some v → v.live ≡ true → Agrees k words history seat id v
   pub others : (id : ℕ) (v : View) → get_elem? views id ≡ some v → v.live ≡ false → v ≡ joined_away
 
--- FounderPart, where the founder word is 0: nothing has happened
+-- FounderPart, while the founder word is 0: nothing has happened
 pub record IsUnfounded (k : Setup) (words : List ℕ) (views : List View) : Type 0 where
   pub limits : (0 < k.shards) × (0 < k.seats) × (k.seats ≤ SEAT_LIMIT)
   pub valid : AreValid k.net.value k.opening.value

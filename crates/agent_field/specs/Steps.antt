@@ -1,4 +1,4 @@
--- What each step of a seat tells.
+-- What each step of a seat establishes.
 use Rattle.std.specs.Prelude.{zero, suc, ◌≡◌, ◌≢◌, ℕ, ◌+◌, ◌<◌, ◌≤◌, List, [], ◌∷◌, ◌++◌, length, filter, not, ◌==◌}
 use Rattle.std.specs.Prelude.{slice_index_or, slice_set, replicate, Option as Maybe, Some as Given, None as Missing}
 use Rattle.atomic_table.specs.Table.{Me, Step}
@@ -51,7 +51,7 @@ pub record IsReaction (net : NetModel) (x y x' y' : Word) : Type 0 where
 abbrev pub without : ℕ → List (ℕ × Word) → List (ℕ × Word)
 without a words = filter (λ p. not (p.0 == a)) words
 
--- the agents a and b, with the words x and y, meet: x' and y' are due, and what was known of them is known no more
+-- the agents a and b, with the words x and y, meet: x' and y' are due, and what was known of them is forgotten
 abbrev pub meeting_made : ℕ → ℕ → ℕ → Word → Word → Word → Word → View → View
 meeting_made ticket a b x y x' y' v =
     record v {
@@ -72,14 +72,14 @@ seen (p ∷ ps) = seen ps ++ p.1 ∷ []
 abbrev pub look_of : ℕ → List Word → Look
 look_of ticket words = record { ticket = ticket; words = words }
 
--- all tickets that the seat knows of meetings are below this one, and those of its looks at most this one
+-- all tickets of meetings that the seat knows are below this one, and those of its looks are at most this one
 pub record IsNewest (ticket : ℕ) (v : View) : Type 0 where
   pub own : (e : Logged) → In e v.log → e.ticket < ticket
   pub taken_in : v.number ≡ 0 → (w : ℕ) (l : List Logged) (e : Logged) → slice_index_or v.taken w Missing ≡ Given l
       → In e l → e.ticket < ticket
   pub looks : (look : Look) → In look v.looks → look.ticket ≤ ticket
 
--- at the ticket there is a history, with just this log for the seat's number, after which the known words stand
+-- at the ticket there is a history, with exactly this log for the seat's number, after which the known words stand
 pub record IsDrawnAt (ticket : ℕ) (v : View) : Type 0 where
   pub history : List Meeting
   pub long : length history ≡ ticket
@@ -87,19 +87,19 @@ pub record IsDrawnAt (ticket : ℕ) (v : View) : Type 0 where
   pub logs : v.log ≡ calls v.number history
   pub known : (a : ℕ) (x : Word) → In (a, x) v.known → tuple_after v.setup history a ≡ tuple_of v.setup.net.value x
 
--- where a shard's lock may be taken: while nothing is due
+-- when a shard's lock may be taken: while nothing is due
 pub record CanLock (k : Setup) (v : View) (s : ℕ) : Type 0 where
   pub inside : s < k.shards
   pub due : v.due ≡ []
 
--- where it may be given back: if it was taken last, while nothing is due
+-- when it may be given back: if it was taken last, while nothing is due
 pub record CanUnlock (v : View) (s : ℕ) : Type 0 where
   pub before : List ℕ
   pub last : v.held ≡ s ∷ before
   pub once : In s before → ⊥
   pub due : v.due ≡ []
 
--- where an agent's word may be read: under its shard's lock, while none is due for it
+-- when an agent's word may be read: under its shard's lock, while none is due for it
 pub record CanRead (k : Setup) (v : View) (a : ℕ) : Type 0 where
   pub inside : a < agents_opened k
   pub locked : In (shard_of k a) v.held
@@ -176,7 +176,7 @@ Writes st m r m' =
 abbrev pub looking : ℕ → List Word → View → View
 looking ticket words v = record v { looks = v.looks ++ look_of ticket words ∷ [] }
 
--- at the ticket there is a history, with just this log for the seat's number, after which these words stand
+-- at the ticket there is a history, with exactly this log for the seat's number, after which these words stand
 pub record IsSeenAt (ticket : ℕ) (words : List Word) (v : View) : Type 0 where
   pub history : List Meeting
   pub long : length history ≡ ticket
@@ -184,7 +184,7 @@ pub record IsSeenAt (ticket : ℕ) (words : List Word) (v : View) : Type 0 where
   pub logs : v.log ≡ calls v.number history
   pub look : IsLook v.setup.net.value v.setup.opening.value history (look_of ticket words)
 
--- the clock is read, where all words that were read are those of all agents
+-- the clock is read, once the words of all agents were read
 abbrev pub Watches : Step (Unit {0}) → Mine → ℕ → Mine → Type 0
 Watches st m r m' =
     (m' ≡ (looking r (seen m.0.known) m.0, m.1))
@@ -203,11 +203,11 @@ newcomer v = idle v.setup v.next [] 0 [] []
 abbrev pub taking_in : View → View → View
 taking_in v w = record v { taken = slice_set v.taken w.number (Given w.log) }
 
--- the agents a and b meet, of which alone the words were known
+-- the agents a and b meet, and no other words were known
 abbrev pub pair_made : ℕ → ℕ → ℕ → Word → Word → Word → Word → View → View
 pair_made ticket a b x y x' y' v = record (meeting_made ticket a b x y x' y' v) { known = [] }
 
--- one more meeting stands in the seat's log
+-- the seat's log has one more meeting
 abbrev pub recorded : Logged → View → View
 recorded e v = record v { known = []; due = []; log = v.log ++ e ∷ [] }
 

@@ -19,7 +19,7 @@ pub record IsUsable (f : Field) (t : SeatToken) : Type 0 where
   pub live : t.me.0.live ≡ true
   pub ours : t.me.0.setup ≡ f.table.shared.key
 
--- it holds just these locks, the last one first, and owes no word
+-- it holds exactly these locks, the last one first, and owes no word
 pub record HoldsJust (f : Field) (locks : List ℕ) (t : SeatToken) : Type 0 where
   pub usable : IsUsable f t
   pub held : t.me.0.held ≡ locks
@@ -30,7 +30,7 @@ pub record HasLocked (f : Field) (locks : List ℕ) (t : SeatToken) : Type 0 whe
   pub holds : HoldsJust f locks t
   pub known : t.me.0.known ≡ []
 
--- it is that of the seat with this number between its calls, and holds no lock
+-- it is the token of the seat with this number between its calls, and holds no lock
 pub record IsBetweenCalls (f : Field) (number : ℕ) (t : SeatToken) : Type 0 where
   pub free : HasLocked f [] t
   pub number_is : t.me.0.number ≡ number
@@ -103,7 +103,7 @@ pub record HasReacted (f : Field) (a b ticket : ℕ) (changed : Bool) (before af
   pub newest : IsNewest ticket before.me.0
   pub moment : IsMetAt f before.me.0.number before.me.0.log a b ticket changed
 
--- the words of all agents, so many, were read and are known
+-- the words of all agents were read and are known
 pub record HasReadAll (agents : ℕ) (words : List Word) (before after : SeatToken) : Type 0 where
   pub known : List (ℕ × Word)
   pub read : Becomes before after (with_known known before.me.0)

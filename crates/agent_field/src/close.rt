@@ -48,7 +48,7 @@ fn place_some(out: &mut [Meeting], worker: u16, log: &Option<List<Logged>>)
     }
 }
 
-/// What stands at a ticket before its meeting is put there.
+/// Fills a ticket until its meeting is put there.
 fn nobody() -> Meeting
     ensures { result ≡ made 0 0 0 false }
 {
@@ -81,7 +81,7 @@ fn arrange(
     Ok(out)
 }
 
-/// The agents' words of a table.
+/// The agents' words in a table.
 fn agent_words(
     closed: &Closed<(), Global>,
     shards: u32,
@@ -120,7 +120,7 @@ impl FieldSeat {
 impl<'n> Field<'n> {
     ghost use Rattle.agent_field.specs.Seats.{IsRoundOf, IsSeatOf, IsWhole};
 
-    /// The words, and the history that they are the replay of.
+    /// The words, and the history whose replay they are.
     pub fn close(self, alloc: Global, seat: FieldSeat) -> Result<Round, NoMemory>
         requires ours { IsSeatOf self seat }
         requires whole { IsWhole seat }

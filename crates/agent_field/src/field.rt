@@ -19,7 +19,7 @@ pub struct Field<'n> {
     pub(crate) shards: u32,
     pub(crate) seats: u16,
     pub(crate) agents: u32,
-    /// Empty, with room for all agents: the words at the end come into it.
+    /// Empty, with room for all agents' words at the end.
     pub(crate) room: Vec<Word>,
     ghost net_is: { table.shared.key.net.value ≡ net.now },
     ghost shards_are: { table.shared.key.shards ≡ shards },
@@ -42,7 +42,7 @@ pub struct FieldSeat {
     pub(crate) left: u16,
     pub(crate) taken: Vec<Option<List<Logged>>>,
     pub(crate) looks: Vec<Look>,
-    /// Empty, and each with room for all agents: one for each look to come.
+    /// An empty list for each look to come, with room for all agents.
     pub(crate) rooms: Vec<Vec<Word>>,
     ghost room: { (vec_len log + spare ≤ vec_capacity log) × (vec_len log + spare ≤ LOG_LIMIT) },
     ghost known: { number < seat.me.0.setup.seats },
@@ -55,7 +55,7 @@ pub struct FieldSeat {
     ghost is_idle: { seat.me ≡ (idle seat.me.0.setup number log.items next taken.items looks.items, []) },
 }
 
-/// What a meeting answers.
+/// The result of a meeting.
 #[derive(Clone, Copy, PartialEq, Eq)]
 pub struct Met {
     pub ticket: u64,
@@ -91,7 +91,7 @@ impl FieldSeat {
         self.log.len() as u64
     }
 
-    /// How many more it has room for.
+    /// How many more meetings it has room for.
     pub fn spare(&self) -> u64
         ensures { result ≡ spare_of self.now }
     {
@@ -112,7 +112,7 @@ impl FieldSeat {
         self.looks.len() as u16
     }
 
-    /// How many more it has room for.
+    /// How many more looks it has room for.
     pub fn spare_looks(&self) -> u16
         ensures { result ≡ spare_looks_of self.now }
     {
@@ -127,7 +127,7 @@ impl FieldSeat {
         &self.looks[i as usize]
     }
 
-    /// Room for so many more meetings.
+    /// Makes room for so many more meetings.
     pub fn reserve(&mut self, turns: u64) -> Result<(), NoMemory>
         requires { made_of self.old + turns ≤ LOG_LIMIT }
         ensures { HasReserved turns result self.old self.new }

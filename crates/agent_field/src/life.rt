@@ -77,7 +77,7 @@ impl<'n> Field<'n> {
         Field::open_on(rt, alloc, net, words, shards, seats, &mut layout)
     }
 
-    /// The same, with a layout that other fields had before.
+    /// The same, with a layout that other fields may have used.
     pub fn open_on<R: Wait>(
         rt: &R,
         alloc: Global,
@@ -131,7 +131,7 @@ impl<'n> Field<'n> {
         Ok((field, first))
     }
 
-    /// A new seat, with the least number that is left. It allocates nothing today.
+    /// A new seat, with the least remaining number. It currently allocates nothing.
     pub fn split(&self, alloc: Global, seat: &mut FieldSeat) -> Result<FieldSeat, NoMemory>
         requires first { IsFirstOf self.now seat.old }
         requires left { 1 ≤ left_of seat.old }
@@ -154,7 +154,7 @@ impl<'n> Field<'n> {
         })
     }
 
-    /// Takes in another seat's log, under its number. It allocates nothing today.
+    /// Takes in another seat's log, under its number. It currently allocates nothing.
     pub fn join(&self, seat: &mut FieldSeat, other: FieldSeat) -> Result<(), (FieldSeat, NoMemory)>
         requires first { IsFirstOf self.now seat.old }
         requires theirs { IsSeatOf self.now other }

@@ -1,6 +1,6 @@
-//! The limits of a field. Those of agents stand in `pop_crowd`, and that of shards in `pop_io`.
+//! The limits of a field. Those of agents are in `pop_crowd`, and that of shards is in `pop_io`.
 
-/// The most seats of a field, which has one at least.
+/// The most seats of a field, which has at least one.
 pub const SEAT_LIMIT: u16 = 64;
 
 /// The most looks that a seat makes.

@@ -39,7 +39,7 @@ impl<'n> Field<'n> {
         }
     }
 
-    /// Reads all words, under the locks of all shards, into a list that has the room.
+    /// Reads all words, under the locks of all shards, into a list with enough room.
     fn read_all(&self, token: &mut Seat<(), View>, mut out: Vec<Word>) -> Vec<Word>
         requires locked { HasLocked self.now (below self.now.shards) token.old }
         requires room { (out.items ≡ []) × (self.now.agents ≤ vec_capacity out) }
@@ -61,7 +61,7 @@ impl<'n> Field<'n> {
         }
     }
 
-    /// Room for so many more looks.
+    /// Makes room for so many more looks.
     pub fn reserve_looks(
         &self,
         alloc: Global,
@@ -80,7 +80,7 @@ impl<'n> Field<'n> {
         Ok(())
     }
 
-    /// Looks at all agents, under the locks of all shards, and answers the ticket of the next meeting.
+    /// Looks at all agents, under the locks of all shards, and returns the ticket of the next meeting.
     /// It may wait for a lock, and allocates nothing.
     pub fn look<R: Wait>(&self, rt: &R, seat: &mut FieldSeat) -> u64
         requires first { IsFirstOf self.now seat.old }

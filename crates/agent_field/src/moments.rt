@@ -1,10 +1,10 @@
-//! What stands between any two atomic steps.
+//! What holds between any two atomic steps.
 
 ghost use Rattle.agent_field.specs.Kinds.{EachMomentStands};
 ghost use Rattle.agent_field.specs.DrawLaws.{DrawLaws};
 
 /// The field stands at every moment of every run of atomic steps, by any seats in any order. The draw of a ticket
-/// adds its meeting to the history, and is a step of the model; every other step leaves the history as it is.
+/// adds its meeting to the history, and is a step of the model; every other step leaves the history unchanged.
 pub fn each_moment_stands()
     ensures { EachMomentStands }
 {}

@@ -1,4 +1,4 @@
-//! Where the words of a field stand in its table. Behind the clock and the founder word, the locks of the shards and
+//! Where the words of a field stand in its table. After the clock and the founder word, the locks of the shards and
 //! the words of the agents take turns: with as many shards as agents, each lock stands before its agent's word.
 
 ghost use Rattle.std.specs.Prelude.{◌≡◌};

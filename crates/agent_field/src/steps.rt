@@ -71,7 +71,7 @@ impl<'n> Field<'n> {
         self.table.shared.store::<Write>(token, at, word.0);
     }
 
-    /// Reads the clock, where all words were read under all locks.
+    /// Reads the clock, once all words were read under all locks.
     pub(crate) fn watch(&self, token: &mut Seat<(), View>) -> u64
         requires usable { IsUsable self.now token.old }
         requires all { HasSeenAll self.now.table.shared.key token.old.me.0 (seen token.old.me.0.known) }

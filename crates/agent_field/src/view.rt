@@ -5,7 +5,7 @@ use pop_io::List;
 use pop_net::{Net, Word};
 use std::snapshot::Snapshot;
 
-/// A meeting, as the seat that made it keeps it.
+/// A meeting, as the seat that made it logs it.
 #[derive(Clone, Copy, PartialEq, Eq)]
 pub struct Logged {
     pub ticket: u64,
@@ -30,7 +30,7 @@ pub struct Setup {
     pub seats: u16,
 }
 
-/// What a seat knows. No value of it is made.
+/// What a seat knows. No value of it exists at run time.
 pub struct View {
     pub setup: Setup,
     /// The field is not founded, and this seat will found it.
@@ -42,14 +42,14 @@ pub struct View {
     pub held: List<u32>,
     /// The words that it read, the last one first.
     pub known: List<(u32, Word)>,
-    /// The words that it has still to write.
+    /// The words that it still has to write.
     pub due: List<(u32, Word)>,
     pub log: List<Logged>,
-    /// Of number 0: the first fresh number.
+    /// For number 0: the first fresh number.
     pub next: u16,
-    /// Of number 0: the logs that it took in, by number.
+    /// For number 0: the logs that it took in, by number.
     pub taken: List<Option<List<Logged>>>,
-    /// Of number 0.
+    /// For number 0.
     pub looks: List<Look>,
 }
 

@@ -13,7 +13,7 @@ use Rattle.agent_field.proofs.life.lay_out.Goals.{then-a-shards, else-a-shards}
 abbrev bits : List Word → List ℕ
 bits words = map (λ (w : Word). w.0) words
 
--- the bits of one word more
+-- the bits of one more word
 bits_more : (words : List Word) (a : ℕ) → a < length words
     → bits (take (a + 1) words) ≡ bits (take a words) ++ (get_or words a (packed 0)).0 ∷ []
 bits_more words a inside =
