@@ -1,4 +1,4 @@
-//! A crowd whose agents threads share: seats that make meetings beside each other, and look at all agents.
+//! A crowd whose agents threads share: seats that make meetings concurrently, and look at all agents.
 //! It stands on `pop_crowd` and `atomic_table`.
 //! The layer above uses: each meeting is logged with its ticket, and closing gives the history and its replay.
 #![tactic(auto)]

@@ -24,7 +24,7 @@ whole_written {A = A} n new old same all =
     ∙ ap (take n) (append-nil new)
     ∙ take_all n new (omega (arith, same, all))
 
--- the first of a list and the others
+-- a list is its first element and the others
 pub front : {A : Type 0} (xs ys : List A) (x : A) → 0 < length xs → x ≡ get_or xs 0 x → ys ≡ take 0 xs ++ drop 1 xs → xs ≡ x ∷ ys
 front [] ys x some is rest = absurd (omega (arith, some))
 front {A = A} (z ∷ zs) ys x some is rest = ap (λ (w : A). w ∷ zs) (sym is) ∙ ap (λ (l : List A). x ∷ l) (sym rest)
@@ -37,7 +37,7 @@ is_done f turns observed number picker before after ready worked = record {
   all = worked.all;
 }
 
--- the workers of a slice that stands for the list, after their turns
+-- the workers of a slice that is the list, after their turns
 pub are_done : (f : Field) (turns : ℕ) (observed : Bool) (pickers : List (List ℕ)) (before slice after : List Worker) → slice ≡ before → AreReady f turns pickers before → length after ≡ length slice
     → ((i : ℕ) (d : Worker) → i < length slice → HasWorked f turns observed (get_or slice i d) (get_or after i d)) → AreDone f turns observed pickers after
 are_done f turns observed pickers before slice after value ready same worked =
@@ -59,7 +59,7 @@ pairs_called w t [] = refl
 pairs_called w t (m ∷ ms) = pairs_if (eqb m.worker w) m t (calls_from w (t + 1) ms) (meetings_of w ms) (pairs_called w (t + 1) ms)
 
 module _ (f : Field) (turns : ℕ) (own : List ℕ) (pickers : List (List ℕ)) (done : List Worker) (first : Worker) (s : FieldSeat) (meetings : List Meeting) where
-  -- each worker's meetings are its next picks, also those of number 0
+  -- each worker's meetings are its next picks, including those of number 0
   pub all_picked : HasPicked (agents_of_field f) turns own first.picker (pairs_of (log_of first.seat)) → AreDone f turns false pickers done → HasAll f done first.seat s
       → calls 0 meetings ≡ log_of s → ((w : ℕ) (l : List Logged) → get_or (taken_of s) w None ≡ Some l → calls w meetings ≡ l)
       → (w : ℕ) (d : List ℕ) → w < length pickers + 1

@@ -45,7 +45,7 @@ alone_played net start turns pickers before after ms end h size one found =
         subst (λ (t : List ℕ × List ℕ × List (ℕ × ℕ)). HasPicked (length start) turns t.0 t.1 t.2) (λ i. (found d i, stands i, all i)) mine
     picked (suc w) d l = absurd (omega (arith, l))
 
--- the rounds so far, the crowd after them, where the pickers stand, and the turns that are left
+-- the rounds so far, the crowd after them, the states of the pickers, and the turns that are left
 pub record AreOnTheRun (net : NetModel) (start : CrowdModel) (spec : RunSpec) (rounds : List (List Meeting)) (crowd : CrowdModel) (pickers : List (List ℕ)) (left : ℕ) : Type 0 where
   pub each : (k : ℕ) (meetings : List Meeting) → slice_get rounds k ≡ Some meetings → IsRound spec (k + 1) meetings
   pub picked : (w : ℕ) (d : List ℕ) → w < spec.workers → HasPicked (length start) (length (meetings_of w (joined rounds))) (first_state spec.seed w) (get_or pickers w d) (pairs (meetings_of w (joined rounds)))
@@ -65,7 +65,7 @@ all_no_rounds net start spec pickers first =
       unspent = omega arith;
     }
 
--- one picker stands for one worker
+-- a single picker belongs to worker 0
 pub first_alone : (spec : RunSpec) (picker : List ℕ) → spec.workers ≡ 1 → picker ≡ first_state spec.seed 0 → (w : ℕ) (d : List ℕ) → w < spec.workers → get_or (picker ∷ []) w d ≡ first_state spec.seed w
 first_alone spec picker one is zero d l = is
 first_alone spec picker one is (suc w) d l = absurd (omega (arith, l, one))
@@ -88,7 +88,7 @@ module _ (net : NetModel) (start : CrowdModel) (spec : RunSpec) (rounds : List (
   pub as_many : length crowd ≡ length start
   as_many = ap length (sym h.replays) ∙ length-replay net (joined rounds) start
 
-  -- what one round more makes of the rounds so far
+  -- what one more round adds to the rounds so far
   module _ (round : List Meeting) where
     pub all_of : (w : ℕ) → meetings_of w (joined (rounds ++ round ∷ [])) ≡ meetings_of w (joined rounds) ++ meetings_of w round
     all_of w = ap (meetings_of w) (joined_push rounds round) ∙ filter-append (λ (m : Meeting). m.worker == w) (joined rounds) round

@@ -1,4 +1,4 @@
--- A run by one worker is the only one: its meetings are picks, and its rounds have so many meetings as their turns say.
+-- A run by one worker is the only one: its meetings are picks, and its rounds have as many meetings as their turns say.
 use Rattle.std.proofs.Common.{◌≡◌, ◌⊎◌, inl, inr, ℕ, suc, ◌+◌, ◌*◌, ◌<◌, ◌≤◌, List, [], ◌∷◌, ◌++◌, length, take, refl, ap, sym, subst, ◌∙◌, arith}
 use Rattle.std.specs.Prelude.{All, Some, slice_get}
 use Rattle.std.proofs.lemmas.Bool.{cases_lt}
@@ -29,7 +29,7 @@ take_none (x ∷ xs) = refl
 abbrev Mine : Meeting → Type 0
 Mine m = m.worker ≡ 0
 
--- meetings that are picks and are marked rightly are the first of any more such
+-- correctly marked meetings that are picks are a prefix of any longer list of such meetings
 firsts : (net : NetModel) (words : Stream) (n : ℕ) (crowd : CrowdModel) (ms more : List Meeting) → All Mine ms → All Mine more → pairs ms ≡ picks_from words n (length ms) → pairs more ≡ picks_from words n (length more) → AreMarked net ms crowd → AreMarked net more crowd → length ms ≤ length more
     → ms ≡ take (length ms) more
 firsts net words n crowd [] more h k p q a b l = sym (take_none more)
@@ -48,7 +48,7 @@ firsts net words n crowd (m ∷ ms) (o ∷ more) h k p q a b l =
     a.1 (subst (λ (t : ℕ × ℕ). AreMarked net more (after_meeting net t.0 t.1 crowd)) (sym agents) b.1) (omega (arith, l)) in
     ap (λ (x : Meeting). x ∷ ms) same ∙ ap (λ (xs : List Meeting). o ∷ xs) tail
 
--- two lists whose first parts are equally long
+-- two lists whose first parts have equal length
 parts : {A : Type 0} (a a' b b' : List A) → length a ≡ length a' → a ++ b ≡ take (length (a ++ b)) (a' ++ b') → (a ≡ a') × (b ≡ take (length b) b')
 parts [] [] b b' l e = (refl, e)
 parts [] (y ∷ a') b b' l e = absurd (omega (arith, l))
@@ -99,13 +99,13 @@ module _ (net : NetModel) (start : CrowdModel) (spec : RunSpec) (alone : spec.wo
     picked_of : (rs : List (List Meeting)) (e : CrowdModel) → IsRun net start spec rs e → pairs (joined rs) ≡ picks_from (words_from (first_state spec.seed 0)) (length start) (length (joined rs))
     picked_of rs e is = rw (all_mine (joined rs) (all_of rs e is)) at (is.picked 0 (omega (arith, alone)))
 
-    -- a run with no more rounds is the beginning of the other
+    -- a run with no more rounds is a prefix of the other
     begins : length rounds ≤ length others → rounds ≡ take (length rounds) others
     begins l =
         rounds_first rounds others alike l
         (firsts net (words_from (first_state spec.seed 0)) (length start) start (joined rounds) (joined others) (all_of rounds end run) (all_of others other second) (picked_of rounds end run) (picked_of others other second) run.marked second.marked (fewer_meetings rounds others alike l))
 
-    -- and it has no fewer
+    -- and it has no fewer rounds
     not_fewer : length rounds < length others → ⊥
     not_fewer l = ended run.over
       where
@@ -120,7 +120,7 @@ module _ (net : NetModel) (start : CrowdModel) (spec : RunSpec) (alone : spec.wo
             let round = second.each_round (length rounds) _ (slice_get-get_or others (length rounds) [] l) in
             absurd (omega (arith, round.some_turn, spent))
 
--- two runs by one worker are one
+-- two runs by one worker are equal
 pub only_run : (net : NetModel) (start : CrowdModel) (spec : RunSpec) (rounds : List (List Meeting)) (end : CrowdModel) → spec.workers ≡ 1 → IsRun net start spec rounds end → IsOnlyRun net start spec rounds end
 only_run net start spec rounds end alone run others other second = by_length (cases_lt (length rounds) (length others)) (cases_lt (length others) (length rounds))
   where

@@ -7,7 +7,7 @@ use Rattle.std.proofs.lemmas.Grind.{flat_map-append}
 use Rattle.pop_crowd.specs.declared.crowd.Meeting.{Meeting}
 use Rattle.pair_workers.specs.Run.{joined, meetings_of}
 
--- an item of a list with one more at its end is an item of the list, or the one
+-- an item of a list extended by one is an item of the list, or the new one
 pub get_pushed : {A : Type 0} (xs : List A) (x y : A) (k : ℕ) → slice_get (xs ++ x ∷ []) k ≡ Some y → (slice_get xs k ≡ Some y) ⊎ ((k ≡ length xs) × (x ≡ y))
 get_pushed [] x y zero h = inr (refl, cc)
 get_pushed [] x y (suc k) h = cc
@@ -22,12 +22,12 @@ pub joined_push : (rounds : List (List Meeting)) (round : List Meeting) → join
 joined_push [] round = append-nil round
 joined_push (r ∷ rounds) round = flat_map-append (λ (ms : List Meeting). ms) (r ∷ rounds) (round ∷ []) ∙ ap (λ ms. joined (r ∷ rounds) ++ ms) (append-nil round)
 
--- what holds of the meetings of each round holds of all
+-- what holds for the meetings of each round holds for all
 pub joined_all : (P : Meeting → Type 0) (rounds : List (List Meeting)) → ((i : ℕ) (r : List Meeting) → slice_get rounds i ≡ Some r → All P r) → All P (joined rounds)
 joined_all P [] each = All-nil P
 joined_all P (r ∷ rounds) each = All-append P r (joined rounds) (each 0 r refl) (joined_all P rounds (λ i s h. each (suc i) s h))
 
--- what a worker alone makes are all meetings
+-- the meetings of worker 0 are all meetings if nobody else makes any
 pub all_mine : (meetings : List Meeting) → All (λ (m : Meeting). m.worker ≡ 0) meetings → meetings_of 0 meetings ≡ meetings
 all_mine [] h = refl
 all_mine (m ∷ meetings) h =

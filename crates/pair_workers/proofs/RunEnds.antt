@@ -15,7 +15,7 @@ use Rattle.pair_workers.specs.Run.{IsRun}
 use Rattle.pair_workers.specs.Ends.{RunGoesOn, IsEndOf, EndsBy, IsRunFrom}
 use Rattle.pair_workers.proofs.ManyRounds.{AreOnTheRun, all_run_over}
 
--- where no further round is made the crowd is terminal, or no turns are left
+-- if no further round is made, the crowd is terminal or no turns are left
 pub over_by : (net : NetModel) (crowd : CrowdModel) (left : ℕ) (more : Bool) → more ≡ false → (more ≡ true) ↔ RunGoesOn net crowd left → (end : End) → IsEndOf net crowd end → IsTerminal (Step net) crowd ⊎ (left ≡ 0)
 over_by net crowd left more none goes Terminal is = inl is
 over_by net crowd zero more none goes (Open a b) is = inr refl
@@ -27,7 +27,7 @@ ends_by net crowd spec rounds (Open a b) is (inl terminal) = absurd (is.1 termin
 ends_by net crowd spec rounds (Open a b) is (inr spent) = (is.0, spent, is.1)
 
 -- rounds after which no further one is made are a run
--- with the table's net for the net, and the list that was made of the rounds for the rounds
+-- with the table's net as the net, and the list made of the rounds as the rounds
 pub run_ended : (net looked : NetModel) (first last : List Word) (spec : RunSpec) (rounds kept : List (List Meeting)) (pickers : List (List ℕ)) (left : ℕ) (more : Bool) (end : End) → AreOnTheRun net (crowd_of net first) spec rounds (crowd_of net last) pickers left
     → AreValid net last → length last ≡ length first → more ≡ false → looked ≡ net → (more ≡ true) ↔ RunGoesOn looked (crowd_of looked last) left → IsEndOf looked (crowd_of looked last) end → kept ≡ rounds → IsRunFrom net first spec (record { rounds = kept; crowd = last; end = end })
 run_ended net looked first last spec rounds kept pickers left more end on valid agents none same goes is list =

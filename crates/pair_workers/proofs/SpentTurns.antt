@@ -1,4 +1,4 @@
--- Turns that are made in rounds, and that are spent.
+-- Turns made in rounds, and turns spent.
 use Rattle.std.proofs.Common.{◌≡◌, ◌⊎◌, inl, inr, ℕ, suc, ◌+◌, ◌-◌, ◌*◌, ◌<◌, ◌≤◌, ◌==◌, min, List, [], ◌∷◌, length, refl, ap, subst, ◌∙◌, arith}
 use Rattle.std.specs.Prelude.{Some, slice_get}
 use Rattle.std.proofs.lemmas.Bool.{cases_lt}
@@ -13,7 +13,7 @@ use Rattle.pair_workers.specs.WatchedRun.{IsWatchedRound, AreSpent}
 pub joined_made : (w : ℕ) (r : List Meeting) (rounds : List (List Meeting)) → made_by w (joined (r ∷ rounds)) ≡ made_by w r + made_by w (joined rounds)
 joined_made w r rounds = ap length (filter-append (λ (m : Meeting). m.worker == w) r (joined rounds)) ∙ length-append (meetings_of w r) (meetings_of w (joined rounds))
 
--- the turns of a round and those behind it
+-- the turns of a round and those after it
 pub turns_on : (turns k : ℕ) → min 4096 (turns - 4096 * k) + (turns - 4096 * (k + 1)) ≡ turns - 4096 * k
 turns_on turns k = by_size (cases_lt (turns - 4096 * k) 4096)
   where
@@ -38,7 +38,7 @@ module _ (spec : RunSpec) (w : ℕ) (within : w < spec.workers) where
       ∙ turns_on spec.turns k
 
 module _ (spec : RunSpec) (w : ℕ) where
-  -- rounds from round k on in which the worker makes its turns at most
+  -- rounds from round k on in which the worker makes at most its turns
   abbrev pub HasTurns : ℕ → List (List Meeting) → Type 0
   HasTurns k rounds = (i : ℕ) (r : List Meeting) → slice_get rounds i ≡ Some r → made_by w r ≤ turns_in spec (k + i + 1)
 
@@ -65,7 +65,7 @@ module _ (spec : RunSpec) (w : ℕ) where
       let rest = made_few (k + 1) rounds (next_turns k r rounds each) in
       let sum = joined_made w r rounds in omega (arith, first, few, rest, sum)
 
--- whether the turns of rounds are spent is told by the number of rounds, or by the meetings of each worker
+-- the number of rounds says whether their turns are spent, and so do the meetings of each worker
 module _ (spec : RunSpec) (rounds : List (List Meeting)) where
   module _ (each : (i : ℕ) (r : List Meeting) → slice_get rounds i ≡ Some r → IsRound spec (i + 1) r) where
     pub all_spent : spec.turns ≤ 4096 * length rounds → AreSpent spec rounds

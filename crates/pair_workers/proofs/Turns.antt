@@ -11,7 +11,7 @@ use Rattle.pair_workers.specs.Work.{pairs_of}
 pub picked_none : (n : ℕ) (s : List ℕ) → HasPicked n 0 s s []
 picked_none n s = record { long = refl; picked = λ count. ap (λ k. picks_from (words_from s) n k) (zero-add count) }
 
--- one pick more
+-- one more pick
 pub picked_more : (n turns : ℕ) (before now after : List ℕ) (made : List (ℕ × ℕ)) (pick : ℕ × ℕ) → HasPicked n turns before now made
     → ((count : ℕ) → picks_from (words_from now) n (suc count) ≡ pick ∷ picks_from (words_from after) n count) → HasPicked n (turns + 1) before after (made ++ pick ∷ [])
 picked_more n turns before now after made pick h next =
@@ -36,7 +36,7 @@ picked_on n a b first between last xs ys h k =
           ∙ sym (append_assoc xs ys (picks_from (words_from last) n count));
     }
 
--- one turn more
+-- one more turn
 pub turn_more : (n m turns : ℕ) (before now after : List ℕ) (log next : List Logged) (ticket : ℕ) (pair : ℕ × ℕ) (changed : Bool) → HasPicked n turns before now (pairs_of log)
     → next ≡ log ++ logged ticket pair.0 pair.1 changed ∷ [] → m ≡ n → ((count : ℕ) → picks_from (words_from now) m (suc count) ≡ pair ∷ picks_from (words_from after) m count)
     → HasPicked n (turns + 1) before after (pairs_of next)
@@ -44,7 +44,7 @@ turn_more n m turns before now after log next ticket pair changed h longer same 
     subst (HasPicked n (turns + 1) before after) (sym (ap pairs_of longer ∙ map-append (λ (e : Logged). (e.a, e.b)) log (logged ticket pair.0 pair.1 changed ∷ [])))
     (picked_more n turns before now after (pairs_of log) pair h (subst (λ (k : ℕ). (count : ℕ) → picks_from (words_from now) k (suc count) ≡ pair ∷ picks_from (words_from after) k count) same picks))
 
--- what holds of each holds with one more
+-- what holds for each element and for one more holds for each of the extended list
 each-push : {A : Type 0} (P : ℕ → A → Type 0) (xs : List A) (x : A) → ((i : ℕ) (d : A) → i < length xs → P i (get_or xs i d)) → P (length xs) x → (i : ℕ) (d : A) → i < length (xs ++ x ∷ []) → P i (get_or (xs ++ x ∷ []) i d)
 each-push {A = A} P xs x each last i d h =
     ⊎_elim

@@ -15,7 +15,7 @@ use Rattle.pair_workers.specs.declared.alone.End.TheVariants.{Terminal, Open}
 use Rattle.pair_workers.specs.Picks.{first_state}
 use Rattle.pair_workers.specs.Run.{IsRun}
 
--- a picker for each worker, of which none has made a pick
+-- a picker for each worker, none of which has made a pick
 pub record AreFirstPickers (spec : RunSpec) (pickers : List (List ℕ)) : Type 0 where
   pub long : length pickers ≡ spec.workers
   pub first : (w : ℕ) (d : List ℕ) → w < spec.workers → slice_index_or pickers w d ≡ first_state spec.seed w

@@ -1,4 +1,4 @@
--- Picks and runs that were worked out by hand.
+-- Picks and runs worked out by hand.
 use Rattle.std.specs.Prelude.{◌≡◌, ℕ, [], ◌∷◌, true}
 use Rattle.pop_net.specs.InputCrowd.{input_crowd}
 use Rattle.pop_net.specs.ExampleNets.{majority}
@@ -17,7 +17,7 @@ pub record PickExamples : Type 0 where
 abbrev pub example_meeting : ℕ → ℕ → Meeting
 example_meeting a b = record { worker = 0; a = a; b = b; changed = true }
 
--- one worker of two turns, with seed 0
+-- one worker with two turns and seed 0
 abbrev pub two_turns : RunSpec
 two_turns = record { workers = 1; shards = 16; turns = 2; seed = 0 }
 
@@ -25,7 +25,7 @@ pub record RunExamples : Type 0 where
   -- A and B become b and a, and then b and b
   pub run : IsRun majority (input_crowd majority (1 ∷ 1 ∷ [])) two_turns ((example_meeting 1 0 ∷ example_meeting 1 0
       ∷ []) ∷ []) ((3 ∷ []) ∷ (3 ∷ []) ∷ [])
-  -- no meeting, while there are turns
+  -- no meeting while there are turns
   pub empty : IsRun majority (input_crowd majority (1 ∷ 1 ∷ [])) two_turns [] (input_crowd majority (1 ∷ 1 ∷ [])) → ⊥
   -- meetings that are no picks
   pub not_picked :

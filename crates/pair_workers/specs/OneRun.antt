@@ -1,4 +1,4 @@
--- That a run by one worker is the only one.
+-- A run by one worker is the only one.
 use Rattle.std.specs.Prelude.{◌≡◌, List}
 use Rattle.pop_net.specs.NetModel.{NetModel, CrowdModel}
 use Rattle.pop_net.specs.Lanes.{crowd_of}

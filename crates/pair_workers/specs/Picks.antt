@@ -6,7 +6,7 @@ use Rattle.rand_core.specs.Steps.{stream_of, steps_u64_high}
 use Rattle.rand_xoshiro.specs.SplitMix64.{splitmix_seed}
 use Rattle.rand_xoshiro.specs.Xoshiro256.{of_seed, plus_plus}
 
--- the words that Xoshiro256++ gives from a state on
+-- the words that Xoshiro256++ produces from a state on
 abbrev pub words_from : List ℕ → Stream
 words_from state = stream_of (steps_u64_high plus_plus) state
 
@@ -19,7 +19,7 @@ abbrev pub pick_of : ℕ → ℕ → ℕ × ℕ
 pick_of n word =
     let a = word / 2 ^ 32 % n in let b = word % 2 ^ 32 % (n - 1) in (a, if nat_le a b then b + 1 else b)
 
--- the next picks of a stream of words, as many as the last number says
+-- the next picks of a stream of words; the last number says how many
 abbrev pub picks_from : Stream → ℕ → ℕ → List (ℕ × ℕ)
 picks_from words n zero = []
 picks_from words n (suc count) = pick_of n (next_u64 words).0 ∷ picks_from (next_u64 words).1 n count
@@ -34,9 +34,9 @@ pub record IsPairBelow (n : ℕ) (pair : ℕ × ℕ) : Type 0 where
   pub first : pair.0 < n
   pub second : pair.1 < n
 
--- the pair is the pick of the next word, and the picker stands behind that word
+-- the pair is the pick of the next word, and the picker has moved past that word
 pub record IsNextPick (n : ℕ) (before after : List ℕ) (pair : ℕ × ℕ) : Type 0 where
   pub pick : pair ≡ pick_of n (next_u64 (words_from before)).0
   pub rest : words_from after ≡ (next_u64 (words_from before)).1
-  -- picks in a row are those of the definition
+  -- successive picks are those of the definition
   pub in_row : (count : ℕ) → picks_from (words_from before) n (suc count) ≡ pair ∷ picks_from (words_from after) n count

@@ -9,7 +9,7 @@ use Rattle.pop_crowd.specs.Replay.{replay, AreMarked}
 use Rattle.pair_workers.specs.Picks.{picks_from, words_from}
 use Rattle.pair_workers.specs.Run.{pairs}
 
--- the meetings are the next picks of the worker 0, they lead from one crowd to another, and these words are left
+-- the meetings are the next picks of the worker 0, they lead from one crowd to the other, and these words are left
 pub record IsPlayed (net : NetModel) (start : CrowdModel) (words : Stream) (meetings : List Meeting) (end : CrowdModel)
     (left : Stream) : Type 0 where
   pub alone : All (λ m. m.worker ≡ 0) meetings
@@ -19,7 +19,7 @@ pub record IsPlayed (net : NetModel) (start : CrowdModel) (words : Stream) (meet
   pub replays : replay net meetings start ≡ end
   pub agents : length end ≡ length start
 
--- the same of the words of the crowds and of a picker, before and after
+-- the same for the words of a crowd and for a picker, before and after
 pub record PlaysOn (net : NetModel) (before after : List Word) (picker next : List ℕ)
     (meetings : List Meeting) : Type 0 where
   pub played : IsPlayed net (crowd_of net before) (words_from picker) meetings (crowd_of net after) (words_from next)

@@ -29,7 +29,7 @@ joined rounds = flat_map (λ meetings. meetings) rounds
 abbrev pub turns_in : RunSpec → ℕ → ℕ
 turns_in spec k = min ROUND_TURNS (spec.turns - ROUND_TURNS * (k - 1))
 
--- round k: each worker makes its turns, one at least, and nobody else makes any
+-- round k: each worker makes its turns, at least one, and nobody else makes any
 pub record IsRound (spec : RunSpec) (k : ℕ) (meetings : List Meeting) : Type 0 where
   pub some_turn : 1 ≤ turns_in spec k
   pub each_worker : (w : ℕ) → w < spec.workers → made_by w meetings ≡ turns_in spec k
@@ -42,7 +42,7 @@ pub record IsRun (net : NetModel) (start : CrowdModel) (spec : RunSpec) (rounds 
   -- the meetings of a worker are its picks, from the first on
   pub picked : (w : ℕ) → w < spec.workers
       → pairs (meetings_of w (joined rounds)) ≡ picks spec.seed w (length start) (made_by w (joined rounds))
-  -- each meeting says rightly whether it changes a tuple
+  -- each meeting correctly says whether it changes a tuple
   pub marked : AreMarked net (joined rounds) start
   pub replays : replay net (joined rounds) start ≡ end
   -- no crowd before a round is terminal

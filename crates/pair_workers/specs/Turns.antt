@@ -11,14 +11,14 @@ use Rattle.pair_workers.specs.declared.round_end.RoundEnd.{RoundEnd}
 use Rattle.pair_workers.specs.Picks.{picks_from, words_from}
 use Rattle.pair_workers.specs.Run.{meetings_of, pairs}
 
--- these are the next picks among n agents from the first state on, as many as the turns, and the second state stands
--- after them
+-- these are the next picks among n agents from the first state on, as many as the turns, and the second state is the
+-- one after them
 pub record HasPicked (n turns : ℕ) (before after : List ℕ) (made : List (ℕ × ℕ)) : Type 0 where
   pub long : length made ≡ turns
   pub picked : (count : ℕ) → picks_from (words_from before) n (turns + count) ≡ made
       ++ picks_from (words_from after) n count
 
--- the meetings lead from one crowd to another, each worker makes its next picks, and nobody else meets
+-- the meetings lead from one crowd to the other, each worker makes its next picks, and nobody else meets
 pub record ArePlayed (net : NetModel) (start : CrowdModel) (workers turns : ℕ) (before after : List (List ℕ))
     (meetings : List Meeting)
     (end : CrowdModel) : Type 0 where
@@ -29,13 +29,13 @@ pub record ArePlayed (net : NetModel) (start : CrowdModel) (workers turns : ℕ)
       (pairs (meetings_of w meetings))
   pub nobody_else : All (λ m. m.worker < workers) meetings
 
--- a round can be made from this crowd: there is a picker for each worker, and there are no more turns than a round has
+-- a round can be made from this crowd: there is a picker for each worker, and no more turns than a round has
 pub record CanMakeRound (net : NetModel) (crowd : List Word) (workers turns : ℕ) (before : List (List ℕ)) : Type 0 where
   pub valid : AreValid net crowd
   pub pickers : length before ≡ workers
   pub few : turns ≤ ROUND_TURNS
 
--- a round from this crowd: each worker makes its turns by its picker, and the pickers stand after them
+-- a round from this crowd: each worker makes its turns by its picker, and the pickers move past them
 pub record IsRoundFrom (net : NetModel) (crowd : List Word) (workers turns : ℕ) (before after : List (List ℕ))
     (round : Round) : Type 0 where
   pub played : ArePlayed net (crowd_of net crowd) workers turns before after round.meetings (crowd_of net round.words)
@@ -43,7 +43,7 @@ pub record IsRoundFrom (net : NetModel) (crowd : List Word) (workers turns : ℕ
   pub agents : length round.words ≡ length crowd
   pub pickers : length after ≡ length before
 
--- the same, where the crowd, the pickers and the meetings stand together
+-- the same, with the crowd, the pickers and the meetings in one value
 abbrev pub IsWholeRound : NetModel → List Word → ℕ → ℕ → List (List ℕ) → RoundEnd → Type 0
 IsWholeRound net crowd workers turns before p =
     IsRoundFrom net crowd workers turns before p.pickers.items (record { words = p.crowd; meetings = p.meetings.items })

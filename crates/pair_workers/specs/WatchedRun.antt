@@ -1,5 +1,5 @@
--- Watched run: a run whose last round may lack meetings, where the crowd behind it is terminal. A run by whole rounds
--- is one.
+-- Watched run: a run whose last round may lack meetings if the crowd after it is terminal. A run by whole rounds is
+-- one too.
 use Rattle.std.specs.Prelude.{◌≡◌, ◌⊎◌, ℕ, ◌+◌, ◌<◌, ◌≤◌, List, length, take, All, Some, slice_get}
 use Rattle.pop_net.specs.NetModel.{NetModel, CrowdModel}
 use Rattle.pop_net.specs.Step.{Step}
@@ -12,7 +12,7 @@ use Rattle.pop_words.specs.declared.kind.RunKind.TheVariants.{Whole, Watched}
 use Rattle.pair_workers.specs.Picks.{picks}
 use Rattle.pair_workers.specs.Run.{IsRound, IsRun, meetings_of, made_by, pairs, joined, turns_in}
 
--- round k, counted from 1: there is a turn to make, each worker makes its turns at most, and nobody else makes any
+-- round k, counted from 1: there is a turn to make, each worker makes at most its turns, and nobody else makes any
 pub record IsWatchedRound (spec : RunSpec) (k : ℕ) (meetings : List Meeting) : Type 0 where
   pub some_turn : 1 ≤ turns_in spec k
   pub each_worker : (w : ℕ) → w < spec.workers → made_by w meetings ≤ turns_in spec k
@@ -32,7 +32,7 @@ pub record IsWatchedRun (net : NetModel) (start : CrowdModel) (spec : RunSpec) (
   -- the meetings of a worker are its picks, from the first on
   pub picked : (w : ℕ) → w < spec.workers
       → pairs (meetings_of w (joined rounds)) ≡ picks spec.seed w (length start) (made_by w (joined rounds))
-  -- each meeting says rightly whether it changes a tuple
+  -- each meeting correctly says whether it changes a tuple
   pub marked : AreMarked net (joined rounds) start
   pub replays : replay net (joined rounds) start ≡ end
   -- no crowd before a round is terminal

@@ -23,12 +23,12 @@ pub record MayWork (f : Field) (turns : ℕ) (w : Worker) : Type 0 where
   pub room : turns ≤ spare_of w.seat
   pub log : log_of w.seat ≡ []
 
--- the meetings of the log are the next picks, as many as the turns at most
+-- the meetings of the log are the next picks, at most as many as the turns
 pub record HasMade (f : Field) (turns : ℕ) (before after : List ℕ) (log : List Logged) : Type 0 where
   pub few : length log ≤ turns
   pub picked : HasPicked (agents_of_field f) (length log) before after (pairs_of log)
 
--- the worker has made its next picks: all its turns, or fewer where an observer may have stopped it
+-- the worker has made its next picks: all its turns, or fewer if an observer may have stopped it
 pub record HasWorked (f : Field) (turns : ℕ) (observed : Bool) (before after : Worker) : Type 0 where
   pub ours : IsSeatOf f after.seat
   pub kept : KeepsRest before.seat after.seat
@@ -41,7 +41,7 @@ HaveWorked f turns observed before after =
     (i : ℕ) (d : Worker) → i < length before
     → HasWorked f turns observed (slice_index_or before i d) (slice_index_or after i d)
 
--- number 0, which has dealt no seat, of a field with so many further seats
+-- number 0 of a field with so many further seats, which has dealt none
 pub record IsFirstSeat (f : Field) (count : ℕ) (s : FieldSeat) : Type 0 where
   pub ours : IsSeatOf f s
   pub number : seat_number s ≡ 0
@@ -54,7 +54,7 @@ pub record IsReady (f : Field) (turns number : ℕ) (picker : List ℕ) (w : Wor
   pub numbered : seat_number w.seat ≡ number
   pub picker_is : w.picker ≡ picker
 
--- the worker with this number has made its turns from this picker on, or some of them where it was observed
+-- the worker with this number has made its turns from this picker on, or some of them if it was observed
 pub record IsDone (f : Field) (turns : ℕ) (observed : Bool) (number : ℕ) (picker : List ℕ) (w : Worker) : Type 0 where
   pub ours : IsSeatOf f w.seat
   pub numbered : seat_number w.seat ≡ number
@@ -84,7 +84,7 @@ pub record HasSeated (f : Field) (turns : ℕ) (pickers : List (List ℕ)) (befo
   pub dealt : next_of after ≡ length pickers + 1
   pub ready : AreReady f turns pickers workers
 
--- a field with this crowd, its number 0, which has made nothing, and workers on all other seats, one for each picker
+-- a field with this crowd, a fresh number 0, and workers on all other seats, one for each picker
 pub record HasOpened (net : NetModel) (crowd : List Word) (shards turns : ℕ) (pickers : List (List ℕ))
     (f : Field) (s : FieldSeat) (workers : List Worker) : Type 0 where
   pub field : IsOpened f net crowd shards (length pickers + 1)
@@ -95,7 +95,7 @@ pub record HasOpened (net : NetModel) (crowd : List Word) (shards turns : ℕ) (
   pub dealt : next_of s ≡ length pickers + 1
   pub ready : AreReady f turns pickers workers
 
--- number 0, which has dealt a seat to each of these workers
+-- number 0 has dealt a seat to each of these workers
 pub record HasDealt (f : Field) (s : FieldSeat) (workers : List Worker) : Type 0 where
   pub ours : IsSeatOf f s
   pub number : seat_number s ≡ 0

@@ -20,7 +20,7 @@ use std::sync::Wait;
 use std::thread::Threads;
 use terminal_test::PairTable;
 
-/// The pickers of all workers, of which none has made a pick.
+/// The pickers of all workers, none of which has made a pick.
 pub fn first_pickers(alloc: Global, spec: &RunSpec) -> Result<Vec<Picker>, NoMemory>
     requires { spec.now.seed ≤ SEED_LIMIT }
     ensures { IfOk result (λ pickers. AreFirstPickers spec.now pickers.items) }
@@ -32,8 +32,8 @@ pub fn first_pickers(alloc: Global, spec: &RunSpec) -> Result<Vec<Picker>, NoMem
     Ok(pickers)
 }
 
-/// A run by all workers that the numbers of the run name, round by round: one worker meets on the plain crowd, and more
-/// on fields. Before each round the crowd is looked at.
+/// A run by all workers, round by round: one worker meets on the plain crowd, and more meet on fields.
+/// Before each round the crowd is tested for being terminal.
 pub fn run_all<R: Threads + Wait + Sync, G: Gate>(
     rt: &R,
     alloc: Global,

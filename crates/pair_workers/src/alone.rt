@@ -36,8 +36,8 @@ pub struct RunEnd {
     pub end: End,
 }
 
-/// A run by the worker 0 alone. Before each round the crowd is looked at, and the round's log is reserved.
-/// `shards` is ignored.
+/// A run by the worker 0 alone. Before each round the crowd is tested for being terminal, and the round's log is
+/// reserved. `shards` is ignored.
 pub fn run_alone<G: Gate>(
     alloc: Global,
     net: &Net,

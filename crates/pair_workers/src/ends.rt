@@ -11,8 +11,7 @@ use pop_io::NoMemory;
 use std::alloc::Global;
 use terminal_test::PairTable;
 
-/// Whether a further round is made from a crowd. The pair that was found last is looked at first, as by
-/// `PairTable::is_terminal`.
+/// Whether a further round is made from a crowd. The pair found last is tested first, as by `PairTable::is_terminal`.
 pub fn goes_on(
     alloc: Global,
     table: &PairTable,

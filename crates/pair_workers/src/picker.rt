@@ -10,7 +10,7 @@ use rand_core::{Rng, SeedableRng};
 use rand_xoshiro::Xoshiro256PlusPlus;
 use std::marker::Model;
 
-/// A worker's random words, of which contracts see the state. Xoshiro256++ is a generator of
+/// A worker's random words; contracts see the state. Xoshiro256++ is a generator of
 /// Blackman and Vigna.
 #[derive(Drop)]
 pub struct Picker {

@@ -21,7 +21,7 @@ use std::alloc::Global;
 use std::sync::Wait;
 use std::thread::{Threads, join_mut};
 
-/// The first worker and all others, beside each other.
+/// The first worker and all others, in parallel.
 fn work_beside<R: Threads + Wait + Sync, G: Gate>(
     rt: &R,
     field: &Field,
@@ -116,8 +116,7 @@ fn plain_round<G: Gate>(
     })
 }
 
-/// Each worker makes its next picks and meetings, beside the others: one worker on the plain crowd, and more on a
-/// field.
+/// Each worker makes its next picks and meetings: one worker on the plain crowd, and more in parallel on a field.
 pub(crate) fn next_round<R: Threads + Wait + Sync, G: Gate>(
     rt: &R,
     alloc: Global,
@@ -150,8 +149,8 @@ fn copies(alloc: Global, pickers: &[Picker]) -> Result<Vec<Picker>, NoMemory>
     Ok(copies)
 }
 
-/// Each worker makes its next picks and meetings, beside the others: one worker on the plain crowd,
-/// and more on a field. The pickers stand after them.
+/// Each worker makes its next picks and meetings: one worker on the plain crowd, and more in parallel
+/// on a field. The pickers move past these picks.
 pub fn run_round<R: Threads + Wait + Sync, G: Gate>(
     rt: &R,
     alloc: Global,
@@ -164,7 +163,7 @@ pub fn run_round<R: Threads + Wait + Sync, G: Gate>(
 ) -> Result<Round, NoMemory>
     requires round { CanMakeRound net.now crowd.now spec.now.workers turns pickers.old }
     requires limits { IsWithinLimits spec.now }
-    // Out of memory leaves the pickers as they were.
+    // If memory runs out, the pickers stay as they were.
     ensures { MatchResult result (IsRoundFrom net.now crowd.now spec.now.workers turns pickers.old pickers.new)
         (λ _. pickers.new ≡ pickers.old) }
 {

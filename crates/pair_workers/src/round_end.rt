@@ -1,9 +1,9 @@
-//! What stands behind the meetings of a round.
+//! What a round leaves.
 
 use crate::picker::Picker;
 use pop_crowd::{Crowd, Meeting};
 
-/// The meetings of a round, the crowd behind them, and where the workers' pickers stand.
+/// The meetings of a round, the crowd after them, and the workers' pickers.
 #[derive(Drop)]
 pub struct RoundEnd {
     pub crowd: Crowd,

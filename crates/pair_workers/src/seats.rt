@@ -36,7 +36,7 @@ fn seat_workers(
     Ok(workers)
 }
 
-/// A field with this crowd, its number 0, and a worker for each picker on the further seats.
+/// A field with this crowd, its number 0, and a worker for each picker on the other seats.
 pub fn open_round<'n, R: Wait>(
     rt: &R,
     alloc: Global,
@@ -70,7 +70,7 @@ pub fn meetings_made(alloc: Global, workers: &[Worker]) -> Result<Vec<u64>, NoMe
     Ok(made)
 }
 
-/// Takes in the seats of all these workers, and puts their pickers behind others.
+/// Takes in the seats of all these workers, and appends their pickers to others.
 pub fn take_in(
     field: &Field,
     first: FieldSeat,

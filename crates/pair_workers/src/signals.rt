@@ -1,11 +1,11 @@
-//! What an observer and the workers of a round tell each other. Clauses say of it only whether there is an observer.
+//! What an observer and the workers of a round signal to each other. Clauses only say whether there is an observer.
 
 ghost use Rattle.std.specs.Prelude.{◌≡◌, false, IsFalse};
 
 use std::sync::atomic::{AtomicBool, AtomicU64, Ordering};
 use std::thread::yield_now;
 
-/// Whether there is an observer, whether the workers are to stop, and the turn that one of them has come to.
+/// Whether there is an observer, whether the workers should stop, and the turn that one of them has reached.
 #[derive(Drop)]
 pub struct Signals {
     observed: bool,
@@ -14,7 +14,7 @@ pub struct Signals {
 }
 
 impl Signals {
-    /// Those of a round that is observed, or that nobody stops.
+    /// The signals of a round: it is observed, or nobody stops it.
     pub fn new(observed: bool) -> Signals
         ensures { result.observed ≡ observed }
     {
@@ -25,7 +25,7 @@ impl Signals {
         }
     }
 
-    /// The workers are to stop.
+    /// Tells the workers to stop.
     pub fn stop(&self) {
         self.stop.store(true, Ordering::SeqCst);
     }
@@ -36,7 +36,7 @@ impl Signals {
         self.observed && self.stop.load(Ordering::SeqCst)
     }
 
-    /// The number of the worker with this seat: the observer has the seat 0.
+    /// The number of the worker with this seat; an observer has the seat 0.
     pub(crate) fn worker_on(&self, seat: u16) -> u16 {
         seat.saturating_sub(u16::from(self.observed))
     }
@@ -48,7 +48,7 @@ impl Signals {
         }
     }
 
-    /// The turn that a worker has come to, once it is this one or so many polls are used up.
+    /// The turn that a worker has reached, once it is at least this one or so many polls are used up.
     pub fn turn_from(&self, turn: u64, polls: u32) -> u64 {
         for _ in 0..polls {
             if turn <= self.turn.load(Ordering::SeqCst) {

@@ -19,7 +19,7 @@ pub struct Worker {
     pub(crate) picker: Picker,
 }
 
-/// The worker makes its next picks and meetings, until it is to stop.
+/// The worker makes its next picks and meetings, until it is told to stop.
 pub(crate) fn work<R: Wait, G: Gate>(
     rt: &R,
     field: &Field,
@@ -45,7 +45,7 @@ pub(crate) fn work<R: Wait, G: Gate>(
     signals.reach(turns);
 }
 
-/// All workers, beside each other.
+/// All workers, in parallel.
 pub fn work_all<R: Threads + Wait + Sync, G: Gate>(
     rt: &R,
     field: &Field,
