@@ -1,4 +1,4 @@
--- One meeting more in a round on its way, and many.
+-- One more meeting in a round under way, and many more.
 use Rattle.std.proofs.Common.{◌≡◌, ℕ, suc, ◌+◌, ◌<◌, Bool, true, false, cond, eqb, eq-eqb, if◌then◌else◌, ◌==◌, List, [], ◌∷◌, ◌++◌, length, get_or, set, refl, sym, ap, subst, ◌∙◌, arith, ⊎_elim, length-append, get_or-set_same, get_or-set_other}
 use Rattle.std.proofs.lemmas.Bool.{cases_eq, ne_eqb, eqb-false, eqb-true}
 use Rattle.std.proofs.lemmas.List.{append-nil, map-append}
@@ -18,7 +18,7 @@ use Rattle.pair_workers.proofs.Turns.{picked_more}
 use Rattle.pair_workers.specs.declared.round_end.RoundEnd.{RoundEnd}
 use Rattle.pop_watch.specs.Playing.{ArePlaying, IsPlayedFrom, KeepsPlaying, HasMore}
 
--- a meeting more, if it is the worker's
+-- one more meeting, if it is the worker's
 picked_if : (b : Bool) (n : ℕ) (ms : List Meeting) (m : Meeting) (first now next : List ℕ) → HasPicked n (length ms) first now (pairs ms)
     → (b ≡ true → (count : ℕ) → picks_from (words_from now) n (suc count) ≡ (m.a, m.b) ∷ picks_from (words_from next) n count) → (b ≡ false → now ≡ next)
     → HasPicked n (length (ms ++ cond b (m ∷ []) [])) first next (pairs (ms ++ cond b (m ∷ []) []))
@@ -60,7 +60,7 @@ one_if w v m mine =
     (λ (n : v ≡ w → ⊥). let apart : m.worker ≡ v → ⊥ = (λ e. n (sym e ∙ mine)) in ap (λ (b : Bool). length (cond b (m ∷ []) [])) (ne_eqb m.worker v apart) ∙ sym (ap (λ (b : Bool). if b then 1 else 0) (ne_eqb v w n)))
     (cases_eq v w)
 
--- a worker's meeting more
+-- one more meeting by a worker
 pub made_more : (w : ℕ) (meetings : List Meeting) (m : Meeting) → m.worker ≡ w → (v : ℕ) → made_by v (meetings ++ m ∷ []) ≡ made_by v meetings + (if v == w then 1 else 0)
 made_more w meetings m mine v =
     ap length (filter-append (λ (m : Meeting). m.worker == v) meetings (m ∷ []))
@@ -87,7 +87,7 @@ has_more_on w turns more p q r h k v =
 pub goes_on_none : (net : NetModel) (p : RoundEnd) → KeepsPlaying net p p
 goes_on_none net p = record { more = λ start first h. h; pickers = refl; agents = refl }
 
--- what stands there is the same
+-- equal parts make an equal round
 pub keeps_same : (net : NetModel) (p q : RoundEnd) → q.crowd ≡ p.crowd → q.pickers.items ≡ p.pickers.items → q.meetings.items ≡ p.meetings.items → KeepsPlaying net p q
 keeps_same net p q crowd pickers meetings = record {
   more = λ start first is. subst (λ (t : List Word × List (List ℕ) × List Meeting). ArePlaying net start (length p.pickers.items) first t.1 t.2 (crowd_of net t.0)) (λ i. (sym crowd i, sym pickers i, sym meetings i)) is;
@@ -103,7 +103,7 @@ goes_on_more net p q r h k =
       agents = k.agents ∙ h.agents;
     }
 
--- the worker's own meetings, and those of another
+-- the worker's own meetings, and another's
 pub has_mine : (w turns : ℕ) (p q : RoundEnd) → HasMore w turns p q → made_by w q.meetings.items ≡ made_by w p.meetings.items + turns
 has_mine w turns p q h =
     h w

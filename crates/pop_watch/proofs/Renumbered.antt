@@ -1,4 +1,4 @@
--- The meetings of seats as those of workers: nothing changes but their numbers.
+-- The meetings of seats as those of workers: only their numbers change.
 use Rattle.std.proofs.Common.{◌≡◌, ℕ, ◌+◌, ◌-◌, ◌<◌, ◌≤◌, Bool, true, false, cond, eqb, eq-eqb, List, [], ◌∷◌, map, refl, sym, ap, ◌∙◌, arith, ⊎_elim}
 use Rattle.std.specs.Prelude.{All}
 use Rattle.std.proofs.lemmas.Bool.{cases_eq, ne_eqb, eqb-false}
@@ -19,7 +19,7 @@ none_if : (b : Bool) (e : Logged) (es : List Logged) → listed_if b e es ≡ []
 none_if true e es h = cc
 none_if false e es h = (refl, h)
 
--- where number 0 has made no meeting, all meetings are of workers
+-- if number 0 has made no meeting, all meetings are of workers
 pub all_of_workers : (t : ℕ) (ms : List Meeting) → calls_from 0 t ms ≡ [] → All IsOfWorker ms
 all_of_workers t [] h = All-nil IsOfWorker
 all_of_workers t (m ∷ ms) h =

@@ -5,7 +5,7 @@ use Rattle.pair_workers.specs.declared.alone.End.TheVariants.{Terminal, Open}
 use Rattle.pop_journal.specs.declared.last.Last.{Last}
 use Rattle.pop_journal.specs.declared.last.Last.TheVariants.{Verdict, Undecided}
 
--- what a run with this end came to: the pair that is left, or else a verdict with this value
+-- the result of a run with this end: the pair that is left, or else a verdict with this value
 abbrev pub watched_last : End → Bool → Last
 watched_last Terminal value = Verdict value
 watched_last (Open a b) value = Undecided a b

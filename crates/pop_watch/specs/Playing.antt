@@ -1,4 +1,4 @@
--- A round on its way: each worker has made some of its next picks.
+-- A round under way: each worker has made some of its next picks.
 use Rattle.std.specs.Prelude.{◌≡◌, ◌⊎◌, ℕ, ◌+◌, ◌-◌, ◌<◌, ◌≤◌, ◌==◌, if◌then◌else◌, List, length, All, slice_index_or}
 use Rattle.std.specs.Prelude.{vec_capacity}
 use Rattle.pop_net.specs.NetModel.{NetModel, CrowdModel}
@@ -16,7 +16,7 @@ use Rattle.pair_workers.specs.declared.round_end.RoundEnd.{RoundEnd}
 abbrev pub of_worker : Meeting → Meeting
 of_worker m = record { worker = m.worker - 1; a = m.a; b = m.b; changed = m.changed }
 
--- the meetings lead from one crowd to another, those of each worker are its next picks, and nobody else meets
+-- the meetings lead from one crowd to the other, those of each worker are its next picks, and nobody else meets
 pub record ArePlaying (net : NetModel) (start : CrowdModel) (workers : ℕ) (before after : List (List ℕ))
     (meetings : List Meeting)
     (end : CrowdModel) : Type 0 where
@@ -27,7 +27,7 @@ pub record ArePlaying (net : NetModel) (start : CrowdModel) (workers : ℕ) (bef
       (pairs (meetings_of w meetings))
   pub nobody_else : All (λ m. m.worker < workers) meetings
 
--- the same, where the crowd, the pickers and the meetings stand together
+-- the same, with the crowd, the pickers and the meetings in one value
 abbrev pub IsPlayedFrom : NetModel → CrowdModel → ℕ → List (List ℕ) → RoundEnd → Type 0
 IsPlayedFrom net start workers before p =
     ArePlaying net start workers before p.pickers.items p.meetings.items (crowd_of net p.crowd)
@@ -40,12 +40,12 @@ pub record KeepsPlaying (net : NetModel) (before after : RoundEnd) : Type 0 wher
   pub pickers : length after.pickers.items ≡ length before.pickers.items
   pub agents : length after.crowd ≡ length before.crowd
 
--- one worker has made so many more meetings, and nobody else any
+-- one worker has made so many more meetings, and nobody else has made any
 abbrev pub HasMore : ℕ → ℕ → RoundEnd → RoundEnd → Type 0
 HasMore worker turns before after =
     (v : ℕ) → made_by v after.meetings.items ≡ made_by v before.meetings.items + (if v == worker then turns else 0)
 
--- one worker has made so many more meetings, nobody else any, and the list of meetings has taken no memory
+-- one worker has made so many more meetings, nobody else any, and the list of meetings has allocated nothing
 pub record HasPlayedOn (net : NetModel) (worker turns : ℕ) (before after : RoundEnd) : Type 0 where
   pub goes_on : KeepsPlaying net before after
   pub more : HasMore worker turns before after
@@ -57,7 +57,7 @@ pub record HasPlayedOn (net : NetModel) (worker turns : ℕ) (before after : Rou
 abbrev pub AreAllMade : ℕ → ℕ → List Meeting → Type 0
 AreAllMade workers turns meetings = (w : ℕ) → w < workers → made_by w meetings ≡ turns
 
--- a round from this crowd: each worker has made its turns at most
+-- a round from this crowd: each worker has made at most its turns
 pub record IsPartOfRound (net : NetModel) (crowd : List Word) (workers turns : ℕ) (before : List (List ℕ))
     (p : RoundEnd) : Type 0 where
   pub played : IsPlayedFrom net (crowd_of net crowd) workers before p

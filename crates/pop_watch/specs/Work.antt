@@ -9,7 +9,7 @@ use Rattle.pair_workers.specs.Work.{agents_of_field}
 use Rattle.pair_workers.specs.declared.alone.TheConstants.{ROUND_TURNS}
 use Rattle.pop_watch.specs.declared.limits.TheConstants.{LOOKS_A_ROUND}
 
--- the field and the table of pairs are those of one net, and the observer has the seat 0, with room for all looks of a
+-- the field and the table of pairs belong to one net, and the observer has the seat 0, with room for all looks of a
 -- round
 pub record CanObserve (net tabled : NetModel) (f : Field) (turns : ℕ) (s : FieldSeat) : Type 0 where
   pub table : tabled ≡ net

@@ -18,7 +18,7 @@ use pop_net::Net;
 use pop_words::{RunKind, RunSpec};
 use std::alloc::Global;
 
-/// The text of a watched run. Its last line is `undecided` where a pair is left that can change, and else `verdict`
+/// The text of a watched run. Its last line is `undecided` if a pair that can change is left, and else `verdict`
 /// with this value.
 pub fn write_watched(
     alloc: Global,
@@ -39,7 +39,7 @@ pub fn write_watched(
     write_journal(alloc, RunKind::Watched, net, spec, end, last)
 }
 
-/// The journal of a watched run for so many agents that a text tells, of which the first line has this number.
+/// Reads the journal of a watched run of so many agents; the text's first line has this number.
 pub fn read_watched(
     alloc: Global,
     text: &[u8],
@@ -52,8 +52,7 @@ pub fn read_watched(
     read_journal(alloc, RunKind::Watched, text, first, agents)
 }
 
-/// The number of meetings of a watched run, where its journal has the lines that are expected; else the first line
-/// that isn't.
+/// The number of meetings of a watched run, if its journal has the expected lines; else the first line that differs.
 pub fn verify_watched(
     alloc: Global,
     net: &Net,

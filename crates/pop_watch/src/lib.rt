@@ -1,7 +1,6 @@
 //! Runs that an observer stops in the middle of a round, once it has seen a terminal crowd.
 //! It stands on `pair_workers`, `agent_field`, `terminal_test` and `pop_journal`.
-//! The layer above uses: the rounds of `run_watched` are a watched run by `IsWatchedRun`, and its journal holds by
-//! `verify_watched`.
+//! The layer above uses: `run_watched` makes a watched run by `IsWatchedRun`, and `verify_watched` checks its journal.
 #![tactic(auto)]
 
 mod journal;

@@ -34,8 +34,7 @@ fn make_turns(net: &Net, played: &mut RoundEnd, worker: u16, turns: u64)
     }
 }
 
-/// All meetings that the workers have still to make, worker by worker. Room for a whole round is reserved before the
-/// first.
+/// All meetings that the workers still have to make, worker by worker. Room for a whole round is reserved first.
 pub(crate) fn make_missing(
     net: &Net,
     played: &mut RoundEnd,

@@ -41,7 +41,7 @@ fn seen_crowd<R: Wait>(
     Ok(Crowd::of_words(net, words))
 }
 
-/// Looks spread over the turns, until one is terminal: then the workers are to stop.
+/// Looks spread over the turns, until one is terminal; the workers are then told to stop.
 fn look_on<R: Wait, G: Gate>(
     rt: &R,
     alloc: Global,
@@ -73,8 +73,7 @@ fn look_on<R: Wait, G: Gate>(
     Ok(())
 }
 
-/// The observer's part of a round. It passes the gate once more behind its last look, also where it lacked memory for
-/// it.
+/// The observer's part of a round. It passes the gate once more after its last look, even if memory ran out for it.
 pub(crate) fn observe<R: Wait, G: Gate>(
     rt: &R,
     alloc: Global,

@@ -27,7 +27,7 @@ use std::sync::Wait;
 use std::thread::{Threads, join_mut};
 use terminal_test::PairTable;
 
-/// The meetings of seats as those of their workers. The seat 0, which is the observer's, has none.
+/// The meetings of seats as those of their workers. The observer's seat 0 has none.
 fn by_workers(alloc: Global, meetings: &[Meeting]) -> Result<Vec<Meeting>, NoMemory>
     requires { All (λ m. 1 ≤ m.worker) meetings.now }
     ensures { IfOk result (λ own. own.items ≡ map of_worker meetings.now) }
@@ -44,7 +44,7 @@ fn by_workers(alloc: Global, meetings: &[Meeting]) -> Result<Vec<Meeting>, NoMem
     Ok(own)
 }
 
-/// The observer, and all workers beside it.
+/// The observer and all workers, in parallel.
 fn watch_beside<R: Threads + Wait + Sync, G: Gate>(
     rt: &R,
     alloc: Global,
@@ -83,7 +83,7 @@ fn watch_beside<R: Threads + Wait + Sync, G: Gate>(
     observed
 }
 
-/// The observer's round on the field, as far as the workers come, and how many meetings each of them has made.
+/// The observer's round on the field, as far as the workers get, and how many meetings each of them has made.
 fn field_round<R: Threads + Wait + Sync, G: Gate>(
     rt: &R,
     alloc: Global,

@@ -17,8 +17,8 @@ use std::thread::Threads;
 use terminal_test::PairTable;
 
 /// A run that an observer watches: once it has seen a terminal crowd, the workers stop before their round is whole.
-/// Before each round the crowd is looked at. The observer calls `pass` of the gate before each of its looks in a round
-/// and once behind them, with the number behind the last worker's and with the looks counted from 1.
+/// Before each round the crowd is tested for being terminal. The observer calls `pass` of the gate before each of its
+/// looks in a round and once after them, with the number after the last worker's, and counts the looks from 1.
 pub fn run_watched<R: Threads + Wait + Sync, G: Gate>(
     rt: &R,
     alloc: Global,
