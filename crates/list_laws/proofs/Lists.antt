@@ -1,11 +1,11 @@
--- Laws of lists: their ends, one item more, one item written anew.
+-- Laws of lists: their ends, one more item, one item replaced.
 use Rattle.std.proofs.Common.{◌≡◌, ◌≢◌, ℕ, zero, suc, pred, ◌+◌, ◌<◌, Bool, true, false, cond, replicate, filter, List, [], ◌∷◌, ◌++◌, length, map, take, subst, refl, ap, ◌∙◌, arith}
 use Rattle.std.specs.Prelude.{Some, slice_get, slice_set, All, Contains}
 use Rattle.std.proofs.lemmas.List.{length-append, get_or-append-add, get_or_append_left, take_more}
 use Rattle.std.proofs.lemmas.Option.{slice_get_within, get_or_from_slice_get}
 use Rattle.std.proofs.lemmas.List.Elements.{All-nil, All-cons}
 
--- lists that are the same begin and go on alike
+-- equal lists have equal first items and equal rests
 pub heads : {A : Type 0} (x y : A) (xs ys : List A) → x ∷ xs ≡ y ∷ ys → x ≡ y
 heads x y xs ys e = cc
 
@@ -23,13 +23,13 @@ same_lists (x ∷ xs) (y ∷ ys) l e =
     let rest = same_lists xs ys (ap pred l) (λ i k. e (suc i) (omega arith)) in
     cc
 
--- ---- one item more
+-- ---- one more item
 
 pub take_one_more : {A : Type 0} (xs : List A) (k : ℕ) (x : A) → slice_get xs k ≡ Some x → take (k + 1) xs ≡ take k xs ++ x ∷ []
 take_one_more xs k x h =
     take_more xs k x (slice_get_within xs k x h) ∙ ap (λ z. take k xs ++ z ∷ []) (get_or_from_slice_get xs k x x h)
 
--- ---- one item written anew
+-- ---- one item replaced
 
 pub get-set_same : {A : Type 0} (xs : List A) (a : ℕ) (y : A) → a < length xs → slice_get (slice_set xs a y) a ≡ Some y
 get-set_same [] a y l = absurd (omega arith)
@@ -59,13 +59,13 @@ at_front [] ys k l = absurd (omega arith)
 at_front (x ∷ xs) ys zero l = refl
 at_front (x ∷ xs) ys (suc k) l = at_front xs ys k (omega arith)
 
--- what stands behind the first list
+-- what follows the first list
 pub at_end : {A : Type 0} (xs ys : List A) (n k : ℕ) → length xs ≡ n → slice_get (xs ++ ys) (n + k) ≡ slice_get ys k
 at_end [] ys n k e = ap (slice_get ys) (let f : n + k ≡ k = omega arith in f)
 at_end (x ∷ xs) ys zero k e = absurd (omega arith)
 at_end (x ∷ xs) ys (suc n) k e = ap (slice_get (x ∷ (xs ++ ys))) (let f : suc n + k ≡ suc (n + k) = omega arith in f) ∙ at_end xs ys n k (omega arith)
 
--- what holds of both holds of each
+-- what holds for both holds for each
 pub all_front : {A : Type 0} (P : A → Type 0) (xs ys : List A) → All P (xs ++ ys) → All P xs
 all_front P xs ys h k d l = subst P (get_or_append_left xs ys d k l) (h k d (omega (arith, length-append xs ys)))
 
@@ -85,7 +85,7 @@ has_map g [] x c = absurd (omega (arith, c.1))
 has_map g (y ∷ xs) x (zero, l, e) = subst (λ b. Contains (g y ∷ map g xs) b) (ap g e) (has_first (g y) (map g xs))
 has_map g (y ∷ xs) x (suc k, l, e) = has_later (g x) (g y) (map g xs) (has_map g xs x (k, (omega (arith, l)), e))
 
--- what holds of the items that pass a test
+-- what holds for the items that pass a test
 pub all_filtered : {A : Type 0} (test : A → Bool) (P : A → Type 0) (xs : List A)
     → All (λ x. test x ≡ true → P x) xs → All P (filter test xs)
 all_filtered test P [] all = All-nil P

@@ -4,7 +4,7 @@ use Rattle.std.specs.Prelude.{ℤ, pos, neg_ℤ, ◌+ℤ◌, nat_abs, ◌==◌}
 use Rattle.std.proofs.lemmas.Int.{ints}
 use Rattle.std.proofs.lemmas.Bool.Decides.{eqb_tells}
 
--- what the test of two numbers tells
+-- what the test of two numbers says
 abbrev pub Tells : ℕ → ℕ → Type 0
 Tells m n = ((m == n) ≡ true) × (m ≡ n) ⊎ ((m == n) ≡ false) × (m ≢ n)
 
@@ -14,7 +14,7 @@ same_turned a b = elim (eqb_tells a b) [
   | inr h ↦ h.0 ∙ sym (ne_eqb b a (λ e. h.1 (sym e)))
 ]
 
--- a sum is no greater than both parts
+-- the size of a sum is at most the sum of the sizes
 pub size-add : (a b : ℤ) → nat_abs (a +ℤ b) ≤ nat_abs a + nat_abs b
 size-add a b = omega (arith, ints)
 
@@ -22,7 +22,7 @@ pub size-neg : (n : ℕ) → nat_abs (neg_ℤ (pos n)) ≡ n
 size-neg zero = refl
 size-neg (suc n) = refl
 
--- how many pairs n things make, each with itself and those after it
+-- how many pairs n things form, each with itself and those after it
 abbrev pub triangle : ℕ → ℕ
 triangle zero = 0
 triangle (suc n) = suc n + triangle n

@@ -7,12 +7,12 @@ use Rattle.std.proofs.lemmas.Option.{option_and_then_some, same_Some}
 pub same_value : {A : Type 0} (o : Option A) (x y : A) → o ≡ Some x → o ≡ Some y → x ≡ y
 same_value o x y e f = same_Some x y (sym e ∙ f)
 
--- what stands before something
+-- a result of two steps has a result of the first
 pub some_before : {A B : Type 0} (f : A → Option B) (o : Option A) (b : B) → option_and_then f o ≡ Some b
     → (a : A) × (o ≡ Some a) × (f a ≡ Some b)
 some_before f o b e = option_and_then_some f o b e (λ a is next. (a, is, next))
 
--- what is said of the value
+-- a value that satisfies P
 pub some_and : {A : Type 0} (o : Option A) (P : A → Type 0) → IsSomeAnd o P → (x : A) × (o ≡ Some x) × P x
 some_and None P h = absurd h
 some_and (Some x) P h = (x, refl, h)

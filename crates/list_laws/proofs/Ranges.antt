@@ -6,13 +6,13 @@ use Rattle.std.proofs.lemmas.List.Elements.{All-nil, All-cons}
 use Rattle.std.proofs.lemmas.List.FromFn.{length-map-range_with_len, get_or-map-range_with_len}
 use Rattle.std.proofs.lemmas.Option.{slice_get-get_or}
 
--- what holds of each number of a range
+-- what holds for each number of a range
 pub all_range : (P : ℕ → Type 0) (a n : ℕ) → ((z : ℕ) → a ≤ z → z < a + n → P z) → All P (range_with_len a n)
 all_range P a zero f = All-nil P
 all_range P a (suc n) f =
     All-cons P a (range_with_len (a + 1) n) (f a (omega arith) (omega arith)) (all_range P (a + 1) n (λ z l m. f z (omega arith) (omega arith)))
 
--- one number more
+-- one more number
 pub range_next : (a n : ℕ) → range_with_len a (suc n) ≡ range_with_len a n ++ (a + n) ∷ []
 range_next a zero = ap (λ z. z ∷ []) (let e : a ≡ a + 0 = omega arith in e)
 range_next a (suc n) =

@@ -33,7 +33,7 @@ module _ (net : NetModel) (start : CrowdModel) (spec : RunSpec) (before : List M
       cond-false (is_terminal net last) (codes "end") (meeting_line (next_meeting net start spec before w)) (undecided (least_pair net last) (common_output net last) e) in
       (expected ∙ ap meeting_line (sym is), λ same. meeting_no_end (next_meeting net start spec before w) (sym same ∙ expected))
 
--- behind the last round, `end` and the tail are left
+-- after the last round, `end` and the tail are left
 module _ (net : NetModel) (start : CrowdModel) (spec : RunSpec) (rounds : List (List Meeting)) (tail : List (List ℕ)) (k : ℕ) (shown : List (List Meeting)) (worker : Option ℕ) (kept : List (List ℕ))
     (same : shown ≡ rounds) (lacks : worker ≡ lacking_behind spec shown (length shown)) (tails : kept ≡ tail) (walked : List (List Meeting)) (walks : walked ≡ rounds) (all : k ≡ length walked) where
   abbrev before : List Meeting
@@ -58,7 +58,7 @@ module _ (net : NetModel) (start : CrowdModel) (spec : RunSpec) (rounds : List (
       ∙ ap (λ (rs : List (List Meeting)). both (codes "end") (line_at_end net start spec before (k + 1) (lacking_behind spec rounds k)) ∷ tail_after tail (joined rs)) (take_all k rounds (omega (arith, whole)))
       ∙ ap (λ (rs : List (List Meeting)). rounds_compared net start spec before (k + 1) (lacking_behind spec rounds k) rs ++ tail_after tail (joined rounds)) (sym (drop_all k rounds (omega (arith, whole))))
 
-  -- what is found there is what all lines show
+  -- what is found here is what all lines show
   module _ (first line : ℕ) (lines : List Compared) (passed : first_difference first lines ≡ first_difference line wanted) where
     pub end_passes : first_difference line told ≡ None → first_difference first lines ≡ None
     end_passes none = passed ∙ ap (first_difference line) (sym end_left) ∙ none

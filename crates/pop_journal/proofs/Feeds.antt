@@ -1,4 +1,4 @@
--- Lines that are ended by line feeds, and cut again.
+-- Lines that are ended by line feeds, and split again.
 use Rattle.std.proofs.Common.{◌≡◌, ℕ, ◌+◌, ◌≤◌, ◌^◌, Bool, true, false, List, [], ◌∷◌, ◌++◌, length, map, codes, decimal, All, refl, ap, ◌∙◌, arith, append_assoc, if◌then◌else◌}
 use Rattle.std.proofs.lemmas.List.Elements.{All-head, All-tail}
 use Rattle.pop_lines.specs.Lines.{lines_of, ended}

@@ -80,7 +80,7 @@ join_marked : (w a b : ℕ) (mark : Bool) → join_with_byte 32 (decimal w ∷ d
 join_marked w a b true = refl
 join_marked w a b false = ap (λ (t : List ℕ). decimal w ++ 32 ∷ (decimal a ++ 32 ∷ t)) (sym (append-nil (decimal b)))
 
--- a line that tells a meeting is its meeting line
+-- a line that is read as a meeting is its meeting line
 pub told_spelled : (line : List ℕ) (w a b : ℕ) (mark : Bool) → told_in line ≡ Some (w, a, b, mark) → w < 2 ^ 64 → a < 2 ^ 64 → b < 2 ^ 64 → line ≡ meeting_line (record { worker = w; a = a; b = b; changed = mark })
 unfolding told_in
 told_spelled line w a b mark e lw la lb =
@@ -124,7 +124,7 @@ module _ (kind : RunKind) (spec : RunSpec) (agents : ℕ) (workers : spec.worker
       by_place k r (inl g) = form.whole k r g
       by_place k r (inr g) = subst (λ (t : ℕ × List Meeting). IsRound spec (t.0 + 1) t.1) (λ i. (sym g.0 i, g.1 i)) (round_full spec (length rounds + 1) ms h.round e)
 
-  -- one meeting more
+  -- one more meeting
   settled_fits : (rounds : List (List Meeting)) (ms : List Meeting) → AreRounds spec agents rounds → IsOpen (length rounds + 1) ms → Fits (settled spec rounds ms) × (told_lines (settled spec rounds ms) ≡ told_lines (rounds, Some ms))
   settled_fits rounds ms form h = by_test (length ms == wanted spec rounds) refl
     where
@@ -161,7 +161,7 @@ module _ (kind : RunKind) (spec : RunSpec) (agents : ℕ) (workers : spec.worker
       subst (λ (n : Reading). Fits n × (told_lines n ≡ told_lines (rounds, None) ++ line ∷ [])) told.2
       ((form, no_meetings k some), ap (λ (l : List ℕ). round_lines 1 rounds ++ l ∷ []) (sym same) ∙ ap (λ (ls : List (List ℕ)). ls ++ line ∷ []) (sym (append-nil (round_lines 1 rounds))))
 
-  -- one meeting more in an open round
+  -- one more meeting in an open round
   open_more : (k : ℕ) (ms : List Meeting) (m : Meeting) → IsOpen k ms → Below m → length (meetings_of m.worker ms) < turns_in spec k → InRange m → IsOpen k (ms ++ m ∷ [])
   open_more k ms m h below less range =
       record {
@@ -273,7 +273,7 @@ module _ (kind : RunKind) (spec : RunSpec) (agents : ℕ) (workers : spec.worker
         ends.1,
       )
 
-  -- what is read are the rounds' lines, `end` and the tail, and the rounds are in form
+  -- what is read is the rounds' lines, `end` and the tail, and the rounds are well-formed
   abbrev Spelled : Reading → List (List ℕ) → Parts → Type 0
   Spelled reading lines parts = (told_lines reading ++ lines ≡ round_lines 1 parts.0 ++ codes "end" ∷ parts.1) × AreRoundsOf kind spec agents parts.0
 
@@ -308,16 +308,16 @@ end_more : (spec : RunSpec) (ps : List (List ℕ)) → 0 < length ps → at_the_
 end_more spec [] some = absurd (omega (arith, some))
 end_more spec (p ∷ ps) some = refl
 
--- words behind the last number
+-- words after the last number
 pub no_end_before : (spec : RunSpec) (rest : List ℕ) → at_the_end spec (pieces 32 rest) ≡ None
 no_end_before spec rest = end_more spec (pieces 32 rest) (let l = length-slice_split (λ c. c == 32) rest in omega (arith, l))
 
--- `end` tells no meeting
+-- `end` is not read as a meeting
 end_untold : told_in (codes "end") ≡ None
 unfolding told_in
 end_untold = refl
 
--- a line that tells a meeting isn't `end`
+-- a line that is read as a meeting isn't `end`
 pub told_no_end : (kind : RunKind) (line : List ℕ) (told : Told) → told_in line ≡ Some told → ends_inside kind line ≡ false
 told_no_end Whole line told is = refl
 told_no_end Watched line told is = by_test (bytes_eq line (codes "end")) refl

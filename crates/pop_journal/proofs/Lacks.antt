@@ -1,4 +1,4 @@
--- The least worker that lacks meetings of a round, and what that says of rounds and of spent turns.
+-- The least worker that lacks meetings of a round, and what that says about rounds and spent turns.
 use Rattle.std.proofs.Common.{◌≡◌, ◌⊎◌, inl, inr, ℕ, zero, suc, ◌+◌, ◌-◌, ◌*◌, ◌<◌, ◌≤◌, min, nat_lt, cond, Bool, true, false, List, [], ◌∷◌, length, get_or, Option, Some, None, refl, sym, ap, subst, ◌∙◌, arith}
 use Rattle.std.specs.Prelude.{IfSome, find, slice_get}
 use Rattle.std.specs.List.{range_with_len}
@@ -84,7 +84,7 @@ module _ (spec : RunSpec) where
   after_below k worker [] below = below
   after_below k worker (r ∷ rounds) below = after_below (k + 1) (lacking spec k r) rounds (lacking_below k r)
 
-  -- where the last round lacks nothing all rounds are whole
+  -- if the last round lacks nothing, all rounds are whole
   pub all_whole : (k : ℕ) (worker : Option ℕ) (rounds : List (List Meeting)) → lacking_after k worker rounds ≡ None
       → ((i : ℕ) (r : List Meeting) → slice_get rounds i ≡ Some r → IsWatchedRound spec (k + i) r)
       → ((i : ℕ) (r : List Meeting) → i + 1 < length rounds → slice_get rounds i ≡ Some r → IsRound spec (k + i) r)
@@ -103,7 +103,7 @@ module _ (spec : RunSpec) where
       i r h)
 
   module _ (w : ℕ) where
-    -- rounds from round k on have fewer meetings than turns are left, where the worker lacks one in the last
+    -- rounds from round k on have fewer meetings than turns are left, if the worker lacks one in the last
     made_less : (k : ℕ) (worker : Option ℕ) (rounds : List (List Meeting)) → lacking_after (k + 1) worker rounds ≡ Some w → HasTurns spec w k rounds → (worker ≡ Some w) ⊎ (made_by w (joined rounds) < spec.turns - 4096 * k)
     made_less k worker [] e each = inl e
     made_less k worker (r ∷ rounds) e each = inr (by_rest (made_less (k + 1) (lacking spec (k + 1) r) rounds e next))
@@ -124,7 +124,7 @@ module _ (spec : RunSpec) where
             let sum = joined_made w r rounds in omega (arith, first, less, all, sum)
 
   module _ (rounds : List (List Meeting)) (each : (i : ℕ) (r : List Meeting) → slice_get rounds i ≡ Some r → IsWatchedRound spec (i + 1) r) (spent : AreSpent spec rounds) where
-    -- where all turns are spent the last round lacks nothing
+    -- if all turns are spent, the last round lacks nothing
     pub spent_none : lacking_after 1 None rounds ≡ None
     spent_none = by_last (lacking_after 1 None rounds) refl
       where

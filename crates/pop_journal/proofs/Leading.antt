@@ -62,7 +62,7 @@ first_zero (x ∷ xs) value some is e =
     let of_zero : digit_value 48 + 48 ≡ 48 = digit_value_digit 48 (omega arith, omega arith) in
     omega (arith, one, zero_digit, of_zero)
 
--- one digit more
+-- one more digit
 pub lead_more : (text : List ℕ) (i value c : ℕ) → IsLead text i value → i < length text → get_or text i 0 ≡ c → IsInRange 48 57 c → i ≢ 9 → (i ≡ 1 → value ≢ 0) → IsLead text (i + 1) (value * 10 + (c - 48))
 lead_more text i value c h within at digit short no_zero =
     record {
@@ -84,7 +84,7 @@ lead_more text i value c h within at digit short no_zero =
     by_first two e (inl one) = no_zero one (first_zero text value (omega (arith, within)) (subst (λ (j : ℕ). digits_value 10 (take j text) ≡ value) one h.value_is) e)
     by_first two e (inr other) = h.lead (omega (arith, two, other)) e
 
--- digits behind a first one that is no zero
+-- digits after a first one that isn't zero
 pub record IsLeadOn (text : List ℕ) (i value : ℕ) : Type 0 where
   pub lead : IsLead text i value
   pub some : 1 ≤ i
@@ -121,7 +121,7 @@ lead_number text i value h some within small =
     let told : decimal (digits_value 10 (take i text)) ≡ take i text = decimal-digits_value own (take i text) digits (omega (arith, long, some)) alone fits in
     sym (take-append-drop i text) ∙ ap (λ (l : List ℕ). l ++ drop i text) (sym told ∙ ap decimal h.value_is)
 
--- a line of three numbers and a mark, and what stands behind it
+-- a line of three numbers and a mark, and what follows it
 pub short_told : (text r s t u v more : List ℕ) (w a b : ℕ) (mark : Bool) → text ≡ decimal w ++ r → r ≡ 32 ∷ s → s ≡ decimal a ++ t → t ≡ 32 ∷ u → u ≡ decimal b ++ v
     → v ≡ (if mark then codes " *" else []) ++ 10 ∷ more → w < 2 ^ 64 → a < 2 ^ 64 → b < 2 ^ 64 → Tells (lines_of text) (Some (w, a, b, mark)) (lines_of more)
 short_told text r s t u v more w a b mark e f g h k l lw la lb =

@@ -10,7 +10,7 @@ use Rattle.pair_workers.proofs.ManyRounds.{AreOnTheRun}
 use Rattle.pop_journal.specs.Journal.{run_line, round_lines, run_lines, text_of}
 use Rattle.pop_journal.proofs.Texts.{run_text}
 
--- some rounds were made, and their lines stand behind the run's first
+-- some rounds were made, and their lines follow the run's first
 pub record Made (net : NetModel) (start : CrowdModel) (spec : RunSpec) (before text : List ℕ) (crowd : CrowdModel) (picker : List ℕ) (left number : ℕ) : Type 0 where
   pub rounds : List (List Meeting)
   pub run : AreOnTheRun net start spec rounds crowd (picker ∷ []) left

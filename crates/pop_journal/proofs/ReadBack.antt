@@ -34,7 +34,7 @@ words_back : (w a b : ℕ) (mark : Bool) → w < 2 ^ 64 → a < 2 ^ 64 → b < 2
 words_back w a b true lw la lb = three_back w a b true lw la lb
 words_back w a b false lw la lb = three_back w a b false lw la lb
 
--- a meeting line tells its meeting
+-- a meeting line is read as its meeting
 pub told_back : (m : Meeting) → IsSmall m → told_in (meeting_line m) ≡ Some (m.worker, m.a, m.b, m.changed)
 unfolding told_in
 told_back m small = ap told_words (meeting_words m small) ∙ words_back m.worker m.a m.b m.changed small.worker small.a small.b
@@ -58,7 +58,7 @@ module _ (kind : RunKind) (spec : RunSpec) (agents : ℕ) (some_worker : 1 ≤ s
   joined_middle [] r rest h = (all_parts InRange r (joined rest) h).0
   joined_middle (d ∷ done) r rest h = joined_middle done r rest (all_parts InRange d (joined (done ++ r ∷ rest)) h).1
 
-  -- a meeting of a round, behind those before it
+  -- a meeting of a round, after those before it
   meeting_read : (rounds : List (List Meeting)) (pre post : List Meeting) (m : Meeting) → IsWatchedRound spec (length rounds + 1) (pre ++ m ∷ post) → All InRange (pre ++ m ∷ post)
       → line_read kind spec agents (rounds, Some pre) (meeting_line m) ≡ Ok (Some (settled spec rounds (pre ++ m ∷ [])))
   meeting_read rounds pre post m round range =
@@ -87,11 +87,11 @@ module _ (kind : RunKind) (spec : RunSpec) (agents : ℕ) (some_worker : 1 ≤ s
   pub settled_open : (rounds : List (List Meeting)) (r : List Meeting) → length r < wanted spec rounds → settled spec rounds r ≡ (rounds, Some r)
   settled_open rounds r l = cond-false (length r == wanted spec rounds) (let d : Reading = (rounds ++ r ∷ [], None) in d) (rounds, Some r) (ne_eqb (length r) (wanted spec rounds) (λ e. omega (arith, e, l)))
 
-  -- the lines behind a line that was read
+  -- the lines after a line that was read
   pub on_with : (number : ℕ) (reading next : Reading) (line : List ℕ) (lines : List (List ℕ)) → line_read kind spec agents reading line ≡ Ok (Some next) → lines_read kind spec agents number reading (line ∷ lines) ≡ lines_read kind spec agents (number + 1) next lines
   on_with number reading next line lines e = ap (follow number (all_rounds reading, lines) (λ n. lines_read kind spec agents (number + 1) n lines)) e
 
-  -- one line more of an open round
+  -- one more line of an open round
   pub read_next : (number : ℕ) (rounds : List (List Meeting)) (ms : List Meeting) (next : Reading) (line : List ℕ) (lines : List (List ℕ)) → length ms < wanted spec rounds → line_read kind spec agents (rounds, Some ms) line ≡ Ok (Some next)
       → lines_read kind spec agents number (settled spec rounds ms) (line ∷ lines) ≡ lines_read kind spec agents (number + 1) next lines
   read_next number rounds ms next line lines short e =
@@ -124,7 +124,7 @@ module _ (kind : RunKind) (spec : RunSpec) (agents : ℕ) (some_worker : 1 ≤ s
       ∙ ap (λ (n : Reading). lines_read kind spec agents (number + 1) n (map meeting_line r ++ lines)) (sym (settled_open rounds [] (omega (arith, some))))
       ∙ rest_read (number + 1) rounds [] r lines round range
 
-  -- a whole round, and the lines behind it
+  -- a whole round, and the lines after it
   whole_read : (number : ℕ) (done : List (List Meeting)) (r : List Meeting) (rest : List (List Meeting)) (tail : List (List ℕ)) → IsRound spec (length done + 1) r → All InRange r
       → ((n : ℕ) → lines_read kind spec agents n (done ++ r ∷ [], None) (round_lines (length (done ++ r ∷ []) + 1) rest ++ codes "end" ∷ tail) ≡ Ok (done ++ r ∷ [] ++ rest, tail))
       → lines_read kind spec agents number (done, None) (round_lines (length done + 1) (r ∷ rest) ++ codes "end" ∷ tail) ≡ Ok (done ++ r ∷ rest, tail)
@@ -138,7 +138,7 @@ module _ (kind : RunKind) (spec : RunSpec) (agents : ℕ) (some_worker : 1 ≤ s
       ∙ on (number + 1 + length r)
       ∙ ap (λ (d : List (List Meeting)). Ok (let p : Parts = (d, tail) in p)) (append_assoc done (r ∷ []) rest)
 
-  -- the same of what the line tells
+  -- the same for what the line says
   pub read_told : (number : ℕ) (rounds : List (List Meeting)) (ms : List Meeting) (next : Reading) (told : Option Told) (lines others : List (List ℕ)) → Tells lines told others → length ms < wanted spec rounds
       → first_ends kind lines ≡ false → meeting_told spec agents rounds ms told ≡ Ok (Some next) → lines_read kind spec agents number (settled spec rounds ms) lines ≡ lines_read kind spec agents (number + 1) next others
   read_told number rounds ms next told [] others t short on e = absurd t

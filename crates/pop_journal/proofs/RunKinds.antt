@@ -1,4 +1,4 @@
--- What holds of the rounds and runs of both kinds.
+-- What holds for the rounds and runs of both kinds.
 use Rattle.std.proofs.Common.{◌≡◌, ℕ, ◌+◌, ◌<◌, ◌≤◌, List, [], ◌∷◌, ◌++◌, length, All, refl, sym, subst, arith}
 use Rattle.std.specs.Prelude.{Some, slice_get}
 use Rattle.std.proofs.lemmas.List.Elements.{All-head, All-nil, All-cons}
@@ -25,7 +25,7 @@ few_workers Whole n l = omega (arith, l)
 few_workers Watched n l = omega (arith, l)
 
 module _ (spec : RunSpec) where
-  -- nobody but the workers meets in rounds
+  -- nobody but the workers makes meetings in rounds
   pub all_below : (rounds : List (List Meeting)) → ((k : ℕ) (r : List Meeting) → slice_get rounds k ≡ Some r → IsWatchedRound spec (k + 1) r) → All (λ (m : Meeting). m.worker < spec.workers) (joined rounds)
   all_below rounds each = joined_all (λ (m : Meeting). m.worker < spec.workers) rounds (λ k r h. (each k r h).nobody_else)
 
@@ -73,7 +73,7 @@ module _ (net : NetModel) (start : CrowdModel) (spec : RunSpec) (rounds : List (
     abbrev InRange : Meeting → Type 0
     InRange m = IsMeeting (length start) m
 
-    -- meetings that are the expected ones are of two different agents
+    -- expected meetings are of two different agents
     due_meets : (before ms : List Meeting) → AreDue net start spec before ms → All InRange ms
     due_meets before [] h = All-nil InRange
     due_meets before (m ∷ ms) h =
@@ -84,7 +84,7 @@ module _ (net : NetModel) (start : CrowdModel) (spec : RunSpec) (rounds : List (
     run_meets : IsWatchedRun net start spec rounds end → AreMeetings (length start) (joined rounds)
     run_meets run = due_meets [] (joined rounds) (picked_due net start spec [] (joined rounds) run.picked (all_below spec rounds run.each_round) run.marked)
 
-    -- the rounds of a run are in form
+    -- the rounds of a run are well-formed
     pub run_form : (kind : RunKind) → IsRunOf kind net start spec rounds end → AreRoundsOf kind spec (length start) rounds
     run_form Whole run = record { whole = run.each_round; meetings = run_meets (whole_is_watched net start spec rounds end run) }
     run_form Watched run = record { each = run.each_round; whole = run.whole; meetings = run_meets run }

@@ -25,7 +25,7 @@ use Rattle.list_laws.proofs.Options.{some_before}
 abbrev space : ℕ → Bool
 space b = b == 32
 
--- the words behind `workers`
+-- the words after `workers`
 abbrev numbers_of : RunSpec → List (List ℕ)
 numbers_of spec =
     decimal spec.workers ∷ codes "shards" ∷ decimal spec.shards ∷ codes "turns" ∷ decimal spec.turns ∷ codes "seed" ∷ decimal spec.seed ∷ []
@@ -78,7 +78,7 @@ mapped : (o : Option ℕ) (rest : List (List ℕ)) (n : ℕ) (more : List (List 
 mapped None rest n more e = absurd cc
 mapped (Some m) rest n more e = let same : ◌≡◌ {A = Named} (m, rest) (n, more) = cc in (ap (λ (t : Named). Some t.0) same, ap (λ (t : Named). t.1) same)
 
--- a number behind its name
+-- a number after its name
 named_is : (name : List ℕ) (least most : ℕ) (words : List (List ℕ)) (n : ℕ) (more : List (List ℕ)) → most < 2 ^ 64 → number_named name least most words ≡ Some (n, more) → (words ≡ name ∷ decimal n ∷ more) × Between least most n
 named_is name least most [] n more small e = absurd cc
 named_is name least most (word ∷ []) n more small e =
@@ -131,7 +131,7 @@ spec_spelled kind line spec e =
     let are = words_are kind (pieces 32 line) spec e in
     (sym (join_with_byte-slice_split 32 line) ∙ ap (join_with_byte 32) are.0 ∙ sym (run_right kind spec), are.1, are.2)
 
--- the other way
+-- in the other direction: a number is cut off at a space
 pub cut_number : (n : ℕ) (rest : List ℕ) → n < 2 ^ 64 → pieces 32 (decimal n ++ 32 ∷ rest) ≡ decimal n ∷ pieces 32 rest
 cut_number n rest small = slice_split_at space (decimal n) 32 rest (decimal_no_space n small) refl
 

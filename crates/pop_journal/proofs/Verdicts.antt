@@ -1,4 +1,4 @@
--- A journal passes exactly where it holds.
+-- A journal passes exactly when it holds.
 use Rattle.std.proofs.Common.{◌≡◌, ◌≤◌, ◌+◌, ℕ, length, subst, sym, ap, refl, ◌∙◌, arith, List, All}
 use Rattle.std.specs.Prelude.{Some, None, Result, Ok, Err, IfOk, IfErr}
 use Rattle.std.proofs.lemmas.List.{length-map}
@@ -23,7 +23,7 @@ use Rattle.pop_journal.proofs.Holds.{run_of_none, none_of_run}
 use Rattle.pop_journal.proofs.RunKinds.{are_watched, is_watched, is_of_kind}
 
 module _ (net : NetModel) (start : CrowdModel) (journal : Journal) (two : AGENT_LEAST ≤ length start) (few : length start ≤ AGENT_LIMIT) (workers : (1 ≤ journal.spec.workers) × (journal.spec.workers ≤ WORKER_LIMIT)) (tuples : All (IsTuple net) start) (form : AreRoundsOf journal.kind journal.spec (length start) journal.rounds) where
-  -- a journal in form without a difference holds
+  -- a well-formed journal without a difference holds
   pub none_held : first_difference (journal.first + 1) (journal_compared net start journal) ≡ None → Holds net start journal
   none_held e =
       let watched = are_watched journal.spec (length start) journal.rounds journal.kind form in

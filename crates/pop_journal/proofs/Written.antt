@@ -1,4 +1,4 @@
--- The form of a text that was read, and the reading of a text that was written of a run.
+-- The form of a text that was read, and the reading of a run's text.
 use Rattle.std.proofs.Common.{◌≡◌, ℕ, ◌+◌, ◌-◌, ◌*◌, ◌<◌, ◌≤◌, ◌^◌, min, List, [], ◌∷◌, ◌++◌, length, codes, Option, Some, None, Result, Ok, Err, All, refl, sym, ap, subst, ◌∙◌, arith, append_assoc, length-append, suc}
 use Rattle.std.specs.Prelude.{slice_get, IfOk}
 use Rattle.std.proofs.lemmas.List.Elements.{All-nil, All-cons, All-head, All-tail}
@@ -55,7 +55,7 @@ long_rounds spec k (r ∷ rounds) hands each =
 abbrev lines_told : RunKind → RunSpec → Parts → List (List ℕ)
 lines_told kind spec parts = run_line kind spec ∷ (round_lines 1 parts.0 ++ codes "end" ∷ parts.1)
 
--- a text that is read has the lines of its journal, whose rounds are in form
+-- a text that is read has the lines of its journal, whose rounds are well-formed
 pub journal_form : (kind : RunKind) (agents first : ℕ) (lines : List (List ℕ)) (spec : RunSpec) (parts : Parts) → agents < 2 ^ 32 → journal_in kind agents first lines ≡ Ok (spec, parts)
     → (lines ≡ run_line kind spec ∷ (round_lines 1 parts.0 ++ codes "end" ∷ parts.1)) × IsWithinLimits spec × AreRoundsOf kind spec agents parts.0
 journal_form kind agents first [] spec parts few e = absurd cc
@@ -88,7 +88,7 @@ text_is_held net start agents first body journal few read holds =
     one_spelling journal.kind net journal.spec journal.rounds holds.0 body journal.tail form.0 holds.2
     ∙ ap (λ (end : CrowdModel). journal_text journal.kind net journal.spec journal.rounds end (ending_of net end)) (sym run.replays)
 
--- the other way
+-- in the other direction: meetings within the limits have small numbers
 small_all : (agents workers : ℕ) (ms : List Meeting) → agents ≤ AGENT_LIMIT → workers ≤ WORKER_LIMIT → All (IsMeeting agents) ms → All (λ (m : Meeting). m.worker < workers) ms → All IsSmall ms
 small_all agents workers [] few hands range below = All-nil IsSmall
 small_all agents workers (m ∷ ms) few hands range below =
@@ -107,7 +107,7 @@ early : (spec : RunSpec) (k : ℕ) (r : List Meeting) → spec.turns ≤ 1000000
 early spec k r few round =
     let some : 1 ≤ min 4096 (spec.turns - 4096 * (k + 1 - 1)) = round.some_turn in omega (arith, some, few)
 
--- the number of meetings of rounds in form
+-- the number of meetings of well-formed rounds
 pub few_meetings : (kind : RunKind) (spec : RunSpec) (agents : ℕ) (rounds : List (List Meeting)) → IsWithinLimits spec → AreRoundsOf kind spec agents rounds → length (joined rounds) < 2 ^ 64
 few_meetings kind spec agents rounds limits form =
     let watched = are_watched spec agents rounds kind form in

@@ -1,4 +1,4 @@
--- Calls: what the calls on journals ask for and promise.
+-- Calls: what the calls on journals require and promise.
 use Rattle.std.specs.Prelude.{◌≡◌, ℕ, ◌+◌, ◌≤◌, List, ◌∷◌, ◌++◌, length, codes, Result, IfOk, IfErr}
 use Rattle.pop_net.specs.NetModel.{NetModel}
 use Rattle.pop_net.specs.declared.net.Word.{Word}
@@ -26,20 +26,20 @@ pub record IsReadFrom (lines : List (List ℕ)) (run : RunKind) (number agents :
   pub kind : IfOk result (λ journal. journal.kind ≡ run)
   pub first : IfOk result (λ journal. journal.first ≡ number)
   pub limits : IfOk result (λ journal. IsWithinLimits journal.spec × (journal.spec.workers ≤ most_workers_of run))
-  -- the rounds are what `verify` asks for
+  -- the rounds are what `verify` requires
   pub rounds : IfOk result (λ journal. AreRoundsOf run journal.spec agents journal.rounds)
   -- the lines of the text are those of the journal
   pub spelled : IfOk result
       (λ journal. lines ≡ run_line run journal.spec ∷ (round_lines 1 journal.rounds ++ codes "end" ∷ journal.tail))
 
--- what `verify` asks of a journal, for a crowd of this net
+-- what `verify` requires of a journal, for a crowd of this net
 pub record CanVerify (net : NetModel) (crowd : List Word) (journal : Journal) : Type 0 where
   pub valid : AreValid net crowd
   pub first : journal.first ≤ LINE_LIMIT
   pub spec : IsWithinLimits journal.spec
   pub rounds : AreRoundsOf journal.kind journal.spec (length crowd) journal.rounds
 
--- the journal was compared with the run that it tells from this crowd
+-- the journal was compared with the run that it records from this crowd
 pub record IsVerified (net : NetModel) (crowd : List Word) (journal : Journal)
     (result : Result ℕ VerifyFault) : Type 0 where
   -- the first line that isn't the expected one is the refusal

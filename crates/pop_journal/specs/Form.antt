@@ -17,12 +17,12 @@ use Rattle.pop_journal.specs.Journal.{round_line}
 use Rattle.pop_journal.specs.declared.fault.JournalWhy.{JournalWhy}
 use Rattle.pop_journal.specs.declared.fault.JournalWhy.TheVariants.{Missing, Form, Worker, Agents, Round}
 
--- a number in its printed form and within these limits, with the words behind it
+-- a number in its printed form and within these limits, with the words after it
 abbrev pub number_first : ℕ → ℕ → List (List ℕ) → Option (ℕ × List (List ℕ))
 number_first least most [] = None
 number_first least most (number ∷ more) = option_map (λ n. (n, more)) (printed_number_of_within least most number)
 
--- such a number behind its name
+-- such a number after its name
 abbrev pub number_named : List ℕ → ℕ → ℕ → List (List ℕ) → Option (ℕ × List (List ℕ))
 number_named name least most [] = None
 number_named name least most (word ∷ words) = if bytes_eq word name then number_first least most words else None
@@ -31,7 +31,7 @@ abbrev pub at_the_end : RunSpec → List (List ℕ) → Option RunSpec
 at_the_end spec [] = if nat_le (spec.workers * spec.turns) MEETING_LIMIT then Some spec else None
 at_the_end spec (word ∷ more) = None
 
--- the turns and the seed, behind the workers and the shards; workers times turns are within their limit
+-- the turns and the seed, after the workers and the shards; workers times turns are within their limit
 abbrev pub turns_named : ℕ → ℕ → List (List ℕ) → Option RunSpec
 turns_named workers shards words =
     option_and_then
@@ -47,7 +47,7 @@ spec_named most words =
     (λ w. option_and_then (λ s. turns_named w.0 s.0 s.1) (number_named (codes "shards") 1 SHARD_LIMIT w.1))
     (number_named (codes "workers") 1 most words)
 
--- the kind's word, and behind it the numbers
+-- the kind's word, and the numbers after it
 abbrev pub spec_words : RunKind → List (List ℕ) → Option RunSpec
 spec_words kind [] = None
 spec_words kind (first ∷ words) =
@@ -75,7 +75,7 @@ told_words _ = None
 unfoldable pub told_in : List ℕ → Option Told
 told_in line = told_words (pieces 32 line)
 
--- lines of which the first tells this of a meeting, and these are the others
+-- the first of these lines says this about a meeting, and these are the others
 abbrev pub Tells : List (List ℕ) → Option Told → List (List ℕ) → Type 0
 Tells [] told others = ⊥
 Tells (line ∷ lines) told others = (told_in line ≡ told) × (lines ≡ others)
@@ -89,7 +89,7 @@ abbrev pub all_rounds : Reading → List (List Meeting)
 all_rounds (rounds, None) = rounds
 all_rounds (rounds, Some meetings) = rounds ++ meetings ∷ []
 
--- how many meetings the round behind these has
+-- how many meetings the round after these has
 abbrev pub wanted : RunSpec → List (List Meeting) → ℕ
 wanted spec rounds = spec.workers * turns_in spec (length rounds + 1)
 
@@ -97,7 +97,7 @@ abbrev pub settled : RunSpec → List (List Meeting) → List Meeting → Readin
 settled spec rounds meetings =
     if length meetings == wanted spec rounds then (rounds ++ meetings ∷ [], None) else (rounds, Some meetings)
 
--- a worker that lacks meetings of this round, and then two different agents
+-- a meeting by a worker that lacks meetings of this round, of two different agents
 abbrev pub meeting_told : RunSpec → ℕ → List (List Meeting) → List Meeting → Option Told
     → Result (Option Reading) JournalWhy
 meeting_told spec agents rounds meetings None = Err Form
@@ -108,7 +108,7 @@ meeting_told spec agents rounds meetings (Some (w, a, b, mark)) =
     else Err Agents
     else Err Worker
 
--- a reading with one meeting more, where a line gave one
+-- a reading with one more meeting, if a line gave one
 abbrev pub onward : RunSpec → List (List Meeting) → List Meeting → Result Meeting JournalWhy
     → Result (Option Reading) JournalWhy
 onward spec rounds meetings (Ok m) = Ok (Some (settled spec rounds (meetings ++ m ∷ [])))
@@ -119,7 +119,7 @@ abbrev pub ends_inside : RunKind → List ℕ → Bool
 ends_inside Whole line = false
 ends_inside Watched line = bytes_eq line (codes "end")
 
--- what one line makes of a reading: nothing more where it is `end`
+-- what one line makes of a reading: nothing more if it is `end`
 abbrev pub line_read : RunKind → RunSpec → ℕ → Reading → List ℕ → Result (Option Reading) JournalWhy
 line_read kind spec agents (rounds, None) line =
     if bytes_eq line (codes "end")
@@ -130,11 +130,11 @@ line_read kind spec agents (rounds, None) line =
 line_read kind spec agents (rounds, Some meetings) line =
     if ends_inside kind line then Ok None else meeting_told spec agents rounds meetings (told_in line)
 
--- the first line out of form, and why
+-- the first invalid line, and why
 abbrev pub Out : Type 0
 Out = ℕ × JournalWhy
 
--- the rounds, and the lines behind `end`
+-- the rounds, and the lines after `end`
 abbrev pub Parts : Type 0
 Parts = List (List Meeting) × List (List ℕ)
 
@@ -158,7 +158,7 @@ abbrev pub with_spec : RunKind → ℕ → ℕ → List (List ℕ) → Option Ru
 with_spec kind agents first lines None = Err (first, Form)
 with_spec kind agents first lines (Some spec) = under spec (lines_read kind spec agents (first + 1) ([], None) lines)
 
--- what a text's lines tell of a run of this kind
+-- what a text's lines say about a run of this kind
 abbrev pub journal_in : RunKind → ℕ → ℕ → List (List ℕ) → Result (RunSpec × Parts) Out
 journal_in kind agents first [] = Err (first, Missing)
 journal_in kind agents first (line ∷ lines) = with_spec kind agents first lines (spec_in kind line)

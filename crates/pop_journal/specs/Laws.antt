@@ -1,5 +1,4 @@
--- Laws on journals: a text that is read and holds has one spelling, and the text that is written of a run is read and
--- holds.
+-- Laws of journals: a text that is read and holds has one spelling, and the text written for a run is read and holds.
 use Rattle.std.specs.Prelude.{◌≡◌, ℕ, ◌*◌, ◌<◌, ◌≤◌, ◌^◌, List, [], ◌∷◌, ◌++◌, length, Ok}
 use Rattle.pop_lines.specs.Lines.{lines_of}
 use Rattle.pop_net.specs.NetModel.{NetModel, CrowdModel}
@@ -20,29 +19,29 @@ use Rattle.pop_journal.specs.Expected.{whole_tail, Holds}
 use Rattle.pop_journal.specs.Form.{journal_in}
 use Rattle.pop_journal.specs.ReadLines.{ReadsJournal}
 
--- the text that is written of a run with this end
+-- the text written for a run with this end
 abbrev pub text_ended : RunKind → NetModel → RunSpec → List (List Meeting) → CrowdModel → List ℕ
 text_ended kind net spec rounds end = journal_text kind net spec rounds end (ending_of net end)
 
--- the text that is written of a journal's run
+-- the text written for a journal's run
 abbrev pub text_held : NetModel → CrowdModel → Journal → List ℕ
 text_held net start journal =
     text_ended journal.kind net journal.spec journal.rounds (replay net (joined journal.rounds) start)
 
--- A journal that was read from a text with a line feed at its end, and that holds, has no other text.
+-- A journal that holds and was read from a text with a line feed at its end has no other text.
 abbrev pub IsOneSpelling : Type 0
 IsOneSpelling =
     (net : NetModel) (start : CrowdModel) (agents first : ℕ) (body : List ℕ) (journal : Journal) → agents < 2 ^ 32
     → ReadsJournal journal.kind agents first (lines_of (body ++ 10 ∷ [])) (Ok journal) → Holds net start journal
     → body ++ 10 ∷ [] ≡ text_held net start journal
 
--- the text that is written of a run is read back
+-- the text written for a run is read back
 abbrev pub IsRunReadBack : RunKind → NetModel → CrowdModel → RunSpec → List (List Meeting) → CrowdModel → ℕ → Type 0
 IsRunReadBack kind net start spec rounds end first =
     journal_in kind (length start) first (lines_of (text_ended kind net spec rounds end))
     ≡ Ok (spec, (rounds, lines_of (whole_tail net end)))
 
--- The text that is written of a run is read back to a journal that holds.
+-- The text written for a run is read back to a journal that holds.
 abbrev pub IsWrittenHeld : Type 0
 IsWrittenHeld =
     (kind : RunKind) (net : NetModel) (start : CrowdModel) (spec : RunSpec) (rounds : List (List Meeting))

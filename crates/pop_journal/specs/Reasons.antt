@@ -1,4 +1,4 @@
--- How the reason of a line out of form is printed.
+-- How the reason for an invalid line is printed.
 use Rattle.std.specs.Prelude.{ℕ, List, codes}
 use Rattle.pop_journal.specs.declared.fault.JournalWhy.{JournalWhy}
 use Rattle.pop_journal.specs.declared.fault.JournalWhy.TheVariants.{Missing, Form, Worker, Agents, Round}

@@ -9,7 +9,7 @@ use Rattle.pair_workers.specs.declared.alone.End.{End}
 use Rattle.pair_workers.specs.OneRun.{IsOnlyRunFrom}
 use Rattle.pop_journal.specs.Journal.{run_lines, text_of}
 
--- a run from a crowd to this end, which is the only one, and its lines behind what stood before
+-- a run from a crowd to this end, which is the only one, and its lines after earlier text
 pub record IsWrittenRun (net : NetModel) (crowd : List Word) (spec : RunSpec) (before after : List ℕ)
     (last : List Word) (end : End) : Type 0 where
   pub rounds : List (List Meeting)

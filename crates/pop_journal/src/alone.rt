@@ -1,4 +1,4 @@
-//! The text of a run by one worker, made while it runs, so that no round's meetings are kept.
+//! The text of a run by one worker, written during the run, so that no round's meetings are kept.
 
 ghost use Rattle.std.specs.Prelude.{◌≡◌, IfOk};
 ghost use Rattle.pair_workers.specs.Ends.{CanMakeRun};
@@ -15,7 +15,7 @@ use std::alloc::Global;
 use terminal_test::PairTable;
 
 /// Makes a run by the worker 0 alone, as `run_alone`, and adds its lines up to `end` to a text.
-/// The answer is the run's last crowd, and why it ended.
+/// Returns the run's last crowd, and why it ended.
 pub fn push_run_alone<G: Gate>(
     alloc: Global,
     text: &mut Vec<u8>,

@@ -8,16 +8,16 @@ use pop_io::{List, NoMemory};
 use std::alloc::{AllocError, AllocFailed};
 use std::fmt;
 
-/// Why a line is out of form.
+/// Why a line is invalid.
 #[derive(Clone, Copy, PartialEq, Eq)]
 pub enum JournalWhy {
     /// There is no such line.
     Missing,
     /// The line is malformed.
     Form,
-    /// A meeting line names a worker that is not there, or that has all its meetings of the round.
+    /// A meeting line names a worker that doesn't exist, or that has all its meetings of the round.
     Worker,
-    /// A meeting line names agents that are not there, or one agent twice.
+    /// A meeting line names agents that don't exist, or one agent twice.
     Agents,
     /// A round begins after all turns are spent.
     Round,
@@ -41,10 +41,10 @@ impl fmt::Display for JournalWhy {
     }
 }
 
-/// Why a text is no journal.
+/// Why a text isn't a journal.
 #[derive(Clone, Copy, PartialEq, Eq)]
 pub enum JournalFault {
-    /// The first line out of form.
+    /// The first invalid line.
     Out { line: u64, why: JournalWhy },
     /// Out of memory.
     NoMemory,

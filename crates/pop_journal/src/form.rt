@@ -19,8 +19,8 @@ use pop_io::{SHARD_LIMIT, WORKER_LIMIT};
 use pop_lines::{cut, next_line, printed_number, printed_within};
 use pop_words::{MEETING_LIMIT, RunKind, RunSpec, SEED_LIMIT, TURN_LIMIT};
 
-/// What the first line of a text tells of a meeting, before it is looked at, and what stands behind its line feed.
-/// It is `None` of a text without lines.
+/// What the first line of a text says about a meeting, not yet checked, and what follows its line feed.
+/// `None` if the text has no lines.
 #[inline(always)]
 pub(crate) fn next_told(text: &[u8]) -> Option<(Option<(u128, u128, u128, bool)>, &[u8])>
     ensures { MatchOption result (lines_of text.now ≡ [])
@@ -39,7 +39,7 @@ pub(crate) fn next_told(text: &[u8]) -> Option<(Option<(u128, u128, u128, bool)>
     Some((long_told(line), rest))
 }
 
-/// What a line tells, whose numbers may have any length.
+/// What a line says, with numbers of any length.
 #[tactic(auto, using(crate::proofs::FormLaws::told_five), unfolding(crate::specs::Form::told_in))]
 fn long_told(line: &[u8]) -> Option<(u128, u128, u128, bool)>
     ensures { result ≡ told_in line.now }
@@ -66,7 +66,7 @@ fn three(worker: &[u8], first: &[u8], second: &[u8], mark: bool) -> Option<(u128
     Some((worker, first, second, mark))
 }
 
-/// Whether a text begins with the line `end`, where a round of this kind may stop.
+/// Whether a text begins with the line `end` and a round of this kind may stop here.
 fn ends_here(kind: RunKind, text: &[u8]) -> bool
     ensures { result ≡ first_ends kind (lines_of text.now) }
 {
@@ -76,7 +76,7 @@ fn ends_here(kind: RunKind, text: &[u8]) -> bool
     }
 }
 
-/// The same, where the first line of the text tells this of a meeting. A line that tells one is not `end`.
+/// The same, given what the first line says about a meeting. A line that says something about one isn't `end`.
 #[inline(always)]
 pub(crate) fn stops_here(kind: RunKind, told: Option<(u128, u128, u128, bool)>, text: &[u8]) -> bool
     ensures { (others : Items (Items ℕ)) → Tells (lines_of text.now) told others
@@ -88,7 +88,7 @@ pub(crate) fn stops_here(kind: RunKind, told: Option<(u128, u128, u128, bool)>, 
     }
 }
 
-/// The meeting that a line tells, by a worker that has fewer meetings of this round than its turns.
+/// The meeting on a line, by a worker that has fewer meetings of this round than its turns.
 pub(crate) fn checked(
     told: Option<(u128, u128, u128, bool)>,
     spec: &RunSpec,
@@ -123,7 +123,7 @@ pub(crate) fn checked(
     })
 }
 
-/// A number behind its name, and what stands behind a space after it.
+/// A number after its name, and what follows the space after it.
 fn number_behind<'t>(
     words: Option<&'t [u8]>,
     name: &[u8],
@@ -143,7 +143,7 @@ fn number_behind<'t>(
     first_number(rest, least, most)
 }
 
-/// A number, and what stands behind a space after it.
+/// A number, and what follows the space after it.
 fn first_number<'t>(
     words: Option<&'t [u8]>,
     least: u64,
@@ -173,7 +173,7 @@ pub(crate) fn spec_of(kind: RunKind, line: &[u8]) -> Option<RunSpec>
     spec_behind(words, kind.most_workers())
 }
 
-/// The numbers behind the word of a kind with so many workers at most.
+/// The numbers after the word of a kind with at most so many workers.
 fn spec_behind(words: Option<&[u8]>, most: u16) -> Option<RunSpec>
     requires { most ≤ WORKER_LIMIT }
     ensures spec { result ≡ spec_named most (words_behind (option_copied words.entry)) }
@@ -184,7 +184,7 @@ fn spec_behind(words: Option<&[u8]>, most: u16) -> Option<RunSpec>
     turns_behind(rest, workers as u16, shards as u32)
 }
 
-/// The turns and the seed behind these workers and shards.
+/// The turns and the seed after these workers and shards.
 fn turns_behind(words: Option<&[u8]>, workers: u16, shards: u32) -> Option<RunSpec>
     requires workers { (1 ≤ workers) × (workers ≤ WORKER_LIMIT) }
     requires shards { (1 ≤ shards) × (shards ≤ SHARD_LIMIT) }
@@ -202,7 +202,7 @@ fn turns_behind(words: Option<&[u8]>, workers: u16, shards: u32) -> Option<RunSp
     at_end(spec, rest)
 }
 
-/// The run, where no words are left and its meetings are few enough.
+/// The run, if no words are left and its meetings are few enough.
 #[tactic(auto, using(crate::proofs::FormLaws::no_end_before))]
 fn at_end(spec: RunSpec, rest: Option<&[u8]>) -> Option<RunSpec>
     requires { IsWithinLimits spec }

@@ -7,7 +7,7 @@ use pop_words::{RunKind, RunSpec};
 /// The greatest number of a journal's first line.
 pub const LINE_LIMIT: u64 = 1_099_511_627_776;
 
-/// A run's kind, options and rounds, the lines behind `end`, and the number of the first line.
+/// A run's kind, options and rounds, the lines after `end`, and the number of the first line.
 #[derive(Drop)]
 pub struct Journal {
     pub kind: RunKind,

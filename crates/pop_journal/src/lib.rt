@@ -1,6 +1,6 @@
-//! Journals: the lines that tell a run.
+//! Journals: the lines that record a run.
 //! It stands on `pair_workers`, `pop_crowd` and `pop_lines`.
-//! The layer above uses: `push_journal` adds `journal_text`, `read_journal` reads `journal_in`, `verify` needs `Holds`.
+//! The layer above uses: `push_journal` adds `journal_text`, `read_journal` reads `journal_in`, `verify` tests `Holds`.
 #![tactic(auto)]
 
 mod alone;

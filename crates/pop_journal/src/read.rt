@@ -24,16 +24,16 @@ use pop_lines::next_line;
 use pop_words::{RunKind, RunSpec};
 use std::alloc::Global;
 
-/// How the lines of a round ended.
+/// How the lines of a round end.
 #[derive(Clone, Copy)]
 pub(crate) enum LinesEnd {
     /// The round has all its meetings.
     Full,
-    /// `end` stood in place of a meeting.
+    /// `end` is in place of a meeting.
     Stopped,
 }
 
-/// Reads the meeting lines of a round, of which the first has this number: how the round ends, and the bytes behind it.
+/// Reads the meeting lines of a round; the first has this number. Returns how the round ends, and the bytes after it.
 fn read_round<'t>(
     alloc: Global,
     kind: RunKind,
@@ -74,7 +74,7 @@ fn read_round<'t>(
     Ok((LinesEnd::Full, rest))
 }
 
-/// Reads the rounds of a journal up to `end`. The answer are the bytes behind it.
+/// Reads the rounds of a journal up to `end`, and returns the bytes after it.
 fn read_rounds<'t>(
     alloc: Global,
     kind: RunKind,
@@ -193,7 +193,7 @@ fn read_lines(
     })
 }
 
-/// Reads a journal of a run of this kind for so many agents, of which the first line has this number.
+/// Reads a journal of a run of this kind for so many agents. Its first line has this number.
 pub fn read_journal(
     alloc: Global,
     kind: RunKind,

@@ -32,7 +32,7 @@ use terminal_test::{PairTable, agreed};
 pub(crate) struct Replayer {
     pub(crate) crowd: Crowd,
     pub(crate) pickers: Vec<Picker>,
-    /// The pair that was found last where a crowd was looked at.
+    /// The pair found by the last test for a terminal crowd.
     pub(crate) last: Option<(u32, u32)>,
 }
 
@@ -99,7 +99,7 @@ impl Replayer {
         meet_next(net, &mut self.crowd, picker, worker)
     }
 
-    /// Compares meeting lines, of which the first has this number, with the expected ones.
+    /// Compares meeting lines with the expected ones. The first has this number.
     fn compare_meetings(
         &mut self,
         alloc: Global,
@@ -127,7 +127,7 @@ impl Replayer {
         Ok(())
     }
 
-    /// Compares the line of a round, which has this number, and the round's meeting lines.
+    /// Compares the line of a round, which has this number, and its meeting lines.
     pub(crate) fn compare_round(
         &mut self,
         alloc: Global,
@@ -157,7 +157,7 @@ impl Replayer {
         self.compare_meetings(alloc, net, meetings, line + 1)
     }
 
-    /// The line that is expected in place of `end`, where it is another one. A round with this number might begin
+    /// The line expected in place of `end`, if it is another one. A round with this number might begin
     /// there, and the round before it lacks a meeting of the worker, if there is one.
     fn line_for_end(
         &mut self,
@@ -188,7 +188,7 @@ impl Replayer {
         Ok(Some(round_text(alloc, round)?))
     }
 
-    /// Compares `end`, where a round with this number might begin, and the lines behind it.
+    /// Compares `end`, where a round with this number might begin, and the lines after it.
     /// The round before it lacks a meeting of the worker, if there is one.
     pub(crate) fn compare_end(
         &mut self,
@@ -244,7 +244,7 @@ fn tail_text(alloc: Global, net: &Net, crowd: &Crowd, last: Last) -> Result<Vec<
     Ok(text)
 }
 
-/// Whether a crowd is terminal. The pair that was found last is looked at first.
+/// Whether a crowd is terminal. The pair found last is tested first.
 fn is_quiet(
     alloc: Global,
     table: &PairTable,
@@ -316,7 +316,7 @@ fn tail_differs(
     Ok(VerifyFault::Differs { line, kept, found })
 }
 
-/// Compares the lines behind `end`, of which the first has this number, with the lines of a text.
+/// Compares the lines after `end`, the first of which has this number, with the lines of a text.
 fn compare_tail(
     alloc: Global,
     tail: &[List<u8>],

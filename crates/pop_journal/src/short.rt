@@ -8,7 +8,7 @@ ghost use Rattle.pop_journal.specs.FirstPair.{IsFirstPair};
 /// Each number of so many digits is below 2^32.
 const SHORT_DIGITS: usize = 9;
 
-/// A short number in its printed form that stands at the begin of a text, and what stands behind it.
+/// A short number in its printed form at the start of a text, and what follows it.
 #[inline(always)]
 fn leading_number(text: &[u8]) -> Option<(u32, &[u8])>
     ensures { IfSome result (λ found. text.now ≡ decimal found.0 ++ found.1.now) }
@@ -32,7 +32,7 @@ fn leading_number(text: &[u8]) -> Option<(u32, &[u8])>
     Some((value, &text[end..]))
 }
 
-/// What stands behind this byte, where a text begins with it.
+/// What follows this byte, if a text begins with it.
 #[inline(always)]
 fn behind(text: &[u8], byte: u8) -> Option<&[u8]>
     ensures { IfSome result (λ rest. text.now ≡ byte ∷ rest.now) }
@@ -41,7 +41,7 @@ fn behind(text: &[u8], byte: u8) -> Option<&[u8]>
     if *first == byte { Some(rest) } else { None }
 }
 
-/// Whether a meeting line ends with its mark here, and what stands behind its line feed.
+/// Whether a meeting line ends with its mark here, and what follows its line feed.
 #[inline(always)]
 fn line_end(text: &[u8]) -> Option<(bool, &[u8])>
     ensures { IfSome result (λ end. text.now ≡ (if end.0 then codes " *" else []) ++ 10 ∷ end.1.now) }
@@ -53,8 +53,8 @@ fn line_end(text: &[u8]) -> Option<(bool, &[u8])>
     Some((true, behind(rest, b'\n')?))
 }
 
-/// What a meeting line tells, where all its numbers are short, and what stands behind its line feed.
-/// It may be `None` of another meeting line.
+/// What a meeting line says if all its numbers are short, and what follows its line feed.
+/// It may be `None` for another meeting line.
 #[inline(always)]
 pub(crate) fn short_meeting(text: &[u8]) -> Option<(u32, u32, u32, bool, &[u8])>
     ensures { IfSome result (λ m. Tells (lines_of text.now) (Some (m.0, m.1, m.2, m.3)) (lines_of m.4.now)) }
@@ -67,7 +67,7 @@ pub(crate) fn short_meeting(text: &[u8]) -> Option<(u32, u32, u32, bool, &[u8])>
 }
 
 /// The two agents that the first line of a text names, if its numbers are short and printed and it has a line feed, and
-/// what stands behind it. It may be `None` of another meeting line.
+/// what follows it. It may be `None` for another meeting line.
 #[inline(always)]
 pub fn short_pair(text: &[u8], agents: u32) -> Option<((u32, u32), &[u8])>
     ensures { IfSome result (λ m. IsFirstPair agents text.now m.0.0 m.0.1 m.1.now) }

@@ -1,4 +1,4 @@
-//! The check of a journal against the run that it tells.
+//! The check of a journal against the run that it records.
 
 ghost use Rattle.std.specs.Prelude.{◌≡◌, ◌≤◌, ◌+◌, [], length, IfOk};
 ghost use Rattle.pop_net.specs.Lanes.{crowd_of, AreValid};
@@ -46,7 +46,7 @@ fn first_replayer(
     })
 }
 
-/// Compares all lines of a journal behind the first, by its workers before the first round.
+/// Compares all lines of a journal after the first, given its workers before the first round.
 fn compare_lines(
     alloc: Global,
     net: &Net,
@@ -81,7 +81,7 @@ fn compare_lines(
     Ok(total)
 }
 
-/// Compares all lines of a journal behind the first.
+/// Compares all lines of a journal after the first.
 fn compare(alloc: Global, net: &Net, crowd: Crowd, journal: &Journal) -> Result<u64, VerifyFault>
     requires valid { AreValid net.now crowd }
     requires first { journal.now.first ≤ LINE_LIMIT }
@@ -97,8 +97,8 @@ fn compare(alloc: Global, net: &Net, crowd: Crowd, journal: &Journal) -> Result<
     compare_lines(alloc, net, &table, &mut replayer, journal)
 }
 
-/// Compares the lines of a journal behind the first with the ones that are expected after the lines before them.
-/// The answer is the number of meetings.
+/// Compares each line of a journal after the first with the one expected after the lines before it.
+/// Returns the number of meetings.
 pub fn verify(alloc: Global, net: &Net, crowd: Crowd, journal: &Journal) -> Result<u64, VerifyFault>
     requires { CanVerify net.now crowd journal.now }
     ensures { IsVerified net.now crowd journal.now result }
