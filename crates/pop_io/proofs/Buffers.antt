@@ -2,7 +2,7 @@
 use Rattle.std.proofs.Common.{◌≡◌, ℕ, ◌+◌, ◌-◌, ◌≤◌, List, ◌++◌, length, take, drop, sym, ap, ◌∙◌, arith, length-drop}
 use Rattle.std.proofs.lemmas.List.{take_at, take-append-drop, drop-drop, length-take}
 
--- what is left is what was given, and the rest
+-- what was left is what was given, and the rest
 pub gave : (xs out given : List ℕ) (at count : ℕ) → at + count ≤ length xs → given ≡ take ((at + count) - at) (drop at xs)
     → drop at xs ≡ take count (given ++ drop count out) ++ drop (at + count) xs
 gave xs out given at count within copied =

@@ -1,4 +1,4 @@
--- What the loops of reading all and writing all keep.
+-- What the loops of `read_all` and `write_all` keep.
 use Rattle.std.proofs.Common.{ℕ, ◌≤◌, List, length, take}
 use Rattle.std.specs.Prelude.{Option}
 use Rattle.pop_io.specs.declared.whole.TheConstants.{INPUT_LIMIT}

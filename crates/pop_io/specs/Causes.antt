@@ -1,8 +1,8 @@
--- When a fault may be answered.
+-- When a fault may be returned.
 use Rattle.std.specs.Prelude.{◌≡◌, ℕ, ◌-◌, ◌^◌, ◌<◌, ◌≤◌, ◌⊎◌, List, take, Option, Result, OnErr}
 use Rattle.std.specs.Io.KnownBytes.{Appends}
 
--- the count is greater than before, or stands at its type's end
+-- the count is greater than before, or the greatest of its type
 abbrev pub HasRisen : ℕ → ℕ → Type 0
 HasRisen before now = (before < now) ⊎ (now ≡ 2 ^ 64 - 1)
 

@@ -1,4 +1,4 @@
--- What a call returned, against what a definition gives: the one form of 'unless out of memory'.
+-- What a call returned, compared with what a definition gives: the one form of 'unless out of memory'.
 use Rattle.std.specs.Prelude.{◌≡◌, Option, IfSome, Result, Ok, Err}
 
 infixl 10 ◌>>=◌
@@ -7,7 +7,7 @@ abbrev pub ◌>>=◌ : {X Y F : Type 0} → Result X F → (X → Result Y F) �
 (Ok x) >>= f = f x
 (Err e) >>= f = Err e
 
--- the error is this fault; an error that tells no fault is out of memory, and may come at any time
+-- the definition gives this fault; an error without a fault is out of memory, and may come at any time
 abbrev pub Fails : {Y E F : Type 0} → (E → Option F) → E → Result Y F → Type 0
 Fails fault_of e wanted = IfSome (fault_of e) (λ fault. wanted ≡ Err fault)
 

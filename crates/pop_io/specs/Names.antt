@@ -23,7 +23,7 @@ variable_name name =
     starts_name name && list_all is_name_byte name && nat_le (length name) NAME_LIMIT
     && not (bytes_eq name (codes "mod"))
 
--- a printed character that is no blank and no `/`
+-- a printed character other than a blank or `/`
 abbrev pub is_printed : ℕ → Bool
 is_printed b = nat_le 33 b && nat_le b 126 && not (b == 47)
 
@@ -31,6 +31,6 @@ is_printed b = nat_le 33 b && nat_le b 126 && not (b == 47)
 abbrev pub state_name : List ℕ → Bool
 state_name name = nat_le 1 (length name) && list_all is_printed name && nat_le (length name) NAME_LIMIT
 
--- names of one form, of which no two are equal
+-- names of one form, no two of which are equal
 abbrev pub AreNames : (List ℕ → Bool) → List (List ℕ) → Type 0
 AreNames is_name names = All (λ name. IsTrue (is_name name)) names × AllPairs ◌≢◌ names

@@ -3,7 +3,7 @@ use Rattle.std.specs.Prelude.{ℕ, ◌+◌, ◌-◌, ◌^◌, ◌==◌, min, Lis
 use Rattle.pop_io.specs.declared.trouble.Trouble.{Trouble}
 use Rattle.pop_io.specs.declared.trouble.TroubleKind.{TroubleKind}
 
--- a count that stands still at its type's end
+-- a count that stops at the greatest number of its type
 abbrev pub next : ℕ → ℕ
 next n = min (n + 1) (2 ^ 64 - 1)
 

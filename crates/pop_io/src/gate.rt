@@ -6,9 +6,9 @@ pub const WORKER_LIMIT: u16 = 64;
 /// The greatest number of shards that the workers share.
 pub const SHARD_LIMIT: u32 = 1_024;
 
-/// Called by the workers of a run. It has no clause: whatever a gate does, a run meets its promises.
+/// Called during a run. It has no clause: whatever a gate does, a run keeps its promises.
 pub trait Gate: Sync {
-    /// A worker calls it before each of its meetings, with turns counted from 1 in each round.
+    /// A worker calls it before each of its meetings, an observer before each look; `turn` counts from 1 in each round.
     fn pass(&self, worker: u16, turn: u64);
 
     /// A meeting of the shared field calls it under its locks and before it reads a word.

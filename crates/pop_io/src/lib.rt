@@ -1,4 +1,4 @@
-//! Lists, texts and names; sources, sinks and gates: all that the program has of the outside.
+//! Lists, texts and names; sources, sinks and gates: the program's only access to the outside.
 //! It stands on std alone.
 //! The layer above uses: `read_all` gives all bytes, `write_all` appends all or a prefix; a fault has its cause.
 #![tactic(auto)]

@@ -38,7 +38,7 @@ impl<T> List<T> {
         self.items.as_slice()
     }
 
-    /// The items, to own. Allocates nothing.
+    /// The items, owned. Allocates nothing.
     pub fn into_vec(self) -> Vec<T>
         ensures { result.items ≡ self }
     {

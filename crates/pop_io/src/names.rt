@@ -7,7 +7,7 @@ ghost use Rattle.pop_io.specs.Names.{variable_name, state_name, starts_name, is_
 
 use crate::text::Text;
 
-/// The greatest number of bytes that a name has.
+/// The greatest number of bytes in a name.
 pub const NAME_LIMIT: usize = 32;
 
 /// The greatest number of variables of a predicate, and of a net's inputs.
@@ -62,7 +62,7 @@ pub fn begins_name(byte: u8) -> bool
     (b'A' <= byte && byte <= b'Z') || (b'a' <= byte && byte <= b'z') || byte == b'_'
 }
 
-/// Whether this byte can stand in a variable's name: a letter, `_` or a digit.
+/// Whether this byte can be part of a variable's name: a letter, `_` or a digit.
 pub fn continues_name(byte: u8) -> bool
     ensures { result ≡ is_name_byte byte }
 {

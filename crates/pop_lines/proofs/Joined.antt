@@ -81,6 +81,6 @@ length-completed [] = omega arith
 length-completed (b ∷ []) = cond_both (eqb b 10) (b ∷ []) (b ∷ 10 ∷ []) (λ (xs : List ℕ). length xs ≤ 2) (λ _. omega arith) (λ _. omega arith)
 length-completed (b ∷ c ∷ bytes) = omega (arith, length-completed (c ∷ bytes))
 
--- there are no more lines than bytes, and one
+-- there is at most one line more than there are bytes
 pub length-lines : (bytes : List ℕ) → length (lines_of bytes) ≤ length bytes + 1
 length-lines bytes = omega (arith, length-ended (lines_of bytes), ap length (lines-joined bytes).joined, length-completed bytes)

@@ -37,7 +37,7 @@ pub lines-more : (bytes line rest : List ℕ) → pieces 10 bytes ≡ line ∷ p
 unfolding lines_of
 lines-more bytes line rest cut = ap without_last_empty cut ∙ goes_on line (pieces 10 rest) (omega (arith, length-slice_split (λ b. eqb b 10) rest))
 
--- a list is what stands before an element, the element, and what stands after it
+-- a list is what precedes an element, the element, and what follows it
 pub around : (c : ℕ) (xs : List ℕ) (i : ℕ) → i < length xs → get_or xs i 0 ≡ c → xs ≡ take i xs ++ c ∷ drop (i + 1) xs
 around c [] i lt is = absurd (omega arith)
 around c (x ∷ xs) zero lt is = ap (λ (y : ℕ). y ∷ xs) is

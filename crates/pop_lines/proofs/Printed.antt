@@ -11,7 +11,7 @@ use Rattle.pop_lines.specs.Numbers.{number_of, number_of_within, has_no_leading_
 pub own : IsNumeralModel (λ ds. all_ascii_digits ds ≡ true) (digits_value 10)
 own = numerals_by_value (λ ds. all_ascii_digits ds ≡ true) tells_all_ascii_digits
 
--- a value that is there only where a test holds
+-- a value that is there only if a test holds
 pub chosen : (test : Bool) (v n : ℕ) → (if test then Some v else None) ≡ Some n → (test ≡ true) × (v ≡ n)
 chosen true v n is = (refl, cc)
 chosen false v n is = cc
@@ -29,7 +29,7 @@ zero_alone [] form first = cc
 zero_alone (c ∷ []) form first = refl
 zero_alone (c ∷ d ∷ text) form first = absurd (eqb-false c 48 (not-true (c == 48) form) first)
 
--- a number in the printed form is the print of its value
+-- a text in printed form is the print of its value
 pub printed-number_of : (text : List ℕ) (n : ℕ) → has_no_leading_zero text ≡ true → number_of text ≡ Some n → n < 2 ^ 64 → text ≡ decimal n
 printed-number_of text n form is small =
     let parts = number_of-Some text n is in

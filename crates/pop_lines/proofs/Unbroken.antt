@@ -14,7 +14,7 @@ use Rattle.pop_lines.proofs.Printed.{own}
 abbrev feed : ℕ → Bool
 feed b = b == 10
 
--- no line feed stands in these bytes
+-- these bytes contain no line feed
 abbrev pub IsUnbroken : List ℕ → Type 0
 IsUnbroken line = list_any feed line ≡ false
 

@@ -1,4 +1,4 @@
--- Pieces between bytes of one kind, and lines.
+-- Pieces between separator bytes, and lines.
 use Rattle.std.specs.Prelude.{◌≡◌, ◌≢◌, ℕ, ◌+◌, ◌<◌, ◌==◌, List, [], ◌∷◌, ◌++◌}
 use Rattle.std.specs.Prelude.{length, codes, All, Option, Some, None, if◌then◌else◌}
 use Rattle.std.specs.List.{slice_split, flat_map}
@@ -19,7 +19,7 @@ without_last_empty ([] ∷ []) = []
 without_last_empty ((b ∷ bs) ∷ []) = (b ∷ bs) ∷ []
 without_last_empty (l ∷ m ∷ ls) = l ∷ without_last_empty (m ∷ ls)
 
--- The lines are cut at each line feed. A final line feed starts no further line, and no bytes are no lines.
+-- Lines are cut at each line feed. A final line feed starts no further line, and an empty text has no lines.
 unfoldable pub lines_of : List ℕ → List (List ℕ)
 lines_of bytes = without_last_empty (pieces 10 bytes)
 
@@ -34,16 +34,16 @@ completed [] = []
 completed (b ∷ []) = if b == 10 then b ∷ [] else b ∷ 10 ∷ []
 completed (b ∷ c ∷ bytes) = b ∷ completed (c ∷ bytes)
 
--- Lines without a line feed in them, each ended by one, are the bytes: no other list of lines is so.
+-- Lines without a line feed in them that, each ended by one, make up the bytes; no other list of lines does.
 pub record AreLinesOf (bytes : List ℕ) (lines : List (List ℕ)) : Type 0 where
   pub joined : flat_map (λ line. line ++ 10 ∷ []) lines ≡ completed bytes
   pub unbroken : All (λ line. All (λ b. b ≢ 10) line) lines
 
--- where `wanted` lines are asked for and there are fewer: the first that isn't there, counted from 1
+-- if `wanted` lines are asked for and there are fewer: the first missing one, counted from 1
 abbrev pub IsTooFew : ℕ → List (List ℕ) → LineFault → Type 0
 IsTooFew wanted lines fault = (length lines < wanted) × (fault ≡ Missing (length lines + 1))
 
--- where just `wanted` lines are asked for: the first that isn't there, or the first too many, counted from 1
+-- if exactly `wanted` lines are asked for: the first missing one, or the first too many, counted from 1
 abbrev pub IsLineFault : ℕ → List (List ℕ) → LineFault → Type 0
 IsLineFault wanted lines (Missing n) = IsTooFew wanted lines (Missing n)
 IsLineFault wanted lines (Extra n) = (wanted < length lines) × (n ≡ wanted + 1)

@@ -21,7 +21,7 @@ abbrev pub number_of_within : ℕ → ℕ → List ℕ → Option ℕ
 number_of_within least most text =
     option_and_then (λ n. if nat_le least n && nat_le n most then Some n else None) (number_of text)
 
--- there is a first digit, and no zero stands before another digit
+-- there is a first digit, and it isn't a zero before another digit
 abbrev pub has_no_leading_zero : List ℕ → Bool
 has_no_leading_zero [] = false
 has_no_leading_zero (c ∷ []) = true

@@ -1,10 +1,10 @@
 //! Too few or too many lines.
 
-/// The first line that isn't there, or the first too many, counted from 1.
+/// The first missing line, or the first too many, counted from 1.
 #[derive(Clone, Copy, PartialEq, Eq)]
 pub enum LineFault {
-    /// Fewer lines are there than are wanted.
+    /// There are fewer lines than wanted.
     Missing(u64),
-    /// More lines are there than are wanted.
+    /// There are more lines than wanted.
     Extra(u64),
 }

@@ -1,6 +1,6 @@
 //! Lines and the pieces of a line, and numbers in decimal digits.
 //! It stands on `itoa` alone.
-//! The layer above uses: `next_line` and its kin give exactly the lines of a text, and `cut` its pieces.
+//! The layer above uses: `next_line` and the like give exactly the lines of a text, and `cut` gives its pieces.
 #![tactic(auto)]
 
 mod cuts;

@@ -7,8 +7,8 @@ ghost use Rattle.pop_lines.specs.Numbers.{printed_number_of, printed_number_of_w
 /// The greatest number of digits that are read.
 pub const DIGIT_LIMIT: usize = 20;
 
-/// The number that a text of 1 to `DIGIT_LIMIT` digits is, of any value. Leading zeros are accepted, a sign is not.
-/// Allocates nothing, like its kin.
+/// The number of any value that 1 to `DIGIT_LIMIT` digits stand for. Leading zeros are accepted, a sign is not.
+/// Like the other readers of numbers, it allocates nothing.
 pub fn number(text: &[u8]) -> Option<u128>
     ensures { result ≡ number_of text.now }
 {
@@ -49,7 +49,7 @@ pub fn number_within(text: &[u8], least: u64, most: u64) -> Option<u64>
     }
 }
 
-/// The number, if the text is the form in which it is printed: without leading zeros.
+/// The number, if the text is its printed form: without leading zeros.
 pub fn printed_number(text: &[u8]) -> Option<u128>
     ensures value { result ≡ printed_number_of text.now }
     ensures printed { IfSome result (λ n. n < 2 ^ 64 → text.now ≡ decimal n) }

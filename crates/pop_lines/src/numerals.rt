@@ -16,7 +16,7 @@ const NUMERAL_SIZE: usize = 8;
 /// The most numerals that are kept.
 const NUMERAL_LIMIT: u32 = 65_536;
 
-/// A short number in decimal digits, of which contracts see the digits.
+/// A short number in decimal digits; contracts see the digits.
 #[derive(Drop)]
 struct Numeral {
     bytes: [u8; NUMERAL_SIZE],
@@ -45,7 +45,7 @@ impl Numeral {
         Numeral { bytes, len }
     }
 
-    /// Writes the digits, and whatever is stored behind them.
+    /// Writes the digits, and whatever is stored after them.
     #[inline(always)]
     fn put(&self, buffer: &mut [u8], at: usize) -> usize
         requires { at + NUMERAL_SIZE ≤ length buffer.old }
@@ -57,7 +57,7 @@ impl Numeral {
     }
 }
 
-/// The decimal digits of the least numbers, made once.
+/// The decimal digits of the smallest numbers, made once.
 #[derive(Drop)]
 pub struct Numerals {
     kept: Vec<Numeral>,
@@ -75,7 +75,7 @@ impl Numerals {
         Ok(Numerals { kept })
     }
 
-    /// Writes a number at a place of a buffer in decimal digits, and answers where they end.
+    /// Writes a number at a place of a buffer in decimal digits, and returns where they end.
     #[inline(always)]
     pub fn put(&self, buffer: &mut [u8], at: usize, n: u32) -> usize
         requires { at + NUMBER_ROOM ≤ length buffer.old }
@@ -100,7 +100,7 @@ fn put_number(buffer: &mut [u8], at: usize, n: u32) -> usize
     put_bytes(buffer, at, digits.format(n).as_bytes())
 }
 
-/// Writes bytes at a place of a buffer, and answers where they end.
+/// Writes bytes at a place of a buffer, and returns where they end.
 #[inline(always)]
 pub fn put_bytes(buffer: &mut [u8], at: usize, bytes: &[u8]) -> usize
     requires { at + length bytes.now ≤ length buffer.old }
@@ -111,7 +111,7 @@ pub fn put_bytes(buffer: &mut [u8], at: usize, bytes: &[u8]) -> usize
     end
 }
 
-/// Writes a byte at a place of a buffer, and answers where it ends.
+/// Writes a byte at a place of a buffer, and returns where it ends.
 #[inline(always)]
 pub fn put_byte(buffer: &mut [u8], at: usize, byte: u8) -> usize
     requires { at < length buffer.old }

@@ -10,7 +10,7 @@ use std::alloc::AllocError;
 pub fn push_number(out: &mut Vec<u8>, n: u64) -> Result<(), AllocError>
     ensures ok { OnOk result (out.new.items ≡ out.old.items ++ decimal n) }
     ensures err { OnErr result (out.new.items ≡ out.old.items) }
-    // What is printed is read back.
+    // What is printed can be read back.
     ensures read_back { printed_number_of (decimal n) ≡ Some n }
 {
     out.extend_from_slice(Buffer::new().format(n).as_bytes())

@@ -9,7 +9,7 @@ use crate::fault::LineFault;
 /// The number of lines. Allocates nothing.
 pub fn line_count(bytes: &[u8]) -> usize
     ensures count { result ≡ length (lines_of bytes.now) }
-    // Joined again the lines are the bytes, but for a final line feed.
+    // Joined again, the lines are the bytes, up to a final line feed.
     ensures lines { AreLinesOf bytes.now (lines_of bytes.now) }
 {
     let mut count = 0usize;
@@ -21,7 +21,7 @@ pub fn line_count(bytes: &[u8]) -> usize
     count
 }
 
-/// The first line, and the bytes after it. A missing line is the line 1.
+/// The first line, and the bytes after it. A missing line is line 1.
 pub fn one_line_and_more(bytes: &[u8]) -> Result<(&[u8], &[u8]), LineFault>
     ensures { MatchResult result (λ found. lines_of bytes.now ≡ found.0.now ∷ lines_of found.1.now)
         (IsTooFew 1 (lines_of bytes.now)) }
@@ -57,7 +57,7 @@ pub fn three_lines_and_more(bytes: &[u8]) -> Result<(&[u8], &[u8], &[u8], &[u8])
     }
 }
 
-/// The line of a text that has just one.
+/// The line of a text that has exactly one.
 pub fn one_line(bytes: &[u8]) -> Result<&[u8], LineFault>
     ensures { MatchResult result (λ line. lines_of bytes.now ≡ line.now ∷ []) (IsLineFault 1 (lines_of bytes.now)) }
 {
@@ -68,7 +68,7 @@ pub fn one_line(bytes: &[u8]) -> Result<&[u8], LineFault>
     }
 }
 
-/// The lines of a text that has just two.
+/// The lines of a text that has exactly two.
 pub fn two_lines(bytes: &[u8]) -> Result<(&[u8], &[u8]), LineFault>
     ensures { MatchResult result (λ found. lines_of bytes.now ≡ found.0.now ∷ found.1.now ∷ [])
         (IsLineFault 2 (lines_of bytes.now)) }
@@ -80,7 +80,7 @@ pub fn two_lines(bytes: &[u8]) -> Result<(&[u8], &[u8]), LineFault>
     }
 }
 
-/// The lines of a text that has just three.
+/// The lines of a text that has exactly three.
 pub fn three_lines(bytes: &[u8]) -> Result<(&[u8], &[u8], &[u8]), LineFault>
     ensures { MatchResult result (λ found. lines_of bytes.now ≡ found.0.now ∷ found.1.now ∷ found.2.now ∷ [])
         (IsLineFault 3 (lines_of bytes.now)) }

@@ -3,7 +3,7 @@ use Rattle.std.proofs.Common.{◌≡◌, ℕ, ◌+◌, ◌<◌, List, ◌∷◌,
 use Rattle.pop_lines.specs.Lines.{pieces, IsCut}
 use Rattle.pop_words.specs.Walk.{words_behind, bytes_left}
 
--- a word and the space behind it are taken off
+-- cutting off a word and the space after it leaves fewer bytes
 pub shorter : (c : ℕ) (bytes word : List ℕ) (rest : Option (List ℕ)) → IsCut c bytes word rest → bytes_left rest < length bytes + 1
 shorter c bytes word None cut = omega arith
 shorter c bytes word (Some rest) cut = omega (arith, ap length cut.1, length-append word (c ∷ rest))

@@ -16,7 +16,7 @@ position_or_len_map f p (x ∷ xs) = rw (position_or_len_map f p xs) refl
 pub position_map : {A B : Type 0} (f : A → B) (p : B → Bool) (xs : List A) → position p (map f xs) ≡ position (λ x. p (f x)) xs
 position_map f p xs = rw (position_or_len_map f p xs, length-map xs f) refl
 
--- nothing is given for the first items
+-- the first item for which f gives something
 pub given_at : {B : Type 0} (f : ℕ → Option B) (a n i : ℕ) (y : B) → i < n → ((k : ℕ) → k < i → f (a + k) ≡ None) → f (a + i) ≡ Some y → first_given f (range_with_len a n) ≡ Some y
 given_at f a zero i y within before is = absurd (omega arith)
 given_at f a (suc n) zero y within before is =

@@ -67,7 +67,7 @@ IsSpent spec = spec.workers * spec.turns ≤ MEETING_LIMIT
 abbrev IsBounded : RunKind → RunSpec → Type 0
 IsBounded kind spec = IsWithinLimits spec × (spec.workers ≤ most_workers_of kind) × IsSpent spec
 
--- the same of a command: its numbers are within their limits, and those of a run together
+-- the same for a command: its numbers are within their limits, and those of a run together
 abbrev AreBounded : Command → Type 0
 AreBounded Play = Unit {0}
 AreBounded Eval = Unit {0}

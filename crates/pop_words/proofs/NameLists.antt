@@ -14,7 +14,7 @@ use Rattle.pop_io.specs.declared.names.TheConstants.{NAME_LIMIT, VARIABLE_LIMIT}
 use Rattle.pop_words.specs.Vars.{are_distinct, are_variables, AreVariables}
 use Rattle.pop_words.specs.Walk.{can_join}
 
--- equal texts are found whichever is asked for
+-- the test for equal texts is symmetric
 bytes_eq-swap : (a b : List ℕ) → bytes_eq a b ≡ true → bytes_eq b a ≡ true
 bytes_eq-swap a b same = (bytes_eq-Decides b a).1 (sym ((bytes_eq-Decides a b).0 same))
 
@@ -32,7 +32,7 @@ list_any-push_no p (x ∷ xs) w none is =
     let parts = or_parts (p x) (list_any p xs) none in
     or_from (p x) (list_any p (xs ++ w ∷ [])) parts.0 (list_any-push_no p xs w parts.1 is)
 
--- a name that stood before makes a list that is not distinct
+-- a list in which a name comes again is not distinct
 are_distinct-twice : (names : List (List ℕ)) (w : List ℕ) (left : List (List ℕ)) → list_any (bytes_eq w) names ≡ true → are_distinct (names ++ w ∷ left) ≡ false
 are_distinct-twice [] w left twice = cc
 are_distinct-twice (x ∷ xs) w left twice = elim (or_cases (bytes_eq w x) (list_any (bytes_eq w) xs) twice) [
@@ -51,7 +51,7 @@ are_distinct-push (x ∷ xs) w distinct fresh =
     (not_from_false (list_any (bytes_eq x) (xs ++ w ∷ [])) (list_any-push_no (bytes_eq x) xs w (not-true (list_any (bytes_eq x) xs) parts.0) (bytes_eq-swap_false w x (bytes_eq x w) refl other.0)))
     (are_distinct-push xs w parts.1 other.1)
 
--- names so far: of the form, distinct, and no more than VARIABLE_LIMIT
+-- names so far: well-formed, distinct, and at most VARIABLE_LIMIT
 pub record SoFar (words names left : List (List ℕ)) : Type 0 where
   pub joined : words ≡ names ++ left
   pub formed : list_all variable_name names ≡ true
@@ -70,7 +70,7 @@ joins words names w left so_far can =
       few = omega (arith, length-append names (w ∷ []), ltb-true (length names) VARIABLE_LIMIT more.0);
     }
 
--- a test of four parts fails where one of the last three fails
+-- a test of four parts fails if one of the last three fails
 fails : (a b c d : Bool) → (b ≡ false) ⊎ ((c ≡ false) ⊎ (d ≡ false)) → ((a && b) && (c && d)) ≡ false
 fails a b c d one = elim one [
   | inl second ↦ and_left (a && b) (c && d) (and_right a b second)

@@ -1,4 +1,4 @@
--- Crowd lines: `crowd`, and words `name=count` behind single spaces.
+-- Crowd lines: `crowd`, and words `name=count` after single spaces.
 use Rattle.std.specs.Prelude.{ℕ, ◌+◌, ◌==◌, List, [], ◌∷◌, codes, map, Option, Some, None, if◌then◌else◌}
 use Rattle.std.specs.Prelude.{option_and_then, option_map, unwrap_or, is_some, position, Result, Ok, Err}
 use Rattle.std.specs.List.{slice_index_or, slice_set}
@@ -9,7 +9,7 @@ use Rattle.pop_lines.specs.Numbers.{small_number_of}
 use Rattle.pop_words.specs.declared.counts.CountFault.{CountFault}
 use Rattle.pop_words.specs.declared.counts.CountFault.TheVariants.{Count, NoMemory}
 
--- what stands before the first byte c, and after it
+-- what precedes the first byte c, and what follows it
 abbrev pub split_once : ℕ → List ℕ → Option (List ℕ × List ℕ)
 split_once c [] = None
 split_once c (x ∷ xs) = if x == c then Some ([], xs) else option_map (λ p. (x ∷ p.0, p.1)) (split_once c xs)
@@ -22,12 +22,12 @@ entry_of names word =
     (λ variable. option_map (λ count. (variable, count)) (small_number_of parts.1)) (position (bytes_eq parts.0) names))
     (split_once 61 word)
 
--- the counts with one more, where its variable has none yet
+-- the counts with one more, if its variable has none yet
 abbrev pub with_entry : List (Option ℕ) → ℕ × ℕ → Option (List (Option ℕ))
 with_entry found entry =
     if is_some (slice_index_or found entry.0 None) then None else Some (slice_set found entry.0 (Some entry.1))
 
--- the counts with that of a word, where it has the form, names a variable and names it for the first time
+-- the counts with that of a word, if it is well-formed and names a variable for the first time
 unfoldable pub with_word : List (List ℕ) → List (Option ℕ) → List ℕ → Option (List (Option ℕ))
 with_word names found word = option_and_then (with_entry found) (entry_of names word)
 

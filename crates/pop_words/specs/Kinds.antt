@@ -5,7 +5,7 @@ use Rattle.pop_words.specs.declared.spec.TheConstants.{WATCHED_WORKERS}
 use Rattle.pop_words.specs.declared.kind.RunKind.{RunKind}
 use Rattle.pop_words.specs.declared.kind.RunKind.TheVariants.{Whole, Watched}
 
--- the word of the command, with which its journals begin
+-- the word of the command, which also begins its journals
 abbrev pub kind_word : RunKind → List ℕ
 kind_word Whole = codes "run"
 kind_word Watched = codes "watch"

@@ -17,6 +17,6 @@ two_agents_of agents None = Err Form
 two_agents_of agents (Some pair) =
     if not (pair.0 == pair.1) && (nat_lt pair.0 agents && nat_lt pair.1 agents) then Ok pair else Err Agents
 
--- a meeting line: two numbers with one space between them, and they are two different agents
+-- a meeting line: the numbers of two different agents, with one space between them
 unfoldable pub meeting_of : ℕ → List ℕ → Result (ℕ × ℕ) MeetingFault
 meeting_of agents line = two_agents_of agents (pair_of (pieces 32 line))

@@ -23,7 +23,7 @@ name_of Shards = codes "--shards"
 name_of Turns = codes "--turns"
 name_of Seed = codes "--seed"
 
--- the least and the greatest number behind an option, and the one if the option isn't given
+-- the least and the greatest number of an option, and its default
 abbrev pub least_of : RunOption → ℕ
 least_of Workers = 1
 least_of Shards = 1
@@ -49,7 +49,7 @@ option_named word = find (λ option. bytes_eq word (name_of option)) (Workers �
 abbrev pub number_behind : RunKind → RunOption → List ℕ → Option ℕ
 number_behind kind option word = number_of_within (least_of option) (most_of kind option) word
 
--- an option that no word before it names
+-- an option that no earlier word names
 abbrev pub name_fault : List (List ℕ) → List ℕ → Option UsageWhy
 name_fault before word =
     if is_some (option_named word)
@@ -61,7 +61,7 @@ abbrev pub number_fault : RunKind → Option RunOption → List ℕ → Option U
 number_fault kind None word = None
 number_fault kind (Some option) word = if is_some (number_behind kind option word) then None else Some Value
 
--- what is wrong with word i behind the command's own: options and numbers take turns
+-- what is wrong with word i after the command's own: options and numbers alternate
 abbrev pub word_fault : RunKind → List (List ℕ) → ℕ → Option UsageWhy
 word_fault kind words i =
     if i % 2 == 0
@@ -76,11 +76,11 @@ first_given f (x ∷ xs) = if is_some (f x) then f x else first_given f xs
 abbrev pub fault_with_place : RunKind → List (List ℕ) → ℕ → Option (ℕ × UsageWhy)
 fault_with_place kind words i = option_map (λ why. (i, why)) (word_fault kind words i)
 
--- the first word that something is wrong with, and what
+-- the first bad word, and what is wrong with it
 abbrev pub first_fault : RunKind → List (List ℕ) → Option (ℕ × UsageWhy)
 first_fault kind words = first_given (fault_with_place kind words) (range_with_len 0 (length words))
 
--- the number of an option: the one behind its name, or its default
+-- the number of an option: the one after its name, or its default
 abbrev pub option_value : RunKind → List (List ℕ) → RunOption → ℕ
 option_value kind words option =
     unwrap_or
@@ -101,7 +101,7 @@ spec_of kind words =
 abbrev pub bad_at : {A : Type 0} → ℕ → UsageWhy → Result A Usage
 bad_at word why = Err (record { word = word; why = why })
 
--- the run that options without a fault ask for, where the last one has its number, and workers times turns are within
+-- the run that options without a fault ask for, if the last one has its number and workers times turns are within
 -- their limit
 abbrev pub run_with : RunKind → List (List ℕ) → Result RunSpec Usage
 run_with kind words =
@@ -115,7 +115,7 @@ abbrev pub or_fault : Option (ℕ × UsageWhy) → Result RunSpec Usage → Resu
 or_fault None run = run
 or_fault (Some fault) run = bad_at (fault.0 + 1) fault.1
 
--- the run of this kind that the words behind the command's own ask for, or the first bad one; the command's own is
+-- the run of this kind that the words after the command's own ask for, or the first bad one; the command's own is
 -- word 0
 abbrev pub options_meaning : RunKind → List (List ℕ) → Result RunSpec Usage
 options_meaning kind words = or_fault (first_fault kind words) (run_with kind words)

@@ -1,4 +1,4 @@
--- How the reason of a bad word is printed.
+-- How the reason for a bad word is printed.
 use Rattle.std.specs.Prelude.{ℕ, List, ◌++◌, codes, decimal}
 use Rattle.pop_words.specs.declared.command.Usage.{Usage}
 use Rattle.pop_words.specs.declared.command.UsageWhy.{UsageWhy}

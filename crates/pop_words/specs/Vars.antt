@@ -1,4 +1,4 @@
--- Vars lines: `vars`, and the names of the variables behind single spaces.
+-- Vars lines: `vars`, and the names of the variables after single spaces.
 use Rattle.std.specs.Prelude.{◌≡◌, ◌≤◌, ℕ, Bool, true, ◌&&◌, not, nat_le, List, [], ◌∷◌, length, codes, Option, Some}
 use Rattle.std.specs.Prelude.{None, Result, Ok, Err, if◌then◌else◌}
 use Rattle.std.specs.List.{list_all, list_any}
@@ -20,7 +20,7 @@ are_variables names =
     (nat_le 1 (length names) && nat_le (length names) VARIABLE_LIMIT)
     && (list_all variable_name names && are_distinct names)
 
--- the words behind the first, which is `vars`
+-- the words after the first, which is `vars`
 abbrev pub behind_vars : List (List ℕ) → Option (List (List ℕ))
 behind_vars [] = None
 behind_vars (first ∷ names) = if bytes_eq first (codes "vars") && are_variables names then Some names else None

@@ -10,12 +10,12 @@ use Rattle.pop_words.specs.Vars.{are_variables}
 use Rattle.pop_words.specs.declared.vars.VarsFault.{VarsFault}
 use Rattle.pop_words.specs.declared.vars.VarsFault.TheVariants.{Form, NoMemory}
 
--- the words behind a space, if there is one
+-- the words after a space, if there is one
 abbrev pub words_behind : Option (List ℕ) → List (List ℕ)
 words_behind None = []
 words_behind (Some rest) = pieces 32 rest
 
--- how many bytes stand behind the last word that was read, its space among them
+-- how many bytes follow the last word that was read, including its space
 abbrev pub bytes_left : Option (List ℕ) → ℕ
 bytes_left None = 0
 bytes_left (Some rest) = length rest + 1
@@ -29,7 +29,7 @@ abbrev pub can_join : List (List ℕ) → List ℕ → Bool
 can_join names word =
     variable_name word && (nat_lt (length names) VARIABLE_LIMIT && not (list_any (bytes_eq word) names))
 
--- the words, where they are names of variables
+-- the words, if they are names of variables
 abbrev pub NamedBehind : Result (List (List ℕ)) VarsFault → List (List ℕ) → Type 0
 NamedBehind (Ok names) words = (names ≡ words) × (are_variables words ≡ true)
 NamedBehind (Err Form) words = are_variables words ≡ false

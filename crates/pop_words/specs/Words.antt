@@ -18,7 +18,7 @@ use Rattle.pop_words.specs.declared.kind.RunKind.TheVariants.{Whole, Watched}
 use Rattle.pop_words.specs.Options.{bad_at, options_meaning, IsWithinLimits}
 use Rattle.pop_words.specs.declared.spec.RunSpec.{RunSpec}
 
--- the words of the commands, and what stands behind each
+-- the words of the commands, and what follows each
 abbrev pub commands : List (List ℕ × Form)
 commands =
     (codes "play", Alone Play)
@@ -36,7 +36,7 @@ commands =
 abbrev pub form_named : List ℕ → Option Form
 form_named word = option_map (λ row. row.1) (find (λ row. bytes_eq word row.0) commands)
 
--- no word stands behind the command's own
+-- no word follows the command's own
 abbrev pub no_more : Command → List (List ℕ) → Result Command Usage
 no_more command [] = Ok command
 no_more command (word ∷ rest) = bad_at 1 Unknown
@@ -60,7 +60,7 @@ demo_with None rest = bad_at 1 Value
 demo_with (Some number) [] = Ok (Demo number)
 demo_with (Some number) (word ∷ rest) = bad_at 2 Unknown
 
--- one number of a demo case stands behind `demo`
+-- one number of a demo case follows `demo`
 abbrev pub demo_meaning : List (List ℕ) → Result Command Usage
 demo_meaning [] = bad_at 1 Missing
 demo_meaning (number ∷ rest) = demo_with (number_of_within 0 DEMO_LIMIT number) rest
@@ -81,13 +81,13 @@ abbrev pub behind_flag : Command → List (List ℕ) → Result Command Usage
 behind_flag command [] = Ok command
 behind_flag command (word ∷ rest) = bad_at 2 Unknown
 
--- no word stands behind the plain command's own, and just the flag behind that of the other one
+-- no word follows the plain command's own, and only the flag follows that of the other one
 abbrev pub flag_meaning : Flag → List (List ℕ) → Result Command Usage
 flag_meaning flag [] = Ok (unflagged_command flag)
 flag_meaning flag (word ∷ rest) =
     if bytes_eq word (flag_name flag) then behind_flag (flagged_command flag) rest else bad_at 1 Unknown
 
--- what the words behind the command's own mean
+-- what the words after the command's own mean
 abbrev pub meaning_behind : Option Form → List (List ℕ) → Result Command Usage
 meaning_behind None words = bad_at 0 Unknown
 meaning_behind (Some (Alone command)) words = no_more command words

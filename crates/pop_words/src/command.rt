@@ -34,15 +34,15 @@ pub struct Usage {
 /// What is wrong with a word.
 #[derive(Clone, Copy, PartialEq, Eq)]
 pub enum UsageWhy {
-    /// A word is wanted after the last one.
+    /// A word is missing after the last one.
     Missing,
-    /// The word can't stand in its place.
+    /// The word doesn't belong in its place.
     Unknown,
-    /// The option came before.
+    /// The option was given before.
     Twice,
     /// The number is malformed or out of its limits.
     Value,
-    /// All words were read, and two numbers are too great together.
+    /// All words were read, but two numbers are too great together.
     Product,
 }
 

@@ -57,7 +57,7 @@ pub fn read_counts(alloc: Global, line: &[u8], names: &List<Text>) -> Result<Lis
     totals_of(alloc, found.as_slice())
 }
 
-/// The counts that the words behind the first give.
+/// The counts that the words after the first give.
 fn counts_behind(
     alloc: Global,
     names: &[Text],

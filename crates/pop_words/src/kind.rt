@@ -18,7 +18,7 @@ impl RunKind {
     ghost use Rattle.std.specs.Prelude.{◌≡◌};
     ghost use Rattle.pop_words.specs.Kinds.{kind_word, most_workers_of};
 
-    /// The word of the command, with which its journals begin.
+    /// The word of the command, which also begins its journals.
     pub fn word(self) -> &'static str
         ensures { result.now ≡ kind_word self }
     {

@@ -6,7 +6,7 @@ ghost use Rattle.pop_words.specs.Meetings.{meeting_of, pair_of};
 
 use pop_lines::{cut, number};
 
-/// Why a line is no meeting of two agents.
+/// Why a line isn't a meeting of two agents.
 #[derive(Clone, Copy, PartialEq, Eq)]
 pub enum MeetingFault {
     /// It isn't two numbers with one space between them.

@@ -54,7 +54,7 @@ impl RunOption {
         }
     }
 
-    /// The least and the greatest number, and the one that stands if the option isn't given.
+    /// The least and the greatest number, and the default.
     fn numbers(self, kind: RunKind) -> (u64, u64, u64)
         ensures { result ≡ (least_of self, most_of kind self, default_of self) }
     {
@@ -75,7 +75,7 @@ impl RunOption {
     }
 }
 
-/// The run of this kind that the words behind the command's own ask for. The command's own is word 0.
+/// The run of this kind that the words after the command's own ask for. The command's own is word 0.
 pub(crate) fn read_options(kind: RunKind, words: &[&str]) -> Result<RunSpec, Usage>
     requires { length words.now < WORD_LIMIT }
     ensures meaning { result ≡ options_meaning kind (texts_of words.now) }
@@ -117,7 +117,7 @@ fn first_fault_of(kind: RunKind, words: &[&str]) -> Option<(usize, UsageWhy)>
     None
 }
 
-/// Options and numbers take turns.
+/// Options and numbers alternate.
 fn fault_at(kind: RunKind, words: &[&str], at: usize) -> Option<UsageWhy>
     requires { at < length words.now }
     ensures { result ≡ word_fault kind (texts_of words.now) at }
@@ -180,7 +180,7 @@ fn spec_in(kind: RunKind, words: &[&str]) -> RunSpec
     }
 }
 
-/// The number behind an option's name, or its default.
+/// The number after an option's name, or its default.
 #[tactic(auto, using(crate::proofs::Firsts::position_map, crate::proofs::Limits::default_within, crate::proofs::Limits::within_whole))]
 fn value_in(kind: RunKind, words: &[&str], option: RunOption) -> u64
     ensures value { result ≡ option_value kind (texts_of words.now) option }

@@ -17,7 +17,7 @@ use pop_lines::number_within;
 /// The most words: the number of a bad one has 32 bits.
 pub const WORD_LIMIT: usize = u32::MAX as usize;
 
-/// What stands behind a command's own word.
+/// What follows a command's own word.
 #[derive(Clone, Copy)]
 pub(crate) enum Form {
     /// Nothing.
@@ -26,11 +26,11 @@ pub(crate) enum Form {
     WithOptions(RunKind),
     /// The number of a demo case.
     WithNumber,
-    /// Nothing, or the flag that makes another command of it.
+    /// Nothing, or the flag that turns it into another command.
     WithFlag(Flag),
 }
 
-/// A flag that makes another command of the one before it.
+/// A flag that turns the command before it into another one.
 #[derive(Clone, Copy)]
 pub(crate) enum Flag {
     OfCompile,
@@ -150,7 +150,7 @@ fn read_number(words: &[&str]) -> Result<Command, Usage>
     Ok(Command::Demo(number as u32))
 }
 
-/// The plain command where no word stands behind its own, and the other one behind the flag alone.
+/// The plain command if no word follows its own, and the other one if only the flag does.
 fn read_flag(flag: Flag, words: &[&str]) -> Result<Command, Usage>
     ensures meaning { result ≡ flag_meaning flag (texts_of words.now) }
     ensures limits { IfOk result HasLimits }

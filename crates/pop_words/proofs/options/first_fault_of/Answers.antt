@@ -7,7 +7,7 @@ use Rattle.pop_words.specs.Options.{word_fault, fault_with_place, first_fault}
 use Rattle.pop_words.proofs.Firsts.{given_at, none_given}
 use Rattle.pop_words.proofs.options.first_fault_of.Goals as goal
 
--- the fault at a place, with the place
+-- a place without a fault gives none
 placed : (kind : RunKind) (words : List (List ℕ)) (k : ℕ) → word_fault kind words k ≡ None → fault_with_place kind words k ≡ None
 placed kind words k is = rw is refl
 
