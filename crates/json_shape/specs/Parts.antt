@@ -31,17 +31,17 @@ AreItems Is (x ∷ xs) (d ∷ ds) = Is x d × AreItems Is xs ds
 abbrev pub IsList : {A : Type 0} → (A → Data → Type 0) → List A → Data → Type 0
 IsList Is xs d = (items : Items) × (as_array d ≡ Some items) × AreItems Is xs (listed items)
 
--- the value is a list of such items
+-- the value is a list, and its items are such
 abbrev pub HasItems : (List Data → Type 0) → Data → Type 0
 HasItems Are d = (items : Items) × (as_array d ≡ Some items) × Are (listed items)
 
--- one value, and it is such
+-- exactly one value, which is such
 abbrev pub IsOnly : (Data → Type 0) → List Data → Type 0
 IsOnly Is [] = ⊥
 IsOnly Is (d ∷ []) = Is d
 IsOnly Is (d ∷ e ∷ ds) = ⊥
 
--- two values, the first such and the second so
+-- two values, each with its property
 abbrev pub AreBoth : (Data → Type 0) → (Data → Type 0) → List Data → Type 0
 AreBoth Is Are [] = ⊥
 AreBoth Is Are (d ∷ []) = ⊥

@@ -1,4 +1,4 @@
--- The parts of a JSON value: another kind comes before a length or a range, and a list's items go one by one.
+-- The parts of a JSON value. A wrong kind comes before a length or a range, and a list's items are read one by one.
 use Rattle.std.specs.Prelude.{ℕ, ◌+◌, ◌&&◌, nat_le, nat_lt, nat_abs, true, ℤ, pos, negsuc, Bool, List, [], ◌∷◌, ◌++◌}
 use Rattle.std.specs.Prelude.{length, Option, Some, None, option_and_then, option_map, Result, Ok, if◌then◌else◌}
 use Rattle.serde_json.specs.Data.{Data, Items, no_items, item}
@@ -60,7 +60,7 @@ last_of [] = None
 last_of (x ∷ []) = Some x
 last_of (x ∷ y ∷ xs) = last_of (y ∷ xs)
 
--- whether a number is greater than the one before it, where there is one
+-- whether a number is greater than the one before it, if there is one
 abbrev pub comes_after : Option ℕ → ℕ → Bool
 comes_after None n = true
 comes_after (Some k) n = nat_lt k n
@@ -104,7 +104,7 @@ abbrev pub the_two : List ℕ → List Data → Result (Data × Data) Fault
 the_two path (d ∷ e ∷ []) = Ok (d, e)
 the_two path _ = broken path Kind
 
--- a list of two items; another length is another kind
+-- a list of two items; with another length it is of another kind
 unfoldable pub pair_at : List ℕ → Data → Result (Data × Data) Fault
 pair_at path d = do
   ds ← items_at path d
@@ -115,12 +115,12 @@ unfoldable pub word_at : List ℕ → List Data → Result (List ℕ) Fault
 word_at path [] = broken path Kind
 word_at path (d ∷ ds) = text_at (item_path path 0) d
 
--- the item after the word, where it is the only one
+-- the item after the word, if it is the only one
 unfoldable pub one_after : List ℕ → List Data → Result Data Fault
 one_after path (w ∷ d ∷ []) = Ok d
 one_after path _ = broken path Kind
 
--- the two items after the word, where there are no others
+-- the two items after the word, if there are no others
 unfoldable pub two_after : List ℕ → List Data → Result (Data × Data) Fault
 two_after path (w ∷ d ∷ e ∷ []) = Ok (d, e)
 two_after path _ = broken path Kind

@@ -16,24 +16,24 @@ pub enum Why {
     Kind,
     /// A number or a list's length is out of range.
     Range,
-    /// A text is malformed, or stands twice.
+    /// A text is malformed, or occurs twice.
     Name,
-    /// A combination in postfix is no single tree.
+    /// A combination in postfix isn't a single tree.
     Shape,
     /// A predicate's text is refused.
     Pred(PredWhy),
 }
 
-/// Why a predicate's text is refused. The numbers are byte offsets, of `LongText` the length.
+/// Why a predicate's text is refused. The numbers are byte offsets, or the length for `LongText`.
 #[derive(Clone, Copy, PartialEq, Eq)]
 pub enum PredWhy {
-    /// No text of the grammar begins so.
+    /// No text of the grammar begins like this.
     Syntax(u32),
     /// No variable has this name.
     UnknownName(u32),
-    /// A number is beyond its limit.
+    /// A number is outside its limits.
     TooLarge(u32),
-    /// It nests too deep.
+    /// It nests too deeply.
     TooDeep(u32),
     /// It has too many bytes.
     LongText(u64),

@@ -19,7 +19,7 @@ pub trait ReadItem {
     ghost use Rattle.serde_json.specs.Data.{Data};
     ghost use Rattle.json_shape.specs.Faults.{Fault};
 
-    /// What an item is read to.
+    /// What an item is read as.
     type Item: Drop;
 
     // when the reader may be used

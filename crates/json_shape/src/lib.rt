@@ -1,5 +1,5 @@
 //! Readers of the parts of a JSON value: a member, a list, a number, a text, each with the path that a fault names.
-//! It stands on pop_io, serde_json and itoa, and knows no file format.
+//! It stands on `pop_io`, `serde_json` and `itoa`, and knows no file format.
 //! The layer above uses: each reader gives exactly what `specs/Shapes.antt` reads at its path, or out of memory.
 #![tactic(auto)]
 

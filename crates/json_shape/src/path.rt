@@ -1,4 +1,4 @@
-//! Where a value stands in a file.
+//! The place of a value in a file.
 
 ghost use Rattle.std.specs.Prelude.{◌≡◌, ◌++◌, OnOk, IfOk, string_bytes};
 
@@ -6,7 +6,7 @@ use itoa::Buffer;
 use pop_io::{NoMemory, Text};
 use std::alloc::{AllocError, Global};
 
-/// The members and items that lead from the root to a value. It lives on the stack: only a fault makes it a text.
+/// The members and items that lead from the root to a value. It lives on the stack: only a fault turns it into a text.
 #[derive(Clone, Copy)]
 pub enum Path<'a> {
     /// The root.

@@ -12,7 +12,7 @@ use crate::path::Path;
 use serde_json::Value;
 use std::alloc::Global;
 
-/// That the value is an object.
+/// Checks that the value is an object.
 #[tactic(auto, unfolding(crate::specs::Shapes::object_at))]
 pub fn object_of(alloc: Global, path: &Path<'_>, value: &Value) -> Result<(), FormatFault>
     ensures { GivesRead (λ u. u) result (object_at (path_text path.now) (view value.now)) }
@@ -110,7 +110,7 @@ fn follows(before: Option<u32>, number: u32) -> bool
     }
 }
 
-/// A whole number up to `most` that is greater than the one before it, where there is one.
+/// A whole number up to `most` that is greater than the one before it, if there is one.
 #[tactic(auto, unfolding(crate::specs::Shapes::ascending_at))]
 pub fn ascending_of(
     alloc: Global,

@@ -58,7 +58,7 @@ pub fn word_of<'v>(
     }
 }
 
-/// The item after the word, where it is the only one.
+/// The item after the word, if it is the only one.
 #[tactic(auto, unfolding(crate::specs::Shapes::one_after))]
 pub fn only_item<'v>(
     alloc: Global,
@@ -73,7 +73,7 @@ pub fn only_item<'v>(
     Ok(item)
 }
 
-/// The two items after the word, where there are no others.
+/// The two items after the word, if there are no others.
 #[tactic(auto, unfolding(crate::specs::Shapes::two_after))]
 pub fn both_items<'v>(
     alloc: Global,

@@ -6,7 +6,7 @@ use crate::limits::COEFFICIENT_LIMIT;
 use pop_io::NoMemory;
 use std::alloc::Global;
 
-/// The coefficients with all signs turned.
+/// The negated coefficients.
 pub fn turned(alloc: Global, coefs: &[i64]) -> Result<Vec<i64>, NoMemory>
     requires { All (λ a. nat_abs a ≤ COEFFICIENT_LIMIT) coefs.now }
     ensures { IfOk result (λ turned. turned.items ≡ map neg_ℤ coefs.now) }

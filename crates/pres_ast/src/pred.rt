@@ -67,7 +67,7 @@ impl Pred {
         Ok(Pred::new(self.vars, tree))
     }
 
-    /// The value where variable i has the count `counts[i]`. Allocates nothing.
+    /// The value when variable i has the count `counts[i]`. Allocates nothing.
     pub fn eval(&self, counts: &[u64]) -> bool
         requires { length counts.now ≡ self.now.variables }
         ensures { result ≡ predicate_value self.now.tree counts.now }

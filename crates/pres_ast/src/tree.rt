@@ -13,7 +13,7 @@ pub enum Tree {
         coefs: List<i64>,
         bound: i64,
     },
-    /// The same sum leaves `rest` modulo `modulus`.
+    /// The same sum is congruent to `rest` modulo `modulus`.
     Rest {
         coefs: List<i64>,
         modulus: u32,
@@ -23,7 +23,7 @@ pub enum Tree {
     Not(Box<Tree>),
     /// Both are true.
     And(Box<Tree>, Box<Tree>),
-    /// One of the two is true, or both.
+    /// At least one of the two is true.
     Or(Box<Tree>, Box<Tree>),
 }
 

@@ -1,4 +1,4 @@
--- The canonical text of a predicate within the limits keeps the rules, so that it is read again.
+-- The canonical text of a predicate within the limits keeps the rules, so it can be read back.
 use Rattle.std.proofs.Common.{◌≡◌, ℕ, ◌+◌, ◌-◌, ◌<◌, ◌≤◌, Bool, true, false, List, [], ◌∷◌, ◌++◌, length, get_or, All, Option, Some, None, Ok, refl, sym, ap, subst, ◌∙◌, arith, append_assoc, ℤ, pos, ◌+ℤ◌, nat_abs, codes, decimal, replicate, position}
 use Rattle.std.specs.Prelude.{if◌then◌else◌, ◌==◌, AllPairs, ◌≢◌}
 use Rattle.std.specs.Str.{bytes_eq}
@@ -209,7 +209,7 @@ tree_shallow names (Disjunction p q) rest c n h g d =
     (pair_shallow names Or (symbols (canonical names p)) (symbols (canonical names q)) rest c n (weight_of p) (weight_of q) refl (λ k. refl) h g d
     (λ us e k i j l. tree_shallow names p us e k i j l) (λ us e k i j l. tree_shallow names q us e k i j l))
 
--- the canonical text is read again
+-- the canonical text is read back
 pub printed_read : (names : List (List ℕ)) (t : PredTree) → AreNames variable_name names → IsPred (length names) t → length (tree_text names t) ≤ TEXT_LIMIT
     → pred_read names (tree_text names t) ≡ Ok (record { variables = length names; tree = t })
 printed_read names t are pred short =

@@ -1,4 +1,4 @@
--- A symbol that breaks its rule on numbers ends a sum, a constant or a modulus that is beyond its limit.
+-- A symbol that breaks its rule on numbers ends a sum, a constant or a modulus that is outside its limits.
 use Rattle.std.proofs.Common.{◌≡◌, ℕ, Bool, true, false, List, [], ◌∷◌, ◌++◌, sym, ap, ◌∙◌, append_assoc}
 use Rattle.std.proofs.lemmas.List.{append-nil}
 use Rattle.pres_tokens.specs.declared.token.Relation.{Relation}

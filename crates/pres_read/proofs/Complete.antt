@@ -54,7 +54,7 @@ constant_run : (above : List Side) (side : Side) (sum : Sum) (r : Relation) (neg
 constant_run above side sum r false digits rest = refl
 constant_run above side sum r true digits rest = refl
 
--- where `mod` doesn't follow, the atom is done
+-- if `mod` doesn't follow, the atom is done
 modulo_read : (above : List Side) (side : Side) (sum : Sum) (unequal negative : Bool) (digits : List ℕ) (rest : List Symbol) → NoMod rest
     → trace_read (Inside above side (IModulo sum unequal negative digits)) rest ≡ trace_read (unit_done above side (atom (relational sum (equal_or_not unequal) negative digits))) rest
 modulo_read above side sum unequal negative digits [] h = refl
@@ -150,7 +150,7 @@ reads (group p) = λ above side rest h.
     ∙ ap (λ q. trace_read (unit_done above side (group q)) rest) (with_ors-last p)
 reads (atom a) = λ above side rest h. atom_read above side a rest h
 
--- the symbols of a tree of productions are read to it
+-- the symbols of a tree of productions are read as that tree
 pub trace_read-symbols : (p : Phrase APred) → trace_read begun (symbols p) ≡ Some p
 trace_read-symbols p =
     ap (trace_read begun) (sym (append-nil (symbols p))) ∙ reads p [] [] tt ∙ ap Some (with_ors-last p)

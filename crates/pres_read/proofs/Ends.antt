@@ -69,7 +69,7 @@ unfolding finish
 finish_fits n charge end p one most small sound =
     finish_by_fits n charge end p.around p.next one most small sound.above sound.span sound.next sound.settled sound.weight
 
--- what a call gave is as far within the limits
+-- what a call gave is within the limits too
 pub given_fits : (n : ℕ) (r : Result Tree ReadPred) (q : Result PredTree TextFault) → GivesParsed tree_of r q → IfOk q (IsPred n) → IfOk r (λ tree. IsPred n (tree_of tree))
 given_fits n (Ok tree) q e h = rw e at h
 given_fits n (Err f) q e h = tt

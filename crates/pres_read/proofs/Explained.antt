@@ -76,7 +76,7 @@ numbers_part names xs ys fit = record {
 keeps_part : (names : List (List ℕ)) (xs ys : List Symbol) → KeepsRules names (xs ++ ys) → KeepsRules names xs
 keeps_part names xs ys keeps = record { known = known_part names xs ys keeps.known; numbers = numbers_part names xs ys keeps.numbers; shallow = shallow_part surface xs ys keeps.shallow }
 
--- ---- where the reader stands
+-- ---- the reader's state
 
 record Stands (names : List (List ℕ)) (before : List Placed) (p : Progress) (a : Trace) (d : Depth) : Type 0 where
   went : trace_run begun (symbols_of before) ≡ Some a
@@ -316,7 +316,7 @@ module _ (names : List (List ℕ)) (text : List ℕ) where
       by_length true e = (refl, ltb-true TEXT_LIMIT (length text) e)
       by_length false e = over_explains (run names (length text) start surface (tokens_of text)) (run_explains (tokens_of text) [] start begun surface refl start_stands)
 
-  -- the same of what a call gave, which may be out of memory
+  -- the same for what a call gave, which may be out of memory
   pub given_rules : (r : Result PredModel ReadPred) → GivesParsed (λ pred. pred) r (pred_read names text) → IfOk r (λ pred. KeepsRules names (text_symbols text))
   given_rules (Ok pred) h = subst ExplainsAll h read_explains
   given_rules (Err e) h = tt

@@ -21,7 +21,7 @@ closing (side ∷ above) p =
           ∙ simp append_assoc;
     }
 
--- an atom whose symbols begin so
+-- an atom whose symbols begin with these
 record AtomFrom (begun : List Symbol) : Type 0 where
   more : List Symbol
   whole : Atom

@@ -1,4 +1,4 @@
--- Where the rules are kept no fault but one of syntax comes, and so a text of the grammar is read.
+-- If the rules are kept, only faults of syntax occur, and so a text of the grammar is read.
 use Rattle.std.proofs.Common.{◌≡◌, ℕ, ◌≤◌, Bool, true, false, List, [], ◌∷◌, length, ltb, Option, Some, None, Result, Ok, Err, refl, sym, ap, subst, arith, ℤ, pos, ◌+ℤ◌, nat_abs, position, get_or, slice_set}
 use Rattle.std.specs.Prelude.{if◌then◌else◌, ◌||◌}
 use Rattle.std.specs.Str.{bytes_eq}
@@ -207,7 +207,7 @@ read_fine names text p (Err (TooLarge at)) e comes fine = absurd fine
 read_fine names text p (Err (TooDeep at)) e comes fine = absurd fine
 read_fine names text p (Err (LongText n)) e comes fine = absurd fine
 
--- a text of the grammar that keeps the rules is read to its tree
+-- a text of the grammar that keeps the rules is read as its tree
 pub kept_read : (names : List (List ℕ)) (text : List ℕ) (p : Phrase APred) → symbols p ≡ text_symbols text → length text ≤ TEXT_LIMIT → Fits names p → IsShallow surface (text_symbols text)
     → pred_read names text ≡ Ok (record { variables = length names; tree = meaning names p })
 kept_read names text p e short fits shallow =
@@ -221,7 +221,7 @@ kept_read names text p e short fits shallow =
     by_length true x read = let past = ltb-true TEXT_LIMIT (length text) x in absurd (omega (arith, past, short))
     by_length false x read = ap (over_names (length names)) read
 
--- the same of what a call gave, which may be out of memory
+-- the same for what a call gave, which may be out of memory
 pub given_kept : (names : List (List ℕ)) (text : List ℕ) (tree : PredTree) (r : Result PredModel ReadPred) → GivesParsed (λ pred. pred) r (pred_read names text)
     → pred_read names text ≡ Ok (record { variables = length names; tree = tree }) → IsReadTo tree r
 given_kept names text tree (Ok pred) h e =

@@ -1,4 +1,4 @@
--- Where a step goes on its name is known.
+-- If a step goes on, its name is known.
 use Rattle.std.proofs.Common.{◌≡◌, ℕ, Bool, true, false, List, Option, Some, None, Result, Ok, Err, IfOk, refl, ℤ, position}
 use Rattle.std.specs.Str.{bytes_eq}
 use Rattle.pres_ast.specs.PredTree.{PredTree}

@@ -1,4 +1,4 @@
--- The symbols of texts that are put together.
+-- The symbols of concatenated texts.
 use Rattle.std.proofs.Common.{◌≡◌, ℕ, zero, suc, ◌+◌, ◌-◌, ◌<◌, Bool, true, false, List, [], ◌∷◌, ◌++◌, length, take, drop, refl, ap, ◌∙◌, arith, codes}
 use Rattle.std.specs.Prelude.{if◌then◌else◌, ◌&&◌, ◌==◌, not, nat_le, Some, None}
 use Rattle.std.specs.List.{list_all, prefix_len, take_while}
@@ -66,7 +66,7 @@ none_stops p (b ∷ rest) h e = rw (h b e) refl
 start_solid : (b : ℕ) → is_name_start b ≡ true → is_blank_byte b ≡ false
 start_solid b h = grind (arith, nat_tests)
 
--- where no word begins
+-- if no word begins here
 abbrev number_or : ℕ → List ℕ → Symbol × ℕ
 number_or b bytes =
     if digit b then (Number (take_while digit (b ∷ bytes)), prefix_len digit (b ∷ bytes)) else first_sign (b ∷ bytes)

@@ -7,7 +7,7 @@ use Rattle.pres_read.specs.Rules.{last_is, opens, is_star}
 use Rattle.pres_read.proofs.Traces.{Lead, begin, after, Side}
 use Rattle.pres_read.proofs.Prefixes.{nots_prefix, ors_prefix, ands_prefix, side_prefix, above_prefix, lead_prefix}
 
--- the last of more symbols
+-- the test of the last symbol
 pub last-end : (test : Symbol → Bool) (none : Bool) (ss : List Symbol) (s : Symbol) → last_is test none (ss ++ s ∷ []) ≡ test s
 last-end test none [] s = refl
 last-end test none (a ∷ []) s = refl
@@ -39,7 +39,7 @@ above_open : (above : List Side) → last_is opens true (above_prefix above) ≡
 above_open [] = refl
 above_open (side ∷ above) = last-both opens (above_prefix above) (side_prefix side ++ Open ∷ []) (above_open above) (last-end opens true (side_prefix side) Open)
 
--- a unit may begin after what stands before it
+-- a unit may begin after what precedes it
 pub unit_open : (above : List Side) (side : Side) → last_is opens true (above_prefix above ++ side_prefix side) ≡ true
 unit_open above side = last-both opens (above_prefix above) (side_prefix side) (above_open above) (side_open side)
 
@@ -47,7 +47,7 @@ no_star : (s : Symbol) → opens s ≡ true → is_star s ≡ false
 no_star Star e = absurd cc
 no_star s e = refl
 
--- no `*` stands where a unit may begin
+-- where a unit may begin, no `*` comes before
 star_free : (ss : List Symbol) → last_is opens true ss ≡ true → last_is is_star false ss ≡ false
 star_free [] e = refl
 star_free (s ∷ []) e = no_star s e
@@ -57,7 +57,7 @@ sign_free : (negative : Bool) → is_star (plus_or_minus negative) ≡ false
 sign_free true = refl
 sign_free false = refl
 
--- no `*` stands before a term
+-- no `*` comes before a term
 pub term_free : (above : List Side) (side : Side) (lead : Lead) → last_is is_star false (above_prefix above ++ (side_prefix side ++ lead_prefix lead)) ≡ false
 term_free above side (begin false) =
     let flat : above_prefix above ++ (side_prefix side ++ []) ≡ above_prefix above ++ side_prefix side = ap (λ ss. above_prefix above ++ ss) (append-nil (side_prefix side)) in

@@ -1,4 +1,4 @@
--- What reading gives, against the trees of productions.
+-- What reading gives, compared with the trees of productions.
 use Rattle.std.proofs.Common.{◌≡◌, ℕ, Bool, true, false, List, [], ◌∷◌, ◌++◌, length, ltb, Option, Some, None, IfOk, Result, Ok, Err, refl, sym, ap, subst, ◌∙◌, append_assoc}
 use Rattle.std.specs.Prelude.{if◌then◌else◌, ◌||◌, IfSome}
 use Rattle.std.proofs.lemmas.List.{append-nil, map-append}
@@ -191,7 +191,7 @@ read_laws names text = by_length (ltb TEXT_LIMIT (length text))
         run_laws names text (run names (length text) start surface (tokens_of text))
         (run_comes names (length text) (tokens_of text) start begun surface (start_shown names))
 
--- the same of what a call gave, which may be out of memory
+-- the same for what a call gave, which may be out of memory
 pub record GivenLaws (names : List (List ℕ)) (text : List ℕ) (r : Result PredModel ReadPred) : Type 0 where
   pub derived : IfOk r (λ pred. Derives names (text_symbols text) pred.tree)
   pub only : (tree : PredTree) → Derives names (text_symbols text) tree → IsReadAs tree r

@@ -1,4 +1,4 @@
--- A text is read to a predicate exactly when the grammar gives it this meaning within the limits.
+-- A text is read as a predicate exactly when the grammar gives it this meaning within the limits.
 use Rattle.std.proofs.Common.{◌≡◌, ℕ, ◌≤◌, Bool, true, false, List, [], ◌∷◌, ◌++◌, length, ltb, Result, Ok, Err, refl, sym, ap, ◌∙◌, arith, append_assoc, append-nil}
 use Rattle.std.specs.Prelude.{IfOk, if◌then◌else◌}
 use Rattle.std.proofs.lemmas.Bool.{ltb-false}
@@ -55,7 +55,7 @@ module _ (names : List (List ℕ)) (ss : List Symbol) (numbers : NumbersFit name
         ends.1,
       )
 
-  -- behind a sign that opens a unit
+  -- after a sign that opens a unit
   behind : (before : List Symbol) (s : Symbol) (xs later : List Symbol) → ss ≡ before ++ s ∷ (xs ++ later) → ss ≡ (before ++ s ∷ []) ++ (xs ++ later)
   behind before s xs later is = is ∙ sym (append_assoc before (s ∷ []) (xs ++ later))
 

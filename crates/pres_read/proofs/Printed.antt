@@ -1,4 +1,4 @@
--- The canonical text is read to the tree of productions that means the same predicate.
+-- The canonical text is read as the tree of productions that means the same predicate.
 use Rattle.std.proofs.Common.{◌≡◌, ℕ, ◌^◌, ◌<◌, ◌≤◌, Bool, true, false, List, [], ◌∷◌, ◌++◌, length, All, Option, Some, None, refl, sym, ap, subst, ◌∙◌, arith, append_assoc, ℤ, nat_abs, codes, decimal}
 use Rattle.std.specs.Prelude.{if◌then◌else◌, ◌&&◌, ◌==◌, not, nat_le}
 use Rattle.std.specs.List.{list_all}
@@ -139,7 +139,7 @@ lex-terms o (name ∷ names) (a ∷ coefs) rest named small stops =
     (lex-terms o names coefs rest named.1 small.1 stops)
     (lex-terms (Some (extended o (is_negative a) (canonical_term (nat_abs a) name))) names coefs rest named.1 small.1 stops)
 
--- where all coefficients are 0 there is no term
+-- if all coefficients are 0, there is no term
 zero_terms_if : (c : Bool) (o later found : Option Sum) → c ≡ true → found ≡ o → (if c then found else later) ≡ o
 zero_terms_if true o later found h e = e
 zero_terms_if false o later found h e = cc

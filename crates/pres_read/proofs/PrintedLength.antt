@@ -64,7 +64,7 @@ bound_short : (z : ℤ) → nat_abs z ≤ BOUND_LIMIT → length (signed_decimal
 bound_short (pos n) small = let digits = length-decimal-le 13 n (omega arith) (omega (arith, small)) (omega (arith, small)) in omega (arith, digits)
 bound_short (negsuc n) small = let digits = length-decimal-le 13 (suc n) (omega arith) (omega (arith, small)) (omega (arith, small)) in omega (arith, digits)
 
--- an atom has less than 800 bytes, and each node with it stands for as many
+-- an atom has fewer than 800 bytes, and each further node accounts for at most as many
 tree_short : (names : List (List ℕ)) (t : PredTree) → Named names → length names ≤ VARIABLE_LIMIT → HasAtoms (length names) t → length (tree_text names t) + 6 ≤ 800 * (weight_of t + 1)
 tree_short names (LessThan coefs bound) named few h =
     let sum = sum_short names coefs named few (Limited-All coefs h.0.1) in

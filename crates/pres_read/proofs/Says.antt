@@ -1,4 +1,4 @@
--- What a step says of the rules: where it goes on they are kept, and each fault is that of a broken one.
+-- What a step says about the rules: if it goes on they are kept, and each fault is that of a broken one.
 use Rattle.std.proofs.Common.{◌≡◌, ◌≤◌, ℕ, Bool, true, false, List, [], ◌∷◌, ◌++◌, ltb, Option, Some, None, IsSome, Result, Ok, Err, IfOk, option_map, refl, sym, ap, subst, ◌∙◌, append_assoc, arith, ℤ, pos, ◌+ℤ◌, nat_abs, position, get_or, slice_set}
 use Rattle.std.specs.Prelude.{if◌then◌else◌}
 use Rattle.std.specs.Str.{bytes_eq}
@@ -172,7 +172,7 @@ step_says names p a first t e = subst (λ (q : Progress). SaysAt names a first t
 
 -- ---- where a term begins
 
--- the tokens before a `*` or a name, where a term has begun: its number, at its place, and the `*`
+-- the tokens before a `*` or a name, if a term has begun: its number, at its place, and the `*`
 abbrev pub TermBegun : Next → List Placed → Type 0
 TermBegun (AStar coefs factor) before = (earlier : List Placed) × (number : Placed) × (before ≡ earlier ++ number ∷ []) × (number.symbol ≡ Number factor.digits) × (number.place ≡ factor.place)
 TermBegun (AName coefs factor) before =

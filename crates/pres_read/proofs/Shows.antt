@@ -1,4 +1,4 @@
--- Reading with names and limits, against the tree of productions.
+-- Reading with names and limits, compared with the tree of productions.
 use Rattle.std.proofs.Common.{◌≡◌, ℕ, zero, suc, Bool, true, false, List, [], ◌∷◌, ltb, Option, Some, None, IsSome, option_map, Result, Ok, Err, refl, sym, ap, subst, ◌∙◌, ℤ, pos, ◌+ℤ◌, nat_abs, position, slice_set, get_or, codes}
 use Rattle.std.specs.Prelude.{if◌then◌else◌}
 use Rattle.std.specs.Str.{bytes_eq}
@@ -37,7 +37,7 @@ lead_negative (after sum negative) = negative
 abbrev pub lead_factor : Lead → List ℕ → ℕ → Factor
 lead_factor lead digits place = record { negative = lead_negative lead; digits = digits; place = place }
 
--- what comes next, where a term that was begun stands at this place
+-- what comes next, if a term was begun at this place
 abbrev pub inner_next : List (List ℕ) → ℕ → Inner → Next
 inner_next names place IUnit = AUnit
 inner_next names place (ITerm lead) = ATerm (lead_coefs names lead) (lead_negative lead)
@@ -72,7 +72,7 @@ Agrees names (Ok q) None place = ⊥
 Agrees names (Ok q) (Some b) place = IsShown names q b
 Agrees names (Err e) o place = FaultAt e o place
 
--- ---- meanings of what is put together
+-- ---- meanings of composed phrases
 
 meaning-negates : (names : List (List ℕ)) (k : ℕ) (u : Phrase AUnit) → meaning names (negates k u) ≡ negation k (meaning names u)
 meaning-negates names zero u = refl

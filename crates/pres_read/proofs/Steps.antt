@@ -1,4 +1,4 @@
--- One token further, what is known stays within the limits, and weighs what the signs are charged.
+-- One token further, what is known stays within the limits, and weighs what was charged for the signs.
 use Rattle.std.proofs.Common.{◌≡◌, ℕ, ◌+◌, ◌≤◌, Bool, true, false, List, [], ◌∷◌, length, ltb, Option, Some, None, IfSome, IfOk, Result, Ok, Err, refl, ap, subst, ◌∙◌, arith, ℤ, nat_abs}
 use Rattle.std.specs.Prelude.{if◌then◌else◌}
 use Rattle.std.proofs.lemmas.Bool.{ltb-false}

@@ -5,7 +5,7 @@ use Rattle.pres_tokens.specs.declared.token.Relation.TheVariants.{Less, AtMost, 
 use Rattle.pres_tokens.specs.Symbols.{Symbol, Name, Number, Plus, Minus, Star, Compare, And, Or, Not, Open, Close, Mod}
 use Rattle.pres_read.specs.Grammar.{Term, bare, times, Sum, first, further, relational, modular, APred, AConj, AUnit, Phrase, conj, either, unit, both, negate, group, atom, equal_or_not}
 
--- what stands before a term: nothing or `-`, or a sum and its sign
+-- what precedes a term: nothing or `-`, or a sum and its sign
 pub data Lead : Type 0 where
   begin : (negative : Bool) → Lead
   after : (sum : Sum) (negative : Bool) → Lead
@@ -134,7 +134,7 @@ trace_inner above side (INumber sum r) s = trace_number above side sum r true s
 trace_inner above side (IModulo sum unequal negative digits) s = trace_modulo above side sum unequal negative digits s
 trace_inner above side (IModulus sum unequal negative digits) s = trace_modulus above side sum unequal negative digits s
 
--- one symbol further; None where no text of the grammar goes on so
+-- one symbol further; None if no text of the grammar goes on like this
 abbrev pub trace_step : Trace → Symbol → Option Trace
 trace_step (Inside above side inner) s = trace_inner above side inner s
 trace_step (Done above ors c) s = trace_sign above ors c s

@@ -1,4 +1,4 @@
--- Where each symbol keeps its rule, the numbers that stand whole in the symbols are within the limits.
+-- If each symbol keeps its rule, the complete sums, constants and moduli in the symbols are within the limits.
 use Rattle.std.proofs.Common.{◌≡◌, ◌≤◌, ℕ, Bool, true, false, List, [], ◌∷◌, ◌++◌, Option, Some, None, refl, ap, subst, ◌∙◌, append_assoc}
 use Rattle.pres_ast.specs.declared.limits.TheConstants.{MODULUS_LIMIT}
 use Rattle.pres_tokens.specs.declared.token.Relation.{Relation}

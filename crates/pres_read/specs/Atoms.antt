@@ -64,7 +64,7 @@ pub record Factor : Type 0 where
 abbrev pub lone : Bool → ℕ → Factor
 lone negative place = record { negative = negative; digits = codes "1"; place = place }
 
--- the coefficients in which that of variable i is z, where that is at most 2^31 in size
+-- the coefficients with z for variable i, if z is at most 2^31 in size
 abbrev pub with_coef_at : List ℤ → ℕ → ℤ → ℕ → Result (List ℤ) TextFault
 with_coef_at coefs i z place =
     if nat_lt COEFFICIENT_LIMIT (nat_abs z) then Err (TooLarge place) else Ok (slice_set coefs i z)

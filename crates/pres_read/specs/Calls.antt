@@ -1,4 +1,4 @@
--- Calls: what reading a predicate asks for and promises.
+-- Calls: what reading a predicate requires and promises.
 use Rattle.std.specs.Prelude.{◌≡◌, ℕ, ◌≤◌, List, length, Result, Ok, IfOk, IfErr, IfSome}
 use Rattle.pop_io.specs.declared.fault.NoMemory.{NoMemory}
 use Rattle.pop_io.specs.declared.names.TheConstants.{VARIABLE_LIMIT}
@@ -25,20 +25,20 @@ pub record AreVariableNames (variables : List (List ℕ)) : Type 0 where
 
 -- what was read of a text, as a predicate over these names
 pub record IsReadFrom (text : List ℕ) (variables : List (List ℕ)) (result : Result PredModel ReadPred) : Type 0 where
-  -- token by token, each fault and its place
+  -- the result is that of reading token by token, down to each fault and its place
   pub exact : GivesParsed (λ pred. pred) result (pred_read variables text)
   -- the grammar gives the text this meaning, and no other
   pub meant : IfOk result (IsTextOf variables text)
   pub derived : IfOk result (λ pred. Derives variables (text_symbols text) pred.tree)
   -- its names are the variables', and its numbers, signs and parentheses are within the limits
   pub kept_rules : IfOk result (λ pred. KeepsRules variables (text_symbols text))
-  -- a text that the grammar relates to a tree is read to no other one, and is no fault of syntax
+  -- a text that the grammar relates to a tree is read as no other tree, and gives no fault of syntax
   pub only : (tree : PredTree) → Derives variables (text_symbols text) tree → IsReadAs tree result
-  -- a text of the grammar is read where it is short, its names are known, and its numbers and depth are within the
+  -- a text of the grammar is read if it is short, its names are known, and its numbers and depth are within the
   -- limits
   pub kept : (phrase : Phrase APred) → symbols phrase ≡ text_symbols text → length text ≤ TEXT_LIMIT
       → Fits variables phrase → IsShallow surface (text_symbols text) → IsReadTo (meaning variables phrase) result
-  -- the tokens before the place begin a text of the grammar and keep all rules, and this one breaks that of the fault
+  -- the tokens before the place begin a text of the grammar and keep all rules, and the next breaks the fault's rule
   pub faults : IfErr result (λ fault. IfSome (text_fault_of fault) (IsReadFault variables text))
 
 -- the canonical text of a predicate over these names was printed

@@ -12,7 +12,7 @@ is_negative (negsuc n) = true
 abbrev pub is_zero : ℤ → Bool
 is_zero z = nat_abs z == 0
 
--- `x` for 1, `k*x` else
+-- `x` for 1, else `k*x`
 abbrev pub term_text : ℕ → List ℕ → List ℕ
 term_text k name = if k == 1 then name else decimal k ++ codes "*" ++ name
 
@@ -35,11 +35,11 @@ abbrev pub zero_text : List (List ℕ) → List ℕ
 zero_text [] = codes "0*"
 zero_text (name ∷ names) = codes "0*" ++ name
 
--- where all coefficients are 0, `0*` and the first name
+-- if all coefficients are 0: `0*` and the first name
 abbrev pub sum_text : List (List ℕ) → List ℤ → List ℕ
 sum_text names coefs = if list_all is_zero coefs then zero_text names else terms_text true names coefs
 
--- what stands between the two parts of a tree
+-- the sign between the two parts of a tree
 abbrev pub sign_between : PredTree → List ℕ
 sign_between (Disjunction p q) = codes " || "
 sign_between p = codes " && "

@@ -1,4 +1,4 @@
--- The charge of the signs and the open parentheses.
+-- The charge for the signs, and the number of open parentheses.
 use Rattle.std.specs.Prelude.{ℕ, ◌+◌, ◌-◌, ◌||◌, if◌then◌else◌, nat_lt, Result, Ok, Err}
 use Rattle.pres_ast.specs.declared.limits.TheConstants.{WEIGHT_LIMIT}
 use Rattle.pres_read.specs.declared.depth.TheConstants.{PARENTHESIS_LIMIT}

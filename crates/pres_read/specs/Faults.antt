@@ -1,5 +1,5 @@
--- When each fault of a text comes, in the grammar's words: the tokens before its place begin a text of the grammar and
--- keep all rules, and what stands at the place breaks one.
+-- When each fault of a text comes, in terms of the grammar: the tokens before its place begin a text of the grammar and
+-- keep all rules, and what is at the place breaks one.
 use Rattle.std.specs.Prelude.{◌≡◌, ◌<◌, ◌⊎◌, ℕ, false, List, [], ◌∷◌, ◌++◌, length}
 use Rattle.pres_tokens.specs.Symbols.{Symbol, Number, Placed}
 use Rattle.pres_tokens.specs.Tokens.{tokens_of}
@@ -10,7 +10,7 @@ use Rattle.pres_read.specs.Grammar.{Term, term_symbols}
 use Rattle.pres_read.specs.Texts.{symbols_of, Begins, IsStuck, place_of}
 use Rattle.pres_read.specs.Rules.{IsKnown, AreKnown, NumbersFit, IsShallow, KeepsRules, last_is, is_star}
 
--- no text of the grammar goes on so, or ends here
+-- no text of the grammar goes on like this, or ends here
 pub record IsSyntaxFault (names : List (List ℕ)) (text : List ℕ) (at : ℕ) : Type 0 where
   pub before : List Placed
   pub rest : List Placed
@@ -37,7 +37,7 @@ IsNumeral before own =
     ((term : Term) × (own ≡ term_symbols term) × (last_is is_star false before ≡ false))
     ⊎ ((digits : List ℕ) × (own ≡ Number digits ∷ []))
 
--- a term, a constant or a modulus that is beyond its limit, by its first token
+-- a term, a constant or a modulus that is outside its limits, by its first token
 pub record IsTooLarge (names : List (List ℕ)) (text : List ℕ) (at : ℕ) : Type 0 where
   pub before : List Placed
   pub own : List Placed

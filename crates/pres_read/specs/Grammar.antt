@@ -49,7 +49,7 @@ abbrev pub term_symbols : Term → List Symbol
 term_symbols (bare name) = Name name ∷ []
 term_symbols (times digits name) = Number digits ∷ Star ∷ Name name ∷ []
 
--- a sign that may stand before a term or a constant
+-- a sign that may precede a term or a constant
 abbrev pub minus_if : Bool → List Symbol
 minus_if false = []
 minus_if true = Minus ∷ []

@@ -9,6 +9,6 @@ value_after n (c ∷ cs) = value_after (n * 10 + (c - 48)) cs
 abbrev pub value_of_digits : List ℕ → ℕ
 value_of_digits digits = value_after 0 digits
 
--- the value, where it is at most the limit
+-- the value, if it is at most the limit
 abbrev pub value_within : ℕ → ℕ → Option ℕ
 value_within limit n = if nat_lt limit n then None else Some n

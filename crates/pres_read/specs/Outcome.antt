@@ -1,4 +1,4 @@
--- What a call of the code gives, against what the definitions say, unless out of memory.
+-- What a call of the code gives, compared with what the definitions say, unless out of memory.
 use Rattle.std.specs.Prelude.{Option, Some, None, Result}
 use Rattle.pop_io.specs.Gives.{Gives as GivesBy}
 use Rattle.pres_read.specs.declared.fault.ReadPred.{ReadPred}

@@ -7,7 +7,7 @@ use Rattle.pres_read.specs.Grammar.{APred, Phrase, symbols, meaning}
 use Rattle.pres_read.specs.Rules.{Fits, IsShallow}
 use Rattle.pres_read.specs.Texts.{text_symbols}
 
--- the text is a short one of the grammar, which means this predicate over these names, and its numbers and depth are
+-- the text is short and in the grammar, means this predicate over these names, and its numbers and depth are
 -- within the limits
 pub record IsTextOf (names : List (List ℕ)) (text : List ℕ) (p : PredModel) : Type 0 where
   pub variables : p.variables ≡ length names

@@ -4,7 +4,8 @@ use Rattle.pres_ast.specs.PredTree.{PredTree}
 use Rattle.pres_read.specs.Atoms.{Factor}
 use Rattle.pres_tokens.specs.declared.token.Relation.{Relation}
 
--- between an open parenthesis and its place: the disjunction before the last `||`, the conjunction after it and
+-- what was read after an open parenthesis: the disjunction before the last `
+-- `, the conjunction after it and
 -- before the last `&&`, and how many `!` follow
 pub record Span : Type 0 where
   pub ors : Option PredTree

@@ -32,7 +32,7 @@ abbrev pub disjunction : Option PredTree → PredTree → PredTree
 disjunction None q = q
 disjunction (Some p) q = Disjunction p q
 
--- after a unit: its `!` and the `&&` before it are done
+-- after a unit: its `!` and the `&&` before it are applied
 abbrev pub progress_after_unit : Around → PredTree → Progress
 progress_after_unit a p = record {
   around = record { above = a.above; span = record { ors = a.span.ors; ands = None; nots = 0 } };
@@ -87,7 +87,7 @@ relation_step a coefs place Minus = Ok (going_on a (ATerm coefs true))
 relation_step a coefs place (Compare r) = Ok (going_on a (AConstant coefs r))
 relation_step a coefs place s = Err (Syntax place)
 
--- a constant ends the atom, but for `mod` after `=` and `!=`
+-- a constant ends the atom, unless `mod` may follow after `=` or `!=`
 abbrev pub progress_after_constant : Around → List ℤ → Relation → ℤ → Progress
 progress_after_constant a coefs Less c = progress_after_unit a (compared_tree coefs Less c)
 progress_after_constant a coefs AtMost c = progress_after_unit a (compared_tree coefs AtMost c)

@@ -15,7 +15,7 @@ use Rattle.pres_read.specs.Grammar.{Term, Sum, first, further, Atom, relational,
 use Rattle.pres_read.specs.Grammar.{conj, either, unit, both, negate, group, atom, sum_symbols}
 use Rattle.pres_read.specs.Grammar.{equal_or_not, constant_symbols, term_name, term_number, coefs_of}
 
--- the name is a variable's, and its coefficient with z more is within the limit
+-- the name is a variable's, and its coefficient plus z is within the limit
 abbrev pub CoefFits : List ℤ → Option ℕ → ℤ → Type 0
 CoefFits coefs None z = ⊥
 CoefFits coefs (Some i) z = nat_abs (slice_index_or coefs i (pos 0) +ℤ z) ≤ COEFFICIENT_LIMIT
@@ -46,7 +46,7 @@ Fits names (negate p) = Fits names p
 Fits names (group p) = Fits names p
 Fits names (atom a) = AtomFits names a
 
--- nowhere is more charged than the weight of a predicate, or are too many parentheses open
+-- the charge and the number of open parentheses never exceed their limits
 abbrev pub IsShallow : Depth → List Symbol → Type 0
 IsShallow d [] = Unit {0}
 IsShallow d (s ∷ ss) =
@@ -74,7 +74,7 @@ abbrev pub AreKnown : List (List ℕ) → List Symbol → Type 0
 AreKnown names [] = Unit {0}
 AreKnown names (s ∷ ss) = IsKnown names s × AreKnown names ss
 
--- whether the last symbol is so; `none` where there is none
+-- whether the last symbol passes the test; `none` if there is no symbol
 abbrev pub last_is : (Symbol → Bool) → Bool → List Symbol → Bool
 last_is test none [] = none
 last_is test none (s ∷ []) = test s
@@ -92,7 +92,7 @@ abbrev pub is_star : Symbol → Bool
 is_star Star = true
 is_star s = false
 
--- each sum, constant and modulus that stands whole in the symbols is within the limits
+-- each complete sum, constant and modulus in the symbols is within the limits
 pub record NumbersFit (names : List (List ℕ)) (ss : List Symbol) : Type 0 where
   pub sums : (before later : List Symbol) (sum : Sum) → ss ≡ before ++ (sum_symbols sum ++ later)
       → last_is opens true before ≡ true → SumFits names sum

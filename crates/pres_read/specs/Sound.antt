@@ -1,5 +1,5 @@
--- What is known after a prefix of the tokens is within the limits of a predicate, and weighs what the signs are
--- charged.
+-- What is known after a prefix of the tokens is within the limits of a predicate, and weighs what was charged for the
+-- signs.
 use Rattle.std.specs.Prelude.{◌≡◌, ◌≤◌, ◌+◌, ◌-◌, ℕ, Bool, true, false, List, [], ◌∷◌, Option, Some, None, ℤ, nat_abs}
 use Rattle.pres_ast.specs.declared.limits.TheConstants.{BOUND_LIMIT}
 use Rattle.pres_ast.specs.PredTree.{PredTree}

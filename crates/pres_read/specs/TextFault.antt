@@ -1,4 +1,4 @@
--- Why a text is no predicate: what the definitions of reading give in place of a tree. A place is an offset in bytes.
+-- Why a text isn't a predicate: what the definitions of reading give in place of a tree. A place is an offset in bytes.
 use Rattle.std.specs.Prelude.{ℕ}
 
 pub data TextFault : Type 0 where
@@ -6,7 +6,7 @@ pub data TextFault : Type 0 where
   Syntax : (at : ℕ) → TextFault
   -- a name that no variable has
   UnknownName : (at : ℕ) → TextFault
-  -- a number past its limit, or a term that makes its name's coefficient so
+  -- a number outside its limits, or a term that takes its name's coefficient there
   TooLarge : (at : ℕ) → TextFault
   -- too many open parentheses, or too much charged for the signs
   TooDeep : (at : ℕ) → TextFault

@@ -32,7 +32,7 @@ abbrev pub place_of : List Placed → ℕ → ℕ
 place_of [] end = end
 place_of (t ∷ ts) end = t.place
 
--- what may be answered for a text that the grammar relates to this tree: the tree, or a rule on names, numbers or depth
+-- the outcomes for a text that the grammar relates to this tree: the tree, or any fault but one of syntax
 abbrev pub IsReadAs : PredTree → Result PredModel ReadPred → Type 0
 IsReadAs tree (Ok pred) = pred.tree ≡ tree
 IsReadAs tree (Err (Syntax at)) = ⊥

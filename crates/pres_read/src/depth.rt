@@ -1,4 +1,4 @@
-//! The charge of the signs and the open parentheses.
+//! The charge for the signs, and the number of open parentheses.
 
 ghost use Rattle.std.specs.Prelude.{◌≡◌, ◌≤◌};
 ghost use Rattle.pres_tokens.specs.Symbols.{symbol_of, token_of};

@@ -13,9 +13,9 @@ pub enum ReadPred {
     Syntax(u32),
     /// A name that no variable has.
     UnknownName(u32),
-    /// A number past its limit, or a term that makes its name's coefficient so.
+    /// A number outside its limits, or a term that takes its name's coefficient there.
     TooLarge(u32),
-    /// More than `PARENTHESIS_LIMIT` open parentheses, or signs that are charged more than `WEIGHT_LIMIT`.
+    /// More than `PARENTHESIS_LIMIT` open parentheses, or a charge for the signs above `WEIGHT_LIMIT`.
     TooDeep(u32),
     /// The text has this many bytes, more than `TEXT_LIMIT`.
     LongText(u64),

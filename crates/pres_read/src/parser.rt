@@ -64,7 +64,7 @@ fn opened<'a>(around: &mut Around) -> Result<Expect<'a>, ReadPred>
     Ok(Expect::Unit)
 }
 
-/// What follows the first token of a sum, wherever the sum stands.
+/// What follows the first token of a sum, whatever surrounds it.
 fn at_first<'a>(alloc: Global, names: &List<Text>, token: Token<'a>) -> Result<Expect<'a>, ReadPred>
     ensures { (a : Surroundings) → GivesParsed (λ e. going_on a (next_expected e)) result
         (first_step names.now a token.entry.place (symbol_of token.entry.kind)) }
@@ -201,7 +201,7 @@ fn at_constant<'a>(
     }
 }
 
-/// The constant that a token gives, wherever it stands.
+/// The constant that a token gives, whatever surrounds it.
 fn constant_of(relation: Relation, negative: bool, token: Token<'_>) -> Result<i64, ReadPred>
     ensures constant { (a : Surroundings) → (coefs : Items ℤ)
         → GivesParsed (λ c. progress_after_constant a coefs relation c) result
@@ -302,7 +302,7 @@ fn after_equality<'a>(
     at_sign(alloc, around, tree, token)
 }
 
-/// The tree of a congruence whose modulus is the token, wherever it stands.
+/// The tree of a congruence whose modulus is the token, whatever surrounds it.
 fn congruence(
     alloc: Global,
     coefs: Vec<i64>,
@@ -370,7 +370,7 @@ fn in_atom<'a>(
     }
 }
 
-/// What comes after a further token.
+/// What follows one more token.
 #[tactic(auto, unfolding(crate::specs::Reading::step))]
 pub(crate) fn after_token<'a>(
     alloc: Global,
@@ -391,7 +391,7 @@ pub(crate) fn after_token<'a>(
     }
 }
 
-/// The tree where the text ends.
+/// The tree if the text ends here.
 #[tactic(auto, unfolding(crate::specs::Reading::finish))]
 fn at_end(
     alloc: Global,
@@ -410,7 +410,7 @@ fn at_end(
     }
 }
 
-/// The tree where the text ends in an atom.
+/// The tree if the text ends in an atom.
 fn end_of_atom(
     alloc: Global,
     names: &List<Text>,
@@ -444,7 +444,7 @@ impl<'a> Parser<'a> {
         }
     }
 
-    /// Reads one token more.
+    /// Reads one more token.
     pub fn read_token(
         &mut self,
         alloc: Global,

@@ -1,4 +1,4 @@
-//! Where a reader stands in a predicate's text.
+//! The state of a reader of a predicate's text.
 
 ghost use Rattle.std.specs.Prelude.{◌≡◌};
 ghost use Rattle.pres_read.specs.Progress.{clear};
@@ -7,7 +7,8 @@ ghost use Rattle.pres_read.specs.Views.{span_of_level};
 use pres_ast::Tree;
 use pres_tokens::Relation;
 
-/// What stands after the last open parenthesis: the disjunction before the last `||`, the conjunction after it and
+/// What was read after an open parenthesis: the disjunction before the last `
+/// `, the conjunction after it and
 /// before the last `&&`, and how many `!` follow.
 #[derive(Drop)]
 pub(crate) struct Level {
@@ -29,7 +30,7 @@ impl Level {
     }
 }
 
-/// What stands around a unit. The level of the innermost open parenthesis is the last one.
+/// What surrounds a unit. The level of the innermost open parenthesis is the last one.
 #[derive(Drop)]
 pub(crate) struct Around {
     pub above: Vec<Level>,

@@ -46,7 +46,7 @@ fn disjoined(alloc: Global, left: Option<Tree>, right: Tree) -> Result<Tree, Rea
     }
 }
 
-/// The conjunction up to a unit, whose `!` and the `&&` before it are done.
+/// The conjunction up to a unit, with its `!` and the `&&` before it applied.
 pub(crate) fn up_to_unit(alloc: Global, level: &mut Level, tree: Tree) -> Result<Tree, NoMemory>
     ensures level { IfOk result (λ _. span_of_level level.new
         ≡ record { ors = option_map tree_of level.old.ors; ands = None; nots = 0 }) }

@@ -1,4 +1,4 @@
--- The terminal symbols of predicate texts, and the code's tokens seen so.
+-- The terminal symbols of predicate texts, and the code's tokens as such symbols.
 use Rattle.std.specs.Prelude.{ℕ, List}
 use Rattle.pres_tokens.specs.declared.token.Relation.{Relation}
 use Rattle.pres_tokens.specs.declared.token.Kind.{Kind}

@@ -1,4 +1,4 @@
--- The tokens of a text. The longest token is taken; blanks part tokens and are none.
+-- The tokens of a text. The longest token is taken; blanks only separate tokens.
 use Rattle.std.specs.Prelude.{ℕ, ◌+◌, ◌-◌, Bool, ◌&&◌, ◌||◌, ◌==◌, if◌then◌else◌}
 use Rattle.std.specs.Prelude.{nat_le, List, [], ◌∷◌, Option, Some, None, codes}
 use Rattle.std.proofs.Common.{zero, suc}
@@ -41,7 +41,7 @@ byte_symbol b =
 abbrev pub word_symbol : List ℕ → Symbol
 word_symbol word = if bytes_eq word (codes "mod") then Mod else Name word
 
--- a symbol that is no word and no number, and its length: two bytes if they are one
+-- a symbol other than a word or a number, and its length: two bytes if they form one
 abbrev pub sign_or : Symbol → Option Symbol → Symbol × ℕ
 sign_or one None = (one, 1)
 sign_or one (Some two) = (two, 2)
@@ -59,7 +59,7 @@ first_symbol (b ∷ bytes) =
     else (if digit b then (Number (take_while digit (b ∷ bytes)), prefix_len digit (b ∷ bytes))
     else first_sign (b ∷ bytes))
 
--- the tokens of the bytes that stand at a place; the first `skip` bytes belong to the token before them
+-- the tokens of the bytes at a place; the first `skip` bytes belong to the token before them
 abbrev pub tokens_from : (skip place : ℕ) → List ℕ → List Placed
 tokens_from skip place [] = []
 tokens_from (suc k) place (b ∷ bytes) = tokens_from k (place + 1) bytes

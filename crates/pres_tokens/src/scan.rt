@@ -115,8 +115,7 @@ fn signs(bytes: &[u8]) -> (Kind<'_>, usize)
     (byte_kind(bytes[0]), 1)
 }
 
-/// The next token of a text from the offset `at` on, and where it ends. Blanks before it are passed over. Allocates
-/// nothing.
+/// The next token of a text from the offset `at` on, and where it ends. Skips blanks before it. Allocates nothing.
 pub fn next_token(text: &[u8], at: usize) -> Option<(Token<'_>, usize)>
     requires within { at ≤ length text.now }
     requires limit { length text.now ≤ PLACE_LIMIT }

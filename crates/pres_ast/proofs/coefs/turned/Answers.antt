@@ -4,7 +4,7 @@ use Rattle.std.proofs.lemmas.List.{map_more, take_all}
 use Rattle.pres_ast.specs.declared.limits.TheConstants.{COEFFICIENT_LIMIT}
 use Rattle.pres_ast.proofs.coefs.turned.Goals as goal
 
--- the code's number is the turned coefficient
+-- the code's number is the negated coefficient
 turn : (a : ℤ) → nat_abs a ≤ COEFFICIENT_LIMIT → pos 0 -ℤ to_z w64 (of_z w64 a) ≡ neg_ℤ a
 turn a small = rw (to_z-of_z w64 a (fits_signed_from_abs w64 a (omega arith))) (omega (arith, ints))
 
