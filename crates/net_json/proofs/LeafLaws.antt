@@ -160,7 +160,7 @@ abbrev pub Allows : Option (ℕ × ℕ) → List ℕ → Type 0
 Allows None hs = Unit {0}
 Allows (Some range) hs = (range.0 ≤ length hs) × (length hs ≤ range.1)
 
--- what a file says of helpers
+-- what a file says about helpers
 abbrev pub TellsHelpers : Option (ℕ × ℕ) → List ℕ → Data → Type 0
 TellsHelpers None hs d = hs ≡ []
 TellsHelpers (Some range) hs d = HasMember (codes "helpers") (IsList IsNumber hs) d
@@ -180,7 +180,7 @@ helpers_at-again (Some range) states some path d hs told below fits =
     rw (told.1) (states_at-again states some range.0 range.1 (member_path path (codes "helpers")) told.0 hs told.2 below fits.0 fits.1)
 
 module _ (format variables : ℕ) (known : (format ≡ PLAIN_FORMAT) ⊎ (format ≡ HELPER_FORMAT)) (some_variable : 1 ≤ variables) (few_variables : variables ≤ VARIABLE_LIMIT) where
-  -- what a file says of helpers, by its format
+  -- what a file says about helpers, by its format
   of_format : (found : List LeafModel) (hs : List ℕ) (d : Data) → TellsHelpers (helpers_allowed format found) hs d → AreHelpers format hs d
   of_format found hs d = by_format known
     where
@@ -252,7 +252,7 @@ module _ (format variables : ℕ) (known : (format ≡ PLAIN_FORMAT) ⊎ (format
       (subst (λ (k : ℕ). member_by path (codes "output") (outputs_at k) d ≡ Ok bs) long o)
       (subst (λ (k : ℕ). helpers_at range k path d ≡ Ok hs) long h)).1 most
 
-  -- what is known of a leaf that stands behind others
+  -- what is known of a leaf that comes after others
   abbrev pub Follows : List LeafModel → LeafModel → Type 0
   Follows found leaf =
       (IfSome (helpers_allowed format found) (λ r. r.1 ≤ HELPER_LIMIT) → IsLeaf leaf) × (length leaf.inputs ≡ variables) × Allows (helpers_allowed format found) leaf.helpers × (format ≡ PLAIN_FORMAT → leaf.helpers ≡ [])

@@ -58,7 +58,7 @@ module _ (leaves : ℕ) (some_leaf : 1 ≤ leaves) where
       subst (λ (i : Item). IsItem i d × NamesBelow leaves i) (same_ok (Leaf a.0) item a.2) (n.0, omega (arith, n.2))
   operand_takes path d (Some s) item is e = by_words path s item (bytes_eq s (codes "not")) (bytes_eq s (codes "and")) (bytes_eq s (codes "or")) refl refl refl e leaves d is
 
-  -- a number is no text
+  -- a number isn't a text
   no_text : (d : Data) (n : ℕ) → IsNumber n d → as_str d ≡ None
   no_text null n is = absurd cc
   no_text (boolean b) n is = absurd cc
@@ -137,7 +137,7 @@ module _ (format variables : ℕ) (known : (format ≡ PLAIN_FORMAT) ⊎ (format
       go true = tt
       go false = is.helper_count
 
-  -- the leaves behind the first one
+  -- the leaves after the first one
   later_leaves : (first : LeafModel) (found leaves : List LeafModel) → IsLeaf first → (format ≡ PLAIN_FORMAT → first.helpers ≡ []) → Readers.EachFrom FollowsHere (first ∷ found) leaves → All (λ leaf. IsLeafOf variables leaf × (length leaf.helpers ≡ length first.helpers)) leaves
   later_leaves first found [] is none each = All-nil (λ leaf. IsLeafOf variables leaf × (length leaf.helpers ≡ length first.helpers))
   later_leaves first found (leaf ∷ leaves) is none each =
@@ -166,7 +166,7 @@ module _ (format variables : ℕ) (known : (format ≡ PLAIN_FORMAT) ⊎ (format
       let r = Readers.list-takes (item_by (leaf_item format variables) path) (IsLeafFile format) FollowsHere (λ found i x leaf is. leaf_at-takes format variables known lo hi found (item_path path i) x leaf is) path 1 LEAF_LIMIT d leaves e in
       (r.0, all_leaves leaves r.1, r.2, r.3)
 
--- what is asked of a leaf behind others, to be read
+-- what a leaf after others needs in order to be read
 abbrev Fitting : ℕ → ℕ → List LeafModel → LeafModel → Type 0
 Fitting format variables found leaf = IsLeafOf variables leaf × Allows (helpers_allowed format found) leaf.helpers
 
@@ -196,7 +196,7 @@ module _ (format variables : ℕ) where
         fitting_later leaf [] leaves (All-tail (λ (l : LeafModel). IsLeafOf variables l × (length l.helpers ≡ length leaf.helpers)) leaf leaves all),
       )
 
-  -- what a file of a format says of helpers
+  -- what a file of a format says about helpers
   told : (found : List LeafModel) (hs : List ℕ) (d : Data) → AreHelpers format hs d → TellsHelpers (helpers_allowed format found) hs d
   told found hs d (inl h) = subst (λ (f : ℕ). TellsHelpers (helpers_allowed f found) hs d) (sym h.0) h.1
   told found hs d (inr h) = subst (λ (f : ℕ). TellsHelpers (helpers_allowed f found) hs d) (sym h.0) h.1

@@ -1,4 +1,4 @@
--- Combinations in postfix: where the whole is one tree, the trees that stand open before are no deeper.
+-- Combinations in postfix: if the whole is one tree, the trees that are open before are no deeper.
 use Rattle.std.proofs.Common.{◌≡◌, ℕ, ◌≤◌, true, nat_le, List, [], ◌∷◌, ◌++◌, length, Option, Some, None, option_and_then, refl, sym, ap, subst, ◌∙◌, append_assoc, arith}
 use Rattle.std.specs.Prelude.{is_some, IsSomeAnd}
 use Rattle.std.proofs.lemmas.Bool.{and_parts, leb-true}
@@ -16,7 +16,7 @@ use Rattle.net_json.specs.Examined.{open_depths}
 abbrev pub IsPlaced : List Item → Item → Type 0
 IsPlaced found item = are_low (open_depths (found ++ item ∷ [])) ≡ true
 
--- after each item of a combination of depth at most 65 all trees are so shallow
+-- after each item of a combination of depth at most 65 no tree is deeper
 all_shallow : (found items : List Item) (after : List ℕ)
     → after_items depth_operators (found ++ items) [] ≡ Some after → AllLow after → EachFrom IsPlaced found items
 all_shallow found [] after e low = tt

@@ -1,4 +1,4 @@
--- Lists of values that are written one after the other, and that what is written is a net's file.
+-- Lists of values written one after the other; what is written is a net's file.
 use Rattle.std.proofs.Common.{◌≡◌, inl, inr, ℕ, ◌+◌, ◌≤◌, ◌<◌, ◌^◌, List, [], ◌∷◌, ◌++◌, length, map, take, codes, nat_lt, Bool, true, false, Some, refl, sym, ap, ◌∙◌, arith}
 use Rattle.std.specs.Prelude.{slice_get, All, if◌then◌else◌, Result, IfOk, IsOkAnd}
 use Rattle.std.proofs.lemmas.Bool.{lt-ltb, ltb-false}

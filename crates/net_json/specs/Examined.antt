@@ -1,4 +1,4 @@
--- The order in which a net's value is examined: member by member, each whole before the next; a list for its kind, its
+-- The order in which a net's value is examined: member by member, each fully before the next; a list for its kind, its
 -- length, and then item by item. The first rule that is broken is the fault.
 use Rattle.std.specs.Prelude.{ℕ, ◌-◌, ◌==◌, ◌&&◌, Bool, not, List, [], ◌∷◌, ◌++◌, length, codes, Option, Some, None}
 use Rattle.std.specs.Prelude.{is_some, Result, Ok, if◌then◌else◌}
@@ -22,7 +22,7 @@ use Rattle.pop_io.specs.declared.names.TheConstants.{VARIABLE_LIMIT}
 use Rattle.pop_net.specs.declared.limits.TheConstants.{STATE_LIMIT, MOVE_LIMIT, HELPER_LIMIT, LEAF_LIMIT, ITEM_LIMIT}
 use Rattle.net_json.specs.declared.format.TheConstants.{PLAIN_FORMAT, HELPER_FORMAT}
 
--- a name of this form that none of those before it equals
+-- a name of this form that differs from those before it
 unfoldable pub name_at : (List ℕ → Bool) → List ℕ → List (List ℕ) → Data → Result (List ℕ) Fault
 name_at is_name path found d = do
   s ← text_at path d
@@ -104,16 +104,16 @@ operator_at path s =
     if bytes_eq s (codes "not") then Ok Not
     else (if bytes_eq s (codes "and") then Ok And else (if bytes_eq s (codes "or") then Ok Or else broken path Name))
 
--- an operator where the value is a text, and else the number of a leaf
+-- an operator if the value is a text, else the number of a leaf
 abbrev pub operand_at : List ℕ → ℕ → Data → Option (List ℕ) → Result Item Fault
 operand_at path leaves d (Some s) = operator_at path s
 operand_at path leaves d None = number_at path 0 (leaves - 1) d >>= λ i. Ok (Leaf i)
 
--- the depths of the trees that stand open after these items, the newest first
+-- the depths of the trees left open by these items, the newest first
 abbrev pub open_depths : List Item → Option (List ℕ)
 open_depths items = after_items depth_operators items []
 
--- an item finds its operands, and makes no tree of too great a depth
+-- an item that finds its operands and makes no tree that is too deep
 unfoldable pub item_at : List ℕ → ℕ → List Item → Data → Result Item Fault
 item_at path leaves found d = do
   item ← operand_at path leaves d (as_str d)
@@ -127,13 +127,13 @@ combine_items_at leaves path d = do
   ds ← list_at path 1 ITEM_LIMIT d
   each (combine_item path leaves) [] 0 ds
 
--- a combination in postfix, of which one tree is left at the end
+-- a combination in postfix that leaves one tree at the end
 unfoldable pub combine_at : ℕ → List ℕ → Data → Result (List Item) Fault
 combine_at leaves path d = do
   items ← combine_items_at leaves path d
   if is_some (combined depth_operators items) then Ok items else broken path Shape
 
--- the net, unless this one of its leaves is wide and too many stand beside it
+-- the net, unless this leaf is wide and there are too many leaves beside it
 abbrev pub fitting_net : List ℕ → Option ℕ → NetModel → Result NetModel Fault
 fitting_net path None net = Ok net
 fitting_net path (Some i) net = broken (item_path (member_path path (codes "leaves")) i) Shape

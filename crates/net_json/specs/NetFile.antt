@@ -1,4 +1,4 @@
--- NetFile: which JSON value is the file of which net. Members may stand in any order, and others may stand beside them.
+-- NetFile: which JSON value is the file of which net. Members may be in any order, and others may be present.
 use Rattle.std.specs.Prelude.{◌≡◌, ◌⊎◌, ℕ, List, [], ◌∷◌, codes}
 use Rattle.serde_json.specs.Data.{Data}
 use Rattle.json_shape.specs.Parts.{IsNumber, IsText, IsTruth, HasMember, IsList}

@@ -1,4 +1,4 @@
--- What is written: the named members alone, in the byte order of their names.
+-- What is written: only the named members, in the byte order of their names.
 use Rattle.std.specs.Prelude.{ℕ, Bool, true, false, nat_lt, if◌then◌else◌, List, [], ◌∷◌, codes, map}
 use Rattle.serde_json.specs.Data.{Data, number, unsigned, string, boolean, array, object, member, no_members}
 use Rattle.serde_json.specs.View.{items_of}

@@ -35,7 +35,7 @@ fn helper_range(format: u32, found: &[Leaf]) -> Option<(usize, usize)>
     }
 }
 
-/// The helpers of a leaf, where its format has some.
+/// The helpers of a leaf, if its format has some.
 fn helpers_of(
     alloc: Global,
     path: &Path<'_>,

@@ -1,5 +1,5 @@
-//! Net files: the JSON text of a net, both ways.
-//! It stands on pop_net, json_shape and serde_json.
+//! Net files: the JSON value of a net, read and written.
+//! It stands on `pop_net`, `json_shape` and `serde_json`.
 //! The layer above uses: `read_net` gives the file's net or the first broken rule, and reads what `write_net` gives.
 #![tactic(auto)]
 

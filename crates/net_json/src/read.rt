@@ -33,7 +33,7 @@ fn format_of(alloc: Global, path: &Path<'_>, value: &Value) -> Result<u32, Forma
     Ok(format)
 }
 
-/// The net of these parts, unless too many leaves stand beside a wide one.
+/// The net of these parts, unless there are too many leaves beside a wide one.
 fn fitting(
     alloc: Global,
     path: &Path<'_>,
@@ -54,7 +54,7 @@ fn fitting(
     }
 }
 
-/// `read_net` for a file that stands inside another value: paths begin with this one.
+/// `read_net` for a file inside another value: paths begin with this one.
 #[tactic(auto, unfolding(crate::specs::Examined::net_at))]
 pub fn read_net_at(alloc: Global, path: &Path<'_>, value: &Value) -> Result<Net, FormatFault>
     ensures { GivesRead (λ net. net) result (net_at (path_text path.now) (view value.now)) }
@@ -79,12 +79,12 @@ pub fn read_net_at(alloc: Global, path: &Path<'_>, value: &Value) -> Result<Net,
 /// The net of a file, or the first rule that the file breaks, with its path from the file's root.
 ///
 /// Members are examined in the order `format`, `vars`, `leaves`, `combine`; of a leaf `states`, `moves`, `input`,
-/// `output`, and in format 2 `helpers`. Each is examined whole before the next is looked for. Other members are
-/// ignored. Last it is examined whether there are too many leaves for a wide one.
+/// `output`, and in format 2 `helpers`. Each is examined fully before the next is looked for. Other members are
+/// ignored. At the end it is checked whether there are too many leaves for a wide one.
 pub fn read_net(alloc: Global, value: &Value) -> Result<Net, FormatFault>
     ensures exact { GivesRead (λ net. net) result (net_at [] (view value.now)) }
 
-    // Just the files of nets are read, and each to its net.
+    // Exactly the files of nets are read, each as its net.
     ensures file { IfOk result (λ net. IsNetFile net (view value.now)) }
     ensures no_file { IfErr result (λ fault. IsBroken fault → (net : NetModel) → IsNetFile net (view value.now) → ⊥) }
 {

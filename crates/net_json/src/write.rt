@@ -93,7 +93,7 @@ fn outputs_value(alloc: Global, leaf: &Leaf) -> Result<Value, AllocError>
     Ok(Value::Array(list))
 }
 
-/// The helpers of a leaf as a member, where the file has some.
+/// The helpers of a leaf as a member, if the file has some.
 fn helper_members(
     alloc: Global,
     leaf: &Leaf,
@@ -109,7 +109,7 @@ fn helper_members(
     Ok(members)
 }
 
-/// A leaf, with its helpers where the file has some.
+/// A leaf, with its helpers if the file has some.
 fn leaf_value(alloc: Global, leaf: &Leaf, helped: bool) -> Result<Value, AllocError>
     ensures { IfOk result (λ v. view v ≡ leaf_data helped leaf.now) }
 {
@@ -179,12 +179,12 @@ fn net_value(alloc: Global, net: &Net, helped: bool) -> Result<Value, AllocError
     Ok(Value::Object(members))
 }
 
-/// The net as a JSON value with the named members alone, in the byte order of their names: in format 1 without
+/// The net as a JSON value with only the named members, in the byte order of their names: in format 1 without
 /// helpers, and in format 2 with some.
 pub fn write_net(alloc: Global, net: &Net) -> Result<Value, NoMemory>
     ensures value { IfOk result (λ v. view v ≡ net_data net.now) }
     ensures file { IfOk result (λ v. IsNetFile net.now (view v)) }
-    // It is read to an equal net.
+    // Reading it gives an equal net.
     ensures again { IfOk result (λ v. net_at [] (view v) ≡ Ok net.now) }
 {
     let helped = 0 < net.helper_count();

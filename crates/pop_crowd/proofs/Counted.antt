@@ -64,7 +64,7 @@ each_weaker : (P Q : Tuple → Type 0) → ((t : Tuple) → P t → Q t) → (ts
 each_weaker P Q f [] h = tt
 each_weaker P Q f (u ∷ ts) h = (f u h.0, each_weaker P Q f ts h.1)
 
--- below is not the same
+-- what is below differs
 below_differs : (x t : Tuple) → tuple_cmp x t ≡ Less → t ≢ x
 below_differs x t e same =
     let tie = tied_itself nat_list_cmp_total x in
@@ -80,7 +80,7 @@ above_differs x u e same =
 below_from_above : (x u : Tuple) → tuple_cmp x u ≡ Greater → tuple_cmp u x ≡ Less
 below_from_above x u e = nat_list_cmp_total.antisymm u x ∙ ap ordering_reverse e
 
--- what stands above u stands above x, where x is below u
+-- what is above u is above x, if x is below u
 each_above : (x u : Tuple) (ts : List Tuple) → tuple_cmp x u ≡ Less → Each (λ t. tuple_cmp u t ≡ Less) ts → Each (λ t. tuple_cmp x t ≡ Less) ts
 each_above x u ts e h = each_weaker _ _ (λ t m. nat_list_cmp_total.trans x u t e m) ts h
 
@@ -144,7 +144,7 @@ tuples_of-crowd crowd =
 abbrev numbered : (Tuple → ℕ) → List Tuple → List (Tuple × ℕ)
 numbered f ts = map (λ t. (t, f t)) ts
 
--- the same numbers where f and g agree
+-- the same numbers, if f and g agree
 same_counts : (f g : Tuple → ℕ) (x : Tuple) → ((t : Tuple) → t ≢ x → g t ≡ f t) → (ts : List Tuple) → Each (λ t. t ≢ x) ts → numbered f ts ≡ numbered g ts
 same_counts f g x h [] each = refl
 same_counts f g x h (u ∷ ts) each = let e = h u each.0 in let r = same_counts f g x h ts each.1 in cc
@@ -168,7 +168,7 @@ counts_insert f g x h (u ∷ ts) s = go (way (tuple_cmp x u)) (counts_insert f g
         let n : f u ≡ g u = sym (h u (above_differs x u e)) in
         rw e (ap (λ k. (u, k) ∷ insert_entry tuple_cmp (numbered f ts) x (g x)) n ∙ ap (λ es. (u, g u) ∷ es) ih)
 
--- what stands at x, or that no tuple is x
+-- what is found at x, or that no tuple is x
 data AtTuple (f : Tuple → ℕ) (x : Tuple) (ts : List Tuple) : Type 0 where
   found : lookup (is_at (tuple_cmp x)) (numbered f ts) ≡ Some (f x) → AtTuple f x ts
   nowhere : lookup (is_at (tuple_cmp x)) (numbered f ts) ≡ None → Each (λ t. t ≢ x) ts → AtTuple f x ts
@@ -196,14 +196,14 @@ same_test t x = slice_eq-Decides Decides-eqb t x _ refl
 each_at : (P : Tuple → Type 0) (ts : List Tuple) (t : Tuple) → Each P ts → Contains ts t → P t
 each_at P ts t h m = All-contains P ts t (All-from_recursion P ts h) m
 
--- no agent has a tuple that none of the crowd's tuples is
+-- no agent has a tuple that isn't among the crowd's
 none_with : (x : Tuple) (ts : List Tuple) → Each (λ t. t ≢ x) ts → (crowd : CrowdModel) → All (Contains ts) crowd → agents_with crowd x ≡ 0
 none_with x ts h [] all = refl
 none_with x ts h (t ∷ crowd) all =
     let no : pointwise nat_eq t x ≡ false = false_from_ne_true _ (λ e. each_at (λ t. t ≢ x) ts t h (All-head (Contains ts) t crowd all) ((same_test t x).0 e)) in
     sum_by-cons (λ t. cond (pointwise nat_eq t x) 1 0) t crowd ∙ ap (λ b. cond b 1 0 + agents_with crowd x) no ∙ zero-add (agents_with crowd x) ∙ none_with x ts h crowd (All-tail (Contains ts) t crowd all)
 
--- the number that stands at a tuple is how many agents have it
+-- the number found at a tuple is how many agents have it
 pub count_found : (crowd : CrowdModel) (x : Tuple) → unwrap_or (lookup (is_at (tuple_cmp x)) (tuple_counts crowd)) 0 ≡ agents_with crowd x
 count_found crowd x = go (at_tuple (agents_with crowd) x (tuples_of crowd))
   where

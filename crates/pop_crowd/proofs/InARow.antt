@@ -9,7 +9,7 @@ pub replay_append : (net : NetModel) (first more : List Meeting) (crowd : CrowdM
 replay_append net [] more crowd = refl
 replay_append net (m ∷ first) more crowd = replay_append net first more (after_meeting net m.a m.b crowd)
 
--- one meeting more
+-- one more meeting
 pub replay-push : (net : NetModel) (first : List Meeting) (m : Meeting) (crowd : CrowdModel)
     → replay net (first ++ m ∷ []) crowd ≡ after_meeting net m.a m.b (replay net first crowd)
 replay-push net first m crowd = replay_append net first (m ∷ []) crowd

@@ -24,7 +24,7 @@ crowd_tuples net words = All-map (IsTuple net) (tuple_of net) words (λ k d l. i
 pub tuple_at : (net : NetModel) (words : List Word) (a : ℕ) (x : Word) → slice_get words a ≡ Some x → slice_get (crowd_of net words) a ≡ Some (tuple_of net x)
 tuple_at net words a x h = slice_get-map (tuple_of net) words a ∙ ap (option_map (tuple_of net)) h
 
--- whether two valid words are the same, and whether their tuples are
+-- two valid words are the same exactly when their tuples are
 pub same_tuples : (net : NetModel) (v w : Word) (r : Bool) → IsValid net v → IsValid net w → Decides r (v ≡ w) → r ≡ pointwise nat_eq (tuple_of net v) (tuple_of net w)
 same_tuples net v w r hv hw d =
     same_from_decides r (pointwise nat_eq (tuple_of net v) (tuple_of net w)) d
@@ -33,7 +33,7 @@ same_tuples net v w r hv hw d =
 word_decides : (v w : Word) → Decides (v.0 == w.0) (v ≡ w)
 word_decides v w = Decides-like (v.0 == w.0) (λ e. ap (λ (n : ℕ). record { 0 = n }) e) (λ e. ap (λ (u : Word). u.0) e) (Decides-eqb v.0 w.0)
 
--- whether one of two words becomes another word in a reaction
+-- a reaction changes one of two words exactly when it changes one of their tuples
 pub anew_reacts : (net : NetModel) (x y x' y' : Word) → (tuple_of net x', tuple_of net y') ≡ reaction net (tuple_of net x) (tuple_of net y) → IsValid net x → IsValid net y → IsValid net x' → IsValid net y' → not (x'.0 == x.0) || not (y'.0 == y.0) ≡ reacts net (tuple_of net x) (tuple_of net y)
 anew_reacts net x y x' y' e hx hy hx' hy' =
     outer (x'.0 == x.0) (y'.0 == y.0)
@@ -62,7 +62,7 @@ module _ (net : NetModel) (words : List Word) (a b : ℕ) (x y x' y' : Word) (ha
       ∙ ap (λ c. set c b (tuple_of net y')) (map-set (tuple_of net) words a x')
       ∙ sym (ap (λ (z : Tuple × Tuple). set (set (crowd_of net words) a z.0) b z.1) both)
 
-  -- whether one of the two was written anew
+  -- whether one of the two words changed
   pub written_anew : (result : Bool) → result ≡ (not (x'.0 == x.0) || not (y'.0 == y.0)) → IsValid net x → IsValid net y → IsValid net x' → IsValid net y' → result ≡ changes net a b (crowd_of net words)
   written_anew result e1 hx hy hx' hy' =
       e1

@@ -30,7 +30,7 @@ pub record AreWordsOf (crowd result : List Word) : Type 0 where
   pub some : AGENT_LEAST ≤ length result
   pub few : length result ≤ AGENT_LIMIT
 
--- so many agents a crowd has
+-- how many agents a crowd has
 pub record IsSizeOf (crowd : List Word) (result : ℕ) : Type 0 where
   pub count : result ≡ length crowd
   pub some : AGENT_LEAST ≤ result

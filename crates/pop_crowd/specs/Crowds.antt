@@ -6,7 +6,7 @@ use Rattle.pop_crowd.specs.declared.limits.TheConstants.{AGENT_LEAST, AGENT_LIMI
 use Rattle.pop_crowd.specs.declared.fault.CrowdFault.{CrowdFault}
 use Rattle.pop_crowd.specs.declared.fault.CrowdFault.TheVariants as fault
 
--- how many agents the input crowd has, the helpers among them
+-- how many agents the input crowd has, including the helpers
 abbrev pub input_size : NetModel → List ℕ → ℕ
 input_size net counts = sum counts + number_of_helpers net
 

@@ -14,7 +14,7 @@ use Rattle.pop_net.specs.NetModel.{NetModel, Tuple, CrowdModel}
 abbrev pub tuple_cmp : Tuple → Tuple → Ordering
 tuple_cmp = slice_cmp nat_cmp
 
--- the tuples that agents have: each is put at its place in the order, unless it is there
+-- the tuples that agents have: each is put at its place in the order, unless it is already there
 abbrev pub tuples_of : CrowdModel → List Tuple
 tuples_of crowd = fold (insert_key tuple_cmp) [] crowd
 

@@ -11,7 +11,7 @@ use pop_net::{Net, Word};
 use std::alloc::Global;
 use std::marker::Model;
 
-/// A crowd of `AGENT_LEAST` to `AGENT_LIMIT` agents, which contracts see as the list of its words.
+/// A crowd of `AGENT_LEAST` to `AGENT_LIMIT` agents. Contracts see the list of its words.
 #[derive(Drop)]
 pub struct Crowd {
     words: Vec<Word>,
@@ -38,7 +38,7 @@ pub struct Meeting {
     pub changed: bool,
 }
 
-/// Whether one of two words is another than before.
+/// Whether one of two words has changed.
 pub fn differ(old: (Word, Word), new: (Word, Word)) -> bool
     ensures { result ≡ (not (new.0.0 == old.0.0) || not (new.1.0 == old.1.0)) }
 {
@@ -78,7 +78,7 @@ impl Crowd {
         }
     }
 
-    /// The words, to own. It allocates nothing.
+    /// The words, owned. It allocates nothing.
     pub fn into_words(self) -> List<Word>
         ensures { AreWordsOf self result }
     {
@@ -101,7 +101,7 @@ impl Crowd {
         self.words[agent as usize]
     }
 
-    /// Two agents react, and all others stay. The answer says whether a word changed.
+    /// Two agents react, and all others stay. Returns whether a word changed.
     pub fn meet(&mut self, net: &Net, a: u32, b: u32) -> bool
         requires different { a ≢ b }
         requires a_in { a < length self.old }
@@ -117,8 +117,8 @@ impl Crowd {
         differ((x, y), (first, second))
     }
 
-    /// Makes meetings one after the other. What they say of changes is ignored.
-    /// The answer is the number of meetings that changed a word.
+    /// Makes meetings one after the other, and ignores what they say about changes.
+    /// Returns the number of meetings that changed a word.
     pub fn replay(&mut self, net: &Net, meetings: &[Meeting]) -> u64
         requires meetings { AreMeetings (length self.old) meetings.now }
         requires valid { AreValid net.now self.old }
@@ -133,7 +133,7 @@ impl Crowd {
         changed
     }
 
-    /// A crowd that is equal.
+    /// An equal crowd.
     pub fn copy(&self, alloc: Global) -> Result<Crowd, NoMemory>
         ensures { IfOk result (λ crowd. crowd ≡ self.now) }
     {

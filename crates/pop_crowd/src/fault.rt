@@ -5,7 +5,7 @@ ghost use Rattle.pop_crowd.specs.declared.fault.CrowdFault.TheVariants.{NoMemory
 
 use pop_io::NoMemory;
 
-/// Fewer agents than `AGENT_LEAST` or more than `AGENT_LIMIT` are no crowd.
+/// There are fewer agents than `AGENT_LEAST` or more than `AGENT_LIMIT`, or memory ran out.
 #[derive(Clone, Copy, PartialEq, Eq)]
 pub enum CrowdFault {
     /// The sum of the counts and the number of helpers.

@@ -1,4 +1,4 @@
-//! How many agents a crowd has that is run.
+//! How many agents a crowd may have.
 
 /// The fewest agents of a crowd.
 pub const AGENT_LEAST: u32 = 2;

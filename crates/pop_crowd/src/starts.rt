@@ -11,7 +11,7 @@ use pop_io::{NoMemory, VARIABLE_LIMIT};
 use pop_net::{Net, Word};
 use std::alloc::Global;
 
-/// How many agents the counts and the helpers are.
+/// How many agents the counts and the helpers make.
 pub(crate) fn size(net: &Net, counts: &[u64]) -> u128
     requires { length counts.now ≤ VARIABLE_LIMIT }
     ensures { result ≡ input_size net.now counts.now }
@@ -19,7 +19,7 @@ pub(crate) fn size(net: &Net, counts: &[u64]) -> u128
     total(counts) + u128::from(net.helper_count())
 }
 
-/// There are few enough counts for the sum to fit.
+/// The sum of the counts, which are few enough for it to fit.
 fn total(counts: &[u64]) -> u128
     requires { length counts.now ≤ VARIABLE_LIMIT }
     ensures sum { result ≡ sum counts.now }
@@ -67,7 +67,7 @@ fn push_words(words: &mut Vec<Word>, word: Word, count: u64) -> Result<(), NoMem
     Ok(())
 }
 
-/// The words of the helpers, behind those that stand there.
+/// Adds the words of the helpers after the others.
 fn push_helpers(words: &mut Vec<Word>, net: &Net) -> Result<(), NoMemory>
     requires { AreValid net.now words.old.items }
     ensures helpers { OnOk result (crowd_of net.now words.new.items

@@ -29,7 +29,7 @@ module _ (net : NetModel) (crowd : CrowdModel) (tuples : All (IsTuple net) crowd
       let s = still net x y r in
       quiet_leaves net.leaves x y (All-slice_get (IsTuple net) crowd a x tuples ha) (All-slice_get (IsTuple net) crowd b y tuples hb) s.0 s.1
 
-  -- where no pair can change, the crowd is terminal
+  -- if no pair can change, the crowd is terminal
   pub terminal_without : NoPair net crowd → IsTerminal (Step net) crowd
   terminal_without none e s =
       let stay = quiet_change net s.x s.y s.x' s.y' (All-slice_get (IsTuple net) crowd s.a s.x tuples s.a_had) (All-slice_get (IsTuple net) crowd s.b s.y tuples s.b_had) (quiet (cases_order s.a s.b)) s.change in

@@ -35,7 +35,7 @@ pairs_below n (t ∷ moves) h = go (silent_move t) (pairs_below n moves (All-tai
     go true rest = rest
     go false rest = All-cons (λ (z : ℕ × ℕ). (z.0 < n) × (z.1 < n)) (t.p, t.q) (pairs_of_moves moves) (here.0, here.1) rest
 
--- the pair of a move that is not silent is there
+-- the pair of a non-silent move is listed
 pub in_pairs : (moves : List Move) (i : ℕ) (t : Move) → slice_get moves i ≡ Some t → silent_move t ≡ false → (j : ℕ) × (slice_get (pairs_of_moves moves) j ≡ Some (t.p, t.q))
 in_pairs [] i t h e = cc
 in_pairs (u ∷ moves) zero t h e =

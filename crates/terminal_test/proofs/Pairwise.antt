@@ -15,7 +15,7 @@ use Rattle.pop_net.proofs.Quiet.{leaf_quiet, leaves_quiet}
 use Rattle.pop_crowd.specs.Replay.{reacts}
 use Rattle.list_laws.proofs.Lists.{heads, tails}
 
--- the reaction of two tuples leaves both as they are
+-- the reaction of two tuples leaves both unchanged
 pub still : (net : NetModel) (x y : Tuple) → reacts net x y ≡ false → ((reaction net x y).0 ≡ x) × ((reaction net x y).1 ≡ y)
 still net x y e =
     let both = and_parts (pointwise nat_eq (reaction net x y).0 x) (pointwise nat_eq (reaction net x y).1 y) (not-false _ e) in
@@ -47,7 +47,7 @@ quiet_leaf leaf x y (Some t) e h k =
     let silent = after_itself t x y ((x == t.p) && (y == t.q)) refl parts.1 h k in
     absurd (false≢true (sym (not-true _ parts.0) ∙ silent))
 
--- where a reaction changes nothing, no leaf has a move for the two tuples
+-- if a reaction changes nothing, no leaf has a move for the two tuples
 pub quiet_leaves : (leaves : List LeafModel) (x y : Tuple) → length x ≡ length leaves → length y ≡ length leaves → map (λ z. z.0) (reactions leaves x y) ≡ x → map (λ z. z.1) (reactions leaves x y) ≡ y → leaves_quiet leaves x y ≡ true
 quiet_leaves [] x y hx hy e f = refl
 quiet_leaves (leaf ∷ leaves) [] y hx hy e f = refl

@@ -1,4 +1,4 @@
--- Where no state of a tuple is marked, its agent changes with no other.
+-- If no state of a tuple is marked, its agent changes with no other.
 use Rattle.std.proofs.Common.{◌≡◌, ◌≢◌, ◌⊎◌, inl, inr, ℕ, suc, pred, ◌+◌, ◌<◌, ◌≤◌, Bool, true, false, not, ◌&&◌, List, [], ◌∷◌, ◌++◌, length, map, get_or, set, refl, ap, sym, subst, ◌∙◌, arith}
 use Rattle.std.specs.Prelude.{Option, Some, None, All, if◌then◌else◌, ◌==◌, nat_le, find, is_none, slice_get, slice_set}
 use Rattle.std.proofs.lemmas.Bool.{false≢true, and_parts, and_from, not-true, cases_eq, cases_order, le-leb}
@@ -132,7 +132,7 @@ are_held seen p q one other two = go (eqb_tells p q)
         ap (λ b. if b then nat_le 2 (get_or seen p 0) else (nat_le 1 (get_or seen p 0) && nat_le 1 (get_or seen q 0))) ne.0
         ∙ and_from _ _ (le-leb 1 (get_or seen p 0) one) (le-leb 1 (get_or seen q 0) other)
 
--- what moves two states of a leaf
+-- a move for two states that react
 mover : (leaf : LeafModel) (x y : ℕ) → leaf_quiet leaf x y ≡ false → (i : ℕ) × (t : Move) × (slice_get leaf.moves i ≡ Some t) × (silent_move t ≡ false) × (same_pair x y t.p t.q ≡ true)
 mover leaf x y loud = go (find (takes_states x y) leaf.moves) refl
   where
@@ -168,7 +168,7 @@ module _ (leaf : LeafModel) (states seen : List ℕ) (marks : List Bool) (n : �
           let met : are_held_by seen t.p t.q ≡ true = rw (← e.0, ← e.1) (are_held seen y x (there b y hb) (there a x ha) (λ same. both b a y (λ e. ne (sym e)) hb (ha ∙ ap Some (sym same)))) in
           ap (slice_get marks) e.0 ∙ marked.second at.0 t.p t.q (slice_get_within (pairs_of_moves leaf.moves) at.0 (t.p, t.q) at.1) at.1 met
 
--- where no leaf has a move for two tuples, a reaction changes nothing
+-- if no leaf has a move for two tuples, a reaction changes nothing
 reactions_quiet : (leaves : List LeafModel) (x y : Tuple) → length x ≡ length leaves → length y ≡ length leaves → leaves_quiet leaves x y ≡ true → (map (λ z. z.0) (reactions leaves x y) ≡ x) × (map (λ z. z.1) (reactions leaves x y) ≡ y)
 reactions_quiet [] [] [] hx hy q = (refl, refl)
 reactions_quiet [] (p ∷ x) y hx hy q = cc
@@ -193,7 +193,7 @@ quiet_each (leaf ∷ leaves) [] y h = refl
 quiet_each (leaf ∷ leaves) (p ∷ x) [] h = refl
 quiet_each (leaf ∷ leaves) (p ∷ x) (q ∷ y) h = and_from _ _ (h 0 leaf refl) (quiet_each leaves x y (λ i l e. h (suc i) l e))
 
--- an agent in a tuple of which no state is marked changes with no other
+-- an agent none of whose states is marked changes with no other
 pub calm_agent : (net : NetModel) (crowd : CrowdModel) (marks : List (List Bool)) (a b : ℕ) (x y : Tuple) → All (IsTuple net) crowd → AreRestless net crowd marks → a ≢ b → slice_get crowd a ≡ Some x → slice_get crowd b ≡ Some y → IsCalm marks x → reacts net x y ≡ false
 calm_agent net crowd marks a b x y tuples restless ne ha hb calm =
     let hx = All-slice_get (IsTuple net) crowd a x tuples ha in
@@ -249,7 +249,7 @@ calm_below net words marks a x ha restless calm d l m =
     ∙ calm_agent net (crowd_of net words) marks a d (tuple_of net x) (tuple_of net (get_or words d x)) (crowd_tuples net words) restless (λ same. absurd (omega (arith, l, same)))
     (tuple_at net words a x ha) (tuple_at net words d (get_or words d x) hd) calm
 
--- what stands in a mapped list
+-- an item of a mapped list
 pub pairs_here : (net : NetModel) (loud : List (List (ℕ × ℕ))) (i : ℕ) (r : List (ℕ × ℕ)) → loud ≡ map (λ (leaf : LeafModel). pairs_of_moves leaf.moves) net.leaves → r ≡ get_or loud i r → (leaf : LeafModel) → slice_get net.leaves i ≡ Some leaf → r ≡ pairs_of_moves leaf.moves
 pairs_here net loud i r e is leaf h =
     is ∙ ap (λ xs. get_or xs i r) e

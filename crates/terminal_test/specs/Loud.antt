@@ -3,7 +3,7 @@ use Rattle.std.specs.Prelude.{ℕ, ◌<◌, if◌then◌else◌, List, [], ◌�
 use Rattle.pop_net.specs.declared.leaf.Move.{Move}
 use Rattle.pop_net.specs.LeafModel.{silent_move}
 
--- the two states of each move that is not silent
+-- the two states of each non-silent move
 abbrev pub pairs_of_moves : List Move → List (ℕ × ℕ)
 pairs_of_moves [] = []
 pairs_of_moves (t ∷ moves) = if silent_move t then pairs_of_moves moves else (t.p, t.q) ∷ pairs_of_moves moves

@@ -4,7 +4,7 @@ use Rattle.pop_net.specs.NetModel.{NetModel, CrowdModel}
 use Rattle.pop_net.specs.Step.{Step}
 use Rattle.pop_crowd.specs.Replay.{changes}
 
--- the agents a and b, of which a is the lower one, change when they meet
+-- the agents a and b, a being the lower one, change when they meet
 pub record IsEnabled (net : NetModel) (crowd : CrowdModel) (a b : ℕ) : Type 0 where
   pub lower : a < b
   pub within : b < length crowd
@@ -19,7 +19,7 @@ pub record IsLeastPair (net : NetModel) (crowd : CrowdModel) (a b : ℕ) : Type 
 abbrev pub MovesOn : NetModel → CrowdModel → Type 0
 MovesOn net crowd = (next : CrowdModel) × Step net crowd next × (next ≢ crowd)
 
--- the first agent after a that changes when it meets a, where there is one
+-- the first agent after a that changes when it meets a, if there is one
 abbrev pub IsPartner : NetModel → CrowdModel → ℕ → Option ℕ → Type 0
 IsPartner net crowd a None = (b : ℕ) → a < b → b < length crowd → changes net a b crowd ≡ false
 IsPartner net crowd a (Some b) =

@@ -1,4 +1,4 @@
--- Restless: the states in which an agent may change, by what a crowd has.
+-- Restless: the states in which an agent may change, given the crowd's states.
 use Rattle.std.specs.Prelude.{◌≡◌, ◌≢◌, ℕ, ◌<◌, ◌≤◌, Bool, true, false, ◌&&◌, ◌==◌, nat_le, if◌then◌else◌, List, length}
 use Rattle.std.specs.Prelude.{Some, slice_get, slice_index_or}
 use Rattle.pop_net.specs.LeafModel.{LeafModel}
@@ -6,7 +6,7 @@ use Rattle.pop_net.specs.NetModel.{NetModel, Tuple, CrowdModel, state_of}
 use Rattle.pop_net.proofs.Projection.{component}
 use Rattle.pop_net.proofs.Quiet.{leaf_quiet}
 
--- the entry of a state is at least how many of the first n agents stand in it, counted up to two
+-- the entry of a state is at least how many of the first n agents are in it, counted up to two
 pub record CountsTo (states seen : List ℕ) (n : ℕ) : Type 0 where
   pub once : (a x : ℕ) → a < n → slice_get states a ≡ Some x → 1 ≤ slice_index_or seen x 0
   pub twice : (a b x : ℕ) → a < b → b < n → slice_get states a ≡ Some x → slice_get states b ≡ Some x
@@ -16,14 +16,14 @@ pub record AreSeen (net : NetModel) (i : ℕ) (crowd : CrowdModel) (seen : List 
   pub size : (leaf : LeafModel) → slice_get net.leaves i ≡ Some leaf → length seen ≡ length leaf.states
   pub counted : CountsTo (component i crowd) seen (length crowd)
 
--- whether two different agents stand in these states
+-- whether two different agents are in these states
 abbrev pub are_held_by : List ℕ → ℕ → ℕ → Bool
 are_held_by seen p q =
     if p == q
     then nat_le 2 (slice_index_or seen p 0)
     else (nat_le 1 (slice_index_or seen p 0) && nat_le 1 (slice_index_or seen q 0))
 
--- the states of the first k pairs are marked where they can meet
+-- the states of the first k pairs are marked if they can meet
 pub record AreMarkedTo (pairs : List (ℕ × ℕ)) (seen : List ℕ) (marks : List Bool) (k : ℕ) : Type 0 where
   pub size : length marks ≡ length seen
   pub first : (j p q : ℕ) → j < k → slice_get pairs j ≡ Some (p, q) → are_held_by seen p q ≡ true
@@ -40,7 +40,7 @@ pub record IsMarked (leaf : LeafModel) (states : List ℕ) (marks : List Bool) :
   pub marked : (a b x y : ℕ) → a ≢ b → slice_get states a ≡ Some x → slice_get states b ≡ Some y
       → leaf_quiet leaf x y ≡ false → slice_get marks x ≡ Some true
 
--- what holds of the leaf with this number
+-- what holds for the leaf with this number
 abbrev pub IsLeafOf : NetModel → ℕ → (LeafModel → Type 0) → Type 0
 IsLeafOf net i P = (leaf : LeafModel) → slice_get net.leaves i ≡ Some leaf → P leaf
 

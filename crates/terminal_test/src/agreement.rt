@@ -7,7 +7,7 @@ ghost use Rattle.terminal_test.specs.Agreement.{AllOutput, OutputsDiffer};
 use pop_crowd::Crowd;
 use pop_net::Net;
 
-/// The output of every agent, where they have one. It allocates nothing.
+/// The output of every agent, if all agree. It allocates nothing.
 pub fn agreed(net: &Net, crowd: &Crowd) -> Option<bool>
     requires { AreValid net.now crowd.now }
     ensures { MatchOption result (OutputsDiffer net.now (crowd_of net.now crowd.now))

@@ -13,13 +13,13 @@ use pop_net::Net;
 use std::alloc::Global;
 
 /// `None` exactly when the crowd is terminal, else the pair `(a, b)` with `a < b` whose meeting changes a word,
-/// the least by `a` and then by `b`. Whoever asks for many crowds of one net makes a `PairTable` once.
+/// the least by `a` and then by `b`. For many crowds of one net, make a `PairTable` once.
 pub fn enabled_pair(alloc: Global, net: &Net, crowd: &Crowd) -> Result<Option<(u32, u32)>, NoMemory>
     requires { AreValid net.now crowd.now }
     ensures none { IfOk result (λ found. (found ≡ None) ↔ IsTerminal (Step net.now) (crowd_of net.now crowd.now)) }
     ensures least { IfOk result
         (λ found. IfSome found (λ pair. IsLeastPair net.now (crowd_of net.now crowd.now) pair.0 pair.1)) }
-    // Where a pair is enabled, a step of the model leads to another crowd.
+    // If a pair is enabled, a step of the model leads to another crowd.
     ensures moves { IfOk result (λ found. IfSome found (λ _. MovesOn net.now (crowd_of net.now crowd.now))) }
 {
     let table = PairTable::new(alloc, net)?;

@@ -1,7 +1,6 @@
 //! Whether a crowd is terminal, and the least pair of agents that can change otherwise.
 //! It stands on `pop_crowd`.
-//! The layer above uses: `is_terminal` is exact, and looks first at the pair that was found last;
-//! `enabled_pair` is `None` exactly at terminal crowds, and else the least pair; `agreed` is exact.
+//! The layer above uses: `is_terminal` and `agreed` are exact, and `enabled_pair` is the least pair, if there is one.
 #![tactic(auto)]
 
 mod agreement;

@@ -7,7 +7,7 @@ use pop_io::{List, NoMemory};
 use pop_net::{Leaf, Move};
 use std::alloc::Global;
 
-/// The two states of each move that is not silent.
+/// The two states of each non-silent move.
 pub(crate) fn loud_pairs(alloc: Global, leaf: &Leaf) -> Result<List<(u16, u16)>, NoMemory>
     ensures { IfOk result (λ pairs. pairs ≡ pairs_of_moves leaf.now.moves) }
 {

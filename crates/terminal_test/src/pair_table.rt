@@ -1,4 +1,4 @@
-//! The least pair of agents whose meeting changes a word, in a time that grows with the agents alone.
+//! The least pair of agents whose meeting changes a word, in time linear in the number of agents.
 
 ghost use Rattle.std.specs.Prelude.{◌≡◌, ◌↔◌, map, true, None, IfOk, IfSome};
 ghost use Rattle.pop_net.specs.Lanes.{crowd_of, AreValid};
@@ -15,7 +15,7 @@ use pop_io::{List, NoMemory};
 use pop_net::Net;
 use std::alloc::Global;
 
-/// What reacts in a net, made once and asked for many crowds.
+/// What reacts in a net, made once and used for many crowds.
 #[derive(Drop)]
 pub struct PairTable<'n> {
     pub(crate) net: &'n Net,
@@ -49,7 +49,7 @@ impl<'n> PairTable<'n> {
             (λ found.
             IfSome found (λ pair.
             IsLeastPair (table_net self.now) (crowd_of (table_net self.now) crowd.now) pair.0 pair.1)) }
-        // Where a pair is enabled, a step of the model leads to another crowd.
+        // If a pair is enabled, a step of the model leads to another crowd.
         ensures moves { IfOk result
             (λ found. IfSome found (λ _. MovesOn (table_net self.now) (crowd_of (table_net self.now) crowd.now))) }
     {
@@ -64,8 +64,8 @@ impl<'n> PairTable<'n> {
         Ok(None)
     }
 
-    /// Whether a crowd is terminal. The pair that was found last is looked at first, and the agents are walked over
-    /// only where its meeting changes nothing now: then the pair that is found is kept.
+    /// Whether a crowd is terminal. The pair found last is tested first. Only if its meeting changes nothing now
+    /// are all agents searched; the pair found is kept.
     pub fn is_terminal(
         &self,
         alloc: Global,
@@ -76,7 +76,7 @@ impl<'n> PairTable<'n> {
         ensures terminal { IfOk result
             (λ terminal. (terminal ≡ true)
             ↔ IsTerminal (Step (table_net self.now)) (crowd_of (table_net self.now) crowd.now)) }
-        // The pair that is kept is enabled in this crowd.
+        // The kept pair is enabled in this crowd.
         ensures kept { IfOk result
             (λ _. IfSome last.new
             (λ pair. IsEnabled (table_net self.now) (crowd_of (table_net self.now) crowd.now) pair.0 pair.1)) }

@@ -1,4 +1,4 @@
-//! The states that can react with what a crowd has.
+//! The states that can react with those of a crowd.
 
 ghost use Rattle.std.specs.Prelude.{◌≡◌, ◌<◌, length, map, IfOk, false};
 ghost use Rattle.pop_net.specs.Lanes.{tuple_of, crowd_of, IsValid, AreValid};
@@ -12,7 +12,7 @@ use pop_io::{List, NoMemory};
 use pop_net::{Net, Word};
 use std::alloc::Global;
 
-/// An agent stands in a state once, or at least twice.
+/// A state is that of one agent, or of at least two.
 const ONCE: u8 = 1;
 
 const TWICE: u8 = 2;
@@ -49,7 +49,7 @@ fn leaf_marks(
     ensures { IfOk result
         (λ marks. IsLeafOf net.now leaf (λ here. IsMarked here (component leaf (crowd_of net.now crowd.now)) marks)) }
 {
-    // The pairs are of moves of this leaf, which are in its range.
+    // Makes known that the pairs, of this leaf's moves, are in its range.
     let _formed = net.leaf(leaf).state_count();
     let seen = seen_states(alloc, net, crowd, leaf)?;
     let marks = marked_states(alloc, pairs, seen.as_slice())?;
@@ -71,7 +71,7 @@ pub(crate) fn is_restless(net: &Net, restless: &[List<bool>], word: Word) -> boo
     false
 }
 
-/// How many agents stand in each state of a leaf, counted up to two.
+/// How many agents are in each state of a leaf, counted up to two.
 fn seen_states(alloc: Global, net: &Net, crowd: &Crowd, leaf: u8) -> Result<Vec<u8>, NoMemory>
     requires leaf_in { leaf < length net.now.leaves }
     requires valid { AreValid net.now crowd.now }
@@ -101,7 +101,7 @@ fn marked_states(alloc: Global, pairs: &[(u16, u16)], seen: &[u8]) -> Result<Lis
     Ok(List::from_vec(marks))
 }
 
-/// Whether two different agents stand in these states.
+/// Whether two different agents are in these states.
 fn are_held(seen: &[u8], p: u16, q: u16) -> bool
     requires p_in { p < length seen.now }
     requires q_in { q < length seen.now }

@@ -13,7 +13,7 @@ returns-then-are_enabled-clause-terminal c =
       λ t. absurd (not_terminal net (crowd_of net c.args.crowd.now) (crowd_tuples net c.args.crowd.now) c.in-Some.a c.in-Some.b (c.are_enabled.ensures.0 c.if-are_enabled.true) t),
     )
 
--- whether there is none, where none says what is asked
+-- whether none was found, given what that means
 none_says : {P : Type 0} (found : Option (ℕ × ℕ)) (none : Bool) → is_some found ≡ not none → (found ≡ None) ↔ P → (none ≡ true) ↔ P
 none_says None true e says = (λ _. says.0 refl, λ _. refl)
 none_says None false e says = cc
