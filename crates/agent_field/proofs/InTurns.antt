@@ -24,7 +24,7 @@ module _ (k : Setup) where
   pub lock_is_no_agent : (s a : ℕ) → s < k.shards → a < agents_opened k → lock_at k s ≢ agent_at k a
   lock_is_no_agent s a inside in_range same = omega arith
 
-  -- the clock and the founder word stand before them
+  -- the clock and the founder word come before them
   pub lock_behind : (i s : ℕ) → i < HEAD_WORDS → i ≢ lock_at k s
   lock_behind i s h same = omega arith
 

@@ -11,6 +11,6 @@ pub record DrawLaws : Type 0 where
   pub third_known : (k : Setup) (v : View) (a b c ticket : ℕ) (x y x' y' z : Word) → MayDraw k v a b x y x' y' → c ≢ a
       → c ≢ b
       → MayDraw k (knowing c z v) a b x y x' y' × In (c, z) (meeting_made ticket a b x y x' y' (knowing c z v)).known
-  -- no draw is allowed while a third agent's shard is held, unless it is a shard of the pair
+  -- no draw is allowed while a third agent's shard is held that isn't a shard of the pair
   pub third_held : (k : Setup) (v : View) (a b c : ℕ) (x y x' y' : Word) → In (shard_of k c) v.held
       → shard_of k c ≢ shard_of k a → shard_of k c ≢ shard_of k b → MayDraw k v a b x y x' y' → ⊥

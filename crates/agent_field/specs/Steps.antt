@@ -130,7 +130,7 @@ pub record HasSeenAll (k : Setup) (v : View) (words : List Word) : Type 0 where
 abbrev pub Founds : Step (Unit {0}) → Mine → ℕ → Mine → Type 0
 Founds st m r m' = (r ≡ 0) × (m' ≡ (first_seat m.0.setup, m.1))
 
--- a lock is tried, where that is allowed
+-- a lock is tried, when that is allowed
 abbrev pub Locks : Step (Unit {0}) → Mine → ℕ → Mine → Type 0
 Locks st m r m' =
     ((s : ℕ) → st.word ≡ lock_at m.0.setup s → r ≡ 0 → m' ≡ (holding s m.0, m.1))
@@ -138,20 +138,20 @@ Locks st m r m' =
     × ((s : ℕ) × (st.word ≡ lock_at m.0.setup s) × (st.first ≡ 0) × (st.second ≡ m.0.number + 1)
     × CanLock m.0.setup m.0 s)
 
--- a lock is given back, where that is allowed
+-- a lock is given back, when that is allowed
 abbrev pub Unlocks : Step (Unit {0}) → Mine → ℕ → Mine → Type 0
 Unlocks st m r m' =
     (m' ≡ (releasing m.0, m.1))
     × ((s : ℕ) × (st.word ≡ lock_at m.0.setup s) × (st.first ≡ 0) × CanUnlock m.0 s)
 
--- a word is read, where that is allowed
+-- a word is read, when that is allowed
 abbrev pub Reads : Step (Unit {0}) → Mine → ℕ → Mine → Type 0
 Reads st m r m' =
     ((a : ℕ) → st.word ≡ agent_at m.0.setup a → m' ≡ (knowing a (packed r) m.0, m.1))
     × IsValid m.0.setup.net.value (packed r)
     × ((a : ℕ) × (st.word ≡ agent_at m.0.setup a) × CanRead m.0.setup m.0 a)
 
--- the pair whose words were read meets, where that is allowed, and its new words are due
+-- the pair whose words were read meets, when that is allowed, and its new words are due
 pub record HasDrawn (ticket : ℕ) (m m' : Mine) : Type 0 where
   pub a : ℕ
   pub b : ℕ

@@ -1,5 +1,5 @@
 //! Where the words of a field stand in its table. After the clock and the founder word, the locks of the shards and
-//! the words of the agents take turns: with as many shards as agents, each lock stands before its agent's word.
+//! the words of the agents take turns: with as many shards as agents, each lock comes before its agent's word.
 
 ghost use Rattle.std.specs.Prelude.{◌≡◌};
 ghost use Rattle.agent_field.specs.Standing.{lock_place, agent_place};
@@ -10,7 +10,7 @@ pub(crate) const CLOCK: usize = 0;
 /// 1 once the field is founded.
 pub(crate) const FOUNDER: usize = 1;
 
-/// How many words stand before those that take turns.
+/// How many words come before those that take turns.
 pub(crate) const HEAD_WORDS: usize = 2;
 
 /// The place of a shard's lock.

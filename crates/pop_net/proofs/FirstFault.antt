@@ -1,4 +1,4 @@
--- Where no rule is broken.
+-- When no rule is broken.
 use Rattle.std.proofs.Common.{◌≡◌, ◌≢◌, ℕ, zero, suc, ◌+◌, ◌<◌, ◌≤◌, Bool, true, false, not, cond, List, [], ◌∷◌, length, take, get_or, ltb, refl, ap, sym, ◌∙◌, arith}
 use Rattle.std.specs.Prelude.{Option, Some, None, find, position, All, Decides}
 use Rattle.std.specs.List.{list_any, range_with_len, position_or_len}

@@ -76,7 +76,7 @@ one_tree (Some []) low one = absurd (omega (arith, one))
 one_tree (Some (d ∷ [])) low one = All-head (λ d. d ≤ 65) d [] ((low_decides (d ∷ [])).0 low)
 one_tree (Some (d ∷ e ∷ operands)) low one = absurd (omega (arith, one))
 
--- all prefixes stand where the whole is a tree
+-- if the whole is a tree, all its prefixes pass `stands`
 front_stands : (leaves : ℕ) (items : List Item) (n : ℕ) → IsTree leaves items → stands leaves (take n items) ≡ true
 front_stands leaves items n t =
     let d = some_and (combined depth_operators items) (λ d. d ≤ 65) t.depth in

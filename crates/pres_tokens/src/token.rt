@@ -17,7 +17,7 @@ pub enum Relation {
     Unequal,
 }
 
-/// What stands at a token's place.
+/// What is at a token's place.
 #[derive(Clone, Copy)]
 pub enum Kind<'a> {
     /// A word other than `mod`, of any length.
@@ -53,6 +53,6 @@ pub enum Kind<'a> {
 pub struct Token<'a> {
     /// The offset.
     pub place: u32,
-    /// What stands there.
+    /// What is there.
     pub kind: Kind<'a>,
 }
