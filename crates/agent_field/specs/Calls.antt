@@ -72,7 +72,7 @@ pub record HasMetOnField (f : Field) (a b : ℕ) (met : Met) (before after : Fie
   pub ours : IsSeatOf f after
   pub logged : log_of after ≡ log_of before ++ logged met.ticket a b met.changed ∷ []
   pub spare : spare_of after + 1 ≡ spare_of before
-  -- the ticket is above all that the seat knew, and whether a tuple changed is correct at its moment
+  -- the ticket is above all that the seat knew, and `changed` is correct at its moment
   pub newest : IsNewestOf met.ticket before
   pub moment : IsMoment f before a b met
   pub rest : KeepsRest before after

@@ -4,7 +4,7 @@ ghost use Rattle.std.specs.Prelude.{◌≡◌, ◌∷◌, [], MatchOption};
 ghost use Rattle.std.specs.Option.{option_copied};
 ghost use Rattle.pop_lines.specs.Lines.{IsCut, lines_of};
 
-/// The piece before the first such byte, and the bytes after it. Allocates nothing.
+/// The piece before the first `byte`, and the bytes after it. Allocates nothing.
 pub fn cut(bytes: &[u8], byte: u8) -> (&[u8], Option<&[u8]>)
     ensures { IsCut byte bytes.now result.0.now (option_copied result.1) }
 {

@@ -7,7 +7,7 @@ ghost use Rattle.pop_lines.specs.Numbers.{printed_number_of, printed_number_of_w
 /// The greatest number of digits that are read.
 pub const DIGIT_LIMIT: usize = 20;
 
-/// The number of any value that 1 to `DIGIT_LIMIT` digits stand for. Leading zeros are accepted, a sign is not.
+/// The number, of any value, that 1 to `DIGIT_LIMIT` digits stand for. Leading zeros are accepted, a sign is not.
 /// Like the other readers of numbers, it allocates nothing.
 pub fn number(text: &[u8]) -> Option<u128>
     ensures { result ≡ number_of text.now }
