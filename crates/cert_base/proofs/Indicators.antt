@@ -31,7 +31,7 @@ dot-zeros count k zero = refl
 dot-zeros count k (suc n) =
     let here = zero-*ℤ (pos (count k)) in let rest = dot-zeros count (k + 1) n in omega (arith, ints, here, rest)
 
--- a row of indicators behind n zeros
+-- a row of indicators after n zeros
 pub row_value-behind : {A : Type 0} (count : Valuation) (test : A → Bool) (n : ℕ) (xs : List A) (constant : ℤ) → row_value count (dense_row (zeros n ++ map (λ x. indicator (test x)) xs) constant) ≡ (pos (sum_if count test n xs) +ℤ constant)
 row_value-behind count test n xs constant =
     let terms = terms_value-terms_from count 0 (zeros n ++ map (λ x. indicator (test x)) xs) in

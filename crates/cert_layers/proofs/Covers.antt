@@ -8,7 +8,7 @@ use Rattle.pop_net.specs.LeafModel.{one_at, times_in_pair, post}
 use Rattle.cert_layers.specs.Waking.{brings_state, brings_two_states}
 use Rattle.pop_net.proofs.Silent.{one_self}
 
--- a state is the same, once, or another, not at all
+-- a state is z and counts once, or is another and doesn't count
 abbrev One : ℕ → ℕ → Type 0
 One x z = ((x ≡ z) × (one_at x z ≡ 1)) ⊎ ((x ≢ z) × (one_at x z ≡ 0))
 

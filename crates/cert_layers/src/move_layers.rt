@@ -40,7 +40,7 @@ fn all_unlisted(alloc: Global, count: u32) -> Result<Vec<Option<u16>>, AllocErro
     Ok(layer_of_move)
 }
 
-/// Enters the moves of a layer, where it has its shape.
+/// Enters the moves of a layer, if it has its shape.
 fn enter_layer(
     layer_of_move: &mut Vec<Option<u16>>,
     states: u16,

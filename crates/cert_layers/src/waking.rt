@@ -50,7 +50,7 @@ fn first_woken(leaf: &Leaf, layer_of_move: &[Option<u16>], table: &PairTable, t:
     woken_in_layer(leaf, layer_of_move, table, layer, taken)
 }
 
-/// The same of a move of a layer.
+/// The same for a move of a layer.
 fn woken_in_layer(
     leaf: &Leaf,
     layer_of_move: &[Option<u16>],
@@ -107,7 +107,7 @@ fn wakes_some(table: &PairTable, layer: u16, taken: Move, states: u16) -> bool
     (0..states).any(|y| wakes_beside(table, layer, taken, y))
 }
 
-/// Whether a move wakes an early move that takes a state that it brings and another one.
+/// Whether a move wakes an early move that takes `y` and a state that the move brings.
 fn wakes_beside(table: &PairTable, layer: u16, taken: Move, y: u16) -> bool
     requires below { IsMoveBelow STATE_LIMIT taken }
     requires y_in { y < STATE_LIMIT }

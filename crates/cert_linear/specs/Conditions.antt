@@ -1,4 +1,4 @@
--- What is asked of facts, and of the terms that name them.
+-- What is required of facts, and of the terms that name them.
 use Rattle.std.specs.Prelude.{◌≡◌, ℕ, ◌<◌, ◌≤◌, Bool, List, nat_abs, length, All, AllPairs, IsTrue}
 use Rattle.cert_base.specs.declared.limits.TheConstants.{SIZE_LIMIT, TERM_LIMIT}
 use Rattle.cert_base.specs.declared.fact.Term.{Term}
