@@ -1,4 +1,4 @@
-//! The kinds of nodes, and the words that nodes of them begin with.
+//! The kinds of nodes, and the words that begin them.
 
 ghost use Rattle.std.specs.Prelude.{◌≡◌};
 

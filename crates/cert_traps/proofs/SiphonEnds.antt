@@ -52,7 +52,7 @@ module _ (leaf : LeafModel) (set : List ℕ) (before after : List ℕ) (s : Leaf
   y_outside : is_in set s.y ≡ false
   y_outside = All-slice_get (λ (q : ℕ). is_in set q ≡ false) before s.b s.y none s.b_had
 
-  -- where the two agents go to no state of the set, nobody is in it
+  -- if neither agent goes into the set, nobody is in it
   nobody_after : (is_in set s.x' ≡ false) × (is_in set s.y' ≡ false) → NoneInside set after
   nobody_after e =
       subst (λ (c : List ℕ). NoneInside set c) (sym s.others_stay)
@@ -67,7 +67,7 @@ module _ (leaf : LeafModel) (set : List ℕ) (before after : List ℕ) (s : Leaf
       let puts = takes_none (puts_into set m.taken) (takes_from set m.taken) stays takes in
       (nobody_after (both_outside set m.taken s.x s.y s.x' s.y' m.followed puts), others_untaken leaf (takes_from set) m.number m.taken m.listed takes)
 
--- the same over a whole way
+-- the same over a whole path
 way_on : (leaf : LeafModel) (set : List ℕ) (start : List ℕ) (path : List (List ℕ)) (end : List ℕ) (way : Leads (LeafStep leaf) start path end) → NoneInside set start → ((n : ℕ) (t : Move) → slice_get leaf.moves n ≡ Some t → enters_set set t ≡ true → times_taken leaf n start path end way ≡ 0) → NoneInside set end × ((n : ℕ) (t : Move) → slice_get leaf.moves n ≡ Some t → takes_from set t ≡ true → times_taken leaf n start path end way ≡ 0)
 way_on leaf set start [] end way none enters = (subst (λ (c : List ℕ). NoneInside set c) (sym way) none, λ n t h e. refl)
 way_on leaf set start (next ∷ path) end way none enters =
@@ -88,7 +88,7 @@ starts_outside set start k (n ∷ counts) f =
     copies n true e g =
         subst (λ (m : ℕ). All (λ q. is_in set q ≡ false) (replicate m (start k))) (sym (g e)) (All-nil (λ (q : ℕ). is_in set q ≡ false))
 
--- where none is counted that passes a test, all fail it
+-- if no items that pass a test are counted, all fail it
 none_pass : {A : Type 0} (test : A → Bool) (xs : List A) → count_by test xs ≡ 0 → All (λ x. test x ≡ false) xs
 none_pass test [] e = All-nil (λ x. test x ≡ false)
 none_pass {A} test (x ∷ xs) e =

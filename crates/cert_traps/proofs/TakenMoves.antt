@@ -30,7 +30,7 @@ module _ (leaf : LeafModel) (test : Move → Bool) (number : ℕ) (taken : Move)
           let once : one_at number number ≡ 1 = rw (eq-eqb number number refl) refl in
           absurd (omega (arith, zero_times, once))
 
-  -- and the other way round
+  -- and conversely
   pub others_untaken : test taken ≡ false → (n : ℕ) (t : Move) → slice_get leaf.moves n ≡ Some t → test t ≡ true → one_at number n ≡ 0
   others_untaken fails n t h e = go (eqb_tells number n)
     where

@@ -84,7 +84,7 @@ unrefused-closes leaf (node ∷ nodes) (at ∷ waiting) number few e =
 
 -- ---- where the nodes close, no node is refused
 
--- what comes first is what comes first in the rest
+-- the same node is refused first, whether one starts here or at the rest
 abbrev Same : LeafModel → List Waiting → List Node → List Waiting → List Node → Type 0
 Same leaf before nodes after rest = (number : ℕ) → (later : ℕ) × (first_from leaf before number nodes ≡ first_from leaf after later rest)
 
