@@ -35,7 +35,7 @@ use Rattle.pop_checker.proofs.Verdicts.{right_by}
 
 -- ---- facts of predicates within the limits
 
--- where a fact speaks of a predicate, the predicate has coefficients for its variables alone
+-- a predicate of which a fact speaks has coefficients for its own variables alone
 abbrev IsFormed : Fact → Type 0
 IsFormed (Ge row) = Unit {0}
 IsFormed (Eq row) = Unit {0}
