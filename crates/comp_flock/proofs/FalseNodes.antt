@@ -228,7 +228,7 @@ module _ (coefs : List ℤ) (k : ℕ) (some : 1 ≤ k) (are : list_all is_flock_
       subst (λ ms. closes_by_sum (all_facts leaf pred false coefs (neg_ℤ (flock_bound k)) start_facts) (terms_from 0 ms) ≡ true) (no_flows (pos 0) (pos 1 ∷ []))
       (mix_closes leaf pred false coefs (neg_ℤ (flock_bound k)) start_facts (λ q. pos 0) (pos 0) (pos 0) (pos 1 ∷ []) plain refl refl refl start_low)
 
-  -- ---- 2^k never came
+  -- ---- 2^k never occurred
 
   abbrev not_taken : List Fact
   not_taken = no_moves leaf (takes_from (full k))
