@@ -19,7 +19,7 @@ use pres_ast::Pred;
 use std::alloc::Global;
 use tool_texts::{Ending, Output, Refusal, Stop, just_two_lines};
 
-/// The names and the predicate that an input tells.
+/// The names and the predicate that an input gives.
 #[tactic(auto, unfolding(crate::specs::Compile::asked_by))]
 fn asked(alloc: Global, input: &[u8]) -> Result<(List<Text>, Pred), Stop>
     ensures asked { GivesStep (λ asked. asked) result (asked_by (lines_of input.now)) }

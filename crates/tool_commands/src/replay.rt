@@ -21,7 +21,7 @@ use pop_words::RunKind;
 use std::alloc::Global;
 use tool_texts::{Ending, Output, Refusal, Stop, two_and_some_lines};
 
-/// The number of the line in which the journal begins, behind the bundle and the crowd line.
+/// The number of the line in which the journal begins, after the bundle and the crowd line.
 pub const JOURNAL_LINE: u64 = 3;
 
 /// What is said of a journal that holds, with its number of meetings.
@@ -40,7 +40,7 @@ fn differs(alloc: Global, line: u64, kept: &[u8], found: &[u8]) -> Result<Output
     Ok(Output::of_difference(alloc, line, kept, found)?)
 }
 
-/// The journal of a run of this kind that a text tells, for so many agents.
+/// The journal of a run of this kind that a text gives, for this many agents.
 fn journal_of(alloc: Global, kind: RunKind, text: &[u8], agents: u32) -> Result<Journal, Stop>
     ensures read { GivesStep (λ journal. journal) result
         (journal_read kind (journal_in kind agents JOURNAL_LINE (lines_of text.now))) }
