@@ -17,7 +17,7 @@ fn wide_leaf(alloc: Global) -> Option<Leaf> {
     net.leaf(0).copy(alloc).ok()
 }
 
-/// A leaf of two states with so many helpers, or a wide one.
+/// A leaf of two states with this many helpers, or a wide one.
 fn leaf(alloc: Global, kind: u8) -> Option<Leaf> {
     if kind == b'w' {
         return wide_leaf(alloc);
@@ -139,7 +139,7 @@ fn a_helper_of_a_net(rt: HostRuntime) {
     assert!(rt; helpers(rt.alloc()) == Some((1, Word(0))));
 }
 
-/// The words of the two variables, and what they become where the second meets the first.
+/// The words of the two variables, and what they become when the second meets the first.
 fn words(net: &Net) -> [Word; 4]
     requires { length net.now.variables ≡ 2 }
 {

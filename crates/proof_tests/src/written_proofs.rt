@@ -31,7 +31,7 @@ fn wanted(alloc: Global) -> Option<String> {
     ).ok()
 }
 
-/// A bundle whose one leaf has this proof, with its members in another order than they are written.
+/// A bundle whose one leaf has this proof, with its members in another order than the written one.
 fn first_text(alloc: Global) -> Option<String> {
     format!(in alloc;
         "{{\"proof\":[{{\"pred\":\"-x < 0\",\"layers\":{LAYERS},\"true\":{NODES},\"false\":[]}}]}}"
@@ -87,13 +87,13 @@ fn a_proof_is_read_over_a_net(rt: HostRuntime) {
     assert!(rt; is_written(rt.alloc(), false) == Some(true));
 }
 
-/// What no proof at all is refused for.
+/// The fault of a value without a proof.
 fn fault(alloc: Global) -> Option<FormatFault> {
     let net = net(alloc)?;
     read_proof(alloc, &Value::Null, &net).err()
 }
 
-/// Whether that is told at its member.
+/// Whether it is reported at the proof's member.
 fn lacks_a_proof(alloc: Global) -> Option<bool> {
     match fault(alloc)? {
         FormatFault::Broken { path, why: _ } => Some(path.as_str() == "/proof"),

@@ -1,4 +1,4 @@
-//! The journal of a run whose agents disagree in the end. No command tells one, since each checks its net first.
+//! The journal of a run whose agents disagree in the end. No command writes one, since each checks its net first.
 
 ghost use Rattle.std.specs.Prelude.{◌≡◌, length, IfSome};
 
