@@ -34,7 +34,7 @@ pub record IsReadable (n : ℕ) (d : Data) : Type 0 where
   pub utf8 : IsUtf8 (compact_text d)
   pub unbroken : IsUnbroken (compact_text d)
 
--- the value of what was read, where nothing is left
+-- the value of what was read, if nothing is left
 abbrev whole : Option (json.Json × List Token) → Option Data
 whole found = option_and_then of_json (option_and_then (λ p. json.if_last p.0 p.1) found)
 

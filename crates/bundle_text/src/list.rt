@@ -41,7 +41,6 @@ fn push_comma(out: &mut Vec<u8>, later: bool) -> Result<(), AllocError>
     Ok(())
 }
 
-/// Adds the text of a list.
 pub(crate) fn write_list<L: WriteItems>(
     alloc: Global,
     out: &mut Vec<u8>,

@@ -144,7 +144,6 @@ fn push_numbered(out: &mut Vec<u8>, begin: &[u8], number: u64) -> Result<(), All
     Ok(())
 }
 
-/// Adds a node.
 fn write_node(alloc: Global, out: &mut Vec<u8>, node: &Node) -> Result<(), NoMemory>
     ensures { OnOk result (out.new.items ≡ out.old.items ++ compact_text (node_data node.now)) }
 {

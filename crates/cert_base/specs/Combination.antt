@@ -27,7 +27,7 @@ pub record BeginsAt (parts : List LeafProof) (items : List Item) (end : ℕ) (tr
   pub same : (rest : List PredTree)
       → (open_after parts items end ≡ Some (tree ∷ rest)) ↔ (open_after parts items k ≡ Some rest)
 
--- where the tree begins with which the items before `end` end; None if they end with another one
+-- where the tree begins, if the items before `end` end with it; None if they end with another one
 abbrev pub IsBegin : List LeafProof → List Item → ℕ → PredTree → Option ℕ → Type 0
 IsBegin parts items end tree None = (rest : List PredTree) → open_after parts items end ≢ Some (tree ∷ rest)
 IsBegin parts items end tree (Some k) = BeginsAt parts items end tree k

@@ -1,4 +1,4 @@
--- FlowLaw: what the flow facts add up to, where each state has a value.
+-- FlowLaw: what the flow facts add up to when each state has a value.
 use Rattle.std.specs.Prelude.{◌≡◌, ℕ, ◌<◌, ◌≤◌, Bool, ℤ, pos, neg_ℤ, ◌+ℤ◌, ◌-ℤ◌, ◌*ℤ◌, length, map, Some, slice_get}
 use Rattle.pres_ast.specs.PredModel.{PredModel}
 use Rattle.pop_net.specs.declared.leaf.Move.{Move}

@@ -2,7 +2,6 @@
 
 ghost use Rattle.std.specs.Prelude.{◌≡◌};
 
-/// The kind of a node.
 #[derive(Clone, Copy)]
 pub(crate) enum NodeKind {
     Linear,

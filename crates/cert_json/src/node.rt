@@ -94,7 +94,6 @@ fn after_word(
     }
 }
 
-/// Nodes.
 #[derive(Clone, Copy)]
 struct Nodes;
 

@@ -20,7 +20,7 @@ right_false true b is e = e
 right_false false b is e = cc
 
 module _ (early : ℕ → ℕ → Bool) (t : Move) where
-  -- where an early move takes the states of t, nothing is woken
+  -- if an early move takes the states of t, nothing is woken
   wakes_with-early : (m o : ℕ) → early t.p t.q ≡ true → wakes_with_state early t m o ≡ false
   wakes_with-early m o e = rw e refl
 

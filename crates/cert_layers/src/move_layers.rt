@@ -10,7 +10,7 @@ use pop_io::List;
 use pop_net::Leaf;
 use std::alloc::{AllocError, Global};
 
-/// The layer of each move, where one lists it, or the first layer that is out of shape.
+/// The layer of each move, if one lists it, or the first layer that is out of shape.
 pub(crate) fn layers_of_moves(
     alloc: Global,
     leaf: &Leaf,

@@ -51,7 +51,7 @@ const BLANK: Entry = Entry {
 pub(crate) struct Sum {
     entries: Vec<Entry>,
     touched: Vec<u32>,
-    /// What did not fit into the entries, for each variable up to the greatest where something did not.
+    /// What did not fit into the entries, for each variable up to the greatest that has such a rest.
     rests: Vec<i128>,
     constant: i128,
 }
@@ -217,7 +217,6 @@ impl Sum {
         Ok(())
     }
 
-    /// The coefficient of a variable.
     fn coefficient(&self, variable: u32) -> i128
         requires { IsTidy self.now }
         ensures { result ≡ coefficient_of self.now variable }

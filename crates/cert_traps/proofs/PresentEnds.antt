@@ -158,7 +158,7 @@ module _ (leaf : LeafModel) (count : Valuation) (end : List ℕ) (counts : Count
           (All-cons (MeetsFact count) (occurs_fact leaf p) (map (absent_fact leaf) (filter meets (states_of leaf))) (occurs_met leaf count p (omega (arith, some, counts p lp))) (others_met some))
           (alone_if some (can_meet_in leaf p p) refl)))
 
-  -- where the state can meet itself, they meet its one fact
+  -- if the state can meet itself, they meet its one fact
   pub twin_met : can_meet_in leaf p p ≡ true → MeetsOne count ((not_twice leaf p ∷ []) ∷ [])
   twin_met e =
       in_first count (not_twice leaf p ∷ []) []

@@ -64,7 +64,7 @@ module _ (leaf : LeafModel) (set : List ℕ) (before after : List ℕ) (s : Leaf
       ap (λ k. slice_get k c) s.others_stay
       ∙ slice_get-set_other (slice_set before s.a s.x') s.b c s.y' z (λ e. me (sym e)) (slice_get-set_other before s.a c s.x' z (λ e. ne (sym e)) h)
 
-  -- where the two agents weren't in the set, nobody was
+  -- if the two agents weren't in the set, nobody was
   nobody : is_in set s.x ≡ false → is_in set s.y ≡ false → NoneIn set before
   nobody e f c z h = at (eqb_tells c s.a) (eqb_tells c s.b)
     where
@@ -131,7 +131,7 @@ count_by-none test (x ∷ xs) f =
     let all : count_by test (x ∷ xs) ≡ bit (test x) + count_by test xs = sum_by-cons (λ y. bit (test y)) x xs in
     omega (arith, all, here, rest)
 
--- where nobody starts in the set, no helper does
+-- if nobody starts in the set, no helper does
 helps-none : (leaf : LeafModel) (set counts : List ℕ) → NoneIn set (leaf_input_crowd leaf counts) → helpers_among leaf set ≡ 0
 helps-none leaf set counts none =
     let starts = starts_from (λ variable. slice_index leaf.inputs variable) 0 counts in
@@ -147,12 +147,12 @@ module _ (leaf : LeafModel) (set : List ℕ) (count : Valuation) (counts : List 
   abbrev places : ℕ
   places = length leaf.inputs + length leaf.states
 
-  -- where no move left the set, no such move was taken
+  -- if no move left the set, no such move was taken
   not_left : sum_if count (leaves_set set) places leaf.moves ≡ 0 → (n : ℕ) (t : Move) → slice_get leaf.moves n ≡ Some t → leaves_set set t ≡ true → times_taken leaf n (leaf_input_crowd leaf counts) path end way ≡ 0
   not_left e n t h l =
       sym (is.moves n (slice_get_within leaf.moves n t h)) ∙ sum_if-none count (leaves_set set) places leaf.moves e n t h l
 
-  -- where no state of the set is counted, no agent is in the set
+  -- if no state of the set is counted, no agent is in the set
   none_at_end : sum_if count (is_in set) (length leaf.inputs) (states_of leaf) ≡ 0 → NoneIn set end
   none_at_end e a x h = go (is_in set x) refl
     where

@@ -87,7 +87,7 @@ fn presence_of(alloc: Global, leaf: &Leaf, q: u16) -> Result<Fact, NoMemory>
     Ok(Fact::Ge(Row::single(alloc, variable_of_state(leaf, q), 1, -1)?))
 }
 
-/// Adds that the state occurs once, where the flag is set.
+/// Adds that the state occurs once, if the flag is set.
 fn push_alone(
     alloc: Global,
     facts: &mut Vec<Fact>,

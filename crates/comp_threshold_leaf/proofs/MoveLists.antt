@@ -62,7 +62,7 @@ leader_move-below s t p q l m =
 pub not-leader : (s v p : ℕ) (bit : Bool) → p < span_of s → (p == threshold_follower s bit v) ≡ false
 not-leader s v p bit l = let m = follower-above s v bit in ne_eqb p (threshold_follower s bit v) (λ e. omega arith)
 
--- a meeting of two leaders is not silent, and one with a follower is silent where nothing changes
+-- a meeting of two leaders is not silent, and one with a follower is silent if nothing changes
 pub pair-loud : (s t p q : ℕ) → p < span_of s → q < span_of s → silent_move (threshold_leader_move s t p q) ≡ false
 pair-loud s t p q l m =
     let bit = nat_lt (joined_value s p (threshold_place s q)) t in

@@ -47,7 +47,7 @@ joined_value s u v = smaller (s + s) (u + v - s)
 abbrev pub leftover : ℕ → ℕ → ℕ → ℕ
 leftover s u v = u + v - joined_value s u v
 
--- what a leader makes of a state; the bound stands at place t
+-- what a leader and a state become when they meet; the bound is at place t
 abbrev pub threshold_leader_move : (s t p q : ℕ) → Move
 threshold_leader_move s t p q =
     record {

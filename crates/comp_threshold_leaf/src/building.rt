@@ -45,7 +45,7 @@ fn inputs(alloc: Global, s: u16, coefs: &[i64]) -> Result<Vec<u16>, NoMemory>
     Ok(inputs)
 }
 
-/// The leaf, which is well formed.
+/// The leaf, which must be well formed.
 fn built_leaf(alloc: Global, s: u16, t: u16, coefs: &[i64]) -> Result<Leaf, NoMemory>
     requires narrow { s ≤ WIDTH_LIMIT }
     requires within { All (λ a. nat_abs a ≤ s) coefs.now }

@@ -9,7 +9,7 @@ use sample_nets::{leaf_of, majority, net_of, step};
 use std::alloc::Global;
 use terminal_test::{agreed, enabled_pair};
 
-/// In leaf 0, a state of each kind makes the first become the third; in leaf 1 nothing moves.
+/// In leaf 0, p becomes r when it meets q; in leaf 1 nothing moves.
 fn leaf(alloc: Global, number: u32) -> Option<Leaf> {
     if number == 0 {
         let moves = [step(0, 1, 2, 1)];

@@ -1,4 +1,4 @@
-//! What leaves are refused for, and their parts and reactions.
+//! Why leaves are refused, and their parts and reactions.
 
 use crate::parts::{listed, repeated};
 use pop_net::{Leaf, LeafFault, Move, Net};

@@ -1,4 +1,4 @@
-//! What nets are refused for, their parts, and their words.
+//! Why nets are refused, their parts, and their words.
 
 ghost use Rattle.std.specs.Prelude.{◌≡◌, length};
 
@@ -38,7 +38,7 @@ fn leaves(alloc: Global, kinds: &str) -> Option<Vec<Leaf>> {
     Some(leaves)
 }
 
-/// What a net of leaves of these kinds with this combination is refused for.
+/// Why a net of leaves of these kinds with this combination is refused.
 fn fault_of(alloc: Global, names: List<Text>, kinds: &str, items: &[Item]) -> Option<NetFault> {
     let leaves = List::from_vec(leaves(alloc, kinds)?);
     Net::new(alloc, names, leaves, listed(alloc, items)).err()

@@ -4,7 +4,6 @@ use pop_io::List;
 use sample_nets::list;
 use std::alloc::Global;
 
-/// A list of these items.
 pub(crate) fn listed<T: Copy>(alloc: Global, items: &[T]) -> List<T> {
     match list(alloc, items) {
         Ok(items) => items,

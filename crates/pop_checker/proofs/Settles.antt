@@ -168,7 +168,7 @@ settles net parts are e valid single crowd two tuples states =
       ended = λ j leaf l h. absurd (omega arith);
     }
 
--- where a proof is valid, a single net settles by meetings within the proof's bound
+-- if a proof is valid, a single net settles by meetings within the proof's bound
 pub valid_settles : (net : NetModel) (p : PredModel) (proof : Proof) → IsNet net → ValidProof net p proof → IsSingle net → EndsByMeetings net (proof_bound proof)
 valid_settles net p proof is v single =
     settles net proof.leaves is.leaves v.one_each (λ j leaf part h k. (v.leaves j leaf part h k).layers) single

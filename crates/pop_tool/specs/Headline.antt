@@ -82,8 +82,8 @@ pub record IsValidLine (input : List ℕ) : Type 0 where
   pub line : IsBundleLine input bundle
   pub valid : HasValidProof bundle
 
--- The printed journal is a run of this kind of the bundle's net from the input crowd. A verdict stands there exactly
--- when the last crowd is terminal, and is the predicate's value.
+-- The printed journal is a run of this kind of the bundle's net from the input crowd. It has a verdict exactly when the
+-- last crowd is terminal, and the verdict is the predicate's value.
 pub record RunSays (kind : RunKind) (spec : RunSpec) (input text : List ℕ) : Type 0 where
   pub first : List ℕ
   pub second : List ℕ

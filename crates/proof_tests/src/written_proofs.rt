@@ -1,4 +1,4 @@
-//! What is written of a proof, and read again.
+//! What is written for a proof, and read again.
 
 ghost use Rattle.std.specs.Prelude.{length, IfSome};
 ghost use Rattle.cert_base.specs.ProofLimits.{IsProofWithin};
@@ -24,7 +24,7 @@ fn net(alloc: Global) -> Option<Net> {
     read_net(alloc, &value).ok()
 }
 
-/// The list that is written of the proof of one leaf.
+/// The list that is written for the proof of one leaf.
 fn wanted(alloc: Global) -> Option<String> {
     format!(in alloc;
         "[{{\"false\":[],\"layers\":{LAYERS},\"pred\":\"-x < 0\",\"true\":{NODES}}}]"
@@ -67,14 +67,14 @@ fn text_of(alloc: Global, net: &Net, proof: &Proof) -> Option<String>
     value.to_string(alloc).ok()
 }
 
-/// What is written of the proof in a bundle.
+/// What is written for the proof in a bundle.
 fn written(alloc: Global, is_first: bool) -> Option<String> {
     let net = net(alloc)?;
     let proof = proof(alloc, &net, is_first)?;
     text_of(alloc, &net, &proof)
 }
 
-/// Whether what is written of the proof in a bundle is what is wanted.
+/// Whether what is written for the proof in a bundle is what is wanted.
 fn is_written(alloc: Global, is_first: bool) -> Option<bool> {
     let text = written(alloc, is_first)?;
     let wanted = wanted(alloc)?;

@@ -13,7 +13,7 @@ pub(crate) struct Row<'r> {
     value: &'r Value,
 }
 
-/// The lists that each row has, beside its name.
+/// The lists that each row has, besides its name.
 const LISTS: [&str; 3] = ["words", "text", "status"];
 
 impl<'r> Row<'r> {

@@ -51,7 +51,6 @@ impl Rows {
         Ok(names)
     }
 
-    /// How many rows there were.
     pub(crate) fn len(&self) -> usize {
         self.given.len()
     }
@@ -274,7 +273,6 @@ fn is_right(row: &Row<'_>, wanted: &[u8], text: &[u8], status: u8) -> bool {
     is_text && has_status(row.items("status"), status) && has(text, row.text("with").as_bytes())
 }
 
-/// Whether an exit status is one of these.
 fn has_status(statuses: &[Value], status: u8) -> bool {
     statuses
         .iter()
@@ -313,7 +311,6 @@ fn troubles(alloc: Global, upsets: &[Value]) -> Result<Vec<Trouble>, AllocError>
     Ok(troubles)
 }
 
-/// The words of a row.
 fn words_of<'r>(alloc: Global, row: &Row<'r>) -> Result<Vec<&'r str>, AllocError> {
     let mut words = Vec::new(alloc);
     for word in row.items("words") {

@@ -189,7 +189,7 @@ fn meet_beside<R: Threads + Wait + Sync, G: Gate>(
     );
 }
 
-/// A second seat meets beside the first one and is joined. Whether what they say of themselves before that is right.
+/// A second seat meets beside the first one, and joins it. Whether what they say of themselves before that is right.
 fn meets_beside<R: Threads + Wait + Sync, G: Gate>(
     rt: &R,
     alloc: Global,

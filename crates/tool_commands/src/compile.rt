@@ -72,7 +72,7 @@ fn built_bundle(
     Err(Stop::Refused(refusal))
 }
 
-/// What is given for a bundle that was built: its line.
+/// The output for a bundle that was built: its line.
 fn output_of(
     alloc: Global,
     choice: LeafChoice,
@@ -89,7 +89,7 @@ fn output_of(
     Ok(Output::new(line, Ending::Done))
 }
 
-/// What is given for a predicate over these names.
+/// The output for a predicate over these names.
 fn compile_asked(
     alloc: Global,
     choice: LeafChoice,

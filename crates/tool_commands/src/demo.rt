@@ -169,7 +169,7 @@ fn summary_of(alloc: Global, case: &Case, run: &RunEnd, last: Last) -> Result<Ve
     Ok(text)
 }
 
-/// What is said of a run of a case.
+/// The output for a run of a case.
 fn case_output(alloc: Global, case: &Case, run: &RunEnd) -> Result<Output, NoMemory>
     requires case { IsCase case.now }
     requires run { IsRunOfCase case.now run.now }

@@ -122,7 +122,7 @@ fn net_and_end(
     Ok((net, end))
 }
 
-/// What is given for a net line that has this value, a crowd line, and meeting lines.
+/// The output for a net line that has this value, a crowd line, and meeting lines.
 fn output_for(
     alloc: Global,
     value: &Option<Value>,
