@@ -1,6 +1,6 @@
 //! Bundle files and their proofs: the JSON value of a proof both ways, and the reading of a whole bundle.
 //! It stands on `cert_base`, `pres_read`, `pop_net` and `json_shape`.
-//! The layer above uses: `read_bundle` and `read_proof` give the value or a broken rule; `write_proof` is read back.
+//! The layer above uses: `read_bundle` and `read_proof` are exact, faults included; `write_proof` is read back.
 #![tactic(auto)]
 
 mod bundle;

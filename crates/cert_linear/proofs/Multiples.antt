@@ -144,7 +144,7 @@ not_true : (b : Bool) → not b ≡ true → b ≡ true → ⊥
 not_true true e f = cc
 not_true false e f = cc
 
--- no counts meet what `residue_closes` says true of
+-- no counts meet facts for which `residue_closes` is true
 pub residue_closes-none : (count : Valuation) (facts : List Fact) (m : ℕ) (terms : List Term) → closes_by_residue facts m terms ≡ true → All (MeetsFact count) facts → ⊥
 residue_closes-none count facts m terms e meets =
     let sum = sum_of facts terms in

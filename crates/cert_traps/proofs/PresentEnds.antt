@@ -116,7 +116,7 @@ once_at_most leaf crowd p terminal e = go (cases_lt 1 (number_in p crowd))
     go (inr l) = l
 
 module _ (leaf : LeafModel) (count : Valuation) (end : List ℕ) (counts : CountsStates leaf count end) (terminal : IsTerminal (LeafStep leaf) end) (p : ℕ) (lp : p < length leaf.states) where
-  -- whether a state is another than p that p can meet
+  -- whether a state differs from p, and p can meet it
   abbrev meets : ℕ → Bool
   meets q = not (q == p) && can_meet_in leaf p q
 

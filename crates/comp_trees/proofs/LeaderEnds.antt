@@ -162,7 +162,7 @@ valued-none value leaf =
     weighted_sum-map value (flow leaf) (λ q. pos 0) (states_of leaf)
     ∙ total-none (λ q. pos 0 *ℤ value (flow leaf q)) (states_of leaf) (λ q. zero-*ℤ (value (flow leaf q)))
 
--- no agent is in a state from the start
+-- without helpers, a flow fact has the constant 0
 flow-constant : (leaf : LeafModel) (q : ℕ) → leaf.helpers ≡ [] → constant_of (flow leaf q) ≡ pos 0
 flow-constant leaf q e = ap (λ (hs : List ℕ). pos (count_by (λ z. z == q) hs)) e
 

@@ -19,6 +19,6 @@ pub record IsChecked (checked : CheckedModel) : Type 0 where
   pub computes : Computes checked.net checked.pred.tree checked.bound
   -- if no two moves of a leaf take the same states, meetings alone can lead the net to its end
   pub settles : IsSingle checked.net → EndsByMeetings checked.net checked.bound
-  -- every fair execution from an input stabilises with the predicate's value, and for such a net every one by meetings
+  -- every fair execution from an input stabilises with the predicate's value, for a single net those by meetings too
   pub fair : StablyComputes (Step checked.net) checked.net checked.pred.tree
   pub fair_meetings : IsSingle checked.net → StablyComputes (MeetingStep checked.net) checked.net checked.pred.tree

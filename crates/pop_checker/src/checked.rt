@@ -62,7 +62,7 @@ impl Checked {
         &self.pred
     }
 
-    /// The steps for each agent within which every crowd on the way can reach a terminal one.
+    /// The number of steps per agent within which every crowd on the way can reach a terminal one.
     pub fn bound(&self) -> u64
         ensures value { result ≡ self.now.bound }
         // The net computes the predicate with this bound, and a single net settles by meetings within it.
