@@ -1,7 +1,7 @@
 -- Texts that are written piece by piece.
 use Rattle.std.proofs.Common.{◌≡◌, ℕ, List, ◌++◌, ap, ◌∙◌, append_assoc}
 
--- a piece, and what was written behind it
+-- a piece, and what was written after it
 behind : (t0 t1 new a b : List ℕ) → t1 ≡ t0 ++ a → new ≡ t1 ++ b → new ≡ t0 ++ (a ++ b)
 behind t0 t1 new a b first rest = rest ∙ ap (λ t. t ++ b) first ∙ append_assoc t0 a b
 

@@ -34,7 +34,7 @@ pub record IsReadable (n : ℕ) (d : Data) : Type 0 where
   pub utf8 : IsUtf8 (compact_text d)
   pub unbroken : IsUnbroken (compact_text d)
 
--- the value of what was read, where nothing is left
+-- the value of what was read, if nothing is left
 abbrev whole : Option (json.Json × List Token) → Option Data
 whole found = option_and_then of_json (option_and_then (λ p. json.if_last p.0 p.1) found)
 
@@ -114,7 +114,7 @@ comma_unbroken : (later : Bool) → IsUnbroken (comma_if later)
 comma_unbroken true = refl
 comma_unbroken false = refl
 
--- the same of all items of a list
+-- the same for all items of a list
 pub record AreReadable (n : ℕ) (ds : Items) : Type 0 where
   pub numbers : ItemsHaveNumbers (items_outline ds)
   pub again : of_items (items_outline ds) ≡ Some ds
@@ -158,7 +158,7 @@ abbrev pub put_all : Members → Members → Members
 put_all no_members found = found
 put_all (member k d ms) found = put_all ms (put k d found)
 
--- the same of the values of members, with what comes of others into which they are put
+-- the same for the values of members, and what results when they are put into others
 pub record ReadTogether (n : ℕ) (ms : Members) : Type 0 where
   pub numbers : MembersHaveNumbers (members_outline ms)
   pub again : (found : Members) → of_members (members_outline ms) found ≡ Some (put_all ms found)

@@ -1,4 +1,4 @@
--- ReadBack: that a bundle's text is read back, and that its data is the bundle's file.
+-- ReadBack: a bundle's text is read back, and its data is the bundle's file.
 use Rattle.std.specs.Prelude.{◌≡◌, [], ◌∷◌, length, All, Some, IsUtf8}
 use Rattle.serde_json.specs.Written.{compact_text}
 use Rattle.serde_json.specs.Read.{read}
@@ -23,7 +23,7 @@ pub record IsReadBack (bundle : Bundle) : Type 0 where
   pub utf8 : IsUtf8 (compact_text (bundle_data bundle))
   pub value : read (compact_text (bundle_data bundle)) ≡ Some (bundle_data bundle)
   pub file : IsBundleFile bundle (bundle_data bundle)
-  -- with a line feed behind it, it is one line
+  -- with a line feed after it, it is one line
   pub line : lines_of (ended (compact_text (bundle_data bundle))) ≡ compact_text (bundle_data bundle) ∷ []
 
 abbrev pub BundlesAreReadBack : Type 0

@@ -14,7 +14,7 @@ use pres_read::print_pred;
 use std::alloc::Global;
 
 /// Adds the text of a bundle whose net has no helpers: no spaces, no line feed, and the members in the byte order of
-/// their names. Beside the text it holds at most one name or predicate at a time.
+/// their names. Besides the text it holds at most one name or predicate at a time.
 #[tactic(auto, unfolding(crate::specs::Bundle::bundle_data))]
 pub fn write_bundle(alloc: Global, out: &mut Vec<u8>, bundle: &Bundle) -> Result<(), NoMemory>
     requires no_helpers { is_helped bundle.now.net ≡ false }

@@ -123,7 +123,6 @@ impl WriteItems for States<'_> {
     }
 }
 
-/// Adds a leaf.
 pub(crate) fn write_leaf(alloc: Global, out: &mut Vec<u8>, leaf: &Leaf) -> Result<(), NoMemory>
     ensures { OnOk result (out.new.items ≡ out.old.items ++ compact_text (leaf_data false leaf.now)) }
 {

@@ -1,7 +1,6 @@
-//! A bundle as one line of JSON text, written piece by piece behind what stands in a buffer.
+//! A bundle as one line of JSON text, appended piece by piece to a buffer.
 //! It stands on `net_json` and `cert_json`, whose data it writes, and on `pop_lines`.
-//! The layer above uses: `write_bundle` adds the compact text of the bundle's data, which is read back
-//! (`bundles_are_read_back`).
+//! The layer above uses: `write_bundle` adds the bundle's compact text, which is read back (`bundles_are_read_back`).
 #![tactic(auto)]
 
 mod bundle;

@@ -31,7 +31,7 @@ pub(crate) trait WriteItems {
             ≡ out.old.items ++ compact_text (slice_index_or (items self.now) i null)) };
 }
 
-/// Adds a comma where something stands before.
+/// Adds a comma, if this item is a later one.
 fn push_comma(out: &mut Vec<u8>, later: bool) -> Result<(), AllocError>
     ensures { OnOk result (out.new.items ≡ out.old.items ++ comma_if later) }
 {
@@ -41,7 +41,6 @@ fn push_comma(out: &mut Vec<u8>, later: bool) -> Result<(), AllocError>
     Ok(())
 }
 
-/// Adds the text of a list.
 pub(crate) fn write_list<L: WriteItems>(
     alloc: Global,
     out: &mut Vec<u8>,

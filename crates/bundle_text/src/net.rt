@@ -98,7 +98,6 @@ impl WriteItems for Names<'_> {
     }
 }
 
-/// Adds a net.
 pub(crate) fn write_net(alloc: Global, out: &mut Vec<u8>, net: &Net) -> Result<(), NoMemory>
     requires { is_helped net.now ≡ false }
     ensures { OnOk result (out.new.items ≡ out.old.items ++ compact_text (net_data net.now)) }

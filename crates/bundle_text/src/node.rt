@@ -117,7 +117,7 @@ fn write_split(alloc: Global, out: &mut Vec<u8>, row: &Row) -> Result<(), NoMemo
     Ok(())
 }
 
-/// Adds the node of a set of states, whose text begins so.
+/// Adds the node of a set of states, whose text begins with `begin`.
 fn write_states(
     alloc: Global,
     out: &mut Vec<u8>,
@@ -133,7 +133,7 @@ fn write_states(
     Ok(())
 }
 
-/// Adds the node of a number, whose text begins so.
+/// Adds the node of a number, whose text begins with `begin`.
 fn push_numbered(out: &mut Vec<u8>, begin: &[u8], number: u64) -> Result<(), AllocError>
     ensures { OnOk result (out.new.items
         ≡ out.old.items ++ (begin.now ++ (compact_text (number_data number) ++ 93 ∷ []))) }
@@ -144,7 +144,6 @@ fn push_numbered(out: &mut Vec<u8>, begin: &[u8], number: u64) -> Result<(), All
     Ok(())
 }
 
-/// Adds a node.
 fn write_node(alloc: Global, out: &mut Vec<u8>, node: &Node) -> Result<(), NoMemory>
     ensures { OnOk result (out.new.items ≡ out.old.items ++ compact_text (node_data node.now)) }
 {

@@ -74,7 +74,6 @@ impl WriteItems for Weights<'_> {
     }
 }
 
-/// Adds a layer.
 fn write_layer(alloc: Global, out: &mut Vec<u8>, layer: &Layer) -> Result<(), NoMemory>
     ensures { OnOk result (out.new.items ≡ out.old.items ++ compact_text (layer_data layer.now)) }
 {

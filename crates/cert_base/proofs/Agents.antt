@@ -1,4 +1,4 @@
--- Where the states that a move takes are there, two different agents can take it.
+-- If the states that a move takes are present, two different agents can take it.
 use Rattle.std.proofs.Common.{◌≡◌, ◌≢◌, inl, inr, ℕ, suc, ◌+◌, ◌<◌, ◌≤◌, Bool, true, false, ◌&&◌, List, [], ◌∷◌, length, refl, ap, sym, ◌∙◌, arith}
 use Rattle.std.specs.Prelude.{Some, slice_get, slice_set, nat_le, ◌==◌, All}
 use Rattle.std.proofs.lemmas.Bool.{eq-eqb, le-leb, leb-true, and_from}
@@ -48,7 +48,7 @@ two_agents_in p (q ∷ crowd) l =
     let l' : 2 ≤ one_at q p + number_in p crowd = omega (arith, l, number_in-cons p q crowd) in
     two_agents_step q p crowd l' (two_agents_in p crowd) (eqb_tells q p)
 
--- whether the states p and q are there, twice where they are the same
+-- whether the states p and q are present, with two agents if they are the same
 abbrev pub pair_test : Bool → List ℕ → ℕ → ℕ → Bool
 pair_test true crowd p q = nat_le 2 (number_in p crowd)
 pair_test false crowd p q = nat_le 1 (number_in p crowd) && nat_le 1 (number_in q crowd)

@@ -1,4 +1,4 @@
--- A net's combination from its end backwards, beside a predicate's tree.
+-- A net's combination read backwards from its end, compared with a predicate's tree.
 use Rattle.std.proofs.Common.{◌≡◌, ℕ, zero, suc, ◌+◌, ◌-◌, ◌<◌, ◌≤◌, List, [], ◌∷◌, length, take, get_or, refl, ap, sym, subst, ◌∙◌, arith, add-one}
 use Rattle.std.specs.Prelude.{◌≢◌, ◌↔◌, Option, Some, None, option_and_then, slice_get, All}
 use Rattle.std.proofs.lemmas.List.{take_more, take_all}
@@ -74,7 +74,7 @@ after_other parts Or tree other (Some []) rest = λ e. absurd cc
 after_other parts Or tree other (Some (t ∷ [])) rest = λ e. absurd cc
 after_other parts Or tree other (Some (t ∷ u ∷ ts)) rest = λ e. other u t cc
 
--- both ways, one after the other
+-- two equivalences in a row
 iff_then : {A B C : Type 0} → (A ↔ B) → (B ↔ C) → (A ↔ C)
 iff_then f g = ((λ a. g.0 (f.0 a)), (λ c. f.1 (g.1 c)))
 
@@ -130,7 +130,7 @@ module _ (parts : List LeafProof) (items : List Item) (k : ℕ) where
   pub or_begins : (p q : PredTree) (m : ℕ) (o : Option ℕ) → slice_get items k ≡ Some Or → IsBegin parts items k q (Some m) → IsBegin parts items m p o → IsBegin parts items (k + 1) (Disjunction p q) o
   or_begins p q m o at second first = first_begins p q (Disjunction p q) Or at (after_or parts p q (open_after parts items k)) m o second first
 
--- some item leaves no empty list
+-- no item leaves an empty list
 never_empty : (parts : List LeafProof) (item : Item) (o : Option (List PredTree)) → option_and_then (after_item (leaf_trees parts) item) o ≢ Some []
 never_empty parts item None = λ e. absurd cc
 never_empty parts (Leaf i) (Some ts) = λ e. absurd cc
@@ -155,7 +155,7 @@ one_left (Some []) tree = ((λ e. absurd cc), (λ e. absurd cc))
 one_left (Some (t ∷ [])) tree = ((λ e. cc), (λ e. cc))
 one_left (Some (t ∷ u ∷ ts)) tree = ((λ e. absurd cc), (λ e. absurd cc))
 
--- the whole combination is the tree just where the tree begins at the first item
+-- the whole combination is the tree exactly when the tree begins at the first item
 pub whole_begins : (parts : List LeafProof) (items : List Item) (tree : PredTree) (o : Option ℕ) → IsBegin parts items (length items) tree o → (combined (leaf_trees parts) items ≡ Some tree) ↔ (o ≡ Some 0)
 whole_begins parts items tree o begins =
     iff_then (one_left (after_items (leaf_trees parts) items []) tree)
@@ -173,7 +173,7 @@ named_below n items k i all at =
     let within = slice_get_within items k (Leaf i) at in
     rw (get_or_from_slice_get items k (Leaf i) (Leaf i) at) at (all k (Leaf i) within)
 
--- the same of the end, and of a tree by another name
+-- the same for any end but 0, and for an equal tree
 pub at_end : (parts : List LeafProof) (items : List Item) (end : ℕ) (tree other : PredTree) (o : Option ℕ) → (end ≡ 0 → ⊥) → tree ≡ other → IsBegin parts items ((end - 1) + 1) other o → IsBegin parts items end tree o
 at_end parts items end tree other o some same begins =
     let whole : (end - 1) + 1 ≡ end = omega arith in

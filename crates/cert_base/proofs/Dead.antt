@@ -9,7 +9,7 @@ use Rattle.cert_base.specs.declared.layer.Layer.{Layer}
 use Rattle.cert_base.specs.ValidLayers.{IsInLayer, ValidLayers}
 use Rattle.cert_base.proofs.Numbers.{number_in, number_in-meets, before_pre, after_post}
 
--- the states that a move takes are there
+-- the states that a move takes are present
 abbrev pub IsEnabledIn : List ℕ → Move → Type 0
 IsEnabledIn crowd t = (z : ℕ) → pre t z ≤ number_in z crowd
 

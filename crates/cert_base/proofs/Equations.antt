@@ -1,4 +1,5 @@
--- Flow equations: how many agents are in a state at the end of an execution, from its start and from how often each move was taken.
+-- Flow equations: the number of agents in a state at the end of an execution, from the number at its start and from how
+-- often each move was taken.
 use Rattle.std.proofs.Common.{◌≡◌, inl, inr, ℕ, zero, suc, ◌+◌, ◌*◌, ◌<◌, List, [], ◌∷◌, refl, ap, sym, zero-add, arith}
 use Rattle.std.specs.Prelude.{Some, slice_get}
 use Rattle.std.proofs.Math.Nat.{add-mul, one-mul, zero-mul}

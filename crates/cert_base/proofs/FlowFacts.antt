@@ -131,7 +131,7 @@ dot-inputs count q start k (s ∷ inputs) (n ∷ counts) l es ec =
     let same : n * one_at (start k) q ≡ count k * one_at s q = rw (here_start, here_count) refl in
     omega (arith, ints, more, parts, copies, first, same)
 
--- the flow fact of each state holds of an execution's counts
+-- the flow fact of each state holds for an execution's counts
 pub flow_met : (leaf : LeafModel) (count : Valuation) (counts : List ℕ) (path : List (List ℕ)) (end : List ℕ) (way : Leads (LeafStep leaf) (leaf_input_crowd leaf counts) path end) → length counts ≡ length leaf.inputs → IsOfExecution leaf count counts path end way → (q : ℕ) → q < length leaf.states → MeetsFact count (flow leaf q)
 flow_met leaf count counts path end way l is q lq =
     let inputs = map (λ start. indicator (start == q)) leaf.inputs in

@@ -47,7 +47,7 @@ flow_terms-more leaf t q taken h =
     append_assoc start (own ∷ terms_from k before) (term_of (move_variable leaf t) (change_at q taken))
     ∙ ap (λ ts. start ++ (own ∷ ts)) (sym all)
 
--- the rows of which those of these states have the move
+-- the rows; those of these states already have the move
 record HasRows (leaf : LeafModel) (t : ℕ) (rows : List (List Term)) (states : List ℕ) : Type 0 where
   long : length rows ≡ length leaf.states
   each : (z : ℕ) → z < length leaf.states → slice_get rows z ≡ Some (if is_in states z then flow_terms leaf (t + 1) z else flow_terms leaf t z)
@@ -93,7 +93,7 @@ module _ (leaf : LeafModel) (t : ℕ) (taken : Move) (h : slice_get leaf.moves t
   step_has : (rows : List (List Term)) (state : ℕ) (before : List ℕ) → state < length leaf.states → HasRows leaf t rows before → HasRows leaf t (after rows state before) (state ∷ before)
   step_has rows state before l has = step_there rows state before (is_in before state) refl l has
 
-  -- a state that the move has not is not changed
+  -- a state that isn't one of the move's four is unchanged
   other_state : (z : ℕ) → is_in (taken.s ∷ taken.r ∷ taken.q ∷ taken.p ∷ []) z ≡ false → change_at z taken ≡ pos 0
   other_state z e = go (taken.p == z) (taken.q == z) (taken.r == z) (taken.s == z) e
     where

@@ -47,7 +47,7 @@ coefficient-at k (c ∷ cs) (suc j) =
     step true rest other = rest
     step false rest other = rw (other, rest) (omega (arith, ints))
 
--- of the first variable on
+-- the same from variable 0 on
 pub coefficient-dense : (cs : List ℤ) (x : ℕ) → coefficient_in (terms_from 0 cs) x ≡ get_or cs x (pos 0)
 coefficient-dense cs x = ap (coefficient_in (terms_from 0 cs)) (sym (zero-add x)) ∙ coefficient-at 0 cs x
 
@@ -258,7 +258,7 @@ law-past leaf w j =
     valued-total leaf w (length leaf.inputs + length leaf.states + (length leaf.moves + j)) (λ q. pos 0) (λ q. flow-past leaf q j)
     ∙ total-none (λ q. w q *ℤ pos 0) (states_of leaf) (λ q. *ℤ-zero (w q))
 
--- what holds of the variables of all kinds, and of the numbers past them, holds of each number
+-- what holds for the variables of each kind, and for the numbers past them, holds for every number
 pub each_variable : (leaf : LeafModel) (P : ℕ → Type 0) → ((i : ℕ) → i < length leaf.inputs → P i) → ((z : ℕ) → z < length leaf.states → P (length leaf.inputs + z)) → ((t : ℕ) → t < length leaf.moves → P (length leaf.inputs + length leaf.states + t)) → ((j : ℕ) → P (length leaf.inputs + length leaf.states + (length leaf.moves + j))) → (x : ℕ) → P x
 each_variable leaf P inputs states moves past x = first (cases_lt x (length leaf.inputs))
   where

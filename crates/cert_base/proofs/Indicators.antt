@@ -31,7 +31,7 @@ dot-zeros count k zero = refl
 dot-zeros count k (suc n) =
     let here = zero-*ℤ (pos (count k)) in let rest = dot-zeros count (k + 1) n in omega (arith, ints, here, rest)
 
--- a row of indicators behind n zeros
+-- a row of indicators after n zeros
 pub row_value-behind : {A : Type 0} (count : Valuation) (test : A → Bool) (n : ℕ) (xs : List A) (constant : ℤ) → row_value count (dense_row (zeros n ++ map (λ x. indicator (test x)) xs) constant) ≡ (pos (sum_if count test n xs) +ℤ constant)
 row_value-behind count test n xs constant =
     let terms = terms_value-terms_from count 0 (zeros n ++ map (λ x. indicator (test x)) xs) in
@@ -42,7 +42,7 @@ row_value-behind count test n xs constant =
     let sum = dot-indicators count test n xs in
     omega (arith, ints, terms, split, none, moved, sum)
 
--- where the sum is 0, so is each count
+-- if the sum is 0, so is each count
 pub sum_if-none : {A : Type 0} (count : Valuation) (test : A → Bool) (k : ℕ) (xs : List A) → sum_if count test k xs ≡ 0 → (j : ℕ) (x : A) → slice_get xs j ≡ Some x → test x ≡ true → count (k + j) ≡ 0
 sum_if-none count test k [] e j x h t = cc
 sum_if-none count test k (y ∷ xs) e zero x h t =
@@ -53,7 +53,7 @@ sum_if-none count test k (y ∷ xs) e zero x h t =
 sum_if-none count test k (y ∷ xs) e (suc j) x h t =
     ap count (let n : k + suc j ≡ k + 1 + j = omega arith in n) ∙ sum_if-none count test (k + 1) xs (omega (arith, e)) j x h t
 
--- where each count is 0, so is the sum
+-- if each count is 0, so is the sum
 pub sum_if-zero : {A : Type 0} (count : Valuation) (test : A → Bool) (k : ℕ) (xs : List A) → ((j : ℕ) (x : A) → slice_get xs j ≡ Some x → test x ≡ true → count (k + j) ≡ 0) → sum_if count test k xs ≡ 0
 sum_if-zero count test k [] e = refl
 sum_if-zero {A} count test k (x ∷ xs) e = step (test x) refl (sum_if-zero count test (k + 1) xs later)

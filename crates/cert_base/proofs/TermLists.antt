@@ -70,7 +70,7 @@ terms_from-state q k a (suc n) (suc d) e l =
     ∙ terms_from-state q (k + 1) (a + 1) n d (omega arith) (omega arith)
     ∙ ap (λ m. record { at = m; by = negsuc 0 } ∷ []) (let f : k + 1 + d ≡ k + suc d = omega arith in f)
 
--- one more term on the way
+-- one more term of the walk
 pub terms_from-next : (k i : ℕ) (coefs : List ℤ) (before after : List Term) (a : ℤ) → i < length coefs → get_or coefs i (pos 0) ≡ a → after ≡ before ++ term_of (k + i) a → after ++ terms_from (k + (i + 1)) (drop (i + 1) coefs) ≡ before ++ terms_from (k + i) (drop i coefs)
 terms_from-next k i coefs before after a l is e =
     ap (λ ts. ts ++ terms_from (k + (i + 1)) (drop (i + 1) coefs)) e
@@ -81,7 +81,7 @@ pub terms_from-all : (k i : ℕ) (coefs : List ℤ) (terms : List Term) → leng
 terms_from-all k i coefs terms l e =
     sym (append-nil terms) ∙ ap (λ cs. terms ++ terms_from (k + i) cs) (sym (drop_all i coefs l)) ∙ e
 
--- one more term on the way, as the code reads it
+-- one more term of the walk, as the code reads it
 pub terms_from-read : (k i : ℕ) (coefs : List ℤ) (before after : List Term) → i < length coefs → SFits w64 (get_or coefs i (pos 0)) → after ≡ before ++ term_of (k + i) (to_z w64 (of_z w64 (get_or coefs i (pos 0)))) → after ++ terms_from (k + (i + 1)) (drop (i + 1) coefs) ≡ before ++ terms_from (k + i) (drop i coefs)
 terms_from-read k i coefs before after l fits e =
     terms_from-next k i coefs before after (get_or coefs i (pos 0)) l refl (e ∙ ap (λ a. before ++ term_of (k + i) a) (to_z-of_z w64 (get_or coefs i (pos 0)) fits))
@@ -90,7 +90,7 @@ pub row_written : (row : Row) (terms others : List Term) (constant : ℤ) → SF
 row_written row terms others constant fits e f =
     let same = to_z-of_z w64 constant fits in e ∙ rw (same, f) refl
 
--- a row behind n zeros, as the code writes it
+-- a row after n zeros, as the code writes it
 pub row_behind : (n first : ℕ) (coefs : List ℤ) (constant : ℤ) (row : Row) → SFits w64 constant → first ≡ n → row ≡ record { terms = terms_from first coefs; constant = to_z w64 (of_z w64 constant) } → row ≡ dense_row (zeros n ++ coefs) constant
 row_behind n first coefs constant row fits e f =
     row_written row (terms_from first coefs) (terms_from 0 (zeros n ++ coefs)) constant fits f

@@ -1,4 +1,4 @@
--- A step of a leaf's crowd by a move that weighs less after it than before lowers the total weight of the crowd.
+-- A step of a leaf's crowd by a move that lowers the weights lowers the total weight of the crowd.
 use Rattle.std.proofs.Common.{◌≡◌, ◌⊎◌, inl, inr, ℕ, zero, suc, List, [], ◌∷◌, arith}
 use Rattle.std.specs.Prelude.{Some, ℤ, pos, ◌+ℤ◌, ◌<ℤ◌, slice_get, slice_set}
 use Rattle.std.proofs.lemmas.Int.{ints}

@@ -37,8 +37,7 @@ Cover leaf cases = (count : Valuation) → IsEnd leaf count → MeetsOne count c
 abbrev pub AreRefuted : List Fact → Type 0
 AreRefuted facts = (count : Valuation) → MeetsAll count facts → ⊥
 
--- wherever the predicate has this value at an input, every agent of each terminal crowd that is reachable from it
--- outputs the value
+-- from each input at which the predicate has this value, every agent of each reachable terminal crowd outputs the value
 abbrev pub EndsRight : LeafModel → PredTree → Bool → Type 0
 EndsRight leaf tree value =
     (counts end : List ℕ) → IsInput (length leaf.inputs) (length leaf.helpers) counts
@@ -46,8 +45,8 @@ EndsRight leaf tree value =
     → Reachable (LeafStep leaf) (leaf_input_crowd leaf counts) end → IsTerminal (LeafStep leaf) end
     → All (λ q. slice_index_or leaf.outputs q false ≡ value) end
 
--- an execution that starts at an input at which the predicate has the value, and ends in a terminal crowd where an
--- agent outputs another value
+-- an execution from an input at which the predicate has the value to a terminal crowd where an agent outputs another
+-- value
 pub record IsWrongEnd (leaf : LeafModel) (tree : PredTree) (value : Bool) (count : Valuation) : Type 0 where
   pub reached : IsEnd leaf count
   pub has_value : predicate_value tree reached.counts ≡ value
@@ -68,7 +67,7 @@ CoverValue p value cases = (count : Valuation) → MeetsFact count (Holds p valu
 abbrev pub CoverAll : List (List Fact) → Type 0
 CoverAll cases = (count : Valuation) → MeetsOne count cases
 
--- the cases are the defined ones, and all counts that they are for meet all facts of one of them
+-- the cases are the defined ones, and they cover what they are for
 pub record AreCasesBy (Covers : List (List Fact) → Type 0) (defined own : List (List Fact)) : Type 0 where
   pub cases : own ≡ defined
   pub cover : Covers own

@@ -1,4 +1,4 @@
--- FlowLaw: what the flow facts add up to, where each state has a value.
+-- FlowLaw: what the flow facts add up to when each state has a value.
 use Rattle.std.specs.Prelude.{◌≡◌, ℕ, ◌<◌, ◌≤◌, Bool, ℤ, pos, neg_ℤ, ◌+ℤ◌, ◌-ℤ◌, ◌*ℤ◌, length, map, Some, slice_get}
 use Rattle.pres_ast.specs.PredModel.{PredModel}
 use Rattle.pop_net.specs.declared.leaf.Move.{Move}
@@ -13,8 +13,8 @@ use Rattle.cert_base.specs.WeightedSums.{total}
 abbrev pub valued_flow : LeafModel → (ℕ → ℤ) → PredModel → Bool → Row
 valued_flow leaf w p b = sum_of (base_list leaf p b) (terms_from 0 (map w (states_of leaf)))
 
--- the row says: the values of the states in which agents start, helpers among them, and what the moves add to them,
--- less the values at the end
+-- the row is the values of the states in which agents start, helpers included, plus what the moves add to them, less
+-- the values at the end
 pub record BalancesValues (leaf : LeafModel) (w : ℕ → ℤ) (row : Row) : Type 0 where
   pub inputs : (i q : ℕ) → slice_get leaf.inputs i ≡ Some q → coefficient_in row.terms (input_variable leaf i) ≡ w q
   pub states : (q : ℕ) → q < length leaf.states → coefficient_in row.terms (state_variable leaf q) ≡ neg_ℤ (w q)

@@ -9,7 +9,7 @@ use Rattle.cert_base.specs.Rows.{terms_from, state_variable, move_variable}
 use Rattle.cert_base.specs.FactsAndCases.{indicator, states_of, is_in}
 use Rattle.std.specs.List.{slice_set}
 
--- the term of a variable with this coefficient, or none where it is 0
+-- the term of a variable with this coefficient, or none if it is 0
 abbrev pub term_of : ℕ → ℤ → List Term
 term_of variable a = if int_eq a (pos 0) then [] else (record { at = variable; by = a } ∷ [])
 

@@ -50,7 +50,7 @@ pub record IsLayerWithin (layer : Layer) : Type 0 where
   pub weight_count : length layer.weights ≤ STATE_LIMIT
   pub weights : All IsSmall layer.weights
 
--- a leaf's proof over so many variables
+-- a leaf's proof over this many variables
 pub record IsLeafProofWithin (variables : ℕ) (part : LeafProof) : Type 0 where
   pub pred : part.pred.variables ≡ variables
   pub layer_count : length part.layers ≤ LAYER_LIMIT
@@ -58,7 +58,7 @@ pub record IsLeafProofWithin (variables : ℕ) (part : LeafProof) : Type 0 where
   pub on_true : AreNodesWithin part.on_true
   pub on_false : AreNodesWithin part.on_false
 
--- a proof over so many variables for so many leaves
+-- a proof over this many variables for this many leaves
 pub record IsProofWithin (variables leaves : ℕ) (proof : Proof) : Type 0 where
   pub one_each : length proof.leaves ≡ leaves
   pub parts : All (IsLeafProofWithin variables) proof.leaves

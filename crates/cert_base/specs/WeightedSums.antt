@@ -4,7 +4,7 @@ use Rattle.std.specs.Ordering.{int_eq}
 use Rattle.cert_base.specs.declared.fact.Fact.{Fact}
 use Rattle.cert_base.specs.ClosingTests.{row_of, coefficient_in}
 
--- the sum of what the facts have, each times the multiplier at its place; the last facts may lack one
+-- the sum of the facts' values, each times the multiplier at its place; the last facts may lack one
 abbrev pub sum_of_facts : (Fact → ℤ) → List Fact → List ℤ → ℤ
 sum_of_facts value [] ms = pos 0
 sum_of_facts value (f ∷ facts) [] = pos 0
@@ -16,7 +16,7 @@ coefficient x f = coefficient_in (row_of f).terms x
 abbrev pub constant_of : Fact → ℤ
 constant_of f = (row_of f).constant
 
--- whether each fact may have its multiplier; one that is 0 isn't named
+-- whether each fact may have its multiplier; one whose multiplier is 0 isn't named
 abbrev pub may_weigh : (ℤ → Fact → Bool) → List Fact → List ℤ → Bool
 may_weigh may [] [] = true
 may_weigh may [] (m ∷ ms) = false

@@ -12,7 +12,7 @@ use pop_net::Leaf;
 use pres_ast::Pred;
 use std::alloc::Global;
 
-/// First the flow fact of each state; then that there are two agents with the helpers, that the predicate has the
+/// First the flow fact of each state; then that there are two agents, helpers included, that the predicate has the
 /// value, and that some agent has another output (the state equation of Blondin, Esparza, Jaax, Meyer 2017).
 pub fn base_facts(
     alloc: Global,

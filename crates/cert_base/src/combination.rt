@@ -1,4 +1,4 @@
-//! Whether a net combines its leaves' predicates to a given one.
+//! Whether a net combines its leaves' predicates into a given one.
 
 ghost use Rattle.std.specs.Prelude.{◌≡◌, ◌↔◌, ◌≤◌, ◌<◌, length, Some, IsTrue, All};
 ghost use Rattle.pres_ast.specs.TreeOf.{tree_of};
@@ -10,8 +10,8 @@ use crate::proof::{LeafProof, Proof};
 use pop_net::{Item, Net};
 use pres_ast::{Pred, Tree};
 
-/// Whether the net's combination, with each leaf's predicate in the place of its number, is the predicate's tree, and
-/// all predicates are over the net's variables. Allocates nothing.
+/// Whether the net's combination, with each leaf's predicate in place of its number, is the predicate's tree, and all
+/// predicates are over the net's variables. Allocates nothing.
 pub fn net_pred_is(net: &Net, proof: &Proof, pred: &Pred) -> bool
     requires { length proof.now.leaves ≡ length net.now.leaves }
     ensures { IsTrue result ↔ IsNetPred net.now proof.now pred.now }
@@ -36,7 +36,7 @@ fn combines(net: &Net, parts: &[LeafProof], pred: &Pred) -> bool
     begin == Some(0)
 }
 
-/// Where the tree begins that the items before `end` end with, if it is this one.
+/// Where the tree begins, if the items before `end` end with it.
 fn begin_of(net: &Net, parts: &[LeafProof], end: u32, tree: &Tree) -> Option<u32>
     requires formed { IsNet net.now }
     requires within { end ≤ length net.now.combine }

@@ -15,15 +15,15 @@ pub struct Term {
 
 /// A sum of variables with coefficients, and a constant.
 ///
-/// The variables of a leaf are numbered through: first one per input, how often it was given; then one per
-/// state, how many agents are in it at the end; then one per move, how often it was taken.
+/// The variables of a leaf are numbered consecutively: first one per input, how often it was given; then one per state,
+/// how many agents are in it at the end; then one per move, how often it was taken.
 #[derive(Drop)]
 pub struct Row {
     pub terms: List<Term>,
     pub constant: i64,
 }
 
-/// What is said of the counts of an execution.
+/// A statement about the counts of an execution.
 #[derive(Drop)]
 pub enum Fact {
     /// The row is at least 0.
@@ -39,7 +39,7 @@ pub enum Fact {
 }
 
 impl Fact {
-    /// A fact that is equal.
+    /// An equal fact.
     pub fn copy(&self, alloc: Global) -> Result<Fact, NoMemory>
         ensures { IfOk result (λ fact. fact ≡ self.now) }
     {

@@ -6,7 +6,7 @@ pub const LAYER_LIMIT: usize = 256;
 /// The most nodes of a tree.
 pub const NODE_LIMIT: usize = 1_000_000;
 
-/// The most nodes above each other in a tree.
+/// The most nodes on a path of a tree.
 pub const PATH_LIMIT: usize = 4_096;
 
 /// The most facts of a case.

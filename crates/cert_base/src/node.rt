@@ -13,9 +13,9 @@ pub enum Node {
     Residue(u32, List<Term>),
     /// The row is above 0, is 0, or is below 0.
     Split(Row),
-    /// The state is absent at the end, or it occurs and nothing does that could meet it.
+    /// The state is absent at the end, or it occurs and no state does that it could meet.
     Present(u16),
-    /// The state, which can meet itself, occurs once at most.
+    /// The state, which can meet itself, occurs at most once.
     Twin(u16),
     /// The states are no trap, were never marked, or are marked at the end.
     Trap(List<u16>),

@@ -80,7 +80,7 @@ impl Row {
         Row::dense(alloc, variable_of_move(leaf, 0), coefs, constant)
     }
 
-    /// A row that is equal.
+    /// An equal row.
     pub fn copy(&self, alloc: Global) -> Result<Row, NoMemory>
         ensures { IfOk result (λ row. row ≡ self.now) }
     {

@@ -85,7 +85,7 @@ fn less_one(row: Row) -> Row
     }
 }
 
-/// The row with all signs turned.
+/// The row negated.
 fn negated(alloc: Global, row: &Row) -> Result<Row, NoMemory>
     requires coefs { All (λ term. nat_abs term.by ≤ SIZE_LIMIT) row.now.terms }
     requires constant { nat_abs row.now.constant ≤ SIZE_LIMIT }

@@ -17,7 +17,7 @@ module _ {A : Type 0} (number : A → ℕ) where
   last_of_all [] = refl
   last_of_all (x ∷ xs) = last_at (x ∷ xs) (length (x ∷ xs) - 1) (omega arith)
 
--- what fits each of the first fits one more
+-- what holds for the first ones holds for one more
 pub one_more_fits : {A : Type 0} (P : A → Type 0) (xs : List A) (i : ℕ) (x : A) → ((k : ℕ) → k < i → (d : A) → P (get_or xs k d)) → slice_get xs i ≡ Some x → P x → (k : ℕ) → k < i + 1 → (d : A) → P (get_or xs k d)
 one_more_fits P xs i x so_far is here k below d = go (eqb_tells k i)
   where

@@ -37,7 +37,7 @@ small_takes path d z e = let r = Tagged.integer_at-takes path SIZE_LIMIT d z e i
 pub small_again : (path : List ℕ) (d : Data) (z : ℤ) → IsInteger z d → IsSmall z → small_at path d ≡ Ok z
 small_again path d z is small = Tagged.integer_at-again path SIZE_LIMIT d z is (omega (arith, small))
 
--- a term whose number is read so
+-- a term whose number is read by this reader
 module _ (number : List ℕ → Data → Result ℕ Fault) (P : ℕ → Type 0) where
   term_from-takes : ((path : List ℕ) (d : Data) (n : ℕ) → number path d ≡ Ok n → IsNumber n d × (n < 2 ^ 32) × P n)
       → (path : List ℕ) (d : Data) (t : Term) → (pair_at path d >>= term_from path number) ≡ Ok t → IsTerm t d × IsTermWithin t × P t.at

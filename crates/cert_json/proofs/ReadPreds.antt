@@ -1,4 +1,4 @@
--- The predicates of a bundle's file are within the limits: no text is read to another one.
+-- The predicates of a bundle's file are within the limits: no text is read to any other.
 use Rattle.std.proofs.Common.{◌≡◌, ℕ, zero, suc, ◌≤◌, Bool, true, false, List, [], ◌∷◌, length, ltb, IfOk, Result, Ok, Err, refl, subst, arith}
 use Rattle.std.specs.Prelude.{Some, slice_get, if◌then◌else◌, ◌||◌}
 use Rattle.std.proofs.lemmas.Bool.{ltb-false}

@@ -8,7 +8,7 @@ use Rattle.json_shape.proofs.Ascending.{last_of-push}
 use Rattle.cert_base.specs.ProofLimits.{IsAscending}
 
 module _ {A : Type 0} (key : A → ℕ) where
-  -- the key is greater than that of the last one found before
+  -- the key is greater than that of the last one found
   abbrev pub Follows : List A → A → Type 0
   Follows found x = comes_after (last_of (map key found)) (key x) ≡ true
 

@@ -1,5 +1,4 @@
--- BundleFile: which JSON value is the file of which bundle. Members may stand in any order, and others may stand beside
--- them.
+-- BundleFile: which JSON value is the file of which bundle. Members come in any order, and there may be others.
 use Rattle.std.specs.Prelude.{codes, length}
 use Rattle.serde_json.specs.Data.{Data}
 use Rattle.json_shape.specs.Parts.{HasMember}

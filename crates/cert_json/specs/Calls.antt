@@ -13,7 +13,7 @@ use Rattle.cert_json.specs.BundleFile.{IsBundleFile}
 use Rattle.cert_json.specs.Bundles.{bundle_at}
 use Rattle.cert_json.specs.Examined.{proof_at}
 
--- what was read of a value as a bundle: just the files of bundles are read, and each to its bundle
+-- the result of reading a value as a bundle: exactly the files of bundles are read, each to its bundle
 pub record IsReadBundle (d : Data) (result : Result Bundle FormatFault) : Type 0 where
   -- member by member, each fault and its path
   pub exact : GivesRead (λ bundle. bundle) result (bundle_at d)
@@ -23,8 +23,8 @@ pub record IsReadBundle (d : Data) (result : Result Bundle FormatFault) : Type 0
   pub file : IfOk result (λ bundle. IsBundleFile bundle d)
   pub no_file : IfErr result (λ fault. fault ≢ NoMemory → (bundle : Bundle) → IsBundleFile bundle d → ⊥)
 
--- what was read of a bundle's value as the proof for this net: just the files of proofs within the limits are read,
--- and each to its proof
+-- the result of reading a bundle's value as the proof for this net: exactly the files of proofs within the limits are
+-- read, each to its proof
 pub record IsReadProof (net : NetModel) (d : Data) (result : Result Proof FormatFault) : Type 0 where
   pub exact : GivesRead (λ proof. proof) result (proof_at net.variables (length net.leaves) d)
   pub within : IfOk result (IsProofWithin (length net.variables) (length net.leaves))

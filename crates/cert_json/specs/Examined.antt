@@ -1,5 +1,5 @@
--- The order in which a proof's value is examined: member by member, each whole before the next; a list for its kind,
--- its length, and then item by item. The first rule that is broken is the fault.
+-- The order in which a proof's value is examined: member by member, each whole before the next; of a list its kind,
+-- then its length, then item by item. The first broken rule is the fault.
 use Rattle.std.specs.Prelude.{ℕ, ◌-◌, List, [], map, codes, ℤ, Option, Some, None, Result, Ok, Err}
 use Rattle.serde_json.specs.Data.{Data}
 use Rattle.json_shape.specs.declared.fault.Why.TheVariants.{Name, Pred}
@@ -96,7 +96,7 @@ set_state_item path found d = ascending_at path (STATE_INDEX_COUNT - 1) (last_of
 abbrev pub set_states_at : List ℕ → Data → Result (List ℕ) Fault
 set_states_at path d = each_at set_state_item path 0 STATE_LIMIT d
 
--- the item after the word, where it is the only one, read by this reader at its path
+-- the item after the word, if it is the only one, read by this reader at its path
 abbrev pub only_by : {A : Type 0} → (List ℕ → Data → Result A Fault) → List ℕ → List Data → Result A Fault
 only_by read path ds = one_after path ds >>= λ d. read (item_path path 1) d
 
@@ -183,11 +183,11 @@ leaf_proof_at names path d = do
 abbrev pub leaf_proof_item : List (List ℕ) → List ℕ → List LeafProof → Data → Result LeafProof Fault
 leaf_proof_item names path found d = leaf_proof_at names path d
 
--- one proof for each leaf; another number of them is refused before any is examined
+-- one proof for each leaf; a wrong number of them is refused before any is examined
 abbrev pub leaf_proofs_at : List (List ℕ) → ℕ → List ℕ → Data → Result (List LeafProof) Fault
 leaf_proofs_at names leaves path d = each_at (leaf_proof_item names) path leaves leaves d
 
--- the member `proof` of a bundle, over these names and for so many leaves
+-- the member `proof` of a bundle, over these names and for this many leaves
 unfoldable pub proof_at : List (List ℕ) → ℕ → Data → Result Proof Fault
 proof_at names leaves d = do
   parts ← member_by [] (codes "proof") (leaf_proofs_at names leaves) d

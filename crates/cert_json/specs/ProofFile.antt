@@ -1,5 +1,4 @@
--- ProofFile: which JSON value is the file of which proof. Members may stand in any order, and others may stand beside
--- them.
+-- ProofFile: which JSON value is the file of which proof. Members come in any order, and there may be others.
 use Rattle.std.specs.Prelude.{ℕ, List, codes}
 use Rattle.serde_json.specs.Data.{Data}
 use Rattle.json_shape.specs.Parts.{IsNumber, IsInteger, IsText, HasItems, IsOnly}
@@ -45,6 +44,6 @@ pub record IsLeafProofFile (names : List (List ℕ)) (part : LeafProof) (d : Dat
   pub on_true : HasMember (codes "true") (IsList IsNode part.on_true) d
   pub on_false : HasMember (codes "false") (IsList IsNode part.on_false) d
 
--- the member `proof` of a bundle over these names and for so many leaves
+-- the member `proof` of a bundle over these names and for this many leaves
 abbrev pub IsProofFile : List (List ℕ) → Proof → Data → Type 0
 IsProofFile names proof d = HasMember (codes "proof") (IsList (IsLeafProofFile names) proof.leaves) d

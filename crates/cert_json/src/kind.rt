@@ -1,8 +1,7 @@
-//! The kinds of nodes, and the words that nodes of them begin with.
+//! The kinds of nodes, and the words that begin them.
 
 ghost use Rattle.std.specs.Prelude.{◌≡◌};
 
-/// The kind of a node.
 #[derive(Clone, Copy)]
 pub(crate) enum NodeKind {
     Linear,

@@ -81,7 +81,6 @@ fn weights_of(alloc: Global, path: &Path<'_>, value: &Value) -> Result<List<i64>
     each_in(alloc, path, "weights", 0, STATE_LIMIT, &Weights, value)
 }
 
-/// Layers.
 #[derive(Clone, Copy)]
 struct Layers;
 

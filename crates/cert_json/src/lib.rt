@@ -1,7 +1,6 @@
 //! Bundle files and their proofs: the JSON value of a proof both ways, and the reading of a whole bundle.
 //! It stands on `cert_base`, `pres_read`, `pop_net` and `json_shape`.
-//! The layer above uses: `read_bundle` and `read_proof` give what the file has or the first broken rule, and what
-//! `write_proof` gives is read to an equal proof.
+//! The layer above uses: `read_bundle` and `read_proof` are exact, faults included; `write_proof` is read back.
 #![tactic(auto)]
 
 mod bundle;

@@ -19,7 +19,7 @@ use pop_io::List;
 use serde_json::Value;
 use std::alloc::Global;
 
-/// The terms after the word, where no other item is.
+/// The terms after the word, if no other item is there.
 fn terms_after(alloc: Global, path: &Path<'_>, items: &[Value]) -> Result<List<Term>, FormatFault>
     ensures { GivesRead (λ ts. ts) result (only_by terms_at (path_text path.now) (map view items.now)) }
 {
@@ -27,7 +27,7 @@ fn terms_after(alloc: Global, path: &Path<'_>, items: &[Value]) -> Result<List<T
     terms_of(alloc, &Path::Item(path, 1), item)
 }
 
-/// The set of states after the word, where no other item is.
+/// The set of states after the word, if no other item is there.
 fn set_after(alloc: Global, path: &Path<'_>, items: &[Value]) -> Result<List<u16>, FormatFault>
     ensures { GivesRead (λ qs. qs) result (only_by set_states_at (path_text path.now) (map view items.now)) }
 {
@@ -35,7 +35,7 @@ fn set_after(alloc: Global, path: &Path<'_>, items: &[Value]) -> Result<List<u16
     states_of(alloc, &Path::Item(path, 1), item)
 }
 
-/// The state after the word, where no other item is.
+/// The state after the word, if no other item is there.
 fn state_after(alloc: Global, path: &Path<'_>, items: &[Value]) -> Result<u16, FormatFault>
     ensures { GivesRead (λ q. q) result (only_by state_at (path_text path.now) (map view items.now)) }
 {
@@ -43,7 +43,7 @@ fn state_after(alloc: Global, path: &Path<'_>, items: &[Value]) -> Result<u16, F
     state_of(alloc, &Path::Item(path, 1), item)
 }
 
-/// The number after the word, where no other item is.
+/// The number after the word, if no other item is there.
 fn index_after(alloc: Global, path: &Path<'_>, items: &[Value]) -> Result<u32, FormatFault>
     ensures { GivesRead (λ n. n) result (only_by index_at (path_text path.now) (map view items.now)) }
 {
@@ -94,7 +94,6 @@ fn after_word(
     }
 }
 
-/// Nodes.
 #[derive(Clone, Copy)]
 struct Nodes;
 

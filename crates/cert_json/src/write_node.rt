@@ -41,7 +41,7 @@ fn states_value(alloc: Global, states: &[u16]) -> Result<Value, AllocError>
     Ok(Value::Array(list))
 }
 
-/// A list of the word of a kind.
+/// A list with the word of a kind.
 fn word_list(alloc: Global, kind: NodeKind) -> Result<Vec<Value>, AllocError>
     ensures { IfOk result (λ list. map view list.items ≡ string (kind_text kind) ∷ []) }
 {

@@ -20,7 +20,7 @@ right_false true b is e = e
 right_false false b is e = cc
 
 module _ (early : ℕ → ℕ → Bool) (t : Move) where
-  -- where an early move takes the states of t, nothing is woken
+  -- if an early move takes the states of t, nothing is woken
   wakes_with-early : (m o : ℕ) → early t.p t.q ≡ true → wakes_with_state early t m o ≡ false
   wakes_with-early m o e = rw e refl
 
@@ -36,7 +36,7 @@ module _ (early : ℕ → ℕ → Bool) (t : Move) where
     | inr b ↦ wakes-other x y b ∙ and_right (brings_state t y) (wakes_with_state early t y x) (wakes_with-early y x e)
   ]
 
-  -- nothing is woken beside y, so not a move that takes y and a state that t brings
+  -- if nothing is woken beside y, neither is a move that takes y and a state that t brings
   beside : (x y : ℕ) → brings_state t x ≡ true → early x y ≡ true → wakes_beside_state early t y ≡ false → wakes_states early t x y ≡ false
   beside x y b e none =
       let parts = or_parts (wakes_early early t t.r y) (wakes_early early t t.s y) none in
@@ -111,7 +111,7 @@ asleep_move leaf layer_of_move table i t formed h few none m = by_move (slice_ge
 pub wakes_at-placed : (leaf : LeafModel) (layer_of_move : List (Option ℕ)) (table : List ℕ) (n m i : ℕ) (t : Move) → slice_get leaf.moves n ≡ Some t → silent_move t ≡ false → layer_of layer_of_move n ≡ Some i → wakes_at leaf layer_of_move table n m ≡ wakes_numbered leaf layer_of_move table i t m
 wakes_at-placed leaf layer_of_move table n m i t move loud place = rw (move, loud, place) refl
 
--- so the first that one wakes is the first that the other wakes
+-- so both find the same first woken move
 pub finds-placed : (leaf : LeafModel) (layer_of_move : List (Option ℕ)) (table : List ℕ) (n i : ℕ) (t : Move) (found : Option ℕ) → slice_get leaf.moves n ≡ Some t → silent_move t ≡ false → layer_of layer_of_move n ≡ Some i → FindsFirst (wakes_numbered leaf layer_of_move table i t) found → FindsFirst (wakes_at leaf layer_of_move table n) found
 finds-placed leaf layer_of_move table n i t None move loud place first = λ m. wakes_at-placed leaf layer_of_move table n m i t move loud place ∙ first m
 finds-placed leaf layer_of_move table n i t (Some u) move loud place first =

@@ -8,7 +8,7 @@ use Rattle.pop_net.specs.LeafModel.{one_at, times_in_pair, post}
 use Rattle.cert_layers.specs.Waking.{brings_state, brings_two_states}
 use Rattle.pop_net.proofs.Silent.{one_self}
 
--- a state is the same, once, or another, not at all
+-- a state is z and counts once, or is another and doesn't count
 abbrev One : ℕ → ℕ → Type 0
 One x z = ((x ≡ z) × (one_at x z ≡ 1)) ⊎ ((x ≢ z) × (one_at x z ≡ 0))
 
@@ -126,7 +126,7 @@ module _ (t : Move) (m o : ℕ) (b : brings_state t m ≡ true) where
       by_first true e f = rw (eqb-true m t.r e, eqb-true o t.s f) (omega arith)
       by_first false e f = rw (brings_second e, eqb-true o t.r f) (omega arith)
 
-  -- o stays, where the other state that the move brings is not o
+  -- o stays if the other state that the move brings is not o
   stays : (other : ℕ) → o ≢ other → (z : ℕ) → one_at m z + one_at o z - (one_at m z + one_at other z) ≡ one_at o z
   stays other ne z = elim (one o z) [
     | inl h ↦ (let none : one_at other z ≡ 0 = at_other other z (λ e. ne (h.0 ∙ sym e)) in omega (arith, none, h.1))

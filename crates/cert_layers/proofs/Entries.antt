@@ -14,14 +14,14 @@ use Rattle.cert_layers.specs.MoveLayers.{layer_of, enter, enter_all}
 abbrev pub Apart : ℕ × ℕ → ℕ × ℕ → Type 0
 Apart e f = e.0 ≢ f.0
 
--- the layer_of_move are those of the entries, and no move is entered twice
+-- the layers of the moves are those of the entries, and no move is entered twice
 pub record Holds (count : ℕ) (layer_of_move : List (Option ℕ)) (entries : List (ℕ × ℕ)) : Type 0 where
   pub long : length layer_of_move ≡ count
   pub each : (n i : ℕ) → layer_of layer_of_move n ≡ Some i → Contains entries (n, i)
   pub all : (e : ℕ × ℕ) → Contains entries e → layer_of layer_of_move e.0 ≡ Some e.1
   pub once : AllPairs Apart entries
 
--- what an entry asks for and makes
+-- what an entry requires, and what it gives
 pub entered : (layer_of_move : List (Option ℕ)) (i n : ℕ) (more : List (Option ℕ)) → enter layer_of_move i n ≡ Some more → (n < length layer_of_move) × (layer_of layer_of_move n ≡ None) × (more ≡ slice_set layer_of_move n (Some i))
 entered layer_of_move i n more is = by_test (nat_lt n (length layer_of_move) && not (is_some (layer_of layer_of_move n))) refl is
   where
@@ -119,7 +119,7 @@ holds-enter_all count layer_of_move entries i (n ∷ ns) more h is = by_first (�
         let rest = go next (holds-enter count layer_of_move entries i n next h e) f in
         rw (append_assoc entries ((n, i) ∷ []) (tagged i ns)) at rest
 
--- where a move cannot be entered, it is none, or it stands twice
+-- a move that cannot be entered is out of range or listed twice
 pub fails-enter_all : (count : ℕ) (layer_of_move : List (Option ℕ)) (entries : List (ℕ × ℕ)) (i : ℕ) (ns : List ℕ) → Holds count layer_of_move entries → enter_all layer_of_move i ns ≡ None → All (λ n. n < count) ns → AllPairs Apart (entries ++ tagged i ns) → ⊥
 fails-enter_all count layer_of_move entries i [] h is range once = cc
 fails-enter_all count layer_of_move entries i (n ∷ ns) h is range once =

@@ -1,4 +1,4 @@
--- Which layer_of_move fail, by what the searches found.
+-- Where the layers fail, by what the searches found.
 use Rattle.std.proofs.Common.{◌≡◌, ℕ, ◌≤◌, List, length, arith}
 use Rattle.std.specs.Prelude.{Option, Some, None}
 use Rattle.std.proofs.lemmas.Option.{slice_get_within}

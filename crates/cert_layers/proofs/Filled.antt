@@ -13,7 +13,7 @@ use Rattle.cert_layers.specs.LayerFaults.{IsShaped, ShapedAt, IsFirstFailing}
 use Rattle.cert_layers.specs.MoveLayers.{layer_of, enter_all, entered_layer, AreMoveLayers}
 use Rattle.cert_layers.proofs.Entries.{Apart, Holds, tagged, holds-enter_all, fails-enter_all}
 
--- the entries of the layers, of which the first has number i
+-- the entries of the layers, numbered from i on
 abbrev pub tags : ℕ → List Layer → List (ℕ × ℕ)
 tags i [] = []
 tags i (layer ∷ layers) = tagged i layer.moves ++ tags (suc i) layers

@@ -41,7 +41,7 @@ in_layer leaf layers layer_of_move n i t p move loud is =
     let f = p.listed_in n i is in
     record { layer = f.0; number = n; layer_is = f.1; lists = f.2; move_is = move; non_silent = loud }
 
--- and the other way round
+-- and conversely
 pub in_place : (leaf : LeafModel) (layers : List Layer) (layer_of_move : List (Option ℕ)) (i : ℕ) (t : Move) → AreMoveLayers leaf layers layer_of_move → (at : IsInLayer leaf layers i t) → layer_of layer_of_move at.number ≡ Some i
 in_place leaf layers layer_of_move i t p at = p.placed at.number i at.layer at.layer_is at.lists
 

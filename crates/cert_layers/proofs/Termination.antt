@@ -39,7 +39,7 @@ any_move-true leaf layers i layer test t e at same h =
     list_any-from (λ n. some_move test (slice_get leaf.moves n)) (layer_at layers i).moves at.number lists
     (some_move-true test (slice_get leaf.moves at.number) t at.move_is at.non_silent h)
 
--- where a crowd comes to, within k steps, with no enabled move in the layers before layer i
+-- a crowd that is reached within k steps, with no enabled move in the layers before layer i
 pub record Ended (leaf : LeafModel) (layers : List Layer) (i : ℕ) (crowd : List ℕ) (k : ℕ) : Type 0 where
   pub end : List ℕ
   pub path : List (List ℕ)
@@ -101,7 +101,7 @@ module _ (leaf : LeafModel) (layers : List Layer) (is : IsLeaf leaf) (v : ValidL
       go (inr k) = none (subst (λ (n : ℕ). IsInLayer leaf layers n u) (let same : j ≡ i = omega arith in same) at)
 
   module _ (low : ℤ) (above : (q : ℕ) → q < length layer.weights → low ≤ℤ weight_at layer.weights q) where
-    -- how heavy a crowd may be that makes no more moves of the layer than the fuel
+    -- a crowd light enough to make no more moves of the layer than the fuel
     abbrev Light : ℕ → List ℕ → Type 0
     Light fuel crowd = total layer.weights crowd ≤ℤ ((low *ℤ pos (length crowd)) +ℤ pos fuel)
 
@@ -208,7 +208,7 @@ listed_at (layer ∷ layers) n c = go (Contains-append_cases layer.moves (moves_
     go (inl here) more = (0, layer, refl, here)
     go (inr there) more = let m = more there in (suc m.0, m.1, m.2, m.3)
 
--- where no layer has an enabled move, the crowd is terminal
+-- if no layer has an enabled move, the crowd is terminal
 dead-terminal : (leaf : LeafModel) (layers : List Layer) → ValidLayers leaf layers → (crowd : List ℕ) → AreDead leaf layers (length layers) crowd → IsTerminal (LeafStep leaf) crowd
 dead-terminal leaf layers v crowd dead end s = by_change s.change
   where
@@ -224,7 +224,7 @@ dead-terminal leaf layers v crowd dead end s = by_change s.change
         let at_layer : IsInLayer leaf layers at.0 m.taken = record { layer = at.1; number = m.number; layer_is = at.2; lists = at.3; move_is = m.listed; non_silent = m.non_silent } in
         absurd (dead at.0 m.taken (slice_get_within layers at.0 at.1 at.2) at_layer (λ z. rw (← before_pre m.taken s.x s.y s.x' s.y' z m.followed) (two_there z crowd s.a s.b s.x s.y s.different s.a_had s.b_had)))
 
--- from every crowd of a leaf with valid layers a terminal crowd is reached, within the bound of the layers for each agent
+-- with valid layers, every crowd of a leaf can reach a terminal one within the bound of the layers for each agent
 pub record LeafEnd (leaf : LeafModel) (layers : List Layer) (crowd : List ℕ) : Type 0 where
   pub end : List ℕ
   pub terminal : IsTerminal (LeafStep leaf) end

@@ -1,4 +1,4 @@
--- Layers without a failing place are valid, and the other way round.
+-- Layers without a failing place are valid, and conversely.
 use Rattle.std.proofs.Common.{◌≡◌, ◌≢◌, ℕ, suc, ◌+◌, ◌<◌, List, [], ◌∷◌, ◌++◌, length, take, drop, get_or, refl, ap, sym, subst, ◌∙◌, arith, length-append}
 use Rattle.std.specs.Prelude.{Result, Ok, Err, IfOk, IfErr, All, AllPairs, Contains}
 use Rattle.std.proofs.Math.Seq.{take-length}
@@ -18,7 +18,7 @@ use Rattle.cert_layers.specs.declared.fault.LayerWhy.TheVariants.{Shape, NoLayer
 use Rattle.cert_layers.proofs.NotLower.{contains-listed}
 use Rattle.cert_layers.proofs.Termination.{listed_at, valid_layers-end}
 
--- what holds of each element of a list holds of all
+-- what holds for each element of a list holds for all
 All-each : {X : Type 0} (P : X → Type 0) (xs : List X) → ((x : X) → Contains xs x → P x) → All P xs
 All-each P xs each k d l = each (get_or xs k d) (k, l, get_or_default xs k (get_or xs k d) d l)
 

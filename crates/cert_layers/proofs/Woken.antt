@@ -43,7 +43,7 @@ module _ (leaf : LeafModel) (layers : List Layer) (layer_of_move : List (Option 
       }))
 
   module _ (t u : Move) (ts : IsMoveBelow STATE_LIMIT t) where
-    -- u' takes two states that were there before t, where u takes m and o
+    -- u' takes two states that were present before t, where u takes m and o
     abbrev Was : ℕ → ℕ → Move → Type 0
     Was m o u' = (z : ℕ) → pre u' z ≤ pre t z + (times_in_pair m o z - post t z)
 

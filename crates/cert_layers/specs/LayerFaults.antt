@@ -15,7 +15,7 @@ use Rattle.cert_layers.specs.declared.fault.LayerFault.TheVariants.{Broken, NoMe
 use Rattle.cert_layers.specs.declared.fault.LayerWhy.{LayerWhy}
 use Rattle.cert_layers.specs.declared.fault.LayerWhy.TheVariants.{Shape, NoLayer, NotLower, Wakes}
 
--- layer n, where there is one, has one weight per state and lists numbers of moves, and up to it no number stands twice
+-- layer n, if there is one, has one weight per state and lists move numbers, and up to it no number is listed twice
 pub record IsShaped (leaf : LeafModel) (layers : List Layer) (n : ℕ) (layer : Layer) : Type 0 where
   pub weights : length layer.weights ≡ length leaf.states
   pub in_range : All (λ number. number < length leaf.moves) layer.moves
@@ -33,11 +33,11 @@ ListedAt leaf layers n =
 abbrev pub LowerAt : LeafModel → List Layer → ℕ → Type 0
 LowerAt leaf layers n = (i : ℕ) (t : Move) (at : IsInLayer leaf layers i t) → at.number ≡ n → IsLower at.layer.weights t
 
--- a move t of layer i enables no move u, unless a move of a layer before i was enabled before it
+-- a move t of layer i doesn't enable a move u, unless a move of a layer before i was already enabled
 abbrev pub WakesNone : LeafModel → List Layer → ℕ → Move → Move → Type 0
 WakesNone leaf layers i t u = (k : ℕ) × (u' : Move) × (k < i) × IsInLayer leaf layers k u' × IsEnabledBefore u' t u
 
--- the move with number n wakes not the move with number m, where m stands in an earlier layer
+-- the move with number n doesn't wake the move with number m of an earlier layer
 abbrev pub SleepsAt : LeafModel → List Layer → ℕ → ℕ → Type 0
 SleepsAt leaf layers n m =
     (i j : ℕ) (t u : Move) → j < i → (at : IsInLayer leaf layers i t) → at.number ≡ n
@@ -88,5 +88,5 @@ pub record ChecksLayers (leaf : LeafModel) (layers : List Layer) (result : Resul
   pub valid : IfOk result (λ bound. ValidLayers leaf layers × (bound ≡ layers_bound layers))
   pub fault : IfErr result (IsLayerFault leaf layers)
   pub accepts : ValidLayers leaf layers → IfErr result (λ fault. fault ≡ NoMemory)
-  -- every crowd of the leaf can be brought to an end, within so many steps for each agent
+  -- every crowd of the leaf can reach a terminal one, within this many steps for each agent
   pub ends : IfOk result (EndsWithin leaf)

@@ -12,7 +12,7 @@ use Rattle.cert_layers.specs.declared.fault.LayerWhy.TheVariants.{Shape}
 abbrev pub layer_of : List (Option ℕ) → ℕ → Option ℕ
 layer_of layer_of_move n = slice_index_or layer_of_move n None
 
--- the layers of the moves so far, with move n in one more, unless there is no such move or it has a layer
+-- the layers of the moves so far, with move n put into this one, unless there is no such move or it has a layer
 abbrev pub enter : List (Option ℕ) → ℕ → ℕ → Option (List (Option ℕ))
 enter layer_of_move layer n =
     if nat_lt n (length layer_of_move)
@@ -22,7 +22,7 @@ abbrev pub enter_all : List (Option ℕ) → ℕ → List ℕ → Option (List (
 enter_all layer_of_move layer [] = Some layer_of_move
 enter_all layer_of_move layer (n ∷ ns) = option_and_then (λ more. enter_all more layer ns) (enter layer_of_move layer n)
 
--- the layers of the moves, where all layers have their shape, or the first layer that hasn't
+-- the layers of the moves so far, with the moves of layer i entered; None if the layer is out of shape
 abbrev pub entered_layer : ℕ → List (Option ℕ) → ℕ → Layer → Option (List (Option ℕ))
 entered_layer states layer_of_move i layer =
     if length layer.weights == states then enter_all layer_of_move i layer.moves else None

@@ -8,7 +8,7 @@ use Rattle.cert_base.specs.declared.layer.Layer.{Layer}
 use Rattle.cert_base.specs.ValidLayers.{weight_at}
 use Rattle.cert_layers.specs.MoveLayers.{layer_of}
 
--- a layer without moves, for the layer_of_move past the last layer
+-- a layer without moves, for the numbers past the last layer
 abbrev pub no_layer : Layer
 no_layer = record { moves = []; weights = [] }
 
@@ -30,7 +30,7 @@ abbrev pub is_unlisted_move : LeafModel → List (Option ℕ) → ℕ → Bool
 is_unlisted_move leaf layer_of_move n =
     some_move (λ t. not (is_some (layer_of layer_of_move n))) (slice_get leaf.moves n)
 
--- whether a move weighs less after it than before
+-- whether the states that a move brings weigh less than those it takes
 abbrev pub is_lower_after : List ℤ → Move → Bool
 is_lower_after w t = int_lt (weight_at w t.r +ℤ weight_at w t.s) (weight_at w t.p +ℤ weight_at w t.q)
 

@@ -54,7 +54,7 @@ brings_state t x = x == t.r || x == t.s
 abbrev pub brings_two_states : Move → ℕ → ℕ → Bool
 brings_two_states t m o = if m == t.r then o == t.s else o == t.r
 
--- t brings m; no early move takes two of the states of t and of o, where t doesn't bring that too
+-- t brings m; no early move takes both states of t, or, where t doesn't bring o too, o and one of them
 abbrev pub wakes_with_state : (ℕ → ℕ → Bool) → Move → ℕ → ℕ → Bool
 wakes_with_state early t m o = not (early t.p t.q || (not (brings_two_states t m o) && (early t.p o || early t.q o)))
 
@@ -92,7 +92,7 @@ abbrev pub FindsFirst : (ℕ → Bool) → Option ℕ → Type 0
 FindsFirst p None = (m : ℕ) → p m ≡ false
 FindsFirst p (Some u) = (p u ≡ true) × ((m : ℕ) → m < u → p m ≡ false)
 
--- the least move that wakes one, and the least that it wakes, if there are such
+-- the least move that wakes one, and the least that it wakes, if there are any
 abbrev pub FindsWaking : LeafModel → List (Option ℕ) → List ℕ → Option (ℕ × ℕ) → Type 0
 FindsWaking leaf layer_of_move table None = (n : ℕ) → FindsFirst (wakes_at leaf layer_of_move table n) None
 FindsWaking leaf layer_of_move table (Some found) =

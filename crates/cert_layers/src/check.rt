@@ -19,8 +19,8 @@ use pop_net::Leaf;
 use std::alloc::Global;
 
 /// Whether the layers of a leaf are valid, and their bound for each agent (layered termination of Blondin,
-/// Esparza, Jaax, Meyer 2017). A move wakes another only where it brings one of its states, so pairs of
-/// moves are looked at by their states.
+/// Esparza, Jaax, Meyer 2017). A move wakes another only by bringing one of its states, so pairs of moves are
+/// checked by their states.
 pub fn check_layers(alloc: Global, leaf: &Leaf, layers: &List<Layer>) -> Result<u64, LayerFault>
     requires { AreLayersWithin layers.now }
     ensures { ChecksLayers leaf.now layers.now result }

@@ -56,7 +56,7 @@ fn fails_to_lower(leaf: &Leaf, layers: &[Layer], layer_of_move: &[Option<u16>], 
     }
 }
 
-/// Whether a move weighs less after it than before.
+/// Whether the states that a move brings weigh less than those it takes.
 fn is_lower(weights: &[i64], taken: Move) -> bool
     requires small { All IsWeight weights.now }
     requires p_in { taken.p < length weights.now }

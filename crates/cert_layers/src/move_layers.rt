@@ -10,7 +10,7 @@ use pop_io::List;
 use pop_net::Leaf;
 use std::alloc::{AllocError, Global};
 
-/// The layer of each move, where one lists it, or the first layer that is out of shape.
+/// The layer of each move, if one lists it, or the first layer that is out of shape.
 pub(crate) fn layers_of_moves(
     alloc: Global,
     leaf: &Leaf,
@@ -40,7 +40,7 @@ fn all_unlisted(alloc: Global, count: u32) -> Result<Vec<Option<u16>>, AllocErro
     Ok(layer_of_move)
 }
 
-/// Enters the moves of a layer, where it has its shape.
+/// Enters the moves of a layer, if it has its shape.
 fn enter_layer(
     layer_of_move: &mut Vec<Option<u16>>,
     states: u16,

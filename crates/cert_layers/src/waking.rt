@@ -50,7 +50,7 @@ fn first_woken(leaf: &Leaf, layer_of_move: &[Option<u16>], table: &PairTable, t:
     woken_in_layer(leaf, layer_of_move, table, layer, taken)
 }
 
-/// The same of a move of a layer.
+/// The same for a move of a layer.
 fn woken_in_layer(
     leaf: &Leaf,
     layer_of_move: &[Option<u16>],
@@ -86,8 +86,7 @@ fn least_woken(
     (0..leaf.move_count()).find(|u| wakes_move(leaf, layer_of_move, table, layer, taken, *u))
 }
 
-/// Whether a move wakes an early move at all. It looks at pairs of states alone. Before the first layer there are no
-/// moves.
+/// Whether a move wakes an early move at all, by pairs of states alone. Before the first layer there are no moves.
 fn may_wake(table: &PairTable, layer: u16, taken: Move, states: u16) -> bool
     requires below { IsMoveBelow STATE_LIMIT taken }
     requires states { states ≤ STATE_LIMIT }
@@ -107,7 +106,7 @@ fn wakes_some(table: &PairTable, layer: u16, taken: Move, states: u16) -> bool
     (0..states).any(|y| wakes_beside(table, layer, taken, y))
 }
 
-/// Whether a move wakes an early move that takes a state that it brings and another one.
+/// Whether a move wakes an early move that takes `y` and a state that the move brings.
 fn wakes_beside(table: &PairTable, layer: u16, taken: Move, y: u16) -> bool
     requires below { IsMoveBelow STATE_LIMIT taken }
     requires y_in { y < STATE_LIMIT }
@@ -155,7 +154,7 @@ fn wakes(table: &PairTable, layer: u16, taken: Move, x: u16, y: u16) -> bool
     }
 }
 
-/// The same where the move brings the first state.
+/// The same if the move brings the first state.
 fn wakes_with(table: &PairTable, layer: u16, taken: Move, brought: u16, other: u16) -> bool
     requires below { IsMoveBelow STATE_LIMIT taken }
     requires other_in { other < STATE_LIMIT }

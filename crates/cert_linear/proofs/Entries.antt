@@ -1,4 +1,4 @@
--- Entries of which the touched ones are listed.
+-- Entries, with a list of the touched ones.
 use Rattle.std.proofs.Common.{◌≡◌, ◌≢◌, inl, inr, ℕ, zero, suc, ◌+◌, ◌<◌, ◌≤◌, Bool, true, false, List, [], ◌∷◌, ◌++◌, length, take, refl, ap, sym, ◌∙◌, subst, arith}
 use Rattle.std.specs.Prelude.{ℤ, pos, ◌+ℤ◌, nat_abs, int_le, slice_get, Some, ◌==◌, if◌then◌else◌, ◌&&◌, All, Contains, slice_index_or, slice_set}
 use Rattle.std.specs.List.{list_all}
@@ -42,7 +42,7 @@ set-same entries x e l = get_or-set_same entries x e blank l
 pub set-other : (entries : List Entry) (x q : ℕ) (e : Entry) → x ≢ q → entry_at (slice_set entries x e) q ≡ entry_at entries q
 set-other entries x q e ne = get_or-set_other entries x q e blank (λ same. ne (sym same))
 
--- an entry is written that is listed
+-- a listed entry is written
 pub tidy-set : (entries : List Entry) (touched : List ℕ) (x : ℕ) (e : Entry) → AreTidy entries touched → x < length entries → e.touched ≡ true → Contains touched x → AreTidy (slice_set entries x e) touched
 tidy-set entries touched x e t inside marked there = record {
   within = λ k d l. let h = t.within k d l in omega (arith, h, length-set entries x e);
@@ -83,7 +83,7 @@ sum-grown entries x e by inside grown q = go (eqb_tells x q)
         let same = ap (λ (f : Entry). f.sum) (set-other entries x q e h.1) in
         rw h.0 (omega (arith, ints, same))
 
--- an entry that is listed grows
+-- a listed entry grows
 pub entry_grows : (entries : List Entry) (touched : List ℕ) (x : ℕ) (here e : Entry) (by total : ℤ) → AreTidy entries touched → x < length entries → here ≡ entry_at entries x → here.touched ≡ true → e ≡ record { sum = total; touched = here.touched } → total ≡ (here.sum +ℤ by) → AreTidy (slice_set entries x e) touched × ((q : ℕ) → (entry_at (slice_set entries x e) q).sum ≡ ((entry_at entries q).sum +ℤ (if x == q then by else pos 0)))
 entry_grows entries touched x here e by total t inside is marked e_is total_is =
     let there = t.listed x (ap (λ (f : Entry). f.touched) (sym is) ∙ marked) in
@@ -105,7 +105,7 @@ rests-push entries rests r = record {
   small = r.small;
 }
 
--- an entry is written that is touched
+-- a touched entry is written
 pub rests-set : (entries : List Entry) (rests : List ℤ) (x : ℕ) (e : Entry) → AreRests entries rests → x < length entries → e.touched ≡ true → AreRests (slice_set entries x e) rests
 rests-set entries rests x e r inside marked = record {
   zero = λ q h. zero_at q h (eqb_tells x q);
@@ -165,7 +165,7 @@ rest_grows entries after rests mid x here by total r same kept inside is grown m
     grows : (q : ℕ) → rest_at (slice_set mid x total) q ≡ (rest_at rests q +ℤ (if x == q then by else pos 0))
     grows q = grows_at q (eqb_tells x q)
 
--- an entry that is listed grows, and with it the coefficient
+-- a listed entry grows, and the coefficient with it
 pub coefficient_grows : (sum : Sum) (x : ℕ) (here e : Entry) (by total : ℤ) → IsTidy sum → x < length sum.entries.items → here ≡ entry_at sum.entries.items x → here.touched ≡ true → e ≡ record { sum = total; touched = here.touched } → total ≡ (here.sum +ℤ by) → (AreTidy (slice_set sum.entries.items x e) sum.touched.items × AreRests (slice_set sum.entries.items x e) sum.rests.items) × ((q : ℕ) → ((entry_at (slice_set sum.entries.items x e) q).sum +ℤ rest_at sum.rests.items q) ≡ (coefficient_of sum q +ℤ (if x == q then by else pos 0)))
 coefficient_grows sum x here e by total tidy inside is marked e_is total_is =
     let grows = entry_grows sum.entries.items sum.touched.items x here e by total tidy.0 inside is marked e_is total_is in
@@ -218,7 +218,7 @@ none-positive-both row sum other listed are tidy all =
 
 -- ---- positive variables
 
--- they are all listed where those that were touched are
+-- all are listed if the touched ones are
 pub all-positive : (sum : Sum) (listed : List ℕ) → IsTidy sum → All (IsListedIfPositive sum listed) sum.touched.items → HasAllPositive sum listed
 all-positive sum listed tidy touched q e = go (entry_at sum.entries.items q).touched refl
   where

@@ -1,4 +1,4 @@
--- Where a combination of facts closes, no counts meet them all.
+-- If a combination of facts closes, no counts meet them all.
 use Rattle.std.proofs.Common.{◌≡◌, true, ◌&&◌, List, [], ◌∷◌, refl, arith}
 use Rattle.std.specs.Prelude.{Option, Some, None, ℤ, pos, negsuc, ◌*ℤ◌, ◌≤ℤ◌, int_le, slice_get, All}
 use Rattle.std.specs.Int.Signed.{le_z_yes}
@@ -50,7 +50,7 @@ row_value-below_zero count row e f =
     let sum = total-le_zero (λ j. coefficient_in row.terms j *ℤ pos (count j)) (end_of row.terms) (λ j. mul-pos-le_zero (coefficient_in row.terms j) (count j) (le_from_test (coefficient_in row.terms j) (pos 0) (each_coefficient-at (λ a. int_le a (pos 0)) row j refl e))) in
     omega (arith, ints, constant, value, sum)
 
--- what `linear_closes` says true of, no counts meet
+-- no counts meet facts for which `linear_closes` is true
 pub linear_closes-none : (count : Valuation) (facts : List Fact) (terms : List Term) → closes_by_sum facts terms ≡ true → All (MeetsFact count) facts → ⊥
 linear_closes-none count facts terms e m =
     let all = all_named may_add facts terms in

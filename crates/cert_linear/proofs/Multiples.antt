@@ -54,7 +54,7 @@ multiple-times m a z h = (a *ℤ h.0, ap (λ y. a *ℤ y) h.1 ∙ sym (mul-mul-p
 pub multiple-zero : (m : ℕ) → Multiple m (pos 0)
 multiple-zero m = (pos 0, sym (zero-*ℤ (pos m)))
 
--- what is left of a multiple without a multiple
+-- a multiple less a multiple is a multiple
 multiple-less : (m : ℕ) (y z : ℤ) → Multiple m (y +ℤ z) → Multiple m y → Multiple m z
 multiple-less m y z h k =
     let minus = multiple-times m (negsuc 0) y k in
@@ -69,7 +69,7 @@ total-multiple : (m : ℕ) (f : ℕ → ℤ) (n : ℕ) → ((j : ℕ) → Multip
 total-multiple m f zero each = multiple-zero m
 total-multiple m f (suc n) each = multiple-add m (f n) (total f n) (each n) (total-multiple m f n each)
 
--- where all coefficients are multiples, the value of the terms is one
+-- if all coefficients are multiples, so is the value of the terms
 terms-multiple : (count : Valuation) (m : ℕ) (row : Row) → each_coefficient (is_multiple m) row ≡ true → Multiple m (total (λ j. coefficient_in row.terms j *ℤ pos (count j)) (end_of row.terms))
 terms-multiple count m row e =
     total-multiple m (λ j. coefficient_in row.terms j *ℤ pos (count j)) (end_of row.terms)
@@ -99,7 +99,7 @@ sum_of-multiple count m facts (t ∷ terms) meets e =
     let both = multiple-add m _ _ first rest in
     (both.0, row_value-add_rows count (scaled t.by (slice_get facts t.at)) (sum_of facts terms) ∙ both.1)
 
--- a row whose coefficients are multiples has a multiple as its value exactly when its constant is one
+-- the value of a row whose coefficients are multiples is a multiple exactly when its constant is
 constant_multiple : (count : Valuation) (m : ℕ) (row : Row) → each_coefficient (is_multiple m) row ≡ true → Multiple m (row_value count row) → Multiple m row.constant
 constant_multiple count m row e h =
     let terms = terms-multiple count m row e in
@@ -144,7 +144,7 @@ not_true : (b : Bool) → not b ≡ true → b ≡ true → ⊥
 not_true true e f = cc
 not_true false e f = cc
 
--- what `residue_closes` says true of, no counts meet
+-- no counts meet facts for which `residue_closes` is true
 pub residue_closes-none : (count : Valuation) (facts : List Fact) (m : ℕ) (terms : List Term) → closes_by_residue facts m terms ≡ true → All (MeetsFact count) facts → ⊥
 residue_closes-none count facts m terms e meets =
     let sum = sum_of facts terms in

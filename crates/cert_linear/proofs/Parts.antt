@@ -55,7 +55,7 @@ named-same stable facts other same (t ∷ ts) below =
     let rest = named-same stable facts other same ts (λ k d l. below (suc k) d (omega (arith, l))) in
     rw (here, rest) refl
 
--- the sum stays the one that is kept, as long as the facts below the number stay
+-- the kept sum stays right as long as the facts below the number stay
 pub kept-same : (stable : ℕ) (facts other : List Fact) (tally : Tally) → ((n : ℕ) → n < stable → slice_get other n ≡ slice_get facts n) → IsKept stable facts tally → IsKept stable other tally
 kept-same stable facts other tally same is = record {
   named = is.named;

@@ -26,7 +26,7 @@ residue-refuted facts m terms (Err e) is = tt
 residue-refuted facts m terms (Ok true) is = λ yes count meets. residue_closes-none count facts m terms (sym is) meets
 residue-refuted facts m terms (Ok false) is = λ no. absurd (false≢true no)
 
--- where the constant alone doesn't refute, the facts have to deny the sum
+-- if the constant alone doesn't refute, the facts must deny the sum
 pub residue_by_facts : (facts : List Fact) (m : ℕ) (terms : List Term) (sum : Sum) (r : Result Bool NoMemory) → all_named (may_add_modulo m) facts terms ≡ true → IsSum (sum_of facts terms) sum → (each_coefficient (is_multiple m) (sum_of facts terms) && not (is_multiple m (sum_of facts terms).constant)) ≡ false → IfOk r (λ denied. (row : Row) → IsSum row sum → denied ≡ list_any (denies m row) facts) → IfOk r (λ closes. closes ≡ closes_by_residue facts m terms)
 residue_by_facts facts m terms sum (Err e) named is fails d = tt
 residue_by_facts facts m terms sum (Ok closes) named is fails d = d (sum_of facts terms) is ∙ rw (named, fails) refl

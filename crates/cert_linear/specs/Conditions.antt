@@ -1,4 +1,4 @@
--- What is asked of facts, and of the terms that name them.
+-- What is required of facts, and of the terms that name them.
 use Rattle.std.specs.Prelude.{◌≡◌, ℕ, ◌<◌, ◌≤◌, Bool, List, nat_abs, length, All, AllPairs, IsTrue}
 use Rattle.cert_base.specs.declared.limits.TheConstants.{SIZE_LIMIT, TERM_LIMIT}
 use Rattle.cert_base.specs.declared.fact.Term.{Term}
@@ -29,7 +29,7 @@ pub record IsCombination (facts : List Fact) (terms : List Term) : Type 0 where
   pub multipliers : AreMultipliers terms
   pub ordered : All IsOrdered facts
 
--- the answer of a closing test; where it is true, no counts meet all the facts
+-- the answer of a closing test; if it is true, no counts meet all the facts
 pub record TellsRefuted (facts : List Fact) (test answer : Bool) : Type 0 where
   pub closes : answer ≡ test
   pub refutes : IsTrue answer → AreRefuted facts

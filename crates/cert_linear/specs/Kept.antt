@@ -1,4 +1,4 @@
--- A sum of facts of which one part is kept.
+-- A sum of facts, one part of which is kept.
 use Rattle.std.specs.Prelude.{◌≡◌, ℕ, ◌<◌, List, All, Bool, true, false}
 use Rattle.cert_base.specs.declared.fact.Term.{Term}
 use Rattle.cert_base.specs.declared.fact.Fact.{Fact}

@@ -55,7 +55,7 @@ pub record IsPlus (row : Row) (sum more : Sum) : Type 0 where
       → coefficient_of more variable ≡ (coefficient_of sum variable +ℤ coefficient_in row.terms variable)
   pub constant : more.constant ≡ (sum.constant +ℤ row.constant)
 
--- both sums are the same rows
+-- both sums have the same coefficients and the same constant
 pub record IsSame (sum other : Sum) : Type 0 where
   pub terms : (variable : ℕ) → coefficient_of other variable ≡ coefficient_of sum variable
   pub constant : other.constant ≡ sum.constant

@@ -49,7 +49,7 @@ pub fn residue_closes(
     )
 }
 
-/// The same over a sum that is used again.
+/// The same with a sum that is reused.
 pub(crate) fn residue(
     sum: &mut Sum,
     facts: &[Fact],
@@ -73,7 +73,7 @@ pub(crate) fn residue(
     is_denied(sum, facts, modulus)
 }
 
-/// Makes the sum that of the named facts, unless one may not have its multiplier.
+/// Sums up the named facts, unless one may not have its multiplier.
 pub(crate) fn sum_up(
     sum: &mut Sum,
     facts: &[Fact],
@@ -145,7 +145,7 @@ fn is_denied_by(sum: &mut Sum, fact: &Fact, modulus: u32) -> Result<bool, NoMemo
     }
 }
 
-/// Whether a row differs from the sum by multiples of the modulus. The sum stays.
+/// Whether a row differs from the sum by multiples of the modulus. The sum is unchanged.
 fn agrees(sum: &mut Sum, row: &Row, modulus: u32) -> Result<bool, NoMemory>
     requires modulus { 0 < modulus }
     requires ascending { AreAscending row.now.terms }

@@ -44,14 +44,14 @@ const BLANK: Entry = Entry {
     touched: false,
 };
 
-/// A sum of rows, each with its multiplier: an entry for each variable up to the greatest that was ever given. It is
-/// used again for the next sum, and only the entries that were touched are cleared and looked at.
-/// The entries are small, so that those of many variables stay in a processor's cache.
+/// A sum of rows, each with its multiplier: an entry for each variable up to the greatest ever given. It is reused for
+/// the next sum, and only the touched entries are cleared and looked at.
+/// The entries are small, so those of many variables stay in a processor's cache.
 #[derive(Drop)]
 pub(crate) struct Sum {
     entries: Vec<Entry>,
     touched: Vec<u32>,
-    /// What did not fit into the entries, for each variable up to the greatest where something did not.
+    /// What did not fit into the entries, for each variable up to the greatest that has such a rest.
     rests: Vec<i128>,
     constant: i128,
 }
@@ -70,7 +70,7 @@ impl Sum {
         }
     }
 
-    /// The sum of no rows.
+    /// Makes it the sum of no rows.
     pub(crate) fn clear(&mut self)
         requires { IsTidy self.old }
         ensures sum { IsSum no_row self.new }
@@ -153,7 +153,7 @@ impl Sum {
         }
     }
 
-    /// Adds beside the entry of a touched variable what does not fit into it.
+    /// Adds to the rest of a touched variable what does not fit into its entry.
     fn enter_rest(&mut self, variable: u32, by: i128) -> Result<(), NoMemory>
         requires tidy { IsTidy self.old }
         requires touched { (entry_at self.old.entries.items variable).touched ≡ true }
@@ -217,7 +217,6 @@ impl Sum {
         Ok(())
     }
 
-    /// The coefficient of a variable.
     fn coefficient(&self, variable: u32) -> i128
         requires { IsTidy self.now }
         ensures { result ≡ coefficient_of self.now variable }
@@ -253,7 +252,7 @@ impl Sum {
         self.coefficient(variable) + other.coefficient(variable)
     }
 
-    /// Makes the list that of the variables whose coefficient is above 0.
+    /// Sets the list to the variables whose coefficient is above 0.
     pub(crate) fn list_positive(&self, positive: &mut Vec<u32>) -> Result<(), NoMemory>
         requires { IsTidy self.now }
         ensures { OnOk result (HasAllPositive self.now positive.new.items) }
@@ -262,7 +261,7 @@ impl Sum {
         Ok(())
     }
 
-    /// Makes the list that of the variables among these whose coefficient is above 0.
+    /// Sets the list to those of these variables whose coefficient is above 0.
     fn list_positive_among(
         &self,
         variables: &[u32],
@@ -278,7 +277,7 @@ impl Sum {
         Ok(())
     }
 
-    /// Adds a variable whose coefficient is above 0.
+    /// Adds a variable if its coefficient is above 0.
     fn push_positive(&self, variable: u32, positive: &mut Vec<u32>) -> Result<(), NoMemory>
         requires { IsTidy self.now }
         ensures listed { OnOk result (IsListedIfPositive self.now positive.new.items variable) }
@@ -292,7 +291,7 @@ impl Sum {
     }
 
     /// Whether both sums together are below 0 at all counts: no coefficient is above 0, and the constant is below 0.
-    /// Of the other sum it looks at these variables alone, which are all whose coefficient there is above 0.
+    /// Of the other sum it looks only at these variables: all whose coefficient there is above 0.
     pub(crate) fn is_negative_with(&self, other: &Sum, positive: &[u32]) -> bool
         requires own { IsTidy self.now × IsSumWithin SUM_LIMIT self.now }
         requires other { IsTidy other.now × IsSumWithin SUM_LIMIT other.now }

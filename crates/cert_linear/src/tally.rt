@@ -1,4 +1,4 @@
-//! A sum of facts in two parts, of which one is kept.
+//! A sum of facts in two parts, one of which is kept.
 
 ghost use Rattle.std.specs.Prelude.{◌≡◌, ◌≤◌, ◌<◌, ℕ, List, [], length, take, All, IfOk, IsTrue};
 ghost use Rattle.cert_base.specs.ClosingTests.{closes_by_sum};
@@ -14,7 +14,7 @@ use pop_io::NoMemory;
 use std::alloc::Global;
 
 /// The sums of the leading terms of a combination and of its other terms. Nodes often share their leading terms, so
-/// that their sum is kept, with its terms.
+/// their sum is kept, with its terms.
 #[derive(Drop)]
 pub(crate) struct Tally {
     kept: Vec<Term>,
@@ -49,7 +49,7 @@ impl Tally {
         self.positive.truncate(0);
     }
 
-    /// Keeps the sum only if the facts below `stable` are among the first `len`. The answer is the new `stable`.
+    /// Keeps the sum only if the facts below `stable` are among the first `len`. Returns the new `stable`.
     pub(crate) fn lower(&mut self, stable: u32, len: u32) -> u32
         requires { IsTidy self.old.lead × IsTidy self.old.rest }
         ensures within { (result ≤ stable) × (result ≤ len) }
@@ -62,7 +62,7 @@ impl Tally {
         len
     }
 
-    /// Whether the sum of the named facts refutes them. The terms in front that name facts below `stable` are leading.
+    /// Whether the sum of the named facts refutes them. The prefix of terms that name facts below `stable` is leading.
     pub(crate) fn closes(
         &mut self,
         facts: &[Fact],
@@ -85,7 +85,7 @@ impl Tally {
         Ok(may_add && self.rest.is_negative_with(&self.lead, positive))
     }
 
-    /// Makes the kept sum that of these terms, unless one may not have its multiplier.
+    /// Keeps the sum of these terms, unless one may not have its multiplier.
     fn keep(&mut self, facts: &[Fact], stable: u32, lead: &[Term]) -> Result<bool, NoMemory>
         requires kept { IsKept stable facts.now self.old }
         requires stable { All (λ t. t.at < stable) lead.now }
@@ -108,7 +108,7 @@ impl Tally {
         }
     }
 
-    /// Makes the lead's sum that of these terms and lists them, unless one may not have its multiplier.
+    /// Sums up these terms as the lead and keeps them, unless one may not have its multiplier.
     fn make(&mut self, facts: &[Fact], lead: &[Term]) -> Result<bool, NoMemory>
         requires none { self.old.kept.items ≡ [] }
         requires lead { IsTidy self.old.lead }
@@ -129,7 +129,7 @@ impl Tally {
     }
 }
 
-/// How many terms in front name facts below a number.
+/// The length of the prefix of terms that name facts below a number.
 fn leading(terms: &[Term], stable: u32) -> usize
     ensures within { result ≤ length terms.now }
     ensures stable { All (λ t. t.at < stable) (take result terms.now) }

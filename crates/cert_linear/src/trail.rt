@@ -9,11 +9,11 @@ use pop_io::{List, NoMemory};
 use std::alloc::Global;
 use std::marker::Model;
 
-/// At most `FACT_LIMIT` facts, of which the last ones can be cut off. Contracts see it as their list.
+/// At most `FACT_LIMIT` facts, the last of which can be cut off. Contracts see it as their list.
 #[derive(Drop)]
 pub struct Trail {
     facts: Vec<Fact>,
-    /// The facts below this number were there from the begin.
+    /// The facts below this number are those given to `new`.
     stable: u32,
     /// Used again for each sum of facts.
     tally: Tally,
@@ -92,7 +92,7 @@ impl Trail {
         Ok(())
     }
 
-    /// Leaves the first facts, so many. It allocates nothing.
+    /// Keeps only the first `len` facts. It allocates nothing.
     pub fn cut(&mut self, len: u32)
         requires { len ≤ length self.old }
         ensures { self.new ≡ take len self.old }

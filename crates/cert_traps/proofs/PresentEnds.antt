@@ -26,7 +26,7 @@ use Rattle.list_laws.proofs.Lists.{slice_get-set_same, slice_get-set_other, all_
 use Rattle.std.proofs.lemmas.Option.{same_Some}
 use Rattle.pop_net.proofs.Silent.{stays-silent, same_pair_cases}
 
--- at a terminal crowd no non-silent move is enabled
+-- in a terminal crowd no non-silent move is enabled
 pub terminal_dead : (leaf : LeafModel) (crowd : List ℕ) → IsTerminal (LeafStep leaf) crowd → (n : ℕ) (t : Move) → slice_get leaf.moves n ≡ Some t → silent_move t ≡ false → IsEnabledIn crowd t → ⊥
 terminal_dead leaf crowd terminal n t m s enabled =
     let two = agents_of crowd t (enabled_test-true crowd t enabled) in
@@ -45,7 +45,7 @@ pre_pair : (t : Move) (p q z : ℕ) → ((p ≡ t.p) × (q ≡ t.q)) ⊎ ((p ≡
 pre_pair t p q z (inl e) = rw (e.0, e.1) refl
 pre_pair t p q z (inr e) = rw (e.0, e.1) (omega arith)
 
--- two states that can meet are not both there at a terminal crowd
+-- two states that can meet are not both present in a terminal crowd
 pub cannot_meet : (leaf : LeafModel) (crowd : List ℕ) (p q : ℕ) → IsTerminal (LeafStep leaf) crowd → can_meet_in leaf p q ≡ true → ((z : ℕ) → one_at p z + one_at q z ≤ number_in z crowd) → ⊥
 cannot_meet leaf crowd p q terminal e there =
     let found = list_any-contains (takes_states p q) leaf.moves e in
@@ -107,7 +107,7 @@ twice crowd p l z = go (eqb_tells p z)
     go (inl e) = let m : 2 ≤ number_in z crowd = rw (← e.1) l in rw e.0 m
     go (inr e) = rw e.0 (omega arith)
 
--- a state that can meet itself is there once at most
+-- a state that can meet itself occurs at most once
 pub once_at_most : (leaf : LeafModel) (crowd : List ℕ) (p : ℕ) → IsTerminal (LeafStep leaf) crowd → can_meet_in leaf p p ≡ true → number_in p crowd ≤ 1
 once_at_most leaf crowd p terminal e = go (cases_lt 1 (number_in p crowd))
   where
@@ -116,7 +116,7 @@ once_at_most leaf crowd p terminal e = go (cases_lt 1 (number_in p crowd))
     go (inr l) = l
 
 module _ (leaf : LeafModel) (count : Valuation) (end : List ℕ) (counts : CountsStates leaf count end) (terminal : IsTerminal (LeafStep leaf) end) (p : ℕ) (lp : p < length leaf.states) where
-  -- whether a state is another one, and could meet p
+  -- whether a state differs from p, and p can meet it
   abbrev meets : ℕ → Bool
   meets q = not (q == p) && can_meet_in leaf p q
 
@@ -158,7 +158,7 @@ module _ (leaf : LeafModel) (count : Valuation) (end : List ℕ) (counts : Count
           (All-cons (MeetsFact count) (occurs_fact leaf p) (map (absent_fact leaf) (filter meets (states_of leaf))) (occurs_met leaf count p (omega (arith, some, counts p lp))) (others_met some))
           (alone_if some (can_meet_in leaf p p) refl)))
 
-  -- where the state can meet itself, they meet its one fact
+  -- if the state can meet itself, they meet its one fact
   pub twin_met : can_meet_in leaf p p ≡ true → MeetsOne count ((not_twice leaf p ∷ []) ∷ [])
   twin_met e =
       in_first count (not_twice leaf p ∷ []) []

@@ -52,7 +52,7 @@ module _ (leaf : LeafModel) (set : List ℕ) (before after : List ℕ) (s : Leaf
   y_outside : is_in set s.y ≡ false
   y_outside = All-slice_get (λ (q : ℕ). is_in set q ≡ false) before s.b s.y none s.b_had
 
-  -- where the two agents go to no state of the set, nobody is in it
+  -- if neither agent goes into the set, nobody is in it
   nobody_after : (is_in set s.x' ≡ false) × (is_in set s.y' ≡ false) → NoneInside set after
   nobody_after e =
       subst (λ (c : List ℕ). NoneInside set c) (sym s.others_stay)
@@ -67,7 +67,7 @@ module _ (leaf : LeafModel) (set : List ℕ) (before after : List ℕ) (s : Leaf
       let puts = takes_none (puts_into set m.taken) (takes_from set m.taken) stays takes in
       (nobody_after (both_outside set m.taken s.x s.y s.x' s.y' m.followed puts), others_untaken leaf (takes_from set) m.number m.taken m.listed takes)
 
--- the same over a whole way
+-- the same over a whole path
 way_on : (leaf : LeafModel) (set : List ℕ) (start : List ℕ) (path : List (List ℕ)) (end : List ℕ) (way : Leads (LeafStep leaf) start path end) → NoneInside set start → ((n : ℕ) (t : Move) → slice_get leaf.moves n ≡ Some t → enters_set set t ≡ true → times_taken leaf n start path end way ≡ 0) → NoneInside set end × ((n : ℕ) (t : Move) → slice_get leaf.moves n ≡ Some t → takes_from set t ≡ true → times_taken leaf n start path end way ≡ 0)
 way_on leaf set start [] end way none enters = (subst (λ (c : List ℕ). NoneInside set c) (sym way) none, λ n t h e. refl)
 way_on leaf set start (next ∷ path) end way none enters =
@@ -75,7 +75,7 @@ way_on leaf set start (next ∷ path) end way none enters =
     let later = way_on leaf set next path end way.1 first.0 (λ n t h e. (sum_zero (is_by n way.0.change) (times_taken leaf n next path end way.1) (enters n t h e)).1) in
     (later.0, λ n t h e. (let a = first.1 n t h e in let b = later.1 n t h e in let f : is_by n way.0.change + times_taken leaf n next path end way.1 ≡ 0 = omega (arith, a, b) in f))
 
--- where no input that starts in the set is given, nobody starts in it
+-- if no input that starts in the set is given, nobody starts in it
 starts_outside : (set : List ℕ) (start : ℕ → ℕ) (k : ℕ) (counts : List ℕ) → ((i : ℕ) → i < length counts → is_in set (start (k + i)) ≡ true → slice_index counts i ≡ 0) → NoneInside set (starts_from start k counts)
 starts_outside set start k [] f = All-nil (λ (q : ℕ). is_in set q ≡ false)
 starts_outside set start k (n ∷ counts) f =
@@ -88,7 +88,7 @@ starts_outside set start k (n ∷ counts) f =
     copies n true e g =
         subst (λ (m : ℕ). All (λ q. is_in set q ≡ false) (replicate m (start k))) (sym (g e)) (All-nil (λ (q : ℕ). is_in set q ≡ false))
 
--- where none is counted that passes a test, all fail it
+-- if no items that pass a test are counted, all fail it
 none_pass : {A : Type 0} (test : A → Bool) (xs : List A) → count_by test xs ≡ 0 → All (λ x. test x ≡ false) xs
 none_pass test [] e = All-nil (λ x. test x ≡ false)
 none_pass {A} test (x ∷ xs) e =
@@ -115,12 +115,12 @@ module _ (leaf : LeafModel) (set : List ℕ) (count : Valuation) (counts : List 
   abbrev places : ℕ
   places = length leaf.inputs + length leaf.states
 
-  -- where no move entered the set, no such move was taken
+  -- if no move entered the set, no such move was taken
   not_entered : sum_if count (enters_set set) places leaf.moves ≡ 0 → (n : ℕ) (t : Move) → slice_get leaf.moves n ≡ Some t → enters_set set t ≡ true → times_taken leaf n (leaf_input_crowd leaf counts) path end way ≡ 0
   not_entered e n t h l =
       sym (is.moves n (slice_get_within leaf.moves n t h)) ∙ sum_if-none count (enters_set set) places leaf.moves e n t h l
 
-  -- where no input of the set is counted, no agent of an input starts in it
+  -- if no input of the set is counted, no agent of an input starts in it
   given_outside : sum_if count (is_in set) 0 leaf.inputs ≡ 0 → NoneInside set (starts_from (λ variable. slice_index leaf.inputs variable) 0 counts)
   given_outside e =
       starts_outside set (λ variable. slice_index leaf.inputs variable) 0 counts
@@ -128,7 +128,7 @@ module _ (leaf : LeafModel) (set : List ℕ) (count : Valuation) (counts : List 
       let there : slice_get leaf.inputs i ≡ Some (slice_index leaf.inputs i) = slice_get-get_or leaf.inputs i 0 m in
       sym (is.inputs i m) ∙ ap count (sym (zero-add i)) ∙ sum_if-none count (is_in set) 0 leaf.inputs e i (slice_index leaf.inputs i) there (ap (λ j. is_in set (slice_index leaf.inputs j)) (sym (zero-add i)) ∙ h))
 
-  -- where no input of the set is counted and no helper is in it, nobody starts in it
+  -- if no input of the set is counted and no helper is in it, nobody starts in it
   none_at_start : sum_if count (is_in set) 0 leaf.inputs ≡ 0 → helpers_among leaf set ≡ 0 → NoneInside set (leaf_input_crowd leaf counts)
   none_at_start e none =
       All-append (λ (q : ℕ). is_in set q ≡ false) (starts_from (λ variable. slice_index leaf.inputs variable) 0 counts) leaf.helpers (given_outside e) (none_pass (is_in set) leaf.helpers none)

@@ -19,7 +19,7 @@ pub sum_zero : (a b : ℕ) → a + b ≡ 0 → (a ≡ 0) × (b ≡ 0)
 sum_zero a b e = ((let f : a ≡ 0 = omega (arith, e) in f), (let f : b ≡ 0 = omega (arith, e) in f))
 
 module _ (leaf : LeafModel) (test : Move → Bool) (number : ℕ) (taken : Move) (listed : slice_get leaf.moves number ≡ Some taken) where
-  -- where no move that passes the test is taken, the one that is taken fails it
+  -- if no move that passes the test is taken, the one that is taken fails it
   pub taken_fails : ((n : ℕ) (t : Move) → slice_get leaf.moves n ≡ Some t → test t ≡ true → one_at number n ≡ 0) → test taken ≡ false
   taken_fails none = go (test taken) refl
     where
@@ -30,7 +30,7 @@ module _ (leaf : LeafModel) (test : Move → Bool) (number : ℕ) (taken : Move)
           let once : one_at number number ≡ 1 = rw (eq-eqb number number refl) refl in
           absurd (omega (arith, zero_times, once))
 
-  -- and the other way round
+  -- and conversely
   pub others_untaken : test taken ≡ false → (n : ℕ) (t : Move) → slice_get leaf.moves n ≡ Some t → test t ≡ true → one_at number n ≡ 0
   others_untaken fails n t h e = go (eqb_tells number n)
     where
@@ -45,7 +45,7 @@ module _ (leaf : LeafModel) (test : Move → Bool) (number : ℕ) (taken : Move)
 pub single_none : (count : Valuation) (v : ℕ) → count v ≡ 0 → MeetsFact count (Eq (single_row v (pos 1) (pos 0)))
 single_none count v e = let o = one_times (count v) in omega (arith, ints, o, e)
 
--- where no move that passes a test was taken, the counts meet the facts that say so
+-- if no move that passes a test was taken, the counts meet the facts that say so
 pub untaken_met : (leaf : LeafModel) (count : Valuation) (test : Move → Bool) (times : ℕ → ℕ)
     → ((n : ℕ) → n < length leaf.moves → count (move_variable leaf n) ≡ times n)
     → ((n : ℕ) (t : Move) → slice_get leaf.moves n ≡ Some t → test t ≡ true → times n ≡ 0) → All (MeetsFact count) (no_moves leaf test)

@@ -64,7 +64,7 @@ module _ (leaf : LeafModel) (set : List ℕ) (before after : List ℕ) (s : Leaf
       ap (λ k. slice_get k c) s.others_stay
       ∙ slice_get-set_other (slice_set before s.a s.x') s.b c s.y' z (λ e. me (sym e)) (slice_get-set_other before s.a c s.x' z (λ e. ne (sym e)) h)
 
-  -- where the two agents weren't in the set, nobody was
+  -- if the two agents weren't in the set, nobody was
   nobody : is_in set s.x ≡ false → is_in set s.y ≡ false → NoneIn set before
   nobody e f c z h = at (eqb_tells c s.a) (eqb_tells c s.b)
     where
@@ -73,7 +73,7 @@ module _ (leaf : LeafModel) (set : List ℕ) (before after : List ℕ) (s : Leaf
       at (inr k) (inl m) = ap (is_in set) (same_Some z s.y (sym h ∙ ap (slice_get before) m.1 ∙ s.b_had)) ∙ f
       at (inr k) (inr m) = none c z (after_other c z k.1 m.1 h)
 
-  -- what was never in the set after a step wasn't in it before, unless the step left the set; and the step put nothing into it
+  -- if nobody is in the set after a step that doesn't leave it, nobody was before, and the step put nothing into it
   step_back : (c : LeafChange leaf s.x s.y s.x' s.y') → ((n : ℕ) (t : Move) → slice_get leaf.moves n ≡ Some t → leaves_set set t ≡ true → is_by n c ≡ 0) → NoneIn set before × ((n : ℕ) (t : Move) → slice_get leaf.moves n ≡ Some t → puts_into set t ≡ true → is_by n c ≡ 0)
   step_back (inl stay) leaves = (
     nobody (ap (is_in set) (sym stay.0) ∙ none s.a s.x' after_a) (ap (is_in set) (sym stay.1) ∙ none s.b s.y' after_b),
@@ -85,7 +85,7 @@ module _ (leaf : LeafModel) (set : List ℕ) (before after : List ℕ) (s : Leaf
       let were = both_before set m.taken s.x s.y s.x' s.y' m.followed (takes_none (takes_from set m.taken) (puts_into set m.taken) stays puts) in
       (nobody were.0 were.1, others_untaken leaf (puts_into set) m.number m.taken m.listed puts)
 
--- the same over a whole way
+-- the same over a whole path
 way_back : (leaf : LeafModel) (set : List ℕ) (start : List ℕ) (path : List (List ℕ)) (end : List ℕ) (way : Leads (LeafStep leaf) start path end) → NoneIn set end → ((n : ℕ) (t : Move) → slice_get leaf.moves n ≡ Some t → leaves_set set t ≡ true → times_taken leaf n start path end way ≡ 0) → NoneIn set start × ((n : ℕ) (t : Move) → slice_get leaf.moves n ≡ Some t → puts_into set t ≡ true → times_taken leaf n start path end way ≡ 0)
 way_back leaf set start [] end way none leaves = (subst (λ (c : List ℕ). NoneIn set c) way none, λ n t h e. refl)
 way_back leaf set start (next ∷ path) end way none leaves =
@@ -93,7 +93,7 @@ way_back leaf set start (next ∷ path) end way none leaves =
     let first = step_back leaf set start next way.0 later.0 way.0.change (λ n t h e. (sum_zero (is_by n way.0.change) (times_taken leaf n next path end way.1) (leaves n t h e)).0) in
     (first.0, λ n t h e. (let a = first.1 n t h e in let b = later.1 n t h e in let f : is_by n way.0.change + times_taken leaf n next path end way.1 ≡ 0 = omega (arith, a, b) in f))
 
--- an input that is there starts an agent
+-- an input that is given starts an agent
 abbrev Starts : (ℕ → ℕ) → ℕ → List ℕ → ℕ → Type 0
 Starts start k counts i = (a : ℕ) × (slice_get (starts_from start k counts) a ≡ Some (start (k + i)))
 
@@ -108,7 +108,7 @@ start_has start k (n ∷ counts) (suc i) l =
       at_end (replicate n (start k)) (starts_from start (k + 1) counts) (length (replicate n (start k))) m.0 refl ∙ m.1 ∙ ap (λ j. Some (start j)) (let e : k + 1 + i ≡ k + suc i = omega arith in e),
     )
 
--- an agent of an input that is there
+-- an agent of an input that is given
 start_state : (leaf : LeafModel) (counts : List ℕ) (j : ℕ) → 1 ≤ slice_index counts j → (a : ℕ) × (slice_get (leaf_input_crowd leaf counts) a ≡ Some (slice_index leaf.inputs (0 + j)))
 start_state leaf counts j l =
     let start = λ (variable : ℕ). slice_index leaf.inputs variable in
@@ -122,7 +122,7 @@ bit passes = if passes then 1 else 0
 bit_none : (b : Bool) → b ≡ false → bit b ≡ 0
 bit_none b e = ap bit e
 
--- no item passes a test that none of the items passes
+-- if all items fail a test, none is counted
 count_by-none : {A : Type 0} (test : A → Bool) (xs : List A) → ((a : ℕ) (x : A) → slice_get xs a ≡ Some x → test x ≡ false) → count_by test xs ≡ 0
 count_by-none test [] f = refl
 count_by-none test (x ∷ xs) f =
@@ -131,7 +131,7 @@ count_by-none test (x ∷ xs) f =
     let all : count_by test (x ∷ xs) ≡ bit (test x) + count_by test xs = sum_by-cons (λ y. bit (test y)) x xs in
     omega (arith, all, here, rest)
 
--- where nobody starts in the set, no helper does
+-- if nobody starts in the set, no helper does
 helps-none : (leaf : LeafModel) (set counts : List ℕ) → NoneIn set (leaf_input_crowd leaf counts) → helpers_among leaf set ≡ 0
 helps-none leaf set counts none =
     let starts = starts_from (λ variable. slice_index leaf.inputs variable) 0 counts in
@@ -147,12 +147,12 @@ module _ (leaf : LeafModel) (set : List ℕ) (count : Valuation) (counts : List 
   abbrev places : ℕ
   places = length leaf.inputs + length leaf.states
 
-  -- where no move left the set, no such move was taken
+  -- if no move left the set, no such move was taken
   not_left : sum_if count (leaves_set set) places leaf.moves ≡ 0 → (n : ℕ) (t : Move) → slice_get leaf.moves n ≡ Some t → leaves_set set t ≡ true → times_taken leaf n (leaf_input_crowd leaf counts) path end way ≡ 0
   not_left e n t h l =
       sym (is.moves n (slice_get_within leaf.moves n t h)) ∙ sum_if-none count (leaves_set set) places leaf.moves e n t h l
 
-  -- where no state of the set is counted, no agent is in the set
+  -- if no state of the set is counted, no agent is in the set
   none_at_end : sum_if count (is_in set) (length leaf.inputs) (states_of leaf) ≡ 0 → NoneIn set end
   none_at_end e a x h = go (is_in set x) refl
     where

@@ -1,4 +1,4 @@
--- Facts that stand only where a flag is set.
+-- Facts that are added only if a flag is set.
 use Rattle.std.specs.Prelude.{ℕ, Bool, if◌then◌else◌, List, [], ◌∷◌, pos}
 use Rattle.pop_net.specs.LeafModel.{LeafModel}
 use Rattle.cert_base.specs.declared.fact.Fact.{Fact}

@@ -36,7 +36,7 @@ pub(crate) fn push_zeros(
     Ok(())
 }
 
-/// Adds that the variable is 0, where the flag is set.
+/// Adds that the variable is 0, if the flag is set.
 pub(crate) fn push_zero(
     alloc: Global,
     facts: &mut Vec<Fact>,

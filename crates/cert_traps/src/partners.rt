@@ -8,7 +8,7 @@ use pop_io::NoMemory;
 use pop_net::Leaf;
 use std::alloc::Global;
 
-/// For each state whether a move that isn't silent takes it and this state.
+/// For each state, whether a non-silent move takes it together with this state.
 pub(crate) fn partners(alloc: Global, leaf: &Leaf, state: u16) -> Result<Vec<bool>, NoMemory>
     requires { state < length leaf.now.states }
     ensures { IfOk result (λ table. ArePartners leaf.now state table.items) }

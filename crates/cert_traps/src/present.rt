@@ -14,7 +14,7 @@ use pop_io::{List, NoMemory};
 use pop_net::Leaf;
 use std::alloc::Global;
 
-/// The state is absent; or it occurs, and nothing does that could meet it.
+/// The state is absent; or it occurs, and no state does that it could meet.
 pub fn present_cases(alloc: Global, leaf: &Leaf, state: u16) -> Result<List<List<Fact>>, NoMemory>
     requires { state < length leaf.now.states }
     // Every terminal end meets all facts of one of the cases.
@@ -26,7 +26,7 @@ pub fn present_cases(alloc: Global, leaf: &Leaf, state: u16) -> Result<List<List
     Ok(List::from_vec(cases))
 }
 
-/// A state that can meet itself occurs once at most. For another state there is no case.
+/// A state that can meet itself occurs at most once. Any other state has no case.
 pub fn twin_case(alloc: Global, leaf: &Leaf, state: u16) -> Result<Option<List<Fact>>, NoMemory>
     requires { state < length leaf.now.states }
     ensures case { IfOk result (λ case. case ≡ case_of_twin leaf.now state) }
@@ -47,7 +47,7 @@ fn twin(alloc: Global, leaf: &Leaf, state: u16, meets: bool) -> Result<Option<Li
     Ok(Some(only(alloc, Fact::Ge(row))?))
 }
 
-/// The state occurs, and nothing does that could meet it.
+/// The state occurs, and no state does that it could meet.
 fn presence_case(alloc: Global, leaf: &Leaf, state: u16) -> Result<List<Fact>, NoMemory>
     requires { state < length leaf.now.states }
     ensures { IfOk result (λ facts. facts ≡ occurs_fact leaf.now state
@@ -67,7 +67,7 @@ fn presence_case(alloc: Global, leaf: &Leaf, state: u16) -> Result<List<Fact>, N
     Ok(List::from_vec(facts))
 }
 
-/// Whether a state is another one, and can be met.
+/// Whether `q` is another state that can be met.
 fn meets_other(partners: &[bool], state: u16, q: u16) -> bool
     requires { q < length partners.now }
     ensures { result ≡ (not (q == state) && slice_index_or partners.now q false) }
@@ -87,7 +87,7 @@ fn presence_of(alloc: Global, leaf: &Leaf, q: u16) -> Result<Fact, NoMemory>
     Ok(Fact::Ge(Row::single(alloc, variable_of_state(leaf, q), 1, -1)?))
 }
 
-/// Adds that the state occurs once, where the flag is set.
+/// Adds that the state occurs once, if the flag is set.
 fn push_alone(
     alloc: Global,
     facts: &mut Vec<Fact>,

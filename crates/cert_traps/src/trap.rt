@@ -113,7 +113,7 @@ fn none_started(
     Ok(())
 }
 
-/// Adds that no helper is in the set, where one is: a fact that no counts meet.
+/// Adds, if a helper is in the set, that none is: a fact that no counts meet.
 fn none_helps(
     alloc: Global,
     facts: &mut Vec<Fact>,

@@ -71,7 +71,7 @@ first_closes leaf above facts waiting node nodes passes few h =
           one_waits above facts waiting (node ∷ nodes) then.between (by_cases above facts node nodes then.between (cases_at leaf facts node) limits d then.each) then.others
     ]
 
--- where no node is refused, the nodes close
+-- if no node is refused, the nodes close
 pub unrefused-closes : (leaf : LeafModel) (nodes : List Node) (waiting : List Waiting) (number : ℕ) → AllFew waiting → first_from leaf waiting number nodes ≡ None → ClosesAll leaf waiting nodes
 unrefused-closes leaf [] [] number few e = none_waits
 unrefused-closes leaf [] (at ∷ waiting) number few e = cc
@@ -82,9 +82,9 @@ unrefused-closes leaf (node ∷ nodes) (at ∷ waiting) number few e =
     first_closes leaf at.0 at.1 waiting node nodes (unrefused-passes leaf at.0 at.1 node passes.0) few.0
     (unrefused-closes leaf nodes (cases_below leaf at node ++ waiting) (number + 1) (few_below (at.0 + 1) at.1 (cases_at leaf at.1 node) waiting fit few.1) passes.1)
 
--- ---- where the nodes close, no node is refused
+-- ---- if the nodes close, no node is refused
 
--- what comes first is what comes first in the rest
+-- the same node is refused first, whether one starts here or at the rest
 abbrev Same : LeafModel → List Waiting → List Node → List Waiting → List Node → Type 0
 Same leaf before nodes after rest = (number : ℕ) → (later : ℕ) × (first_from leaf before number nodes ≡ first_from leaf after later rest)
 

@@ -13,7 +13,7 @@ pub nested_more : (m n : ℕ) (frames : List Frame) → m ≤ n → AreNested m 
 nested_more m n [] l h = tt
 nested_more m n (frame ∷ frames) l h = (omega (arith, h.0), h.1)
 
--- the frame that is put on top is the first of the turned list
+-- the frame that is put on top is the first of the reversed list
 pub turned : (xs ys : List Frame) (f : Frame) → xs ≡ ys ++ f ∷ [] → reverse xs ≡ f ∷ reverse ys
 turned xs ys f e = ap reverse e ∙ reverse-append ys (f ∷ [])
 
@@ -34,7 +34,7 @@ take_short (suc m) (suc n) (x ∷ xs) l = ap (λ ys. x ∷ ys) (take_short m n x
 take_same : (m n : ℕ) (t u : List Fact) → m ≤ n → take n t ≡ take n u → take m t ≡ take m u
 take_same m n t u l e = sym (take_short m n t l) ∙ ap (take m) e ∙ take_short m n u l
 
--- what waits under n facts depends on these alone
+-- what waits under n facts depends only on these
 pub under_same : (n : ℕ) (t u : List Fact) (frames : List Frame) → AreNested n frames → take n t ≡ take n u → waiting_under t frames ≡ waiting_under u frames
 under_same n t u [] nested e = refl
 under_same n t u (frame ∷ frames) nested e =

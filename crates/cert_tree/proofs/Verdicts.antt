@@ -36,7 +36,7 @@ missing_at leaf p value nodes at before others number same d e = same ∙ rw (d,
 pub none_at : (leaf : LeafModel) (p : PredModel) (value : Bool) (nodes : List Node) (before : List Waiting) (number : ℕ) → first_refused leaf p value nodes ≡ first_from leaf before number (drop number nodes) → drop number nodes ≡ [] → before ≡ [] → first_refused leaf p value nodes ≡ None
 none_at leaf p value nodes before number same d e = same ∙ rw (d, e) refl
 
--- a tree that closes is refused for out of memory alone
+-- a tree that closes is refused only when memory runs out
 pub only_memory : (leaf : LeafModel) (p : PredModel) (value : Bool) (nodes : List Node) (fault : TreeFault) → IsTreeFault leaf p value nodes fault → Closes leaf (base_list leaf p value) nodes [] → fault ≡ OutOfMemory
 only_memory leaf p value nodes (Broken number why) is closes =
     let none = Closes-unrefused leaf p value nodes closes in let clash : Some (number, why) ≡ None = sym is ∙ none in cc
@@ -86,7 +86,7 @@ ends_right leaf tree value none counts end input has reached terminal k d l =
       wrong = wrong;
     }))
 
--- where nothing waits any more, there are no wrong ends
+-- if nothing waits, there are no wrong ends
 pub closed_right : (leaf : LeafModel) (p : PredModel) (value : Bool) (after : List Waiting) → HoldAtWrongEnds leaf p.tree value (base_list leaf p value) → StillCover leaf ((0, base_list leaf p value) ∷ []) after → after ≡ [] → EndsRight leaf p.tree value
 closed_right leaf p value after met cover none =
     ends_right leaf p.tree value

@@ -23,7 +23,7 @@ use Rattle.cert_tree.specs.Refusals.{Waiting, first_from, own_refusal, cases_at}
 abbrev pub waits_at : List Fact → ℕ → Frame → List Waiting
 waits_at trail above frame = map (λ own. (above, take frame.len trail ++ own)) frame.cases.items
 
--- all cases that wait, where the frame of the latest node is the first
+-- all cases that wait; the frame of the latest node comes first
 abbrev pub waiting_under : List Fact → List Frame → List Waiting
 waiting_under trail [] = []
 waiting_under trail (frame ∷ below) = waits_at trail (length below) frame ++ waiting_under trail below
@@ -51,7 +51,7 @@ pub record StandsAtFirst (before : List Waiting) (walk : Walk) : Type 0 where
   pub first : before ≡ (above, walk.trail) ∷ waiting walk
   pub nested : IsNested walk
 
--- what waits where a frame is put on top of a walk's
+-- what waits with this frame on top of the walk's
 abbrev pub waiting_with : Walk → Frame → List Waiting
 waiting_with walk frame = waits_at walk.trail (length (reverse walk.frames.items)) frame ++ waiting walk
 
@@ -71,7 +71,7 @@ FindsCase before walk true = StandsAtFirst before walk
 abbrev pub MeetsWaiting : Valuation → List Waiting → Type 0
 MeetsWaiting count waiting = (at : Waiting) × Contains waiting at × MeetsAll count at.1
 
--- every end that meets the facts meets all facts of one of the cases, too
+-- every end that meets the facts also meets all facts of one of the cases
 abbrev pub CoverUnder : LeafModel → List Fact → List (List Fact) → Type 0
 CoverUnder leaf facts cases = (count : Valuation) → IsEnd leaf count → MeetsAll count facts → MeetsOne count cases
 
@@ -91,7 +91,7 @@ abbrev pub HaltsBy : Option TreeWhy → Halt → Type 0
 HaltsBy why (Refused reason) = why ≡ Some reason
 HaltsBy why NoMemory = Unit {0}
 
--- a node is passed: what comes first is the same before it and after it
+-- a node is passed: the first refused node is the same with it and without it
 abbrev pub GoesOn : LeafModel → List Waiting → Node → List Waiting → Type 0
 GoesOn leaf before node after =
     (number : ℕ) (nodes : List Node)

@@ -1,4 +1,4 @@
--- RefusalLaw: that a tree closes, and that a node of it is refused, exclude each other.
+-- RefusalLaw: a tree closes exactly when none of its nodes is refused.
 use Rattle.std.specs.Prelude.{◌≡◌, ◌↔◌, Bool, List, [], None}
 use Rattle.pres_ast.specs.PredModel.{PredModel}
 use Rattle.pop_net.specs.LeafModel.{LeafModel, IsLeaf}

@@ -1,4 +1,4 @@
--- Refusals: which node of a tree is the first that is refused, and why.
+-- Refusals: which node of a tree is refused first, and why.
 use Rattle.std.specs.Prelude.{◌≡◌, ◌≤◌, ℕ, ◌+◌, Bool, true, false, not, if◌then◌else◌, nat_lt, nat_le, List}
 use Rattle.std.specs.Prelude.{[], ◌∷◌, ◌++◌, map, length, Option, Some, None, unwrap_or, slice_get, All, Result, OnOk}
 use Rattle.std.specs.Prelude.{IfErr}
@@ -74,7 +74,7 @@ abbrev pub or_else : Option TreeWhy → Option TreeWhy → Option TreeWhy
 or_else None why = why
 or_else (Some why) other = Some why
 
--- why a node is refused that has so many nodes above it, and these facts
+-- why a node with this many nodes above it, and these facts, is refused
 abbrev pub refusal : LeafModel → ℕ → List Fact → Node → Option TreeWhy
 refusal leaf above facts node =
     if not (nat_lt above PATH_LIMIT) then Some TooDeep
@@ -93,7 +93,7 @@ abbrev pub go_on : Option TreeWhy → ℕ → Option (ℕ × TreeWhy) → Option
 go_on None number later = later
 go_on (Some why) number later = Some (number, why)
 
--- the first node that is refused, and why, where the first of the nodes has this number and the cases wait in order
+-- the first node that is refused, and why; the nodes are numbered from here, and the cases wait in order
 abbrev pub first_from : LeafModel → List Waiting → ℕ → List Node → Option (ℕ × TreeWhy)
 first_from leaf [] number [] = None
 first_from leaf [] number (node ∷ nodes) = Some (number, Rest)
@@ -110,7 +110,7 @@ abbrev pub IsTreeFault : LeafModel → PredModel → Bool → List Node → Tree
 IsTreeFault leaf p value nodes (Broken number why) = first_refused leaf p value nodes ≡ Some (number, why)
 IsTreeFault leaf p value nodes NoMemory = Unit {0}
 
--- what is asked of the nodes of a tree for a predicate of a leaf
+-- what is required of the nodes of a tree for a predicate of a leaf
 pub record AreNodesOf (leaf : LeafModel) (p : PredModel) (nodes : List Node) : Type 0 where
   pub variables : p.variables ≡ length leaf.inputs
   pub few : length nodes ≤ NODE_LIMIT
@@ -122,5 +122,5 @@ pub record ChecksTree (leaf : LeafModel) (p : PredModel) (value : Bool) (nodes :
   pub closes : OnOk result (Closes leaf (base_list leaf p value) nodes [])
   pub fault : IfErr result (IsTreeFault leaf p value nodes)
   pub accepts : Closes leaf (base_list leaf p value) nodes [] → IfErr result (λ fault. fault ≡ NoMemory)
-  -- for every input at which the predicate has the value, each agent of each terminal crowd outputs it
+  -- from every input at which the predicate has the value, each agent of each reachable terminal crowd outputs it
   pub right : OnOk result (EndsRight leaf p.tree value)

@@ -7,7 +7,7 @@ use pop_io::NoMemory as OutOfMemory;
 pub enum TreeFault {
     /// A node is refused.
     Broken {
-        /// The number of the node, which is the number of nodes where one is missing.
+        /// The number of the node, or the number of nodes if one is missing.
         node: u32,
         why: TreeWhy,
     },
@@ -15,7 +15,7 @@ pub enum TreeFault {
     NoMemory,
 }
 
-/// Why a node is refused. Of several reasons the first one counts.
+/// Why a node is refused: the first of several reasons.
 #[derive(Clone, Copy, PartialEq, Eq)]
 pub enum TreeWhy {
     /// No node is left for a case.
@@ -32,7 +32,7 @@ pub enum TreeWhy {
     NotClosed,
     /// A case has more than `FACT_LIMIT` facts.
     TooManyFacts,
-    /// The tree was closed before it.
+    /// The tree was already closed.
     Rest,
 }
 

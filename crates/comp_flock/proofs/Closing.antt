@@ -73,7 +73,7 @@ module _ (coefs : List ℤ) (k : ℕ) (some : 1 ≤ k) (most : k ≤ 39) (are : 
   length_few : (j : ℕ) → length (few_at j) ≡ k + 7 + j
   length_few j = omega (arith, length-append true_facts (few_facts coefs k are formed j), length_true, length-map-range_with_len (not_twice leaf) 1 j)
 
-  -- with one more state that occurs once at most
+  -- with one more state that occurs at most once
   one_more : (j : ℕ) → few_at j ++ not_twice leaf (j + 1) ∷ [] ≡ few_at (j + 1)
   one_more j =
       append_assoc true_facts (few_facts coefs k are formed j) (not_twice leaf (j + 1) ∷ [])

@@ -113,7 +113,7 @@ module _ (coefs : List ℤ) (k : ℕ) (some : 1 ≤ k) (are : list_all is_flock_
   first_none : (x : ℕ) → coefficient x (some_taken_fact leaf (joins k)) ≡ pos 0 → sum_of_facts (coefficient x) first_facts (full_size ∷ []) ≡ pos 0
   first_none x e = first_sum (coefficient x) ∙ ap (λ c. full_size *ℤ c) e ∙ *ℤ-zero full_size
 
-  -- what a move loses, and what it counts for where it makes the first 2^k
+  -- what a move loses, and what it counts for if it makes the first 2^k
   abbrev Loses : Move → Type 0
   Loses t = (((below t.r +ℤ below t.s) -ℤ (below t.p +ℤ below t.q)) +ℤ (full_size *ℤ indicator (joins k t))) ≤ℤ pos 0
 
@@ -228,7 +228,7 @@ module _ (coefs : List ℤ) (k : ℕ) (some : 1 ≤ k) (are : list_all is_flock_
       subst (λ ms. closes_by_sum (all_facts leaf pred false coefs (neg_ℤ (flock_bound k)) start_facts) (terms_from 0 ms) ≡ true) (no_flows (pos 0) (pos 1 ∷ []))
       (mix_closes leaf pred false coefs (neg_ℤ (flock_bound k)) start_facts (λ q. pos 0) (pos 0) (pos 0) (pos 1 ∷ []) plain refl refl refl start_low)
 
-  -- ---- 2^k never came
+  -- ---- 2^k never occurred
 
   abbrev not_taken : List Fact
   not_taken = no_moves leaf (takes_from (full k))

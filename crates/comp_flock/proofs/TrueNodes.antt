@@ -208,7 +208,7 @@ module _ (coefs : List ℤ) (k : ℕ) (are : list_all is_flock_coefficient coefs
       rest [] = refl
       rest (f ∷ extra) = refl
 
-  -- a state's output is wrong where it isn't 2^k
+  -- a state's output is wrong unless the state is 2^k
   wrong-at : (z : ℕ) → z < k + 2 → is_wrong leaf true z ≡ not (z == k + 1)
   wrong-at z l = ap (λ (c : Bool). not c) (output-at coefs k z l)
 

@@ -37,13 +37,13 @@ for_states k value = map value (range_with_len 0 (flock_state_count k))
 abbrev pub lesser_size : ℕ → ℕ → ℤ
 lesser_size k q = if q == k + 1 then pos 0 else pos (size_in q)
 
--- without 2^k, and with each smaller power once at most, the sizes add up to 2^k - 1 at most
+-- without 2^k, and with each smaller power at most once, the sizes add up to at most 2^k - 1
 abbrev pub few_mix : ℕ → List ℤ
 few_mix k =
     flock_mix (for_states k (λ q. neg_ℤ (pos (size_in q)))) (pos 0) (pos 1)
     (neg_ℤ (pos (2 ^ k)) ∷ map (λ q. pos (size_in q)) (range_with_len 1 k))
 
--- beside 2^k there is no other state at the end
+-- at the end there is no state but 2^k
 abbrev pub converted_mix : ℕ → List ℤ
 converted_mix k = flock_mix (zeros (flock_state_count k)) (pos 1) (pos 0) (pos 0 ∷ replicate (k + 1) (negsuc 0))
 
@@ -55,12 +55,12 @@ first_mix k = flock_mix (for_states k (lesser_size k)) (pos 0) (pos 1) (pos (2 ^
 abbrev pub start_mix : ℕ → List ℤ
 start_mix k = flock_mix (zeros (flock_state_count k)) (pos 0) (pos 0) (pos 1 ∷ [])
 
--- 2^k never came, so no output is true
+-- 2^k never occurred, so no output is true
 abbrev pub never_mix : ℕ → List ℤ
 never_mix k = flock_mix (zeros (flock_state_count k)) (pos 1) (pos 0) (zeros (k + 1) ++ negsuc 0 ∷ [])
 
--- ---- the trees: 2^k is absent at the end, or present; 2^k was put in without being there, or was there at the start,
--- or never came
+-- ---- the trees: 2^k is absent at the end, or present; 2^k was put in while absent, or was present at the start, or
+-- never occurred
 abbrev pub flock_true_tree : ℕ → List Node
 flock_true_tree k =
     (Open (flock_state_count k + 1) ∷ Present (k + 1) ∷ map Twin (range_with_len 1 k))

@@ -3,8 +3,8 @@
 //! The layer above uses: `flock` gives exactly the built leaf, and a proof that is valid for it and within the limits.
 //!
 //! *It ends.* A joining leaves an agent with nothing, and an agent with 2^k converts all others. *It ends right.* The
-//! first 2^k takes 2^k agents. Where it never came, each smaller power is there once at most, and all of them add up
-//! to 2^k - 1 at most.
+//! first 2^k takes 2^k agents. If it never occurred, each smaller power is present at most once, and all of them add up
+//! to at most 2^k - 1.
 #![tactic(auto)]
 
 mod multipliers;

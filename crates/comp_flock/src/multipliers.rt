@@ -42,7 +42,7 @@ fn lost(q: u16) -> i64
     -size(q)
 }
 
-/// A state that is 2^k itself has none.
+/// The size of a state, but 0 for 2^k itself.
 fn size_below(power: u16, q: u16) -> i64
     requires power { power ≤ POWER_LIMIT }
     requires state { q ≤ POWER_LIMIT + 1 }
@@ -77,7 +77,7 @@ fn sizes(alloc: Global, power: u16) -> Result<Vec<i64>, NoMemory>
     Ok(all)
 }
 
-/// 2^k is absent, and each smaller power is there once at most.
+/// 2^k is absent, and each smaller power is present at most once.
 pub(crate) fn few(alloc: Global, power: u16) -> Result<Vec<i64>, NoMemory>
     requires { power ≤ POWER_LIMIT }
     ensures { IfOk result (λ multipliers. multipliers.items ≡ few_mix power) }
@@ -89,7 +89,7 @@ pub(crate) fn few(alloc: Global, power: u16) -> Result<Vec<i64>, NoMemory>
     mix(alloc, flows.as_slice(), 0, 1, own.as_slice())
 }
 
-/// 2^k is there, and nothing else.
+/// 2^k is present, and nothing else.
 pub(crate) fn converted(alloc: Global, power: u16) -> Result<Vec<i64>, NoMemory>
     requires { power ≤ POWER_LIMIT }
     ensures { IfOk result (λ multipliers. multipliers.items ≡ converted_mix power) }
@@ -119,7 +119,7 @@ pub(crate) fn start(alloc: Global, power: u16) -> Result<Vec<i64>, NoMemory>
     mix(alloc, flows.as_slice(), 0, 0, &[1])
 }
 
-/// 2^k never came.
+/// 2^k never occurred.
 pub(crate) fn never(alloc: Global, power: u16) -> Result<Vec<i64>, NoMemory>
     requires { power ≤ POWER_LIMIT }
     ensures { IfOk result (λ multipliers. multipliers.items ≡ never_mix power) }

@@ -50,7 +50,7 @@ fn node(alloc: Global, multipliers: Vec<i64>) -> Result<Node, NoMemory>
     Ok(node)
 }
 
-/// Where the predicate holds: 2^k is absent at the end, or it is present.
+/// If the predicate holds: 2^k is absent at the end, or it is present.
 fn true_tree(alloc: Global, power: u16) -> Result<List<Node>, NoMemory>
     requires { power ≤ POWER_LIMIT }
     ensures { IfOk result (λ nodes. nodes ≡ flock_true_tree power) }
@@ -64,7 +64,7 @@ fn true_tree(alloc: Global, power: u16) -> Result<List<Node>, NoMemory>
     Ok(List::from_vec(nodes))
 }
 
-/// Where it doesn't: 2^k was put together, or was there at the start, or never came.
+/// If it doesn't: 2^k was put together, or was present at the start, or never occurred.
 fn false_tree(alloc: Global, power: u16) -> Result<List<Node>, NoMemory>
     requires { power ≤ POWER_LIMIT }
     ensures { IfOk result (λ nodes. nodes ≡ flock_false_tree power) }

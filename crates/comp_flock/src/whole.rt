@@ -25,7 +25,6 @@ fn flock_pred(alloc: Global, coefs: &[i64], power: u32) -> Result<Pred, NoMemory
     Ok(Pred::new(coefs.len() as u16, tree))
 }
 
-/// The proof of the built leaf.
 fn leaf_proof(alloc: Global, coefs: &[i64], power: u32) -> Result<LeafProof, NoMemory>
     requires { IsFlock coefs.now power }
     ensures { IfOk result (λ part. part ≡ flock_part coefs.now power) }

@@ -1,4 +1,4 @@
--- The built leaf of a flock atom is in form.
+-- The built leaf of a flock atom is well formed.
 use Rattle.std.proofs.Common.{◌≡◌, ◌∙◌, subst, ℕ, ◌+◌, ◌<◌, ◌≤◌, Bool, true, false, List, [], length, map, get_or, sym, arith}
 use Rattle.std.specs.Prelude.{ℤ, pos, if◌then◌else◌, ◌==◌, All}
 use Rattle.std.specs.Ordering.{int_eq}

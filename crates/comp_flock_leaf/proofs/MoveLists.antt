@@ -24,7 +24,7 @@ doublings k = map doubling_move (range_with_len 0 k)
 abbrev conversions : ℕ → List Move
 conversions k = map (conversion_move k) (range_with_len 0 (k + 1))
 
--- what holds of each doubling and of each conversion
+-- what holds for each doubling and for each conversion
 pub all_doublings : (k : ℕ) (P : Move → Type 0) → ((i : ℕ) → i < k → P (doubling_move i)) → All P (map doubling_move (range_with_len 0 k))
 all_doublings k P f = All-map P doubling_move (range_with_len 0 k) (all_range (λ i. P (doubling_move i)) 0 k (λ i l m. f i (omega arith)))
 

@@ -9,7 +9,7 @@ use Rattle.comp_layers.proofs.Single.{pairs_map, differ-by}
 use Rattle.comp_flock_leaf.specs.FlockLeaf.{doubling_move, conversion_move, flock_moves}
 use Rattle.comp_flock_leaf.proofs.MoveLists.{all_doublings, all_conversions, differ_pair}
 
--- the first states are other ones
+-- the first state of the second pair isn't in the first pair
 differ_first : (p q u v : ℕ) → p ≢ u → q ≢ u → same_pair p q u v ≡ false
 differ_first p q u v e f = differ-by p q u v (inl e) (inr f)
 

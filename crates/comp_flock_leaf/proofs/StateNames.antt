@@ -1,4 +1,4 @@
--- The names of the states of a built leaf of a flock atom are in form, and no two are equal.
+-- The names of the states of a built leaf of a flock atom are well formed, and no two are equal.
 use Rattle.std.proofs.Common.{◌≡◌, ℕ, ◌+◌, ◌<◌, ◌≤◌, Bool, true, ◌&&◌, length, map, refl, arith}
 use Rattle.std.specs.Prelude.{nat_le, IsTrue}
 use Rattle.std.specs.List.{range_with_len, list_all}

@@ -23,7 +23,7 @@ power_of coefs bound =
     if list_all is_flock_coefficient coefs then find (λ k. int_eq bound (flock_bound k)) (range_with_len 1 POWER_LIMIT)
     else None
 
--- the coefficients of a flock atom, over one variable at least, and its power
+-- the coefficients of a flock atom, over at least one variable, and its power
 pub record IsFlock (coefs : List ℤ) (k : ℕ) : Type 0 where
   pub some : 1 ≤ length coefs
   pub few : length coefs ≤ VARIABLE_LIMIT
@@ -45,7 +45,7 @@ conversion_move k q = record { p = k + 1; q = q; r = k + 1; s = k + 1 }
 abbrev pub flock_moves : ℕ → List Move
 flock_moves k = map doubling_move (range_with_len 0 k) ++ map (conversion_move k) (range_with_len 0 (k + 1))
 
--- an agent of a variable that counts starts as `1`, another one as `0`
+-- an agent of a variable that counts starts as `1`, any other as `0`
 abbrev pub flock_start : ℤ → ℕ
 flock_start a = if int_eq a (pos 0) then 0 else 1
 

@@ -45,8 +45,8 @@ fn power_by(bound: i64) -> Option<u32>
     (1..POWER_LIMIT + 1).find(|k| bound == bound_of_power(*k))
 }
 
-/// The power k where the atom `Less` with these numbers says that a sum of variables is at least 2^k: each coefficient
-/// is 0 or -1, and the bound is 1 - 2^k. Allocates nothing.
+/// The power k if the atom `Less` with these numbers says that a sum of variables is at least 2^k: each coefficient is
+/// 0 or -1, and the bound is 1 - 2^k. Allocates nothing.
 pub fn flock_power(coefs: &[i64], bound: i64) -> Option<u32>
     ensures { result ≡ power_of coefs.now bound }
 {

@@ -32,7 +32,7 @@ kind-up n t l e m = let a = le-ltb t.q n l in let b = eq-eqb t.r t.p e in let c 
 pub kind-down : (n : ℕ) (t : Move) → n ≤ t.q → t.r ≡ t.p → t.s ≤ t.q → leader_kind n t ≡ 2
 kind-down n t l e m = let a = le-ltb t.q n l in let b = eq-eqb t.r t.p e in let c = le-ltb t.q t.s m in rw (a, b, c) refl
 
--- a move that is no first kind turns a follower
+-- a move that isn't of the first kind turns a follower
 pub kind-turn : (n : ℕ) (t : Move) → 0 < leader_kind n t → (n ≤ t.q) × (t.r ≡ t.p)
 kind-turn n t = go (nat_lt t.q n) (t.r == t.p) refl refl
   where

@@ -1,4 +1,4 @@
--- What holds of lists that are made of ranges, and what they contain.
+-- Lists that are made of ranges: what holds for them, and what they contain.
 use Rattle.std.proofs.Common.{◌≡◌, subst, ℕ, zero, suc, ◌+◌, ◌-◌, ◌<◌, ◌≤◌, Bool, true, false, List, [], ◌∷◌, ◌++◌, length, map, append_assoc, zero-add, ap, sym, ◌∙◌, arith}
 use Rattle.std.specs.Prelude.{All, Contains, filter, flat_map, cond}
 use Rattle.std.specs.List.{range_with_len}

@@ -1,4 +1,4 @@
--- Lists made of ranges, of which each two items are related; pairs that are not the same.
+-- Lists made of ranges, any two items of which are related; pairs that are not the same.
 use Rattle.std.proofs.Common.{◌≡◌, ◌≢◌, ◌⊎◌, inl, inr, ℕ, zero, suc, ◌+◌, ◌<◌, ◌≤◌, false, ◌&&◌, List, map, get_or, refl, arith}
 use Rattle.std.specs.Prelude.{All, AllPairs, flat_map, ◌==◌}
 use Rattle.std.specs.List.{range_with_len}
@@ -25,7 +25,7 @@ pairs_flat R g a (suc n) f h =
     (pairs_flat R g (a + 1) n (λ i l m. f i (omega arith) (omega arith)) (λ i j l m k. h i j (omega arith) m (omega arith)))
     (λ k d l. all_flat (R (get_or (g a) k d)) g (range_with_len (a + 1) n) (all_range (λ j. All (R (get_or (g a) k d)) (g j)) (a + 1) n (λ j p q. h a j (omega arith) (omega arith) (omega arith) k d l)))
 
--- no pair in one order, and none in the other
+-- pairs that differ in both orders are not the same
 pub differ-by : (p q u v : ℕ) → (p ≢ u) ⊎ (q ≢ v) → (p ≢ v) ⊎ (q ≢ u) → same_pair p q u v ≡ false
 differ-by p q u v a b =
     let first = one p q u v a in

@@ -1,4 +1,4 @@
--- Layers by kinds of moves are valid where each kind lowers its weights and wakes no earlier kind.
+-- Layers by kinds of moves are valid if each kind lowers its weights and wakes no earlier kind.
 use Rattle.std.proofs.Common.{◌≡◌, ◌≢◌, ◌⊎◌, inl, inr, subst, ℕ, zero, suc, ◌+◌, ◌<◌, ◌≤◌, Bool, true, false, List, [], ◌∷◌, ◌++◌, length, get_or, refl, ap, sym, ◌∙◌, zero-add, arith}
 use Rattle.std.specs.Prelude.{ℤ, if◌then◌else◌, ◌==◌, All, AllPairs, Contains, Some, slice_get}
 use Rattle.std.proofs.lemmas.Bool.{eq-eqb, eqb-true, cases_lt}
@@ -107,7 +107,7 @@ module _ (moves : List Move) (kind : Move → ℕ) where
   weights_all P i (w ∷ ws) all =
       All-cons (λ layer. P layer.weights) (sorted_layer moves kind i w) (sorted_layers moves kind (i + 1) ws) (all 0 w (omega arith)) (weights_all P (i + 1) ws (λ k d l. all (suc k) d (omega arith)))
 
--- what the kinds have to do
+-- what the kinds must satisfy
 pub record AreKinds (leaf : LeafModel) (kind : Move → ℕ) (ws : List (List ℤ)) : Type 0 where
   pub long : All (λ w. length w ≡ length leaf.states) ws
   pub kinds : All (λ t. kind t < length ws) leaf.moves

@@ -1,4 +1,4 @@
--- Names of states that are made of decimals: when they are in form, and when no two are equal.
+-- Names of states that are made of decimals: when they are well formed, and when no two are equal.
 use Rattle.std.proofs.Common.{◌≡◌, ◌≢◌, ◌∙◌, subst, ℕ, ◌+◌, ◌%◌, ◌^◌, ◌<◌, ◌≤◌, true, false, List, [], ◌∷◌, ◌++◌, length, map, get_or, refl, sym, zero-add, arith}
 use Rattle.std.specs.Prelude.{◌==◌, nat_le, All, AllPairs, IsTrue}
 use Rattle.std.specs.List.{range_with_len, list_all}
@@ -23,7 +23,7 @@ all_one (d ∷ ds) c e f =
     let rest = all_one ds c both.1 f in
     rw (first, rest) refl
 
--- digits, one at least, all printed
+-- one or more digits, all printed
 pub record ArePrinted (ds : List ℕ) : Type 0 where
   pub all : list_all is_printed ds ≡ true
   pub some : 1 ≤ length ds
@@ -36,7 +36,7 @@ decimal-printed n l =
     more [] c = omega arith
     more (d ∷ ds) c = omega arith
 
--- the names of so many states, each by its number
+-- the names of `count` states, each by its number
 pub named-apart : (name : ℕ → List ℕ) (count : ℕ)
     → ((i : ℕ) → i < count → IsTrue (state_name (name i))) → ((i j : ℕ) → i < count → j < count → name i ≡ name j → i ≡ j)
     → AreNames state_name (map name (range_with_len 0 count))

@@ -4,7 +4,7 @@ use Rattle.pop_io.specs.declared.names.TheConstants.{VARIABLE_LIMIT}
 use Rattle.pop_net.specs.LeafModel.{LeafModel}
 use Rattle.pop_net.specs.Reaction.{Differ}
 
--- there is one coefficient at least, and no more than variables
+-- there is at least one coefficient, and no more than a net may have variables
 pub record HasInputs (coefs : List ℤ) : Type 0 where
   pub some : 1 ≤ length coefs
   pub few : length coefs ≤ VARIABLE_LIMIT

@@ -1,6 +1,5 @@
 -- SortedLayers: layers by the kinds of moves, and the layers of a leaf with leaders: first what changes a leader, then
--- the turns
--- from lower followers to higher ones, then the other turns.
+-- the turns from lower followers to higher ones, then the other turns.
 use Rattle.std.specs.Prelude.{◌≡◌, ◌≢◌, ◌<◌, ◌≤◌, ℕ, ◌+◌, false, ◌==◌, nat_lt, if◌then◌else◌, List, [], ◌∷◌, ℤ, All}
 use Rattle.std.specs.Prelude.{Contains}
 use mathlib.Core.Logic.{◌⊎◌}
@@ -18,8 +17,7 @@ abbrev pub sorted_layers : List Move → (Move → ℕ) → ℕ → List (List �
 sorted_layers moves kind i [] = []
 sorted_layers moves kind i (weights ∷ rest) = sorted_layer moves kind i weights ∷ sorted_layers moves kind (i + 1) rest
 
--- with n leaders: 0 where it changes a leader or its follower's value, 1 where it turns a follower to a higher one, 2
--- elsewhere
+-- with n leaders: 0 if the move changes a leader, 1 if it turns a follower to a higher one, otherwise 2
 abbrev pub leader_kind : ℕ → Move → ℕ
 leader_kind n t = if nat_lt t.q n then 0 else (if t.r == t.p then (if nat_lt t.q t.s then 1 else 2) else 0)
 

@@ -8,7 +8,7 @@ use pop_io::{List, NoMemory};
 use pop_net::{Leaf, Move};
 use std::alloc::Global;
 
-/// With so many leaders.
+/// The kind of a move, with this many leaders.
 fn kind_of(leaders: u16, t: Move) -> u32
     ensures { result ≡ leader_kind leaders t }
 {

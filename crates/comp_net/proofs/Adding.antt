@@ -1,4 +1,4 @@
--- Leaves, proofs and items of atoms, added one behind the other.
+-- Leaves, proofs and items of atoms, added one after the other.
 use Rattle.std.proofs.Common.{◌≡◌, ◌∙◌, subst, ℕ, List, [], ◌∷◌, ◌++◌, length, ap, sym}
 use Rattle.std.specs.Prelude.{ℤ, Some, None, map}
 use Rattle.std.proofs.lemmas.List.{length-map}

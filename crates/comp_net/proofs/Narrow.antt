@@ -1,4 +1,4 @@
--- Where nothing is wrong with a predicate, its atoms can be built, and they are few enough, also for a wide leaf.
+-- If nothing is wrong with a predicate, its atoms can be built, and they are few enough, even for a wide leaf.
 use Rattle.std.proofs.Common.{◌≡◌, ℕ, ◌<◌, ◌≤◌, Bool, true, false, not, List, length, map, subst, refl, ap, sym, ◌∙◌, arith}
 use Rattle.std.specs.Prelude.{None, All, nat_lt, if◌then◌else◌, position, ℤ}
 use Rattle.std.proofs.lemmas.Bool.{ltb-true, ltb-false, le-ltb, not-true}

@@ -177,7 +177,7 @@ part_preds choice n (a ∷ xs) (part ∷ parts) h preds =
 pub proof-preds : (choice : LeafChoice) (n : ℕ) (tree : PredTree) (parts : List LeafProof) → AreAtomProofs choice (atoms tree) parts → IsPred n tree → All (IsPart n) parts
 proof-preds choice n tree parts h is = part_preds choice n (atoms tree) parts h (atom_preds n tree is.some_variable is.variables is.atoms)
 
--- no leaf has two moves for the same states
+-- no leaf has two moves that take the same states
 pub net-single : (choice : LeafChoice) (names : List (List ℕ)) (n : ℕ) (tree : PredTree) → IsPred n tree → fault_with choice tree ≡ None → IsSingle (net_with choice names tree)
 net-single choice names n tree is none =
     All-map (λ leaf. AllPairs Differ leaf.moves) (leaf_of choice) (atoms tree) (All-weaker (IsBuilt choice n) (λ a. AllPairs Differ (leaf_of choice a).moves) (λ a b. b.single) (atoms tree) (pred_built choice n tree is none))

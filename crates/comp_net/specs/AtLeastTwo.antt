@@ -1,5 +1,5 @@
--- At least two: `Computes` of one compiled net, with the moves written out. Two agents in `1` make one in `2` and one in
--- `0`, and an agent in `2` takes all others along. All end by the answer whether there are two of x.
+-- At least two: `Computes` of one compiled net, with the moves written out. Two agents in `1` become one in `2` and one
+-- in `0`, and an agent in `2` converts all others. In the end all answer whether there are two of x.
 use Rattle.std.specs.Prelude.{◌≡◌, [], ◌∷◌, true, false, negsuc}
 use Rattle.pres_ast.specs.PredTree.{PredTree, LessThan}
 use Rattle.pop_net.specs.declared.net.Item.TheVariants.{Leaf}

@@ -24,7 +24,7 @@ AreAtomProofs choice [] (part ∷ parts) = ⊥
 AreAtomProofs choice (atom ∷ more) [] = ⊥
 AreAtomProofs choice (atom ∷ more) (part ∷ parts) = IsAtomProof choice atom part × AreAtomProofs choice more parts
 
--- the proofs of these atoms were added behind those of any others
+-- the proofs of these atoms were added after those of any others
 abbrev pub AddProofs : LeafChoice → List PredTree → List LeafProof → List LeafProof → Type 0
 AddProofs choice added before after =
     (others : List PredTree) → AreAtomProofs choice others before → AreAtomProofs choice (others ++ added) after

@@ -23,7 +23,7 @@ first_width_over limit ws = position (λ w. nat_lt limit w) ws
 abbrev pub first_wide_width : List ℕ → Option ℕ
 first_wide_width ws = if nat_lt WIDE_LEAF_LIMIT (length ws) then first_width_over NARROW_WIDTH_LIMIT ws else None
 
--- the first that is wrong with atoms of these widths
+-- the first fault of atoms of these widths
 abbrev pub fault_of_widths : List ℕ → Option CompileFault
 fault_of_widths ws =
     first_of

@@ -18,10 +18,10 @@ pub record Compiles (choice : LeafChoice) (names : List (List ℕ)) (pred : Pred
   pub net : IfOk result (λ both. both.0 ≡ net_with choice names pred.tree)
   pub valid : IfOk result (λ both. ValidProof both.0 pred both.1)
   pub within : IfOk result (λ both. IsProofWithin pred.variables (length both.0.leaves) both.1)
-  -- the net is in form, and the leaves' predicates are over its variables
+  -- the net is well formed, and the leaves' predicates are over its variables
   pub formed : IfOk result (λ both. IsNet both.0)
   pub preds : IfOk result (λ both. All (λ part. IsPred pred.variables part.pred.tree) both.1.leaves)
-  -- no leaf has two moves for the same states
+  -- no leaf has two moves that take the same states
   pub single : IfOk result (λ both. IsSingle both.0)
   -- the net computes the predicate, and can be led to its end by meetings
   pub right : IfOk result (λ both. IsRight both.0 pred both.1)

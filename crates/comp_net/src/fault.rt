@@ -9,7 +9,7 @@ use std::alloc::AllocError;
 /// The first reason, or out of memory.
 #[derive(Clone, Copy, PartialEq, Eq)]
 pub enum CompileFault {
-    /// It has so many atoms, more than a net may have leaves.
+    /// It has this many atoms, more than a net may have leaves.
     ManyAtoms(u32),
     /// The atom has the width `s`, too much for a leaf.
     TooWide { atom: u32, s: u64 },

@@ -23,7 +23,7 @@ weight-is m test q b l e = get_or-map-range_with_len (λ q. indicator (test q)) 
 lower_of : (m : ℕ) (t : Move) (k : ℕ) (weights : List ℤ) → leader_kind m t ≡ k → get_or (all_weights m) k [] ≡ weights → IsLower weights t → IsLower (get_or (all_weights m) (leader_kind m t) []) t
 lower_of m t k weights e f h = subst (λ w. IsLower w t) (sym (ap (λ i. get_or (all_weights m) i []) e ∙ f)) h
 
--- two leaders are more than a leader and a follower
+-- two leaders weigh more than a leader and a follower
 lower-pair : (m rest p q : ℕ) → p < m → q < m → IsLower (get_or (all_weights m) (leader_kind m (leader_meeting m rest p q)) []) (leader_meeting m rest p q)
 lower-pair m rest p q l k =
     let test : ℕ → Bool = λ q. nat_lt q m in

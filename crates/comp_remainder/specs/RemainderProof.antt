@@ -17,7 +17,7 @@ use Rattle.comp_remainder.specs.RemainderLayers.{remainder_layers}
 abbrev pub remainder_value : ℕ → ℕ → ℤ
 remainder_value m q = if nat_lt q m then pos q else pos 0
 
--- how often the opened predicate is added: less once where it is a congruence, and not at all where it denies one
+-- how often the opened predicate is added: -1 times if it is a congruence, and not at all if it denies one
 abbrev pub opened_by : Bool → ℤ
 opened_by b = if b then negsuc 0 else pos 0
 

@@ -28,7 +28,6 @@ fn congruent(alloc: Global, coefs: &[i64], modulus: u32, rest: u32) -> Result<Pr
     Ok(Pred::new(coefs.len() as u16, tree))
 }
 
-/// The proof of a built leaf.
 fn leaf_proof(
     alloc: Global,
     coefs: &[i64],

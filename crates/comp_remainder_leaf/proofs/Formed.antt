@@ -1,4 +1,4 @@
--- The built leaf of `Rest` is in form.
+-- The built leaf of `Rest` is well formed.
 use Rattle.std.proofs.Common.{◌≡◌, subst, ℕ, zero, suc, ◌+◌, ◌-◌, ◌%◌, ◌<◌, ◌≤◌, Bool, List, [], length, map, get_or, refl, sym, ◌∙◌, zero-add, arith}
 use Rattle.std.specs.Prelude.{ℤ, pos, not, ◌==◌, All, flat_map}
 use Rattle.std.specs.List.{range_with_len}

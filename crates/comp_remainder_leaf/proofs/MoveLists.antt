@@ -12,7 +12,7 @@ use Rattle.comp_remainder_leaf.specs.RemainderLeaf.{remainder_follower, leader_m
 use Rattle.list_laws.proofs.Ranges.{all_range}
 use Rattle.list_laws.proofs.Lists.{has_map}
 
--- what holds of each meeting and of each turn
+-- what holds for each meeting and for each turn
 pub all_moves : (m rest : ℕ) (P : Move → Type 0) → ((p q : ℕ) → p < m → q < m → P (leader_meeting m rest p q)) → ((p : ℕ) → p < m → P (follower_turn m rest p)) → All P (remainder_moves m rest)
 all_moves m rest P f g =
     All-append P (flat_map (remainder_pairs m rest) (range_with_len 0 m)) (map (follower_turn m rest) (range_with_len 0 m))

@@ -1,4 +1,4 @@
--- The names of the states of a built leaf of `Rest` are in form, and no two are equal.
+-- The names of the states of a built leaf of `Rest` are well formed, and no two are equal.
 use Rattle.std.proofs.Common.{◌≡◌, subst, ℕ, ◌+◌, ◌<◌, ◌≤◌, Bool, true, false, ◌&&◌, [], ◌∷◌, length, map, refl, sym, ◌∙◌, arith}
 use Rattle.std.specs.Prelude.{if◌then◌else◌, nat_le, IsTrue}
 use Rattle.std.specs.List.{range_with_len}

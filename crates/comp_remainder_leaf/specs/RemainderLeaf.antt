@@ -1,6 +1,5 @@
 -- RemainderLeaf: the built leaf of `Rest`. A leader `N(n)` has a remainder n; the followers `F(false)` and `F(true)`
--- come after the leaders
--- (Angluin, Aspnes, Diamadi, Fischer, Peralta 2006).
+-- come after the leaders (Angluin, Aspnes, Diamadi, Fischer, Peralta 2006).
 use Rattle.std.specs.Prelude.{ℕ, ◌+◌, ◌-◌, ◌%◌, Bool, not, ◌==◌, nat_lt, if◌then◌else◌, List, [], ◌∷◌, ◌++◌, map}
 use Rattle.std.specs.Prelude.{flat_map, ℤ, pos, nat_abs}
 use Rattle.std.specs.List.{range_with_len}

@@ -18,7 +18,7 @@ pub(crate) fn follower(modulus: u16, answer: bool) -> u16
     if answer { modulus + 1 } else { modulus }
 }
 
-/// What two leaders make of each other.
+/// What two leaders become when they meet.
 fn meeting(modulus: u16, rest: u16, p: u16, q: u16) -> Move
     requires few { modulus ≤ MODULUS_LIMIT }
     requires first { p < modulus }

@@ -22,7 +22,6 @@ fn name_of(alloc: Global, modulus: u16, q: u16) -> Result<Text, NoMemory>
     Ok(Text::from_string(text))
 }
 
-/// The names of all states.
 pub(crate) fn names(alloc: Global, modulus: u16) -> Result<List<Text>, NoMemory>
     requires { modulus ≤ MODULUS_LIMIT }
     ensures { IfOk result (λ names.

@@ -19,7 +19,7 @@ abbrev pub IsWidthFault : List ℤ → ℤ → ThresholdFault → Type 0
 IsWidthFault coefs bound (TooWide s) = (s ≡ threshold_width coefs bound) × (WIDTH_LIMIT < s)
 IsWidthFault coefs bound NoMemory = Unit {0}
 
--- the leaf and its proof, where the width is within the limit
+-- the leaf and its proof, if the width is within the limit
 pub record BuildsThreshold (coefs : List ℤ) (bound : ℤ) (result : Result (LeafModel × LeafProof) ThresholdFault)
     : Type 0 where
   pub built : IfOk result (λ both. IsThreshold coefs bound both.0 both.1)

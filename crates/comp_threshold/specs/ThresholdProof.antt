@@ -14,7 +14,7 @@ use Rattle.comp_threshold_leaf.specs.ThresholdLeaf.{threshold_width, threshold_v
 use Rattle.pres_ast.specs.PredTree.{LessThan}
 use Rattle.cert_base.specs.declared.proof.LeafProof.{LeafProof}
 
--- the value of a state, or its opposite in the tree for false
+-- the value of a state, negated in the tree for false
 abbrev pub signed_value : Bool → ℕ → ℕ → ℤ
 signed_value b s q = if b then threshold_value s q else neg_ℤ (threshold_value s q)
 

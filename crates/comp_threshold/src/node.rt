@@ -14,7 +14,7 @@ use pop_io::{List, NoMemory};
 use pop_net::Leaf;
 use std::alloc::Global;
 
-/// The value of a state, with its sign turned in the tree for false.
+/// The value of a state, negated in the tree for false.
 fn signed(s: u16, b: bool, q: u16) -> i64
     requires { s ≤ WIDTH_LIMIT }
     ensures { result ≡ signed_value b s q }

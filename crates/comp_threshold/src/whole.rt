@@ -30,7 +30,6 @@ fn less(alloc: Global, coefs: &[i64], bound: i64) -> Result<Pred, NoMemory>
     Ok(Pred::new(coefs.len() as u16, tree))
 }
 
-/// The proof of a built leaf.
 fn leaf_proof(
     alloc: Global,
     coefs: &[i64],

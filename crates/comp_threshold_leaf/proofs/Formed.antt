@@ -1,4 +1,4 @@
--- The built leaf of `Less` is in form.
+-- The built leaf of `Less` is well formed.
 use Rattle.std.proofs.Common.{◌≡◌, subst, ℕ, zero, suc, ◌+◌, ◌-◌, ◌*◌, ◌<◌, ◌≤◌, List, length, map, get_or, refl, ap, sym, ◌∙◌, zero-add, arith}
 use Rattle.std.specs.Prelude.{ℤ, pos, All, flat_map}
 use Rattle.std.specs.List.{range_with_len}

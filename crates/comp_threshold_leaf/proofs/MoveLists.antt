@@ -1,4 +1,4 @@
--- The moves of a built leaf: what holds of each meeting holds of each move, and which of them are moves.
+-- The moves of a built leaf: what holds for each meeting holds for each move, and which of them are moves.
 use Rattle.std.proofs.Common.{◌≡◌, ◌⊎◌, inl, inr, ℕ, ◌+◌, ◌-◌, ◌<◌, ◌≤◌, Bool, true, false, ◌&&◌, List, map, refl, ap, ◌∙◌, arith}
 use Rattle.std.specs.Prelude.{◌==◌, nat_lt, All, Contains, flat_map}
 use Rattle.std.specs.List.{range_with_len}
@@ -20,14 +20,14 @@ use Rattle.list_laws.proofs.Numbers.{same_turned}
 
 -- ---- moves
 
--- what holds of each meeting of a leader with a state
+-- what holds for each meeting of a leader with a state
 pub all_moves : (s t : ℕ) (P : Move → Type 0) → ((p q : ℕ) → p < span_of s → q < threshold_state_count s → P (threshold_leader_move s t p q)) → All P (threshold_moves s t)
 all_moves s t P f =
     All-append P (flat_map (threshold_pairs s t) (range_with_len 0 (span_of s))) (flat_map (threshold_turns s t) (range_with_len 0 (span_of s)))
     (all_flat P (threshold_pairs s t) (range_with_len 0 (span_of s)) (all_range (λ p. All P (threshold_pairs s t p)) 0 (span_of s) (λ p l m. All-map P (threshold_leader_move s t p) (range_with_len p (span_of s - p)) (all_range (λ q. P (threshold_leader_move s t p q)) p (span_of s - p) (λ q k n. f p q (omega arith) (omega arith))))))
     (all_flat P (threshold_turns s t) (range_with_len 0 (span_of s)) (all_range (λ p. All P (threshold_turns s t p)) 0 (span_of s) (λ p l m. All-filter alters_states P (map (threshold_leader_move s t p) (range_with_len (span_of s) (span_of s + span_of s))) (All-map P (threshold_leader_move s t p) (range_with_len (span_of s) (span_of s + span_of s)) (all_range (λ q. P (threshold_leader_move s t p q)) (span_of s) (span_of s + span_of s) (λ q k n. f p q (omega arith) (omega arith)))))))
 
--- what holds of each meeting of two leaders, and of each meeting with a follower that changes a state
+-- what holds for each meeting of two leaders, and for each meeting with a follower that changes a state
 pub all_moves_changing : (s t : ℕ) (P : Move → Type 0) → ((p q : ℕ) → p < span_of s → q < threshold_state_count s → (q < span_of s) ⊎ (alters_states (threshold_leader_move s t p q) ≡ true) → P (threshold_leader_move s t p q)) → All P (threshold_moves s t)
 all_moves_changing s t P f =
     All-append P (flat_map (threshold_pairs s t) (range_with_len 0 (span_of s))) (flat_map (threshold_turns s t) (range_with_len 0 (span_of s)))
@@ -62,7 +62,7 @@ leader_move-below s t p q l m =
 pub not-leader : (s v p : ℕ) (bit : Bool) → p < span_of s → (p == threshold_follower s bit v) ≡ false
 not-leader s v p bit l = let m = follower-above s v bit in ne_eqb p (threshold_follower s bit v) (λ e. omega arith)
 
--- a meeting of two leaders is not silent, and one with a follower is silent where nothing changes
+-- a meeting of two leaders is not silent, and one with a follower is silent if nothing changes
 pub pair-loud : (s t p q : ℕ) → p < span_of s → q < span_of s → silent_move (threshold_leader_move s t p q) ≡ false
 pair-loud s t p q l m =
     let bit = nat_lt (joined_value s p (threshold_place s q)) t in

@@ -1,8 +1,6 @@
 -- ThresholdLeaf: the built leaf of `Less`. With s as its width, a leader `L(u)` or a follower `F(bit,v)` has a value
--- from -s to s;
--- the value u stands at place u + s. The leaders come first, then the followers with the bit false, then those with the
--- bit true
--- (Angluin, Aspnes, Diamadi, Fischer, Peralta 2006).
+-- from -s to s; the value u stands at place u + s. The leaders come first, then the followers with the bit false, then
+-- those with the bit true (Angluin, Aspnes, Diamadi, Fischer, Peralta 2006).
 use Rattle.std.specs.Prelude.{ℕ, ◌+◌, ◌-◌, Bool, not, ◌&&◌, ◌==◌, nat_lt, if◌then◌else◌, List, []}
 use Rattle.std.specs.Prelude.{◌∷◌, ◌++◌, map, filter, flat_map, fold, ℤ, pos, ◌+ℤ◌, ◌-ℤ◌, nat_abs}
 use Rattle.std.specs.List.{range_with_len}
@@ -17,7 +15,7 @@ greater a b = if nat_lt a b then b else a
 abbrev pub smaller : ℕ → ℕ → ℕ
 smaller a b = if nat_lt a b then a else b
 
--- the greatest size of a coefficient, or the bound's and 1
+-- the greatest size of a coefficient, or the bound's plus 1 if that is greater
 abbrev pub threshold_width : List ℤ → ℤ → ℕ
 threshold_width coefs bound = fold (λ s a. greater s (nat_abs a)) (nat_abs bound + 1) coefs
 
@@ -49,7 +47,7 @@ joined_value s u v = smaller (s + s) (u + v - s)
 abbrev pub leftover : ℕ → ℕ → ℕ → ℕ
 leftover s u v = u + v - joined_value s u v
 
--- what a leader makes of a state; the bound stands at place t
+-- what a leader and a state become when they meet; the bound is at place t
 abbrev pub threshold_leader_move : (s t p q : ℕ) → Move
 threshold_leader_move s t p q =
     record {

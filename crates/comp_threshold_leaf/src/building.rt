@@ -15,7 +15,7 @@ use pop_io::{List, NoMemory};
 use pop_net::Leaf;
 use std::alloc::Global;
 
-/// A state's output, where the bound stands at place t. Allocates nothing.
+/// A state's output, with the bound at place t. Allocates nothing.
 pub fn output(s: u16, t: u16, q: u16) -> bool
     requires { s ≤ WIDTH_LIMIT }
     ensures { result ≡ threshold_output s t q }
@@ -45,7 +45,7 @@ fn inputs(alloc: Global, s: u16, coefs: &[i64]) -> Result<Vec<u16>, NoMemory>
     Ok(inputs)
 }
 
-/// The leaf, where it is in form.
+/// The leaf, which must be well formed.
 fn built_leaf(alloc: Global, s: u16, t: u16, coefs: &[i64]) -> Result<Leaf, NoMemory>
     requires narrow { s ≤ WIDTH_LIMIT }
     requires within { All (λ a. nat_abs a ≤ s) coefs.now }
@@ -60,7 +60,7 @@ fn built_leaf(alloc: Global, s: u16, t: u16, coefs: &[i64]) -> Result<Leaf, NoMe
     Leaf::of_valid(alloc, names, moves, inputs, outputs, helpers)
 }
 
-/// The built leaf of these coefficients and this bound, which are of this width.
+/// The built leaf of these coefficients and this bound, which have this width.
 pub fn threshold_leaf(alloc: Global, coefs: &[i64], bound: i64, s: u16) -> Result<Leaf, NoMemory>
     requires width { s ≡ threshold_width coefs.now bound }
     requires narrow { s ≤ WIDTH_LIMIT }

@@ -5,9 +5,9 @@
 //! Each agent has a value from -s to s, s being the width, and an agent of a variable starts as a leader with the
 //! variable's coefficient. A leader that meets any agent takes as much of both values as fits and leaves the other a
 //! follower with the rest and with its own answer, whether its value is below the bound. So the sum of all values
-//! stays what it was. In the end there is one leader; no follower has a value that it could still take, so either it
-//! has the whole sum, or it stands at an end of the range and the rest lies beyond it; in both cases its answer is
-//! the sum's, since the bound is inside the range, and all followers have taken it over.
+//! stays the same. In the end there is one leader; no follower has a value that it could still take, so either it has
+//! the whole sum, or it stands at an end of the range and the rest lies beyond it; in both cases its answer is the
+//! sum's, since the bound is inside the range, and all followers have taken it over.
 #![tactic(auto)]
 
 mod building;

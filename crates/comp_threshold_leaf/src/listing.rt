@@ -11,7 +11,7 @@ use pop_io::NoMemory;
 use pop_net::Move;
 use std::alloc::Global;
 
-/// What a leader makes of a state.
+/// What a leader and a state become when they meet.
 fn leader_move(s: u16, t: u16, p: u16, q: u16) -> Move
     requires narrow { s ≤ WIDTH_LIMIT }
     requires leader { p < span_of s }
@@ -61,7 +61,7 @@ fn turns_of(alloc: Global, s: u16, t: u16, p: u16) -> Result<Vec<Move>, NoMemory
     Ok(moves)
 }
 
-/// Each leader meets each leader from itself on; then each leader meets each follower, where a state changes.
+/// Each leader meets each leader from itself on; then each leader meets each follower, if a state changes.
 pub(crate) fn moves(alloc: Global, s: u16, t: u16) -> Result<Vec<Move>, NoMemory>
     requires { s ≤ WIDTH_LIMIT }
     ensures { IfOk result (λ moves. moves.items ≡ threshold_moves s t) }

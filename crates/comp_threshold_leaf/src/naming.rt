@@ -26,7 +26,6 @@ fn name_of(alloc: Global, s: u16, q: u16) -> Result<Text, NoMemory>
     Ok(Text::from_string(text))
 }
 
-/// The names of all states.
 pub(crate) fn names(alloc: Global, s: u16) -> Result<List<Text>, NoMemory>
     requires { s ≤ WIDTH_LIMIT }
     ensures { IfOk result (λ names. names ≡ map (threshold_state_name s) (range_with_len 0 (threshold_state_count s))) }

@@ -3,7 +3,7 @@
 ghost use Rattle.std.specs.Prelude.{◌≡◌};
 ghost use Rattle.comp_threshold_leaf.specs.ThresholdLeaf.{threshold_width};
 
-/// The greatest size of a coefficient, or that of the bound and 1. Allocates nothing.
+/// The greatest size of a coefficient, or that of the bound plus 1 if that is greater. Allocates nothing.
 pub fn width(coefs: &[i64], bound: i64) -> u64
     ensures { result ≡ threshold_width coefs.now bound }
 {

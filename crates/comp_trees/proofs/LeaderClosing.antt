@@ -1,4 +1,4 @@
--- The whole tree of a leaf with leaders closes its base facts, where the node of each leader closes.
+-- The whole tree of a leaf with leaders closes its base facts, if the node of each leader closes.
 use Rattle.std.proofs.Common.{◌≡◌, subst, ℕ, zero, suc, ◌+◌, ◌<◌, ◌≤◌, Bool, true, false, ◌&&◌, List, [], ◌∷◌, ◌++◌, length, map, append_assoc, refl, ap, sym, ◌∙◌, zero-add, arith, length-append}
 use Rattle.std.specs.Prelude.{pos, negsuc, if◌then◌else◌, not, ◌==◌, Some, nat_lt, count_by}
 use Rattle.std.specs.List.{range_with_len, list_all}

@@ -162,7 +162,7 @@ valued-none value leaf =
     weighted_sum-map value (flow leaf) (λ q. pos 0) (states_of leaf)
     ∙ total-none (λ q. pos 0 *ℤ value (flow leaf q)) (states_of leaf) (λ q. zero-*ℤ (value (flow leaf q)))
 
--- no agent stands in a state from the start
+-- without helpers, a flow fact has the constant 0
 flow-constant : (leaf : LeafModel) (q : ℕ) → leaf.helpers ≡ [] → constant_of (flow leaf q) ≡ pos 0
 flow-constant leaf q e = ap (λ (hs : List ℕ). pos (count_by (λ z. z == q) hs)) e
 
@@ -196,7 +196,7 @@ module _ (leaf : LeafModel) (pred : PredModel) (b : Bool) (opened : Fact) (n p :
       let fifth = zero-*ℤ (coefficient x (alone_fact leaf p)) in
       omega (arith, ints, sum, first, second, third, f, fifth)
 
-  -- the node closes where all wrong states are ruled out
+  -- the node closes if all wrong states are ruled out
   pub wrong_closes : ((z : ℕ) → z < length leaf.states → is_wrong leaf b z ≡ true → rules_out leaf p z ≡ true) → closes_by_sum all_facts (terms_from 0 wrong_terms) ≡ true
   wrong_closes all =
       linear_closes-weighted all_facts wrong_terms
@@ -282,7 +282,7 @@ module _ (leaf : LeafModel) (pred : PredModel) (b : Bool) (opened : Fact) (n p :
       let f = law-past leaf w j in
       omega (arith, ints, e, f)
 
-  -- a state that is the leader or is ruled out has the coefficient 0, another one the opposite of its value
+  -- a state that is the leader or is ruled out has the coefficient 0, any other its negated value
   pub value-state : (w : ℕ → ℤ) (m : ℤ) (coefs : List ℤ) (constant : ℤ) (z : ℕ) → IsOpened coefs constant → z < length leaf.states → sum_of_facts (coefficient (length leaf.inputs + z)) all_facts (value_terms w m) ≡ (if z == p then pos 0 else (if can_meet_in leaf p z then pos 0 else neg_ℤ (w z)))
   value-state w m coefs constant z is l = go (eqb_tells z p)
     where

@@ -34,7 +34,7 @@ module _ (leaf : LeafModel) (pred : PredModel) (b : Bool) (opened : Fact) (n p :
   move_below : (t : ℕ) (d : Move) → t < length leaf.moves → IsMoveBelow (length leaf.states) (get_or leaf.moves t d)
   move_below t d l = All-get_or (IsMoveBelow (length leaf.states)) leaf.moves t d l moves
 
-  -- a state's coefficient passes a test, where 0 does, and the opposites of the values of those that the leader leaves
+  -- if 0 passes a test, and so do the negated values of the states that the leader leaves, a state's coefficient does
   state_passes : (P : ℤ → Type 0) (w : ℕ → ℤ) (z : ℕ) → P (pos 0) → (z ≢ p → can_meet_in leaf p z ≡ false → P (neg_ℤ (w z))) → P (if z == p then pos 0 else (if can_meet_in leaf p z then pos 0 else neg_ℤ (w z)))
   state_passes P w z none rest = go (eqb_tells z p)
     where
@@ -46,7 +46,7 @@ module _ (leaf : LeafModel) (pred : PredModel) (b : Bool) (opened : Fact) (n p :
       go (inl h) = rw h.0 none
       go (inr h) = rw h.0 (met (can_meet_in leaf p z) refl h.1)
 
-  -- the move of number t
+  -- move number t
   a_move : Move
   a_move = record { p = 0; q = 0; r = 0; s = 0 }
 
@@ -61,7 +61,7 @@ module _ (leaf : LeafModel) (pred : PredModel) (b : Bool) (opened : Fact) (n p :
       (λ j. let e = value-past leaf pred b opened n p twin w (pos 1) coefs constant j is below in omega (arith, ints, e)))
       (let e = value-constant leaf pred b opened n p twin w (pos 1) coefs constant no_helpers is in let g = *ℤ_comm (pos 1) constant ∙ times-one constant in omega (arith, ints, e, last, g))
 
-  -- what holds modulo m of the values
+  -- what holds for the values modulo m
   pub record AreEven (m : ℕ) (w : ℕ → ℤ) : Type 0 where
     pub of_inputs : (i : ℕ) → i < length leaf.inputs → is_multiple m (w (get_or leaf.inputs i 0) -ℤ get_or coefs i (pos 0)) ≡ true
     pub of_moves : All (λ t. is_multiple m ((w t.r +ℤ w t.s) -ℤ (w t.p +ℤ w t.q)) ≡ true) leaf.moves
@@ -89,7 +89,7 @@ module _ (leaf : LeafModel) (pred : PredModel) (b : Bool) (opened : Fact) (n p :
       (Contains-append_left (base_list leaf pred b ++ opened ∷ []) _ opened
       (Contains-append_right (base_list leaf pred b) (opened ∷ []) opened (0, (let e : 0 < length (opened ∷ []) = omega arith in e), refl))))
 
-  -- the opened fact says that there is no congruence
+  -- the opened fact denies a congruence
   pub residue_closes-false : (m : ℕ) (w : ℕ → ℤ) → is_multiple m (pos 0) ≡ true → opened ≡ NotCong (input_row coefs constant) m → AreEven m w → is_multiple m (neg_ℤ (w p) -ℤ constant) ≡ true → closes_by_residue facts m (terms_from 0 (by_values w (pos 0))) ≡ true
   residue_closes-false m w none opened_is even same =
       residue_closes-denied facts m (by_values w (pos 0)) (input_row coefs constant) (subst (Contains facts) opened_is opened_there)

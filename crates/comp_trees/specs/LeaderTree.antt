@@ -1,6 +1,5 @@
 -- LeaderTree: trees for a leaf with leaders, which are its first states: the predicate is opened; the leaders are a
--- trap, so one of them
--- is left; each leader in turn is absent, or it is the only one.
+-- trap, so one of them is left; each leader in turn is absent, or it is the only one.
 use Rattle.std.specs.Prelude.{◌≡◌, ◌<◌, ◌≤◌, All, ℕ, zero, suc, ◌+◌, Bool, true, false, not, ◌&&◌, ◌==◌, if◌then◌else◌}
 use Rattle.std.specs.Prelude.{List}
 use Rattle.std.specs.Prelude.{[], ◌∷◌, ◌++◌, map, filter, length, ℤ, pos, negsuc, neg_ℤ, reverse, replicate}
@@ -51,7 +50,7 @@ abbrev pub mix_of_trap : LeafModel → LeaderMix → List ℤ
 mix_of_trap leaf mix =
     ((map mix.flows (states_of leaf) ++ pos 0 ∷ pos 0 ∷ mix.wrong ∷ []) ++ mix.opened ∷ []) ++ pos 0 ∷ []
 
--- those of a leader, where these states are ruled out
+-- those of a leader, with these states ruled out
 abbrev pub mix_of_leader : LeafModel → List ℕ → LeaderMix → ℕ → List ℤ
 mix_of_leader leaf out mix p = (mix_of_trap leaf mix ++ zeros p) ++ ((pos 0 ∷ map mix.ruled_out out) ++ mix.alone ∷ [])
 
@@ -64,11 +63,11 @@ leader_nodes ends last p (suc k) = Present p ∷ (leader_nodes ends last (p + 1)
 abbrev pub no_leader_mix : LeafModel → ℕ → List ℤ
 no_leader_mix leaf n = (zeros (length leaf.states + 4) ++ pos 1 ∷ []) ++ replicate n (negsuc 0)
 
--- no move takes from the leaders and puts none among them
+-- no move takes from the leaders without putting one back
 abbrev pub no_leak_mix : LeafModel → List ℤ
 no_leak_mix leaf = zeros (length leaf.states + 4) ++ pos 1 ∷ []
 
--- there are two agents at least, and no input starts among the leaders
+-- there are at least two agents, and no input starts among the leaders
 abbrev pub no_start_mix : LeafModel → List ℤ
 no_start_mix leaf =
     ((zeros (length leaf.states) ++ pos 1 ∷ pos 0 ∷ pos 0 ∷ []) ++ pos 0 ∷ [])
@@ -96,7 +95,7 @@ wrong_mix leaf b =
       alone = pos 0;
     }
 
--- each state has a value, and what the opened fact says doesn't agree with the value of the one leader
+-- each state has a value, and what the opened fact says contradicts the value of the one leader
 abbrev pub value_mix : (ℕ → ℤ) → ℤ → ℕ → LeaderMix
 value_mix value opened p =
     record {

@@ -9,7 +9,7 @@ use pop_io::NoMemory;
 use pop_net::Leaf;
 use std::alloc::Global;
 
-/// In ascending order, the other states that can meet this one.
+/// The other states that can meet this one, in ascending order.
 pub(crate) fn company(alloc: Global, leaf: &Leaf, state: u16) -> Result<Vec<u16>, NoMemory>
     requires { state < length leaf.now.states }
     ensures states { IfOk result (λ states. states.items ≡ company_of leaf.now state) }
@@ -23,7 +23,7 @@ pub(crate) fn company(alloc: Global, leaf: &Leaf, state: u16) -> Result<Vec<u16>
     Ok(states)
 }
 
-/// Whether a state is another one, and can be met.
+/// Whether `q` is another state that can be met.
 fn is_other(leaf: &Leaf, state: u16, q: u16) -> bool
     requires state { state < length leaf.now.states }
     requires other { q < length leaf.now.states }

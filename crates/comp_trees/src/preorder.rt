@@ -12,7 +12,7 @@ use pop_io::{List, NoMemory};
 use pop_net::Leaf;
 use std::alloc::Global;
 
-/// The whole tree, where these nodes end the leaders' branches, the first leader's first.
+/// The whole tree, with these nodes at the ends of the leaders' branches, the first leader's first.
 pub fn tree(alloc: Global, leaf: &Leaf, ends: Vec<Node>) -> Result<List<Node>, NoMemory>
     requires { length ends.items ≤ length leaf.now.states }
     ensures { IfOk result (λ nodes. nodes ≡ tree_of_ends leaf.now ends.items) }
@@ -109,7 +109,7 @@ fn no_start_by(alloc: Global, leaf: &Leaf) -> Result<Vec<i64>, NoMemory>
     Ok(multipliers)
 }
 
-/// The trap's fact, less that each leader is absent.
+/// The trap's fact, less the facts that each leader is absent.
 fn no_leader(alloc: Global, leaf: &Leaf, leaders: u16) -> Result<Node, NoMemory>
     ensures { IfOk result (λ node. node ≡ weighed_node (no_leader_mix leaf.now leaders)) }
 {

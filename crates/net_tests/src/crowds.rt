@@ -9,7 +9,7 @@ use sample_nets::{leaf_of, majority, net_of, step};
 use std::alloc::Global;
 use terminal_test::{agreed, enabled_pair};
 
-/// In leaf 0, one state of each kind goes over to the third, and in leaf 1 nothing moves.
+/// In leaf 0, p becomes r when it meets q; in leaf 1 nothing moves.
 fn leaf(alloc: Global, number: u32) -> Option<Leaf> {
     if number == 0 {
         let moves = [step(0, 1, 2, 1)];

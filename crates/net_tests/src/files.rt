@@ -1,4 +1,4 @@
-//! What is written of a net.
+//! The text written for a net.
 
 use net_json::{read_net, write_net};
 use pop_net::Net;
@@ -17,25 +17,24 @@ const HELPED_NET: &str =
 const WRITTEN_HELPED_NET: &str =
     "{\"combine\":[0,1,\"and\"],\"format\":2,\"leaves\":[{\"helpers\":[1,1],\"input\":[0],\"moves\":[],\"output\":[true,false],\"states\":[\"A\",\"B\"]},{\"helpers\":[0,0],\"input\":[0],\"moves\":[],\"output\":[true],\"states\":[\"A\"]}],\"vars\":[\"x\"]}";
 
-/// The net of a text.
 fn net(alloc: Global, text: &str) -> Option<Net> {
     let value = Value::from_str(alloc, text).ok()?;
     read_net(alloc, &value).ok()
 }
 
-/// What is written of a net.
+/// The text written for a net.
 fn text_of(alloc: Global, net: &Net) -> Option<String> {
     let value = write_net(alloc, net).ok()?;
     value.to_string(alloc).ok()
 }
 
-/// What is written of the net of a text.
+/// The text written for the net of a text.
 fn written(alloc: Global, text: &str) -> Option<String> {
     let net = net(alloc, text)?;
     text_of(alloc, &net)
 }
 
-/// Whether this is written of the net of a text.
+/// Whether this is the text written for the net of a text.
 fn is_written(alloc: Global, text: &str, wanted: &str) -> Option<bool> {
     let line = written(alloc, text)?;
     Some(line.as_bytes() == wanted.as_bytes())

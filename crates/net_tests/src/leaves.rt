@@ -1,11 +1,11 @@
-//! What leaves are refused for, and their parts and reactions.
+//! Why leaves are refused, and their parts and reactions.
 
 use crate::parts::{listed, repeated};
 use pop_net::{Leaf, LeafFault, Move, Net};
 use sample_nets::{majority, numbered, step, texts};
 use std::alloc::Global;
 
-/// So many states, moves, inputs, outputs and helpers.
+/// The numbers of states, moves, inputs, outputs and helpers.
 type Sizes = (usize, usize, usize, usize, usize);
 
 const SIZES: [(Sizes, LeafFault); 5] = [

@@ -1,5 +1,4 @@
-//! Tests of nets and crowds that no row of `row_tests` can hold: what is written, words, parts and reactions, the
-//! faults of calls.
+//! Tests of nets and crowds that no row of `row_tests` can hold: texts, words, parts, reactions, and faults of calls.
 //! It stands on the crates that it tests, and has no code but tests.
 //! Nothing stands above it.
 #![tactic(auto)]

@@ -1,4 +1,4 @@
-//! What nets are refused for, their parts, and their words.
+//! Why nets are refused, their parts, and their words.
 
 ghost use Rattle.std.specs.Prelude.{◌≡◌, length};
 
@@ -17,7 +17,7 @@ fn wide_leaf(alloc: Global) -> Option<Leaf> {
     net.leaf(0).copy(alloc).ok()
 }
 
-/// A leaf of two states with so many helpers, or a wide one.
+/// A leaf of two states with this many helpers, or a wide one.
 fn leaf(alloc: Global, kind: u8) -> Option<Leaf> {
     if kind == b'w' {
         return wide_leaf(alloc);
@@ -38,7 +38,7 @@ fn leaves(alloc: Global, kinds: &str) -> Option<Vec<Leaf>> {
     Some(leaves)
 }
 
-/// What a net of leaves of these kinds with this combination is refused for.
+/// Why a net of leaves of these kinds with this combination is refused.
 fn fault_of(alloc: Global, names: List<Text>, kinds: &str, items: &[Item]) -> Option<NetFault> {
     let leaves = List::from_vec(leaves(alloc, kinds)?);
     Net::new(alloc, names, leaves, listed(alloc, items)).err()
@@ -139,7 +139,7 @@ fn a_helper_of_a_net(rt: HostRuntime) {
     assert!(rt; helpers(rt.alloc()) == Some((1, Word(0))));
 }
 
-/// The words of the two variables, and what they become where the second meets the first.
+/// The words of the two variables, and what they become when the second meets the first.
 fn words(net: &Net) -> [Word; 4]
     requires { length net.now.variables ≡ 2 }
 {

@@ -1,10 +1,9 @@
-//! Lists that are empty where memory runs out: the faults that tests look for tell of that.
+//! Lists that are empty if memory runs out: the faults that tests look for show that.
 
 use pop_io::List;
 use sample_nets::list;
 use std::alloc::Global;
 
-/// A list of these items.
 pub(crate) fn listed<T: Copy>(alloc: Global, items: &[T]) -> List<T> {
     match list(alloc, items) {
         Ok(items) => items,
@@ -12,7 +11,7 @@ pub(crate) fn listed<T: Copy>(alloc: Global, items: &[T]) -> List<T> {
     }
 }
 
-/// A list with this item so many times.
+/// A list with this item this many times.
 pub(crate) fn repeated<T: Copy>(alloc: Global, item: T, times: usize) -> List<T> {
     match vec![in alloc; item; times] {
         Ok(items) => List::from_vec(items),

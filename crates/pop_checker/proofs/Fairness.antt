@@ -1,4 +1,5 @@
--- A net that computes a predicate does so in every fair execution, and one that meetings lead to its end does so by meetings alone.
+-- A net that computes a predicate does so in every fair execution; if meetings lead it to its end, it does so by
+-- meetings alone.
 use Rattle.std.proofs.Common.{◌≡◌, ℕ, ◌<◌, ◌≤◌, List, [], ◌∷◌, length, get_or, refl, sym, subst, ◌∙◌, arith}
 use Rattle.std.specs.Prelude.{slice_index_or, All}
 use Rattle.std.proofs.lemmas.List.Elements.{All-head, All-tail}
@@ -54,7 +55,7 @@ meetings_lead net (m ∷ meetings) crowd h =
     let more = meetings_lead net meetings next rest in
     (next ∷ more.0, (meets net m crowd (All-head (IsMeeting (length crowd)) m meetings h), more.1))
 
--- ---- crowds on the way from an input
+-- ---- crowds that are reachable from an input
 
 reached_states : (net : NetModel) (counts : List ℕ) (crowd : CrowdModel) → IsNet net → IsInput (length net.variables) (number_of_helpers net) counts → Reachable (Step net) (input_crowd net counts) crowd → All (HasStates net) crowd
 reached_states net counts crowd is input r k d l i leaf h =

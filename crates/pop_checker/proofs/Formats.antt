@@ -1,4 +1,4 @@
--- Nodes within the limits of a proof are within the format that the check of a tree asks for.
+-- Nodes within the limits of a proof are within the format that the check of a tree requires.
 use Rattle.std.proofs.Common.{◌<◌, ◌≤◌, ◌^◌, List, [], ◌∷◌, get_or, map, arith}
 use Rattle.std.specs.Prelude.{All, nat_abs}
 use Rattle.std.proofs.lemmas.List.Elements.{All-nil, All-cons}

@@ -76,7 +76,7 @@ one_of_two a b number (zero, l, e) = inl (sym e)
 one_of_two a b number (suc zero, l, e) = inr (sym e)
 one_of_two a b number (suc (suc k), l, e) = absurd (omega arith)
 
--- what a layer's moves have, its only two have
+-- what holds for a layer's moves holds for its only two
 module _ (P : Move → Type 0) (a b : ℕ) (layer : Layer) (has : layer.moves ≡ a ∷ b ∷ []) where
   of_layer : (t : Move) (number : ℕ) → Contains layer.moves number → slice_get majority_leaf.moves number ≡ Some t
       → ((u : Move) → slice_get majority_leaf.moves a ≡ Some u → P u) → ((u : Move) → slice_get majority_leaf.moves b ≡ Some u → P u) → P t
@@ -133,7 +133,7 @@ each_state P a b c d more (suc (suc (suc (suc z)))) = more z
 far : (q n : ℕ) → q < n → one_at q n ≡ 0
 far q n l = let other = ne_eqb q n (λ e. omega arith) in rw other refl
 
--- no move takes what is no state
+-- no move takes a number past the states
 past : (u : Move) (rest z : ℕ) → u.p < 4 → u.q < 4 → pre u (suc (suc (suc (suc z)))) ≤ rest
 past u rest z l m = omega (arith, far u.p (suc (suc (suc (suc z)))) (omega arith), far u.q (suc (suc (suc (suc z)))) (omega arith))
 

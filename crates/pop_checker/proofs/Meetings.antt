@@ -21,7 +21,7 @@ use Rattle.pop_crowd.specs.declared.crowd.Meeting.{Meeting}
 use Rattle.pop_crowd.specs.Replay.{replay, IsMeeting, AreMeetings}
 use Rattle.pop_crowd.proofs.Reached.{length-after_meeting, tuples_after_meeting}
 
--- no two non-silent moves of the leaf have the same states before them
+-- no two non-silent moves of the leaf take the same states
 abbrev pub IsSingleLeaf : LeafModel → Type 0
 IsSingleLeaf leaf = AllPairs Differ leaf.moves
 
@@ -88,7 +88,7 @@ record Taken (leaf : LeafModel) (before after : List ℕ) : Type 0 where
   b_had : slice_get before b ≡ Some taken.q
   others_stay : after ≡ slice_set (slice_set before a taken.r) b taken.s
 
--- a step stays, or two agents take a move
+-- a step changes nothing, or two agents take a move
 taken_by : (leaf : LeafModel) (before after : List ℕ) (s : LeafStep leaf before after) → LeafChange leaf s.x s.y s.x' s.y' → (after ≡ before) ⊎ Taken leaf before after
 taken_by leaf before after s (inl stay) =
     inl
@@ -191,7 +191,7 @@ meet_step net i leaf h single crowd next end n tuples (inr k) more =
       here = m.here;
     }
 
--- a way of leaf i's crowd is made by meetings, whatever they do to the other leaves
+-- every path of leaf i's crowd is made by meetings, whatever they do to the other leaves
 pub meet_way : (net : NetModel) (i : ℕ) (leaf : LeafModel) → slice_get net.leaves i ≡ Some leaf → IsSingleLeaf leaf → (path : List (List ℕ)) (crowd : CrowdModel) (end : List ℕ) → All (IsTuple net) crowd → Leads (LeafStep leaf) (component i crowd) path end → Met net i crowd end (length path)
 meet_way net i leaf h single [] crowd end tuples way =
     record { meetings = []; pairs = All-nil (IsMeeting (length crowd)); short = (let l : 0 ≤ 0 = omega arith in l); here = sym way }

@@ -1,4 +1,4 @@
--- A net whose leaves have valid layers: from every crowd a terminal one is reached, within the proof's bound for each agent.
+-- If a net's leaves have valid layers, every crowd can reach a terminal one within the proof's bound for each agent.
 use Rattle.std.proofs.Common.{◌≡◌, ◌≢◌, inl, inr, ℕ, suc, pred, ◌+◌, ◌*◌, ◌<◌, ◌≤◌, List, [], ◌∷◌, ◌++◌, length, refl, ap, sym, subst, ◌∙◌, arith}
 use Rattle.std.specs.Prelude.{Some, slice_get, sum_by, All}
 use Rattle.std.proofs.Math.Nat as nat
@@ -122,7 +122,7 @@ reachable_in_ranges net counts crowd is long r j leaf h =
     let way = reachable_component net j leaf (input_crowd net counts) crowd h r in
     leads_in_range leaf is_leaf (component j (input_crowd net counts)) way.0 (component j crowd) way.1 first
 
--- where a proof is valid, a terminal crowd is reached from every crowd on the way, within the proof's bound for each agent
+-- if a proof is valid, every crowd on the way can reach a terminal one within the proof's bound for each agent
 pub valid_ends : (net : NetModel) (p : PredModel) (proof : Proof) → IsNet net → ValidProof net p proof → (counts : List ℕ) (crowd : CrowdModel) → IsInput (length net.variables) (number_of_helpers net) counts → Reachable (Step net) (input_crowd net counts) crowd → (end : CrowdModel) × IsTerminal (Step net) end × ReachedWithin (Step net) (proof_bound proof * length crowd) crowd end
 valid_ends net p proof is v counts crowd input r =
     net_ends net proof.leaves v.one_each

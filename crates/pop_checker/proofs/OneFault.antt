@@ -106,7 +106,7 @@ one_tree leaf part false false named other r s =
 
 -- ---- the first leaf whose proof is rejected
 
--- a leaf's proof is rejected only where it is not valid
+-- a leaf's proof is rejected only if it is not valid
 abbrev Refuses : (LeafModel → LeafProof → Type 0) → Type 0
 Refuses R = (leaf : LeafModel) (part : LeafProof) → ValidLeafProof leaf part → R leaf part → ⊥
 

@@ -117,7 +117,7 @@ module _ (net : NetModel) (proof : Proof) (is : IsNet net) (one_each : length pr
       let end = terminal_component net i leaf crowd h are_tuples terminal in
       right_for leaf part (right i leaf part (slice_get_within net.leaves i leaf h) h k) (predicate_value part.pred.tree counts) counts (component i crowd) at refl way end
 
-  -- of an agent, each leaf that an item names outputs its predicate's value
+  -- for each agent, every leaf that an item names outputs its predicate's value
   agent_agrees : (a : ℕ) (x : Tuple) → slice_get crowd a ≡ Some x → (item : Item) → NamesBelow (length net.leaves) item → Agrees counts (map (λ q. q.pred.tree) proof.leaves) (leaf_outputs net.leaves x) item
   agent_agrees a x there (Leaf i) l =
       let leaf = get_or net.leaves i nothing in

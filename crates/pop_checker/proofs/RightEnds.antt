@@ -35,7 +35,7 @@ use Rattle.pop_checker.proofs.Verdicts.{right_by}
 
 -- ---- facts of predicates within the limits
 
--- where a fact speaks of a predicate, the predicate has coefficients for its variables alone
+-- a predicate in a fact has coefficients for its own variables alone
 abbrev IsFormed : Fact → Type 0
 IsFormed (Ge row) = Unit {0}
 IsFormed (Eq row) = Unit {0}
@@ -199,7 +199,7 @@ mutual
 
 -- ---- a leaf, and a net
 
--- where the nodes close the base facts, every terminal end outputs the value
+-- if the nodes close the base facts, every terminal end outputs the value
 pub closes_right : (leaf : LeafModel) (p : PredModel) (value : Bool) (nodes : List Node) → IsLeaf leaf → p.variables ≡ length leaf.inputs → HasAtoms p.variables p.tree → Closes leaf (base_list leaf p value) nodes [] → EndsRight leaf p.tree value
 closes_right leaf p value nodes is over has closes =
     ends_right leaf p.tree value

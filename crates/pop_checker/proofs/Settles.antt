@@ -1,4 +1,4 @@
--- Where a proof is valid and the net is single, meetings bring every crowd to an end, within the proof's bound for each agent.
+-- If a proof is valid and the net is single, meetings bring every crowd to an end within the proof's bound per agent.
 use Rattle.std.proofs.Common.{◌≡◌, ◌⊎◌, inl, inr, ℕ, suc, pred, ◌+◌, ◌*◌, ◌<◌, ◌≤◌, List, [], ◌∷◌, ◌++◌, length, refl, ap, sym, subst, ◌∙◌, arith}
 use Rattle.std.specs.Prelude.{Some, slice_get, sum_by, All}
 use Rattle.std.proofs.Math.Nat as nat
@@ -51,7 +51,7 @@ record Brought (net : NetModel) (i : ℕ) (crowd : CrowdModel) (k : ℕ) : Type 
   settled : SettledBefore net i (replay net meetings crowd)
 
 module _ (net : NetModel) (are : All IsLeaf net.leaves) (i : ℕ) (leaf : LeafModel) (h : slice_get net.leaves i ≡ Some leaf) where
-  -- steps keep what is settled, and settle leaf i where they end it
+  -- steps keep what is settled, and settle leaf i if they end it
   settled_after : (before after : CrowdModel) → SettledBefore net i before → Reachable (Step net) before after → IsTerminal (LeafStep leaf) (component i after) → SettledBefore net (suc i) after
   settled_after before after s r terminal =
       record {
@@ -168,7 +168,7 @@ settles net parts are e valid single crowd two tuples states =
       ended = λ j leaf l h. absurd (omega arith);
     }
 
--- where a proof is valid, a single net settles by meetings within the proof's bound
+-- if a proof is valid, a single net settles by meetings within the proof's bound
 pub valid_settles : (net : NetModel) (p : PredModel) (proof : Proof) → IsNet net → ValidProof net p proof → IsSingle net → EndsByMeetings net (proof_bound proof)
 valid_settles net p proof is v single =
     settles net proof.leaves is.leaves v.one_each (λ j leaf part h k. (v.leaves j leaf part h k).layers) single

@@ -1,4 +1,4 @@
--- What the agents of a terminal crowd output that a checked net has reached.
+-- What the agents output in a terminal crowd that a checked net has reached.
 use Rattle.std.proofs.Common.{◌≡◌, Bool, List, [], ◌∷◌, ℕ, length, ap, sym, ◌∙◌}
 use Rattle.std.specs.Prelude.{Some, slice_get, All}
 use Rattle.std.proofs.lemmas.List.Elements.{All-head}

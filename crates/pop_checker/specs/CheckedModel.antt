@@ -17,8 +17,8 @@ pub record CheckedModel : Type 0 where
 pub record IsChecked (checked : CheckedModel) : Type 0 where
   pub variables : checked.pred.variables ≡ length checked.net.variables
   pub computes : Computes checked.net checked.pred.tree checked.bound
-  -- a net in which no two moves of a leaf are for the same states can be led to its end by meetings alone
+  -- if no two moves of a leaf take the same states, meetings alone can lead the net to its end
   pub settles : IsSingle checked.net → EndsByMeetings checked.net checked.bound
-  -- every fair execution from an input stabilises with the predicate's value, and of such a net every one by meetings
+  -- every fair execution from an input stabilises with the predicate's value, for a single net those by meetings too
   pub fair : StablyComputes (Step checked.net) checked.net checked.pred.tree
   pub fair_meetings : IsSingle checked.net → StablyComputes (MeetingStep checked.net) checked.net checked.pred.tree

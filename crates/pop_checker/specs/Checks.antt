@@ -15,7 +15,7 @@ use Rattle.pop_checker.specs.Sound.{IsRight}
 pub record Checks (net : NetModel) (p : PredModel) (proof : Proof) (result : Result CheckedModel CheckFault)
     : Type 0 where
   pub valid : OnOk result (ValidProof net p proof)
-  -- the net computes the predicate, and meetings alone lead a net to its end that has no two moves for the same states
+  -- the net computes the predicate, and if no two moves of a leaf take the same states, meetings alone lead to its end
   pub right : OnOk result (IsRight net p proof)
   pub fault : IfErr result (IsCheckFault net p proof)
   pub accepts : ValidProof net p proof → IfErr result (λ fault. fault ≡ NoMemory)

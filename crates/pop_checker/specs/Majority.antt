@@ -1,6 +1,6 @@
 -- Majority: `Computes` of one net and one predicate; pop_net/specs/ExampleNets.antt has its moves. Agents of x start as
--- A, and those of y as B; a and b are what is left of them once they met. All end by the answer whether there are more
--- of x.
+-- A, and those of y as B; a and b are what is left of them once they have met. In the end all answer whether there are
+-- more of x.
 use Rattle.std.specs.Prelude.{[], ◌∷◌, pos, negsuc}
 use Rattle.pres_ast.specs.PredTree.{PredTree, LessThan}
 use Rattle.pop_net.specs.ExampleNets.{majority}

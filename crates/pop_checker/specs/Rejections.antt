@@ -24,8 +24,7 @@ AreValidBefore net proof n =
     (i : ℕ) (leaf : LeafModel) (part : LeafProof) → i < n → slice_get net.leaves i ≡ Some leaf
     → slice_get proof.leaves i ≡ Some part → ValidLeafProof leaf part
 
--- the fault is the first of a leaf's proof: the layers come before the tree for true, and that before the tree for
--- false
+-- the fault is the first of a leaf's proof: first the layers, then the tree for true, then the tree for false
 abbrev pub RejectsLayers : LeafModel → LeafProof → LayerWhy → Type 0
 RejectsLayers leaf part why = AreBrokenFirst leaf part.layers why
 

@@ -17,15 +17,14 @@ ArePreds net proof =
     (i : ℕ) (part : LeafProof) → slice_get proof.leaves i ≡ Some part → (part.pred.variables ≡ length net.variables)
     × HasAtoms part.pred.variables part.pred.tree
 
--- The net computes the predicate within the proof's bound, and where no two moves of a leaf are for the same states,
--- meetings alone lead to its end.
--- So every fair execution stabilises.
+-- The net computes the predicate within the proof's bound, and if no two moves of a leaf take the same states, meetings
+-- alone lead to its end. So every fair execution stabilises.
 pub record IsRight (net : NetModel) (p : PredModel) (proof : Proof) : Type 0 where
   pub computes : Computes net p.tree (proof_bound proof)
   pub settles : IsSingle net → EndsByMeetings net (proof_bound proof)
   -- in every fair execution from an input the crowd comes to rest, with the predicate's value as every agent's output
   pub fair : StablyComputes (Step net) net p.tree
-  -- of a net that is single so do the fair executions by meetings
+  -- for a single net, the fair executions by meetings do so too
   pub fair_meetings : IsSingle net → StablyComputes (MeetingStep net) net p.tree
 
 abbrev pub IsSound : Type 0

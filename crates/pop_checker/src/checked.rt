@@ -62,7 +62,7 @@ impl Checked {
         &self.pred
     }
 
-    /// For each agent, the number of steps within which every crowd on the way can reach a terminal one.
+    /// The number of steps per agent within which every crowd on the way can reach a terminal one.
     pub fn bound(&self) -> u64
         ensures value { result ≡ self.now.bound }
         // The net computes the predicate with this bound, and a single net settles by meetings within it.
@@ -71,7 +71,7 @@ impl Checked {
         self.bound
     }
 
-    /// What the agents of a terminal crowd answer that the counts, with the helpers, led to. Allocates nothing.
+    /// The answer of the agents in a terminal crowd that the counts, helpers included, led to. Allocates nothing.
     pub fn verdict(&self, counts: &[u64], crowd: &Crowd) -> bool
         requires input { IsInput (length self.now.net.variables) (number_of_helpers self.now.net) counts.now }
         requires valid { AreValid self.now.net crowd.now }

@@ -19,7 +19,7 @@ pub enum Rejected {
         node: u32,
         why: TreeWhy,
     },
-    /// The leaves' predicates combine to another one.
+    /// The leaves' predicates combine into another one.
     Predicate,
 }
 

@@ -1,7 +1,6 @@
 //! The whole check of a proof.
 //! It stands on `cert_layers`, `cert_tree` and `pop_crowd`.
-//! The layer above uses: `check` accepts exactly valid proofs, and a checked net computes its predicate within its
-//! bound.
+//! The layer above uses: `check` accepts exactly valid proofs; a checked net computes its predicate within its bound.
 #![tactic(auto)]
 
 mod checked;

@@ -15,7 +15,7 @@ use std::{env, io};
 /// Why the words of the command line were not taken.
 #[derive(Clone, Copy)]
 enum WordsFault {
-    /// A word is no UTF-8, or there are more than `WORD_LIMIT` words.
+    /// A word is not UTF-8, or there are more than `WORD_LIMIT` words.
     Faulty,
     NoMemory,
 }

@@ -1,4 +1,4 @@
--- Where no take can be made, the crowd is terminal.
+-- If no take can be made, the crowd is terminal.
 use Rattle.std.proofs.Common.{◌≡◌, ◌⊎◌, inl, inr, ℕ, suc, List, [], ◌∷◌, ◌++◌, length, refl, ap, sym, subst, ◌∙◌, arith}
 use Rattle.std.specs.Prelude.{Some, slice_get, slice_set, All}
 use Rattle.std.proofs.lemmas.Option.{slice_get_within, slice_get-get_or}
@@ -22,7 +22,7 @@ use Rattle.pop_settle.proofs.Taking.{net_step, taken_tuples}
 use Rattle.list_laws.proofs.Options.{item_within}
 
 module _ (net : NetModel) (proof : Proof) (crowd : CrowdModel) (none : (layer place : ℕ) (take : Take) → CanTake net proof crowd layer place take → ⊥) (i : ℕ) (leaf : LeafModel) (part : LeafProof) (h : slice_get net.leaves i ≡ Some leaf) (k : slice_get proof.leaves i ≡ Some part) (v : ValidLayers leaf part.layers) where
-  -- no two agents can make a move that is not silent
+  -- no two agents can make a non-silent move
   no_pair : (n : ℕ) (t : Move) (a b : ℕ) → slice_get leaf.moves n ≡ Some t → CanMake (states_in i crowd) t a b → ⊥
   no_pair n t a b m can =
       let at = listed_at part.layers n (v.all n t m can.non_silent) in
@@ -71,7 +71,7 @@ none_terminal net proof crowd v tuples none =
     let part = item_within proof.leaves i (omega (arith, slice_get_within net.leaves i leaf h, v.one_each)) in
     leaf_terminal net proof crowd none i leaf part.0 h part.1 (v.valid i leaf part.0 h part.1))
 
--- takes keep that each agent has one state of each leaf
+-- after takes, each agent still has one state of each leaf
 pub leads_tuples : (net : NetModel) (proof : Proof) (crowd end : CrowdModel) (takes : List Take) → All (IsTuple net) crowd → LeadsBy net proof crowd takes end → All (IsTuple net) end
 leads_tuples net proof crowd end [] tuples l = subst (λ (c : CrowdModel). All (IsTuple net) c) (sym l) tuples
 leads_tuples net proof crowd end (t ∷ takes) tuples l =

@@ -21,7 +21,7 @@ abs_most : (x : ℤ) (n : ℕ) → pos 0 ≤ℤ x → x ≤ℤ pos n → nat_abs
 abs_most (pos m) n l k = omega (arith, ints, k)
 abs_most (negsuc m) n l k = absurd (omega (arith, ints, l))
 
--- there is less after a lighter crowd
+-- a lighter crowd has less
 pub fuel_falls : (w : List ℤ) (before after : List ℕ) → total w after <ℤ total w before → length after ≡ length before → All (λ q. q < length w) after → fuel w after < fuel w before
 fuel_falls w before after lighter size range =
     let low = (within w).low in

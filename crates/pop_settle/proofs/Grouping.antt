@@ -133,7 +133,7 @@ module _ (states : List ℕ) (g : List (BTreeSet ℕ)) (t : Move) (a : ℕ) (wit
   still : (d : ℕ) → d ≢ a → holds g t.q d ≡ true → holds without t.q d ≡ true
   still d ne h = off_change false g t.p a without t.q d takes (λ _ e. ne e) ∙ h
 
-  -- where the second group is empty without the first agent, nobody can make the move
+  -- if the second group is empty without the first agent, nobody can make the move
   pub no_other : IsEmptyGroup without t.q → (c d : ℕ) → CanMake states t c d → ⊥
   no_other empty c d can = by_second (eqb_tells d a)
     where

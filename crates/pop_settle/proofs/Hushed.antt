@@ -1,4 +1,4 @@
--- Leaves and layers that are done with stay so.
+-- Leaves and layers that are quiet stay so.
 use Rattle.std.proofs.Common.{◌≡◌, ◌⊎◌, inl, inr, ℕ, ◌+◌, ◌<◌, ◌≤◌, List, length, refl, ap, sym, subst, ◌∙◌, arith}
 use Rattle.std.specs.Prelude.{Some, slice_get, slice_set, All}
 use Rattle.std.proofs.lemmas.Bool.{cases_lt}
@@ -53,7 +53,7 @@ quiet_dead net proof crowd i j leaf part h k quiet j' u l at on =
     })
     (inr (refl, l))
 
--- a take that can be made where the leaf's states were others, but the same ones for this take's leaf
+-- a take that can be made in a crowd can be made in any other with the same states of the take's leaf
 moved : (net : NetModel) (proof : Proof) (crowd other : CrowdModel) (layer place : ℕ) (take : Take) → states_in take.leaf other ≡ states_in take.leaf crowd → CanTake net proof other layer place take → CanTake net proof crowd layer place take
 moved net proof crowd other layer place take e c = record {
   leaf = c.leaf;
@@ -96,7 +96,7 @@ module _ (net : NetModel) (proof : Proof) (crowd : CrowdModel) (tuples : All (Is
       not_dead net proof after layer layer' place' other c' m.1 dead''
 
 module _ (net : NetModel) (proof : Proof) (crowd : CrowdModel) where
-  -- a layer whose moves are idle is done with
+  -- a layer whose moves are idle is quiet
   pub quiet_layer : (i j : ℕ) (leaf : LeafModel) (part : LeafProof) (list : Layer) → slice_get net.leaves i ≡ Some leaf → slice_get proof.leaves i ≡ Some part → slice_get part.layers j ≡ Some list → IsQuietBefore net proof crowd i j → ((k : ℕ) → IsIdle leaf list.moves (states_in i crowd) k) → IsQuietBefore net proof crowd i (j + 1)
   quiet_layer i j leaf part list h k m quiet idle layer place take c (inl l) = quiet layer place take c (inl l)
   quiet_layer i j leaf part list h k m quiet idle layer place take c (inr e) = by_order (cases_lt layer j)
@@ -121,7 +121,7 @@ module _ (net : NetModel) (proof : Proof) (crowd : CrowdModel) where
           (subst (λ (y : LeafModel). slice_get y.moves take.step ≡ Some c.move) (sym same) c.move_is)
           (subst (λ (n : ℕ). CanMake (states_in n crowd) c.move take.a take.b) e.0 c.made)
 
-  -- a leaf whose layers are done with is done with
+  -- a leaf whose layers are quiet is quiet
   pub quiet_leaf : (i : ℕ) (part : LeafProof) → slice_get proof.leaves i ≡ Some part → IsQuietBefore net proof crowd i (length part.layers) → IsQuietBefore net proof crowd (i + 1) 0
   quiet_leaf i part k quiet layer place take c (inr e) = absurd (let r = e.1 in omega arith)
   quiet_leaf i part k quiet layer place take c (inl l) = by_order (cases_lt take.leaf i)
@@ -133,11 +133,11 @@ module _ (net : NetModel) (proof : Proof) (crowd : CrowdModel) where
           let same_part : part ≡ c.part = same_value (slice_get proof.leaves i) part c.part k (subst (λ (n : ℕ). slice_get proof.leaves n ≡ Some c.part) s c.part_is) in
           quiet layer place take c (inr (s, rw same_part (slice_get_within c.part.layers layer c.list c.layer_is)))
 
-  -- where all leaves are done with, no take can be made
+  -- if all leaves are quiet, no take can be made
   pub quiet_all : IsQuietBefore net proof crowd (length net.leaves) 0 → (layer place : ℕ) (take : Take) → CanTake net proof crowd layer place take → ⊥
   quiet_all quiet layer place take c = quiet layer place take c (inl (slice_get_within net.leaves take.leaf c.leaf c.leaf_is))
 
-  -- before the least take all is quiet
+  -- before the least take, everything is quiet
   pub least_quiet : (take : Take) (n : IsNext net proof crowd take) → IsQuietBefore net proof crowd take.leaf n.layer
   least_quiet take n layer place other c (inl l) = n.least layer place other c (inl l)
   least_quiet take n layer place other c (inr m) = n.least layer place other c (inr (m.0, inl m.1))

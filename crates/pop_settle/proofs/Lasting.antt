@@ -88,7 +88,7 @@ module _ (net : NetModel) (proof : Proof) (are : All IsLeaf net.leaves) (crowd :
       (length-states take.leaf next ∙ next_size ∙ sym (length-states take.leaf crowd))
       (rw long (next_ranges.ranges take.leaf c.leaf c.leaf_is))
 
--- the bound of the leaves from one on
+-- the bound of these leaves
 abbrev parts_bound : List LeafProof → ℕ
 parts_bound parts = sum_by (λ part. layers_bound part.layers) parts
 
@@ -109,11 +109,11 @@ sum_from f xs i x h =
     sum_by-drop_more f xs i x (slice_get_within xs i x h) ∙ ap (λ y. f y + sum_by f (drop (i + 1) xs)) (get_or_from_slice_get xs i x x h)
 
 module _ (net : NetModel) (proof : Proof) (crowd : CrowdModel) where
-  -- the bound of all layers behind that of a take
+  -- the bound of all layers after that of a take
   abbrev behind : (take : Take) → IsNext net proof crowd take → ℕ
   behind take n = layers_bound (drop (n.layer + 1) n.can.part.layers) + parts_bound (drop (take.leaf + 1) proof.leaves)
 
-  -- with its own layer and those behind it, no more than the layers behind an earlier one
+  -- with the take's own layer, it is at most the bound of the layers from an earlier one on
   behind_layer : (take : Take) (n : IsNext net proof crowd take) (j : ℕ) → j ≤ n.layer → weights_spread n.can.list.weights + behind take n ≤ layers_bound (drop j n.can.part.layers) + parts_bound (drop (take.leaf + 1) proof.leaves)
   behind_layer take n j l =
       let own = sum_from (λ (y : Layer). weights_spread y.weights) n.can.part.layers n.layer n.can.list n.can.layer_is in
@@ -131,7 +131,7 @@ module _ (net : NetModel) (proof : Proof) (crowd : CrowdModel) where
 abbrev left : (net : NetModel) (proof : Proof) (crowd : CrowdModel) (take : Take) → IsNext net proof crowd take → ℕ
 left net proof crowd take n = fuel n.can.list.weights (states_in take.leaf crowd) + behind net proof crowd take n * length crowd
 
--- at most the bound of its own layer and those behind it
+-- at most the bound of its own layer and those after it
 left_most : (net : NetModel) (proof : Proof) (crowd : CrowdModel) (take : Take) (n : IsNext net proof crowd take) (most : ℕ) → InRanges net crowd → ValidLayers n.can.leaf n.can.part.layers → weights_spread n.can.list.weights + behind net proof crowd take n ≤ most → left net proof crowd take n ≤ most * length crowd
 left_most net proof crowd take n most in_ranges v l =
     let w = n.can.list.weights in

@@ -42,7 +42,7 @@ at_layer net proof i j layer leaf v h k =
       valid = v.valid i leaf part.0 h part.1;
     }
 
--- what all listed moves have, those of each layer have
+-- what holds for all listed moves holds for those of each layer
 pub all_listed : (P : ℕ → Type 0) (layers : List Layer) (j : ℕ) (layer : Layer) → slice_get layers j ≡ Some layer → All P (moves_of_layers layers) → All P layer.moves
 all_listed P [] j layer h all = cc
 all_listed P (y ∷ layers) zero layer h all =

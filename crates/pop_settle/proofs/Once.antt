@@ -12,7 +12,7 @@ use Rattle.pop_settle.specs.Settlement.{CanTake, Then, IsNext, crowd_after_take,
 use Rattle.pop_settle.specs.Laws.{AreOne}
 use Rattle.list_laws.proofs.Options.{same_value}
 
--- two numbers of which neither comes first are the same, and what is compared next decides
+-- if neither of two numbers comes first, they are the same, and what is compared next decides
 apart : (m n : ℕ) (P Q : Type 0) → (Then m n P → ⊥) → (Then n m Q → ⊥) → (m ≡ n) × (P → ⊥) × (Q → ⊥)
 apart m n P Q one other = (same, (λ p. one (inr (same, p))), (λ q. other (inr (sym same, q))))
   where

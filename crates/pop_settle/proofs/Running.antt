@@ -36,7 +36,7 @@ longer_run leaf moves k end l m alike run =
         let t = item_within leaf.moves (get_or moves (k + 1) 0) m in
         run.alike j (omega arith) n (get_or moves (k + 1) 0) s' t.0 u' next t.1 a' b' ∙ alike s (get_or moves (k + 1) 0) u t.0 a b next t.1
 
--- where nobody holds the first state of a run, all its moves are idle
+-- if nobody holds the first state of a run, all its moves are idle
 pub run_idle : (leaf : LeafModel) (moves states : List ℕ) (groups : List (BTreeSet ℕ)) (k end step : ℕ) (t : Move) → slice_get moves k ≡ Some step → slice_get leaf.moves step ≡ Some t → t.p < length groups → AreGroups states groups → IsEmptyGroup groups t.p → IsStretch leaf moves k end
     → ((i : ℕ) → i < k → IsIdle leaf moves states i) → (i : ℕ) → i < end → IsIdle leaf moves states i
 run_idle leaf moves states groups k end step t h m p_in are empty run before i l = by_place (cases_lt i k)

@@ -1,4 +1,4 @@
--- A word that is written anew, in a crowd.
+-- A word that is rewritten, in a crowd.
 use Rattle.std.proofs.Common.{◌≡◌, ℕ, ◌+◌, ◌<◌, ◌≤◌, List, [], ◌∷◌, ◌++◌, length, take, get_or, ap, sym, ◌∙◌}
 use Rattle.std.specs.Prelude.{Some, slice_get, slice_set, slice_index_or}
 use Rattle.std.specs.Option.{option_map}

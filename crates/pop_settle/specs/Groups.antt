@@ -27,7 +27,7 @@ IsLeastOf groups q a = (holds groups q a ≡ true) × ((x : ℕ) → holds group
 abbrev pub AreAlike : List (BTreeSet ℕ) → List (BTreeSet ℕ) → Type 0
 AreAlike groups after = (z x : ℕ) → holds after z x ≡ holds groups z x
 
--- in the group of state q, agent a is now there or not, and all else is as it was
+-- in the group of state q, agent a is now present or absent, and all else is unchanged
 abbrev pub Changes : Bool → List (BTreeSet ℕ) → ℕ → ℕ → List (BTreeSet ℕ) → Type 0
 Changes there groups q a after =
     (z x : ℕ) → holds after z x ≡ (if (z == q) && (x == a) then there else holds groups z x)

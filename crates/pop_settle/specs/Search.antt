@@ -20,7 +20,7 @@ BeginAlike leaf moves k j =
     → slice_get moves j ≡ Some step'
     → slice_get leaf.moves step' ≡ Some t' → t'.p ≡ t.p
 
--- from place k up to place end, which is behind it, all moves have the same first state
+-- from place k up to place end, which is after it, all moves have the same first state
 pub record IsStretch (leaf : LeafModel) (moves : List ℕ) (k end : ℕ) : Type 0 where
   pub behind : k < end
   pub within : end ≤ length moves

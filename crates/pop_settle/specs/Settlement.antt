@@ -13,7 +13,7 @@ use Rattle.pop_settle.specs.declared.take.Take.{Take}
 abbrev pub states_in : ℕ → CrowdModel → List ℕ
 states_in i crowd = map (λ tuple. state_of tuple i) crowd
 
--- of two different agents, a and b, the one holds p and the other q of a non-silent move
+-- a and b are different agents, and hold the first and the second state of a non-silent move
 pub record CanMake (states : List ℕ) (t : Move) (a b : ℕ) : Type 0 where
   pub non_silent : silent_move t ≡ false
   pub different : a ≢ b
@@ -42,7 +42,7 @@ abbrev pub crowd_after_take : ℕ → Move → ℕ → ℕ → CrowdModel → Cr
 crowd_after_take i t a b crowd =
     slice_set (slice_set crowd a (tuple_with_state i a t.r crowd)) b (tuple_with_state i b t.s crowd)
 
--- m comes before n; where they are the same, what is compared next decides
+-- m comes before n, or they are the same and what is compared next decides
 abbrev pub Then : ℕ → ℕ → Type 0 → Type 0
 Then m n next = (m < n) ⊎ ((m ≡ n) × next)
 

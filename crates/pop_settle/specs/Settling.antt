@@ -29,7 +29,7 @@ pub record HasLayers (net : NetModel) (proof : Proof) : Type 0 where
   pub layers : AreLayersValid net proof
   pub few : AreFewLayers proof
 
--- the bound of the proof is too great for so many agents, unless memory ran out
+-- the bound of the proof is too great for this many agents, unless memory ran out
 abbrev pub RefusesSettle : Proof → ℕ → SettleFault → Type 0
 RefusesSettle proof agents (Long most) = (most ≡ proof_bound proof * agents) × (TAKE_LIMIT < most)
 RefusesSettle proof agents NoMemory = Unit {0}

@@ -40,7 +40,7 @@ impl Groups {
         Ok(groups)
     }
 
-    /// So many groups without an agent.
+    /// A group for each state, all of them empty.
     fn empty(alloc: Global, states: u16) -> Result<Groups, NoMemory>
         ensures count { IfOk result (λ g. length g.groups.items ≡ states) }
         ensures grouped { IfOk result (λ g. AreGroups [] g.groups.items) }

@@ -8,7 +8,7 @@ use pop_io::NoMemory;
 use pop_net::Leaf;
 use std::alloc::Global;
 
-/// For each place of a list of moves, a place behind it up to which all moves have the same first state.
+/// For each place of a list of moves, a later place up to which all moves have the same first state.
 pub(crate) fn run_ends(alloc: Global, leaf: &Leaf, moves: &[u32]) -> Result<Vec<usize>, NoMemory>
     requires { All (λ step. step < length leaf.now.moves) moves.now }
     ensures { IfOk result (λ ends. AreRunEnds leaf.now moves.now ends.items) }
@@ -22,7 +22,7 @@ pub(crate) fn run_ends(alloc: Global, leaf: &Leaf, moves: &[u32]) -> Result<Vec<
     Ok(ends)
 }
 
-/// The end at a place, by the one behind it.
+/// The end for a place, by that of the next place.
 fn run_end(leaf: &Leaf, moves: &[u32], ends: &[usize], place: usize) -> usize
     requires in_range { All (λ step. step < length leaf.now.moves) moves.now }
     requires place_in { place < length moves.now }

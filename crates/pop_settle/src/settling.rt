@@ -86,7 +86,7 @@ fn settle_leaf(
     Ok(())
 }
 
-/// The moves of a layer, as long as agents can take one. The place is that of the layer: its leaf and its number.
+/// Takes the moves of a layer, as long as agents can take one. The place is that of the layer: its leaf and its number.
 fn settle_layer(
     alloc: Global,
     net: &Net,
@@ -122,7 +122,7 @@ fn settle_layer(
 }
 
 /// The first move of a list that agents can take, taken by the least that can. Moves that begin with a state that
-/// nobody holds are passed over as far as the run goes.
+/// nobody holds are skipped to the end of their run.
 fn next_take(
     leaf: &Leaf,
     number: u8,

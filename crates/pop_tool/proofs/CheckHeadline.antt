@@ -95,6 +95,6 @@ module _ (k : ℕ) where
   by_length input true is given of printed = absurd (refused TooLong given of printed)
   by_length input false is given of printed = lines_only input (lines_of input) (ltb-false INPUT_LIMIT (length input) is) refl given of printed
 
-  -- `certified` is given for the line of a bundle whose proof is valid alone
+  -- `certified` is given only for the line of a bundle whose proof is valid
   pub check_only : (input : List ℕ) (given : Result Output Refusal) → InputGives Check input given → Printed given k → IsValidLine input
   check_only input given is printed = by_length input (nat_lt INPUT_LIMIT (length input)) refl given is printed

@@ -1,4 +1,4 @@
--- Valid input is answered where nothing fails but memory.
+-- Valid input is answered if nothing but memory can fail.
 use Rattle.std.proofs.Common.{inl, inr, ℕ, List, Option, Some, refl, sym, subst, arith}
 use Rattle.std.specs.Prelude.{◌≢◌}
 use Rattle.pop_io.specs.Causes.{HasRisen}

@@ -118,7 +118,7 @@ module _ (kind : RunKind) (first second : List ℕ) (bundle : Bundle) (counts : 
         (none_is_held is, one_number (length (joined journal.rounds)) k (few_meetings journal.kind journal.spec (length start) journal.rounds formed.0 formed.1) small printed)
     compared_held k small (Some difference) is printed = absurd (not_difference difference k printed)
 
-    -- and no other one
+    -- and no other
     pub output_held : (k : ℕ) → k < 2 ^ 64 → (journal_output bundle.net start journal).text ≡ ended (holds_text k) → Holds bundle.net start journal × (length (joined journal.rounds) ≡ k)
     output_held k small printed = compared_held k small (first_difference (journal.first + 1) (journal_compared bundle.net start journal)) refl printed
 
@@ -130,7 +130,7 @@ replay_given Watched input given is = is
 short_lines : (kind : RunKind) (input : List ℕ) (given : Result Output Refusal) → length input ≤ INPUT_LIMIT → InputGives (replay_command kind) input given → ReplayGives kind (lines_of input) given
 short_lines kind input given short is = rw (le-ltb INPUT_LIMIT (length input) short) at (replay_given kind input given is)
 
--- there is a journal only where there is a line
+-- there is a journal only if there is a line
 some_more : (kind : RunKind) (agents : ℕ) (first second : List ℕ) (more : List (List ℕ)) (journal : Journal) (given : Result Output Refusal) → journal_read kind (journal_in kind agents JOURNAL_LINE more) ≡ Ok journal
     → After (two_and_some (first ∷ second ∷ more)) (OfLines kind) given → OfLines kind (first, second, more) given
 some_more kind agents first second [] journal given read of = absurd cc
@@ -140,7 +140,7 @@ judged_given : (kind : RunKind) (bundle : Bundle) (counts : List ℕ) (lines : L
 judged_given kind bundle counts lines None is valid = refl
 judged_given kind bundle counts lines (Some rejected) is valid = absurd (none_rejected bundle.net bundle.pred bundle.proof rejected valid is)
 
--- a journal that holds is answered by `holds`
+-- a journal that holds is answered with `holds`
 pub held_given : (kind : RunKind) (input : List ℕ) (k : ℕ) → IsHeldInput kind input k → (given : Result Output Refusal) → InputGives (replay_command kind) input given → given ≡ Ok (holds_output k)
 held_given kind input k held given is =
     let start = input_crowd held.bundle.net held.counts in
@@ -200,6 +200,6 @@ module _ (k : ℕ) (small : k < 2 ^ 64) where
   by_length kind input true is given of printed = absurd (refused TooLong given of printed)
   by_length kind input false is given of printed = lines_only kind input (lines_of input) (ltb-false INPUT_LIMIT (length input) is) refl given of printed
 
-  -- `holds` is given for a journal that holds alone
+  -- `holds` is given only for a journal that holds
   pub replay_only : (kind : RunKind) (input : List ℕ) (given : Result Output Refusal) → InputGives (replay_command kind) input given → Printed given k → IsHeldInput kind input k
   replay_only kind input given is printed = by_length kind input (nat_lt INPUT_LIMIT (length input)) refl given (replay_given kind input given is) printed

@@ -79,7 +79,7 @@ module _ (words : List (List ℕ)) (left rest : Option (List ℕ)) (before after
   pub fault_right : reads command ≡ true → HasRisen before after → (output : Output) → output ≡ read_fault → IsRightOutput words left rest before after output
   fault_right does rose output is = inr (record { is = is; rose = rose; read = ap meaning_reads means ∙ does })
 
-  -- what a command comes to that reads nothing
+  -- what a command that reads nothing comes to
   pub unread_right : reads command ≡ false → (lines : List (List ℕ)) (output : Output) → IsOfCommand command lines output → IsRightOutput words left rest before after output
   unread_right unread lines output of =
       let some = some_input left in

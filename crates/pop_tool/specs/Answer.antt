@@ -11,7 +11,7 @@ use Rattle.tool_texts.specs.declared.output.Output.{Output}
 use Rattle.tool_texts.specs.Refusals.{usage_output, output_for}
 use Rattle.tool_commands.specs.Commands.{CommandGives, reads}
 
--- what a command gives for an input, which has a limit where it is read
+-- what a command gives for an input, which has a limit if it is read
 abbrev pub InputGives : Command → List ℕ → Result Output Refusal → Type 0
 InputGives command input given =
     MatchBool (reads command && nat_lt INPUT_LIMIT (length input)) (given ≡ Err TooLong)

@@ -13,8 +13,8 @@ use Rattle.pop_tool.specs.Source.{HasSuffix, IsReadToEnd, words_read}
 abbrev pub AcceptsReplies : (List ℕ → Type 0) → List (List ℕ) → Option (List ℕ) → Type 0
 AcceptsReplies accepts words left = (output : Output) → IsReply words left output → accepts output.text
 
--- What a source has left, and what a sink holds, where they tell it, and their counts of faults, as seen by these
--- views: a call with the words finds the source and the sink so, leaves them so, and ends with the status.
+-- What a source has left and a sink holds, if they tell it, and their counts of faults, as seen by these views: a call
+-- with the words finds and leaves the source and the sink like this, and ends with the status.
 pub record IsCall {S K : Type 0} (left : S → Option (List ℕ)) (read_faults : S → ℕ) (holds : K → Option (List ℕ))
     (write_faults : K → ℕ) (words : List (List ℕ)) (source rest : S) (sink grown : K) (status : Status) : Type 0 where
   -- the sink grew by the answer to the words and to what the source had left, or as the status says
@@ -30,5 +30,5 @@ pub record IsCall {S K : Type 0} (left : S → Option (List ℕ)) (read_faults :
   -- the source has a suffix of what it had; words without a command that reads leave it as it was
   pub suffix : HasSuffix (left source) (left rest)
   pub untouched : words_read words ≡ false → rest ≡ source
-  -- where the whole answer was written, the source was read to its end, unless the input is too long
+  -- if the whole answer was written, the source was read to its end, unless the input is too long
   pub end : IsAnswered status → IsReadToEnd words (left source) (left rest)

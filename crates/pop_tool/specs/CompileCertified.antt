@@ -1,4 +1,4 @@
--- That `check` certifies what was compiled.
+-- `check` certifies what was compiled.
 use Rattle.std.specs.Prelude.{◌≡◌, ℕ, ◌≤◌, List, [], ◌∷◌, length, codes}
 use Rattle.pop_io.specs.declared.whole.TheConstants.{INPUT_LIMIT}
 use Rattle.cert_base.specs.ProofBound.{proof_bound}
@@ -17,8 +17,8 @@ abbrev pub compile_words : LeafChoice → List (List ℕ)
 compile_words Plain = codes "compile" ∷ []
 compile_words Flocks = codes "compile" ∷ codes "--flocks" ∷ []
 
--- What was compiled is the line of a bundle. Unless it is too long for an input, `check` answers it by `certified`,
--- with the bound of that bundle's proof.
+-- What was compiled is the line of a bundle. Unless it is too long for an input, `check` answers it with `certified`
+-- and the bound of that bundle's proof.
 abbrev pub IsCompiledCertified : Type 0
 IsCompiledCertified =
     (choice : LeafChoice) (input : List ℕ) (written answer : Output) → Answer (compile_words choice) input written

@@ -1,4 +1,4 @@
--- That valid input is answered where nothing fails but memory.
+-- Valid input is answered if nothing but memory can fail.
 use Rattle.std.specs.Prelude.{◌≢◌, ℕ, List}
 use Rattle.tool_texts.specs.declared.output.Output.{Output}
 use Rattle.tool_texts.specs.declared.output.Ending.TheVariants as ending
@@ -7,7 +7,7 @@ use Rattle.tool_texts.specs.declared.status.Status.TheVariants.{Done, Usage, Ref
 use Rattle.tool_texts.specs.declared.status.Status.TheVariants.{Differs, ReadFault, WriteFault, NoMemory}
 use Rattle.pop_tool.specs.Answer.{Answer}
 
--- no answer is that the words mean no command, or that the input is refused
+-- no answer says that the words mean no command, or that the input is refused
 abbrev pub IsValidInput : List (List ℕ) → List ℕ → Type 0
 IsValidInput words input =
     (output : Output) → Answer words input output → (output.ending ≢ ending.Usage) × (output.ending ≢ ending.Refused)

@@ -82,8 +82,8 @@ pub record IsValidLine (input : List ℕ) : Type 0 where
   pub line : IsBundleLine input bundle
   pub valid : HasValidProof bundle
 
--- The printed journal is a run of this kind of the bundle's net from the input crowd. A verdict stands there exactly
--- when the last crowd is terminal, and is the predicate's value.
+-- The printed journal is a run of this kind of the bundle's net from the input crowd. It has a verdict exactly when the
+-- last crowd is terminal, and the verdict is the predicate's value.
 pub record RunSays (kind : RunKind) (spec : RunSpec) (input text : List ℕ) : Type 0 where
   pub first : List ℕ
   pub second : List ℕ
@@ -118,8 +118,8 @@ pub record SettleSays (input text : List ℕ) : Type 0 where
   pub outputs : All (λ tuple. output_of bundle.net tuple ≡ predicate_value bundle.pred.tree counts) end
   pub printed : text ≡ settle_text bundle.net takes end (predicate_value bundle.pred.tree counts)
 
--- The input is a bundle whose proof is valid, a crowd line, and a journal: as it is read, its rounds are a run of
--- this kind of the bundle's net from the input crowd with so many meetings, and it tells the crowd in which they end.
+-- The input is a bundle whose proof is valid, a crowd line, and a journal: as it is read, its rounds are a run of this
+-- kind of the bundle's net from the input crowd, with this many meetings, and it gives the crowd in which they end.
 pub record IsHeldInput (kind : RunKind) (input : List ℕ) (meetings : ℕ) : Type 0 where
   pub short : length input ≤ INPUT_LIMIT
   pub first : List ℕ
@@ -135,13 +135,13 @@ pub record IsHeldInput (kind : RunKind) (input : List ℕ) (meetings : ℕ) : Ty
   pub holds : Holds bundle.net (input_crowd bundle.net counts) journal
   pub all : length (joined journal.rounds) ≡ meetings
 
--- `holds` is printed, with so many meetings
+-- `holds` is printed, with this many meetings
 abbrev pub SaysHolds : ℕ → List ℕ → Status → Type 0
 SaysHolds meetings text status = (text ≡ ended (holds_text meetings)) × (status ≡ Done)
 
--- The input tells a predicate over some names, and the printed line is a bundle of its built net with these leaves,
+-- The input gives a predicate over some names, and the printed line is a bundle of its built net with these leaves,
 -- the predicate and a valid proof. Unless it is too long for an input, it is the line of this bundle, so that `check`
--- answers it by `certified`.
+-- answers it with `certified`.
 pub record CompileSays (choice : LeafChoice) (input text : List ℕ) : Type 0 where
   pub names : List (List ℕ)
   pub pred : PredModel
@@ -157,14 +157,14 @@ WasRun status = (status ≡ Done) ⊎ (status ≡ Undecided)
 
 pub record Headline (words : List (List ℕ)) (input text : List ℕ) (status : Status) : Type 0 where
   pub check : (bundle : Bundle) → meaning_of words ≡ Ok Check → IsBundleLine input bundle → CheckSays bundle text status
-  -- `certified`, with whatever number, is printed only for a valid proof
+  -- `certified`, with any number, is printed only for a valid proof
   pub only : meaning_of words ≡ Ok Check → (k : ℕ) → text ≡ ended (certified_text k) → IsValidLine input
   pub run : (spec : RunSpec) → meaning_of words ≡ Ok (Run spec) → WasRun status → RunSays Whole spec input text
   pub watch : (spec : RunSpec) → meaning_of words ≡ Ok (Watch spec) → WasRun status → RunSays Watched spec input text
   pub compile : meaning_of words ≡ Ok Compile → status ≡ Done → CompileSays leaves.Plain input text
   pub flocks : meaning_of words ≡ Ok Flocks → status ≡ Done → CompileSays leaves.Flocks input text
   pub settle : meaning_of words ≡ Ok Settle → status ≡ Done → SettleSays input text
-  -- `holds`, with a number of 64 bits, is printed exactly for a journal of a run of the kind with so many meetings
+  -- `holds`, with a number of 64 bits, is printed exactly for a journal of a run of the kind with this many meetings
   pub replay : meaning_of words ≡ Ok Replay → (k : ℕ) → k < 2 ^ 64 → SaysHolds k text status ↔ IsHeldInput Whole input k
   pub replay_watched : meaning_of words ≡ Ok ReplayWatched → (k : ℕ) → k < 2 ^ 64
       → SaysHolds k text status ↔ IsHeldInput Watched input k

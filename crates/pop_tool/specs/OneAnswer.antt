@@ -1,4 +1,4 @@
--- That the words and the input have one answer where the command leaves no choice.
+-- The words and the input have one answer if the command leaves no choice.
 use Rattle.std.specs.Prelude.{◌≡◌, ℕ, List, IfOk}
 use Rattle.pop_words.specs.Words.{meaning_of}
 use Rattle.tool_texts.specs.declared.output.Output.{Output}

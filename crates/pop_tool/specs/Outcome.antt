@@ -24,7 +24,7 @@ IsAnswer words left output = (input : List ℕ) × HasLeft left input × Answer 
 abbrev pub IsReply : List (List ℕ) → Option (List ℕ) → Output → Type 0
 IsReply words left output = IsAnswer words left output ⊎ (output ≡ read_fault)
 
--- what the sink holds grew by the text of an answer that ends so
+-- what the sink holds grew by the text of an answer with this ending
 pub record Wrote (words : List (List ℕ)) (left old new : Option (List ℕ)) (ending : Ending) : Type 0 where
   pub output : Output
   pub answer : IsAnswer words left output

@@ -1,4 +1,4 @@
--- That a replay accepts what a run of its kind wrote.
+-- A replay accepts what a run of its kind wrote.
 use Rattle.std.specs.Prelude.{◌≡◌, ℕ, ◌≤◌, List, [], ◌∷◌, length, codes, Ok}
 use Rattle.pop_io.specs.declared.whole.TheConstants.{INPUT_LIMIT}
 use Rattle.pop_words.specs.declared.kind.RunKind.{RunKind}
@@ -16,8 +16,8 @@ abbrev pub replay_words : RunKind → List (List ℕ)
 replay_words Whole = codes "replay" ∷ []
 replay_words Watched = codes "replay" ∷ codes "--watched" ∷ []
 
--- If a run was made, and its text isn't too long for an input, then `replay`, with `--watched` where the run was one
--- of `watch`, answers this text by `holds`.
+-- If a run was made, and its text isn't too long for an input, then `replay`, with `--watched` if the run was one
+-- of `watch`, answers this text with `holds`.
 abbrev pub IsReplayHeld : Type 0
 IsReplayHeld =
     (kind : RunKind) (words : List (List ℕ)) (spec : RunSpec) (input : List ℕ) (written answer : Output)

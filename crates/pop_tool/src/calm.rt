@@ -13,7 +13,7 @@ use pop_io::{CalmSink, CalmSource, Gate};
 use std::alloc::Global;
 use tool_texts::Status;
 
-/// `run_plain` where nothing can fail but memory: valid input is answered.
+/// `run_plain` where nothing but memory can fail: valid input is answered.
 pub fn run_calm<G: Gate>(
     alloc: Global,
     words: &[&str],

@@ -19,7 +19,7 @@ use std::thread::Threads;
 use tool_commands::is_plain_command;
 use tool_texts::{Output, Status};
 
-/// Reads the whole input, and writes the text that answers the words and the input by one call. It waits for no thread
+/// Reads the whole input, and writes the text that answers the words and the input in one call. It waits for no thread,
 /// and returns.
 pub fn run_plain<S: Source, K: Sink, G: Gate>(
     alloc: Global,
@@ -39,8 +39,8 @@ pub fn run_plain<S: Source, K: Sink, G: Gate>(
     write(sink, output)
 }
 
-/// `run_plain` for all words. It makes a run with two or more workers and that of `watch` on threads, and may wait
-/// then.
+/// `run_plain` for all words. It makes a run with two or more workers, and a run of `watch`, on threads, and may then
+/// wait.
 pub fn run_tool<R: Threads + Wait + Sync, S: Source, K: Sink, G: Gate>(
     rt: &R,
     alloc: Global,

@@ -45,7 +45,7 @@ fn facts(alloc: Global) -> Result<List<Fact>, AllocError>
     for (kind, by, constant) in FACTS {
         facts.push(fact(alloc, kind, by, constant)?)?;
     }
-    // Each row is a fact, so there are always so many.
+    // Each row is a fact, so the count is always right.
     if facts.len() != COUNT {
         return Err(AllocError);
     }

@@ -1,4 +1,4 @@
-//! What is written of a proof, and read again.
+//! What is written for a proof, and read again.
 
 ghost use Rattle.std.specs.Prelude.{length, IfSome};
 ghost use Rattle.cert_base.specs.ProofLimits.{IsProofWithin};
@@ -24,14 +24,14 @@ fn net(alloc: Global) -> Option<Net> {
     read_net(alloc, &value).ok()
 }
 
-/// The list that is written of the proof of one leaf.
+/// The list that is written for the proof of one leaf.
 fn wanted(alloc: Global) -> Option<String> {
     format!(in alloc;
         "[{{\"false\":[],\"layers\":{LAYERS},\"pred\":\"-x < 0\",\"true\":{NODES}}}]"
     ).ok()
 }
 
-/// A bundle whose one leaf has this proof, with its members in another order than they are written.
+/// A bundle whose one leaf has this proof, with its members in another order than the written one.
 fn first_text(alloc: Global) -> Option<String> {
     format!(in alloc;
         "{{\"proof\":[{{\"pred\":\"-x < 0\",\"layers\":{LAYERS},\"true\":{NODES},\"false\":[]}}]}}"
@@ -67,14 +67,14 @@ fn text_of(alloc: Global, net: &Net, proof: &Proof) -> Option<String>
     value.to_string(alloc).ok()
 }
 
-/// What is written of the proof in a bundle.
+/// What is written for the proof in a bundle.
 fn written(alloc: Global, is_first: bool) -> Option<String> {
     let net = net(alloc)?;
     let proof = proof(alloc, &net, is_first)?;
     text_of(alloc, &net, &proof)
 }
 
-/// Whether what is written of the proof in a bundle is what is wanted.
+/// Whether what is written for the proof in a bundle is what is wanted.
 fn is_written(alloc: Global, is_first: bool) -> Option<bool> {
     let text = written(alloc, is_first)?;
     let wanted = wanted(alloc)?;
@@ -87,13 +87,13 @@ fn a_proof_is_read_over_a_net(rt: HostRuntime) {
     assert!(rt; is_written(rt.alloc(), false) == Some(true));
 }
 
-/// What no proof at all is refused for.
+/// The fault of a value without a proof.
 fn fault(alloc: Global) -> Option<FormatFault> {
     let net = net(alloc)?;
     read_proof(alloc, &Value::Null, &net).err()
 }
 
-/// Whether that is told at its member.
+/// Whether it is reported at the proof's member.
 fn lacks_a_proof(alloc: Global) -> Option<bool> {
     match fault(alloc)? {
         FormatFault::Broken { path, why: _ } => Some(path.as_str() == "/proof"),

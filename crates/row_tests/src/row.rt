@@ -3,17 +3,17 @@
 use serde_json::Value;
 
 /// A row: a JSON object whose members are read where they are used. It has a `name`, the `words` and the pieces of the
-/// `input` that the program is given, the pieces of the `text` that it must write, and its exit `status`, which is one of
-/// these numbers. It may say that the text `begins` with these pieces, what stands `with` them somewhere in the text,
-/// how many states each of the `leaves` of a bundle has, that each of the `prefixes` of the input, ended by a line feed,
-/// is an input of its own, and which troubles the source (`reads`) and the sink (`writes`) have. Such a member of another
-/// type counts as left out.
+/// `input` that the program is given, the pieces of the `text` that it must write, and its exit `status`, which is one
+/// of these numbers. It may say that the text `begins` with these pieces, what stands `with` them somewhere in the
+/// text, how many states each of the `leaves` of a bundle has, that each of the `prefixes` of the input, ended by a
+/// line feed, is an input of its own, and which troubles the source (`reads`) and the sink (`writes`) have. Such a
+/// member of another type counts as left out.
 #[derive(Drop)]
 pub(crate) struct Row<'r> {
     value: &'r Value,
 }
 
-/// The lists that each row has, beside its name.
+/// The lists that each row has, besides its name.
 const LISTS: [&str; 3] = ["words", "text", "status"];
 
 impl<'r> Row<'r> {

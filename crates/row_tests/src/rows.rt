@@ -51,7 +51,6 @@ impl Rows {
         Ok(names)
     }
 
-    /// How many rows there were.
     pub(crate) fn len(&self) -> usize {
         self.given.len()
     }
@@ -81,7 +80,7 @@ impl Rows {
         Ok(bytes)
     }
 
-    /// Adds a text so many times; or lines of the text that an earlier row gave, from the first to the last of these,
+    /// Adds a text this many times; or lines of the text that an earlier row gave, from the first to the last of these,
     /// counted from 1.
     fn push_parts(&self, bytes: &mut Vec<u8>, parts: &[Value]) -> Result<(), AllocError> {
         let text = text_of(parts.first());
@@ -151,7 +150,7 @@ fn tried<R: Threads + Wait + Sync>(
     Ok((text, holds))
 }
 
-/// Whether `check` certifies a bundle, and its net has leaves of these numbers of states, where there are such numbers.
+/// Whether `check` certifies a bundle, and its net has leaves of these numbers of states, if there are such numbers.
 fn is_valid_bundle<R: Threads + Wait + Sync>(
     rt: &R,
     alloc: Global,
@@ -205,7 +204,7 @@ fn state_count(leaf: &Value) -> u64 {
     }
 }
 
-/// Whether a row holds where each call moves one byte.
+/// Whether a row holds when each call moves one byte.
 fn holds_in_crumbs<R: Threads + Wait + Sync>(
     rt: &R,
     alloc: Global,
@@ -256,7 +255,7 @@ fn push_lines(bytes: &mut Vec<u8>, text: &[u8], first: u64, last: u64) -> Result
     Ok(())
 }
 
-/// Adds these bytes so many times.
+/// Adds these bytes this many times.
 fn push_times(bytes: &mut Vec<u8>, part: &[u8], times: u64) -> Result<(), AllocError> {
     for _ in 0..times {
         bytes.extend_from_slice(part)?;
@@ -274,7 +273,6 @@ fn is_right(row: &Row<'_>, wanted: &[u8], text: &[u8], status: u8) -> bool {
     is_text && has_status(row.items("status"), status) && has(text, row.text("with").as_bytes())
 }
 
-/// Whether an exit status is one of these.
 fn has_status(statuses: &[Value], status: u8) -> bool {
     statuses
         .iter()
@@ -298,7 +296,7 @@ fn crumbs(alloc: Global, calls: usize) -> Result<Vec<Trouble>, AllocError> {
     Ok(troubles)
 }
 
-/// At which calls a source or a sink has a trouble: it moves at most so many bytes, or it fails.
+/// At which calls a source or a sink has a trouble: it moves at most this many bytes, or it fails.
 fn troubles(alloc: Global, upsets: &[Value]) -> Result<Vec<Trouble>, AllocError> {
     let mut troubles = Vec::new(alloc);
     for upset in upsets {
@@ -313,7 +311,6 @@ fn troubles(alloc: Global, upsets: &[Value]) -> Result<Vec<Trouble>, AllocError>
     Ok(troubles)
 }
 
-/// The words of a row.
 fn words_of<'r>(alloc: Global, row: &Row<'r>) -> Result<Vec<&'r str>, AllocError> {
     let mut words = Vec::new(alloc);
     for word in row.items("words") {

@@ -90,7 +90,7 @@ fn is_of_looks(round: &Round) -> bool {
     round.words.as_slice() == end.as_slice() && round.meetings.as_slice() == met.as_slice()
 }
 
-/// Whether looks at a field are right, and so is what it is closed with.
+/// Whether looks at a field are right, and the round with which it is closed.
 fn looks_hold<R: Wait>(rt: &R, alloc: Global, net: &Net) -> bool {
     let Some((field, mut seat)) = opened(rt, alloc, net, &[Word(0), Word(1)], 2, 1) else {
         return false;
@@ -134,7 +134,7 @@ impl Both {
         (gave_up, first, second) == (0, 1, 1)
     }
 
-    /// Comes to one's own place, and waits until the other one has come.
+    /// Comes to its own place, and waits until the other has come.
     fn wait(&self, own: &AtomicU64, other: &AtomicU64) {
         own.store(1, Ordering::SeqCst);
         for _ in 0..100_000_000u64 {
@@ -158,7 +158,7 @@ impl Gate for Both {
     }
 }
 
-/// The pairs 0, 1 and 2, 3 meet, beside each other.
+/// The pairs 0, 1 and 2, 3 meet, side by side.
 fn meet_beside<R: Threads + Wait + Sync, G: Gate>(
     rt: &R,
     field: &Field,
@@ -189,7 +189,7 @@ fn meet_beside<R: Threads + Wait + Sync, G: Gate>(
     );
 }
 
-/// A second seat meets beside the first one and is taken in. Whether what they say of themselves before that is right.
+/// A second seat meets beside the first one, and joins it. Whether what they say of themselves before that is right.
 fn meets_beside<R: Threads + Wait + Sync, G: Gate>(
     rt: &R,
     alloc: Global,
@@ -215,7 +215,7 @@ fn meets_beside<R: Threads + Wait + Sync, G: Gate>(
     field.join(first, second).is_ok() && apart == (false, 1, 1, 0)
 }
 
-/// Whether a round's words and meetings are those of the two seats, of which the first two meetings come in any order.
+/// Whether a round's words and meetings are those of the two seats; the first two meetings come in any order.
 fn is_of_both(round: &Round) -> bool {
     let end = [Word(3), Word(3), Word(2), Word(0), Word(3)];
     let met = round.meetings.as_slice();
@@ -227,7 +227,7 @@ fn is_of_both(round: &Round) -> bool {
         && met[3] == meeting(0, 2, 4, true)
 }
 
-/// Two seats meet beside each other, and then the first one in one shard and across two. Whether the round is right.
+/// Two seats meet side by side, and then the first one in one shard and across two. Whether the round is right.
 fn seats_meet<R: Threads + Wait + Sync, G: Gate>(
     rt: &R,
     alloc: Global,

@@ -1,4 +1,4 @@
-//! The journal of a run whose agents disagree in the end. No command tells one, since each checks its net first.
+//! The journal of a run whose agents disagree in the end. No command writes one, since each checks its net first.
 
 ghost use Rattle.std.specs.Prelude.{◌≡◌, length, IfSome};
 
@@ -30,7 +30,7 @@ fn split(alloc: Global) -> Option<Net>
     net_of(alloc, &["x", "y"], leaves, &[Item::Leaf(0)])
 }
 
-/// What is written of a run without a round.
+/// The journal written for a run without a round.
 fn written(alloc: Global, net: &Net) -> Option<List<u8>>
     requires { length net.now.variables ≡ 2 }
 {

@@ -25,8 +25,8 @@ fn said_of(seat: &FieldSeat) -> (u16, u64, u64, u16, bool, u16, u16) {
     )
 }
 
-/// Calls with a second seat each that may be refused its memory, up to the first that is. That one tells whether it
-/// left the seats as they were.
+/// Makes calls with a second seat that may each be refused memory, up to the first that is. An error says whether that
+/// one left the seats as they were.
 fn shared<R: Wait>(rt: &R, alloc: Global, field: &Field, first: &mut FieldSeat) -> Result<(), bool>
     requires agents { 2 ≤ length (opening_of field.now) }
     requires seat { IsFirstOf field.now first.old × IsFresh first.old × (1 ≤ left_of first.old) }
@@ -52,7 +52,7 @@ fn shared<R: Wait>(rt: &R, alloc: Global, field: &Field, first: &mut FieldSeat) 
     }
 }
 
-/// Calls each that may be refused its memory, up to the first that is. Whether that one left the seats as they were.
+/// Makes calls that may each be refused memory, up to the first that is. Whether that one left the seats as they were.
 fn stay_as_they_were<R: Wait>(rt: &R, alloc: Global, net: &Net) -> bool {
     let Some((field, mut first)) = opened(rt, alloc, net, &[Word(0), Word(1)], 1, 2) else {
         return true;

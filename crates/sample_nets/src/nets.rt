@@ -18,7 +18,7 @@ fn majority_leaf(alloc: Global) -> Option<Leaf> {
     leaf_of(alloc, &["A", "B", "a", "b"], &moves, &[0, 1], &outputs, &[])
 }
 
-/// The majority protocol of four states over x and y, of which A and B are the strong ones.
+/// The majority protocol over x and y, with four states; A and B are the strong ones.
 pub fn majority(alloc: Global) -> Option<Net>
     ensures { IfSome result (λ net. length net.variables ≡ 2) }
 {
@@ -35,13 +35,13 @@ pub fn pair_of_leaves(alloc: Global) -> Option<Net>
     net_of(alloc, &["x", "y"], leaves, &combine)
 }
 
-/// Two agents in A go on to t, and an agent in t takes one in A along. It has these helpers.
+/// Two agents in A become t, and an agent in t converts one in A. It has these helpers.
 fn pair_leaf(alloc: Global, helpers: &[u16]) -> Option<Leaf> {
     let moves = [step(0, 0, 1, 1), step(0, 1, 1, 1)];
     leaf_of(alloc, &["A", "t"], &moves, &[0], &[false, true], helpers)
 }
 
-/// Whether there are two agents: two in A go on to t, and t takes all others along.
+/// Whether there are two agents: two in A become t, and t converts all others.
 pub fn flock(alloc: Global) -> Option<Net>
     ensures { IfSome result (λ net. length net.variables ≡ 1) }
 {

@@ -24,7 +24,7 @@ pub fn texts(alloc: Global, names: &[&str]) -> Result<List<Text>, AllocError>
     Ok(List::from_vec(list))
 }
 
-/// So many texts: `x0`, `x1` and so on.
+/// This many texts: `x0`, `x1` and so on.
 pub fn numbered(alloc: Global, count: usize) -> Result<List<Text>, AllocError>
     ensures { IfOk result (λ list. length list ≡ count) }
 {

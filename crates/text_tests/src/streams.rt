@@ -7,7 +7,7 @@ use pop_io::{
 use std::alloc::Global;
 use std::test::Fail;
 
-/// How many bytes are taken into three places, which these are then, and how many are left.
+/// How many bytes are taken into an array of three, what it then holds, and how many bytes are left.
 fn taken(alloc: Global, source: &mut CalmSource) -> Option<(usize, [u8; 3], usize)> {
     let mut out = [0u8; 3];
     let count = source.take(&mut out).ok()?;
@@ -42,7 +42,7 @@ fn the_standard_streams(rt: HostRuntime) -> Result<(), Fail> {
     Ok(())
 }
 
-/// Where the second of three names is, of which the last two are equal, and whether one is that is none of them.
+/// Where the second of three names is, the last two of which are equal, and whether one that is none of them is found.
 fn found(alloc: Global) -> Option<(Option<usize>, bool)> {
     let x = Text::from_string(String::from_str(alloc, "x").ok()?);
     let y = Text::from_string(String::from_str(alloc, "y").ok()?);

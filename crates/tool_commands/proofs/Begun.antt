@@ -1,4 +1,4 @@
--- The counts with which a bundle's net starts are of two agents at least, and not of too many.
+-- The counts with which a bundle's net starts are of at least two agents, and not of too many.
 use Rattle.std.proofs.Common.{◌≡◌, ℕ, ◌≤◌, Bool, true, false, cond, nat_le, List, Option, Result, Ok, Err, refl, subst}
 use Rattle.std.proofs.lemmas.Bool.{and_parts, leb-true}
 use Rattle.serde_json.specs.Data.{Data}

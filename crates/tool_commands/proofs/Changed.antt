@@ -27,7 +27,7 @@ changed_more rounds i d less = ap changed (drop_more rounds i d less)
 pub changed_small : (rounds : List (List Meeting)) → length (joined rounds) < 2 ^ 64 → changed rounds < 2 ^ 64
 changed_small rounds few = let most = changed_at_most rounds in omega (arith, most, few)
 
--- a run has not too many meetings
+-- a run doesn't have too many meetings
 pub run_small : (net : NetModel) (start : CrowdModel) (spec : RunSpec) (rounds : List (List Meeting)) (end : CrowdModel) → 2 ≤ length start → IsWithinLimits spec → IsRun net start spec rounds end
     → length (joined rounds) < 2 ^ 64
 run_small net start spec rounds end two limits run =

@@ -11,7 +11,7 @@ use Rattle.comp_net.specs.declared.choice.LeafChoice.TheVariants.{Plain}
 use Rattle.pop_demo.specs.DemoCase.{names_of_demo, demo_threshold, demo_remainder, of_form, demo_tree, demo_counts}
 use Rattle.tool_commands.specs.Demo.{demo_net}
 
--- what holds of the four forms holds of each case
+-- what holds for the four forms holds for each case
 each_form : (P : PredTree → Type 0) (p q : PredTree) → P p → P q → P (Conjunction p q) → P (Disjunction (Negation p) q) → (form : ℕ) → P (of_form form p q)
 each_form P p q first second both either form = go (form == 0) (form == 1) (form == 2)
   where

@@ -45,7 +45,7 @@ module _ (net : NetModel) (agents number : ℕ) (crowd : CrowdModel) (line : Lis
   pub goes_on : (pair : ℕ × ℕ) → paired number (meeting_of agents line) ≡ Ok pair → on_from net agents number crowd (line ∷ lines) ≡ on_from net agents (number + 1) (after_meeting net pair.0 pair.1 crowd) lines
   goes_on pair is = rw is (nested net crowd pair (meetings_in agents (number + 1) lines))
 
--- a line more is played
+-- one more line is played
 pub one_line : (net : NetModel) (agents n number : ℕ) (before after : CrowdModel) (line : List ℕ) (rest more : List (List ℕ)) (end : Result CrowdModel Refusal) (a b : ℕ)
     → agents ≡ n → rest ≡ line ∷ more → paired number (meeting_of agents line) ≡ Ok (a, b) → after ≡ after_meeting net a b before → on_from net n number before rest ≡ end
     → on_from net n (number + 1) after more ≡ end

@@ -1,4 +1,4 @@
--- A proof that is not valid is said to be rejected.
+-- A proof that is not valid is reported as rejected.
 use Rattle.std.proofs.Common.{Some, Result, Ok, sym, subst}
 use Rattle.cert_json.specs.declared.bundle.Bundle.{Bundle}
 use Rattle.pop_checker.specs.declared.fault.Rejected.{Rejected}

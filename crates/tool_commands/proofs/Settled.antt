@@ -1,4 +1,4 @@
--- What a valid proof lets be settled.
+-- What can be settled by a valid proof.
 use Rattle.std.proofs.Common.{ℕ, ◌≤◌, length}
 use Rattle.std.specs.Prelude.{All}
 use Rattle.std.proofs.lemmas.List.Elements.{All-weaker}

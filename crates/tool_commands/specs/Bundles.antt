@@ -47,7 +47,7 @@ abbrev pub IsJudged : Bundle → Option Rejected → Type 0
 IsJudged bundle None = ValidProof bundle.net bundle.pred bundle.proof
 IsJudged bundle (Some rejected) = IsRejected bundle.net bundle.pred bundle.proof rejected
 
--- the rejection that a check found is told
+-- the rejection that a check found is reported
 abbrev pub TellsRejection : CheckFault → Result Output Refusal → Type 0
 TellsRejection (Rejects rejected) given = given ≡ Ok (rejection_output rejected)
 TellsRejection NoMemory given = ⊥

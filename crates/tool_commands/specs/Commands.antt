@@ -58,7 +58,7 @@ IsPlain Compile = Unit {0}
 IsPlain Flocks = Unit {0}
 IsPlain (Demo number) = Unit {0}
 
--- Which leave no choice: all but a run by two or more workers, `watch`, and `compile`, with flocks or without, of
+-- Which leave no choice: all but a run by two or more workers, `watch`, and `compile`, with flocks or without, for
 -- which any valid proof will do.
 abbrev pub IsDetermined : Command → Type 0
 IsDetermined Play = Unit {0}

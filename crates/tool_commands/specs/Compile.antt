@@ -25,7 +25,7 @@ use Rattle.tool_texts.specs.declared.output.Output.{Output}
 use Rattle.tool_texts.specs.declared.output.Ending.TheVariants.{Done}
 use Rattle.tool_commands.specs.Eval.{named, understood}
 
--- the names and the predicate that the lines tell
+-- the names and the predicate that the lines give
 unfoldable pub asked_by : List (List ℕ) → Result (List (List ℕ) × PredModel) Refusal
 asked_by lines = do
   two ← just_two lines
@@ -49,7 +49,7 @@ abbrev pub fits_its_leaves : LeafChoice → PredTree → Result (Unit {0}) Refus
 fits_its_leaves choice tree = unless_refused (option_and_then refusal_of (fault_with choice tree))
 
 -- A bundle of the predicate's built net over these names, the predicate, and a valid proof. It can be written, no
--- leaf has two moves for the same states, and the net computes the predicate.
+-- leaf has two moves that take the same states, and the net computes the predicate.
 pub record IsCompiled (choice : LeafChoice) (names : List (List ℕ)) (pred : PredModel) (bundle : Bundle) : Type 0 where
   pub net_is : bundle.net ≡ net_with choice names pred.tree
   pub pred_is : bundle.pred ≡ pred

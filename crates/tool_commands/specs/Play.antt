@@ -44,7 +44,7 @@ meetings_in agents number (line ∷ lines) =
 abbrev pub on_from : NetModel → ℕ → ℕ → CrowdModel → List (List ℕ) → Result CrowdModel Refusal
 on_from net agents number crowd lines = meetings_in agents number lines >>= λ meetings. Ok (replay net meetings crowd)
 
--- the crowd after the meetings of these lines, of which the first has the number MEETINGS_LINE
+-- the crowd after the meetings of these lines, the first of which has the number MEETINGS_LINE
 unfoldable pub played : NetModel → CrowdModel → List (List ℕ) → Result CrowdModel Refusal
 played net crowd lines = meetings_in (length crowd) MEETINGS_LINE lines >>= λ meetings. Ok (replay net meetings crowd)
 
@@ -55,7 +55,7 @@ end_crowd value line lines = do
   end ← played start.0 start.1 lines
   Ok (start.0, end)
 
--- no pair where the crowd is terminal, and else the least pair that changes a tuple
+-- no pair if the crowd is terminal, else the least pair that changes a tuple
 abbrev pub IsLast : NetModel → CrowdModel → Option (ℕ × ℕ) → Type 0
 IsLast net crowd None = IsTerminal (Step net) crowd
 IsLast net crowd (Some (a, b)) = IsLeastPair net crowd a b

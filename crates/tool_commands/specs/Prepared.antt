@@ -35,7 +35,7 @@ pub record IsRunOfSetting (setting : Setting) (ran : RunEnd) : Type 0 where
   pub last : IsLast setting.checked.net (crowd_of setting.checked.net ran.crowd) (open_pair ran.end)
   pub valid : AreValid setting.checked.net ran.crowd
 
--- what is given for a run of this setting behind these lines
+-- what is given for a run of this setting after these lines
 abbrev pub IsOutputOfSetting : Setting → List ℕ → Output → Type 0
 IsOutputOfSetting s lines output = IsRunOutput s.kind s.spec lines s.checked.net s.checked.pred s.counts output
 
@@ -76,7 +76,7 @@ abbrev pub Prepares : (Result Output Refusal → Type 0) → Result Prepared Sto
 Prepares rule (Ok prepared) = LeadsTo (λ output. rule (Ok output)) prepared
 Prepares rule (Err stop) = MayStop rule stop
 
--- this run is what is prepared: alone just if it is a whole run by one worker
+-- this run is what is prepared: alone exactly if it is a whole run by one worker
 abbrev pub IsPending : PendingRun → Prepared → Type 0
 IsPending run (Text output) = ⊥
 IsPending run (Alone other) = (other ≡ run) × (run.setting.spec.workers ≡ 1) × (run.setting.kind ≡ Whole)

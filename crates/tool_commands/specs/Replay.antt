@@ -29,7 +29,7 @@ holds_text meetings = codes "holds " ++ decimal meetings
 abbrev pub holds_output : ℕ → Output
 holds_output meetings = record { text = ended (holds_text meetings); ending = Done }
 
--- the journal of a run of this kind that lines tell, of which the first has the number JOURNAL_LINE
+-- the journal of a run of this kind that lines give, the first of which has the number JOURNAL_LINE
 abbrev pub journal_read : RunKind → Result (RunSpec × Parts) Out → Result Journal Refusal
 journal_read kind (Ok (spec, parts)) =
     Ok (record { kind = kind; spec = spec; rounds = parts.0; tail = parts.1; first = JOURNAL_LINE })
@@ -71,6 +71,6 @@ abbrev pub OfLines : RunKind → List ℕ × List ℕ × List (List ℕ) → Res
 OfLines kind lines given = (begin : Result (Bundle × List ℕ) Refusal) × IsBegunBy lines.0 lines.1 begin
     × After begin (OfBegun kind lines.2) given
 
--- what `replay` gives for the lines of its input, where the journal is to be of a run of this kind
+-- what `replay` gives for the lines of its input, for a journal of a run of this kind
 abbrev pub ReplayGives : RunKind → List (List ℕ) → Result Output Refusal → Type 0
 ReplayGives kind lines given = After (two_and_some lines) (OfLines kind) given

@@ -26,7 +26,7 @@ use Rattle.tool_commands.specs.Play.{IsLast}
 use Rattle.tool_texts.specs.Rejections.{rejection_output}
 use Rattle.tool_commands.specs.Bundles.{IsBegunBy, IsJudged}
 
--- the journal's last line: the predicate's value if the crowd is terminal, and else the least pair that changes a tuple
+-- the journal's last line: the predicate's value if the crowd is terminal, else the least pair that changes a tuple
 abbrev pub journal_end : Bool → Option (ℕ × ℕ) → Last
 journal_end value None = last.Verdict value
 journal_end value (Some (a, b)) = last.Undecided a b

@@ -25,7 +25,7 @@ abbrev pub net_in : Option Data → Result NetModel Refusal
 net_in None = Err NotJson
 net_in (Some d) = formatted (net_at [] d)
 
--- the agents of a crowd that is run are not too few and not too many, the helpers among them
+-- a crowd that is run has neither too few agents nor too many, helpers included
 abbrev pub is_size : ℕ → Bool
 is_size agents = nat_le AGENT_LEAST agents && nat_le agents AGENT_LIMIT
 

@@ -76,7 +76,7 @@ pub(crate) fn check_bundle(alloc: Global, bundle: Bundle) -> Result<Checked, Che
     check(alloc, net, pred, &proof)
 }
 
-/// What is said of a proof that is not valid.
+/// The output for a proof that is not valid.
 pub(crate) fn rejection_of(alloc: Global, fault: CheckFault) -> Result<Output, Stop>
     ensures { Obeys (TellsRejection fault) (λ output. output) result }
 {

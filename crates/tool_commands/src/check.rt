@@ -11,7 +11,7 @@ use cert_json::Bundle;
 use std::alloc::Global;
 use tool_texts::{Ending, Output, Stop, just_one_line};
 
-/// What is said of a valid proof with this bound.
+/// The output for a valid proof with this bound.
 fn certified(alloc: Global, bound: u64) -> Result<Output, Stop>
     ensures { GivesStep (λ output. output) result (Ok (certified_output bound)) }
 {
@@ -19,7 +19,7 @@ fn certified(alloc: Global, bound: u64) -> Result<Output, Stop>
     Ok(Output::new(text.into_bytes(), Ending::Done))
 }
 
-/// What is said of a bundle.
+/// The output for a bundle.
 fn judge(alloc: Global, bundle: Bundle) -> Result<Output, Stop>
     requires { IsBundleWithin bundle }
     ensures { Obeys (OfBundle bundle) (λ output. output) result }

@@ -19,7 +19,7 @@ use pres_ast::Pred;
 use std::alloc::Global;
 use tool_texts::{Ending, Output, Refusal, Stop, just_two_lines};
 
-/// The names and the predicate that an input tells.
+/// The names and the predicate that an input gives.
 #[tactic(auto, unfolding(crate::specs::Compile::asked_by))]
 fn asked(alloc: Global, input: &[u8]) -> Result<(List<Text>, Pred), Stop>
     ensures asked { GivesStep (λ asked. asked) result (asked_by (lines_of input.now)) }
@@ -72,7 +72,7 @@ fn built_bundle(
     Err(Stop::Refused(refusal))
 }
 
-/// What is given for a bundle that was built: its line.
+/// The output for a bundle that was built: its line.
 fn output_of(
     alloc: Global,
     choice: LeafChoice,
@@ -89,7 +89,7 @@ fn output_of(
     Ok(Output::new(line, Ending::Done))
 }
 
-/// What is given for a predicate over these names.
+/// The output for a predicate over these names.
 fn compile_asked(
     alloc: Global,
     choice: LeafChoice,

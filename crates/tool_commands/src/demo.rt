@@ -60,7 +60,7 @@ fn built(alloc: Global, pred: &Pred) -> Result<(Net, Proof), NoMemory>
     }
 }
 
-/// The net that is built of a predicate over the names of the demo, which is checked.
+/// The checked net that is built of a predicate over the names of the demo.
 fn checked_of(alloc: Global, pred: Pred) -> Result<Checked, NoMemory>
     requires fits { fault_with Plain pred.tree ≡ None }
     requires count { pred.variables ≡ length names_of_demo }
@@ -131,7 +131,7 @@ fn changed_of(rounds: &[List<Meeting>]) -> u64
     total
 }
 
-/// Adds a line of a word and a number.
+/// Adds a line with a word and a number.
 fn push_count(text: &mut Vec<u8>, name: &str, number: u64) -> Result<(), AllocError>
     ensures { OnOk result (text.new.items ≡ text.old.items ++ ended (name.now ++ decimal number)) }
 {
@@ -140,7 +140,7 @@ fn push_count(text: &mut Vec<u8>, name: &str, number: u64) -> Result<(), AllocEr
     text.extend_from_slice(b"\n")
 }
 
-/// Adds the line of a text behind a word.
+/// Adds a line with a word and a text.
 fn push_text(text: &mut Vec<u8>, name: &str, line: &str) -> Result<(), AllocError>
     ensures { OnOk result (text.new.items ≡ text.old.items ++ ended (name.now ++ line.now)) }
 {
@@ -169,7 +169,7 @@ fn summary_of(alloc: Global, case: &Case, run: &RunEnd, last: Last) -> Result<Ve
     Ok(text)
 }
 
-/// What is said of a run of a case.
+/// The output for a run of a case.
 fn case_output(alloc: Global, case: &Case, run: &RunEnd) -> Result<Output, NoMemory>
     requires case { IsCase case.now }
     requires run { IsRunOfCase case.now run.now }

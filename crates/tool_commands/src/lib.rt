@@ -1,7 +1,6 @@
 //! The commands, each a file: what it gives for the lines of its input, as a text or as a run that is still to be made.
 //! It stands on `tool_texts` and on the public calls of all crates below.
-//! The layer above uses: what `prepare_command` prepares leads to outputs of `specs/Commands.antt`, the table of
-//! commands, alone.
+//! The layer above uses: what `prepare_command` prepares leads only to outputs of the table, `specs/Commands.antt`.
 #![tactic(auto)]
 
 mod bundle;

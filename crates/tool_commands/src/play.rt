@@ -21,7 +21,7 @@ use std::alloc::{AllocError, Global};
 use terminal_test::enabled_pair;
 use tool_texts::{Ending, LineWhy, Output, Refusal, Stop, two_and_more_lines, value_of};
 
-/// The number of the line in which the meetings begin, behind the net and the crowd line.
+/// The number of the line in which the meetings begin, after the net and the crowd line.
 pub const MEETINGS_LINE: u64 = 3;
 
 /// The agents that the line of this number names.
@@ -36,8 +36,7 @@ fn pair_of(line: &[u8], agents: u32, number: u64) -> Result<(u32, u32), Stop>
     }
 }
 
-/// Plays lines up to the first that `short_pair` doesn't take. The answer is what is left, and the number of its first
-/// line.
+/// Plays lines up to the first that `short_pair` doesn't take. Returns what is left, and the number of its first line.
 fn play_short<'t>(net: &Net, crowd: &mut Crowd, lines: &'t [u8], number: u64) -> (&'t [u8], u64)
     requires few { number + length (lines_of lines.now) < 2 ^ 33 }
     requires valid { AreValid net.now crowd.old }
@@ -58,7 +57,7 @@ fn play_short<'t>(net: &Net, crowd: &mut Crowd, lines: &'t [u8], number: u64) ->
     (rest, next)
 }
 
-/// The crowd after the meetings of all lines, of which the first has the number `MEETINGS_LINE`.
+/// The crowd after the meetings of all lines, the first of which has the number `MEETINGS_LINE`.
 #[tactic(auto, unfolding(crate::specs::Play::played))]
 fn end_of(net: &Net, crowd: Crowd, lines: &[u8]) -> Result<Crowd, Stop>
     requires few { length (lines_of lines.now) < 2 ^ 32 }
@@ -123,7 +122,7 @@ fn net_and_end(
     Ok((net, end))
 }
 
-/// What is given for a net line that has this value, a crowd line, and meeting lines.
+/// The output for a net line that has this value, a crowd line, and meeting lines.
 fn output_for(
     alloc: Global,
     value: &Option<Value>,

@@ -21,10 +21,10 @@ use pop_words::RunKind;
 use std::alloc::Global;
 use tool_texts::{Ending, Output, Refusal, Stop, two_and_some_lines};
 
-/// The number of the line in which the journal begins, behind the bundle and the crowd line.
+/// The number of the line in which the journal begins, after the bundle and the crowd line.
 pub const JOURNAL_LINE: u64 = 3;
 
-/// What is said of a journal that holds, with its number of meetings.
+/// The output for a journal that holds, with its number of meetings.
 fn holds(alloc: Global, meetings: u64) -> Result<Output, Stop>
     ensures { GivesStep (λ output. output) result (Ok (holds_output meetings)) }
 {
@@ -32,7 +32,7 @@ fn holds(alloc: Global, meetings: u64) -> Result<Output, Stop>
     Ok(Output::new(text.into_bytes(), Ending::Done))
 }
 
-/// What is said of a journal whose line of this number isn't the expected one.
+/// The output for a journal whose line of this number isn't the expected one.
 fn differs(alloc: Global, line: u64, kept: &[u8], found: &[u8]) -> Result<Output, Stop>
     ensures { GivesStep (λ output. output) result
         (Ok (difference_output (record { line = line; kept = kept.now; found = found.now }))) }
@@ -40,7 +40,7 @@ fn differs(alloc: Global, line: u64, kept: &[u8], found: &[u8]) -> Result<Output
     Ok(Output::of_difference(alloc, line, kept, found)?)
 }
 
-/// The journal of a run of this kind that a text tells, for so many agents.
+/// The journal of a run of this kind that a text gives, for this many agents.
 fn journal_of(alloc: Global, kind: RunKind, text: &[u8], agents: u32) -> Result<Journal, Stop>
     ensures read { GivesStep (λ journal. journal) result
         (journal_read kind (journal_in kind agents JOURNAL_LINE (lines_of text.now))) }
@@ -55,7 +55,7 @@ fn journal_of(alloc: Global, kind: RunKind, text: &[u8], agents: u32) -> Result<
     }
 }
 
-/// What is said of a journal that was read.
+/// The output for a journal that was read.
 fn compare(alloc: Global, net: &Net, crowd: Crowd, journal: &Journal) -> Result<Output, Stop>
     requires valid { AreValid net.now crowd }
     requires first { journal.now.first ≡ JOURNAL_LINE }
@@ -72,7 +72,7 @@ fn compare(alloc: Global, net: &Net, crowd: Crowd, journal: &Journal) -> Result<
     }
 }
 
-/// What is said of a journal's text, for a net from this crowd.
+/// The output for a journal's text, for a net from this crowd.
 fn replay_from(
     alloc: Global,
     kind: RunKind,
@@ -88,7 +88,7 @@ fn replay_from(
     compare(alloc, net, crowd, &journal)
 }
 
-/// What is said of a journal's text, if the proof of the bundle is valid.
+/// The output for a journal's text, if the proof of the bundle is valid.
 fn replay_begun(
     alloc: Global,
     kind: RunKind,

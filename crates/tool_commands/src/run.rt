@@ -34,7 +34,7 @@ use std::sync::Wait;
 use std::thread::Threads;
 use tool_texts::{Ending, Output, Stop, just_two_lines};
 
-/// Whether a run has one worker. A whole run by one worker is made without threads, and no other run.
+/// Whether a run has one worker. A whole run by one worker is made without threads; any other run is made on threads.
 pub(crate) fn is_by_one(spec: &RunSpec) -> bool
     ensures { IsTrue result ↔ (spec.now.workers ≡ 1) }
 {

@@ -88,7 +88,7 @@ fn settle_start(
     }
 }
 
-/// What is said of a bundle's crowd, if the proof is valid.
+/// The output for a bundle's crowd, if the proof is valid.
 fn settle_begun(alloc: Global, bundle: Bundle, counts: &[u64], crowd: Crowd) -> Result<Output, Stop>
     requires limits { IsBundleWithin bundle }
     requires start { IsStart bundle.net (record { counts = counts.now; crowd = crowd }) }

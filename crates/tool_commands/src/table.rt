@@ -42,7 +42,7 @@ pub fn prepare_command(alloc: Global, command: Command, input: &[u8]) -> Result<
     }
 }
 
-/// What is prepared where the whole output is there already.
+/// What is prepared if the whole output is already there.
 fn ready(output: Result<Output, Stop>) -> Result<Prepared, Stop>
     ensures { result ≡ ready output }
 {

@@ -10,7 +10,7 @@ use std::test::Fail;
 pub(crate) const NET: &str =
     r#"{"format":1,"vars":["x","y"],"leaves":[{"states":["A","B","a","b"],"moves":[[0,1,2,3],[0,3,0,2],[1,2,1,3],[3,2,3,3]],"input":[0,1],"output":[true,false,true,false]}],"combine":[0]}"#;
 
-/// What stands behind the net in its bundle.
+/// What follows the net in its bundle.
 pub(crate) const PROOF: &str =
     r#""pred":"y - x < 0","proof":[{"pred":"y - x < 0","layers":[{"moves":[0,1],"weights":[1,1,0,1]},{"moves":[2,3],"weights":[0,0,1,0]}],"true":[["open",5],["present",0],["lin",[[0,-1],[1,1],[7,1],[8,-1]]],["lin",[[6,1],[9,-1],[10,-1]]]],"false":[["open",5],["present",0],["present",2],["lin",[[6,1],[8,-1],[9,-1]]],["trap",[0,3]],["lin",[[12,1]]],["lin",[[2,1],[9,1],[12,-1],[13,-1]]],["lin",[[8,-1],[11,-1],[12,1]]],["lin",[[0,1],[1,-1],[7,1],[8,1],[9,-1]]]]}]"#;
 

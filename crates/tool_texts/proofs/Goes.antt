@@ -12,7 +12,7 @@ bind_ok (Err r) f y e = absurd cc
 pub same_ok : {A : Type 0} (x y : A) → (let r : Result A Refusal = Ok x in r ≡ Ok y) → x ≡ y
 same_ok x y e = cc
 
--- what a step gives is allowed where the step's outcome is
+-- what a step gives is allowed if the step's outcome is
 pub gives_obeys : {A B : Type 0} (rule : Result B Refusal → Type 0) (view : A → B) (r : Result A Stop) (step : Result B Refusal) → rule step → GivesStep view r step → Obeys rule view r
 gives_obeys rule view (Ok x) step allowed is = subst rule is allowed
 gives_obeys rule view (Err NoMemory) step allowed is = tt
@@ -38,7 +38,7 @@ pub one_after : {A B : Type 0} (step : Result A Refusal) (next : A → Result B 
 one_after (Ok value) next one x y p q = one value refl x y p q
 one_after (Err r) next one x y p q = p ∙ sym q
 
--- what holds of every refusal and after every value holds after a step
+-- what holds for every refusal and after every value holds after a step
 pub bind_keeps : {A B : Type 0} (P : Result B Refusal → Type 0) → ((r : Refusal) → P (Err r)) → (step : Result A Refusal) (next : A → Result B Refusal) → ((x : A) → P (next x)) → P (step >>= next)
 bind_keeps P stop (Ok x) next go = go x
 bind_keeps P stop (Err r) next go = stop r

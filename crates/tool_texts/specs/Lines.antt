@@ -12,7 +12,7 @@ missing n = Err (Line n Missing)
 abbrev pub extra : {A : Type 0} → ℕ → Result A Refusal
 extra n = Err (Line n Extra)
 
--- just one line
+-- exactly one line
 abbrev pub just_one : List (List ℕ) → Result (List ℕ) Refusal
 just_one [] = missing 1
 just_one (line ∷ []) = Ok line
@@ -31,14 +31,14 @@ two_and_some (first ∷ []) = missing 2
 two_and_some (first ∷ second ∷ []) = missing 3
 two_and_some (first ∷ second ∷ third ∷ more) = Ok (first, second, third ∷ more)
 
--- just two lines
+-- exactly two lines
 abbrev pub just_two : List (List ℕ) → Result (List ℕ × List ℕ) Refusal
 just_two [] = missing 1
 just_two (first ∷ []) = missing 2
 just_two (first ∷ second ∷ []) = Ok (first, second)
 just_two (first ∷ second ∷ third ∷ more) = extra 3
 
--- just three lines
+-- exactly three lines
 abbrev pub just_three : List (List ℕ) → Result (List ℕ × List ℕ × List ℕ) Refusal
 just_three [] = missing 1
 just_three (first ∷ []) = missing 2

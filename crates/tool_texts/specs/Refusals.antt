@@ -1,4 +1,4 @@
--- What is written where the words or the input are refused, or the source fails. A text has no line feed yet.
+-- What is written when the words or the input are refused, or the source fails. A text has no line feed yet.
 use Rattle.std.specs.Prelude.{ℕ, List, ◌++◌, codes, decimal, Result, Ok, Err}
 use Rattle.pop_lines.specs.Lines.{ended}
 use Rattle.json_shape.specs.Reasons.{pred_reason, reason}

@@ -13,7 +13,7 @@ abbrev pub ◌>>=◌ : {A B : Type 0} → Result A Refusal → (A → Result B R
 (Ok x) >>= f = f x
 (Err r) >>= f = Err r
 
--- the same where the next step is a rule that allows more than one outcome
+-- the same if the next step is a rule that allows more than one outcome
 abbrev pub After : {A B : Type 0} → Result A Refusal → (A → Result B Refusal → Type 0) → Result B Refusal → Type 0
 After (Ok x) next given = next x given
 After (Err r) next given = given ≡ Err r

@@ -1,8 +1,6 @@
-//! What the text of every command is made of: refusals, rejections, differences, endings and statuses, the lines of an
-//! input and the JSON of a line.
+//! What the text of every command is made of: refusals, rejections, differences, statuses, input lines and JSON.
 //! It stands on `pop_lines`, `pop_words`, `json_shape`, `pop_journal` and `pop_checker`.
-//! The layer above uses: an `Output` for a refusal, a rejection or a difference has exactly the text of
-//! `specs/Refusals.antt`, Rejections or Differences.
+//! The layer above uses: an `Output` for a refusal, rejection or difference has exactly the text that `specs` defines.
 #![tactic(auto)]
 
 mod difference;

@@ -41,7 +41,7 @@ pub fn two_and_more_lines(input: &[u8]) -> Result<(&[u8], &[u8], &[u8]), Stop>
     }
 }
 
-/// The first two lines, and the bytes after them, which have a line at least.
+/// The first two lines, and the bytes after them, which have at least one line.
 pub fn two_and_some_lines(input: &[u8]) -> Result<(&[u8], &[u8], &[u8]), Stop>
     ensures lines { GivesStep (λ found. (found.0.now, found.1.now, lines_of found.2.now)) result
         (two_and_some (lines_of input.now)) }

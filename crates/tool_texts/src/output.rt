@@ -2,7 +2,7 @@
 
 use pop_io::List;
 
-/// How a command ended whose whole text is written.
+/// How a command ended, if its whole text is written.
 #[derive(Clone, Copy, PartialEq, Eq)]
 pub enum Ending {
     /// Nothing is wrong.

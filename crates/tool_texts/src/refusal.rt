@@ -20,7 +20,7 @@ pub enum LineWhy {
     Extra,
     /// The line is malformed.
     Form,
-    /// A meeting line names agents that are not there, or one agent twice.
+    /// A meeting line names agents that don't exist, or one agent twice.
     Agents,
 }
 
@@ -39,17 +39,17 @@ pub enum Refusal {
     Pred(PredWhy),
     /// This word of the crowd line is wrong.
     Count(u32),
-    /// A crowd of so many agents is not run.
+    /// A crowd of this many agents is not run.
     Size(u128),
     /// What is wrong with the line of this number, in a journal.
     Journal(u64, JournalWhy),
-    /// A predicate with so many atoms is not compiled.
+    /// A predicate with this many atoms is not compiled.
     Atoms(u32),
     /// The atom has this width, too much for a leaf.
     Width(u32, u64),
     /// The atom makes a wide leaf, and there are too many atoms for one.
     Wide(u32),
-    /// A crowd for which a proof allows so many takes is not settled.
+    /// A crowd for which a proof allows this many takes is not settled.
     Settle(u128),
 }
 

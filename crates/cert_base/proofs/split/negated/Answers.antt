@@ -7,7 +7,7 @@ use Rattle.cert_base.specs.declared.limits.TheConstants.{SIZE_LIMIT}
 use Rattle.cert_base.specs.FactsAndCases.{negated_row}
 use Rattle.cert_base.proofs.split.negated.Goals as goal
 
--- the code's number is the turned one
+-- the code's number is the negated one
 turned : (a : ℤ) → nat_abs a ≤ SIZE_LIMIT → to_z w64 (of_z w64 (pos 0 -ℤ to_z w64 (of_z w64 a))) ≡ neg_ℤ a
 turned a small =
     let turn : pos 0 -ℤ to_z w64 (of_z w64 a) ≡ neg_ℤ a = rw (to_z-of_z w64 a (fits_signed_from_abs w64 a (omega arith))) (omega (arith, ints)) in
