@@ -27,5 +27,5 @@ pub use names::{
 pub use outside::{Sink, Source};
 pub use standard::{StdSink, StdSource};
 pub use text::Text;
-pub use trouble::{Trouble, TroubleKind};
+pub use trouble::{LAST_COUNT, Trouble, TroubleKind};
 pub use whole::{INPUT_LIMIT, read_all, write_all};
