@@ -1,5 +1,5 @@
 -- Which moves are not woken.
-use Rattle.std.proofs.Common.{◌^◌, ◌≡◌, ◌⊎◌, inl, inr, ℕ, ◌<◌, ◌≤◌, Bool, true, false, not, ◌&&◌, List, [], ◌∷◌, length, refl, sym, subst, ◌∙◌, arith}
+use Rattle.std.proofs.Common.{◌≡◌, ◌⊎◌, inl, inr, ℕ, ◌<◌, ◌≤◌, Bool, true, false, not, ◌&&◌, List, [], ◌∷◌, length, refl, sym, subst, ◌∙◌, arith}
 use Rattle.std.specs.Prelude.{Option, Some, None, slice_get, nat_lt, ◌==◌}
 use Rattle.std.specs.List.{list_any, range_with_len}
 use Rattle.std.proofs.lemmas.Bool.{and_cases, and_left, and_right, or_parts, or_cases, not-false, ltb-true, lt-ltb, cases_Bool, cases_lt, eqb-true}
@@ -9,6 +9,7 @@ use Rattle.pop_net.specs.LeafModel.{LeafModel, IsLeaf, IsMoveBelow, silent_move}
 use Rattle.pop_net.proofs.Quiet.{All-slice_get}
 use Rattle.pop_net.specs.FirstFault.{first_below}
 use Rattle.pop_net.proofs.FirstFault.{none_below}
+use Rattle.cert_layers.specs.declared.pairs.TheConstants.{NO_LAYER}
 use Rattle.cert_layers.specs.MoveLayers.{layer_of}
 use Rattle.cert_layers.specs.Search.{some_move, some_layer}
 use Rattle.cert_layers.specs.Waking.{first_at, is_early, IsEarly, IsWakingTable, brings_state, wakes_with_state, wakes_states, wakes_early, wakes_beside_state, may_wake_any, wakes_numbered, wakes_at, FindsFirst}
@@ -76,7 +77,7 @@ first_wakes_none table t states =
     and_right (not (is_early table 0 t.p t.q)) (list_any (wakes_beside_state (is_early table 0) t) (range_with_len 0 states)) (nobody_beside table t (range_with_len 0 states))
 
 -- the states of an early move
-early_both : (leaf : LeafModel) (layer_of_move : List (Option ℕ)) (table : List ℕ) (i m j : ℕ) (u : Move) → IsLeaf leaf → IsWakingTable leaf layer_of_move (length leaf.moves) table → i < 2 ^ 16 → slice_get leaf.moves m ≡ Some u → silent_move u ≡ false → layer_of layer_of_move m ≡ Some j → j < i → (is_early table i u.p u.q ≡ true) × (is_early table i u.q u.p ≡ true)
+early_both : (leaf : LeafModel) (layer_of_move : List (Option ℕ)) (table : List ℕ) (i m j : ℕ) (u : Move) → IsLeaf leaf → IsWakingTable leaf layer_of_move (length leaf.moves) table → i ≤ NO_LAYER → slice_get leaf.moves m ≡ Some u → silent_move u ≡ false → layer_of layer_of_move m ≡ Some j → j < i → (is_early table i u.p u.q ≡ true) × (is_early table i u.q u.p ≡ true)
 early_both leaf layer_of_move table i m j u formed h few move loud place before =
     let small = move_small leaf m u formed move in
     let within = slice_get_within leaf.moves m u move in
@@ -85,7 +86,7 @@ early_both leaf layer_of_move table i m j u formed h few move loud place before 
     (lt-ltb (first_at table u.p u.q) i (h.complete i u.p u.q few small.0 small.1 there), lt-ltb (first_at table u.q u.p) i (h.complete i u.q u.p few small.1 small.0 back))
 
 -- a move that wakes nothing by the table of pairs wakes no move
-pub asleep_move : (leaf : LeafModel) (layer_of_move : List (Option ℕ)) (table : List ℕ) (i : ℕ) (t : Move) → IsLeaf leaf → IsWakingTable leaf layer_of_move (length leaf.moves) table → i < 2 ^ 16 → may_wake_any (is_early table i) t (length leaf.states) ≡ false → (m : ℕ) → wakes_numbered leaf layer_of_move table i t m ≡ false
+pub asleep_move : (leaf : LeafModel) (layer_of_move : List (Option ℕ)) (table : List ℕ) (i : ℕ) (t : Move) → IsLeaf leaf → IsWakingTable leaf layer_of_move (length leaf.moves) table → i ≤ NO_LAYER → may_wake_any (is_early table i) t (length leaf.states) ≡ false → (m : ℕ) → wakes_numbered leaf layer_of_move table i t m ≡ false
 asleep_move leaf layer_of_move table i t formed h few none m = by_move (slice_get leaf.moves m) refl
   where
     by_before : (u : Move) (j : ℕ) → slice_get leaf.moves m ≡ Some u → silent_move u ≡ false → layer_of layer_of_move m ≡ Some j → (b : Bool) → nat_lt j i ≡ b → (b && wakes_states (is_early table i) t u.p u.q) ≡ false

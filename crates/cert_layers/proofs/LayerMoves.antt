@@ -10,24 +10,24 @@ use Rattle.pop_net.proofs.Reactions.{and_left, and_right}
 use Rattle.cert_base.specs.declared.layer.Layer.{Layer}
 use Rattle.cert_base.specs.ValidLayers.{IsInLayer}
 use Rattle.cert_base.proofs.ListTests.{list_any-contains}
-use Rattle.cert_layers.specs.Search.{layer_at, no_layer, some_move}
+use Rattle.cert_layers.specs.Search.{numbered_layer, no_layer, some_move}
 
 -- whether some non-silent move of layer i passes
 abbrev pub any_move : LeafModel → List Layer → ℕ → (Move → Bool) → Bool
-any_move leaf layers i test = list_any (λ n. some_move test (slice_get leaf.moves n)) (layer_at layers i).moves
+any_move leaf layers i test = list_any (λ n. some_move test (slice_get leaf.moves n)) (numbered_layer layers i).moves
 
 module _ (leaf : LeafModel) (layers : List Layer) where
   pub any_move-at : (i : ℕ) (test : Move → Bool) → i < length layers → any_move leaf layers i test ≡ true → (t : Move) × IsInLayer leaf layers i t × (test t ≡ true)
   any_move-at i test l e =
-      let s = list_any-contains (λ n. some_move test (slice_get leaf.moves n)) (layer_at layers i).moves e in
+      let s = list_any-contains (λ n. some_move test (slice_get leaf.moves n)) (numbered_layer layers i).moves e in
       found s.0 s.1 (slice_get leaf.moves s.0) refl s.2
     where
-      found : (n : ℕ) → Contains (layer_at layers i).moves n → (o : Option Move) → slice_get leaf.moves n ≡ o → some_move test o ≡ true → (t : Move) × IsInLayer leaf layers i t × (test t ≡ true)
+      found : (n : ℕ) → Contains (numbered_layer layers i).moves n → (o : Option Move) → slice_get leaf.moves n ≡ o → some_move test o ≡ true → (t : Move) × IsInLayer leaf layers i t × (test t ≡ true)
       found n c None m h = cc
       found n c (Some t) m h = (
         t,
         record {
-          layer = layer_at layers i;
+          layer = numbered_layer layers i;
           number = n;
           layer_is = slice_get-get_or layers i no_layer l;
           lists = c;

@@ -15,7 +15,7 @@ use Rattle.cert_base.specs.declared.layer.Layer.{Layer}
 use Rattle.cert_base.specs.ValidLayers.{weight_at, IsLower, moves_of_layers, IsInLayer}
 use Rattle.cert_layers.specs.LayerFaults.{ListedAt, LowerAt}
 use Rattle.cert_layers.specs.MoveLayers.{layer_of, AreMoveLayers}
-use Rattle.cert_layers.specs.Search.{no_layer, layer_at, some_move, some_layer, is_unlisted_move, is_lower_after, not_lower}
+use Rattle.cert_layers.specs.Search.{no_layer, numbered_layer, some_move, some_layer, is_unlisted_move, is_lower_after, not_lower}
 use Rattle.cert_layers.proofs.Termination.{listed_at}
 
 -- the layer of a placed move
@@ -91,20 +91,20 @@ pub not_lower-no : (leaf : LeafModel) (layers : List Layer) (layer_of_move : Lis
 not_lower-no leaf layers layer_of_move n p e i t at number =
     let place : layer_of layer_of_move n ≡ Some i = ap (layer_of layer_of_move) (sym number) ∙ in_place leaf layers layer_of_move i t p at in
     let move : slice_get leaf.moves n ≡ Some t = ap (slice_get leaf.moves) (sym number) ∙ at.move_is in
-    let tested = some_move-false (λ t. some_layer (λ i. not (is_lower_after (layer_at layers i).weights t)) (layer_of layer_of_move n)) (slice_get leaf.moves n) t e move at.non_silent in
-    let layer : layer_at layers i ≡ at.layer = get_or_from_slice_get layers i at.layer no_layer at.layer_is in
-    let said : not (is_lower_after (layer_at layers i).weights t) ≡ false = sym (ap (some_layer (λ i. not (is_lower_after (layer_at layers i).weights t))) place) ∙ tested in
-    is_lower-yes at.layer.weights t (ap (λ (l : Layer). is_lower_after l.weights t) (sym layer) ∙ not-false (is_lower_after (layer_at layers i).weights t) said)
+    let tested = some_move-false (λ t. some_layer (λ i. not (is_lower_after (numbered_layer layers i).weights t)) (layer_of layer_of_move n)) (slice_get leaf.moves n) t e move at.non_silent in
+    let layer : numbered_layer layers i ≡ at.layer = get_or_from_slice_get layers i at.layer no_layer at.layer_is in
+    let said : not (is_lower_after (numbered_layer layers i).weights t) ≡ false = sym (ap (some_layer (λ i. not (is_lower_after (numbered_layer layers i).weights t))) place) ∙ tested in
+    is_lower-yes at.layer.weights t (ap (λ (l : Layer). is_lower_after l.weights t) (sym layer) ∙ not-false (is_lower_after (numbered_layer layers i).weights t) said)
 
 pub not_lower-yes : (leaf : LeafModel) (layers : List Layer) (layer_of_move : List (Option ℕ)) (n : ℕ) → AreMoveLayers leaf layers layer_of_move → not_lower leaf layers layer_of_move n ≡ true → LowerAt leaf layers n → ⊥
-not_lower-yes leaf layers layer_of_move n p e lower = by_move (some_move-true (λ t. some_layer (λ i. not (is_lower_after (layer_at layers i).weights t)) (layer_of layer_of_move n)) (slice_get leaf.moves n) e)
+not_lower-yes leaf layers layer_of_move n p e lower = by_move (some_move-true (λ t. some_layer (λ i. not (is_lower_after (numbered_layer layers i).weights t)) (layer_of layer_of_move n)) (slice_get leaf.moves n) e)
   where
-    by_place : (t : Move) → slice_get leaf.moves n ≡ Some t → silent_move t ≡ false → (o : Option ℕ) → layer_of layer_of_move n ≡ o → some_layer (λ i. not (is_lower_after (layer_at layers i).weights t)) o ≡ true → ⊥
+    by_place : (t : Move) → slice_get leaf.moves n ≡ Some t → silent_move t ≡ false → (o : Option ℕ) → layer_of layer_of_move n ≡ o → some_layer (λ i. not (is_lower_after (numbered_layer layers i).weights t)) o ≡ true → ⊥
     by_place t move loud None is f = cc
     by_place t move loud (Some i) is f =
         let at = in_layer leaf layers layer_of_move n i t p move loud is in
-        let layer : layer_at layers i ≡ at.layer = get_or_from_slice_get layers i at.layer no_layer at.layer_is in
-        is_lower-no at.layer.weights t (ap (λ (l : Layer). is_lower_after l.weights t) (sym layer) ∙ not-true (is_lower_after (layer_at layers i).weights t) f) (lower i t at refl)
+        let layer : numbered_layer layers i ≡ at.layer = get_or_from_slice_get layers i at.layer no_layer at.layer_is in
+        is_lower-no at.layer.weights t (ap (λ (l : Layer). is_lower_after l.weights t) (sym layer) ∙ not-true (is_lower_after (numbered_layer layers i).weights t) f) (lower i t at refl)
 
-    by_move : (t : Move) × (slice_get leaf.moves n ≡ Some t) × (silent_move t ≡ false) × (some_layer (λ i. not (is_lower_after (layer_at layers i).weights t)) (layer_of layer_of_move n) ≡ true) → ⊥
+    by_move : (t : Move) × (slice_get leaf.moves n ≡ Some t) × (silent_move t ≡ false) × (some_layer (λ i. not (is_lower_after (numbered_layer layers i).weights t)) (layer_of layer_of_move n) ≡ true) → ⊥
     by_move m = by_place m.0 m.1 m.2 (layer_of layer_of_move n) refl m.3

@@ -1,5 +1,5 @@
 -- The table of pairs of states, move by move.
-use Rattle.std.proofs.Common.{◌^◌, ◌≡◌, ◌⊎◌, inl, inr, ℕ, ◌+◌, ◌*◌, ◌<◌, ◌≤◌, min, true, false, List, length, get_or, ap, sym, subst, ◌∙◌, arith}
+use Rattle.std.proofs.Common.{◌≡◌, ◌⊎◌, inl, inr, ℕ, ◌+◌, ◌*◌, ◌<◌, ◌≤◌, min, true, false, List, length, get_or, ap, sym, subst, ◌∙◌, arith}
 use Rattle.std.specs.Prelude.{Option, Some, None, slice_get}
 use Rattle.std.specs.List.{slice_set}
 use Rattle.std.proofs.Math.ListN.{length-set}
@@ -152,14 +152,14 @@ module _ (leaf : LeafModel) (layer_of_move : List (Option ℕ)) (n : ℕ) (table
         takes = pair;
       }
 
-      new : (i x y : ℕ) → i < 2 ^ 16 → x < STATE_LIMIT → y < STATE_LIMIT → (first_at (with_pair table t.p t.q k) x y < i) ⊎ (((x ≡ t.q) × (y ≡ t.p)) × (k < i)) → IsEarly leaf layer_of_move (n + 1) i x y
+      new : (i x y : ℕ) → i ≤ NO_LAYER → x < STATE_LIMIT → y < STATE_LIMIT → (first_at (with_pair table t.p t.q k) x y < i) ⊎ (((x ≡ t.q) × (y ≡ t.p)) × (k < i)) → IsEarly leaf layer_of_move (n + 1) i x y
       new i x y few xs ys (inl e) = elim (with_pair-sound table t.p t.q k h.long ps qs i x y xs ys e) as (λ _. IsEarly leaf layer_of_move (n + 1) i x y) [
         | inl old ↦ later leaf layer_of_move n i x y (h.sound i x y few xs ys old)
         | inr here ↦ this i x y here.1 (inl here.0)
       ]
       new i x y few xs ys (inr here) = this i x y here.1 (inr here.0)
 
-      known : (i x y : ℕ) → i < 2 ^ 16 → x < STATE_LIMIT → y < STATE_LIMIT → IsEarly leaf layer_of_move n i x y ⊎ ((silent_move t ≡ false) × (j : ℕ) × (layer_of layer_of_move n ≡ Some j) × (j < i) × IsPair x y t) → first_at (with_pair (with_pair table t.p t.q k) t.q t.p k) x y < i
+      known : (i x y : ℕ) → i ≤ NO_LAYER → x < STATE_LIMIT → y < STATE_LIMIT → IsEarly leaf layer_of_move n i x y ⊎ ((silent_move t ≡ false) × (j : ℕ) × (layer_of layer_of_move n ≡ Some j) × (j < i) × IsPair x y t) → first_at (with_pair (with_pair table t.p t.q k) t.q t.p k) x y < i
       known i x y few xs ys (inl old) =
           with_pair-complete (with_pair table t.p t.q k) t.q t.p k first_long qs ps i x y xs ys
           (inl (with_pair-complete table t.p t.q k h.long ps qs i x y xs ys (inl (h.complete i x y few xs ys old))))

@@ -23,7 +23,7 @@ use Rattle.cert_base.proofs.Agents.{enabled_test, agents_of, enabled_test-true, 
 use Rattle.cert_base.proofs.Dead.{AreDead, stay_dead, two_there}
 use Rattle.cert_base.proofs.Numbers.{before_pre}
 use Rattle.cert_base.proofs.Integers.{add-mul}
-use Rattle.cert_layers.specs.Search.{layer_at, no_layer, some_move}
+use Rattle.cert_layers.specs.Search.{numbered_layer, no_layer, some_move}
 use Rattle.cert_layers.proofs.LayerMoves.{any_move, any_move-at}
 use Rattle.cert_base.proofs.Spread.{within, total-above, total-below}
 use Rattle.cert_base.proofs.Weights.{total, total_falls}
@@ -33,10 +33,10 @@ some_move-true : (test : Move → Bool) (o : Option Move) (t : Move) → o ≡ S
 some_move-true test o t e s h = rw e (rw (s, h) refl)
 
 -- a move of layer i that passes the test is found
-any_move-true : (leaf : LeafModel) (layers : List Layer) (i : ℕ) (layer : Layer) (test : Move → Bool) (t : Move) → layer_at layers i ≡ layer → (at : IsInLayer leaf layers i t) → at.layer ≡ layer → test t ≡ true → any_move leaf layers i test ≡ true
+any_move-true : (leaf : LeafModel) (layers : List Layer) (i : ℕ) (layer : Layer) (test : Move → Bool) (t : Move) → numbered_layer layers i ≡ layer → (at : IsInLayer leaf layers i t) → at.layer ≡ layer → test t ≡ true → any_move leaf layers i test ≡ true
 any_move-true leaf layers i layer test t e at same h =
-    let lists : Contains (layer_at layers i).moves at.number = rw (e, ← same) at.lists in
-    list_any-from (λ n. some_move test (slice_get leaf.moves n)) (layer_at layers i).moves at.number lists
+    let lists : Contains (numbered_layer layers i).moves at.number = rw (e, ← same) at.lists in
+    list_any-from (λ n. some_move test (slice_get leaf.moves n)) (numbered_layer layers i).moves at.number lists
     (some_move-true test (slice_get leaf.moves at.number) t at.move_is at.non_silent h)
 
 -- a crowd that is reached within k steps, with no enabled move in the layers before layer i
@@ -62,7 +62,7 @@ same_layer : (layers : List Layer) (i : ℕ) (one other : Layer) → slice_get l
 same_layer layers i one other e f = cc
 
 module _ (leaf : LeafModel) (layers : List Layer) (is : IsLeaf leaf) (v : ValidLayers leaf layers) (i : ℕ) (layer : Layer) (h : slice_get layers i ≡ Some layer) where
-  found-layer : layer_at layers i ≡ layer
+  found-layer : numbered_layer layers i ≡ layer
   found-layer = get_or_from_slice_get layers i layer no_layer h
 
   long : length layer.weights ≡ length leaf.states

@@ -1,9 +1,10 @@
 -- What the test of waking says of the layers.
-use Rattle.std.proofs.Common.{◌^◌, ◌≡◌, ◌⊎◌, inl, inr, ℕ, ◌+◌, ◌-◌, ◌<◌, ◌≤◌, true, false, not, ◌&&◌, ◌||◌, List, length, refl, ap, sym, ◌∙◌, arith}
+use Rattle.std.proofs.Common.{◌≡◌, ◌⊎◌, inl, inr, ℕ, ◌+◌, ◌-◌, ◌<◌, ◌≤◌, true, false, not, ◌&&◌, ◌||◌, List, length, refl, ap, sym, ◌∙◌, arith}
 use Rattle.std.specs.Prelude.{Option, Some, None, slice_get, nat_lt}
 use Rattle.std.proofs.lemmas.Bool.{and_parts, and_cases, or_parts, or_cases, not-true, not-false, ltb-true, lt-ltb, cases_Bool, false≢true}
 use Rattle.std.proofs.lemmas.Option.{slice_get_within}
 use Rattle.pop_net.specs.declared.limits.TheConstants.{STATE_LIMIT}
+use Rattle.cert_layers.specs.declared.pairs.TheConstants.{NO_LAYER}
 use Rattle.cert_base.specs.declared.limits.TheConstants.{LAYER_LIMIT}
 use Rattle.pop_net.specs.declared.leaf.Move.{Move}
 use Rattle.pop_net.specs.LeafModel.{LeafModel, IsLeaf, IsMoveBelow, one_at, times_in_pair, pre, post, silent_move}
@@ -22,7 +23,7 @@ use Rattle.pop_net.proofs.Within.{move_small}
 abbrev EarlyMove : LeafModel → List Layer → ℕ → ℕ → ℕ → Type 0
 EarlyMove leaf layers i x y = (k : ℕ) × (u : Move) × (k < i) × IsInLayer leaf layers k u × IsPair x y u
 
-module _ (leaf : LeafModel) (layers : List Layer) (layer_of_move : List (Option ℕ)) (table : List ℕ) (formed : IsLeaf leaf) (p : AreMoveLayers leaf layers layer_of_move) (h : IsWakingTable leaf layer_of_move (length leaf.moves) table) (i : ℕ) (few : i < 2 ^ 16) where
+module _ (leaf : LeafModel) (layers : List Layer) (layer_of_move : List (Option ℕ)) (table : List ℕ) (formed : IsLeaf leaf) (p : AreMoveLayers leaf layers layer_of_move) (h : IsWakingTable leaf layer_of_move (length leaf.moves) table) (i : ℕ) (few : i ≤ NO_LAYER) where
   early_move : (x y : ℕ) → x < STATE_LIMIT → y < STATE_LIMIT → is_early table i x y ≡ true → EarlyMove leaf layers i x y
   early_move x y xs ys e =
       let f = h.sound i x y few xs ys (ltb-true (first_at table x y) i e) in

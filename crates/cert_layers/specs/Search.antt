@@ -12,8 +12,8 @@ use Rattle.cert_layers.specs.MoveLayers.{layer_of}
 abbrev pub no_layer : Layer
 no_layer = record { moves = []; weights = [] }
 
-abbrev pub layer_at : List Layer → ℕ → Layer
-layer_at layers i = slice_index_or layers i no_layer
+abbrev pub numbered_layer : List Layer → ℕ → Layer
+numbered_layer layers i = slice_index_or layers i no_layer
 
 -- whether there is a move, it is not silent, and it passes the test
 abbrev pub some_move : (Move → Bool) → Option Move → Bool
@@ -37,5 +37,5 @@ is_lower_after w t = int_lt (weight_at w t.r +ℤ weight_at w t.s) (weight_at w 
 -- whether a non-silent move has number n, stands in a layer, and doesn't lower its weights
 abbrev pub not_lower : LeafModel → List Layer → List (Option ℕ) → ℕ → Bool
 not_lower leaf layers layer_of_move n =
-    some_move (λ t. some_layer (λ i. not (is_lower_after (layer_at layers i).weights t)) (layer_of layer_of_move n))
+    some_move (λ t. some_layer (λ i. not (is_lower_after (numbered_layer layers i).weights t)) (layer_of layer_of_move n))
     (slice_get leaf.moves n)

@@ -1,5 +1,5 @@
 -- Which moves wake moves of earlier layers, by a table of pairs of states.
-use Rattle.std.specs.Prelude.{◌≡◌, ℕ, ◌+◌, ◌*◌, ◌^◌, ◌<◌, ◌⊎◌, ◌==◌, ◌&&◌, ◌||◌, not, Bool}
+use Rattle.std.specs.Prelude.{◌≡◌, ℕ, ◌+◌, ◌*◌, ◌<◌, ◌≤◌, ◌⊎◌, ◌==◌, ◌&&◌, ◌||◌, not, Bool}
 use Rattle.std.specs.Prelude.{true, false, nat_lt, List, length, Option, Some, None, slice_get, replicate}
 use Rattle.std.specs.Prelude.{if◌then◌else◌}
 use Rattle.std.specs.List.{slice_index_or, list_any, range_with_len}
@@ -37,9 +37,9 @@ pub record IsEarly (leaf : LeafModel) (layer_of_move : List (Option ℕ)) (n i x
 -- the table has, for each two states, the least layer with a non-silent move below number n that takes them
 pub record IsWakingTable (leaf : LeafModel) (layer_of_move : List (Option ℕ)) (n : ℕ) (table : List ℕ) : Type 0 where
   pub long : length table ≡ PAIR_COUNT
-  pub sound : (i x y : ℕ) → i < 2 ^ 16 → x < STATE_LIMIT → y < STATE_LIMIT → first_at table x y < i
+  pub sound : (i x y : ℕ) → i ≤ NO_LAYER → x < STATE_LIMIT → y < STATE_LIMIT → first_at table x y < i
       → IsEarly leaf layer_of_move n i x y
-  pub complete : (i x y : ℕ) → i < 2 ^ 16 → x < STATE_LIMIT → y < STATE_LIMIT → IsEarly leaf layer_of_move n i x y
+  pub complete : (i x y : ℕ) → i ≤ NO_LAYER → x < STATE_LIMIT → y < STATE_LIMIT → IsEarly leaf layer_of_move n i x y
       → first_at table x y < i
 
 -- whether a layer before i has a non-silent move that takes x and y

@@ -83,10 +83,10 @@ module _ (moves : List Move) (kind : Move → ℕ) where
       (All-weaker (IsOfKind i) (λ a. All (λ b. a ≢ b) (moves_of_layers (sorted_layers moves kind (i + 1) ws))) (λ a x. All-weaker (IsFromKind (i + 1)) (λ b. a ≢ b) (λ b y. other_kinds i y.kind_of a b (let l = y.above in omega arith) x y.of) (moves_of_layers (sorted_layers moves kind (i + 1) ws)) (from_kind (i + 1) ws)) (places_from 0 (λ t. kind t == i) moves) (of_kind i))
 
   -- the layer of a kind
-  layer_at : (i k : ℕ) (ws : List (List ℤ)) → k < length ws → slice_get (sorted_layers moves kind i ws) k ≡ Some (sorted_layer moves kind (i + k) (get_or ws k []))
-  layer_at i k [] l = absurd (omega arith)
-  layer_at i zero (w ∷ ws) l = ap (λ n. Some (sorted_layer moves kind n w)) (let e : i ≡ i + 0 = omega arith in e)
-  layer_at i (suc k) (w ∷ ws) l = layer_at (i + 1) k ws (omega arith) ∙ ap (λ n. Some (sorted_layer moves kind n (get_or ws k []))) (let e : i + 1 + k ≡ i + suc k = omega arith in e)
+  sorted_layer_at : (i k : ℕ) (ws : List (List ℤ)) → k < length ws → slice_get (sorted_layers moves kind i ws) k ≡ Some (sorted_layer moves kind (i + k) (get_or ws k []))
+  sorted_layer_at i k [] l = absurd (omega arith)
+  sorted_layer_at i zero (w ∷ ws) l = ap (λ n. Some (sorted_layer moves kind n w)) (let e : i ≡ i + 0 = omega arith in e)
+  sorted_layer_at i (suc k) (w ∷ ws) l = sorted_layer_at (i + 1) k ws (omega arith) ∙ ap (λ n. Some (sorted_layer moves kind n (get_or ws k []))) (let e : i + 1 + k ≡ i + suc k = omega arith in e)
 
   layers_long : (i : ℕ) (ws : List (List ℤ)) → length (sorted_layers moves kind i ws) ≡ length ws
   layers_long i [] = refl
@@ -125,7 +125,7 @@ module _ (leaf : LeafModel) (kind : Move → ℕ) (ws : List (List ℤ)) (are : 
   in_layer : (i : ℕ) (t : Move) (at : IsInLayer leaf layers i t) → (kind t ≡ i) × (at.layer.weights ≡ get_or ws i [])
   in_layer i t at =
       let within : i < length ws = omega (arith, slice_get_within layers i at.layer at.layer_is, layers_long leaf.moves kind 0 ws) in
-      let layer_same : at.layer ≡ sorted_layer leaf.moves kind i (get_or ws i []) = same_Some _ _ (sym at.layer_is ∙ layer_at leaf.moves kind 0 i ws within ∙ ap (λ n. Some (sorted_layer leaf.moves kind n (get_or ws i []))) (zero-add i)) in
+      let layer_same : at.layer ≡ sorted_layer leaf.moves kind i (get_or ws i []) = same_Some _ _ (sym at.layer_is ∙ sorted_layer_at leaf.moves kind 0 i ws within ∙ ap (λ n. Some (sorted_layer leaf.moves kind n (get_or ws i []))) (zero-add i)) in
       let lists : Contains (places_from 0 (λ t. kind t == i) leaf.moves) at.number = subst (λ (layer : Layer). Contains layer.moves at.number) layer_same at.lists in
       let of = All-contains (IsOfKind leaf.moves kind i) (places_from 0 (λ t. kind t == i) leaf.moves) at.number (of_kind leaf.moves kind i) lists in
       let same : t ≡ of.taken = same_Some _ _ (sym at.move_is ∙ of.move_is) in
@@ -138,7 +138,7 @@ module _ (leaf : LeafModel) (kind : Move → ℕ) (ws : List (List ℤ)) (are : 
       record {
         layer = sorted_layer leaf.moves kind (kind u) (get_or ws (kind u) []);
         number = c.0;
-        layer_is = layer_at leaf.moves kind 0 (kind u) ws within ∙ ap (λ n. Some (sorted_layer leaf.moves kind n (get_or ws (kind u) []))) (zero-add (kind u));
+        layer_is = sorted_layer_at leaf.moves kind 0 (kind u) ws within ∙ ap (λ n. Some (sorted_layer leaf.moves kind n (get_or ws (kind u) []))) (zero-add (kind u));
         lists = subst (Contains (places_from 0 (λ t. kind t == kind u) leaf.moves)) (zero-add c.0) (places-have 0 (λ t. kind t == kind u) leaf.moves c.0 u got (eq-eqb _ _ refl));
         move_is = got;
         non_silent = loud;
