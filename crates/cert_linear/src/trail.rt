@@ -3,6 +3,7 @@
 ghost use Rattle.std.specs.Prelude.{◌≡◌, ◌≤◌, length};
 
 use crate::closing::residue;
+use crate::sum::Sum;
 use crate::tally::Tally;
 use cert_base::{FACT_LIMIT, Fact, Term};
 use pop_io::{List, NoMemory};
@@ -12,6 +13,7 @@ use std::marker::Model;
 /// At most `FACT_LIMIT` facts, the last of which can be cut off. Contracts see it as their list.
 #[derive(Drop)]
 pub struct Trail {
+    alloc: Global,
     facts: Vec<Fact>,
     /// The facts below this number are those given to `new`.
     stable: u32,
@@ -49,6 +51,7 @@ impl Trail {
         ensures { result ≡ facts }
     {
         Trail {
+            alloc,
             stable: facts.as_slice().len() as u32,
             facts: facts.into_vec(),
             tally: Tally::new(alloc),
@@ -101,8 +104,26 @@ impl Trail {
         self.facts.truncate(len as usize);
     }
 
-    /// Whether the facts are refuted as by `linear_closes`.
-    pub fn linear(&mut self, terms: &List<Term>) -> Result<bool, NoMemory>
+    /// Whether the facts are refuted as by `linear_closes`. It sums up in memory of its own.
+    pub fn linear(&self, terms: &List<Term>) -> Result<bool, NoMemory>
+        requires { IsCombination self.now terms.now }
+        ensures { IfOk result (TellsRefuted self.now (closes_by_sum self.now terms.now)) }
+    {
+        Tally::new(self.alloc).closes(self.facts.as_slice(), 0, terms.as_slice())
+    }
+
+    /// Whether the facts are refuted as by `residue_closes`. It sums up in memory of its own.
+    pub fn residue(&self, modulus: u32, terms: &List<Term>) -> Result<bool, NoMemory>
+        requires combination { IsCombination self.now terms.now }
+        requires modulus { 0 < modulus }
+        ensures { IfOk result (TellsRefuted self.now (closes_by_residue self.now modulus terms.now)) }
+    {
+        let sum = &mut Sum::new(self.alloc);
+        residue(sum, self.facts.as_slice(), modulus, terms.as_slice())
+    }
+
+    /// `linear` in the trail's memory, where the sum of the leading terms is kept.
+    pub fn is_refuted_by_sum(&mut self, terms: &List<Term>) -> Result<bool, NoMemory>
         requires { IsCombination self.old terms.now }
         ensures answer { IfOk result (TellsRefuted self.old (closes_by_sum self.old terms.now)) }
         ensures unchanged { self.new ≡ self.old }
@@ -111,8 +132,12 @@ impl Trail {
             .closes(self.facts.as_slice(), self.stable, terms.as_slice())
     }
 
-    /// Whether the facts are refuted as by `residue_closes`.
-    pub fn residue(&mut self, modulus: u32, terms: &List<Term>) -> Result<bool, NoMemory>
+    /// `residue` in the trail's memory.
+    pub fn is_refuted_by_residue(
+        &mut self,
+        modulus: u32,
+        terms: &List<Term>,
+    ) -> Result<bool, NoMemory>
         requires combination { IsCombination self.old terms.now }
         requires modulus { 0 < modulus }
         ensures answer { IfOk result (TellsRefuted self.old (closes_by_residue self.old modulus terms.now)) }

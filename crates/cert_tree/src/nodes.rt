@@ -61,7 +61,7 @@ fn linear_node(
     if !name_facts(terms.as_slice(), trail.len()) {
         return Err(Halt::Refused(TreeWhy::BadIndex));
     }
-    if !trail.linear(terms)? {
+    if !trail.is_refuted_by_sum(terms)? {
         return Err(Halt::Refused(TreeWhy::NotClosed));
     }
     Ok(List::from_vec(Vec::new(alloc)))
@@ -84,7 +84,7 @@ fn residue_node(
     if !name_facts(terms.as_slice(), trail.len()) {
         return Err(Halt::Refused(TreeWhy::BadIndex));
     }
-    if !trail.residue(modulus, terms)? {
+    if !trail.is_refuted_by_residue(modulus, terms)? {
         return Err(Halt::Refused(TreeWhy::NotClosed));
     }
     Ok(List::from_vec(Vec::new(alloc)))

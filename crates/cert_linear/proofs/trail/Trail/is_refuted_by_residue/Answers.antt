@@ -1,0 +1,10 @@
+use Rattle.std.proofs.Common.{◌≡◌, rules}
+use Rattle.std.specs.Prelude.{IfOk}
+use Rattle.cert_base.specs.ClosingTests.{closes_by_residue}
+use Rattle.cert_linear.proofs.Refuted.{residue-refuted, told}
+use Rattle.cert_linear.proofs.trail.Trail.is_refuted_by_residue.Goals as goal
+
+pub returns-clause-answer : goal.returns-clause-answer
+returns-clause-answer c =
+    let closes : IfOk c.residue.result (λ closes. closes ≡ closes_by_residue c.args.self.now c.args.modulus c.args.terms.now) = search rules in
+    told c.args.self.now (closes_by_residue c.args.self.now c.args.modulus c.args.terms.now) c.residue.result closes (residue-refuted c.args.self.now c.args.modulus c.args.terms.now c.residue.result closes)
