@@ -27,6 +27,10 @@ pub(crate) fn react_words(lanes: LaneWidth, leaves: &[Leaf], a: u64, b: u64) -> 
     ensures first_ends { result.0 < (2 ^ bits_of lanes) ^ length leaves.now }
     ensures second_ends { result.1 < (2 ^ bits_of lanes) ^ length leaves.now }
 {
+    if leaves.len() == 1 {
+        let (x, y) = leaves[0].react(lanes.state(a, 0), lanes.state(b, 0));
+        return (lanes.with_state(0, 0, x), lanes.with_state(0, 0, y));
+    }
     let mut first = 0;
     let mut second = 0;
     for (i, leaf) in leaves.iter().enumerate() {
