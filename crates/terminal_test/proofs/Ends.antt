@@ -13,7 +13,8 @@ use Rattle.pop_net.proofs.Quiet.{leaves_quiet, quiet_change, All-slice_get, set_
 use Rattle.pop_net.proofs.Reactions.{reaction_step}
 use Rattle.pop_crowd.specs.Replay.{reacts, changes}
 use Rattle.terminal_test.specs.Pairs.{IsEnabled, MovesOn}
-use Rattle.terminal_test.proofs.Pairwise.{still, moved, quiet_leaves, quiet_turned}
+use Rattle.pop_crowd.proofs.Unmoved.{still, moved}
+use Rattle.terminal_test.proofs.Pairwise.{quiet_leaves, quiet_turned}
 
 -- no pair of agents can change
 abbrev pub NoPair : NetModel → CrowdModel → Type 0

@@ -1,29 +1,15 @@
 -- Pairs of words whose reaction changes nothing.
 use Rattle.std.proofs.Common.{◌≡◌, ℕ, pred, Bool, true, false, not, ◌&&◌, ◌||◌, List, [], ◌∷◌, length, map, refl, ap, sym, ◌∙◌}
-use Rattle.std.specs.Prelude.{Option, Some, None, find, is_none, nat_eq, ◌==◌}
-use Rattle.std.specs.Cmp.Lexicographic.{pointwise}
-use Rattle.std.proofs.lemmas.Bool.{and_parts, and_from, not-true, not-false, not_from_true, false≢true, eqb-true, eq-eqb}
-use Rattle.std.proofs.lemmas.Bool.Decides.{Decides-eqb}
-use Rattle.std.proofs.lemmas.Slice.Eq.{slice_eq-Decides}
+use Rattle.std.specs.Prelude.{Option, Some, None, find, is_none, ◌==◌}
+use Rattle.std.proofs.lemmas.Bool.{and_parts, and_from, not-true, false≢true, eqb-true, eq-eqb}
 use Rattle.std.proofs.Math.Bool.{or_comm, and_comm}
 use Rattle.pop_net.specs.declared.leaf.Move.{Move}
 use Rattle.pop_net.specs.LeafModel.{LeafModel, silent_move, same_pair}
-use Rattle.pop_net.specs.NetModel.{NetModel, Tuple}
-use Rattle.pop_net.specs.Reaction.{takes_states, after_move, by_move, leaf_reaction, reactions, reaction}
+use Rattle.pop_net.specs.NetModel.{Tuple}
+use Rattle.pop_net.specs.Reaction.{takes_states, after_move, by_move, leaf_reaction, reactions}
 use Rattle.pop_net.proofs.Found.{find_some}
 use Rattle.pop_net.proofs.Quiet.{leaf_quiet, leaves_quiet}
-use Rattle.pop_crowd.specs.Replay.{reacts}
 use Rattle.list_laws.proofs.Lists.{heads, tails}
-
--- the reaction of two tuples leaves both unchanged
-pub still : (net : NetModel) (x y : Tuple) → reacts net x y ≡ false → ((reaction net x y).0 ≡ x) × ((reaction net x y).1 ≡ y)
-still net x y e =
-    let both = and_parts (pointwise nat_eq (reaction net x y).0 x) (pointwise nat_eq (reaction net x y).1 y) (not-false _ e) in
-    ((slice_eq-Decides Decides-eqb (reaction net x y).0 x _ refl).0 both.0, (slice_eq-Decides Decides-eqb (reaction net x y).1 y _ refl).0 both.1)
-
-pub moved : (net : NetModel) (x y : Tuple) → (reaction net x y).0 ≡ x → (reaction net x y).1 ≡ y → reacts net x y ≡ false
-moved net x y e f =
-    not_from_true _ (and_from _ _ ((slice_eq-Decides Decides-eqb (reaction net x y).0 x _ refl).1 e) ((slice_eq-Decides Decides-eqb (reaction net x y).1 y _ refl).1 f))
 
 -- a non-silent move changes the states that take it
 after_itself : (t : Move) (x y : ℕ) (b : Bool) → (x == t.p) && (y == t.q) ≡ b → same_pair x y t.p t.q ≡ true → (after_move b t).0 ≡ x → (after_move b t).1 ≡ y → silent_move t ≡ true

@@ -19,7 +19,7 @@ use Rattle.pop_crowd.specs.Replay.{reacts, changes}
 use Rattle.terminal_test.specs.Loud.{pairs_of_moves, ArePairsBelow}
 use Rattle.terminal_test.specs.Restless.{CountsTo, AreSeen, are_held_by, AreMarkedTo, AreMarkedByAll, IsMarked, AreRestlessTo, AreRestless, IsCalm}
 use Rattle.terminal_test.proofs.LoudPairs.{in_pairs, pairs_below}
-use Rattle.terminal_test.proofs.Pairwise.{moved}
+use Rattle.pop_crowd.proofs.Unmoved.{moved}
 use Rattle.terminal_test.proofs.Searches.{changes_at}
 use Rattle.pop_net.specs.declared.net.Word.{Word}
 use Rattle.pop_net.specs.Lanes.{tuple_of, crowd_of}
