@@ -18,21 +18,19 @@ use Rattle.agent_field.specs.declared.view.View.{View}
 use Rattle.agent_field.specs.declared.field.Field.{Field}
 use Rattle.agent_field.specs.declared.field.FieldSeat.{FieldSeat}
 use Rattle.agent_field.specs.History.{IsHistory, calls, placed, placed_logs}
-use Rattle.agent_field.specs.Standing.{In, agents_opened, packed, agent_word, words_of_agents, crowd_after, IsLook, IsOwedByNone, StandsAt, FieldStands, idle}
+use Rattle.agent_field.specs.Standing.{In, agents_opened, packed, agent_word, crowd_after, IsLook, IsOwedByNone, StandsAt, FieldStands, idle}
+use Rattle.agent_field.specs.Layouts.{renewed}
 use Rattle.agent_field.specs.Seats.{IsWhole}
 use Rattle.agent_field.specs.Steps.{Mine}
 use Rattle.agent_field.proofs.Histories.{calls_from-below}
 use Rattle.agent_field.proofs.Moves.{founded}
+use Rattle.agent_field.proofs.Renewing.{agent_words, all_renewed}
 use Rattle.agent_field.proofs.Arranged.{nobody, AreLogsOf, calls_from-has, arranged}
 use Rattle.pop_crowd.proofs.Reached.{length-replay}
 
 pub some_value : {A : Type 0} (o : Option A) → IsSome o → (a : A) × (o ≡ Some a)
 some_value None h = absurd (true≢false (sym h))
 some_value (Some a) h = (a, refl)
-
--- the agents' words of a table
-abbrev pub agent_words : Setup → List ℕ → List Word
-agent_words k words = words_of_agents k.shards (agents_opened k) words
 
 module _ (k : Setup) (words : List ℕ) (views : List View) (history : List Meeting) (seat : ℕ → Seated ℕ) (st : StandsAt k words views history seat) (id : ℕ) (v : View) (at : get_elem? views id ≡ some v) (live : v.live ≡ true) (zeroth : v.number ≡ 0)
     (whole : (w : ℕ) → 0 < w → w < v.next → IsSome (get_or v.taken w None)) (none_due : v.due ≡ []) where
@@ -158,12 +156,18 @@ pub record IsRoundOf (k : Setup) (own : List Logged) (taken : List (Option (List
   pub no_others : (w : ℕ) → w ≢ 0 → get_or taken w None ≡ None → calls w meetings ≡ []
   pub looked : All (IsLook k.net.value k.opening.value meetings) looks
 
--- the meetings put together from the logs are the history, and the words read are its replay
-pub rounds : (k : Setup) (all : List ℕ) (own : List Logged) (taken : List (Option (List Logged))) (looks : List Look) (count : ℕ) (words : List Word) (meetings : List Meeting)
-    → Ended k all own taken looks → get_elem? all 0 ≡ some count → words ≡ agent_words k all → meetings ≡ placed_logs (0, placed 0 (replicate count nobody) own) taken → IsRoundOf k own taken looks words meetings
-rounds k all own taken looks count words meetings e first are put =
+-- what is put together from the logs is the history
+pub history_is : (k : Setup) (all : List ℕ) (own : List Logged) (taken : List (Option (List Logged))) (looks : List Look) (count : ℕ) (meetings : List Meeting)
+    (e : Ended k all own taken looks) → get_elem? all 0 ≡ some count → meetings ≡ placed_logs (0, placed 0 (replicate count nobody) own) taken → e.history ≡ meetings
+history_is k all own taken looks count meetings e first put =
     let long : length (replicate count nobody) ≡ length e.history = length-replicate count nobody ∙ sym (at_value all 0 count first) ∙ e.count in
-    let same : e.history ≡ meetings = sym (put ∙ arranged e.history (replicate count nobody) own taken long e.logs) in record {
+    sym (put ∙ arranged e.history (replicate count nobody) own taken long e.logs)
+
+-- and the renewed words are its replay
+pub rounds : (k : Setup) (all : List ℕ) (own : List Logged) (taken : List (Option (List Logged))) (looks : List Look) (words : List Word) (meetings : List Meeting)
+    (e : Ended k all own taken looks) → e.history ≡ meetings → AreValid k.net.value k.opening.value → words ≡ renewed k.shards all meetings k.opening.value → IsRoundOf k own taken looks words meetings
+rounds k all own taken looks words meetings e same opened renews =
+    let are : words ≡ agent_words k all = renews ∙ ap (λ (ms : List Meeting). renewed k.shards all ms k.opening.value) (sym same) ∙ all_renewed k all e.history opened e.right e.agents e.valid in record {
       replayed = ap (crowd_of k.net.value) are ∙ e.agents ∙ ap (crowd_after k) same;
       valid = subst (AreValid k.net.value) (sym are) e.valid;
       right = subst (IsHistory k.net.value k.seats k.opening.value) same e.right;

@@ -1,5 +1,5 @@
 -- The places of the locks and of the agents' words, which take turns.
-use Rattle.std.proofs.Common.{◌≡◌, ◌≢◌, ℕ, zero, suc, ◌+◌, ◌<◌, ◌≤◌, min, List, [], ◌∷◌, ◌++◌, length, get_or, refl, sym, ap, ◌∙◌, ◌-◌, ⊎_elim, arith}
+use Rattle.std.proofs.Common.{◌≡◌, ◌≢◌, ℕ, zero, suc, ◌+◌, ◌<◌, ◌≤◌, min, List, [], ◌∷◌, ◌++◌, length, get_or, set, refl, sym, ap, ◌∙◌, ◌-◌, ⊎_elim, arith}
 use Rattle.std.proofs.lemmas.Bool.{cases_lt}
 use Rattle.std.proofs.lemmas.List.{append-nil, replicate-append-replicate}
 use Rattle.std.proofs.Math.ListN.{replicate, length-replicate}
@@ -54,6 +54,16 @@ get_or-in_turns_second d (x ∷ xs) (y ∷ ys) zero h =
 get_or-in_turns_second d (x ∷ xs) (y ∷ ys) (suc a) h =
     ap (λ (i : ℕ). get_or (x ∷ y ∷ in_turns xs ys) i d) (let at : suc a + min (suc a + 1) (length (x ∷ xs)) ≡ suc (suc (a + min (a + 1) (length xs))) = omega arith in at)
     ∙ get_or-in_turns_second d xs ys a (omega arith)
+
+-- one of the second list is written
+pub set-in_turns_second : {A : Type 0} (xs ys : List A) (a : ℕ) (z : A) → a < length ys → set (in_turns xs ys) (a + min (a + 1) (length xs)) z ≡ in_turns xs (set ys a z)
+set-in_turns_second [] ys a z h = ap (λ (i : ℕ). set ys i z) (let at : a + min (a + 1) 0 ≡ a = omega arith in at)
+set-in_turns_second (x ∷ xs) [] a z h = absurd (omega arith)
+set-in_turns_second (x ∷ xs) (y ∷ ys) zero z h =
+    ap (λ (i : ℕ). set (x ∷ y ∷ in_turns xs ys) i z) (let at : 0 + min (0 + 1) (length (x ∷ xs)) ≡ 1 = omega arith in at)
+set-in_turns_second (x ∷ xs) (y ∷ ys) (suc a) z h =
+    ap (λ (i : ℕ). set (x ∷ y ∷ in_turns xs ys) i z) (let at : suc a + min (suc a + 1) (length (x ∷ xs)) ≡ suc (suc (a + min (a + 1) (length xs))) = omega arith in at)
+    ∙ ap (λ (l : List _). x ∷ y ∷ l) (set-in_turns_second xs ys a z (omega arith))
 
 -- one more of each; one more of the second once the first has run out; more of the first once the second has
 pub in_turns-both : {A : Type 0} (xs ys : List A) (x y : A) → length xs ≡ length ys → in_turns xs ys ++ x ∷ y ∷ [] ≡ in_turns (xs ++ x ∷ []) (ys ++ y ∷ [])

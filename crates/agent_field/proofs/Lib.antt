@@ -12,6 +12,8 @@ pub mod EachMoment
 pub mod BesideThird
 pub mod Drawn
 pub mod Arranged
+pub mod Lent
+pub mod Renewing
 pub mod Closing
 pub mod Below
 pub mod Usable

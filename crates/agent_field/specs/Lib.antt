@@ -1,5 +1,6 @@
 pub mod History
 pub mod Standing
+pub mod Layouts
 pub mod Steps
 pub mod Kinds
 pub mod DrawLaws

@@ -5,7 +5,6 @@ use Rattle.std.specs.Prelude.{◌≡◌, ℕ, ◌+◌, ◌<◌, ◌≤◌, ◌%�
 use Rattle.std.specs.Prelude.{◌++◌}
 use Rattle.std.specs.Prelude.{length, map, take, replicate, slice_index, slice_index_or, Option as Maybe, Some as Given}
 use Rattle.std.specs.Prelude.{None as Missing}
-use Rattle.std.specs.List.{range_with_len}
 use mathlib.Core.Option.{Option, none, some}
 use lib.ListN.{get_elem?}
 use Rattle.atomic_table.specs.Table.{State}
@@ -44,14 +43,12 @@ shard_of k a = a % k.shards
 abbrev pub packed : ℕ → Word
 packed number = record { 0 = number }
 
--- an agent's word in the table
-abbrev pub agent_word : Setup → List ℕ → ℕ → Word
-agent_word k words a = packed (slice_index words (agent_at k a))
+-- an agent's word in a table of so many shards
+abbrev pub word_of : ℕ → List ℕ → ℕ → Word
+word_of shards table a = packed (slice_index table (agent_place shards a))
 
--- the words of the agents, in their order, in a table of so many shards and agents
-abbrev pub words_of_agents : ℕ → ℕ → List ℕ → List Word
-words_of_agents shards agents words = map (λ a. packed (slice_index words (agent_place shards a)))
-    (range_with_len 0 agents)
+abbrev pub agent_word : Setup → List ℕ → ℕ → Word
+agent_word k words a = word_of k.shards words a
 
 -- the elements of two lists in turns, as long as there are both
 abbrev pub in_turns : {X : Type 0} → List X → List X → List X
@@ -59,9 +56,13 @@ in_turns [] ys = ys
 in_turns (x ∷ xs) [] = x ∷ xs
 in_turns (x ∷ xs) (y ∷ ys) = x ∷ y ∷ in_turns xs ys
 
--- the words with which a field is opened: the clock, the founder word, and free locks in turns with the agents' words
+-- words as they go into a table: the clock, the founder word, and free locks in turns with the agents' words
+abbrev pub laid_out : ℕ → List Word → List ℕ
+laid_out shards words = 0 ∷ 0 ∷ in_turns (replicate shards 0) (map (λ w. w.0) words)
+
+-- the words with which a field is opened
 abbrev pub opening_words : Setup → List ℕ
-opening_words k = 0 ∷ 0 ∷ in_turns (replicate k.shards 0) (map (λ w. w.0) k.opening.value)
+opening_words k = laid_out k.shards k.opening.value
 
 -- the crowd after the replay of a history from the opening words
 abbrev pub crowd_after : Setup → List Meeting → CrowdModel

@@ -1,13 +1,16 @@
 //! The end of a field: its words and its history.
 
-ghost use Rattle.std.specs.Prelude.{◌≡◌, ℕ, ◌+◌, ◌<◌, ◌≤◌, false, List as Items, length, [], IfOk, IsTrue, ◌↔◌};
-ghost use Rattle.std.specs.Prelude.{All, None, Some, replicate, slice_index_or, vec_capacity};
+ghost use Rattle.std.specs.Prelude.{◌≡◌, ℕ, ◌+◌, ◌<◌, ◌≤◌, false, List as Items, length, IfOk, IsTrue, ◌↔◌};
+ghost use Rattle.std.specs.Prelude.{All, None, Some, replicate, slice_index_or, slice_set};
 ghost use Rattle.std.specs.Mem.Slots.{slots_items, slots_len, IsFull};
+ghost use Rattle.pop_crowd.specs.Replay.{AreMeetings};
 ghost use Rattle.agent_field.specs.History.{placed, placed_some, placed_logs, made};
-ghost use Rattle.agent_field.specs.Standing.{words_of_agents};
+ghost use Rattle.agent_field.specs.Standing.{word_of};
+ghost use Rattle.agent_field.specs.Layouts.{Serves, renewed};
 ghost use Rattle.agent_field.specs.declared.places.TheConstants.{HEAD_WORDS};
 
 use crate::field::{Field, FieldSeat};
+use crate::layout::Layout;
 use crate::limits::SEAT_LIMIT;
 use crate::places::{CLOCK, place_of_agent};
 use crate::view::Logged;
@@ -81,21 +84,46 @@ fn arrange(
     Ok(out)
 }
 
-/// The agents' words in a table.
-fn agent_words(
+/// Brings an agent's word up to date, in a crowd and in its layout.
+fn renew_word(
     closed: &Closed<(), Global>,
     shards: u32,
-    agents: u32,
-    mut out: Vec<Word>,
-) -> Vec<Word>
-    requires full { IsFull closed.now.words × (slots_len closed.now.words ≡ HEAD_WORDS + shards + agents) }
-    requires room { (out.items ≡ []) × (agents ≤ vec_capacity out) }
-    ensures { result.items ≡ words_of_agents shards agents (slots_items closed.now.words) }
+    a: u32,
+    words: &mut [Word],
+    layout: &mut Layout,
+)
+    requires table { IsFull closed.now.words × (slots_len closed.now.words ≡ HEAD_WORDS + shards + length words.old) }
+    requires agent { a < length words.old }
+    requires serves { Serves layout.old words.old shards }
+    ensures word { words.new ≡ slice_set words.old a (word_of shards (slots_items closed.now.words) a) }
+    ensures serves { Serves layout.new words.new shards }
 {
-    for a in 0..agents {
-        out.push_reserved(Word(closed.word(place_of_agent(a, shards))));
+    let place = place_of_agent(a, shards);
+    let word = closed.word(place);
+    words[a as usize] = Word(word);
+    layout.put(place, word);
+}
+
+/// Brings the words of all agents that a meeting has changed up to date.
+fn renew(
+    closed: &Closed<(), Global>,
+    shards: u32,
+    meetings: &[Meeting],
+    words: &mut [Word],
+    layout: &mut Layout,
+)
+    requires table { IsFull closed.now.words × (slots_len closed.now.words ≡ HEAD_WORDS + shards + length words.old) }
+    requires meetings { AreMeetings (length words.old) meetings.now }
+    requires serves { Serves layout.old words.old shards }
+    ensures words { words.new ≡ renewed shards (slots_items closed.now.words) meetings.now words.old }
+    ensures serves { Serves layout.new words.new shards }
+{
+    for m in meetings {
+        if m.changed {
+            renew_word(closed, shards, m.a, words, layout);
+            renew_word(closed, shards, m.b, words, layout);
+        }
     }
-    out
 }
 
 impl FieldSeat {
@@ -118,7 +146,7 @@ impl FieldSeat {
 }
 
 impl<'n> Field<'n> {
-    ghost use Rattle.agent_field.specs.Seats.{IsRoundOf, IsSeatOf, IsWhole};
+    ghost use Rattle.agent_field.specs.Seats.{IsRoundOf, IsSeatOf, IsWhole, opening_of, shards_of};
 
     /// The words, and the history whose replay they are.
     pub fn close(self, alloc: Global, seat: FieldSeat) -> Result<Round, NoMemory>
@@ -126,13 +154,30 @@ impl<'n> Field<'n> {
         requires whole { IsWhole seat }
         ensures { IfOk result (IsRoundOf self.entry seat) }
     {
+        let mut layout = Layout::new(alloc);
+        self.close_on(alloc, seat, &mut layout)
+    }
+
+    /// The same, and the layout then serves a field that goes on.
+    pub fn close_on(
+        self,
+        alloc: Global,
+        seat: FieldSeat,
+        layout: &mut Layout,
+    ) -> Result<Round, NoMemory>
+        requires ours { IsSeatOf self seat }
+        requires whole { IsWhole seat }
+        requires serves { Serves layout.old (opening_of self) (shards_of self) }
+        ensures round { IfOk result (IsRoundOf self.entry seat) }
+        ensures serves { IfOk result (λ r. Serves layout.new r.words (shards_of self.entry)) }
+    {
         let Field {
             table,
             net: _,
             shards,
             seats: _,
-            agents,
-            room,
+            agents: _,
+            words,
         } = self;
         let FieldSeat {
             seat: token,
@@ -147,9 +192,22 @@ impl<'n> Field<'n> {
         } = seat;
         let closed = table.close_with(token);
         let count = closed.word(CLOCK) as usize;
-        let words = agent_words(&closed, shards, agents, room);
+        let meetings = match arrange(alloc, count, log.as_slice(), taken.as_slice()) {
+            Ok(meetings) => meetings,
+            Err(fault) => {
+                closed.free();
+                return Err(fault);
+            }
+        };
+        let mut words = words.into_vec();
+        renew(
+            &closed,
+            shards,
+            meetings.as_slice(),
+            words.as_mut_slice(),
+            layout,
+        );
         closed.free();
-        let meetings = arrange(alloc, count, log.as_slice(), taken.as_slice())?;
         Ok(Round {
             words: List::from_vec(words),
             meetings: List::from_vec(meetings),

@@ -3,6 +3,7 @@
 ghost use Rattle.std.specs.Prelude.{◌≡◌, ◌+◌, ◌<◌, ◌≤◌, length, [], All, Some, vec_len, vec_capacity, slice_get};
 ghost use Rattle.agent_field.specs.declared.places.TheConstants.{HEAD_WORDS};
 ghost use Rattle.agent_field.specs.declared.limits.TheConstants.{LOG_LIMIT, LOOK_LIMIT, SEAT_LIMIT};
+ghost use Rattle.pop_net.specs.Lanes.{AreValid};
 ghost use Rattle.agent_field.specs.Standing.{idle};
 
 use crate::view::{Logged, Look, Rule, Setup, View};
@@ -19,15 +20,16 @@ pub struct Field<'n> {
     pub(crate) shards: u32,
     pub(crate) seats: u16,
     pub(crate) agents: u32,
-    /// Empty, with room for all agents' words at the end.
-    pub(crate) room: Vec<Word>,
+    /// The words with which it was opened.
+    pub(crate) words: List<Word>,
     ghost net_is: { table.shared.key.net.value ≡ net.now },
     ghost shards_are: { table.shared.key.shards ≡ shards },
     ghost seats_are: { table.shared.key.seats ≡ seats },
     ghost agents_are: { length table.shared.key.opening.value ≡ agents },
     ghost words_are: { table.shared.table_id.words ≡ HEAD_WORDS + shards + agents },
     ghost no_slots: { table.shared.table_id.slots ≡ 0 },
-    ghost room_fits: { (room.items ≡ []) × (agents ≤ vec_capacity room) },
+    ghost opening_is: { table.shared.key.opening.value ≡ words },
+    ghost valid: { AreValid net.now words },
     ghost limits: { (0 < shards) × (0 < seats) × (seats ≤ SEAT_LIMIT) },
 }
 

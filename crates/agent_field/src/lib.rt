@@ -5,6 +5,7 @@
 
 mod close;
 mod field;
+mod layout;
 mod life;
 mod limits;
 mod looks;
@@ -16,7 +17,7 @@ mod view;
 
 pub use close::Round;
 pub use field::{Field, FieldSeat, Met};
-pub use life::Layout;
+pub use layout::Layout;
 pub use limits::{LOG_LIMIT, LOOK_LIMIT, SEAT_LIMIT};
 pub use moments::{draws_beside_a_third, each_moment_stands};
 pub use view::{Logged, Look};

@@ -1,51 +1,17 @@
 //! How a field begins, and how its seats are dealt and taken in.
 
-ghost use Rattle.std.specs.Prelude.{◌≡◌, ◌≤◌, length, map, ◌∷◌, IfOk, OnOk, None, replicate};
-ghost use Rattle.agent_field.specs.Standing.{in_turns};
+ghost use Rattle.std.specs.Prelude.{◌≡◌, ◌≤◌, IfOk, OnOk, None, replicate};
 
 use crate::field::{Field, FieldSeat};
-use crate::places::{FOUNDER, HEAD_WORDS};
+use crate::layout::Layout;
+use crate::places::FOUNDER;
 use crate::view::{Deal, Found, Logged, Rule, Setup, View};
 use atomic_table::Table;
-use pop_crowd::AGENT_LIMIT;
 use pop_io::{List, NoMemory};
 use pop_net::{Net, Word};
 use std::alloc::Global;
 use std::snapshot::Snapshot;
 use std::sync::Wait;
-
-/// Where the words of a field are laid out before they go into its table. One layout serves any number of fields.
-#[derive(Drop)]
-pub struct Layout {
-    words: Vec<u64>,
-}
-
-impl Layout {
-    /// A layout without room. It allocates nothing.
-    pub fn new(alloc: Global) -> Layout {
-        Layout {
-            words: Vec::new(alloc),
-        }
-    }
-}
-
-/// Lays out the words of a table before its field is founded.
-fn lay_out(all: &mut Vec<u64>, words: &[Word], shards: u32) -> Result<(), NoMemory>
-    requires { length words.now ≤ AGENT_LIMIT }
-    ensures { OnOk result (all.new.items ≡ 0 ∷ 0 ∷ in_turns (replicate shards 0) (map (λ w. w.0) words.now)) }
-{
-    all.clear();
-    all.reserve(HEAD_WORDS + shards as usize + words.len())?;
-    all.resize(HEAD_WORDS, 0)?;
-    for (a, word) in words.iter().enumerate() {
-        if a < shards as usize {
-            all.push_reserved(0);
-        }
-        all.push_reserved(word.0);
-    }
-    all.resize(HEAD_WORDS + shards as usize + words.len(), 0)?;
-    Ok(())
-}
 
 fn no_logs(alloc: Global, seats: u16) -> Result<Vec<Option<List<Logged>>>, NoMemory>
     ensures { IfOk result (λ logs. logs.items ≡ replicate seats None) }
@@ -60,6 +26,7 @@ fn no_logs(alloc: Global, seats: u16) -> Result<Vec<Option<List<Logged>>>, NoMem
 impl<'n> Field<'n> {
     ghost use Rattle.agent_field.specs.Seats.{IsFirstOf, IsSeatOf, left_of};
     ghost use Rattle.agent_field.specs.Calls.{CanOpen, IsOpening, HasSplit, HasJoined};
+    ghost use Rattle.agent_field.specs.Layouts.{Serves};
 
     /// A field with these words, and its seat with the number 0.
     pub fn open<R: Wait>(
@@ -87,13 +54,15 @@ impl<'n> Field<'n> {
         seats: u16,
         layout: &mut Layout,
     ) -> Result<(Field<'n>, FieldSeat), NoMemory>
-        requires { CanOpen net.now words shards seats }
-        ensures { IfOk result (λ r. IsOpening r.0 r.1 net.now words shards seats) }
+        requires can { CanOpen net.now words shards seats }
+        requires serves { Serves layout.old words shards }
+        ensures opened { IfOk result (λ r. IsOpening r.0 r.1 net.now words shards seats) }
+        ensures serves { OnOk result (Serves layout.new words shards) }
     {
         // No other seat can have founded the field, so there is nobody to wait for.
         let _ = rt;
         let agents = words.as_slice().len() as u32;
-        lay_out(&mut layout.words, words.as_slice(), shards)?;
+        layout.lay(words.as_slice(), shards)?;
         let taken = no_logs(alloc, seats)?;
         let setup = Setup {
             net: Snapshot::of(net),
@@ -107,15 +76,13 @@ impl<'n> Field<'n> {
             &setup,
         )?;
         table.shared.swap::<Found>(&mut seat, FOUNDER, 1);
-        let mut room = words.into_vec();
-        room.clear();
         let field = Field {
             table,
             net,
             shards,
             seats,
             agents,
-            room,
+            words,
         };
         let first = FieldSeat {
             seat,

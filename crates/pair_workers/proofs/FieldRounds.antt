@@ -1,6 +1,6 @@
 -- From ready workers to the picks in the history of the field.
 use Rattle.std.proofs.Common.{◌≡◌, ℕ, zero, suc, ◌+◌, ◌<◌, Bool, true, false, cond, eqb, List, [], ◌∷◌, ◌++◌, length, map, get_or, take, drop, refl, sym, ap, ◌∙◌, subst, arith, Some, None}
-use Rattle.std.proofs.lemmas.List.{append-nil, drop_all, take_all, length-map, get_or-map}
+use Rattle.std.proofs.lemmas.List.{length-map, get_or-map}
 use Rattle.pop_net.specs.declared.net.Word.{Word}
 use Rattle.pop_net.specs.NetModel.{NetModel}
 use Rattle.pop_net.specs.Lanes.{crowd_of, tuple_of}
@@ -16,13 +16,6 @@ use Rattle.pair_workers.specs.Run.{meetings_of, pairs}
 use Rattle.pair_workers.specs.Turns.{HasPicked, ArePlayed}
 use Rattle.pair_workers.specs.Work.{HasMade, HasWorked, IsReady, IsDone, AreReady, AreDone, HasAll, agents_of_field, pairs_of}
 use Rattle.pop_crowd.proofs.Reached.{length-replay}
-
--- a whole slice that was lent and written
-pub whole_written : {A : Type 0} (n : ℕ) (new old : List A) → length new ≡ length old → n ≡ length old → take n (new ++ drop (length new) old) ≡ new
-whole_written {A = A} n new old same all =
-    ap (λ (l : List A). take n (new ++ l)) (drop_all (length new) old (omega (arith, same)))
-    ∙ ap (take n) (append-nil new)
-    ∙ take_all n new (omega (arith, same, all))
 
 -- a list is its first element and the others
 pub front : {A : Type 0} (xs ys : List A) (x : A) → 0 < length xs → x ≡ get_or xs 0 x → ys ≡ take 0 xs ++ drop 1 xs → xs ≡ x ∷ ys

@@ -1,6 +1,7 @@
 //! A round: seats are dealt, all workers make their turns, and the field is closed.
 
 ghost use Rattle.std.specs.Prelude.{◌≡◌, All, IfOk, MatchResult};
+ghost use Rattle.agent_field.specs.Layouts.{Serves};
 ghost use Rattle.pop_words.specs.Options.{IsWithinLimits};
 ghost use Rattle.pair_workers.specs.CrowdSize.{IsCrowdSize};
 ghost use Rattle.pair_workers.specs.Turns.{CanMakeRound, IsRoundFrom, IsWholeRound};
@@ -63,7 +64,9 @@ fn field_round<R: Threads + Wait + Sync, G: Gate>(
 ) -> Result<RoundEnd, NoMemory>
     requires round { CanMakeRound net.now crowd spec.now.workers turns pickers.items }
     requires limits { IsWithinLimits spec.now }
-    ensures { IfOk result (IsWholeRound net.now crowd spec.now.workers turns pickers.items) }
+    requires serves { Serves layout.old crowd spec.now.shards }
+    ensures round { IfOk result (IsWholeRound net.now crowd spec.now.workers turns pickers.items) }
+    ensures serves { IfOk result (λ r. Serves layout.new r.crowd spec.now.shards) }
 {
     let mut rest = pickers;
     let picker = rest.remove(0);
@@ -86,7 +89,7 @@ fn field_round<R: Threads + Wait + Sync, G: Gate>(
     let mut moved = Vec::new(alloc);
     moved.push(picker)?;
     let (whole, pickers) = take_in(&field, seat, others, moved)?;
-    let round = field.close(alloc, whole)?;
+    let round = field.close_on(alloc, whole, layout)?;
     Ok(RoundEnd {
         crowd: Crowd::of_words(net, round.words),
         pickers,
@@ -130,9 +133,12 @@ pub(crate) fn next_round<R: Threads + Wait + Sync, G: Gate>(
 ) -> Result<RoundEnd, NoMemory>
     requires round { CanMakeRound net.now crowd spec.now.workers turns pickers.items }
     requires limits { IsWithinLimits spec.now }
-    ensures { IfOk result (IsWholeRound net.now crowd spec.now.workers turns pickers.items) }
+    requires serves { Serves layout.old crowd spec.now.shards }
+    ensures round { IfOk result (IsWholeRound net.now crowd spec.now.workers turns pickers.items) }
+    ensures serves { IfOk result (λ r. Serves layout.new r.crowd spec.now.shards) }
 {
     if spec.workers == 1 {
+        layout.clear();
         return plain_round(alloc, net, crowd, pickers, turns, gate);
     }
     field_round(rt, alloc, net, crowd, spec, pickers, turns, layout, gate)

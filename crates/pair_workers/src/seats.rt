@@ -1,8 +1,9 @@
 //! How seats are dealt to the workers of a round, and taken in.
 
-ghost use Rattle.std.specs.Prelude.{◌≡◌, ◌+◌, ◌<◌, ◌≤◌, ◌++◌, length, map, IfOk};
+ghost use Rattle.std.specs.Prelude.{◌≡◌, ◌+◌, ◌<◌, ◌≤◌, ◌++◌, length, map, IfOk, OnOk};
 ghost use Rattle.pop_net.specs.Lanes.{AreValid};
 ghost use Rattle.agent_field.specs.Seats.{log_of};
+ghost use Rattle.agent_field.specs.Layouts.{Serves};
 ghost use Rattle.pair_workers.specs.Work.{IsFirstSeat, HasSeated, HasDealt, HasAll, HasOpened};
 
 use crate::alone::ROUND_TURNS;
@@ -50,7 +51,9 @@ pub fn open_round<'n, R: Wait>(
     requires valid { AreValid net.now crowd }
     requires shards { (1 ≤ shards) × (shards ≤ SHARD_LIMIT) }
     requires few { (length pickers.items < SEAT_LIMIT) × (turns ≤ ROUND_TURNS) }
-    ensures { IfOk result (λ r. HasOpened net.now crowd shards turns pickers.items r.0 r.1 r.2.items) }
+    requires serves { Serves layout.old crowd shards }
+    ensures opened { IfOk result (λ r. HasOpened net.now crowd shards turns pickers.items r.0 r.1 r.2.items) }
+    ensures serves { OnOk result (Serves layout.new crowd shards) }
 {
     let seats = pickers.len() as u16 + 1;
     let words = crowd.into_words();

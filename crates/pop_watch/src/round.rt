@@ -1,6 +1,7 @@
 //! A watched round: the workers meet on a field, while an observer looks at it.
 
 ghost use Rattle.std.specs.Prelude.{◌≡◌, true, ℕ, ◌<◌, ◌≤◌, length, map, All, IfOk, IsTrue, ◌↔◌, slice_index_or};
+ghost use Rattle.agent_field.specs.Layouts.{Serves};
 ghost use Rattle.agent_field.specs.Seats.{IsSeatOf, KeepsLogs};
 ghost use Rattle.terminal_test.specs.TableNet.{table_net};
 ghost use Rattle.pop_words.specs.Options.{IsWithinLimits};
@@ -99,7 +100,9 @@ fn field_round<R: Threads + Wait + Sync, G: Gate>(
     requires table { table_net table.now ≡ net.now }
     requires round { CanMakeRound net.now crowd spec.now.workers turns pickers.items }
     requires limits { IsWithinLimits spec.now × (spec.now.workers ≤ WATCHED_WORKERS) }
+    requires serves { Serves layout.old crowd spec.now.shards }
     ensures part { IfOk result (λ r. IsPartOfRound net.now crowd spec.now.workers turns pickers.items r.0) }
+    ensures serves { IfOk result (λ r. Serves layout.new r.0.crowd spec.now.shards) }
     ensures made { IfOk result
         (λ r. (length r.1.items ≡ spec.now.workers)
         × ((w d : ℕ) → w < spec.now.workers → slice_index_or r.1.items w d ≡ made_by w r.0.meetings.items)) }
@@ -129,7 +132,7 @@ fn field_round<R: Threads + Wait + Sync, G: Gate>(
     )?;
     let made = meetings_made(alloc, workers.as_slice())?;
     let (whole, pickers) = take_in(&field, seat, workers, Vec::new(alloc))?;
-    let round = field.close(alloc, whole)?;
+    let round = field.close_on(alloc, whole, layout)?;
     let meetings = by_workers(alloc, round.meetings.as_slice())?;
     let crowd = Crowd::of_words(net, round.words);
     let played = RoundEnd {
@@ -163,7 +166,9 @@ pub(crate) fn watched_round<R: Threads + Wait + Sync, G: Gate>(
     requires table { table_net table.now ≡ net.now }
     requires round { CanMakeRound net.now crowd spec.now.workers turns pickers.items }
     requires limits { IsWithinLimits spec.now × (spec.now.workers ≤ WATCHED_WORKERS) }
-    ensures { IfOk result (IsWatchedRoundFrom net.now crowd spec.now.workers turns pickers.items) }
+    requires serves { Serves layout.old crowd spec.now.shards }
+    ensures round { IfOk result (IsWatchedRoundFrom net.now crowd spec.now.workers turns pickers.items) }
+    ensures serves { IfOk result (λ r. Serves layout.new r.crowd spec.now.shards) }
 {
     let (mut played, made) = field_round(
         rt, alloc, net, table, crowd, spec, pickers, turns, layout, gate,
@@ -174,6 +179,7 @@ pub(crate) fn watched_round<R: Threads + Wait + Sync, G: Gate>(
     if table.is_terminal(alloc, &played.crowd, &mut None)? {
         return Ok(played);
     }
+    layout.clear();
     make_missing(net, &mut played, made.as_slice(), turns)?;
     Ok(played)
 }

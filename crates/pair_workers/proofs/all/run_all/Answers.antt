@@ -1,4 +1,4 @@
-use Rattle.std.proofs.Common.{◌≡◌, ℕ, ◌-◌, min, List, [], ◌∷◌, ◌++◌, ap, sym, subst, ◌∙◌, arith, refl, rules}
+use Rattle.std.proofs.Common.{◌≡◌, ℕ, ◌-◌, min, List, [], ◌∷◌, ◌++◌, ap, sym, subst, ◌∙◌, arith, inl, refl, rules}
 use Rattle.std.specs.Prelude.{true, ◌↔◌}
 use Rattle.pop_net.specs.NetModel.{NetModel}
 use Rattle.pop_net.specs.Lanes.{crowd_of, AreValid}
@@ -18,7 +18,7 @@ rounds-preserved g c =
     let start = crowd_of net c.args.crowd in
     let old = c.rounds.pickers.items in
     let after = c.in_ok-played.played in
-    let is = c.in_ok-played.ensures in
+    let is = c.in_ok-played.ensures.round in
     let round = after.meetings.items in
     let least : c.min-turns.result ≡ min 4096 c.rounds.left = c.min-turns.ensures in
     let pushed : c.push.new.self.items ≡ c.rounds.rounds.items ++ round ∷ [] = search rules in
@@ -33,6 +33,7 @@ rounds-preserved g c =
       agents = is.agents ∙ was.agents;
       pickers = is.pickers ∙ was.pickers;
       few = omega (arith, was.few);
+      serves = c.in_ok-played.ensures.serves;
     }
 
 pub returns : goal.returns
@@ -58,6 +59,7 @@ rounds-init g c =
       agents = refl;
       pickers = first.long;
       few = c.requires.limits.turns.1;
+      serves = inl c.new-layout.ensures;
     }
 
 pub goes_on-requires : goal.goes_on-requires
@@ -73,3 +75,6 @@ next_round-requires-clause-round g c κs within =
 
 pub end_of-requires : goal.end_of-requires
 end_of-requires g c = subst (λ (n : NetModel). AreValid n c.rounds.crowd) (sym c.in_ok-table.ensures) c.rounds.invariant.valid
+
+pub next_round-requires-clause-serves : goal.next_round-requires-clause-serves
+next_round-requires-clause-serves g c κs within = c.rounds.invariant.serves

@@ -5,21 +5,23 @@ use Rattle.pop_net.specs.declared.net.Word.{Word}
 use Rattle.pop_net.specs.NetModel.{NetModel}
 use Rattle.pop_net.specs.Lanes.{crowd_of, AreValid}
 use Rattle.pop_crowd.specs.declared.crowd.Meeting.{Meeting}
+use Rattle.agent_field.specs.Layouts.{Serves}
+use Rattle.agent_field.proofs.Lent.{whole_written}
 use Rattle.agent_field.specs.Seats.{net_of, opening_of, seats_of, log_of}
 use Rattle.pair_workers.specs.declared.work.Worker.{Worker}
 use Rattle.pair_workers.specs.Turns.{HasPicked, ArePlayed}
 use Rattle.pair_workers.specs.Work.{MayWork, AreDone, HasAll, agents_of_field, pairs_of}
-use Rattle.pair_workers.proofs.FieldRounds.{front, whole_written, are_done, all_picked, are_played, as_long}
+use Rattle.pair_workers.proofs.FieldRounds.{front, are_done, all_picked, are_played, as_long}
 use Rattle.pair_workers.proofs.round.field_round.Goals as goal
 
 pub work_beside-requires-clause-agents : goal.work_beside-requires-clause-agents
 work_beside-requires-clause-agents g c κs within =
-    let e = c.in_ok-field.ensures in
+    let e = c.in_ok-field.ensures.opened in
     subst (λ (l : List Word). (2 ≤ length l) × (length l ≤ 65536)) (sym e.field.opening_is) e.agents
 
 pub work_beside-requires-clause-may : goal.work_beside-requires-clause-may
 work_beside-requires-clause-may g c κs within =
-    let e = c.in_ok-field.ensures in
+    let e = c.in_ok-field.ensures.opened in
     let r = c.in_ok-reserve.ensures in (
       record {
         ours = (r.field.0 ∙ e.ours.0, r.field.1 ∙ e.ours.1);
@@ -36,7 +38,7 @@ take_in-requires g c =
     let rest = c.remove-picker.new.self.items in
     let new = c.work_beside.new.others in
     let old = c.in_ok-field.others.items in
-    let e = c.in_ok-field.ensures in
+    let e = c.in_ok-field.ensures.opened in
     let done = subst (λ (b : Bool). AreDone f turns b rest new) c.new-signals.ensures
     (are_done f turns c.new-signals.result.observed rest old _ new c.as_mut_slice-workers.ensures.value e.ready c.work_beside.auto.others c.work_beside.ensures.others) in
     let list = whole_written c.in_ok-field.others.len new old (done.0 ∙ sym e.ready.0) (omega arith) in
@@ -55,28 +57,28 @@ take_in-requires g c =
 
 pub of_words-requires-clause-some : goal.of_words-requires-clause-some
 of_words-requires-clause-some g c =
-    let e = c.in_ok-field.ensures in
+    let e = c.in_ok-field.ensures.opened in
     let f = c.in_ok-field.field in
     let round = c.in_ok-round.round in
-    let long = as_long (net_of f) (opening_of f) round.words round.meetings c.in_ok-round.ensures.words ∙ ap (length {A = Word}) e.field.opening_is in
+    let long = as_long (net_of f) (opening_of f) round.words round.meetings c.in_ok-round.ensures.round.words ∙ ap (length {A = Word}) e.field.opening_is in
     omega (arith, long, e.agents.0)
 
 pub of_words-requires-clause-few : goal.of_words-requires-clause-few
 of_words-requires-clause-few g c =
-    let e = c.in_ok-field.ensures in
+    let e = c.in_ok-field.ensures.opened in
     let f = c.in_ok-field.field in
     let round = c.in_ok-round.round in
-    let long = as_long (net_of f) (opening_of f) round.words round.meetings c.in_ok-round.ensures.words ∙ ap (length {A = Word}) e.field.opening_is in
+    let long = as_long (net_of f) (opening_of f) round.words round.meetings c.in_ok-round.ensures.round.words ∙ ap (length {A = Word}) e.field.opening_is in
     omega (arith, long, e.agents.1)
 
-pub returns : goal.returns
-returns g c =
+pub returns-clause-round : goal.returns-clause-round
+returns-clause-round g c =
     let f = c.in_ok-field.field in
     let turns = c.args.turns in
     let rest = c.remove-picker.new.self.items in
     let new = c.work_beside.new.others in
     let old = c.in_ok-field.others.items in
-    let e = c.in_ok-field.ensures in
+    let e = c.in_ok-field.ensures.opened in
     let done = subst (λ (b : Bool). AreDone f turns b rest new) c.new-signals.ensures
     (are_done f turns c.new-signals.result.observed rest old _ new c.as_mut_slice-workers.ensures.value e.ready c.work_beside.auto.others c.work_beside.ensures.others) in
     let list = whole_written c.in_ok-field.others.len new old (done.0 ∙ sym e.ready.0) (omega arith) in
@@ -86,7 +88,7 @@ returns g c =
     let pickers = c.args.pickers.items in
     let own = c.remove-picker.result in
     let all = subst (λ (l : List Worker). HasAll f l first.seat c.in_ok-whole.whole) list c.in_ok-whole.ensures.all in
-    let closed = c.in_ok-round.ensures in
+    let closed = c.in_ok-round.ensures.round in
     let round = c.in_ok-round.round in
     let some : 0 < length pickers = omega (arith, c.requires.round.pickers, c.requires.limits.workers.0) in
     let split : pickers ≡ own ∷ rest = front pickers rest own some c.remove-picker.ensures.value c.remove-picker.ensures.by_index.2 in
@@ -106,3 +108,12 @@ returns g c =
       agents = ap (length {A = Word}) (sym words) ∙ as_long (net_of f) (opening_of f) round.words round.meetings closed.words ∙ ap (length {A = Word}) e.field.opening_is;
       pickers = ap (length {A = List ℕ}) moved ∙ ap suc (length-map new (λ (v : Worker). v.picker) ∙ done.0) ∙ ap (length {A = List ℕ}) (sym split);
     }
+
+pub close_on-requires-clause-serves : goal.close_on-requires-clause-serves
+close_on-requires-clause-serves g c =
+    let e = c.in_ok-field.ensures in
+    subst (λ (t : List Word × ℕ). Serves c.open_round.new.layout t.0 t.1) (λ i. (sym e.opened.field.opening_is i, sym e.opened.field.shards_are i)) e.serves
+
+pub returns-clause-serves : goal.returns-clause-serves
+returns-clause-serves g c =
+    subst (λ (t : List Word × ℕ). Serves c.close_on.new.layout t.0 t.1) (λ i. (sym c.of_words.ensures i, c.in_ok-field.ensures.opened.field.shards_are i)) c.in_ok-round.ensures.serves

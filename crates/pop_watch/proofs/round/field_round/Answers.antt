@@ -7,8 +7,10 @@ use Rattle.pop_net.specs.Lanes.{crowd_of, AreValid}
 use Rattle.pop_crowd.specs.declared.crowd.Meeting.{Meeting}
 use Rattle.agent_field.specs.declared.view.Look.{Look}
 use Rattle.agent_field.specs.History.{calls}
+use Rattle.agent_field.specs.Layouts.{Serves}
+use Rattle.agent_field.proofs.Lent.{whole_written}
 use Rattle.agent_field.specs.Seats.{net_of, opening_of, seats_of, log_of}
-use Rattle.pair_workers.proofs.FieldRounds.{whole_written, are_done, as_long}
+use Rattle.pair_workers.proofs.FieldRounds.{are_done, as_long}
 use Rattle.pair_workers.specs.Run.{made_by}
 use Rattle.pair_workers.specs.declared.work.Worker.{Worker}
 use Rattle.pair_workers.specs.Work.{MayWork, AreDone, HasAll}
@@ -18,11 +20,11 @@ use Rattle.pop_watch.proofs.Parts.{are_playing, all_picked, few_made, made_each}
 use Rattle.pop_watch.proofs.round.field_round.Goals as goal
 
 pub reserve_looks-requires-clause-limit : goal.reserve_looks-requires-clause-limit
-reserve_looks-requires-clause-limit g c = let none = ap (length {A = Look}) c.in_ok-field.ensures.fresh.2 in omega (arith, none)
+reserve_looks-requires-clause-limit g c = let none = ap (length {A = Look}) c.in_ok-field.ensures.opened.fresh.2 in omega (arith, none)
 
 pub watch_beside-requires-clause-observer : goal.watch_beside-requires-clause-observer
 watch_beside-requires-clause-observer g c κs within =
-    let e = c.in_ok-field.ensures in
+    let e = c.in_ok-field.ensures.opened in
     let r = c.in_ok-reserve_looks.ensures in
     record {
       table = c.requires.table;
@@ -36,12 +38,12 @@ watch_beside-requires-clause-observer g c κs within =
 
 pub watch_beside-requires-clause-workers : goal.watch_beside-requires-clause-workers
 watch_beside-requires-clause-workers g c κs within =
-    let ready = c.in_ok-field.ensures.ready.1 in
+    let ready = c.in_ok-field.ensures.opened.ready.1 in
     subst (λ (l : List Worker). All (MayWork c.in_ok-field.field c.args.turns) l) (sym c.as_mut_slice.ensures.value) (λ k d h. (ready k d [] h).may)
 
 pub take_in-requires : goal.take_in-requires
 take_in-requires g c =
-    let e = c.in_ok-field.ensures in
+    let e = c.in_ok-field.ensures.opened in
     let f = c.in_ok-field.field in
     let turns = c.args.turns in
     let pickers = c.args.pickers.items in
@@ -63,19 +65,19 @@ take_in-requires g c =
 
 pub by_workers-requires : goal.by_workers-requires
 by_workers-requires g c =
-    let own : calls 0 c.in_ok-round.round.meetings ≡ [] = c.in_ok-round.ensures.own ∙ c.in_ok-whole.ensures.all.own ∙ c.watch_beside.ensures.seat.1.4 ∙ (c.in_ok-reserve_looks.ensures.rest.4 ∙ c.in_ok-field.ensures.fresh.0) in
+    let own : calls 0 c.in_ok-round.round.meetings ≡ [] = c.in_ok-round.ensures.round.own ∙ c.in_ok-whole.ensures.all.own ∙ c.watch_beside.ensures.seat.1.4 ∙ (c.in_ok-reserve_looks.ensures.rest.4 ∙ c.in_ok-field.ensures.opened.fresh.0) in
     subst (λ (l : List Meeting). All IsOfWorker l) (sym c.as_slice-2.ensures) (all_of_workers 0 c.in_ok-round.round.meetings own)
 
 pub of_words-crowd-requires-clause-some : goal.of_words-crowd-requires-clause-some
 of_words-crowd-requires-clause-some g c =
-    let e = c.in_ok-field.ensures in
-    let long = as_long (net_of c.in_ok-field.field) (opening_of c.in_ok-field.field) c.in_ok-round.round.words c.in_ok-round.round.meetings c.in_ok-round.ensures.words ∙ ap (length {A = Word}) e.field.opening_is in
+    let e = c.in_ok-field.ensures.opened in
+    let long = as_long (net_of c.in_ok-field.field) (opening_of c.in_ok-field.field) c.in_ok-round.round.words c.in_ok-round.round.meetings c.in_ok-round.ensures.round.words ∙ ap (length {A = Word}) e.field.opening_is in
     omega (arith, long, e.agents.0)
 
 pub of_words-crowd-requires-clause-few : goal.of_words-crowd-requires-clause-few
 of_words-crowd-requires-clause-few g c =
-    let e = c.in_ok-field.ensures in
-    let long = as_long (net_of c.in_ok-field.field) (opening_of c.in_ok-field.field) c.in_ok-round.round.words c.in_ok-round.round.meetings c.in_ok-round.ensures.words ∙ ap (length {A = Word}) e.field.opening_is in
+    let e = c.in_ok-field.ensures.opened in
+    let long = as_long (net_of c.in_ok-field.field) (opening_of c.in_ok-field.field) c.in_ok-round.round.words c.in_ok-round.round.meetings c.in_ok-round.ensures.round.words ∙ ap (length {A = Word}) e.field.opening_is in
     omega (arith, long, e.agents.1)
 
 pub returns-clause-made : goal.returns-clause-made
@@ -85,13 +87,13 @@ returns-clause-made g c =
     let pickers = c.args.pickers.items in
     let new = c.watch_beside.new.workers in
     let old = c.in_ok-field.workers.items in
-    let ready = c.in_ok-field.ensures.ready in
+    let ready = c.in_ok-field.ensures.opened.ready in
     let done = are_done f turns true pickers old _ new c.as_mut_slice.ensures.value ready c.watch_beside.auto.workers c.watch_beside.ensures.workers in
     let list = whole_written c.in_ok-field.workers.len new old (done.0 ∙ sym ready.0) (omega arith) in
     let all = subst (λ (l : List Worker). HasAll f l c.watch_beside.new.seat c.in_ok-whole.whole) list c.in_ok-whole.ensures.all in
-    let closed = c.in_ok-round.ensures in
+    let closed = c.in_ok-round.ensures.round in
     let meetings = c.in_ok-round.round.meetings in
-    let own : calls 0 meetings ≡ [] = closed.own ∙ all.own ∙ c.watch_beside.ensures.seat.1.4 ∙ (c.in_ok-reserve_looks.ensures.rest.4 ∙ c.in_ok-field.ensures.fresh.0) in
+    let own : calls 0 meetings ≡ [] = closed.own ∙ all.own ∙ c.watch_beside.ensures.seat.1.4 ∙ (c.in_ok-reserve_looks.ensures.rest.4 ∙ c.in_ok-field.ensures.opened.fresh.0) in
     let some = all_of_workers 0 meetings own in
     let mine : c.in_ok-meetings.meetings.items ≡ map of_worker meetings = c.in_ok-meetings.ensures ∙ ap (map of_worker) c.as_slice-2.ensures in
     let any : Worker = record { seat = c.watch_beside.new.seat; picker = [] } in
@@ -106,19 +108,19 @@ pub returns-clause-part : goal.returns-clause-part
 returns-clause-part g c =
     let net = c.args.net.now in
     let workers = c.args.spec.now.workers in
-    let is = c.in_ok-field.ensures.field in
+    let is = c.in_ok-field.ensures.opened.field in
     let f = c.in_ok-field.field in
     let turns = c.args.turns in
     let pickers = c.args.pickers.items in
     let new = c.watch_beside.new.workers in
     let old = c.in_ok-field.workers.items in
-    let ready = c.in_ok-field.ensures.ready in
+    let ready = c.in_ok-field.ensures.opened.ready in
     let done = are_done f turns true pickers old _ new c.as_mut_slice.ensures.value ready c.watch_beside.auto.workers c.watch_beside.ensures.workers in
     let list = whole_written c.in_ok-field.workers.len new old (done.0 ∙ sym ready.0) (omega arith) in
     let all = subst (λ (l : List Worker). HasAll f l c.watch_beside.new.seat c.in_ok-whole.whole) list c.in_ok-whole.ensures.all in
-    let closed = c.in_ok-round.ensures in
+    let closed = c.in_ok-round.ensures.round in
     let meetings = c.in_ok-round.round.meetings in
-    let own : calls 0 meetings ≡ [] = closed.own ∙ all.own ∙ c.watch_beside.ensures.seat.1.4 ∙ (c.in_ok-reserve_looks.ensures.rest.4 ∙ c.in_ok-field.ensures.fresh.0) in
+    let own : calls 0 meetings ≡ [] = closed.own ∙ all.own ∙ c.watch_beside.ensures.seat.1.4 ∙ (c.in_ok-reserve_looks.ensures.rest.4 ∙ c.in_ok-field.ensures.opened.fresh.0) in
     let some = all_of_workers 0 meetings own in
     let mine : c.in_ok-meetings.meetings.items ≡ map of_worker meetings = c.in_ok-meetings.ensures ∙ ap (map of_worker) c.as_slice-2.ensures in
     let any : Worker = record { seat = c.watch_beside.new.seat; picker = [] } in
@@ -139,3 +141,12 @@ returns-clause-part g c =
       agents = ap (length {A = Word}) (sym crowd) ∙ long;
       pickers = ap (length {A = List ℕ}) moved ∙ length-map new (λ (v : Worker). v.picker) ∙ done.0 ∙ c.requires.round.pickers;
     }
+
+pub close_on-requires-clause-serves : goal.close_on-requires-clause-serves
+close_on-requires-clause-serves g c =
+    let e = c.in_ok-field.ensures in
+    subst (λ (t : List Word × ℕ). Serves c.open_round.new.layout t.0 t.1) (λ i. (sym e.opened.field.opening_is i, sym e.opened.field.shards_are i)) e.serves
+
+pub returns-clause-serves : goal.returns-clause-serves
+returns-clause-serves g c =
+    subst (λ (t : List Word × ℕ). Serves c.close_on.new.layout t.0 t.1) (λ i. (sym c.of_words-crowd.ensures i, c.in_ok-field.ensures.opened.field.shards_are i)) c.in_ok-round.ensures.serves

@@ -13,15 +13,21 @@ returns-then-are_made g c =
     let made = c.in_ok-played.ensures.made in
     let all = subst (λ (l : List ℕ). All (λ (n : ℕ). n ≡ c.args.turns) l) c.as_slice.ensures.value (c.are_made.ensures.0 c.if-are_made.true) in
     record {
-      part = c.in_ok-played.ensures.part;
-      ends = inl (λ w l. sym (made.1 w 0 l) ∙ all w 0 (omega (arith, l, made.0)));
+      round = record {
+        part = c.in_ok-played.ensures.part;
+        ends = inl (λ w l. sym (made.1 w 0 l) ∙ all w 0 (omega (arith, l, made.0)));
+      };
+      serves = c.in_ok-played.ensures.serves;
     }
 
 pub returns-then-branch : goal.returns-then-branch
 returns-then-branch g c =
     record {
-      part = c.in_ok-played.ensures.part;
-      ends = inr ((subst (λ (n : NetModel). (c.in_ok-is_terminal.field-0 ≡ true) ↔ IsTerminal (Step n) (crowd_of n c.in_ok-played.played.crowd)) c.requires.table c.in_ok-is_terminal.ensures.terminal).0 c.if-branch.true);
+      round = record {
+        part = c.in_ok-played.ensures.part;
+        ends = inr ((subst (λ (n : NetModel). (c.in_ok-is_terminal.field-0 ≡ true) ↔ IsTerminal (Step n) (crowd_of n c.in_ok-played.played.crowd)) c.requires.table c.in_ok-is_terminal.ensures.terminal).0 c.if-branch.true);
+      };
+      serves = c.in_ok-played.ensures.serves;
     }
 
 pub returns : goal.returns
@@ -36,12 +42,15 @@ returns g c =
     let long : length c.as_slice-2.result.now ≡ c.args.spec.now.workers = ap (length {A = ℕ}) c.as_slice-2.ensures.value ∙ c.in_ok-played.ensures.made.0 in
     let all : (w : ℕ) → w < c.args.spec.now.workers → made_by w after.meetings.items ≡ c.args.turns = (λ w l. on.all w (omega (arith, l, long))) in
     record {
-      part = record {
-        played = subst (λ (n : ℕ). IsPlayedFrom net start n pickers after) was.pickers (on.goes_on.more start pickers (subst (λ (n : ℕ). IsPlayedFrom net start n pickers before) (sym was.pickers) was.played));
-        few = λ w l. omega (arith, all w l);
-        valid = on.valid;
-        agents = on.goes_on.agents ∙ was.agents;
-        pickers = on.goes_on.pickers ∙ was.pickers;
+      round = record {
+        part = record {
+          played = subst (λ (n : ℕ). IsPlayedFrom net start n pickers after) was.pickers (on.goes_on.more start pickers (subst (λ (n : ℕ). IsPlayedFrom net start n pickers before) (sym was.pickers) was.played));
+          few = λ w l. omega (arith, all w l);
+          valid = on.valid;
+          agents = on.goes_on.agents ∙ was.agents;
+          pickers = on.goes_on.pickers ∙ was.pickers;
+        };
+        ends = inl all;
       };
-      ends = inl all;
+      serves = inl c.clear.ensures;
     }

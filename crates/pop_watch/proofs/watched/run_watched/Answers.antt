@@ -26,6 +26,7 @@ rounds-init g c =
       agents = refl;
       pickers = first.long;
       few = c.requires.can.limits.turns.1;
+      serves = inl c.new-layout.ensures;
     }
 
 pub rounds-preserved : goal.rounds-preserved
@@ -38,7 +39,7 @@ rounds-preserved g c =
     let played = c.in_ok-played.played in
     let round = played.meetings.items in
     let end = crowd_of net played.crowd in
-    let made = c.in_ok-played.ensures in
+    let made = c.in_ok-played.ensures.round in
     let pushed : c.push.new.self.items ≡ c.rounds.rounds.items ++ round ∷ [] = search rules in
     let least : c.min-turns.result ≡ min 4096 c.rounds.left = c.min-turns.ensures in
     let on = (subst (λ (n : NetModel). (c.in_ok-goes_on.field-0 ≡ true) ↔ RunGoesOn n (crowd_of n c.rounds.crowd) c.rounds.left) c.in_ok-table.ensures c.in_ok-goes_on.ensures).0 c.if-branch.true in
@@ -52,6 +53,7 @@ rounds-preserved g c =
       agents = made.part.agents ∙ was.agents;
       pickers = made.part.pickers;
       few = omega (arith, was.few);
+      serves = c.in_ok-played.ensures.serves;
     }
 
 pub returns : goal.returns

@@ -1,5 +1,6 @@
 use Rattle.std.proofs.Common.{◌≡◌, ◌≤◌, length}
 use Rattle.pop_net.specs.Lanes.{crowd_of, AreValid}
+use Rattle.agent_field.specs.Layouts.{Serves}
 use Rattle.pop_watch.proofs.WatchedRounds.{IsOnTheWay}
 use Rattle.pop_watch.proofs.watched.run_watched.Given as goal
 
@@ -10,6 +11,7 @@ invariant-rounds g l = record {
   agents : length l.crowd ≡ length l.fn.crowd;
   pickers : length l.pickers.items ≡ l.spec.workers;
   few : l.left ≤ 1000000;
+  serves : Serves l.layout l.crowd l.spec.shards;
 }
 
 abbrev pub decreases-rounds : goal.decreases-rounds

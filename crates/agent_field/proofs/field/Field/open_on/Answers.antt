@@ -16,6 +16,6 @@ pub invariant_of-field-clause-words_are : goal.invariant_of-field-clause-words_a
 invariant_of-field-clause-words_are g c =
     let words = c.as_slice-2.result.now in
     c.in_ok-table.ensures.0
-    ∙ ap (length {A = ℕ}) (c.as_slice-3.ensures.value ∙ c.in_ok-lay_out.ensures)
+    ∙ ap (length {A = ℕ}) (c.as_slice-3.ensures.value ∙ c.in_ok-lay.ensures)
     ∙ length-opening (map (λ (w : Word). w.0) words) c.args.shards (length c.as_slice.result.now)
     (length-map words (λ (w : Word). w.0) ∙ ap (length {A = Word}) (c.as_slice-2.ensures ∙ sym c.as_slice.ensures))

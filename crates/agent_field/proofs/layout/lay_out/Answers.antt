@@ -7,8 +7,8 @@ use Rattle.pop_net.specs.declared.net.Word.{Word}
 use Rattle.agent_field.specs.declared.places.TheConstants.{HEAD_WORDS}
 use Rattle.agent_field.specs.Standing.{in_turns, packed}
 use Rattle.agent_field.proofs.InTurns.{length-in_turns, word_with_lock, word_alone, further_locks}
-use Rattle.agent_field.proofs.life.lay_out.Goals as goal
-use Rattle.agent_field.proofs.life.lay_out.Goals.{then-a-shards, else-a-shards}
+use Rattle.agent_field.proofs.layout.lay_out.Goals as goal
+use Rattle.agent_field.proofs.layout.lay_out.Goals.{then-a-shards, else-a-shards}
 
 abbrev bits : List Word → List ℕ
 bits words = map (λ (w : Word). w.0) words

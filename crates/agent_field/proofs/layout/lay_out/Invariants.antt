@@ -3,7 +3,7 @@ use Rattle.std.specs.Prelude.{vec_capacity}
 use Rattle.pop_net.specs.declared.net.Word.{Word}
 use Rattle.agent_field.specs.declared.places.TheConstants.{HEAD_WORDS}
 use Rattle.agent_field.specs.Standing.{in_turns}
-use Rattle.agent_field.proofs.life.lay_out.Given as goal
+use Rattle.agent_field.proofs.layout.lay_out.Given as goal
 
 abbrev pub invariant-loop-a : goal.invariant-loop-a
 invariant-loop-a l = record {
