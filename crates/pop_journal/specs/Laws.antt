@@ -41,7 +41,7 @@ IsRunReadBack kind net start spec rounds end first =
     journal_in kind (length start) first (lines_of (text_ended kind net spec rounds end))
     ≡ Ok (spec, (rounds, lines_of (whole_tail net end)))
 
--- The text written for a run is read back to a journal that holds.
+-- The text written for a run within the limits is read back to a journal that holds.
 abbrev pub IsWrittenHeld : Type 0
 IsWrittenHeld =
     (kind : RunKind) (net : NetModel) (start : CrowdModel) (spec : RunSpec) (rounds : List (List Meeting))

@@ -7,7 +7,8 @@ pub fn one_spelling()
     ensures { IsOneSpelling }
 {}
 
-/// What `write_journal` writes of a run with the right last line is read by `read_journal` and passes `verify`.
+/// What `write_journal` writes of a run within the limits, with the right last line, is read by `read_journal` and
+/// passes `verify`.
 pub fn written_holds()
     ensures { IsWrittenHeld }
 {}

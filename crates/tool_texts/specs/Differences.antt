@@ -4,7 +4,7 @@ use Rattle.pop_journal.specs.Expected.{Difference}
 use Rattle.tool_texts.specs.declared.output.Ending.TheVariants.{Differs}
 use Rattle.tool_texts.specs.declared.output.Output.{Output}
 
--- three lines: the number of the first line that isn't the expected one, what was kept there, and what is found
+-- three lines: the number of the first line that isn't the expected one, what was kept there, and what is expected
 abbrev pub difference_text : Difference → List ℕ
 difference_text difference =
     codes "differs " ++ decimal difference.line ++ codes "\nkept: " ++ difference.kept

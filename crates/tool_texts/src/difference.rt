@@ -8,7 +8,7 @@ impl Output {
     ghost use Rattle.std.specs.Prelude.{◌≡◌, IfOk};
     ghost use Rattle.tool_texts.specs.Differences.{difference_output};
 
-    /// The number of the first line that isn't the expected one, what stands there, and what is expected.
+    /// The number of the first line that isn't the expected one, what was kept there, and what is expected.
     pub fn of_difference(
         alloc: Global,
         line: u64,

@@ -1,4 +1,4 @@
-use Rattle.std.proofs.Common.{◌≡◌, ℕ, ◌+◌, ◌-◌, min, [], ◌∷◌, ◌++◌, length, sym, ap, subst, ◌∙◌, arith, rules, refl, append-nil, length-append}
+use Rattle.std.proofs.Common.{◌≡◌, ℕ, ◌+◌, ◌-◌, min, [], ◌∷◌, ◌++◌, sym, ap, subst, ◌∙◌, arith, rules, refl, append-nil, length-append}
 use Rattle.std.specs.Prelude.{true, ◌↔◌}
 use Rattle.pop_net.specs.NetModel.{NetModel}
 use Rattle.pop_net.specs.Lanes.{crowd_of, AreValid}
