@@ -1,5 +1,6 @@
-"""What each heuristic of the search gains: `python3 -m workbench.benchmark.heuristics [--large] [WORD..]`, a table row for each whose
-name has one of the words, with it left out; with `--large` for one net of 93 states and 2,357 moves."""
+"""What each heuristic of the search gains: `python3 -m workbench.benchmark.heuristics [--large] [--small] [WORD..]`, a table row for
+each whose name has one of the words, with it left out; with `--large` for one net of 93 states and 2,357 moves; with `--small` those
+that make a found tree smaller."""
 from __future__ import annotations
 
 import sys
@@ -10,12 +11,14 @@ from typing import Any, Iterator
 from ..files import Loaded
 from ..find import branch, frames, layers, lemmas, solver, treefinder
 from ..find.finding import find
+from ..find.search import Way
 from . import own_protocols as own
 from . import protocols as p
 from .families import compiled
 from .making import Case, product
 
 SECONDS = 300.0
+SMALL = 4.0  # as `find` has it where nothing is said
 
 Patch = tuple[Any, str, Any]
 
@@ -58,8 +61,15 @@ PATCHES: list[tuple[str, list[Patch]]] = [
     ("the cases of `present` that are known to be closed higher up", [(branch.Branch, "known_shut", lambda self: set())]),
     ("programs made smaller before they are solved", [(solver, "PRESOLVED", 0)]),
     ("known points kept for a branch", [(frames, "POOL", 1), (branch, "POOL", 1)]),
-    ("look-ahead at both cases of `present`", [(treefinder, "AHEADS", (1,))]),
+    ("look-ahead at both cases of `present`", [(treefinder, "WAYS", (Way(1),))]),
     ("layers of a sample of closures first", [(layers, "SAMPLE", 1 << 30)]),
+]
+
+SMALLER: list[tuple[str, list[Patch]]] = [
+    ("(nothing)", []),
+    ("a plain search too", [(treefinder, "WAYS", treefinder.WAYS[:1])]),
+    ("nodes dropped that the tree can do without", [(treefinder, "shrunk", lambda made, root, limit: root)]),
+    ("the least trees of lower parts", [(treefinder, "tightened", lambda made, root: root)]),
 ]
 
 
@@ -73,11 +83,11 @@ def patched(patches: list[Patch]) -> Iterator[None]:
         yield
 
 
-def measured(cases: list[Case]) -> tuple[float, int, int]:
+def measured(cases: list[Case], small: float) -> tuple[float, int, int]:
     """Seconds, nodes of those found, and how many weren't."""
     start, nodes, lost = time.process_time(), 0, 0
     for case in cases:
-        found = find(Loaded(case.name, case.net, case.predicate, list(case.leaves or [case.predicate])), SECONDS, 0.0, jobs=1)
+        found = find(Loaded(case.name, case.net, case.predicate, list(case.leaves or [case.predicate])), SECONDS, small, jobs=1)
         if found.bundle is None:
             lost += 1
         else:
@@ -88,14 +98,15 @@ def measured(cases: list[Case]) -> tuple[float, int, int]:
 def main(arguments: list[str]) -> None:
     """The table."""
     cases = [compiled("", "x - y < 14")] if "--large" in arguments else sample()
-    words = [word for word in arguments if word != "--large"]
+    words = [word for word in arguments if not word.startswith("--")]
+    is_small = "--small" in arguments
     print(f"| Left out | Seconds for {len(cases)} nets | Nodes | Not found in {SECONDS:g} s |")
     print("|---|---|---|---|")
-    for told, patches in PATCHES:
+    for told, patches in SMALLER if is_small else PATCHES:
         if words and not any(word in told for word in words):
             continue
         with patched(patches):
-            seconds, nodes, lost = measured(cases)
+            seconds, nodes, lost = measured(cases, SMALL if is_small else 0.0)
         print(f"| {told} | {seconds:.1f} | {nodes} | {lost} |", flush=True)
 
 

@@ -1,7 +1,7 @@
 """What the search asks of a branch: known points, whether a case is closed, and the node that closes it."""
 from __future__ import annotations
 
-import time
+from collections import deque
 from dataclasses import dataclass
 from typing import Sequence
 
@@ -11,11 +11,13 @@ from ..predicates import And, Less, Not, Or, Predicate, Rest
 from .exact import ExactSolver
 from .frames import POOL, Frame, Stack, all_items, has_rests
 from .items import Array, Case, Cases
+from .limits import Limit
 from .residues import Residues, closes
 from .sets import Sets
 from .solver import Solver
 from .trees import Grown, RestSum, Sum, ending
 
+KEPT = 400  # points of all branches that are kept for making the tree smaller
 FLOATS = 1 << 17  # predicates with greater numbers are left to exact arithmetic
 
 
@@ -58,20 +60,21 @@ class Tried:
 class Branch:
     """The stack of a search with its solver."""
 
-    def __init__(self, cases: Cases, tree: Predicate, value: bool, deadline: float, exact: bool) -> None:
-        self.cases, self.deadline = cases, deadline
+    def __init__(self, cases: Cases, tree: Predicate, value: bool, limit: Limit, exact: bool) -> None:
+        self.cases, self.limit = cases, limit
         self.sets = Sets(cases)
         self.solver: Solver = ExactSolver(cases) if exact else Solver(cases)
         self.residues = Residues(cases.variables, cases.first_move)
         self.base = cases.base(tree, value)
         self.failed = {"siphon": 0, "trap": 0}
         self.seen = np.zeros(cases.moves, dtype=bool)
+        self.kept: deque[Array] = deque(maxlen=KEPT)
         self.stack = Stack(cases.variables)
         self.stack.push(self.base)
 
     def in_time(self) -> None:
         """GaveUp where the time is up."""
-        if time.time() > self.deadline:
+        if self.limit.is_over():
             raise GaveUp(OUT_OF_TIME)
 
     def point_of(self, frame: Frame, eager: Array | None = None) -> Array | None:
@@ -82,6 +85,7 @@ class Branch:
             if point is None:
                 return None
             frame.pool.append(point)
+            self.kept.append(point)
             if frame is self.stack.top:
                 for below in self.stack.frames[:-1]:
                     below.pool = below.pool[-POOL:] + [point]

@@ -27,6 +27,7 @@ class Lemmas(Branch):
     """Finds lemmas for the branch, and puts each as high as its other cases close."""
 
     floor = 1
+    is_plain = False  # a plain search looks neither for points of many moves nor at the moves of other branches
     failed: dict[str, int]
     seen: Array
 
@@ -53,7 +54,7 @@ class Lemmas(Branch):
     def easy_lemma(self, point: Array) -> bool:
         """Adds a siphon or trap that excludes the point and needs no branch, if there is one."""
         for word in WORDS:
-            found = self._easy(word, point, self.failed[word] >= FAILURES)
+            found = self._easy(word, point, self.failed[word] >= FAILURES and not self.is_plain)
             self.failed[word] = 0 if found else self.failed[word] + 1
             if found:
                 return True
@@ -79,7 +80,7 @@ class Lemmas(Branch):
             cases = self.cases.of(node_of(word, states))
             crossed = next(cases)
             row = crossed[0].variables
-            other = self.side_point(crossed, self._untaken(moves) if turn else None)
+            other = self.side_point(crossed, self._untaken(moves) if turn and not self.is_plain else None)
             if other is not None:
                 moves[row[other[row] > EPSILON] - first] = True
             else:

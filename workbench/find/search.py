@@ -1,6 +1,7 @@
 """The search for a tree of cases, guided by candidate wrong ends: points that meet all facts of a branch."""
 from __future__ import annotations
 
+from dataclasses import dataclass
 from math import floor
 from typing import Iterator, Sequence
 
@@ -14,19 +15,27 @@ from .branch import GaveUp, Tried, WrongEnd
 from .frames import EPSILON, Frame, Lemma
 from .items import Array, Case, Cases, Item, Row, Zeros, fact_of, row_of
 from .lemmas import WORDS, Lemmas, node_of
+from .limits import Limit
 from .trees import Grown, Opened, RestSum, Sum, ending, grown
 
 SPLITS = 24  # fractions that are tried for a split
-PATIENT = 10  # with less look-ahead than this, the second candidate is the last where one case was closed
 DEEPEST = 3_000  # frames
+
+
+@dataclass(frozen=True)
+class Way:
+    """How a search goes."""
+
+    ahead: int  # candidates for `present` whose cases are both tried
+    is_plain: bool = False  # whether it keeps to the points of its own branch
 
 
 class Prover(Lemmas):
     """Finds the tree for one value of one leaf's predicate."""
 
-    def __init__(self, cases: Cases, tree: Predicate, value: bool, deadline: float, ahead: int, exact: bool) -> None:
-        super().__init__(cases, tree, value, deadline, exact)
-        self.ahead = ahead  # candidates for `present` whose cases are both tried
+    def __init__(self, cases: Cases, tree: Predicate, value: bool, limit: Limit, way: Way, exact: bool) -> None:
+        super().__init__(cases, tree, value, limit, exact)
+        self.ahead, self.is_plain = way.ahead, way.is_plain
         self._opened: list[Item] = []
 
     def proved(self, nodes: Sequence[DraftNode]) -> Grown:
@@ -173,7 +182,7 @@ class Prover(Lemmas):
             rank = (count, int(partners[p]) if count == 0 or tried[0].is_closed else 0)
             if best is None or rank > best[0]:
                 best = rank, Present(p), cases, tried
-            if count == 2 or (best[0][0] == 1 and k and self.ahead < PATIENT):
+            if count == 2 or (best[0][0] == 1 and k):
                 break
         assert best is not None
         return self._with_known(best[1], best[2], best[3])

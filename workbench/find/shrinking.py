@@ -1,13 +1,19 @@
 """Makes a found tree smaller: closes leaves anew without the facts of one case, so that the case's node falls out."""
 from __future__ import annotations
 
-import time
 from collections import defaultdict
 from typing import Sequence
 
-from .items import Case, Item
-from .residues import Residues, closes
-from .solver import Solver, Trouble
+import numpy as np
+
+from ..facts import AT_LEAST, EQUAL
+
+from .branch import Branch
+from .frames import EPSILON
+from .items import Array, Case, Item, Zeros
+from .limits import Limit
+from .residues import closes
+from .solver import Trouble
 from .trees import Grown, Opened, RestSum, Sum, ending, grown
 
 USERS = 8  # a case whose facts more leaves rest on is left alone
@@ -49,16 +55,32 @@ class _Survey:
         return sorted(free, key=lambda g: (-self.gain[g] / len(self.users[g]), g))
 
 
-def _closed_anew(node: Grown, items: Sequence[Item], solver: Solver, residues: Residues) -> Grown | None:
-    """A leaf of the same kind over these facts alone."""
+def _any_meets(points: Array, items: Sequence[Item]) -> bool:
+    """Whether one of some points, a row each, meets all facts that are no congruences; then no sum of these facts closes."""
+    for item in items:
+        if not len(points):
+            break
+        if isinstance(item, Zeros):
+            points = points[(points[:, item.variables] <= EPSILON).all(axis=1)]
+        elif item.kind in (AT_LEAST, EQUAL):
+            sums = points[:, item.variables] @ item.numbers + item.constant
+            points = points[sums >= -EPSILON if item.kind == AT_LEAST else np.abs(sums) <= EPSILON]
+    return len(points) > 0
+
+
+def _closed_anew(node: Grown, branch: Branch, points: Array, cases: Sequence[Item]) -> Grown | None:
+    """A leaf of the same kind over the facts of these cases alone; every point meets the base facts."""
+    items = [*branch.base, *cases]
     if isinstance(node.kind, Sum):
+        if _any_meets(points, cases):
+            return None
         try:
-            return ending(Sum(solver.sums(items)))
+            return ending(Sum(branch.solver.sums(items)))
         except Trouble:
             return None
     assert isinstance(node.kind, RestSum)
-    found = residues.closing(items, node.kind.modulus)
-    return ending(found) if found and closes(found, solver.cases.variables) else None
+    found = branch.residues.closing(items, node.kind.modulus)
+    return ending(found) if found and closes(found, branch.cases.variables) else None
 
 
 def _rebuilt(node: Grown, fresh: dict[Grown, Grown]) -> Grown:
@@ -67,18 +89,19 @@ def _rebuilt(node: Grown, fresh: dict[Grown, Grown]) -> Grown:
     return grown(node.kind, [(items, _rebuilt(sub, fresh)) for items, sub in node.cases])
 
 
-def _round(base: Sequence[Item], root: Grown, solver: Solver, residues: Residues, deadline: float) -> dict[Grown, Grown]:
+def _round(branch: Branch, root: Grown, limit: Limit) -> dict[Grown, Grown]:
     """Leaves closed anew, so that some cases aren't used any more."""
     survey = _Survey(root)
     fresh: dict[Grown, Grown] = {}
+    points = np.stack(branch.kept) if branch.kept else np.zeros((0, branch.cases.variables))
     for g in survey.order():
-        if time.time() > deadline:
+        if limit.is_over():
             break
         trial: dict[Grown, Grown] = {}
         for i in survey.users[g]:
             node, path = survey.leaves[i]
-            items = [*base, *(item for k in path if k != g for item in survey.cases[k])]
-            new = None if node in fresh else _closed_anew(node, items, solver, residues)  # one that changed is looked at in the next round
+            items = [item for k in path if k != g for item in survey.cases[k]]
+            new = None if node in fresh else _closed_anew(node, branch, points, items)  # one that changed is looked at in the next round
             if new is None:
                 trial = {}
                 break
@@ -87,10 +110,10 @@ def _round(base: Sequence[Item], root: Grown, solver: Solver, residues: Residues
     return fresh
 
 
-def shrunk(base: Sequence[Item], root: Grown, solver: Solver, residues: Residues, deadline: float) -> Grown:
+def shrunk(branch: Branch, root: Grown, limit: Limit) -> Grown:
     """The tree with nodes dropped that it can do without, until none is found or the time is up."""
-    while time.time() < deadline:
-        fresh = _round(base, root, solver, residues, deadline)
+    while not limit.is_over():
+        fresh = _round(branch, root, limit)
         less = _rebuilt(root, fresh) if fresh else root
         if less.size >= root.size:
             return root

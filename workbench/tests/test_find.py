@@ -26,6 +26,7 @@ from workbench.benchmark import own_protocols as own  # noqa: E402
 from workbench.benchmark import protocols as p  # noqa: E402
 from workbench.benchmark.families import small_nets  # noqa: E402
 from workbench.benchmark.making import Case  # noqa: E402
+from workbench.benchmark.trees import OTHERS, read_sizes  # noqa: E402
 from workbench.find.explore import Flaw, explore, flaw_at  # noqa: E402
 from workbench.find.finding import Outcome, find  # noqa: E402
 from workbench.find.items import Cases, fact_of  # noqa: E402
@@ -104,6 +105,9 @@ SAMPLE = [
 ]
 
 
+SMALL = [p.tower(2), p.remainder(3, 1), p.average(7), own.counter(2), own.helper_rest(5), own.exactly_one()]
+
+
 @pytest.mark.parametrize("case", SAMPLE, ids=lambda case: f"{case.family}: {case.name}")
 def test_families_are_found(case: Case) -> None:
     bundle = good(found(case))
@@ -120,6 +124,12 @@ def test_what_is_found_is_certified_by_the_program() -> None:
 def test_trees_are_as_small_as_they_are_known() -> None:
     bundle = good(found(p.flock(9)))
     assert (len(bundle.proof[0].true), len(bundle.proof[0].false)) == (19, 5)
+
+
+@pytest.mark.parametrize("case", SMALL, ids=lambda case: f"{case.family}: {case.name}")
+def test_trees_are_made_as_small_as_an_earlier_finder_s(case: Case) -> None:
+    sizes = [len(tree) for part in good(found(case, small=4.0)).proof for tree in (part.true, part.false)]
+    assert all(ours <= theirs for ours, theirs in zip(sizes, read_sizes(OTHERS)[case.family, case.name]))
 
 
 def test_each_example_is_found_again() -> None:
