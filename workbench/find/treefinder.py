@@ -16,7 +16,7 @@ from .solver import Trouble
 from .tightening import tightened
 from .trees import Grown, written
 
-WAYS = (Way(6), Way(6, is_plain=True))  # one search after the other; the smallest tree is kept
+WAYS = (Way(6), Way(6, is_plain=True), Way(2, is_plain=True))  # one search after the other; the smallest tree is kept
 ENOUGH = 5  # nodes of a tree that is small as it is
 FAR = 2  # a tree that is so many times larger than another is left as it is
 
@@ -69,7 +69,7 @@ def find_tree(leaf: Leaf, tree: Predicate, value: bool, nodes: Sequence[DraftNod
     Where all of the tree is to be found, up to `small` seconds of this process's work then make it smaller.
     """
     limit = Limit(deadline)
-    more = limit.after(small / 2)
+    more = limit.after(small * 3 / 4)
     cases = Cases(leaf)
     given: Sequence[DraftNode] = nodes if nodes is not None else [Hole()]
     exact = greatest_number(tree) > FLOATS
