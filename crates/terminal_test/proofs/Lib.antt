@@ -4,3 +4,4 @@ pub mod Searches
 pub mod LoudPairs
 pub mod RestlessStates
 mod Outputs
+mod SeenStates

@@ -12,9 +12,13 @@ pub record CountsTo (states seen : List ℕ) (n : ℕ) : Type 0 where
   pub twice : (a b x : ℕ) → a < b → b < n → slice_get states a ≡ Some x → slice_get states b ≡ Some x
       → 2 ≤ slice_index_or seen x 0
 
-pub record AreSeen (net : NetModel) (i : ℕ) (crowd : CrowdModel) (seen : List ℕ) : Type 0 where
+-- one entry for each state of leaf i, which counts the first n agents
+pub record AreSeenTo (net : NetModel) (i : ℕ) (crowd : CrowdModel) (seen : List ℕ) (n : ℕ) : Type 0 where
   pub size : (leaf : LeafModel) → slice_get net.leaves i ≡ Some leaf → length seen ≡ length leaf.states
-  pub counted : CountsTo (component i crowd) seen (length crowd)
+  pub counted : CountsTo (component i crowd) seen n
+
+abbrev pub AreSeen : NetModel → ℕ → CrowdModel → List ℕ → Type 0
+AreSeen net i crowd seen = AreSeenTo net i crowd seen (length crowd)
 
 -- whether two different agents are in these states
 abbrev pub are_held_by : List ℕ → ℕ → ℕ → Bool

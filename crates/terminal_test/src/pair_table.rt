@@ -8,7 +8,7 @@ ghost use Rattle.terminal_test.specs.Loud.{pairs_of_moves};
 ghost use Rattle.terminal_test.specs.Pairs.{IsEnabled, IsLeastPair, MovesOn};
 
 use crate::loud::loud_pairs;
-use crate::partner::{are_enabled, partner};
+use crate::partner::{pair_beside, partner};
 use crate::restless::{is_restless, restless_states};
 use pop_crowd::Crowd;
 use pop_io::{List, NoMemory};
@@ -64,8 +64,8 @@ impl<'n> PairTable<'n> {
         Ok(None)
     }
 
-    /// Whether a crowd is terminal. The pair found last is tested first. Only if its meeting changes nothing now
-    /// are all agents searched; the pair found is kept.
+    /// Whether a crowd is terminal. The pair found last is tested first, and then its first agent with those after
+    /// it. Only if no such meeting changes a word are all agents searched. The pair found is kept.
     pub fn is_terminal(
         &self,
         alloc: Global,
@@ -81,8 +81,9 @@ impl<'n> PairTable<'n> {
             (λ _. IfSome last.new
             (λ pair. IsEnabled (table_net self.now) (crowd_of (table_net self.now) crowd.now) pair.0 pair.1)) }
     {
-        if let Some((a, b)) = *last {
-            if are_enabled(self.net, crowd, a, b) {
+        if let Some(pair) = *last {
+            if let Some(next) = pair_beside(self.net, crowd, pair) {
+                *last = Some(next);
                 return Ok(false);
             }
         }

@@ -1,6 +1,6 @@
 //! The agents that another one can react with.
 
-ghost use Rattle.std.specs.Prelude.{◌≡◌, ◌<◌, ◌↔◌, length, true};
+ghost use Rattle.std.specs.Prelude.{◌≡◌, ◌<◌, ◌↔◌, length, true, IfSome};
 ghost use Rattle.pop_net.specs.Lanes.{tuple_of, crowd_of, IsValid, AreValid};
 ghost use Rattle.pop_crowd.specs.Replay.{reacts};
 ghost use Rattle.terminal_test.specs.Pairs.{IsEnabled, IsPartner};
@@ -24,8 +24,25 @@ pub(crate) fn partner(net: &Net, crowd: &Crowd, a: u32) -> Option<u32>
     None
 }
 
+/// An enabled pair with the first agent of a pair: the pair itself, or this agent with the first after it that can
+/// change. The numbers may be those of no agents.
+pub(crate) fn pair_beside(net: &Net, crowd: &Crowd, pair: (u32, u32)) -> Option<(u32, u32)>
+    requires { AreValid net.now crowd.now }
+    ensures { IfSome result (λ found. IsEnabled net.now (crowd_of net.now crowd.now) found.0 found.1) }
+{
+    let (a, b) = pair;
+    if are_enabled(net, crowd, a, b) {
+        return Some(pair);
+    }
+    if crowd.len() <= a {
+        return None;
+    }
+    let b = partner(net, crowd, a)?;
+    Some((a, b))
+}
+
 /// Whether the first of two agents is the lower one, and their meeting changes a word.
-pub(crate) fn are_enabled(net: &Net, crowd: &Crowd, a: u32, b: u32) -> bool
+fn are_enabled(net: &Net, crowd: &Crowd, a: u32, b: u32) -> bool
     requires { AreValid net.now crowd.now }
     ensures { (result ≡ true) ↔ IsEnabled net.now (crowd_of net.now crowd.now) a b }
 {

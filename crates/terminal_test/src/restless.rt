@@ -1,6 +1,7 @@
 //! The states that can react with those of a crowd.
 
-ghost use Rattle.std.specs.Prelude.{◌≡◌, ◌<◌, length, map, IfOk, false};
+ghost use Rattle.std.specs.Prelude.{◌≡◌, ◌<◌, length, map, nat_le, IfOk, false};
+ghost use Rattle.std.specs.List.{list_all};
 ghost use Rattle.pop_net.specs.Lanes.{tuple_of, crowd_of, IsValid, AreValid};
 ghost use Rattle.pop_net.proofs.Projection.{component};
 ghost use Rattle.terminal_test.specs.Loud.{pairs_of_moves, ArePairsBelow};
@@ -71,7 +72,7 @@ pub(crate) fn is_restless(net: &Net, restless: &[List<bool>], word: Word) -> boo
     false
 }
 
-/// How many agents are in each state of a leaf, counted up to two.
+/// How many agents are in each state of a leaf, counted up to two. It ends where each state was seen twice.
 fn seen_states(alloc: Global, net: &Net, crowd: &Crowd, leaf: u8) -> Result<Vec<u8>, NoMemory>
     requires leaf_in { leaf < length net.now.leaves }
     requires valid { AreValid net.now crowd.now }
@@ -80,9 +81,21 @@ fn seen_states(alloc: Global, net: &Net, crowd: &Crowd, leaf: u8) -> Result<Vec<
     let mut seen = vec![in alloc; 0u8; net.leaf(leaf).state_count() as usize]?;
     for agent in 0..crowd.len() {
         let state = net.lane(crowd.word(agent), leaf) as usize;
-        seen[state] = seen[state].saturating_add(ONCE).min(TWICE);
+        if seen[state] < TWICE {
+            seen[state] += ONCE;
+            if are_all_twice(seen.as_slice()) {
+                return Ok(seen);
+            }
+        }
     }
     Ok(seen)
+}
+
+/// Whether each state was seen twice.
+fn are_all_twice(seen: &[u8]) -> bool
+    ensures { result ≡ list_all (λ count. nat_le TWICE count) seen.now }
+{
+    seen.iter().all(|count| *count >= TWICE)
 }
 
 /// The states of the pairs that can meet.

@@ -6,11 +6,12 @@ use Rattle.terminal_test.specs.TableNet.{table_net}
 use Rattle.terminal_test.proofs.Ends.{not_terminal}
 use Rattle.terminal_test.proofs.pair_table.PairTable.is_terminal.Goals as goal
 
-pub returns-then-are_enabled-clause-terminal : goal.returns-then-are_enabled-clause-terminal
-returns-then-are_enabled-clause-terminal c =
-    let net = table_net c.args.self.now in (
+pub returns-in-Some-pair_beside-clause-terminal : goal.returns-in-Some-pair_beside-clause-terminal
+returns-in-Some-pair_beside-clause-terminal c =
+    let net = table_net c.args.self.now in
+    let next = c.in-Some-pair_beside.next in (
       λ e. cc,
-      λ t. absurd (not_terminal net (crowd_of net c.args.crowd.now) (crowd_tuples net c.args.crowd.now) c.in-Some.a c.in-Some.b (c.are_enabled.ensures.0 c.if-are_enabled.true) t),
+      λ t. absurd (not_terminal net (crowd_of net c.args.crowd.now) (crowd_tuples net c.args.crowd.now) next.0 next.1 c.in-Some-pair_beside.ensures t),
     )
 
 -- whether none was found, given what that means
