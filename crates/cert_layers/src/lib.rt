@@ -1,6 +1,6 @@
 //! The check of a leaf's ranking layers.
 //! It stands on `cert_base`.
-//! The layer above uses: `check_layers` accepts exactly valid layers, by which crowds can reach an end within their bound.
+//! The layer above uses: `check_layers` accepts exactly valid layers, by which crowds can end within their bound.
 #![tactic(auto)]
 
 mod bound;

@@ -1,4 +1,4 @@
--- What the readers of signed numbers, ascending numbers, pairs and tagged lists read, and that they read each such value.
+-- What the readers of signed and ascending numbers, pairs and tagged lists read, and that they read each such value.
 use Rattle.std.proofs.Common.{◌≡◌, ℕ, ◌≤◌, true, cond, nat_le, List, [], ◌∷◌, Option, Some, option_and_then, ℤ, Result, Ok, refl, sym, ap, subst, ◌∙◌, arith}
 use Rattle.std.specs.Prelude.{nat_abs}
 use Rattle.std.proofs.lemmas.Bool.{leb-true, le-leb}
