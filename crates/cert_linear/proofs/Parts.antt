@@ -1,15 +1,15 @@
 -- Sums of facts in two parts, and facts that stay.
-use Rattle.std.proofs.Common.{◌≡◌, ℕ, zero, suc, ◌+◌, ◌<◌, ◌≤◌, min, Bool, true, ◌&&◌, List, [], ◌∷◌, ◌++◌, length, take, drop, get_or, refl, ap, sym, ◌∙◌, subst, arith, int_eq}
-use Rattle.std.specs.Prelude.{pos, negsuc, ◌+ℤ◌, ◌==◌, int_le, All, slice_get, Some, None}
+use Rattle.std.proofs.Common.{◌≡◌, ℕ, zero, suc, ◌+◌, ◌<◌, ◌≤◌, min, Bool, true, false, not, cond, ◌&&◌, ◌⊎◌, inl, inr, filter, List, [], ◌∷◌, ◌++◌, length, take, get_or, refl, ap, sym, ◌∙◌, subst, arith, int_eq}
+use Rattle.std.specs.Prelude.{pos, negsuc, ◌+ℤ◌, ◌==◌, int_le, nat_abs, All, slice_get, None}
+use Rattle.std.specs.List.{list_all}
 use Rattle.std.proofs.lemmas.Int.{ints}
-use Rattle.std.proofs.lemmas.List.{take-append-drop, get_or_default, length-append, length-take}
-use Rattle.std.proofs.lemmas.List.Folds.{list_all-append}
-use Rattle.std.proofs.lemmas.List.Elements.{All-push}
-use Rattle.std.proofs.lemmas.Option.{slice_get_read}
-use Rattle.std.proofs.lemmas.Bool.{eq-eqb, eqb-true}
+use Rattle.std.proofs.lemmas.List.{length-append, length-take}
+use Rattle.std.proofs.lemmas.List.Filters.{length-filter_both}
+use Rattle.std.proofs.lemmas.List.Elements.{All-filter}
+use Rattle.std.proofs.lemmas.Bool.{eq-eqb, eqb-true, ltb-true}
 use Rattle.std.proofs.lemmas.Bool.Decides.{Decides-int_eq}
 use Rattle.pop_net.proofs.Reactions.{and_left, and_right}
-use Rattle.cert_base.specs.declared.limits.TheConstants.{FACT_LIMIT}
+use Rattle.cert_base.specs.declared.limits.TheConstants.{FACT_LIMIT, SIZE_LIMIT}
 use Rattle.cert_base.specs.declared.fact.Term.{Term}
 use Rattle.cert_base.specs.declared.fact.Row.{Row}
 use Rattle.cert_base.specs.declared.fact.Fact.{Fact}
@@ -17,29 +17,61 @@ use Rattle.cert_base.specs.ClosingTests.{scaled, sum_of, coefficient_in, each_co
 use Rattle.cert_linear.specs.declared.sum.Sum.{Sum}
 use Rattle.cert_linear.specs.declared.tally.Tally.{Tally}
 use Rattle.cert_linear.specs.Sums.{IsSum, AreSum, SumsUp}
-use Rattle.cert_linear.specs.Kept.{IsKept, Keeps}
-use Rattle.list_laws.proofs.Lists.{take_one_more, at_front}
+use Rattle.cert_linear.specs.Conditions.{AreMultipliers}
+use Rattle.cert_linear.specs.Kept.{IsKept, Keeps, leads}
+use Rattle.list_laws.proofs.Lists.{all_filtered, at_front}
 use Rattle.cert_base.proofs.WeightedSums.{coefficient-append}
 
-terms-parts : (facts : List Fact) (ts us : List Term) (q : ℕ) → coefficient_in (sum_of facts (ts ++ us)).terms q ≡ (coefficient_in (sum_of facts ts).terms q +ℤ coefficient_in (sum_of facts us).terms q)
-terms-parts facts [] us q = omega (arith, ints)
-terms-parts facts (t ∷ ts) us q =
-    let e = terms-parts facts ts us q in
-    let f = coefficient-append (scaled t.by (slice_get facts t.at)).terms (sum_of facts (ts ++ us)).terms q in
-    let g = coefficient-append (scaled t.by (slice_get facts t.at)).terms (sum_of facts ts).terms q in
+-- the sum of one term more, in one of two parts
+term-more : (facts : List Fact) (t : Term) (b : Bool) (us vs : List Term) (q : ℕ) → (coefficient_in (sum_of facts (cond b (t ∷ us) us)).terms q +ℤ coefficient_in (sum_of facts (cond (not b) (t ∷ vs) vs)).terms q) ≡ (coefficient_in (scaled t.by (slice_get facts t.at)).terms q +ℤ (coefficient_in (sum_of facts us).terms q +ℤ coefficient_in (sum_of facts vs).terms q))
+term-more facts t true us vs q =
+    let f = coefficient-append (scaled t.by (slice_get facts t.at)).terms (sum_of facts us).terms q in omega (arith, ints, f)
+term-more facts t false us vs q =
+    let f = coefficient-append (scaled t.by (slice_get facts t.at)).terms (sum_of facts vs).terms q in omega (arith, ints, f)
+
+constant-more : (facts : List Fact) (t : Term) (b : Bool) (us vs : List Term) → ((sum_of facts (cond b (t ∷ us) us)).constant +ℤ (sum_of facts (cond (not b) (t ∷ vs) vs)).constant) ≡ ((scaled t.by (slice_get facts t.at)).constant +ℤ ((sum_of facts us).constant +ℤ (sum_of facts vs).constant))
+constant-more facts t true us vs = omega (arith, ints)
+constant-more facts t false us vs = omega (arith, ints)
+
+terms-parts : (facts : List Fact) (p : Term → Bool) (ts : List Term) (q : ℕ) → coefficient_in (sum_of facts ts).terms q ≡ (coefficient_in (sum_of facts (filter p ts)).terms q +ℤ coefficient_in (sum_of facts (filter (λ t. not (p t)) ts)).terms q)
+terms-parts facts p [] q = omega (arith, ints)
+terms-parts facts p (t ∷ ts) q =
+    let e = terms-parts facts p ts q in
+    let f = coefficient-append (scaled t.by (slice_get facts t.at)).terms (sum_of facts ts).terms q in
+    let g = term-more facts t (p t) (filter p ts) (filter (λ t. not (p t)) ts) q in
     omega (arith, ints, e, f, g)
 
-constant-parts : (facts : List Fact) (ts us : List Term) → (sum_of facts (ts ++ us)).constant ≡ ((sum_of facts ts).constant +ℤ (sum_of facts us).constant)
-constant-parts facts [] us = omega (arith, ints)
-constant-parts facts (t ∷ ts) us =
-    let e = constant-parts facts ts us in omega (arith, ints, e)
+constant-parts : (facts : List Fact) (p : Term → Bool) (ts : List Term) → (sum_of facts ts).constant ≡ ((sum_of facts (filter p ts)).constant +ℤ (sum_of facts (filter (λ t. not (p t)) ts)).constant)
+constant-parts facts p [] = omega (arith, ints)
+constant-parts facts p (t ∷ ts) =
+    let e = constant-parts facts p ts in
+    let g = constant-more facts t (p t) (filter p ts) (filter (λ t. not (p t)) ts) in
+    omega (arith, ints, e, g)
 
--- the sums of both parts are the whole sum
-pub parts_sum : (facts : List Fact) (ts us : List Term) (lead rest : Sum) → IsSum (sum_of facts ts) lead → IsSum (sum_of facts us) rest → AreSum (sum_of facts (ts ++ us)) rest lead
-parts_sum facts ts us lead rest is other = record {
-  terms = λ q. let e = terms-parts facts ts us q in let f = is.terms q in let g = other.terms q in omega (arith, ints, e, f, g);
-  constant = let e = constant-parts facts ts us in let f = is.constant in let g = other.constant in omega (arith, ints, e, f, g);
+-- the sums of the terms that pass a test and of the others are the whole sum
+parts_sum : (facts : List Fact) (p : Term → Bool) (ts : List Term) (lead rest : Sum) → IsSum (sum_of facts (filter p ts)) lead → IsSum (sum_of facts (filter (λ t. not (p t)) ts)) rest → AreSum (sum_of facts ts) rest lead
+parts_sum facts p ts lead rest is other = record {
+  terms = λ q. let e = terms-parts facts p ts q in let f = is.terms q in let g = other.terms q in omega (arith, ints, e, f, g);
+  constant = let e = constant-parts facts p ts in let f = is.constant in let g = other.constant in omega (arith, ints, e, f, g);
 }
+
+first : {all : Bool} (here a b : Bool) → all ≡ (a && b) → (here && all) ≡ ((here && a) && b)
+first true a b e = e
+first false a b e = refl
+
+second : {all : Bool} (here a b : Bool) → all ≡ (a && b) → (here && all) ≡ (a && (here && b))
+second true a b e = e
+second false true b e = refl
+second false false b e = refl
+
+-- a test passes for all terms exactly when it does for both parts
+named-parts : (f p : Term → Bool) (ts : List Term) → list_all f ts ≡ (list_all f (filter p ts) && list_all f (filter (λ t. not (p t)) ts))
+named-parts f p [] = refl
+named-parts f p (t ∷ ts) = go (p t) (named-parts f p ts)
+  where
+    go : (b : Bool) → list_all f ts ≡ (list_all f (filter p ts) && list_all f (filter (λ t. not (p t)) ts)) → (f t && list_all f ts) ≡ (list_all f (cond b (t ∷ filter p ts) (filter p ts)) && list_all f (cond (not b) (t ∷ filter (λ t. not (p t)) ts) (filter (λ t. not (p t)) ts)))
+    go true e = first (f t) (list_all f (filter p ts)) (list_all f (filter (λ t. not (p t)) ts)) e
+    go false e = second (f t) (list_all f (filter p ts)) (list_all f (filter (λ t. not (p t)) ts)) e
 
 sum-same : (stable : ℕ) (facts other : List Fact) → ((n : ℕ) → n < stable → slice_get other n ≡ slice_get facts n) → (ts : List Term) → All (λ t. t.at < stable) ts → sum_of other ts ≡ sum_of facts ts
 sum-same stable facts other same [] below = refl
@@ -76,22 +108,35 @@ sums_true facts terms sum b e k =
     (all.0, all.1)
 
 -- the terms close exactly when the sums of both parts do
-pub parts_close : (facts : List Fact) (terms front back : List Term) (n : ℕ) (r : Bool) (lead rest : Sum) → front ≡ take n terms → back ≡ drop n terms → all_named may_add facts front ≡ true → all_named may_add facts back ≡ true → IsSum (sum_of facts front) lead → IsSum (sum_of facts back) rest → ((row : Row) → AreSum row rest lead → r ≡ (each_coefficient (λ a. int_le a (pos 0)) row && int_le row.constant (negsuc 0))) → r ≡ closes_by_sum facts terms
-parts_close facts terms front back n r lead rest f b may may_rest is other says =
-    let whole : front ++ back ≡ terms = rw (f, b) (take-append-drop n terms) in
-    let named : all_named may_add facts (front ++ back) ≡ true = list_all-append (λ t. may_have may_add t.by (slice_get facts t.at)) front back ∙ rw (may, may_rest) refl in
-    let sum = sum_of facts (front ++ back) in
-    let here : r ≡ closes_by_sum facts (front ++ back) =
-    says sum (parts_sum facts front back lead rest is other)
-    ∙ sym (ap (λ (c : Bool). c && each_coefficient (λ a. int_le a (pos 0)) sum && int_le sum.constant (negsuc 0)) named) in
-    subst (λ ts. r ≡ closes_by_sum facts ts) whole here
+pub parts_close : (facts : List Fact) (p : Term → Bool) (terms : List Term) (r : Bool) (lead rest : Sum) → all_named may_add facts (filter p terms) ≡ true → all_named may_add facts (filter (λ t. not (p t)) terms) ≡ true → IsSum (sum_of facts (filter p terms)) lead → IsSum (sum_of facts (filter (λ t. not (p t)) terms)) rest → ((row : Row) → AreSum row rest lead → r ≡ (each_coefficient (λ a. int_le a (pos 0)) row && int_le row.constant (negsuc 0))) → r ≡ closes_by_sum facts terms
+parts_close facts p terms r lead rest may may_rest is other says =
+    let named : all_named may_add facts terms ≡ true = named-parts (λ t. may_have may_add t.by (slice_get facts t.at)) p terms ∙ rw (may, may_rest) refl in
+    let sum = sum_of facts terms in
+    says sum (parts_sum facts p terms lead rest is other)
+    ∙ sym (ap (λ (c : Bool). c && each_coefficient (λ a. int_le a (pos 0)) sum && int_le sum.constant (negsuc 0)) named)
 
--- one more term is of a fact below the number
-pub all_more : (stable : ℕ) (ts : List Term) (i : ℕ) (d : Term) → i < length ts → All (λ t. t.at < stable) (take i ts) → (get_or ts i d).at < stable → All (λ t. t.at < stable) (take (i + 1) ts)
-all_more stable ts i d l before here =
-    let t = get_or ts i d in
-    let is : slice_get ts i ≡ Some t = slice_get_read ts (length ts) i t refl l (sym (get_or_default ts i t d l)) in
-    subst (λ us. All (λ t. t.at < stable) us) (sym (take_one_more ts i t is)) (All-push (λ t. t.at < stable) (take i ts) t before here)
+-- they don't close if one part may not be added
+pub part_fails : (facts : List Fact) (p : Term → Bool) (terms : List Term) → ((all_named may_add facts (filter p terms) ≡ false) ⊎ (all_named may_add facts (filter (λ t. not (p t)) terms) ≡ false)) → false ≡ closes_by_sum facts terms
+part_fails facts p terms fails =
+    let sum = sum_of facts terms in
+    let test : Term → Bool = λ t. may_have may_add t.by (slice_get facts t.at) in
+    sym (ap (λ (c : Bool). c && each_coefficient (λ a. int_le a (pos 0)) sum && int_le sum.constant (negsuc 0)) (named-parts test p terms ∙ none (list_all test (filter p terms)) (list_all test (filter (λ t. not (p t)) terms)) fails))
+  where
+    none : (a b : Bool) → (a ≡ false) ⊎ (b ≡ false) → (a && b) ≡ false
+    none false b e = refl
+    none true b (inl e) = cc
+    none true b (inr e) = e
+
+-- the terms of a part have their multipliers within the limits
+pub part_multipliers : (p : Term → Bool) (terms : List Term) → AreMultipliers terms → AreMultipliers (filter p terms)
+part_multipliers p terms are = record {
+  few = let all = length-filter_both p (λ t. not (p t)) (λ t. refl) terms in let few = are.few in omega (arith, all, few);
+  small = All-filter p (λ t. nat_abs t.by ≤ SIZE_LIMIT) terms are.small;
+}
+
+-- the leading terms name facts below the number
+pub leads_below : (stable : ℕ) (terms : List Term) → All (λ t. t.at < stable) (filter (leads stable) terms)
+leads_below stable terms = all_filtered (leads stable) (λ t. t.at < stable) terms (λ k d l e. ltb-true (get_or terms k d).at stable e)
 
 -- what `==` says of two terms
 pub same_term : (a b : Term) → ((a.at == b.at) && int_eq a.by b.by ≡ true → a ≡ b) × (a ≡ b → (a.at == b.at) && int_eq a.by b.by ≡ true)

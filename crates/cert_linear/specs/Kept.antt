@@ -1,11 +1,15 @@
 -- A sum of facts, one part of which is kept.
-use Rattle.std.specs.Prelude.{◌≡◌, ℕ, ◌<◌, List, All, Bool, true, false}
+use Rattle.std.specs.Prelude.{◌≡◌, ℕ, ◌<◌, List, All, Bool, true, false, nat_lt}
 use Rattle.cert_base.specs.declared.fact.Term.{Term}
 use Rattle.cert_base.specs.declared.fact.Fact.{Fact}
 use Rattle.cert_base.specs.ClosingTests.{all_named, may_add, sum_of}
 use Rattle.cert_linear.specs.declared.sum.TheConstants.{SUM_LIMIT}
 use Rattle.cert_linear.specs.declared.tally.Tally.{Tally}
 use Rattle.cert_linear.specs.Sums.{IsTidy, IsSum, IsSumWithin, HasAllPositive}
+
+-- whether a term names a fact below a number
+abbrev pub leads : ℕ → Term → Bool
+leads stable t = nat_lt t.at stable
 
 -- the lead is the sum of the kept terms, which name facts below a number and may have their multipliers; its positive
 -- variables are listed

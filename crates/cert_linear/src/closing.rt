@@ -26,7 +26,7 @@ pub fn linear_closes(
     requires { IsCombination facts.now terms.now }
     ensures { IfOk result (TellsRefuted facts.now (closes_by_sum facts.now terms.now)) }
 {
-    Tally::new(alloc).closes(facts.as_slice(), 0, terms.as_slice())
+    Tally::new(alloc).closes(alloc, facts.as_slice(), 0, terms.as_slice())
 }
 
 /// Whether the sum of the named facts, each times its multiplier, is no multiple of the modulus by its constant alone

@@ -1,10 +1,11 @@
 //! A sum of facts in two parts, one of which is kept.
 
-ghost use Rattle.std.specs.Prelude.{◌≡◌, ◌≤◌, ◌<◌, ℕ, List, [], length, take, All, IfOk, IsTrue};
+ghost use Rattle.std.specs.Prelude.{◌≡◌, ◌≤◌, ◌<◌, ℕ, List, [], length, not, All, IfOk, IsTrue};
 ghost use Rattle.cert_base.specs.ClosingTests.{closes_by_sum};
 ghost use Rattle.cert_linear.specs.Conditions.{IsOrdered, AreMultipliers, AreNamed};
 ghost use Rattle.cert_base.specs.declared.fact.Fact.{Fact};
-ghost use Rattle.cert_linear.specs.Kept.{IsKept, Keeps, Makes};
+ghost use Rattle.std.specs.List.{filter};
+ghost use Rattle.cert_linear.specs.Kept.{IsKept, Keeps, Makes, leads};
 ghost use Rattle.cert_linear.specs.Sums.{IsTidy};
 
 use crate::closing::sum_up;
@@ -62,9 +63,10 @@ impl Tally {
         len
     }
 
-    /// Whether the sum of the named facts refutes them. The prefix of terms that name facts below `stable` is leading.
+    /// Whether the sum of the named facts refutes them. The terms that name facts below `stable` are leading.
     pub(crate) fn closes(
         &mut self,
+        alloc: Global,
         facts: &[Fact],
         stable: u32,
         terms: &[Term],
@@ -76,13 +78,16 @@ impl Tally {
         ensures closes { IfOk result (λ closes. closes ≡ closes_by_sum facts.now terms.now) }
         ensures kept { IsKept stable facts.now self.new }
     {
-        let (lead, rest) = terms.split_at(leading(terms, stable));
-        if !self.keep(facts, stable, lead)? {
+        let lead = leading(alloc, terms, stable)?;
+        if !self.keep(facts, stable, lead.as_slice())? {
             return Ok(false);
         }
-        let may_add = sum_up(&mut self.rest, facts, rest, None)?;
+        let rest = following(alloc, terms, stable)?;
+        if !sum_up(&mut self.rest, facts, rest.as_slice(), None)? {
+            return Ok(false);
+        }
         let positive = self.positive.as_slice();
-        Ok(may_add && self.rest.is_negative_with(&self.lead, positive))
+        Ok(self.rest.is_negative_with(&self.lead, positive))
     }
 
     /// Keeps the sum of these terms, unless one may not have its multiplier.
@@ -129,17 +134,28 @@ impl Tally {
     }
 }
 
-/// The length of the prefix of terms that name facts below a number.
-fn leading(terms: &[Term], stable: u32) -> usize
-    ensures within { result ≤ length terms.now }
-    ensures stable { All (λ t. t.at < stable) (take result terms.now) }
+/// The terms that name facts below a number.
+fn leading(alloc: Global, terms: &[Term], stable: u32) -> Result<Vec<Term>, NoMemory>
+    ensures { IfOk result (λ lead. lead.items ≡ filter (leads stable) terms.now) }
 {
-    for (i, term) in terms.iter().enumerate() {
-        if term.at >= stable {
-            return i;
-        }
-    }
-    terms.len()
+    let lead = terms
+        .iter()
+        .copied()
+        .filter(|term| term.at < stable)
+        .collect(alloc)?;
+    Ok(lead)
+}
+
+/// All other terms.
+fn following(alloc: Global, terms: &[Term], stable: u32) -> Result<Vec<Term>, NoMemory>
+    ensures { IfOk result (λ rest. rest.items ≡ filter (λ t. not (leads stable t)) terms.now) }
+{
+    let rest = terms
+        .iter()
+        .copied()
+        .filter(|term| term.at >= stable)
+        .collect(alloc)?;
+    Ok(rest)
 }
 
 /// Whether two lists of terms are the same.

@@ -109,7 +109,7 @@ impl Trail {
         requires { IsCombination self.now terms.now }
         ensures { IfOk result (TellsRefuted self.now (closes_by_sum self.now terms.now)) }
     {
-        Tally::new(self.alloc).closes(self.facts.as_slice(), 0, terms.as_slice())
+        Tally::new(self.alloc).closes(self.alloc, self.facts.as_slice(), 0, terms.as_slice())
     }
 
     /// Whether the facts are refuted as by `residue_closes`. It sums up in memory of its own.
@@ -128,8 +128,12 @@ impl Trail {
         ensures answer { IfOk result (TellsRefuted self.old (closes_by_sum self.old terms.now)) }
         ensures unchanged { self.new ≡ self.old }
     {
-        self.tally
-            .closes(self.facts.as_slice(), self.stable, terms.as_slice())
+        self.tally.closes(
+            self.alloc,
+            self.facts.as_slice(),
+            self.stable,
+            terms.as_slice(),
+        )
     }
 
     /// `residue` in the trail's memory.
