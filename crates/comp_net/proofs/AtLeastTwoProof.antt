@@ -1,6 +1,6 @@
 -- The compiled net for `x >= 2`, and what is known of all compiled nets.
 use Rattle.std.proofs.Common.{◌≡◌, ◌≢◌, ◌∙◌, ℕ, List, [], ◌∷◌, refl, ap, sym, subst, arith}
-use Rattle.std.specs.Prelude.{ℤ, negsuc, All, IsTrue}
+use Rattle.std.specs.Prelude.{ℤ, negsuc, IsTrue}
 use Rattle.std.specs.Fmt.{decimal}
 use Rattle.std.proofs.lemmas.Fmt.{decimal_digit}
 use Rattle.std.proofs.lemmas.List.Elements.{All-nil, All-cons}

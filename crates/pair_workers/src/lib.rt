@@ -21,7 +21,7 @@ pub use ends::{end_of, goes_on};
 pub use examples::{pick_examples, run_examples};
 pub use meet::meet_next;
 pub use picker::Picker;
-pub use round::run_round;
+pub use round::{next_round, run_round};
 pub use round_end::RoundEnd;
 pub use seats::{meetings_made, open_round, take_in};
 pub use signals::Signals;

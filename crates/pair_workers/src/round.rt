@@ -120,7 +120,7 @@ fn plain_round<G: Gate>(
 }
 
 /// Each worker makes its next picks and meetings: one worker on the plain crowd, and more in parallel on a field.
-pub(crate) fn next_round<R: Threads + Wait + Sync, G: Gate>(
+pub fn next_round<R: Threads + Wait + Sync, G: Gate>(
     rt: &R,
     alloc: Global,
     net: &Net,

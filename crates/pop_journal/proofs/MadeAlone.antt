@@ -4,6 +4,7 @@ use Rattle.std.specs.Prelude.{codes}
 use Rattle.pop_lines.specs.Lines.{ended}
 use Rattle.pop_net.specs.NetModel.{NetModel, CrowdModel}
 use Rattle.pop_crowd.specs.declared.crowd.Meeting.{Meeting}
+use Rattle.pop_words.specs.declared.kind.RunKind.{RunKind}
 use Rattle.pop_words.specs.declared.kind.RunKind.TheVariants.{Whole}
 use Rattle.pop_words.specs.declared.spec.RunSpec.{RunSpec}
 use Rattle.pair_workers.proofs.ManyRounds.{AreOnTheRun}
@@ -18,9 +19,9 @@ pub record Made (net : NetModel) (start : CrowdModel) (spec : RunSpec) (before t
   pub next : number ≡ length rounds + 1
 
 -- the run's lines up to `end`
-pub ended_text : (spec : RunSpec) (before text after : List ℕ) (rounds : List (List Meeting)) → text ≡ (before ++ ended (run_line Whole spec)) ++ text_of (round_lines 1 rounds) → after ≡ text ++ codes "end\n"
-    → after ≡ before ++ text_of (run_lines Whole spec rounds)
-ended_text spec before text after rounds so_far last =
-    let line = ended (run_line Whole spec) in
+pub ended_text : (kind : RunKind) (spec : RunSpec) (before text after : List ℕ) (rounds : List (List Meeting)) → text ≡ (before ++ ended (run_line kind spec)) ++ text_of (round_lines 1 rounds) → after ≡ text ++ codes "end\n"
+    → after ≡ before ++ text_of (run_lines kind spec rounds)
+ended_text kind spec before text after rounds so_far last =
+    let line = ended (run_line kind spec) in
     let lines = text_of (round_lines 1 rounds) in
-    last ∙ ap (λ (t : List ℕ). t ++ codes "end\n") (so_far ∙ append_assoc before line lines) ∙ append_assoc before (line ++ lines) (codes "end\n") ∙ ap (λ (t : List ℕ). before ++ t) (run_text Whole spec rounds)
+    last ∙ ap (λ (t : List ℕ). t ++ codes "end\n") (so_far ∙ append_assoc before line lines) ∙ append_assoc before (line ++ lines) (codes "end\n") ∙ ap (λ (t : List ℕ). before ++ t) (run_text kind spec rounds)

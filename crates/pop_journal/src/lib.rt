@@ -25,4 +25,7 @@ pub use law::{one_spelling, written_holds};
 pub use read::read_journal;
 pub use short::short_pair;
 pub use verdict::verify;
-pub use write::{push_end, push_journal, push_last_line, write_journal};
+pub use write::{
+    MEETING_ROOM, PAGE_SIZE, push_end, push_journal, push_last_line, push_round, push_run_line,
+    write_journal,
+};

@@ -3,3 +3,4 @@ pub mod Journals
 pub mod Laws
 pub mod Work
 pub mod Playing
+pub mod WrittenRuns

@@ -1,10 +1,14 @@
 -- What is prepared, and the outputs that it leads to.
-use Rattle.std.specs.Prelude.{◌≡◌, ℕ, ◌≤◌, List, length, Result, Ok, Err}
+use Rattle.std.specs.Prelude.{◌≡◌, ℕ, ◌≤◌, List, ◌++◌, length, Result, Ok, Err}
 use Rattle.pop_net.specs.NetModel.{number_of_helpers}
 use Rattle.pop_net.specs.InputCrowd.{IsInput, input_crowd}
 use Rattle.pop_net.specs.Lanes.{crowd_of, AreValid}
+use Rattle.pop_net.specs.declared.net.Word.{Word}
+use Rattle.pop_crowd.specs.declared.crowd.Meeting.{Meeting}
 use Rattle.pair_workers.specs.WatchedRun.{IsRunOf}
+use Rattle.pair_workers.specs.declared.alone.End.{End}
 use Rattle.pair_workers.specs.declared.alone.RunEnd.{RunEnd}
+use Rattle.pop_journal.specs.Journal.{run_lines, text_of}
 use Rattle.pop_words.specs.declared.kind.RunKind.TheVariants.{Whole}
 use Rattle.pop_words.specs.Kinds.{most_workers_of}
 use Rattle.pop_words.specs.Options.{IsWithinLimits}
@@ -34,6 +38,12 @@ pub record IsRunOfSetting (setting : Setting) (ran : RunEnd) : Type 0 where
       (input_crowd setting.checked.net setting.counts) setting.spec ran.rounds (crowd_of setting.checked.net ran.crowd)
   pub last : IsLast setting.checked.net (crowd_of setting.checked.net ran.crowd) (open_pair ran.end)
   pub valid : AreValid setting.checked.net ran.crowd
+
+-- a run of this setting was made to this end, and its lines up to `end` follow these
+pub record IsWrittenTo (setting : Setting) (lines written : List ℕ) (crowd : List Word) (end : End) : Type 0 where
+  pub rounds : List (List Meeting)
+  pub run : IsRunOfSetting setting (record { rounds = rounds; crowd = crowd; end = end })
+  pub text : written ≡ lines ++ text_of (run_lines setting.kind setting.spec rounds)
 
 -- what is given for a run of this setting after these lines
 abbrev pub IsOutputOfSetting : Setting → List ℕ → Output → Type 0

@@ -1,6 +1,6 @@
 //! The commands `run` and `watch`.
 
-ghost use Rattle.std.specs.Prelude.{◌≡◌, ◌≤◌, ◌↔◌, ◌++◌, length, IfOk, IsTrue};
+ghost use Rattle.std.specs.Prelude.{◌≡◌, ◌≤◌, ◌↔◌, ◌++◌, ℕ, List as Items, length, IfOk, IsTrue};
 ghost use Rattle.pop_lines.specs.Lines.{lines_of, ended};
 ghost use Rattle.pres_ast.specs.PredicateValue.{predicate_value};
 ghost use Rattle.pop_net.specs.NetModel.{number_of_helpers};
@@ -15,19 +15,19 @@ ghost use Rattle.tool_commands.specs.Play.{IsLast};
 ghost use Rattle.tool_commands.specs.Start.{IsStart};
 ghost use Rattle.tool_commands.specs.Bundles.{IsBundleWithin};
 ghost use Rattle.tool_commands.specs.Run.{journal_end, run_ending, open_pair, OfBegun, RunGives};
-ghost use Rattle.tool_commands.specs.Prepared.{CanRun, IsRunOfSetting, IsOutputOfSetting, IsOutputOfRun};
+ghost use Rattle.tool_commands.specs.Prepared.{CanRun, IsWrittenTo, IsOutputOfSetting, IsOutputOfRun};
 ghost use Rattle.tool_commands.specs.Prepared.{NeedsNoThreads, Prepares, IsPending};
 
 use crate::bundle::{begin, check_bundle};
 use crate::prepared::{PendingRun, Prepared, Setting};
 use crate::start::Start;
 use cert_json::Bundle;
-use pair_workers::{End, RunEnd, run_all};
+use pair_workers::End;
 use pop_checker::{CheckFault, Checked};
 use pop_crowd::Crowd;
 use pop_io::{Gate, List, NoMemory};
-use pop_journal::{Last, push_end, push_journal, push_run_alone};
-use pop_watch::run_watched;
+use pop_journal::{Last, push_end, push_run_alone};
+use pop_watch::push_run;
 use pop_words::{RunKind, RunSpec};
 use std::alloc::{AllocError, Global};
 use std::sync::Wait;
@@ -78,21 +78,23 @@ fn both_lines(alloc: Global, first: &[u8], second: &[u8]) -> Result<List<u8>, Al
     Ok(List::from_vec(text))
 }
 
-/// The output of a run: the input lines, and its journal.
+/// The output of a run that was made to its end: the text with its last crowd and its last line added.
 fn run_output(
     alloc: Global,
-    lines: List<u8>,
+    text: Vec<u8>,
     setting: &Setting,
-    run: &RunEnd,
+    crowd: &Crowd,
+    end: End,
 ) -> Result<Output, NoMemory>
-    requires { IsRunOfSetting setting.now run.now }
-    ensures { IfOk result (IsOutputOfSetting setting.now lines) }
+    requires { (lines : Items ℕ) × IsWrittenTo setting.now lines text.items crowd.now end }
+    ensures { IfOk result
+        (λ output. (lines : Items ℕ) → IsWrittenTo setting.now lines text.items crowd.now end
+        → IsOutputOfSetting setting.now lines output) }
 {
+    let mut text = text;
     let counts = setting.counts.as_slice();
-    let (last, ending) = last_and_ending(&setting.checked, counts, &run.crowd, run.end);
-    let (net, spec) = (setting.checked.net(), &setting.spec);
-    let mut text = lines.into_vec();
-    push_journal(alloc, &mut text, setting.kind, net, spec, run, last)?;
+    let (last, ending) = last_and_ending(&setting.checked, counts, crowd, end);
+    push_end(alloc, &mut text, setting.checked.net(), crowd, last)?;
     Ok(Output::new(text, ending))
 }
 
@@ -111,33 +113,10 @@ pub fn make_alone<G: Gate>(alloc: Global, run: PendingRun, gate: &G) -> Result<O
     let (net, spec) = (setting.checked.net(), &setting.spec);
     let mut text = lines.into_vec();
     let (last_crowd, end) = push_run_alone(alloc, &mut text, net, crowd, spec, gate)?;
-    let counts = setting.counts.as_slice();
-    let (last, ending) = last_and_ending(&setting.checked, counts, &last_crowd, end);
-    push_end(alloc, &mut text, net, &last_crowd, last)?;
-    Ok(Output::new(text, ending))
+    run_output(alloc, text, &setting, &last_crowd, end)
 }
 
-/// A run of this setting by workers on threads.
-fn run_on_threads<R: Threads + Wait + Sync, G: Gate>(
-    rt: &R,
-    alloc: Global,
-    setting: &Setting,
-    crowd: Crowd,
-    gate: &G,
-) -> Result<RunEnd, NoMemory>
-    requires limits { IsWithinLimits setting.now.spec }
-    requires workers { setting.now.spec.workers ≤ most_workers_of setting.now.kind }
-    requires start { IsStart setting.now.checked.net (record { counts = setting.now.counts; crowd = crowd }) }
-    ensures { IfOk result (IsRunOfSetting setting.now) }
-{
-    let (net, spec) = (setting.checked.net(), &setting.spec);
-    match setting.kind {
-        RunKind::Whole => run_all(rt, alloc, net, crowd, spec, gate),
-        RunKind::Watched => run_watched(rt, alloc, net, crowd, spec, gate),
-    }
-}
-
-/// Makes a run by workers on threads, which may wait for one another.
+/// Makes a run by workers on threads, which may wait for one another, and writes it while it runs.
 pub fn make_on_threads<R: Threads + Wait + Sync, G: Gate>(
     rt: &R,
     alloc: Global,
@@ -152,8 +131,10 @@ pub fn make_on_threads<R: Threads + Wait + Sync, G: Gate>(
         setting,
         crowd,
     } = run;
-    let end = run_on_threads(rt, alloc, &setting, crowd, gate)?;
-    run_output(alloc, lines, &setting, &end)
+    let (net, spec) = (setting.checked.net(), &setting.spec);
+    let mut text = lines.into_vec();
+    let (last_crowd, end) = push_run(rt, alloc, &mut text, setting.kind, net, crowd, spec, gate)?;
+    run_output(alloc, text, &setting, &last_crowd, end)
 }
 
 /// The run that is still to be made, alone or on threads.

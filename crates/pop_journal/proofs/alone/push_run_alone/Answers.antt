@@ -1,7 +1,8 @@
-use Rattle.std.proofs.Common.{◌≡◌, ℕ, ◌+◌, ◌-◌, min, [], ◌∷◌, ◌++◌, sym, ap, subst, ◌∙◌, arith, rules, refl, append-nil, length-append}
+use Rattle.std.proofs.Common.{◌≡◌, ℕ, ◌-◌, min, [], ◌∷◌, ◌++◌, sym, ap, subst, ◌∙◌, arith, rules, refl, append-nil, length-append}
 use Rattle.std.specs.Prelude.{true, ◌↔◌}
 use Rattle.pop_net.specs.NetModel.{NetModel}
 use Rattle.pop_net.specs.Lanes.{crowd_of, AreValid}
+use Rattle.pop_words.specs.declared.kind.RunKind.TheVariants.{Whole}
 use Rattle.pair_workers.specs.Turns.{ArePlayed}
 use Rattle.pair_workers.specs.Ends.{RunGoesOn}
 use Rattle.pair_workers.proofs.ManyRounds.{AreOnTheRun, alone_played, all_more_rounds, all_no_rounds, first_alone}
@@ -52,7 +53,7 @@ returns g c =
     record {
       rounds = made.rounds;
       run = record { run = run; only = only_run net _ c.args.spec.now _ _ c.requires.alone run.run };
-      text = ended_text c.args.spec.now c.args.text.now.items c.rounds.text.items _ made.rounds made.written c.in_ok-extend_from_slice.ensures.items;
+      text = ended_text Whole c.args.spec.now c.args.text.now.items c.rounds.text.items _ made.rounds made.written c.in_ok-extend_from_slice.ensures.items;
     }
 
 pub rounds-init : goal.rounds-init
