@@ -3,7 +3,7 @@ use Rattle.std.proofs.Common.{◌≡◌, ◌≢◌, ◌⊎◌, ℕ, get_or, zero
 use mathlib.Core.List.{append-nil}
 use mathlib.Core.Option.{Option, some, some-injective, some-ne-none}
 use lib.ListN.{get_elem?}
-use Rattle.std.proofs.lemmas.List.{length-map}
+use Rattle.std.proofs.lemmas.List.{length-map, set-get_or}
 use Rattle.pop_net.specs.NetModel.{NetModel}
 use Rattle.pop_net.specs.Lanes.{tuple_of, crowd_of, AreValid}
 use Rattle.pop_net.specs.Step.{Step}
@@ -18,9 +18,9 @@ use Rattle.pop_crowd.specs.Replay.{reacts}
 use Rattle.agent_field.specs.declared.view.Setup.{Setup}
 use Rattle.agent_field.specs.declared.view.View.{View}
 use Rattle.agent_field.specs.History.{made}
-use Rattle.agent_field.specs.Standing.{agents_opened, crowd_after, Stands, In, StandsAt, IsUnfounded, founder, joined_away, opening_words}
-use Rattle.agent_field.specs.Steps.{IsReaction, first_seat, meeting_made, looking}
-use Rattle.agent_field.specs.Kinds.{Sits, QuietStep, makes, locks, finds_locked, reads, writes, unlocks, splits, joins, looks, DrawStep, draws, FieldRun, stays, goes, meets, HasHistory, EachMomentStands}
+use Rattle.agent_field.specs.Standing.{agents_opened, agent_at, crowd_after, Stands, In, StandsAt, IsUnfounded, founder, joined_away, opening_words}
+use Rattle.agent_field.specs.Steps.{IsReaction, first_seat, meeting_made, writing, looking}
+use Rattle.agent_field.specs.Kinds.{Sits, QuietStep, makes, locks, finds_locked, reads, writes, finds_written, unlocks, splits, joins, looks, DrawStep, draws, FieldRun, stays, goes, meets, HasHistory, EachMomentStands}
 use Rattle.agent_field.proofs.Keeps.{locks_keep, releases_keep, reads_keep, writes_keep}
 use Rattle.agent_field.proofs.Draws.{known_after, draws_keep}
 use Rattle.agent_field.proofs.Watching.{looks_keep}
@@ -59,6 +59,10 @@ module _ (k : Setup) where
       let t = is_founded words views history id v h is in inr (t.0, reads_keep k words views history t.0 t.1 id v is.at is.live a may.inside may.locked may.due)
   quiet _ _ _ _ history (writes words views id v a y is owed) h =
       let t = is_founded words views history id v h is in inr (t.0, writes_keep k words views history t.0 t.1 id v is.at is.live a y owed)
+  quiet _ _ _ _ history (finds_written words views id v a y is owed stands) h =
+      let t = is_founded words views history id v h is in
+      let same : set words (agent_at k a) y.0 ≡ words = ap (λ (z : Word). set words (agent_at k a) z.0) (sym stands) ∙ set-get_or words (agent_at k a) 0 in
+      inr (t.0, subst (λ (ws : List ℕ). StandsAt k ws (set views id (writing a v)) history t.0) same (writes_keep k words views history t.0 t.1 id v is.at is.live a y owed))
   quiet _ _ _ _ history (unlocks words views id v s is may) h =
       let t = is_founded words views history id v h is in inr (t.0, releases_keep k words views history t.0 t.1 id v is.at is.live s may.before may.last may.once may.due)
   quiet _ _ _ _ history (splits words views id v is zeroth room) h =

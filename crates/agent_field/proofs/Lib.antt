@@ -11,6 +11,7 @@ pub mod Moves
 pub mod EachMoment
 pub mod BesideThird
 pub mod Drawn
+pub mod Finding
 pub mod Arranged
 pub mod Lent
 pub mod Renewing

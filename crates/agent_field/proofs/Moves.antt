@@ -16,7 +16,7 @@ use Rattle.agent_field.specs.declared.view.Setup.{Setup}
 use Rattle.agent_field.specs.declared.view.View.{View}
 use Rattle.agent_field.specs.History.{made}
 use Rattle.agent_field.specs.Standing.{agents_opened, lock_at, agent_at, agent_word, shard_of, In, founder, joined_away, StandsAt, IsUnfounded, FieldStands}
-use Rattle.agent_field.specs.Steps.{Mine, CanLock, CanUnlock, CanRead, seen, first_seat, holding, releasing, knowing, IsReaction, MayDraw, HasSeenAll, meeting_made, writing, kept_back, newcomer, taking_in, looking, IsNewest, IsDrawnAt, IsSeenAt, Founds, Locks, Unlocks, Reads, Draws, Writes, Watches}
+use Rattle.agent_field.specs.Steps.{Mine, CanLock, CanUnlock, CanRead, seen, first_seat, holding, releasing, knowing, IsReaction, MayDraw, HasSeenAll, meeting_made, writing, kept_back, newcomer, taking_in, looking, IsNewest, IsDrawnAt, IsSeenAt, Founds, Locks, Unlocks, Reads, Draws, Writes, FindsWritten, Watches}
 use Rattle.agent_field.proofs.InTurns.{lock_once, agent_once}
 use Rattle.agent_field.proofs.Keeps.{locks_keep, releases_keep, reads_keep, writes_keep}
 use Rattle.agent_field.proofs.Draws.{draws_keep, is_newest, is_drawn_at, history_fits}
@@ -159,6 +159,21 @@ module _ (k : Setup) where
         ),
       )
 
+  finds_written : (slots id : ℕ) (me : Mine) (a : ℕ) (y : Word) → me.0.live ≡ true → me.0.setup ≡ k → In (a, y) me.0.due
+      → Allows (FieldStands k) slots id me (agent_at k a) (λ r. r) (FindsWritten (step slots (agent_at k a) 0 0 none) me)
+  finds_written slots id me a y live setup is state h _ at _ =
+      let x : ℕ = get_or state.words (agent_at k a) 0 in
+      let place : agent_at k a ≡ agent_at me.0.setup a = ap (λ (z : Setup). agent_at z a) (sym setup) in
+      dite (ℕ_discrete x y.0)
+      (λ hit. let t = founded state h id me.0 at live in (
+        writing a me.0,
+        keeps,
+        tt,
+        inr (t.0, t.1, subst (λ (n : ℕ). StandsAt k (set state.words (agent_at k a) n) (set state.views id (writing a me.0)) t.0 t.1) (sym hit) (writes_keep k state.words state.views t.0 t.1 t.2 id me.0 at live a y is)),
+        (a, y, place, is, (λ _. refl), λ miss. absurd (miss hit)),
+      ))
+      (λ miss. (me.0, keeps, tt, unmoved state (agent_at k a) id me h at, (a, y, place, is, (λ hit. absurd (miss hit)), λ _. refl)))
+
   pub splits : (id : ℕ) (v : View) → v.live ≡ true → v.number ≡ 0 → v.next < k.seats → Splits (FieldStands k) id v (kept_back v) (newcomer v)
   splits id v live zeroth room state h at =
       let t = founded state h id v at live in
@@ -208,3 +223,8 @@ module _ (k : Setup) where
       → Allows (FieldStands k) slots id me i (λ _. y.0) (λ _. Writes (step slots i y.0 0 none) me y.0)
   writes_at slots id me a y i is live setup owed =
       subst (λ (j : ℕ). Allows (FieldStands k) slots id me j (λ _. y.0) (λ _. Writes (step slots j y.0 0 none) me y.0)) (sym is) (writes slots id me a y live setup owed)
+
+  pub finds_written_at : (slots id : ℕ) (me : Mine) (a : ℕ) (y : Word) (i : ℕ) → i ≡ agent_at k a → me.0.live ≡ true → me.0.setup ≡ k → In (a, y) me.0.due
+      → Allows (FieldStands k) slots id me i (λ r. r) (FindsWritten (step slots i 0 0 none) me)
+  finds_written_at slots id me a y i is live setup owed =
+      subst (λ (j : ℕ). Allows (FieldStands k) slots id me j (λ r. r) (FindsWritten (step slots j 0 0 none) me)) (sym is) (finds_written slots id me a y live setup owed)

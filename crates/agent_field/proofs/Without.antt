@@ -58,3 +58,15 @@ second_due a b x y apart = without-here a x ((b, y) ∷ []) ∙ without-other a 
 
 pub none_due : (a b : ℕ) (x y : Word) → a ≢ b → without b (without a ((a, x) ∷ (b, y) ∷ [])) ≡ []
 none_due a b x y apart = ap (without b) (second_due a b x y apart) ∙ without-here b y []
+
+-- one word is due for each agent of a pair
+pub first_only : (a b : ℕ) (x y z : Word) → a ≢ b → In {X = ℕ × Word} (a, z) ((a, x) ∷ (b, y) ∷ []) → z ≡ x
+first_only a b x y z apart h =
+    ⊎_elim
+    {C = z ≡ x}
+    (λ (same : (a, z) ≡ (a, x)). ap (λ (p : ℕ × Word). p.1) same)
+    (λ (i : In {X = ℕ × Word} (a, z) ((b, y) ∷ [])). ⊎_elim {C = z ≡ x} (λ (same : (a, z) ≡ (b, y)). absurd (apart (ap (λ (p : ℕ × Word). p.0) same))) (λ (none : ⊥). absurd none) i)
+    h
+
+pub last_only : (b : ℕ) (y z : Word) → In {X = ℕ × Word} (b, z) ((b, y) ∷ []) → z ≡ y
+last_only b y z h = ⊎_elim {C = z ≡ y} (λ (same : (b, z) ≡ (b, y)). ap (λ (p : ℕ × Word). p.1) same) (λ (none : ⊥). absurd none) h

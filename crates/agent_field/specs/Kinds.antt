@@ -39,6 +39,9 @@ pub data QuietStep (k : Setup) : List ℕ → List View → List ℕ → List Vi
   writes : (words : List ℕ) (views : List View) (id : ℕ) (v : View) (a : ℕ) (y : Word) → Sits views id v
       → In (a, y) v.due
       → QuietStep k words views (slice_set words (agent_at k a) y.0) (slice_set views id (writing a v))
+  finds_written : (words : List ℕ) (views : List View) (id : ℕ) (v : View) (a : ℕ) (y : Word) → Sits views id v
+      → In (a, y) v.due → agent_word k words a ≡ y
+      → QuietStep k words views words (slice_set views id (writing a v))
   unlocks : (words : List ℕ) (views : List View) (id : ℕ) (v : View) (s : ℕ) → Sits views id v → CanUnlock v s
       → QuietStep k words views (slice_set words (lock_at k s) 0) (slice_set views id (releasing v))
   splits : (words : List ℕ) (views : List View) (id : ℕ) (v : View) → Sits views id v → v.number ≡ 0 → v.next < k.seats

@@ -172,6 +172,13 @@ Writes st m r m' =
     ((a : ℕ) → st.word ≡ agent_at m.0.setup a → m' ≡ (writing a m.0, m.1))
     × ((a : ℕ) × (st.word ≡ agent_at m.0.setup a) × In (a, packed st.first) m.0.due)
 
+-- a word that is due is looked for in its place; where it stands there, it is due no more
+abbrev pub FindsWritten : Step (Unit {0}) → Mine → ℕ → Mine → Type 0
+FindsWritten st m r m' =
+    (a : ℕ) × (y : Word) × (st.word ≡ agent_at m.0.setup a) × In (a, y) m.0.due
+    × (r ≡ y.0 → m' ≡ (writing a m.0, m.1))
+    × (r ≢ y.0 → m' ≡ m)
+
 -- a look: the clock, and all words
 abbrev pub looking : ℕ → List Word → View → View
 looking ticket words v = record v { looks = v.looks ++ look_of ticket words ∷ [] }

@@ -72,11 +72,12 @@ pub record MayDrawPair (f : Field) (t : SeatToken) : Type 0 where
   pub read : HasReadPair f t
   pub exactly : t.me.0.held ≡ locks_of f.table.shared.key read.a read.b
 
--- what writing an agent's word needs: it is due
+-- what writing an agent's word needs: it is due, and no other is due for that agent
 pub record MayWrite (f : Field) (a : ℕ) (x : Word) (t : SeatToken) : Type 0 where
   pub usable : IsUsable f t
   pub agent : a < f.agents
   pub due : In (a, x) t.me.0.due
+  pub only : (y : Word) → In (a, y) t.me.0.due → y ≡ x
 
 -- after a step the token is still of its table, and its seat has this view
 pub record Becomes (before after : SeatToken) (view : View) : Type 0 where

@@ -5,7 +5,7 @@ ghost use Rattle.agent_field.specs.Steps.{holding, releasing, knowing, writing, 
 
 use crate::field::Field;
 use crate::places::{CLOCK, place_of_agent, place_of_lock};
-use crate::view::{Draw, Lock, Read, Unlock, View, Watch, Write};
+use crate::view::{Draw, FindWritten, Lock, Read, Unlock, View, Watch, Write};
 use atomic_table::Seat;
 use pop_net::Word;
 use std::sync::Wait;
@@ -62,13 +62,15 @@ impl<'n> Field<'n> {
         self.table.shared.fetch_add::<Draw>(token, CLOCK, 1)
     }
 
-    /// Writes an agent's word that is due.
+    /// Writes an agent's word that is due, unless it stands in its place already: then other processors may keep theirs.
     pub(crate) fn write(&self, token: &mut Seat<(), View>, a: u32, word: Word)
         requires { MayWrite self.now a word token.old }
         ensures { Becomes token.old token.new (writing a token.old.me.0) }
     {
         let at = place_of_agent(a, self.shards);
-        self.table.shared.store::<Write>(token, at, word.0);
+        if self.table.shared.load::<FindWritten>(token, at) != word.0 {
+            self.table.shared.store::<Write>(token, at, word.0);
+        }
     }
 
     /// Reads the clock, once all words were read under all locks.

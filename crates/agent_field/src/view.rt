@@ -118,6 +118,15 @@ impl Play<(), View> for Write {
     ghost then = { Writes };
 }
 
+/// An agent's word that is due is looked for in its place.
+pub struct FindWritten;
+
+impl Play<(), View> for FindWritten {
+    ghost use Rattle.agent_field.specs.Steps.{FindsWritten};
+
+    ghost then = { FindsWritten };
+}
+
 /// The clock is read under all locks.
 pub struct Watch;
 

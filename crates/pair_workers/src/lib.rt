@@ -5,6 +5,7 @@
 
 mod all;
 mod alone;
+mod divisor;
 mod ends;
 mod examples;
 mod meet;

@@ -4,6 +4,8 @@ ghost use Rattle.std.specs.Prelude.{◌≡◌, ℕ, ◌≤◌, IfOk};
 ghost use Rattle.pair_workers.specs.CrowdSize.{IsCrowdSize};
 ghost use Rattle.pair_workers.specs.Picks.{words_from, first_state, picks_from, picks, IsPairBelow, IsNextPick};
 
+use crate::divisor::Divisor;
+use pop_crowd::AGENT_LEAST;
 use pop_io::NoMemory;
 use pop_words::SEED_LIMIT;
 use rand_core::{Rng, SeedableRng};
@@ -15,14 +17,19 @@ use std::marker::Model;
 #[derive(Drop)]
 pub struct Picker {
     words: Xoshiro256PlusPlus,
+    /// How many agents the last pick was among, and how many are left once one is picked.
+    agents: Divisor,
+    others: Divisor,
 }
 
 impl Model for Picker {
-    ghost use Rattle.std.specs.Prelude.{ℕ, List};
+    ghost use Rattle.std.specs.Prelude.{◌≡◌, ◌+◌, ℕ, List};
 
     ghost Value = { List ℕ };
 
     ghost view = { λ p. p.words };
+
+    ghost invariant = { λ p. p.agents ≡ p.others + 1 };
 }
 
 impl Picker {
@@ -34,6 +41,8 @@ impl Picker {
     {
         Picker {
             words: Xoshiro256PlusPlus::seed_from_u64(seed + u64::from(worker)),
+            agents: Divisor::of(AGENT_LEAST),
+            others: Divisor::of(AGENT_LEAST - 1),
         }
     }
 
@@ -43,6 +52,8 @@ impl Picker {
     {
         Ok(Picker {
             words: self.words.clone()?,
+            agents: Divisor::of(AGENT_LEAST),
+            others: Divisor::of(AGENT_LEAST - 1),
         })
     }
 
@@ -52,9 +63,13 @@ impl Picker {
         ensures next { IsNextPick n self.old self.new result }
         ensures pair { IsPairBelow n result }
     {
+        if self.agents.number() != n {
+            self.agents = Divisor::of(n);
+            self.others = Divisor::of(n - 1);
+        }
         let word = self.words.next_u64();
-        let a = ((word >> 32) % u64::from(n)) as u32;
-        let b = (word % (1 << 32) % u64::from(n - 1)) as u32;
+        let a = self.agents.remainder((word >> 32) as u32);
+        let b = self.others.remainder((word % (1 << 32)) as u32);
         (a, if a <= b { b + 1 } else { b })
     }
 }

@@ -1,4 +1,4 @@
-use Rattle.std.proofs.Common.{◌≡◌, ℕ, Bool, List, rules, refl, inl, sym, ap, ◌∙◌, subst}
+use Rattle.std.proofs.Common.{◌≡◌, ℕ, Bool, List, [], ◌∷◌, rules, refl, inl, sym, ap, ◌∙◌, subst}
 use Rattle.pop_net.specs.declared.net.Word.{Word}
 use Rattle.pop_net.specs.NetModel.{NetModel}
 use Rattle.pop_net.specs.Lanes.{tuple_of}
@@ -7,7 +7,7 @@ use Rattle.agent_field.specs.declared.view.Setup.{Setup}
 use Rattle.agent_field.specs.History.{logged}
 use Rattle.agent_field.specs.Steps.{Mine, knowing, writing, pair_made, recorded, IsNewest}
 use Rattle.agent_field.specs.Standing.{In}
-use Rattle.agent_field.proofs.Without.{second_due, none_due}
+use Rattle.agent_field.proofs.Without.{first_only, last_only, second_due, none_due}
 use Rattle.agent_field.proofs.Drawn.{pair_drawn, pair_read}
 use Rattle.agent_field.proofs.Usable.{still_usable}
 use Rattle.agent_field.proofs.field.Field.react_pair.Goals as goal
@@ -25,6 +25,7 @@ write-requires c =
       usable = still_usable c.args.self.now t _ _ c.requires.locked.holds.usable drawn refl refl;
       agent = c.requires.agents.0;
       due = subst (In (c.args.a, r.0)) (sym (ap (λ (m : Mine). m.0.due) drawn.me)) (inl refl);
+      only = λ y h. first_only c.args.a c.args.b r.0 r.1 y c.requires.agents.2 (subst (In (c.args.a, y)) (ap (λ (m : Mine). m.0.due) drawn.me) h);
     }
 
 pub write-requires-2 : goal.write-requires-2
@@ -32,12 +33,13 @@ write-requires-2 c =
     let t = c.args.token.now in
     let r = c.reacted-changed.result in
     let drawn = pair_drawn c.args.self.now _ c.draw-ticket.result t _ _ c.draw-ticket.new.token c.args.a c.args.b c.read-x.result c.read-y.result r.0 r.1 c.requires.locked c.read-x.ensures.known c.read-y.ensures.known c.reacted-changed.ensures.reacted c.draw-ticket.ensures in
-    let first = still_usable c.args.self.now t _ _ c.requires.locked.holds.usable drawn refl refl in record {
+    let first = still_usable c.args.self.now t _ _ c.requires.locked.holds.usable drawn refl refl in
+    let last : c.write.new.token.me.0.due ≡ (c.args.b, r.1) ∷ [] =
+    ap (λ (m : Mine). m.0.due) (c.write.ensures.me ∙ ap (λ (m : Mine). (writing c.args.a m.0, m.1)) drawn.me) ∙ second_due c.args.a c.args.b r.0 r.1 c.requires.agents.2 in record {
       usable = still_usable c.args.self.now _ _ _ first c.write.ensures refl refl;
       agent = c.requires.agents.1;
-      due = subst (In (c.args.b, r.1))
-          (sym (ap (λ (m : Mine). m.0.due) (c.write.ensures.me ∙ ap (λ (m : Mine). (writing c.args.a m.0, m.1)) drawn.me) ∙ second_due c.args.a c.args.b r.0 r.1 c.requires.agents.2))
-          (inl refl);
+      due = subst (In (c.args.b, r.1)) (sym last) (inl refl);
+      only = λ y h. last_only c.args.b r.1 y (subst (In (c.args.b, y)) last h);
     }
 
 pub returns : goal.returns
