@@ -8,6 +8,7 @@ use pop_crowd::{Crowd, Meeting};
 use pop_net::Net;
 
 /// Makes the next meeting of the worker that this picker belongs to. It allocates nothing.
+#[inline(always)]
 pub fn meet_next(net: &Net, crowd: &mut Crowd, picker: &mut Picker, worker: u16) -> Meeting
     requires { AreValid net.now crowd.old }
     ensures { HasMetNext net.now worker result crowd.old crowd.new picker.old picker.new }

@@ -3,4 +3,5 @@ pub mod Joined
 pub mod Digits
 pub mod Printed
 pub mod Places
+mod Parts
 pub mod Unbroken

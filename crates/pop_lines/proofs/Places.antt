@@ -1,6 +1,7 @@
 -- Writes at places of one buffer, one after another.
 use Rattle.std.proofs.Common.{◌≡◌, ℕ, ◌+◌, ◌≤◌, List, ◌++◌, length, take, drop, ap, sym, ◌∙◌, arith, length-append, length-take, length-take-le, length-drop, take-add, take-take, take_at, drop_at}
 use Rattle.std.proofs.lemmas.Slice.{take-put_mid}
+use mathlib.Core.List.{append_assoc}
 use borrow.Rule.Slice.PartMut.{put_mid, same_len_mid}
 use Rattle.pop_lines.specs.Places.{IsPlaced}
 
@@ -28,3 +29,11 @@ placed_part a ys i k n fits long few =
 pub placed_within : {a b xs : List ℕ} {i j : ℕ} → i ≤ length a → IsPlaced a b i xs j → j ≤ length b
 placed_within {a} {b} {xs} {i} {j} within p =
     omega (arith, p.moved, ap length p.front, length-take j b, length-take-le i a within, length-append (take i a) xs)
+
+-- one write after another is one write
+pub placed_then : {a b c xs ys : List ℕ} {i j k : ℕ} → IsPlaced a b i xs j → IsPlaced b c j ys k → IsPlaced a c i (xs ++ ys) k
+placed_then {a} {b} {c} {xs} {ys} {i} {j} {k} p q = record {
+  front = q.front ∙ ap (λ (l : List ℕ). l ++ ys) p.front ∙ append_assoc (take i a) xs ys;
+  moved = omega (arith, p.moved, q.moved, length-append xs ys);
+  size = q.size ∙ p.size;
+}

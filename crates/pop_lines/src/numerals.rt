@@ -1,7 +1,7 @@
 //! Numbers printed in decimal digits many times over, at places of a buffer.
 
 ghost use Rattle.std.specs.Prelude.{◌≡◌, ℕ, ◌+◌, ◌<◌, ◌≤◌, ◌∷◌, [], List, length, slice_index_or, decimal};
-ghost use Rattle.pop_lines.specs.Places.{IsPlaced};
+ghost use Rattle.pop_lines.specs.Places.{IsPlaced, three_digits};
 
 use itoa::Buffer;
 use std::alloc::{AllocError, Global};
@@ -10,11 +10,14 @@ use std::marker::Model;
 /// The most digits of a number below 2^32.
 pub const NUMBER_ROOM: usize = 10;
 
-/// The bytes of a numeral, which are copied at once.
-const NUMERAL_SIZE: usize = 8;
+/// How many numbers have numerals; a number below the square of this is printed by two of them.
+const NUMERAL_LIMIT: u32 = 1_000;
 
-/// The most numerals that are kept.
-const NUMERAL_LIMIT: u32 = 65_536;
+/// The most digits of a number below `NUMERAL_LIMIT`.
+const NUMERAL_DIGITS: usize = 3;
+
+/// The bytes of a numeral, which are copied at once: its digits, and one more.
+const NUMERAL_SIZE: usize = 4;
 
 /// A short number in decimal digits; contracts see the digits.
 #[derive(Drop)]
@@ -30,7 +33,7 @@ impl Model for Numeral {
 
     ghost view = { λ n. take n.len n.bytes };
 
-    ghost invariant = { λ n. n.len ≤ 8 };
+    ghost invariant = { λ n. n.len ≤ 3 };
 }
 
 impl Numeral {
@@ -45,34 +48,55 @@ impl Numeral {
         Numeral { bytes, len }
     }
 
+    /// With zeros before them, so that there are three.
+    fn padded(n: u32) -> Numeral
+        requires { n < NUMERAL_LIMIT }
+        ensures { result ≡ three_digits n }
+    {
+        Numeral {
+            bytes: [
+                b'0' + (n / 100) as u8,
+                b'0' + (n / 10 % 10) as u8,
+                b'0' + (n % 10) as u8,
+                b'0',
+            ],
+            len: NUMERAL_DIGITS as u8,
+        }
+    }
+
     /// Writes the digits, and whatever is stored after them.
     #[inline(always)]
     fn put(&self, buffer: &mut [u8], at: usize) -> usize
         requires { at + NUMERAL_SIZE ≤ length buffer.old }
         ensures placed { IsPlaced buffer.old buffer.new at self.now result }
-        ensures room { result ≤ at + NUMERAL_SIZE }
+        ensures room { result ≤ at + NUMERAL_DIGITS }
     {
         buffer[at..at + NUMERAL_SIZE].copy_from_slice(&self.bytes);
         at + self.len as usize
     }
 }
 
-/// The decimal digits of the smallest numbers, made once.
+/// The decimal digits of the smallest numbers, made once, with and without zeros before them.
 #[derive(Drop)]
 pub struct Numerals {
-    kept: Vec<Numeral>,
-    ghost each: { (n : ℕ) (d : List ℕ) → n < length kept.items → slice_index_or kept.items n d ≡ decimal n },
+    plain: Vec<Numeral>,
+    padded: Vec<Numeral>,
+    ghost each: { (n : ℕ) (d : List ℕ) → n < length plain.items → slice_index_or plain.items n d ≡ decimal n },
+    ghost each_padded: { (n : ℕ) (d : List ℕ) → n < length padded.items
+        → slice_index_or padded.items n d ≡ three_digits n },
 }
 
 impl Numerals {
-    /// The digits of so many numbers, or of fewer.
+    /// Numerals for numbers below this one, or for fewer.
     pub fn new(alloc: Global, count: u32) -> Result<Numerals, AllocError> {
         let most = count.min(NUMERAL_LIMIT);
-        let mut kept = Vec::with_capacity(alloc, most as usize)?;
+        let mut plain = Vec::with_capacity(alloc, most as usize)?;
+        let mut padded = Vec::with_capacity(alloc, most as usize)?;
         for n in 0..most {
-            kept.push_reserved(Numeral::of(n));
+            plain.push_reserved(Numeral::of(n));
+            padded.push_reserved(Numeral::padded(n));
         }
-        Ok(Numerals { kept })
+        Ok(Numerals { plain, padded })
     }
 
     /// Writes a number at a place of a buffer in decimal digits, and returns where they end.
@@ -82,14 +106,36 @@ impl Numerals {
         ensures placed { IsPlaced buffer.old buffer.new at (decimal n) result }
         ensures room { result ≤ at + NUMBER_ROOM }
     {
-        match self.kept.get(n as usize) {
+        if n >= NUMERAL_LIMIT {
+            return self.put_parts(buffer, at, n);
+        }
+        match self.plain.get(n as usize) {
             Some(numeral) => numeral.put(buffer, at),
             None => put_number(buffer, at, n),
         }
     }
+
+    /// Writes a number by the numeral of its thousands, and that of its last three digits.
+    #[inline(always)]
+    fn put_parts(&self, buffer: &mut [u8], at: usize, n: u32) -> usize
+        requires room { at + NUMBER_ROOM ≤ length buffer.old }
+        requires long { NUMERAL_LIMIT ≤ n }
+        ensures placed { IsPlaced buffer.old buffer.new at (decimal n) result }
+        ensures room { result ≤ at + NUMBER_ROOM }
+    {
+        let thousands = self.plain.get((n / NUMERAL_LIMIT) as usize);
+        let last = self.padded.get((n % NUMERAL_LIMIT) as usize);
+        match (thousands, last) {
+            (Some(thousands), Some(last)) => {
+                let end = thousands.put(buffer, at);
+                last.put(buffer, end)
+            }
+            _ => put_number(buffer, at, n),
+        }
+    }
 }
 
-/// Writes a number that isn't kept.
+/// Writes a number for which there are no numerals.
 #[inline(never)]
 fn put_number(buffer: &mut [u8], at: usize, n: u32) -> usize
     requires { at + NUMBER_ROOM ≤ length buffer.old }

@@ -11,5 +11,5 @@ returns-clause-placed c =
     let copied = c.copy_from_slice.new.self in
     let len = c.self.inside.len in
     let same : take len copied ≡ c.args.self.now = ap (take len) c.copy_from_slice.ensures.after ∙ c.self.view_is in
-    subst (λ (digits : List ℕ). IsPlaced old (put_mid at (at + 8 - at) old copied) at digits (at + len)) same
-    (placed_part old copied at (at + 8 - at) len (omega (arith, c.requires)) (search rules) (omega (arith, c.self.invariant)))
+    subst (λ (digits : List ℕ). IsPlaced old (put_mid at (at + 4 - at) old copied) at digits (at + len)) same
+    (placed_part old copied at (at + 4 - at) len (omega (arith, c.requires)) (search rules) (omega (arith, c.self.invariant)))
