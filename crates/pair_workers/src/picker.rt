@@ -58,6 +58,7 @@ impl Picker {
     }
 
     /// Two different agents of `n`, from the next word. It allocates nothing.
+    #[inline(always)]
     pub fn pick(&mut self, n: u32) -> (u32, u32)
         requires { IsCrowdSize n }
         ensures next { IsNextPick n self.old self.new result }
