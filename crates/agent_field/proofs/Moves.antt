@@ -124,6 +124,8 @@ module _ (k : Setup) where
           },
           subst (λ (m : ℕ). IsNewest m me.0) (sym st.clock) (is_newest k state.words state.views t.0 t.1 st id me.0 at live),
           subst (λ (m : ℕ). IsDrawnAt m me.0) (sym st.clock) (is_drawn_at k state.words state.views t.0 t.1 st id me.0 at live may.pair.due),
+          refl,
+          refl,
         ),
       )
 
@@ -142,6 +144,7 @@ module _ (k : Setup) where
           subst (λ (m : ℕ). IsNewest m me.0) (sym st.clock) (is_newest k state.words state.views t.0 t.1 st id me.0 at live),
           subst (λ (m : ℕ). IsSeenAt m shown me.0) (sym st.clock) (is_seen_at k state.words state.views t.0 t.1 st id me.0 at live shown saw.whole saw.all saw.due),
           subst (λ (z : Setup). HasSeenAll z me.0 shown) (sym setup) saw,
+          refl,
         ),
       )
 
@@ -197,7 +200,7 @@ module _ (k : Setup) where
         keeps,
         tt,
         inr ([], t.0, t.1),
-        (founder_word k state.words state.views un, ap (λ (v : View). (first_seat v.setup, me.1)) (sym is)),
+        (founder_word k state.words state.views un, ap (λ (v : View). (first_seat v.setup, me.1)) (sym is), refl, refl),
       ))
       (λ (t : Standing k state.words state.views).
       absurd (true≢false (ap (λ (v : View). v.founding) (sym is) ∙ ap (λ (v : View). v.founding) (t.2.others id me.0 at (ap (λ (v : View). v.live) is)))))

@@ -9,6 +9,7 @@ use Rattle.pop_net.specs.Reaction.{reaction}
 use Rattle.pop_crowd.specs.declared.crowd.Meeting.{Meeting}
 use Rattle.pop_crowd.specs.Replay.{reacts}
 use Rattle.agent_field.specs.declared.limits.TheConstants.{LOG_LIMIT}
+use Rattle.agent_field.specs.declared.places.TheConstants.{CLOCK, FOUNDER}
 use Rattle.agent_field.specs.declared.view.Logged.{Logged}
 use Rattle.agent_field.specs.declared.view.Look.{Look}
 use Rattle.agent_field.specs.declared.view.Setup.{Setup}
@@ -128,7 +129,7 @@ pub record HasSeenAll (k : Setup) (v : View) (words : List Word) : Type 0 where
   pub due : v.due ≡ []
 
 abbrev pub Founds : Step (Unit {0}) → Mine → ℕ → Mine → Type 0
-Founds st m r m' = (r ≡ 0) × (m' ≡ (first_seat m.0.setup, m.1))
+Founds st m r m' = (r ≡ 0) × (m' ≡ (first_seat m.0.setup, m.1)) × (st.word ≡ FOUNDER) × (st.first ≡ 1)
 
 -- a lock is tried, when that is allowed
 abbrev pub Locks : Step (Unit {0}) → Mine → ℕ → Mine → Type 0
@@ -164,7 +165,7 @@ pub record HasDrawn (ticket : ℕ) (m m' : Mine) : Type 0 where
   pub met : m' ≡ (meeting_made ticket a b x y x' y' m.0, m.1)
 
 abbrev pub Draws : Step (Unit {0}) → Mine → ℕ → Mine → Type 0
-Draws st m r m' = HasDrawn r m m' × IsNewest r m.0 × IsDrawnAt r m.0
+Draws st m r m' = HasDrawn r m m' × IsNewest r m.0 × IsDrawnAt r m.0 × (st.word ≡ CLOCK) × (st.first ≡ 1)
 
 -- a word that is due is written
 abbrev pub Writes : Step (Unit {0}) → Mine → ℕ → Mine → Type 0
@@ -198,6 +199,7 @@ Watches st m r m' =
     × IsNewest r m.0
     × IsSeenAt r (seen m.0.known) m.0
     × HasSeenAll m.0.setup m.0 (seen m.0.known)
+    × (st.word ≡ CLOCK)
 
 -- number 0 gives its least fresh number away
 abbrev pub kept_back : View → View

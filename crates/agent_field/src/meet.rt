@@ -65,7 +65,7 @@ impl<'n> Field<'n> {
         self.unlock(token, low);
     }
 
-    /// Under the locks of both agents: reads both words, draws a ticket, and writes both words.
+    /// Under the locks of both agents: reads both words, draws a ticket, and writes those that change.
     fn react_pair(&self, token: &mut Seat<(), View>, a: u32, b: u32) -> (u64, bool)
         requires locked { HasLocked self.now (locks_of self.now.table.shared.key a b) token.old }
         requires agents { (a < self.now.agents) × (b < self.now.agents) × (a ≢ b) }
