@@ -1,4 +1,4 @@
--- Sound: a valid proof shows that its net computes the predicate, by the definitions alone.
+-- Sound: a valid proof of a well-formed net shows that the net computes the predicate, by the definitions alone.
 use Rattle.std.specs.Prelude.{◌≡◌, ℕ, length, Some, slice_get}
 use Rattle.pres_ast.specs.PredModel.{PredModel, HasAtoms}
 use Rattle.pop_net.specs.NetModel.{NetModel, IsNet}

@@ -3,7 +3,8 @@
 ghost use Rattle.pop_checker.specs.Sound.{IsSound};
 ghost use Rattle.pop_checker.specs.Majority.{MajorityComputes};
 
-/// A valid proof shows that its net computes the predicate. A theorem; the body is empty.
+/// A valid proof of a well-formed net, with leaf predicates over its variables, shows that the net computes the
+/// predicate. A theorem; the body is empty.
 pub fn valid_is_right()
     ensures { IsSound }
 {}
