@@ -45,4 +45,4 @@ compiled_is_certified choice input written answer is done short checked =
     let b = given_for (codes "check" ∷ []) Check written.text answer refl checked in
     let judged : CheckSays says.bundle answer.text (status_of answer.ending) =
     subst (λ (o : Output). CheckSays says.bundle o.text (status_of o.ending)) (sym b.2) (check_says written.text says.bundle b.0 (says.line short) b.1) in
-    (says.bundle, says.printed, judged.certified.1 says.compiled.valid)
+    (says.bundle, says.printed, says.line short, judged.certified.1 says.compiled.valid)

@@ -1,9 +1,13 @@
 -- What a printed line of `compile` says.
-use Rattle.std.proofs.Common.{◌≡◌, ℕ, Bool, true, false, nat_lt, List, length, ◌≤◌, Result, Ok, Err, refl, ap, subst, ◌∙◌}
+use Rattle.std.proofs.Common.{◌≡◌, ℕ, Bool, true, false, nat_lt, List, length, ◌≤◌, Option, Some, None, Result, Ok, Err, refl, ap, subst, ◌∙◌}
 use Rattle.std.specs.Prelude.{MatchBool}
 use Rattle.pop_io.specs.declared.whole.TheConstants.{INPUT_LIMIT}
 use Rattle.pop_lines.specs.Lines.{lines_of}
 use Rattle.pres_ast.specs.PredModel.{PredModel}
+use Rattle.pres_read.specs.TextFault.{TextFault}
+use Rattle.pres_read.specs.Reading.{pred_read}
+use Rattle.pres_read.proofs.PredTexts.{read_meant}
+use Rattle.pop_words.specs.Vars.{vars_of}
 use Rattle.serde_json.specs.Written.{compact_text}
 use Rattle.cert_json.specs.declared.bundle.Bundle.{Bundle}
 use Rattle.bundle_text.specs.Bundle.{bundle_data}
@@ -16,8 +20,13 @@ use Rattle.tool_texts.specs.declared.status.Status.TheVariants.{Done}
 use Rattle.tool_texts.specs.Statuses.{status_of}
 use Rattle.tool_texts.specs.Steps.{After}
 use Rattle.tool_texts.specs.Refusals.{output_for}
+use Rattle.tool_texts.specs.Lines.{just_two}
+use Rattle.tool_texts.specs.Steps.{◌>>=◌}
+use Rattle.tool_commands.specs.Eval.{named, understood}
 use Rattle.tool_commands.specs.Compile.{bundle_line, IsCompiled, asked_by, fits_its_leaves, OfFitting, OfAsked, CompileGives}
-use Rattle.pop_tool.specs.Headline.{IsBundleLine, CompileSays}
+use Rattle.pop_tool.specs.Headline.{IsBundleLine, IsAsked, CompileSays}
+use Rattle.tool_texts.proofs.Goes.{bind_ok, same_ok}
+use Rattle.pop_tool.proofs.RunHeadline.{two_lines}
 
 abbrev pub IsDone : Result Output Refusal → Type 0
 IsDone given = status_of (output_for given).ending ≡ Done
@@ -39,6 +48,29 @@ compiled_line choice names pred bundle is text printed short =
       file = back.file;
     }
 
+names_of : (read : Option (List (List ℕ))) (names : List (List ℕ)) → named read ≡ Ok names → read ≡ Some names
+names_of None names e = absurd cc
+names_of (Some read) names e = cc
+
+pred_of : (read : Result PredModel TextFault) (pred : PredModel) → understood read ≡ Ok pred → read ≡ Ok pred
+pred_of (Err fault) pred e = absurd cc
+pred_of (Ok read) pred e = cc
+
+asked : (lines names : List (List ℕ)) (pred : PredModel) → asked_by lines ≡ Ok (names, pred) → IsAsked lines names pred
+unfolding asked_by
+asked lines names pred e =
+    let two = bind_ok (just_two lines) (λ two. named (vars_of two.0) >>= λ names. understood (pred_read names two.1) >>= λ pred. Ok (names, pred)) (names, pred) e in
+    let n = bind_ok (named (vars_of two.0.0)) (λ names. understood (pred_read names two.0.1) >>= λ pred. Ok (names, pred)) (names, pred) two.2 in
+    let p = bind_ok (understood (pred_read n.0 two.0.1)) (λ pred. Ok (n.0, pred)) (names, pred) n.2 in
+    subst (λ (a : List (List ℕ) × PredModel). IsAsked lines a.0 a.1) (same_ok (n.0, p.0) (names, pred) p.2)
+    (record {
+      first = two.0.0;
+      second = two.0.1;
+      two = two_lines lines two.0 two.1;
+      named = names_of (vars_of two.0.0) n.0 n.1;
+      means = read_meant n.0 two.0.1 p.0 (pred_of (pred_read n.0 two.0.1) p.0 p.1);
+    })
+
 module _ (choice : LeafChoice) (input : List ℕ) (given : Result Output Refusal) (done : IsDone given) where
   fitting_says : (names : List (List ℕ)) (pred : PredModel) → asked_by (lines_of input) ≡ Ok (names, pred) → (fits : Result (Unit {0}) Refusal) → After fits (OfFitting choice names pred) given → CompileSays choice input (output_for given).text
   fitting_says names pred tells (Err refusal) is = absurd (refused refusal given is done)
@@ -47,7 +79,7 @@ module _ (choice : LeafChoice) (input : List ℕ) (given : Result Output Refusal
       record {
         names = names;
         pred = pred;
-        tells = tells;
+        asked = asked (lines_of input) names pred tells;
         bundle = is.0;
         compiled = is.1;
         printed = printed;

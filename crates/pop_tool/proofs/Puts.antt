@@ -1,5 +1,5 @@
 -- What a sink did with an output is the call's outcome.
-use Rattle.std.proofs.Common.{◌≡◌, inl, inr, ℕ, List, Option, Result, Ok, Err, refl, sym, ap, subst, ◌∙◌}
+use Rattle.std.proofs.Common.{◌≡◌, inl, inr, ℕ, List, Option, Some, Result, Ok, Err, refl, sym, ap, subst, ◌∙◌}
 use Rattle.std.specs.Prelude.{◌≢◌, false, IfOk, MatchResult}
 use Rattle.std.specs.Io.KnownBytes.{Appends, Keeps}
 use Rattle.std.proofs.lemmas.Result.{IfOk-weaker}
@@ -8,13 +8,14 @@ use Rattle.tool_texts.specs.declared.output.Output.{Output}
 use Rattle.tool_texts.specs.declared.output.Ending.{Ending}
 use Rattle.tool_texts.specs.declared.output.Ending.TheVariants as ending
 use Rattle.tool_texts.specs.declared.status.Status.{Status}
-use Rattle.tool_texts.specs.declared.status.Status.TheVariants.{ReadFault, WriteFault, NoMemory}
+use Rattle.tool_texts.specs.declared.status.Status.TheVariants.{Usage, Refused, ReadFault, WriteFault, NoMemory}
 use Rattle.tool_texts.specs.Statuses.{status_of}
 use Rattle.pop_tool.specs.Outcome.{IsAnswer, IsReply, Outcome, IsAnswered}
 use Rattle.pop_tool.specs.Source.{HasSuffix, IsReadToEnd, words_read}
 use Rattle.pop_tool.specs.Written.{ReadFailed, IsRightOutput, IsWritten}
+use Rattle.pop_tool.specs.Complete.{IsValidInput}
 use Rattle.pop_tool.specs.Call.{AcceptsReplies, IsCall}
-use Rattle.pop_tool.proofs.Complete.{not_refused}
+use Rattle.pop_tool.proofs.Complete.{not_refused, carried_out}
 use Rattle.pop_tool.proofs.Headlines.{outcome_says}
 
 no_write_fault : (end : Ending) → status_of end ≡ WriteFault → ⊥
@@ -128,12 +129,17 @@ module _ {S K E : Type 0} (left : S → Option (List ℕ)) (read_faults : S → 
       let before = read_faults source in
       let after = read_faults rest in
       let outcome = written_outcome old new low high status words (left source) (left rest) before after output right written in
+      let kept : (input : List ℕ) → left source ≡ Some input → IsValidInput words input → (status ≢ Usage) × (status ≢ Refused) =
+      λ input tells. not_refused words input old new status (subst (λ (l : Option (List ℕ)). Outcome words l old new status) tells outcome) in
+      let read = written_read old new low high status words (left source) (left rest) before after output right written in
+      let write = written_write old new low high status output written in
       record {
         outcome = outcome;
         headline = outcome_says words (left source) old new status outcome;
-        complete = λ input tells. not_refused words input old new status (subst (λ (l : Option (List ℕ)). Outcome words l old new status) tells outcome);
-        read = written_read old new low high status words (left source) (left rest) before after output right written;
-        write = written_write old new low high status output written;
+        complete = kept;
+        carried_out = λ input tells valid quiet calm. carried_out status (λ e. quiet (read e)) (λ e. calm (write e)) (kept input tells valid);
+        read = read;
+        write = write;
         unread = written_unread old new low high status words (left source) (left rest) before after output right written;
         suffix = suffix;
         untouched = untouched;

@@ -4,7 +4,7 @@ use Rattle.pop_io.specs.Causes.{HasRisen}
 use Rattle.tool_texts.specs.declared.output.Output.{Output}
 use Rattle.tool_texts.specs.declared.status.Status.{Status}
 use Rattle.tool_texts.specs.declared.status.Status.TheVariants.{Usage, Refused, ReadFault, WriteFault}
-use Rattle.pop_tool.specs.Complete.{IsValidInput}
+use Rattle.pop_tool.specs.Complete.{IsValidInput, IsCarriedOut}
 use Rattle.pop_tool.specs.Headline.{IsHeadline}
 use Rattle.pop_tool.specs.Outcome.{IsReply, Outcome, IsAnswered}
 use Rattle.pop_tool.specs.Source.{HasSuffix, IsReadToEnd, words_read}
@@ -24,6 +24,10 @@ pub record IsCall {S K : Type 0} (left : S → Option (List ℕ)) (read_faults :
   -- valid input is not refused
   pub complete : (input : List ℕ) → left source ≡ Some input → IsValidInput words input → (status ≢ Usage)
       × (status ≢ Refused)
+  -- where neither the source nor the sink failed, it is carried out
+  pub carried_out : (input : List ℕ) → left source ≡ Some input → IsValidInput words input
+      → (HasRisen (read_faults source) (read_faults rest) → ⊥) → (HasRisen (write_faults sink) (write_faults grown) → ⊥)
+      → IsCarriedOut status
   pub read : status ≡ ReadFault → HasRisen (read_faults source) (read_faults rest)
   pub write : status ≡ WriteFault → HasRisen (write_faults sink) (write_faults grown)
   pub unread : words_read words ≡ false → status ≢ ReadFault

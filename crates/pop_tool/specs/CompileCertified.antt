@@ -10,7 +10,7 @@ use Rattle.tool_texts.specs.declared.status.Status.TheVariants.{Done}
 use Rattle.tool_texts.specs.Statuses.{status_of}
 use Rattle.tool_commands.specs.Compile.{bundle_line}
 use Rattle.pop_tool.specs.Answer.{Answer}
-use Rattle.pop_tool.specs.Headline.{SaysCertified}
+use Rattle.pop_tool.specs.Headline.{IsBundleLine, SaysCertified}
 
 -- the words that compile a predicate to these leaves
 abbrev pub compile_words : LeafChoice → List (List ℕ)
@@ -24,5 +24,5 @@ IsCompiledCertified =
     (choice : LeafChoice) (input : List ℕ) (written answer : Output) → Answer (compile_words choice) input written
     → status_of written.ending ≡ Done → length written.text ≤ INPUT_LIMIT
     → Answer (codes "check" ∷ []) written.text answer
-    → (bundle : Bundle) × (written.text ≡ bundle_line bundle)
+    → (bundle : Bundle) × (written.text ≡ bundle_line bundle) × IsBundleLine written.text bundle
     × SaysCertified (proof_bound bundle.proof) answer.text (status_of answer.ending)

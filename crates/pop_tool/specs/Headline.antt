@@ -5,6 +5,7 @@ use Rattle.pop_io.specs.declared.whole.TheConstants.{INPUT_LIMIT}
 use Rattle.pop_lines.specs.Lines.{lines_of, ended}
 use Rattle.pres_ast.specs.PredicateValue.{predicate_value}
 use Rattle.pres_ast.specs.PredModel.{PredModel}
+use Rattle.pres_read.specs.PredText.{IsTextOf}
 use Rattle.pop_net.specs.NetModel.{CrowdModel, output_of}
 use Rattle.pop_net.specs.InputCrowd.{input_crowd}
 use Rattle.pop_net.specs.Step.{Step}
@@ -17,6 +18,7 @@ use Rattle.pop_words.specs.declared.spec.RunSpec.{RunSpec}
 use Rattle.pop_words.specs.declared.command.Command.TheVariants.{Check, Run, Watch, Replay}
 use Rattle.pop_words.specs.declared.command.Command.TheVariants.{ReplayWatched, Settle, Compile, Flocks}
 use Rattle.pop_words.specs.Words.{meaning_of}
+use Rattle.pop_words.specs.Vars.{vars_of}
 use Rattle.pair_workers.specs.Run.{joined}
 use Rattle.pair_workers.specs.WatchedRun.{IsRunOf}
 use Rattle.pop_journal.specs.Journal.{journal_text}
@@ -43,7 +45,7 @@ use Rattle.tool_commands.specs.Replay.{holds_text, journal_read}
 use Rattle.comp_net.specs.declared.choice.LeafChoice.{LeafChoice}
 use Rattle.comp_net.specs.declared.choice.LeafChoice.TheVariants as leaves
 use Rattle.tool_commands.specs.Settle.{settle_text}
-use Rattle.tool_commands.specs.Compile.{asked_by, bundle_line, IsCompiled}
+use Rattle.tool_commands.specs.Compile.{bundle_line, IsCompiled}
 use Rattle.pop_tool.specs.Outcome.{IsAnswered}
 
 -- the input, within its limit, is one line, which is the file of this bundle
@@ -139,13 +141,21 @@ pub record IsHeldInput (kind : RunKind) (input : List ℕ) (meetings : ℕ) : Ty
 abbrev pub SaysHolds : ℕ → List ℕ → Status → Type 0
 SaysHolds meetings text status = (text ≡ ended (holds_text meetings)) × (status ≡ Done)
 
--- The input gives a predicate over some names, and the printed line is a bundle of its built net with these leaves,
+-- the lines are a vars line with these names and a text that means this predicate over them
+pub record IsAsked (lines names : List (List ℕ)) (pred : PredModel) : Type 0 where
+  pub first : List ℕ
+  pub second : List ℕ
+  pub two : lines ≡ first ∷ second ∷ []
+  pub named : vars_of first ≡ Some names
+  pub means : IsTextOf names second pred
+
+-- The input asks for a predicate over some names, and the printed line is a bundle of its built net with these leaves,
 -- the predicate and a valid proof. Unless it is too long for an input, it is the line of this bundle, so that `check`
--- answers it with `certified`.
+-- answers it with `certified`: this is the law `compiled_is_certified`.
 pub record CompileSays (choice : LeafChoice) (input text : List ℕ) : Type 0 where
   pub names : List (List ℕ)
   pub pred : PredModel
-  pub tells : asked_by (lines_of input) ≡ Ok (names, pred)
+  pub asked : IsAsked (lines_of input) names pred
   pub bundle : Bundle
   pub compiled : IsCompiled choice names pred bundle
   pub printed : text ≡ bundle_line bundle
