@@ -19,23 +19,24 @@ def reachable_states(leaf: Leaf) -> set[int]:
 
 
 def _repeated(leaf: Leaf, names: Names, places: Sequence[Place] | None) -> list[str]:
-    first: dict[tuple[int, int], int] = {}
+    """Moves that are listed twice, and those that no run takes, since an earlier one is for the same states."""
+
+    def earlier(t: int) -> str:
+        return f"line {places[t].line}" if places else f"move {t}"
+
+    listed: dict[tuple[tuple[int, int], tuple[int, int]], int] = {}
+    taken: dict[tuple[int, int], int] = {}
     out = []
     for t, (p, q, r, s) in enumerate(leaf.moves):
-        u = first.setdefault(pair(p, q), t)
-        if u == t:
-            continue
-        where = f"line {places[t].line}: " if places else f"move {t}: "
-        earlier = f"line {places[u].line}" if places else f"move {u}"
-        if pair(*leaf.moves[u][2:]) == pair(r, s):
+        before, after = pair(p, q), pair(r, s)
+        lead = f"{earlier(t)}: `{names.move(t)}` is"
+        u = listed.setdefault((before, after), t)
+        if u != t:
+            out.append(f"{lead} listed twice, first {'on' if places else 'as'} {earlier(u)}")
+        elif before != after and (u := taken.setdefault(before, t)) != t:
             out.append(
-                f"{where}`{names.move(t)}` is listed twice, first on {earlier}"
-                if places
-                else f"{where}`{names.move(t)}` is listed twice, first as {earlier}"
-            )
-        else:
-            out.append(
-                f"{where}`{names.move(t)}` is hidden by `{names.move(u)}` ({earlier}): a run takes the first of the two, a proof has to hold for both"
+                f"{lead} hidden by `{names.move(u)}` ({earlier(u)}): a run takes the first of the two, so that a certified"
+                " net may run forever; a proof has to hold for both"
             )
     return out
 

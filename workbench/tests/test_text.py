@@ -133,7 +133,7 @@ def test_faults_say_where_and_what(text: str, told: str) -> None:
 
 WARNINGS = [
     (NET + "B + A -> b + a\n", "line 4: `B + A -> b + a` is listed twice, first on line 2"),
-    (NET + "B + A -> b + b\n", "line 4: `B + A -> b + b` is hidden by `A + B -> a + b` (line 2)"),
+    (NET + "B + A -> b + b\n", "line 4: `B + A -> b + b` is hidden by `A + B -> a + b` (line 2): a run takes the first"),
     (NET + "c + A -> A + A\n", "no agent ever comes to state c"),
     (NET + "format 1\nhelpers A\n", "`helpers` in a net of format 1 is ignored"),
 ]
@@ -147,6 +147,12 @@ def test_warnings(text: str, told: str) -> None:
     if "format 1" in text:
         value["leaves"][0]["helpers"] = [0]
     assert len(load(compact(value), "f").warnings) == 1
+
+
+def test_a_silent_move_hides_none() -> None:
+    # of the moves for A and B the first that changes something is taken
+    net = NET.replace("A + B -> a + b\n", "A + B -> B + A\nA + B -> a + b\n")
+    assert net != NET and load(net, "f").warnings == []
 
 
 def test_wildcards_write_one_move_for_each_state_that_fits() -> None:
