@@ -88,8 +88,8 @@ def machine():
 
 
 def heading(commit=None):
-    """What a file of figures begins with: commit, toolchain, machine and date."""
-    changed = first_line(["git", "status", "--porcelain", "--untracked-files=no"])
+    """What a file of figures begins with: commit, toolchain, machine and date. Figures that were written are no change."""
+    changed = first_line(["git", "status", "--porcelain", "--untracked-files=no", ".", ":!bench/results", ":!docs/PERFORMANCE.md"])
     commit = commit or first_line(["git", "rev-parse", "--short", "HEAD"]) + (" with changes" if changed else "")
     return [
         f"commit {commit}",

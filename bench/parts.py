@@ -20,8 +20,10 @@ WORKERS = (1, 2, 4)
 # The first part with a word that a function's name has.
 PARTS = [
     ("waiting for a lock", ["sched_yield", "__schedule", "finish_task_switch", "schedule", "futex"]),
-    ("words, locks and ticket of a meeting", ["Field::meet", "Field::lock", "unlock", "Crowd::meet", "Net::react"]),
-    ("picks and the loop of meetings", ["Picker", "work::work", "play_round"]),
+    (
+        "meetings: picks, words, locks and ticket",
+        ["Picker", "work::work", "play_round", "Field::meet", "Field::lock", "unlock", "Crowd::meet", "Net::react"],
+    ),
     ("opening the field of a round", ["Field::open", "words_of", "layout"]),
     ("closing it: the logs by ticket", ["Field::close", "Field::join", "run_round"]),
     ("the test of the end", ["enabled_pair", "restless", "partner"]),
