@@ -21,7 +21,7 @@ def reachable_states(leaf: Leaf) -> set[int]:
 def _repeated(leaf: Leaf, names: Names, places: Sequence[Place] | None) -> list[str]:
     """Moves that are listed twice, and those that no run takes, since an earlier one is for the same states."""
 
-    def earlier(t: int) -> str:
+    def place(t: int) -> str:
         return f"line {places[t].line}" if places else f"move {t}"
 
     listed: dict[tuple[tuple[int, int], tuple[int, int]], int] = {}
@@ -29,13 +29,13 @@ def _repeated(leaf: Leaf, names: Names, places: Sequence[Place] | None) -> list[
     out = []
     for t, (p, q, r, s) in enumerate(leaf.moves):
         before, after = pair(p, q), pair(r, s)
-        lead = f"{earlier(t)}: `{names.move(t)}` is"
+        lead = f"{place(t)}: `{names.move(t)}` is"
         u = listed.setdefault((before, after), t)
         if u != t:
-            out.append(f"{lead} listed twice, first {'on' if places else 'as'} {earlier(u)}")
+            out.append(f"{lead} listed twice, first {'on' if places else 'as'} {place(u)}")
         elif before != after and (u := taken.setdefault(before, t)) != t:
             out.append(
-                f"{lead} hidden by `{names.move(u)}` ({earlier(u)}): a run takes the first of the two, so that a certified"
+                f"{lead} hidden by `{names.move(u)}` ({place(u)}): a run takes the first of the two, so that a certified"
                 " net may run forever; a proof has to hold for both"
             )
     return out
