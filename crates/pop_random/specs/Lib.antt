@@ -1,0 +1,5 @@
+pub mod UniformRuns
+pub mod RandomMeetings
+pub mod ComputesAlmostSurely
+pub mod Laws
+pub mod Examples
