@@ -16,10 +16,10 @@ use Rattle.cert_base.specs.Rows.{input_row}
 use Rattle.cert_base.specs.FactsAndCases.{states_of, flow, base_list, two_agents_fact, wrong_output_fact, absent_fact, occurs_fact, alone_fact, not_twice, can_meet_in, cases_of_open}
 use Rattle.cert_base.specs.Closes.{cases_of, ClosesUnder, refuted, by_cases, no_case, next_case, Closes}
 use Rattle.comp_trees.specs.LeaderTree.{weighed_node}
-use Rattle.comp_flock_leaf.specs.FlockLeaf.{is_flock_coefficient, flock_bound, flock_leaf_of}
+use Rattle.comp_flock.specs.FlockLeaf.{is_flock_coefficient, flock_bound, flock_leaf_of}
 use Rattle.comp_flock.specs.FlockProof.{few_mix, converted_mix, first_mix, start_mix, never_mix, flock_true_tree, flock_false_tree, flock_pred_of}
-use Rattle.comp_flock_leaf.proofs.MoveLists.{doubles, converts}
-use Rattle.comp_flock_leaf.proofs.Formed.{states-long}
+use Rattle.comp_flock.proofs.MoveLists.{doubles, converts}
+use Rattle.comp_flock.proofs.Formed.{states-long}
 use Rattle.comp_flock.proofs.TrueNodes.{few_facts, few_closes, converted_facts, converted_closes}
 use Rattle.comp_flock.proofs.FalseNodes.{full, first_facts, first_closes, start_facts, start_closes, never_facts, never_long, never_closes}
 use Rattle.list_laws.proofs.Ranges.{all_range, range_one_more}

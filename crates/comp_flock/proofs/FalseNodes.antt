@@ -24,11 +24,11 @@ use Rattle.cert_base.proofs.WeightedSums.{weighted_sum-append, weighted_sum-zero
 use Rattle.cert_base.proofs.FlowSums.{coefficient-dense, times-one, mul-neg, one-times}
 use Rattle.comp_trees.proofs.LeaderEnds.{is_wrong}
 use Rattle.comp_trees.proofs.TrapNodes.{range-constant, states-state, states-input, states-past, places-all}
-use Rattle.comp_flock_leaf.specs.FlockLeaf.{is_flock_coefficient, flock_bound, size_in, flock_start, doubling_move, conversion_move, flock_moves, flock_leaf_of}
+use Rattle.comp_flock.specs.FlockLeaf.{is_flock_coefficient, flock_bound, size_in, flock_start, doubling_move, conversion_move, flock_moves, flock_leaf_of}
 use Rattle.comp_flock.specs.FlockProof.{flock_mix, lesser_size, first_mix, start_mix, never_mix, flock_pred_of}
-use Rattle.comp_flock_leaf.proofs.Powers.{power-double, size-power, size-at, zero_le}
-use Rattle.comp_flock_leaf.proofs.MoveLists.{all_moves, all_doublings, all_conversions}
-use Rattle.comp_flock_leaf.proofs.Formed.{start-low, states-long}
+use Rattle.comp_flock.proofs.Powers.{power-double, size-power, size-at, zero_le}
+use Rattle.comp_flock.proofs.MoveLists.{all_moves, all_doublings, all_conversions}
+use Rattle.comp_flock.proofs.Formed.{start-low, states-long}
 use Rattle.comp_flock.proofs.Mixes.{IsPlain, all_facts, IsLow, mix_closes}
 use Rattle.comp_flock.proofs.OwnFacts.{taken-before, taken-move, taken-past, places-none}
 use Rattle.comp_flock.proofs.TrueNodes.{start-size, coefficient-at, is_plain, output-at}

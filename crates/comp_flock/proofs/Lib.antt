@@ -1,3 +1,9 @@
+pub mod Powers
+pub mod MoveLists
+pub mod SingleMoves
+pub mod StateNames
+pub mod Formed
+pub mod PowerFound
 pub mod Mixes
 pub mod OwnFacts
 pub mod TrueNodes
@@ -5,5 +11,6 @@ pub mod FalseNodes
 pub mod Small
 pub mod Closing
 pub mod Layers
+pub mod Steps
 pub mod Within
 pub mod Valid

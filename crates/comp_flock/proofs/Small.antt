@@ -9,8 +9,8 @@ use Rattle.pop_io.specs.declared.names.TheConstants.{VARIABLE_LIMIT}
 use Rattle.pres_ast.specs.declared.limits.TheConstants.{COEFFICIENT_LIMIT}
 use Rattle.pres_ast.specs.PredTree.{LessThan}
 use Rattle.pres_ast.specs.PredModel.{IsPred}
-use Rattle.comp_flock_leaf.specs.FlockLeaf.{is_flock_coefficient, flock_bound}
-use Rattle.comp_flock_leaf.proofs.Powers.{power-some, power_small}
+use Rattle.comp_flock.specs.FlockLeaf.{is_flock_coefficient, flock_bound}
+use Rattle.comp_flock.proofs.Powers.{power-some, power_small}
 use Rattle.comp_flock.proofs.TrueNodes.{coefficient-cases}
 use Rattle.list_laws.proofs.Numbers.{size-neg}
 

@@ -23,11 +23,11 @@ use Rattle.cert_base.proofs.WeightedSums.{weighted_sum-append, may_weigh-append,
 use Rattle.cert_base.proofs.FlowSums.{weighted_sum-map, total-same, total-none, total-neg, mul-neg, one-times}
 use Rattle.comp_trees.proofs.LeaderEnds.{absent-at, is_wrong, may_weigh-eqs}
 use Rattle.comp_trees.proofs.TrapNodes.{range-constant}
-use Rattle.comp_flock_leaf.specs.FlockLeaf.{is_flock_coefficient, flock_bound, size_in, flock_start, flock_moves, flock_leaf_of}
+use Rattle.comp_flock.specs.FlockLeaf.{is_flock_coefficient, flock_bound, size_in, flock_start, flock_moves, flock_leaf_of}
 use Rattle.comp_flock.specs.FlockProof.{flock_mix, few_mix, converted_mix, flock_pred_of}
-use Rattle.comp_flock_leaf.proofs.Powers.{power-double, size-power, size-at, size-le, sizes-total, zero_le}
-use Rattle.comp_flock_leaf.proofs.MoveLists.{all_moves}
-use Rattle.comp_flock_leaf.proofs.Formed.{states-long}
+use Rattle.comp_flock.proofs.Powers.{power-double, size-power, size-at, size-le, sizes-total, zero_le}
+use Rattle.comp_flock.proofs.MoveLists.{all_moves}
+use Rattle.comp_flock.proofs.Formed.{states-long}
 use Rattle.comp_flock.proofs.Mixes.{IsPlain, all_facts, IsLow, mix_closes}
 use Rattle.comp_flock.proofs.OwnFacts.{not_twice-at, total-append, total-counts, total-others}
 use Rattle.list_laws.proofs.Ranges.{range_one_more}

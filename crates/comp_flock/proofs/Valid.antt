@@ -8,9 +8,9 @@ use Rattle.cert_base.specs.declared.node.Node.{Node}
 use Rattle.cert_base.specs.declared.proof.LeafProof.{LeafProof}
 use Rattle.cert_base.specs.ValidProof.{ValidLeafProof}
 use Rattle.cert_base.specs.ProofLimits.{IsLeafProofWithin}
-use Rattle.comp_flock_leaf.specs.FlockLeaf.{IsFlock, flock_leaf_of}
+use Rattle.comp_flock.specs.FlockLeaf.{IsFlock, flock_leaf_of}
 use Rattle.comp_flock.specs.FlockProof.{flock_layers_of, flock_true_tree, flock_false_tree, flock_pred_of, flock_part}
-use Rattle.comp_flock_leaf.proofs.Formed.{flock-formed}
+use Rattle.comp_flock.proofs.Formed.{flock-formed}
 use Rattle.comp_flock.proofs.Layers.{layers-valid}
 use Rattle.comp_flock.proofs.Closing.{tree-true, tree-false}
 use Rattle.comp_flock.proofs.Within.{layers-within, true-within, false-within}

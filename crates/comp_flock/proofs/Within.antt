@@ -11,9 +11,9 @@ use Rattle.cert_base.specs.Rows.{zeros}
 use Rattle.cert_base.specs.ProofLimits.{IsSmall, IsSetWithin, IsNodeWithin, AreNodesWithin, IsLayerWithin}
 use Rattle.comp_trees.specs.LeaderTree.{weighed_node}
 use Rattle.comp_trees.proofs.Limits.{weighed-within, all-zeros, one}
-use Rattle.comp_flock_leaf.specs.FlockLeaf.{size_in}
+use Rattle.comp_flock.specs.FlockLeaf.{size_in}
 use Rattle.comp_flock.specs.FlockProof.{flock_weight, flock_layers_of, flock_mix, lesser_size, few_mix, converted_mix, first_mix, start_mix, never_mix, flock_true_tree, flock_false_tree}
-use Rattle.comp_flock_leaf.proofs.Powers.{size-le, power_small}
+use Rattle.comp_flock.proofs.Powers.{size-le, power_small}
 use Rattle.list_laws.proofs.Ranges.{all_range}
 use Rattle.list_laws.proofs.Numbers.{size-neg}
 

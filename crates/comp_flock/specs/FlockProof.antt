@@ -10,7 +10,7 @@ use Rattle.cert_base.specs.declared.node.Node.TheVariants.{Present, Twin, Siphon
 use Rattle.cert_base.specs.declared.proof.LeafProof.{LeafProof}
 use Rattle.cert_base.specs.Rows.{zeros}
 use Rattle.comp_trees.specs.LeaderTree.{weighed_node}
-use Rattle.comp_flock_leaf.specs.FlockLeaf.{flock_bound, size_in, flock_state_count}
+use Rattle.comp_flock.specs.FlockLeaf.{flock_bound, size_in, flock_state_count}
 
 -- ---- the layer
 
@@ -72,6 +72,10 @@ flock_false_tree k =
     ∷ weighed_node (never_mix k) ∷ []
 
 -- ---- the whole proof of the leaf
+
+-- how many steps per agent the proof allows
+abbrev pub flock_steps : ℕ
+flock_steps = 2
 
 abbrev pub flock_pred_of : List ℤ → ℕ → PredModel
 flock_pred_of coefs k = record { variables = length coefs; tree = LessThan coefs (flock_bound k) }

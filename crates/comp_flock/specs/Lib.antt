@@ -1,1 +1,2 @@
+pub mod FlockLeaf
 pub mod FlockProof

@@ -2,12 +2,12 @@
 
 ghost use Rattle.std.specs.Prelude.{◌≡◌, ◌≤◌, ◌+◌, map, pos, neg_ℤ, IfOk};
 ghost use Rattle.std.specs.List.{range_with_len};
-ghost use Rattle.comp_flock_leaf.specs.declared.limits.TheConstants.{POWER_LIMIT};
-ghost use Rattle.comp_flock_leaf.specs.FlockLeaf.{size_in, flock_state_count};
+ghost use Rattle.comp_flock.specs.declared.limits.TheConstants.{POWER_LIMIT};
+ghost use Rattle.comp_flock.specs.FlockLeaf.{size_in, flock_state_count};
 ghost use Rattle.comp_flock.specs.FlockProof.{flock_mix, lesser_size, few_mix, converted_mix, first_mix, start_mix};
 ghost use Rattle.comp_flock.specs.FlockProof.{never_mix};
 
-use comp_flock_leaf::size_of;
+use crate::naming::size_of;
 use pop_io::NoMemory;
 use std::alloc::Global;
 

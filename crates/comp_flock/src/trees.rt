@@ -4,7 +4,7 @@ ghost use Rattle.std.specs.Prelude.{◌≡◌, ◌≤◌, ◌+◌, ◌++◌, ◌
 ghost use Rattle.std.specs.List.{range_with_len};
 ghost use Rattle.cert_base.specs.declared.node.Node.TheVariants.{Siphon, Twin as twin_node};
 ghost use Rattle.comp_trees.specs.LeaderTree.{weighed_node};
-ghost use Rattle.comp_flock_leaf.specs.declared.limits.TheConstants.{POWER_LIMIT};
+ghost use Rattle.comp_flock.specs.declared.limits.TheConstants.{POWER_LIMIT};
 ghost use Rattle.comp_flock.specs.FlockProof.{flock_true_tree, flock_false_tree};
 
 use crate::multipliers::{converted, few, first, never, start};

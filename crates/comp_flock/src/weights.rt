@@ -2,8 +2,8 @@
 
 ghost use Rattle.std.specs.Prelude.{◌≡◌, ◌≤◌, ◌+◌, map, IfOk};
 ghost use Rattle.std.specs.List.{range_with_len};
-ghost use Rattle.comp_flock_leaf.specs.declared.limits.TheConstants.{POWER_LIMIT};
-ghost use Rattle.comp_flock_leaf.specs.FlockLeaf.{flock_state_count};
+ghost use Rattle.comp_flock.specs.declared.limits.TheConstants.{POWER_LIMIT};
+ghost use Rattle.comp_flock.specs.FlockLeaf.{flock_state_count};
 ghost use Rattle.comp_flock.specs.FlockProof.{flock_weight, flock_layers_of};
 
 use cert_base::Layer;

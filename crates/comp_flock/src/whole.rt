@@ -2,13 +2,14 @@
 
 ghost use Rattle.std.specs.Prelude.{◌≡◌, IfOk};
 ghost use Rattle.comp_trees.specs.BuiltLeaf.{IsBuilt};
-ghost use Rattle.comp_flock_leaf.specs.FlockLeaf.{IsFlock, flock_leaf_of};
-ghost use Rattle.comp_flock.specs.FlockProof.{flock_part, flock_pred_of};
+ghost use Rattle.comp_flock.specs.FlockLeaf.{IsFlock, flock_leaf_of};
+ghost use Rattle.comp_flock.specs.FlockProof.{flock_part, flock_steps, flock_pred_of};
 
+use crate::leaf::flock_leaf;
+use crate::power::bound_of_power;
 use crate::trees::both_trees;
 use crate::weights::flock_layers;
 use cert_base::LeafProof;
-use comp_flock_leaf::{bound_of_power, flock_leaf};
 use pop_io::{List, NoMemory};
 use pop_net::Leaf;
 use pres_ast::{Pred, Tree};
@@ -45,7 +46,7 @@ fn leaf_proof(alloc: Global, coefs: &[i64], power: u32) -> Result<LeafProof, NoM
 pub fn flock(alloc: Global, coefs: &[i64], power: u32) -> Result<(Leaf, LeafProof), NoMemory>
     requires { IsFlock coefs.now power }
     ensures { IfOk result
-        (λ both. IsBuilt (flock_leaf_of coefs.now power) (flock_pred_of coefs.now power) both.0 both.1) }
+        (λ both. IsBuilt (flock_leaf_of coefs.now power) (flock_pred_of coefs.now power) flock_steps both.0 both.1) }
 {
     let leaf = flock_leaf(alloc, coefs, power as u16)?;
     let proof = leaf_proof(alloc, coefs, power)?;

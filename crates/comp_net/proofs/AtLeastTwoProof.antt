@@ -8,9 +8,10 @@ use Rattle.std.proofs.lemmas.List.Kept.{AllPairs-cons}
 use Rattle.pop_io.specs.Names.{AreNames, variable_name}
 use Rattle.pop_net.specs.NetModel.{NetModel}
 use Rattle.pop_checker.specs.Computes.{Computes}
-use Rattle.comp_flock_leaf.specs.FlockLeaf.{IsFlock, flock_leaf_of}
+use Rattle.comp_flock.specs.FlockLeaf.{IsFlock, flock_leaf_of}
 use Rattle.comp_flock.specs.FlockProof.{flock_part}
 use Rattle.comp_flock.proofs.Small.{flock_is_pred}
+use Rattle.comp_flock.proofs.Steps.{steps_are}
 use Rattle.comp_flock.proofs.Valid.{flock-valid, flock-within}
 use Rattle.comp_net.specs.declared.choice.LeafChoice.TheVariants.{Flocks}
 use Rattle.comp_net.specs.Building.{IsAtomProof}
@@ -57,10 +58,10 @@ is_built = ap with_states state_names
 is_flock : IsFlock coefs 1
 is_flock = record { some = omega arith; few = omega arith; are = refl; low = omega arith; high = omega arith }
 
-atom_proof : IsAtomProof Flocks at_least_two (flock_part coefs 1)
+atom_proof : IsAtomProof Flocks 0 at_least_two (flock_part coefs 1)
 atom_proof =
-    flock_proof Flocks coefs (negsuc 0) 1 (flock_leaf_of coefs 1) (flock_part coefs 1) refl refl refl refl
-    (flock-valid coefs 1 is_flock) (flock-within coefs 1 is_flock)
+    flock_proof Flocks 0 coefs (negsuc 0) 1 (flock_leaf_of coefs 1) (flock_part coefs 1) refl refl refl refl
+    (flock-valid coefs 1 is_flock) (flock-within coefs 1 is_flock) (steps_are 1 (omega arith))
 
 names_formed : AreNames variable_name variables
 names_formed = (

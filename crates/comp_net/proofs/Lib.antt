@@ -1,5 +1,6 @@
 pub mod Postfix
 pub mod Narrow
+pub mod Chosen
 pub mod Valid
 pub mod Adding
 pub mod AtLeastTwoProof

@@ -1,14 +1,15 @@
 -- The built net is a net, and its proof is valid.
-use Rattle.std.proofs.Common.{◌≡◌, inl, inr, true, false, subst, ℕ, zero, suc, ◌+◌, ◌≤◌, List, [], ◌∷◌, length, map, get_or, refl, ap, sym, ◌∙◌, zero-add, arith}
-use Rattle.std.specs.Prelude.{ℤ, pos, Option, Some, None, IsSomeAnd, All, AllPairs, slice_get}
+use Rattle.std.proofs.Common.{◌≡◌, inl, inr, true, false, subst, ℕ, zero, suc, ◌+◌, ◌-◌, ◌≤◌, List, [], ◌∷◌, length, map, get_or, refl, ap, sym, ◌∙◌, zero-add, arith}
+use Rattle.std.specs.Prelude.{ℤ, pos, Some, None, IsSomeAnd, All, replicate, AllPairs, slice_get, sum_by}
 use Rattle.std.proofs.lemmas.Bool.{le-ltb, cases_lt, false≢true}
-use Rattle.std.proofs.lemmas.List.{length-map}
+use Rattle.std.proofs.lemmas.List.{length-map, length-append, length-replicate}
 use Rattle.std.proofs.lemmas.List.Folds.{list_any_none}
+use Rattle.std.proofs.lemmas.List.Sums.{sum_by-cons}
 use Rattle.std.proofs.lemmas.List.FromFn.{length-map-range_with_len}
 use Rattle.std.proofs.lemmas.List.Elements.{All-nil, All-cons, All-head, All-tail, All-append, All-map, All-weaker}
 use Rattle.pop_io.specs.Names.{AreNames, variable_name}
 use Rattle.pop_io.specs.declared.names.TheConstants.{VARIABLE_LIMIT}
-use Rattle.pop_net.specs.declared.limits.TheConstants.{NARROW_STATE_LIMIT, WIDE_LEAF_LIMIT, DEPTH_LIMIT}
+use Rattle.pop_net.specs.declared.limits.TheConstants.{NARROW_STATE_LIMIT, WIDE_LEAF_LIMIT, DEPTH_LIMIT, HELPER_LIMIT}
 use Rattle.pop_net.specs.declared.net.Item.{Item}
 use Rattle.pop_net.specs.LeafModel.{LeafModel, IsLeaf}
 use Rattle.pop_net.specs.NetModel.{NetModel, IsNet, depth_operators, number_of_helpers, helpers_of, is_wide_leaf, is_wide}
@@ -19,139 +20,182 @@ use Rattle.pres_ast.specs.PredModel.{HasAtoms, IsAtomSum, IsPred}
 use Rattle.cert_base.specs.FactsAndCases.{over_count}
 use Rattle.cert_base.specs.declared.proof.LeafProof.{LeafProof}
 use Rattle.cert_base.specs.ValidProof.{trees, ValidLeafProof, ValidProof}
+use Rattle.cert_base.specs.ProofBound.{layers_bound}
 use Rattle.cert_base.specs.ProofLimits.{IsLeafProofWithin, IsProofWithin}
 use Rattle.pop_checker.specs.Sound.{IsRight}
 use Rattle.pop_checker.proofs.RightEnds.{sound}
-use Rattle.comp_threshold_leaf.specs.ThresholdLeaf.{threshold_width, place_of_value, threshold_state_count, threshold_state_name}
-use Rattle.comp_threshold_leaf.proofs.Formed.{threshold-formed}
-use Rattle.comp_threshold_leaf.proofs.Single.{moves-single as threshold_single}
-use Rattle.comp_remainder_leaf.specs.RemainderLeaf.{remainder_state_name}
-use Rattle.comp_remainder_leaf.proofs.Formed.{remainder-formed}
-use Rattle.comp_remainder_leaf.proofs.SingleMoves.{moves-single as remainder_single}
-use Rattle.comp_threshold_leaf.specs.declared.limits.TheConstants.{WIDTH_LIMIT}
-use Rattle.comp_flock_leaf.specs.FlockLeaf.{flock_start, flock_state_name}
-use Rattle.comp_flock_leaf.proofs.Formed.{flock-formed}
-use Rattle.comp_flock_leaf.proofs.SingleMoves.{moves-single as flock_single}
-use Rattle.comp_flock_leaf.proofs.PowerFound.{IsPower, power_is}
+use Rattle.comp_threshold.specs.ThresholdLeaf.{threshold_width, place_of_value, threshold_state_count, threshold_state_name}
+use Rattle.comp_threshold.proofs.Formed.{threshold-formed}
+use Rattle.comp_threshold.proofs.Single.{moves-single as threshold_single}
+use Rattle.comp_remainder.specs.RemainderLeaf.{remainder_state_name}
+use Rattle.comp_remainder.proofs.Formed.{remainder-formed}
+use Rattle.comp_remainder.proofs.SingleMoves.{moves-single as remainder_single}
+use Rattle.comp_flock.specs.FlockLeaf.{flock_start, flock_state_name}
+use Rattle.comp_flock.proofs.Formed.{flock-formed}
+use Rattle.comp_flock.proofs.SingleMoves.{moves-single as flock_single}
+use Rattle.comp_powers_leaf.specs.declared.role.Role.TheVariants.{Nothing}
+use Rattle.comp_powers_leaf.specs.PowersLeaf.{roles, place, start_of, coefficient_of, lacking, bit_role, helper_roles, all_helper_roles, state_name_at}
+use Rattle.comp_powers_leaf.proofs.RangeFound.{range-suffices}
+use Rattle.comp_powers_leaf.proofs.Formed.{powers-formed}
+use Rattle.comp_powers_leaf.proofs.Single.{moves-single as powers_single}
 use Rattle.comp_net.specs.declared.choice.LeafChoice.{LeafChoice}
-use Rattle.comp_net.specs.declared.choice.LeafChoice.TheVariants.{Plain, Flocks}
-use Rattle.comp_net.specs.declared.limits.TheConstants.{NARROW_WIDTH_LIMIT}
-use Rattle.comp_net.specs.Atoms.{atoms, postfix, flock_of_atom, less_width, atom_width, AreBuildable}
+use Rattle.comp_net.specs.declared.choice.LessLeaf.{LessLeaf}
+use Rattle.comp_net.specs.declared.choice.LessLeaf.TheVariants.{Threshold, Flock, Powers, NoLeaf}
+use Rattle.comp_net.specs.Atoms.{atoms, postfix, less_leaf_for, is_none, less_helpers, most_helpers, less_size, atom_size, size_limit, narrow_limit, AreBuildable}
 use Rattle.comp_net.specs.BuiltNet.{less_leaf, leaf_of, net_with}
+use Rattle.comp_net.specs.BuiltBound.{atom_steps}
 use Rattle.comp_net.specs.Building.{AreAtomProofs}
 use Rattle.comp_net.specs.CompileFaults.{fault_with}
 use Rattle.comp_net.proofs.Postfix.{value_at, combined-postfix, tree-again, depth-most, items-most, some_atom, names-below}
-use Rattle.comp_net.proofs.Narrow.{KeepsWidths, keeps_widths, buildable}
+use Rattle.comp_net.proofs.Narrow.{KeepsSizes, keeps_sizes, buildable}
+use Rattle.comp_net.proofs.Chosen.{is_succinct, IsChosen, chosen, helpers-held, helpers-none}
 use Rattle.std.proofs.lemmas.Option.{same_Some}
 
 -- ---- all atoms
 
--- the leaf of an atom with this width
-pub record IsBuiltLeaf (n w : ℕ) (leaf : LeafModel) : Type 0 where
+-- the leaf of an atom in a net over n variables with so many helpers; it isn't wide where its size is low
+pub record IsBuiltLeaf (n helpers : ℕ) (is_low : Type 0) (leaf : LeafModel) : Type 0 where
   pub formed : IsLeaf leaf
   pub inputs : length leaf.inputs ≡ n
-  pub helpers : leaf.helpers ≡ []
-  pub narrow : w ≤ NARROW_WIDTH_LIMIT → is_wide_leaf leaf ≡ false
+  pub helped : length leaf.helpers ≡ helpers
+  pub narrow : is_low → is_wide_leaf leaf ≡ false
   pub single : AllPairs Differ leaf.moves
 
-abbrev IsBuilt : LeafChoice → ℕ → PredTree → Type 0
-IsBuilt choice n atom = IsBuiltLeaf n (atom_width choice atom) (leaf_of choice atom)
+abbrev IsBuilt : LeafChoice → ℕ → ℕ → PredTree → Type 0
+IsBuilt choice helpers n atom =
+    IsBuiltLeaf n helpers (atom_size choice atom ≤ narrow_limit choice) (leaf_of choice helpers atom)
 
--- a flock atom that has the leaf of a flock
-pub flock_found : (choice : LeafChoice) (coefs : List ℤ) (bound : ℤ) (k : ℕ) → flock_of_atom choice coefs bound ≡ Some k → IsPower coefs bound k
-flock_found Plain coefs bound k e = cc
-flock_found Flocks coefs bound k e = power_is coefs bound k e
+-- what is known of the number of helpers
+pub record IsHelped (choice : LeafChoice) (helpers : ℕ) (tree : PredTree) : Type 0 where
+  pub enough : most_helpers choice tree ≤ helpers
+  pub few : helpers ≤ HELPER_LIMIT
+  pub none : is_succinct choice ≡ false → helpers ≡ 0
 
-less_built : (choice : LeafChoice) (coefs : List ℤ) (bound : ℤ) (o : Option ℕ) → flock_of_atom choice coefs bound ≡ o → IsAtomSum coefs → less_width coefs bound o ≤ WIDTH_LIMIT → IsBuiltLeaf (length coefs) (less_width coefs bound o) (less_leaf coefs bound o)
-less_built choice coefs bound None e sum few = record {
-  formed = threshold-formed coefs bound sum.some sum.few few;
+-- those of the net
+pub net_helped : (choice : LeafChoice) (tree : PredTree) → IsHelped choice (most_helpers choice tree) tree
+net_helped choice tree = record {
+  enough = omega arith;
+  few = helpers-held choice tree;
+  none = helpers-none choice tree;
+}
+
+less_built : (choice : LeafChoice) (helpers : ℕ) (coefs : List ℤ) (bound : ℤ) (leaf : LessLeaf) → IsChosen choice coefs bound leaf → IsAtomSum coefs → is_none leaf ≡ false → less_size coefs bound leaf ≤ size_limit choice → less_helpers leaf ≤ helpers → helpers ≤ HELPER_LIMIT → (is_succinct choice ≡ false → helpers ≡ 0)
+    → IsBuiltLeaf (length coefs) helpers (less_size coefs bound leaf ≤ narrow_limit choice) (less_leaf coefs bound helpers leaf)
+less_built choice helpers coefs bound Threshold is sum some few enough most none = record {
+  formed = threshold-formed coefs bound sum.some sum.few (let limit = is.1 in omega (arith, few, limit));
   inputs = length-map coefs (place_of_value (threshold_width coefs bound));
-  helpers = refl;
-  narrow = λ l. le-ltb NARROW_STATE_LIMIT _ (omega (arith, length-map-range_with_len (threshold_state_name (threshold_width coefs bound)) 0 (threshold_state_count (threshold_width coefs bound)), l));
+  helped = sym (none is.0);
+  narrow = λ l. le-ltb NARROW_STATE_LIMIT _ (let limit = is.2 in omega (arith, length-map-range_with_len (threshold_state_name (threshold_width coefs bound)) 0 (threshold_state_count (threshold_width coefs bound)), l, limit));
   single = threshold_single (threshold_width coefs bound) (place_of_value (threshold_width coefs bound) bound);
 }
-less_built choice coefs bound (Some k) e sum few =
-    let is = flock_found choice coefs bound k e in
+less_built choice helpers coefs bound (Flock k) is sum some few enough most none =
+    let found = is.1 in
     record {
-      formed = flock-formed coefs k sum.some sum.few is.low is.high;
+      formed = flock-formed coefs k sum.some sum.few found.low found.high;
       inputs = length-map coefs flock_start;
-      helpers = refl;
-      narrow = λ l. le-ltb NARROW_STATE_LIMIT _ (let high = is.high in omega (arith, length-map-range_with_len flock_state_name 0 (k + 2), high));
+      helped = sym (none is.0);
+      narrow = λ l. le-ltb NARROW_STATE_LIMIT _ (let high = found.high in omega (arith, length-map-range_with_len flock_state_name 0 (k + 2), high));
       single = flock_single k;
     }
+less_built choice helpers coefs bound (Powers k) is sum some few enough most none =
+    let spare = helpers - (k + 2) in
+    let fits = range-suffices coefs bound k is.2 sum.some sum.few (let limit = is.0 in omega (arith, few, limit)) in
+    let held = length-append (helper_roles bound k) (replicate spare (Nothing false)) in
+    let own = length-map-range_with_len (bit_role (lacking k bound)) 0 k in
+    let more = length-replicate spare (Nothing false) in
+    record {
+      formed = powers-formed coefs bound k spare fits (let room : k + 2 + spare ≤ HELPER_LIMIT = omega (arith, enough, most) in room);
+      inputs = length-map-range_with_len (λ j. place coefs k (start_of k j (coefficient_of coefs j))) 0 (length coefs);
+      helped = length-map (all_helper_roles bound k spare) (place coefs k) ∙ (let h : length (all_helper_roles bound k spare) ≡ helpers = omega (arith, held, own, more, enough) in h);
+      narrow = λ l. le-ltb NARROW_STATE_LIMIT _ (let limit = is.1 in omega (arith, length-map-range_with_len state_name_at 0 (length (roles coefs k)), l, limit));
+      single = powers_single coefs k;
+    }
+less_built choice helpers coefs bound NoLeaf is sum some few enough most none = absurd (let e : true ≡ false = some in cc)
 
-pub all_built : (choice : LeafChoice) (n : ℕ) (tree : PredTree) → HasAtoms n tree → AreBuildable choice tree → All (IsBuilt choice n) (atoms tree)
-all_built choice n (LessThan coefs bound) has can =
+pub all_built : (choice : LeafChoice) (helpers n : ℕ) (tree : PredTree) → HasAtoms n tree → AreBuildable choice tree → IsHelped choice helpers tree → All (IsBuilt choice helpers n) (atoms tree)
+all_built choice helpers n (LessThan coefs bound) has can helped =
     let long = has.0.0 in
-    All-cons (IsBuilt choice n) (LessThan coefs bound) []
-    (subst (λ m. IsBuilt choice m (LessThan coefs bound)) long (less_built choice coefs bound (flock_of_atom choice coefs bound) refl can.0 can.2))
-    (All-nil (IsBuilt choice n))
-all_built choice n (Congruent coefs m rest) has can =
+    All-cons (IsBuilt choice helpers n) (LessThan coefs bound) []
+    (subst (λ m. IsBuilt choice helpers m (LessThan coefs bound)) long (less_built choice helpers coefs bound (less_leaf_for choice coefs bound) (chosen choice coefs bound) can.0 can.2 can.3 helped.enough helped.few helped.none))
+    (All-nil (IsBuilt choice helpers n))
+all_built choice helpers n (Congruent coefs m rest) has can helped =
     let long = has.0.0 in
-    All-cons (IsBuilt choice n) (Congruent coefs m rest) []
-    (subst (λ k. IsBuilt choice k (Congruent coefs m rest)) long
+    All-cons (IsBuilt choice helpers n) (Congruent coefs m rest) []
+    (subst (λ k. IsBuilt choice helpers k (Congruent coefs m rest)) long
     (record {
-      formed = remainder-formed coefs m rest can.0.some can.0.few (let low = can.1.low in omega arith) can.1.high;
+      formed = remainder-formed coefs m rest helpers can.0.some can.0.few (let low = can.1.low in omega arith) can.1.high helped.few;
       inputs = length-map coefs _;
-      helpers = refl;
+      helped = length-replicate helpers (let leader : ℕ = 0 in leader);
       narrow = λ l. le-ltb NARROW_STATE_LIMIT _ (let high = can.1.high in omega (arith, length-map-range_with_len (remainder_state_name m) 0 (m + 2), high));
       single = remainder_single m rest;
     }))
-    (All-nil (IsBuilt choice n))
-all_built choice n (Negation p) has can = all_built choice n p has can
-all_built choice n (Conjunction p q) has can = All-append (IsBuilt choice n) (atoms p) (atoms q) (all_built choice n p has.0 can.0) (all_built choice n q has.1 can.1)
-all_built choice n (Disjunction p q) has can = All-append (IsBuilt choice n) (atoms p) (atoms q) (all_built choice n p has.0 can.0) (all_built choice n q has.1 can.1)
+    (All-nil (IsBuilt choice helpers n))
+all_built choice helpers n (Negation p) has can helped = all_built choice helpers n p has can (record { enough = helped.enough; few = helped.few; none = helped.none })
+all_built choice helpers n (Conjunction p q) has can helped =
+    let enough = helped.enough in
+    All-append (IsBuilt choice helpers n) (atoms p) (atoms q)
+    (all_built choice helpers n p has.0 can.0 (record { enough = omega (arith, enough); few = helped.few; none = helped.none }))
+    (all_built choice helpers n q has.1 can.1 (record { enough = omega (arith, enough); few = helped.few; none = helped.none }))
+all_built choice helpers n (Disjunction p q) has can helped =
+    let enough = helped.enough in
+    All-append (IsBuilt choice helpers n) (atoms p) (atoms q)
+    (all_built choice helpers n p has.0 can.0 (record { enough = omega (arith, enough); few = helped.few; none = helped.none }))
+    (all_built choice helpers n q has.1 can.1 (record { enough = omega (arith, enough); few = helped.few; none = helped.none }))
 
 pub pred_buildable : (choice : LeafChoice) (n : ℕ) (tree : PredTree) → IsPred n tree → fault_with choice tree ≡ None → AreBuildable choice tree
-pred_buildable choice n tree is none = buildable choice n tree is.some_variable is.variables is.atoms (keeps_widths choice tree none).narrow
+pred_buildable choice n tree is none = buildable choice n tree is.some_variable is.variables is.atoms (keeps_sizes choice tree none).fits
 
-pub pred_built : (choice : LeafChoice) (n : ℕ) (tree : PredTree) → IsPred n tree → fault_with choice tree ≡ None → All (IsBuilt choice n) (atoms tree)
-pred_built choice n tree is none = all_built choice n tree is.atoms (pred_buildable choice n tree is none)
+-- with the helpers of the net
+abbrev IsBuiltIn : LeafChoice → PredTree → ℕ → PredTree → Type 0
+IsBuiltIn choice tree n = IsBuilt choice (most_helpers choice tree) n
+
+pub pred_built : (choice : LeafChoice) (n : ℕ) (tree : PredTree) → IsPred n tree → fault_with choice tree ≡ None → All (IsBuiltIn choice tree n) (atoms tree)
+pred_built choice n tree is none = all_built choice (most_helpers choice tree) n tree is.atoms (pred_buildable choice n tree is none) (net_helped choice tree)
 
 -- ---- the whole proof
 
-parts-long : (choice : LeafChoice) (xs : List PredTree) (parts : List LeafProof) → AreAtomProofs choice xs parts → length parts ≡ length xs
-parts-long choice [] [] h = refl
-parts-long choice [] (part ∷ parts) h = absurd h
-parts-long choice (a ∷ xs) [] h = absurd h
-parts-long choice (a ∷ xs) (part ∷ parts) h = ap suc (parts-long choice xs parts h.1)
+parts-long : (choice : LeafChoice) (helpers : ℕ) (xs : List PredTree) (parts : List LeafProof) → AreAtomProofs choice helpers xs parts → length parts ≡ length xs
+parts-long choice helpers [] [] h = refl
+parts-long choice helpers [] (part ∷ parts) h = absurd h
+parts-long choice helpers (a ∷ xs) [] h = absurd h
+parts-long choice helpers (a ∷ xs) (part ∷ parts) h = ap suc (parts-long choice helpers xs parts h.1)
 
-parts-trees : (choice : LeafChoice) (xs : List PredTree) (parts : List LeafProof) → AreAtomProofs choice xs parts → map (λ (part : LeafProof). part.pred.tree) parts ≡ xs
-parts-trees choice [] [] h = refl
-parts-trees choice [] (part ∷ parts) h = absurd h
-parts-trees choice (a ∷ xs) [] h = absurd h
-parts-trees choice (a ∷ xs) (part ∷ parts) h = ap (λ t. t ∷ map (λ (part : LeafProof). part.pred.tree) parts) h.0.tree_is ∙ ap (λ ts. a ∷ ts) (parts-trees choice xs parts h.1)
+parts-trees : (choice : LeafChoice) (helpers : ℕ) (xs : List PredTree) (parts : List LeafProof) → AreAtomProofs choice helpers xs parts → map (λ (part : LeafProof). part.pred.tree) parts ≡ xs
+parts-trees choice helpers [] [] h = refl
+parts-trees choice helpers [] (part ∷ parts) h = absurd h
+parts-trees choice helpers (a ∷ xs) [] h = absurd h
+parts-trees choice helpers (a ∷ xs) (part ∷ parts) h = ap (λ t. t ∷ map (λ (part : LeafProof). part.pred.tree) parts) h.0.tree_is ∙ ap (λ ts. a ∷ ts) (parts-trees choice helpers xs parts h.1)
 
-parts-valid : (choice : LeafChoice) (xs : List PredTree) (parts : List LeafProof) → AreAtomProofs choice xs parts → (i : ℕ) (leaf : LeafModel) (part : LeafProof) → slice_get (map (leaf_of choice) xs) i ≡ Some leaf → slice_get parts i ≡ Some part → ValidLeafProof leaf part
-parts-valid choice [] [] h i leaf part e f = cc
-parts-valid choice [] (p ∷ parts) h i leaf part e f = absurd h
-parts-valid choice (a ∷ xs) [] h i leaf part e f = absurd h
-parts-valid choice (a ∷ xs) (p ∷ parts) h zero leaf part e f =
-    subst (λ l. ValidLeafProof l part) (same_Some _ _ e) (subst (ValidLeafProof (leaf_of choice a)) (same_Some _ _ f) h.0.valid)
-parts-valid choice (a ∷ xs) (p ∷ parts) h (suc i) leaf part e f = parts-valid choice xs parts h.1 i leaf part e f
+parts-valid : (choice : LeafChoice) (helpers : ℕ) (xs : List PredTree) (parts : List LeafProof) → AreAtomProofs choice helpers xs parts → (i : ℕ) (leaf : LeafModel) (part : LeafProof) → slice_get (map (leaf_of choice helpers) xs) i ≡ Some leaf → slice_get parts i ≡ Some part → ValidLeafProof leaf part
+parts-valid choice helpers [] [] h i leaf part e f = cc
+parts-valid choice helpers [] (p ∷ parts) h i leaf part e f = absurd h
+parts-valid choice helpers (a ∷ xs) [] h i leaf part e f = absurd h
+parts-valid choice helpers (a ∷ xs) (p ∷ parts) h zero leaf part e f =
+    subst (λ l. ValidLeafProof l part) (same_Some _ _ e) (subst (ValidLeafProof (leaf_of choice helpers a)) (same_Some _ _ f) h.0.valid)
+parts-valid choice helpers (a ∷ xs) (p ∷ parts) h (suc i) leaf part e f = parts-valid choice helpers xs parts h.1 i leaf part e f
 
-parts-within : (choice : LeafChoice) (n : ℕ) (xs : List PredTree) (parts : List LeafProof) → AreAtomProofs choice xs parts → All (IsBuilt choice n) xs → All (IsLeafProofWithin n) parts
-parts-within choice n [] [] h built = All-nil (IsLeafProofWithin n)
-parts-within choice n [] (part ∷ parts) h built = absurd h
-parts-within choice n (a ∷ xs) [] h built = absurd h
-parts-within choice n (a ∷ xs) (part ∷ parts) h built =
-    All-cons (IsLeafProofWithin n) part parts (subst (λ k. IsLeafProofWithin k part) (built 0 a (omega arith)).inputs h.0.within) (parts-within choice n xs parts h.1 (All-tail (IsBuilt choice n) a xs built))
+parts-within : (choice : LeafChoice) (helpers : ℕ) (n : ℕ) (xs : List PredTree) (parts : List LeafProof) → AreAtomProofs choice helpers xs parts → All (IsBuilt choice helpers n) xs → All (IsLeafProofWithin n) parts
+parts-within choice helpers n [] [] h built = All-nil (IsLeafProofWithin n)
+parts-within choice helpers n [] (part ∷ parts) h built = absurd h
+parts-within choice helpers n (a ∷ xs) [] h built = absurd h
+parts-within choice helpers n (a ∷ xs) (part ∷ parts) h built =
+    All-cons (IsLeafProofWithin n) part parts (subst (λ k. IsLeafProofWithin k part) (built 0 a (omega arith)).inputs h.0.within) (parts-within choice helpers n xs parts h.1 (All-tail (IsBuilt choice helpers n) a xs built))
 
-pub proof-valid : (choice : LeafChoice) (names : List (List ℕ)) (n : ℕ) (tree : PredTree) (parts : List LeafProof) → AreAtomProofs choice (atoms tree) parts → ValidProof (net_with choice names tree) (over_count n tree) (record { leaves = parts })
+pub proof-valid : (choice : LeafChoice) (names : List (List ℕ)) (n : ℕ) (tree : PredTree) (parts : List LeafProof) → AreAtomProofs choice (most_helpers choice tree) (atoms tree) parts → ValidProof (net_with choice names tree) (over_count n tree) (record { leaves = parts })
 proof-valid choice names n tree parts h = record {
-  one_each = parts-long choice (atoms tree) parts h ∙ sym (length-map (atoms tree) (leaf_of choice));
-  leaves = parts-valid choice (atoms tree) parts h;
+  one_each = parts-long choice (most_helpers choice tree) (atoms tree) parts h ∙ sym (length-map (atoms tree) (leaf_of choice (most_helpers choice tree)));
+  leaves = parts-valid choice (most_helpers choice tree) (atoms tree) parts h;
   combination =
       combined-postfix (trees (map (λ (part : LeafProof). part.pred.tree) parts)) tree
-      ∙ ap (λ ps. Some (value_at (trees ps) 0 tree)) (parts-trees choice (atoms tree) parts h)
+      ∙ ap (λ ps. Some (value_at (trees ps) 0 tree)) (parts-trees choice (most_helpers choice tree) (atoms tree) parts h)
       ∙ ap Some (tree-again (atoms tree) 0 tree (λ i l. ap (λ k. get_or (atoms tree) k (LessThan [] (pos 0))) (zero-add i)));
 }
 
 -- the proof is within the limits
-pub proof-within : (choice : LeafChoice) (names : List (List ℕ)) (n : ℕ) (tree : PredTree) (parts : List LeafProof) → AreAtomProofs choice (atoms tree) parts → IsPred n tree → fault_with choice tree ≡ None → IsProofWithin n (length (net_with choice names tree).leaves) (record { leaves = parts })
+pub proof-within : (choice : LeafChoice) (names : List (List ℕ)) (n : ℕ) (tree : PredTree) (parts : List LeafProof) → AreAtomProofs choice (most_helpers choice tree) (atoms tree) parts → IsPred n tree → fault_with choice tree ≡ None → IsProofWithin n (length (net_with choice names tree).leaves) (record { leaves = parts })
 proof-within choice names n tree parts h is none = record {
-  one_each = parts-long choice (atoms tree) parts h ∙ sym (length-map (atoms tree) (leaf_of choice));
-  parts = parts-within choice n (atoms tree) parts h (pred_built choice n tree is none);
+  one_each = parts-long choice (most_helpers choice tree) (atoms tree) parts h ∙ sym (length-map (atoms tree) (leaf_of choice (most_helpers choice tree)));
+  parts = parts-within choice (most_helpers choice tree) n (atoms tree) parts h (pred_built choice n tree is none);
 }
 
 -- each atom is a predicate, and so is that of its proof
@@ -167,30 +211,30 @@ atom_preds n (Disjunction p q) some few has = All-append (IsPred n) (atoms p) (a
 abbrev IsPart : ℕ → LeafProof → Type 0
 IsPart n part = IsPred n part.pred.tree
 
-part_preds : (choice : LeafChoice) (n : ℕ) (xs : List PredTree) (parts : List LeafProof) → AreAtomProofs choice xs parts → All (IsPred n) xs → All (IsPart n) parts
-part_preds choice n [] [] h preds = All-nil (IsPart n)
-part_preds choice n [] (part ∷ parts) h preds = absurd h
-part_preds choice n (a ∷ xs) [] h preds = absurd h
-part_preds choice n (a ∷ xs) (part ∷ parts) h preds =
-    All-cons (IsPart n) part parts (subst (IsPred n) (sym h.0.tree_is) (All-head (IsPred n) a xs preds)) (part_preds choice n xs parts h.1 (All-tail (IsPred n) a xs preds))
+part_preds : (choice : LeafChoice) (helpers : ℕ) (n : ℕ) (xs : List PredTree) (parts : List LeafProof) → AreAtomProofs choice helpers xs parts → All (IsPred n) xs → All (IsPart n) parts
+part_preds choice helpers n [] [] h preds = All-nil (IsPart n)
+part_preds choice helpers n [] (part ∷ parts) h preds = absurd h
+part_preds choice helpers n (a ∷ xs) [] h preds = absurd h
+part_preds choice helpers n (a ∷ xs) (part ∷ parts) h preds =
+    All-cons (IsPart n) part parts (subst (IsPred n) (sym h.0.tree_is) (All-head (IsPred n) a xs preds)) (part_preds choice helpers n xs parts h.1 (All-tail (IsPred n) a xs preds))
 
-pub proof-preds : (choice : LeafChoice) (n : ℕ) (tree : PredTree) (parts : List LeafProof) → AreAtomProofs choice (atoms tree) parts → IsPred n tree → All (IsPart n) parts
-proof-preds choice n tree parts h is = part_preds choice n (atoms tree) parts h (atom_preds n tree is.some_variable is.variables is.atoms)
+pub proof-preds : (choice : LeafChoice) (n : ℕ) (tree : PredTree) (parts : List LeafProof) → AreAtomProofs choice (most_helpers choice tree) (atoms tree) parts → IsPred n tree → All (IsPart n) parts
+proof-preds choice n tree parts h is = part_preds choice (most_helpers choice tree) n (atoms tree) parts h (atom_preds n tree is.some_variable is.variables is.atoms)
 
 -- no leaf has two moves that take the same states
 pub net-single : (choice : LeafChoice) (names : List (List ℕ)) (n : ℕ) (tree : PredTree) → IsPred n tree → fault_with choice tree ≡ None → IsSingle (net_with choice names tree)
 net-single choice names n tree is none =
-    All-map (λ leaf. AllPairs Differ leaf.moves) (leaf_of choice) (atoms tree) (All-weaker (IsBuilt choice n) (λ a. AllPairs Differ (leaf_of choice a).moves) (λ a b. b.single) (atoms tree) (pred_built choice n tree is none))
+    All-map (λ leaf. AllPairs Differ leaf.moves) (leaf_of choice (most_helpers choice tree)) (atoms tree) (All-weaker (IsBuiltIn choice tree n) (λ a. AllPairs Differ (leaf_of choice (most_helpers choice tree) a).moves) (λ a b. b.single) (atoms tree) (pred_built choice n tree is none))
 
 -- ---- the net
 
-no_helpers : (choice : LeafChoice) (n : ℕ) (xs : List PredTree) → All (IsBuilt choice n) xs → helpers_of (map (leaf_of choice) xs) ≡ 0
-no_helpers choice n [] built = refl
-no_helpers choice n (a ∷ xs) built = ap length (built 0 a (omega arith)).helpers
+all_helped : (choice : LeafChoice) (helpers n : ℕ) (xs : List PredTree) → 1 ≤ length xs → All (IsBuilt choice helpers n) xs → helpers_of (map (leaf_of choice helpers) xs) ≡ helpers
+all_helped choice helpers n [] some built = absurd (omega (arith, some))
+all_helped choice helpers n (a ∷ xs) some built = (built 0 a (omega arith)).helped
 
-not-wide : (choice : LeafChoice) (tree : PredTree) (n : ℕ) → All (IsBuilt choice n) (atoms tree) → KeepsWidths choice tree → is_wide (map (leaf_of choice) (atoms tree)) ≡ true → length (atoms tree) ≤ WIDE_LEAF_LIMIT
+not-wide : (choice : LeafChoice) (tree : PredTree) (n : ℕ) → All (IsBuiltIn choice tree n) (atoms tree) → KeepsSizes choice tree → is_wide (map (leaf_of choice (most_helpers choice tree)) (atoms tree)) ≡ true → length (atoms tree) ≤ WIDE_LEAF_LIMIT
 not-wide choice tree n built keeps wide = elim (cases_lt WIDE_LEAF_LIMIT (length (atoms tree))) [
-  | inl many ↦ absurd (false≢true (sym (list_any_none is_wide_leaf (map (leaf_of choice) (atoms tree)) (All-map (λ leaf. is_wide_leaf leaf ≡ false) (leaf_of choice) (atoms tree) (λ k d l. (built k d l).narrow (keeps.not_wide many k d l)))) ∙ wide))
+  | inl many ↦ absurd (false≢true (sym (list_any_none is_wide_leaf (map (leaf_of choice (most_helpers choice tree)) (atoms tree)) (All-map (λ leaf. is_wide_leaf leaf ≡ false) (leaf_of choice (most_helpers choice tree)) (atoms tree) (λ k d l. (built k d l).narrow (keeps.not_wide many k d l)))) ∙ wide))
   | inr few ↦ few
 ]
 
@@ -198,25 +242,37 @@ pub net-formed : (choice : LeafChoice) (names : List (List ℕ)) (tree : PredTre
 net-formed choice names tree formed is none =
     let n = length names in
     let built = pred_built choice n tree is none in
-    let keeps = keeps_widths choice tree none in
-    let long = length-map (atoms tree) (leaf_of choice) in
+    let keeps = keeps_sizes choice tree none in
+    let long = length-map (atoms tree) (leaf_of choice (most_helpers choice tree)) in
     record {
       variable_names = formed;
       some_variable = is.some_variable;
       variables = is.variables;
       some_leaf = (let e = some_atom tree in omega (arith, long));
       leaf_count = (let few = keeps.few in omega (arith, long));
-      leaves = All-map IsLeaf (leaf_of choice) (atoms tree) (All-weaker (IsBuilt choice n) (λ a. IsLeaf (leaf_of choice a)) (λ a b. b.formed) (atoms tree) built);
-      inputs = All-map (λ leaf. length leaf.inputs ≡ n) (leaf_of choice) (atoms tree) (All-weaker (IsBuilt choice n) (λ a. length (leaf_of choice a).inputs ≡ n) (λ a b. b.inputs) (atoms tree) built);
+      leaves = All-map IsLeaf (leaf_of choice (most_helpers choice tree)) (atoms tree) (All-weaker (IsBuiltIn choice tree n) (λ a. IsLeaf (leaf_of choice (most_helpers choice tree) a)) (λ a b. b.formed) (atoms tree) built);
+      inputs = All-map (λ leaf. length leaf.inputs ≡ n) (leaf_of choice (most_helpers choice tree)) (atoms tree) (All-weaker (IsBuiltIn choice tree n) (λ a. length (leaf_of choice (most_helpers choice tree) a).inputs ≡ n) (λ a b. b.inputs) (atoms tree) built);
       items = (let e = items-most 0 tree in let w = is.weight in let few = keeps.few in omega (arith, e, w, few));
-      leaf_numbers = names-below 0 (length (map (leaf_of choice) (atoms tree))) tree (omega (arith, long));
+      leaf_numbers = names-below 0 (length (map (leaf_of choice (most_helpers choice tree)) (atoms tree))) tree (omega (arith, long));
       depth = subst (λ o. IsSomeAnd o (λ d. d ≤ DEPTH_LIMIT)) (sym (combined-postfix depth_operators tree)) (let e = depth-most 0 tree in let w = is.weight in omega (arith, e, w));
-      helpers = All-map (λ leaf. length leaf.helpers ≡ number_of_helpers (net_with choice names tree)) (leaf_of choice) (atoms tree) (All-weaker (IsBuilt choice n) (λ a. length (leaf_of choice a).helpers ≡ number_of_helpers (net_with choice names tree)) (λ a b. ap length b.helpers ∙ sym (no_helpers choice n (atoms tree) built)) (atoms tree) built);
+      helpers = All-map (λ leaf. length leaf.helpers ≡ number_of_helpers (net_with choice names tree)) (leaf_of choice (most_helpers choice tree)) (atoms tree) (All-weaker (IsBuiltIn choice tree n) (λ a. length (leaf_of choice (most_helpers choice tree) a).helpers ≡ number_of_helpers (net_with choice names tree)) (λ a b. b.helped ∙ sym (all_helped choice (most_helpers choice tree) n (atoms tree) (some_atom tree) built)) (atoms tree) built);
       wide = λ w. (let few = not-wide choice tree n built keeps w in omega (arith, long, few));
     }
 
+-- the proof allows the steps of all atoms together
+pub bound-is : (choice : LeafChoice) (helpers : ℕ) (xs : List PredTree) (parts : List LeafProof) → AreAtomProofs choice helpers xs parts → sum_by (λ (part : LeafProof). layers_bound part.layers) parts ≡ sum_by (atom_steps choice) xs
+bound-is choice helpers [] [] h = refl
+bound-is choice helpers [] (part ∷ parts) h = absurd h
+bound-is choice helpers (x ∷ xs) [] h = absurd h
+bound-is choice helpers (x ∷ xs) (part ∷ parts) h =
+    let a = sum_by-cons (λ (part : LeafProof). layers_bound part.layers) part parts in
+    let b = sum_by-cons (atom_steps choice) x xs in
+    let here = h.0.bound in
+    let more = bound-is choice helpers xs parts h.1 in
+    omega (arith, a, b, here, more)
+
 -- so the net is right
-pub net-right : (choice : LeafChoice) (names : List (List ℕ)) (tree : PredTree) (parts : List LeafProof) → AreAtomProofs choice (atoms tree) parts → AreNames variable_name names → IsPred (length names) tree
+pub net-right : (choice : LeafChoice) (names : List (List ℕ)) (tree : PredTree) (parts : List LeafProof) → AreAtomProofs choice (most_helpers choice tree) (atoms tree) parts → AreNames variable_name names → IsPred (length names) tree
     → fault_with choice tree ≡ None → IsRight (net_with choice names tree) (over_count (length names) tree) (record { leaves = parts })
 net-right choice names tree parts h formed is none =
     let n = length names in
@@ -229,7 +285,7 @@ net-right choice names tree parts h formed is none =
     (proof-valid choice names n tree parts h)
 
 -- the net as the code puts it together
-pub net-as : (choice : LeafChoice) (names copies : List (List ℕ)) (tree : PredTree) (leaves : List LeafModel) (items : List Item) → copies ≡ names → leaves ≡ map (leaf_of choice) (atoms tree) → items ≡ postfix 0 tree → record { variables = copies; leaves = leaves; combine = items } ≡ net_with choice names tree
+pub net-as : (choice : LeafChoice) (names copies : List (List ℕ)) (tree : PredTree) (leaves : List LeafModel) (items : List Item) → copies ≡ names → leaves ≡ map (leaf_of choice (most_helpers choice tree)) (atoms tree) → items ≡ postfix 0 tree → record { variables = copies; leaves = leaves; combine = items } ≡ net_with choice names tree
 net-as choice names copies tree leaves items en el ei =
     let net : List (List ℕ) → List LeafModel → List Item → NetModel = λ n l i. record { variables = n; leaves = l; combine = i } in
-    ap (λ n. net n leaves items) en ∙ ap (λ l. net names l items) el ∙ ap (λ i. net names (map (leaf_of choice) (atoms tree)) i) ei
+    ap (λ n. net n leaves items) en ∙ ap (λ l. net names l items) el ∙ ap (λ i. net names (map (leaf_of choice (most_helpers choice tree)) (atoms tree)) i) ei

@@ -1,15 +1,24 @@
--- Atoms: the atoms of a predicate's tree from left to right, and the tree in postfix.
-use Rattle.std.specs.Prelude.{ℕ, ◌+◌, ◌≤◌, List, [], ◌∷◌, ◌++◌, ℤ, nat_abs, length, Option, Some, None}
+-- Atoms: the atoms of a predicate's tree from left to right, the tree in postfix, and which leaf an atom gets.
+use Rattle.std.specs.Prelude.{◌≡◌, ℕ, ◌+◌, max, ◌≤◌, Bool, true, false, List, [], ◌∷◌, ◌++◌, ℤ, nat_abs, length, Option}
+use Rattle.std.specs.Prelude.{Some, None}
+use Rattle.pop_io.specs.declared.names.TheConstants.{VARIABLE_LIMIT}
 use Rattle.pop_net.specs.declared.net.Item.{Item}
 use Rattle.pop_net.specs.declared.net.Item.TheVariants.{Leaf, Not, And, Or}
+use Rattle.pop_net.specs.declared.limits.TheConstants.{STATE_LIMIT, NARROW_STATE_LIMIT}
 use Rattle.pres_ast.specs.declared.limits.TheConstants.{BOUND_LIMIT}
 use Rattle.pres_ast.specs.PredModel.{IsAtomSum, IsResidue}
 use Rattle.pres_ast.specs.PredTree.{PredTree, LessThan, Congruent, Negation, Conjunction, Disjunction}
-use Rattle.comp_threshold_leaf.specs.declared.limits.TheConstants.{WIDTH_LIMIT}
-use Rattle.comp_threshold_leaf.specs.ThresholdLeaf.{threshold_width}
-use Rattle.comp_flock_leaf.specs.FlockLeaf.{power_of}
+use Rattle.comp_threshold.specs.declared.limits.TheConstants.{WIDTH_LIMIT}
+use Rattle.comp_threshold.specs.ThresholdLeaf.{threshold_width}
+use Rattle.comp_remainder.specs.RemainderLeaf.{remainder_state_count}
+use Rattle.comp_flock.specs.FlockLeaf.{power_of}
+use Rattle.comp_powers_leaf.specs.PowersLeaf.{roles, powers_helper_count}
+use Rattle.comp_powers_leaf.specs.PowersRange.{powers_range}
+use Rattle.comp_net.specs.declared.limits.TheConstants.{NARROW_WIDTH_LIMIT}
 use Rattle.comp_net.specs.declared.choice.LeafChoice.{LeafChoice}
-use Rattle.comp_net.specs.declared.choice.LeafChoice.TheVariants.{Plain, Flocks}
+use Rattle.comp_net.specs.declared.choice.LeafChoice.TheVariants.{Plain, Flocks, Succinct}
+use Rattle.comp_net.specs.declared.choice.LessLeaf.{LessLeaf}
+use Rattle.comp_net.specs.declared.choice.LessLeaf.TheVariants.{Threshold, Flock, Powers, NoLeaf}
 
 -- each atom is a tree itself
 abbrev pub atoms : PredTree → List PredTree
@@ -27,27 +36,96 @@ postfix n (Negation p) = postfix n p ++ Not ∷ []
 postfix n (Conjunction p q) = (postfix n p ++ postfix (n + length (atoms p)) q) ++ And ∷ []
 postfix n (Disjunction p q) = (postfix n p ++ postfix (n + length (atoms p)) q) ++ Or ∷ []
 
--- the power of an atom `LessThan` that gets the leaf of a flock
-abbrev pub flock_of_atom : LeafChoice → List ℤ → ℤ → Option ℕ
-flock_of_atom Plain coefs bound = None
-flock_of_atom Flocks coefs bound = power_of coefs bound
+-- ---- which leaf an atom `LessThan` gets
 
--- the width of the leaf of an atom; that of a flock or of a remainder has none
-abbrev pub less_width : List ℤ → ℤ → Option ℕ → ℕ
-less_width coefs bound None = threshold_width coefs bound
-less_width coefs bound (Some k) = 0
+abbrev pub flock_or_threshold : Option ℕ → LessLeaf
+flock_or_threshold None = Threshold
+flock_or_threshold (Some power) = Flock power
 
-abbrev pub atom_width : LeafChoice → PredTree → ℕ
-atom_width choice (LessThan coefs bound) = less_width coefs bound (flock_of_atom choice coefs bound)
-atom_width choice (Congruent coefs m rest) = 0
-atom_width choice (Negation p) = 0
-atom_width choice (Conjunction p q) = 0
-atom_width choice (Disjunction p q) = 0
+abbrev pub powers_or_none : Option ℕ → LessLeaf
+powers_or_none None = NoLeaf
+powers_or_none (Some range) = Powers range
+
+abbrev pub less_leaf_for : LeafChoice → List ℤ → ℤ → LessLeaf
+less_leaf_for Plain coefs bound = Threshold
+less_leaf_for Flocks coefs bound = flock_or_threshold (power_of coefs bound)
+less_leaf_for Succinct coefs bound = powers_or_none (powers_range coefs bound)
+
+abbrev pub is_none : LessLeaf → Bool
+is_none Threshold = false
+is_none (Flock power) = false
+is_none (Powers range) = false
+is_none NoLeaf = true
+
+abbrev pub has_no_leaf : LeafChoice → PredTree → Bool
+has_no_leaf choice (LessThan coefs bound) = is_none (less_leaf_for choice coefs bound)
+has_no_leaf choice (Congruent coefs m rest) = false
+has_no_leaf choice (Negation p) = false
+has_no_leaf choice (Conjunction p q) = false
+has_no_leaf choice (Disjunction p q) = false
+
+-- ---- helpers
+
+-- how many helpers the leaf of an atom needs
+abbrev pub less_helpers : LessLeaf → ℕ
+less_helpers Threshold = 0
+less_helpers (Flock power) = 0
+less_helpers (Powers range) = powers_helper_count range
+less_helpers NoLeaf = 0
+
+-- as many as the atom that needs most
+abbrev pub most_helpers : LeafChoice → PredTree → ℕ
+most_helpers choice (LessThan coefs bound) = less_helpers (less_leaf_for choice coefs bound)
+most_helpers choice (Congruent coefs m rest) = 0
+most_helpers choice (Negation p) = most_helpers choice p
+most_helpers choice (Conjunction p q) = max (most_helpers choice p) (most_helpers choice q)
+most_helpers choice (Disjunction p q) = max (most_helpers choice p) (most_helpers choice q)
+
+-- ---- sizes
+
+-- the size of an atom's leaf: the width of a threshold, or in a succinct net how many states there are; others have none
+abbrev pub less_size : List ℤ → ℤ → LessLeaf → ℕ
+less_size coefs bound Threshold = threshold_width coefs bound
+less_size coefs bound (Flock power) = 0
+less_size coefs bound (Powers range) = length (roles coefs range)
+less_size coefs bound NoLeaf = 0
+
+abbrev pub rest_size : LeafChoice → ℕ → ℕ
+rest_size Plain m = 0
+rest_size Flocks m = 0
+rest_size Succinct m = remainder_state_count m
+
+abbrev pub atom_size : LeafChoice → PredTree → ℕ
+atom_size choice (LessThan coefs bound) = less_size coefs bound (less_leaf_for choice coefs bound)
+atom_size choice (Congruent coefs m rest) = rest_size choice m
+atom_size choice (Negation p) = 0
+atom_size choice (Conjunction p q) = 0
+atom_size choice (Disjunction p q) = 0
+
+-- the greatest size of a leaf, and of one that isn't wide
+abbrev pub size_limit : LeafChoice → ℕ
+size_limit Plain = WIDTH_LIMIT
+size_limit Flocks = WIDTH_LIMIT
+size_limit Succinct = STATE_LIMIT
+
+abbrev pub narrow_limit : LeafChoice → ℕ
+narrow_limit Plain = NARROW_WIDTH_LIMIT
+narrow_limit Flocks = NARROW_WIDTH_LIMIT
+narrow_limit Succinct = NARROW_STATE_LIMIT
+
+-- no atom has more coefficients than a net may have variables
+abbrev pub AreShort : PredTree → Type 0
+AreShort (LessThan coefs bound) = length coefs ≤ VARIABLE_LIMIT
+AreShort (Congruent coefs m rest) = length coefs ≤ VARIABLE_LIMIT
+AreShort (Negation p) = AreShort p
+AreShort (Conjunction p q) = AreShort p × AreShort q
+AreShort (Disjunction p q) = AreShort p × AreShort q
 
 -- each atom is within the limits of its built leaf
 abbrev pub AreBuildable : LeafChoice → PredTree → Type 0
 AreBuildable choice (LessThan coefs bound) =
-    IsAtomSum coefs × (nat_abs bound ≤ BOUND_LIMIT) × (atom_width choice (LessThan coefs bound) ≤ WIDTH_LIMIT)
+    IsAtomSum coefs × (nat_abs bound ≤ BOUND_LIMIT) × (is_none (less_leaf_for choice coefs bound) ≡ false)
+    × (atom_size choice (LessThan coefs bound) ≤ size_limit choice)
 AreBuildable choice (Congruent coefs m rest) = IsAtomSum coefs × IsResidue m rest
 AreBuildable choice (Negation p) = AreBuildable choice p
 AreBuildable choice (Conjunction p q) = AreBuildable choice p × AreBuildable choice q

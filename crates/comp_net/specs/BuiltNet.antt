@@ -1,31 +1,40 @@
 -- BuiltNet: the built net of a predicate: one leaf for each atom, from left to right, and the tree in postfix.
-use Rattle.std.specs.Prelude.{ℕ, List, [], ℤ, pos, map, Option, Some, None}
+use Rattle.std.specs.Prelude.{ℕ, ◌-◌, List, [], ℤ, pos, map}
 use Rattle.pop_net.specs.LeafModel.{LeafModel}
 use Rattle.pop_net.specs.NetModel.{NetModel}
 use Rattle.pres_ast.specs.PredTree.{PredTree, LessThan, Congruent, Negation, Conjunction, Disjunction}
-use Rattle.comp_threshold_leaf.specs.ThresholdLeaf.{threshold_leaf_of}
-use Rattle.comp_remainder_leaf.specs.RemainderLeaf.{remainder_leaf_of}
-use Rattle.comp_flock_leaf.specs.FlockLeaf.{flock_leaf_of}
-use Rattle.comp_net.specs.Atoms.{atoms, postfix, flock_of_atom}
+use Rattle.comp_threshold.specs.ThresholdLeaf.{threshold_leaf_of}
+use Rattle.comp_remainder.specs.RemainderLeaf.{remainder_leaf_of}
+use Rattle.comp_flock.specs.FlockLeaf.{flock_leaf_of}
+use Rattle.comp_powers_leaf.specs.PowersLeaf.{powers_leaf_of, powers_helper_count}
+use Rattle.comp_net.specs.Atoms.{atoms, postfix, less_leaf_for, most_helpers}
 use Rattle.comp_net.specs.declared.choice.LeafChoice.{LeafChoice}
 use Rattle.comp_net.specs.declared.choice.LeafChoice.TheVariants.{Plain}
+use Rattle.comp_net.specs.declared.choice.LessLeaf.{LessLeaf}
+use Rattle.comp_net.specs.declared.choice.LessLeaf.TheVariants.{Threshold, Flock, Powers, NoLeaf}
 
--- the leaf of a threshold, or that of a flock with this power
-abbrev pub less_leaf : List ℤ → ℤ → Option ℕ → LeafModel
-less_leaf coefs bound None = threshold_leaf_of coefs bound
-less_leaf coefs bound (Some k) = flock_leaf_of coefs k
+-- the leaf of an atom in a net with so many helpers; those that the atom has no need of are spare
+abbrev pub less_leaf : List ℤ → ℤ → ℕ → LessLeaf → LeafModel
+less_leaf coefs bound helpers Threshold = threshold_leaf_of coefs bound
+less_leaf coefs bound helpers (Flock power) = flock_leaf_of coefs power
+less_leaf coefs bound helpers (Powers range) = powers_leaf_of coefs bound range (helpers - powers_helper_count range)
+less_leaf coefs bound helpers NoLeaf = threshold_leaf_of coefs bound
 
--- the built leaf of an atom; no other tree is asked for its leaf
-abbrev pub leaf_of : LeafChoice → PredTree → LeafModel
-leaf_of choice (LessThan coefs bound) = less_leaf coefs bound (flock_of_atom choice coefs bound)
-leaf_of choice (Congruent coefs m rest) = remainder_leaf_of coefs m rest
-leaf_of choice (Negation p) = threshold_leaf_of [] (pos 0)
-leaf_of choice (Conjunction p q) = threshold_leaf_of [] (pos 0)
-leaf_of choice (Disjunction p q) = threshold_leaf_of [] (pos 0)
+-- no other tree is asked for its leaf
+abbrev pub leaf_of : LeafChoice → ℕ → PredTree → LeafModel
+leaf_of choice helpers (LessThan coefs bound) = less_leaf coefs bound helpers (less_leaf_for choice coefs bound)
+leaf_of choice helpers (Congruent coefs m rest) = remainder_leaf_of coefs m rest helpers
+leaf_of choice helpers (Negation p) = threshold_leaf_of [] (pos 0)
+leaf_of choice helpers (Conjunction p q) = threshold_leaf_of [] (pos 0)
+leaf_of choice helpers (Disjunction p q) = threshold_leaf_of [] (pos 0)
 
 abbrev pub net_with : LeafChoice → List (List ℕ) → PredTree → NetModel
 net_with choice names tree =
-    record { variables = names; leaves = map (leaf_of choice) (atoms tree); combine = postfix 0 tree }
+    record {
+      variables = names;
+      leaves = map (leaf_of choice (most_helpers choice tree)) (atoms tree);
+      combine = postfix 0 tree;
+    }
 
 -- that of `compile`
 abbrev pub built_net : List (List ℕ) → PredTree → NetModel

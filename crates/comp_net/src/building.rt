@@ -1,6 +1,6 @@
 //! The net and its proof, put together.
 
-ghost use Rattle.std.specs.Prelude.{◌≡◌, ◌≤◌, ◌<◌, ◌+◌, Some, None, All, length, OnOk, IfOk};
+ghost use Rattle.std.specs.Prelude.{◌≡◌, ◌≤◌, ◌<◌, ◌+◌, None, All, length, OnOk, IfOk};
 ghost use Rattle.pop_io.specs.Names.{AreNames, variable_name};
 ghost use Rattle.pres_ast.specs.TreeOf.{tree_of};
 ghost use Rattle.pres_ast.specs.PredTree.{LessThan, Congruent};
@@ -8,21 +8,26 @@ ghost use Rattle.pres_ast.specs.PredModel.{IsPred};
 ghost use Rattle.pop_net.specs.declared.limits.TheConstants.{LEAF_LIMIT};
 ghost use Rattle.pop_net.specs.NetModel.{IsNet};
 ghost use Rattle.pop_net.specs.Reaction.{IsSingle};
+ghost use Rattle.cert_base.specs.ProofBound.{proof_bound};
 ghost use Rattle.cert_base.specs.ProofLimits.{IsProofWithin};
 ghost use Rattle.cert_base.specs.ValidProof.{ValidProof};
 ghost use Rattle.pop_checker.specs.Sound.{IsRight};
-ghost use Rattle.comp_net.specs.Atoms.{atoms, flock_of_atom, AreBuildable};
+ghost use Rattle.comp_net.specs.Atoms.{atoms, less_leaf_for, most_helpers, AreBuildable};
+ghost use Rattle.comp_net.specs.declared.choice.LessLeaf.TheVariants.{Threshold, Flock, Powers};
 ghost use Rattle.comp_net.specs.BuiltNet.{net_with};
+ghost use Rattle.comp_net.specs.BuiltBound.{built_bound};
 ghost use Rattle.comp_net.specs.Building.{AddsLeaf, AddsTree};
 ghost use Rattle.comp_net.specs.CompileFaults.{fault_with};
 
-use crate::choice::{LeafChoice, flock_in};
+use crate::choice::{LeafChoice, LessLeaf, less_leaf};
+use crate::helpers::count_helpers;
 use cert_base::{LeafProof, Proof};
 use comp_flock::flock;
+use comp_powers::powers;
 use comp_remainder::remainder;
 use comp_threshold::{ThresholdFault, threshold};
-use pop_io::{List, NoMemory, Text};
-use pop_net::{Item, Leaf, Net};
+use pop_io::{Failure, List, NoMemory, Text};
+use pop_net::{HELPER_LIMIT, Item, Leaf, Net};
 use pres_ast::{Pred, Tree};
 use std::alloc::Global;
 
@@ -50,16 +55,23 @@ impl Built {
         &mut self,
         alloc: Global,
         choice: LeafChoice,
+        helpers: u32,
         coefs: &[i64],
         bound: i64,
     ) -> Result<(), NoMemory>
         requires few { length self.old.leaves.items < LEAF_LIMIT }
         requires atom { AreBuildable choice (LessThan coefs.now bound) }
-        ensures { OnOk result (AddsTree choice (LessThan coefs.now bound) self.old self.new) }
+        requires enough { most_helpers choice (LessThan coefs.now bound) ≤ helpers }
+        requires most { helpers ≤ HELPER_LIMIT }
+        ensures { OnOk result (AddsTree choice helpers (LessThan coefs.now bound) self.old self.new) }
     {
-        match flock_in(choice, coefs, bound) {
-            Some(power) => self.push_flock(alloc, choice, coefs, bound, power),
-            None => self.push_threshold(alloc, choice, coefs, bound),
+        match less_leaf(choice, coefs, bound) {
+            LessLeaf::Threshold => self.push_threshold(alloc, choice, helpers, coefs, bound),
+            LessLeaf::Flock(power) => self.push_flock(alloc, choice, helpers, coefs, bound, power),
+            LessLeaf::Powers(range) => self.push_powers(
+                alloc, choice, helpers, coefs, bound, range,
+            ),
+            LessLeaf::NoLeaf => unreachable!(),
         }
     }
 
@@ -67,16 +79,37 @@ impl Built {
         &mut self,
         alloc: Global,
         choice: LeafChoice,
+        helpers: u32,
         coefs: &[i64],
         bound: i64,
         power: u32,
     ) -> Result<(), NoMemory>
         requires few { length self.old.leaves.items < LEAF_LIMIT }
         requires atom { AreBuildable choice (LessThan coefs.now bound) }
-        requires power { flock_of_atom choice coefs.now bound ≡ Some power }
-        ensures { OnOk result (AddsTree choice (LessThan coefs.now bound) self.old self.new) }
+        requires power { less_leaf_for choice coefs.now bound ≡ Flock power }
+        ensures { OnOk result (AddsTree choice helpers (LessThan coefs.now bound) self.old self.new) }
     {
         let (leaf, part) = flock(alloc, coefs, power)?;
+        self.push_atom(leaf, part)
+    }
+
+    fn push_powers(
+        &mut self,
+        alloc: Global,
+        choice: LeafChoice,
+        helpers: u32,
+        coefs: &[i64],
+        bound: i64,
+        range: u32,
+    ) -> Result<(), NoMemory>
+        requires few { length self.old.leaves.items < LEAF_LIMIT }
+        requires atom { AreBuildable choice (LessThan coefs.now bound) }
+        requires range { less_leaf_for choice coefs.now bound ≡ Powers range }
+        requires enough { range + 2 ≤ helpers }
+        requires most { helpers ≤ HELPER_LIMIT }
+        ensures { OnOk result (AddsTree choice helpers (LessThan coefs.now bound) self.old self.new) }
+    {
+        let (leaf, part) = powers(alloc, coefs, bound, range, helpers - (range + 2))?;
         self.push_atom(leaf, part)
     }
 
@@ -84,18 +117,19 @@ impl Built {
         &mut self,
         alloc: Global,
         choice: LeafChoice,
+        helpers: u32,
         coefs: &[i64],
         bound: i64,
     ) -> Result<(), NoMemory>
         requires few { length self.old.leaves.items < LEAF_LIMIT }
         requires atom { AreBuildable choice (LessThan coefs.now bound) }
-        requires none { flock_of_atom choice coefs.now bound ≡ None }
-        ensures { OnOk result (AddsTree choice (LessThan coefs.now bound) self.old self.new) }
+        requires plain { less_leaf_for choice coefs.now bound ≡ Threshold }
+        ensures { OnOk result (AddsTree choice helpers (LessThan coefs.now bound) self.old self.new) }
     {
         match threshold(alloc, coefs, bound) {
             Ok((leaf, part)) => self.push_atom(leaf, part),
-            Err(ThresholdFault::TooWide(_)) => unreachable!(),
-            Err(ThresholdFault::NoMemory) => Err(NoMemory),
+            Err(Failure::Fault(ThresholdFault::TooWide(_))) => unreachable!(),
+            Err(Failure::NoMemory) => Err(NoMemory),
         }
     }
 
@@ -103,45 +137,55 @@ impl Built {
         &mut self,
         alloc: Global,
         choice: LeafChoice,
+        helpers: u32,
         coefs: &[i64],
         modulus: u32,
         rest: u32,
     ) -> Result<(), NoMemory>
         requires few { length self.old.leaves.items < LEAF_LIMIT }
         requires atom { AreBuildable choice (Congruent coefs.now modulus rest) }
-        ensures { OnOk result (AddsTree choice (Congruent coefs.now modulus rest) self.old self.new) }
+        requires most { helpers ≤ HELPER_LIMIT }
+        ensures { OnOk result (AddsTree choice helpers (Congruent coefs.now modulus rest) self.old self.new) }
     {
-        let (leaf, part) = remainder(alloc, coefs, modulus, rest)?;
+        let (leaf, part) = remainder(alloc, coefs, modulus, rest, helpers)?;
         self.push_atom(leaf, part)
     }
 
     /// The atoms of a tree from left to right, and the tree in postfix.
-    fn push_tree(&mut self, alloc: Global, choice: LeafChoice, tree: &Tree) -> Result<(), NoMemory>
+    fn push_tree(
+        &mut self,
+        alloc: Global,
+        choice: LeafChoice,
+        helpers: u32,
+        tree: &Tree,
+    ) -> Result<(), NoMemory>
         requires few { length self.old.leaves.items + length (atoms (tree_of tree.now)) ≤ LEAF_LIMIT }
         requires atoms { AreBuildable choice (tree_of tree.now) }
-        ensures { OnOk result (AddsTree choice (tree_of tree.now) self.old self.new) }
+        requires enough { most_helpers choice (tree_of tree.now) ≤ helpers }
+        requires most { helpers ≤ HELPER_LIMIT }
+        ensures { OnOk result (AddsTree choice helpers (tree_of tree.now) self.old self.new) }
     {
         match tree {
             Tree::Less { coefs, bound } => {
-                self.push_less(alloc, choice, coefs.as_slice(), *bound)?;
+                self.push_less(alloc, choice, helpers, coefs.as_slice(), *bound)?;
             }
             Tree::Rest {
                 coefs,
                 modulus,
                 rest,
-            } => self.push_rest(alloc, choice, coefs.as_slice(), *modulus, *rest)?,
+            } => self.push_rest(alloc, choice, helpers, coefs.as_slice(), *modulus, *rest)?,
             Tree::Not(p) => {
-                self.push_tree(alloc, choice, p)?;
+                self.push_tree(alloc, choice, helpers, p)?;
                 self.items.push(Item::Not)?;
             }
             Tree::And(p, q) => {
-                self.push_tree(alloc, choice, p)?;
-                self.push_tree(alloc, choice, q)?;
+                self.push_tree(alloc, choice, helpers, p)?;
+                self.push_tree(alloc, choice, helpers, q)?;
                 self.items.push(Item::And)?;
             }
             Tree::Or(p, q) => {
-                self.push_tree(alloc, choice, p)?;
-                self.push_tree(alloc, choice, q)?;
+                self.push_tree(alloc, choice, helpers, p)?;
+                self.push_tree(alloc, choice, helpers, q)?;
                 self.items.push(Item::Or)?;
             }
         }
@@ -171,6 +215,7 @@ pub(crate) fn build(
     requires none { fault_with choice pred.now.tree ≡ None }
     ensures net { IfOk result (λ both. both.0 ≡ net_with choice names.now pred.now.tree) }
     ensures valid { IfOk result (λ both. ValidProof both.0 pred.now both.1) }
+    ensures bound { IfOk result (λ both. proof_bound both.1 ≡ built_bound choice pred.now.tree) }
     ensures within { IfOk result (λ both. IsProofWithin pred.now.variables (length both.0.leaves) both.1) }
     ensures formed { IfOk result (λ both. IsNet both.0) }
     ensures preds { IfOk result (λ both. All (λ part. IsPred pred.now.variables part.pred.tree) both.1.leaves) }
@@ -182,7 +227,9 @@ pub(crate) fn build(
         parts: Vec::new(alloc),
         items: Vec::new(alloc),
     };
-    built.push_tree(alloc, choice, pred.tree())?;
+    let tree = pred.tree();
+    let helpers = count_helpers(choice, tree);
+    built.push_tree(alloc, choice, helpers, tree)?;
     let names = copy_names(alloc, names)?;
     let Built {
         leaves,

@@ -7,9 +7,9 @@ ghost use Rattle.comp_net.specs.Compiles.{Compiles};
 use crate::building::build;
 use crate::choice::LeafChoice;
 use crate::fault::CompileFault;
-use crate::widths::fault_of;
+use crate::sizes::fault_of;
 use cert_base::Proof;
-use pop_io::{List, Text};
+use pop_io::{Failure, List, Text};
 use pop_net::Net;
 use pres_ast::Pred;
 use std::alloc::Global;
@@ -20,20 +20,24 @@ fn compile_with(
     choice: LeafChoice,
     pred: &Pred,
     names: &List<Text>,
-) -> Result<(Net, Proof), CompileFault>
+) -> Result<(Net, Proof), Failure<CompileFault>>
     requires formed { AreNames variable_name names.now }
     requires count { length names.now ≡ pred.now.variables }
     ensures { Compiles choice names.now pred.now result }
 {
     if let Some(fault) = fault_of(alloc, choice, pred)? {
-        return Err(fault);
+        return Err(Failure::Fault(fault));
     }
     Ok(build(alloc, choice, pred, names)?)
 }
 
 /// The built net over these names, and a valid proof that it computes the predicate. Whether there is one is known
 /// before anything is built.
-pub fn compile(alloc: Global, pred: &Pred, names: &List<Text>) -> Result<(Net, Proof), CompileFault>
+pub fn compile(
+    alloc: Global,
+    pred: &Pred,
+    names: &List<Text>,
+) -> Result<(Net, Proof), Failure<CompileFault>>
     requires formed { AreNames variable_name names.now }
     requires count { length names.now ≡ pred.now.variables }
     ensures { Compiles LeafChoice.Plain names.now pred.now result }
@@ -47,10 +51,24 @@ pub fn compile_flocks(
     alloc: Global,
     pred: &Pred,
     names: &List<Text>,
-) -> Result<(Net, Proof), CompileFault>
+) -> Result<(Net, Proof), Failure<CompileFault>>
     requires formed { AreNames variable_name names.now }
     requires count { length names.now ≡ pred.now.variables }
     ensures { Compiles LeafChoice.Flocks names.now pred.now result }
 {
     compile_with(alloc, LeafChoice::Flocks, pred, names)
+}
+
+/// As `compile`, but with O(log s) states for an atom whose greatest number is s, and with helpers: each atom `Less`
+/// has a leaf of powers, and all leaves have as many helpers as the one that needs most.
+pub fn compile_succinct(
+    alloc: Global,
+    pred: &Pred,
+    names: &List<Text>,
+) -> Result<(Net, Proof), Failure<CompileFault>>
+    requires formed { AreNames variable_name names.now }
+    requires count { length names.now ≡ pred.now.variables }
+    ensures { Compiles LeafChoice.Succinct names.now pred.now result }
+{
+    compile_with(alloc, LeafChoice::Succinct, pred, names)
 }

@@ -10,12 +10,12 @@ use Rattle.pop_net.specs.declared.leaf.Move.{Move}
 use Rattle.pop_net.specs.LeafModel.{LeafModel, silent_move}
 use Rattle.cert_base.specs.FactsAndCases.{indicator}
 use Rattle.cert_base.specs.ValidLayers.{weight_at, IsLower, ValidLayers}
-use Rattle.comp_layers.specs.SortedLayers.{leader_kind, IsLeaderProtocol}
-use Rattle.comp_layers.proofs.SortedLayers.{AreKinds, sorted_layers-valid}
-use Rattle.comp_layers.proofs.LeaderLayers.{kind-pair, kind-below, kind-up, kind-down, leader_wakes}
-use Rattle.comp_remainder_leaf.specs.RemainderLeaf.{remainder_follower, leader_meeting, follower_turn, remainder_moves, remainder_state_name, remainder_leaf_of}
+use Rattle.comp_trees.specs.SortedLayers.{leader_kind, IsLeaderProtocol}
+use Rattle.comp_trees.proofs.SortedLayers.{AreKinds, sorted_layers-valid}
+use Rattle.comp_trees.proofs.LeaderLayers.{kind-pair, kind-below, kind-up, kind-down, leader_wakes}
+use Rattle.comp_remainder.specs.RemainderLeaf.{remainder_follower, leader_meeting, follower_turn, remainder_moves, remainder_state_name, remainder_leaf_of}
 use Rattle.comp_remainder.specs.RemainderLayers.{indicator_weights, all_weights, remainder_layers}
-use Rattle.comp_remainder_leaf.proofs.MoveLists.{all_moves, has_pair, follower-above, follower-below, followers-apart, pair-loud, turn-loud}
+use Rattle.comp_remainder.proofs.MoveLists.{all_moves, has_pair, follower-above, follower-below, followers-apart, pair-loud, turn-loud}
 
 weight-is : (m : ℕ) (test : ℕ → Bool) (q : ℕ) (b : Bool) → q < m + 2 → test q ≡ b → weight_at (indicator_weights m test) q ≡ indicator b
 weight-is m test q b l e = get_or-map-range_with_len (λ q. indicator (test q)) 0 (m + 2) q q (pos 0) l (zero-add q) ∙ ap indicator e
@@ -57,9 +57,9 @@ all_settled : (m rest : ℕ) → All (IsSettled m rest) (remainder_moves m rest)
 all_settled m rest =
     all_moves m rest (IsSettled m rest) (λ p q l k. record { turns = λ h. absurd (omega arith) }) (λ p l. record { turns = λ h. (refl, refl) })
 
-module _ (coefs : List ℤ) (m rest : ℕ) where
+module _ (coefs : List ℤ) (m rest spare : ℕ) where
   abbrev leaf : LeafModel
-  leaf = remainder_leaf_of coefs m rest
+  leaf = remainder_leaf_of coefs m rest spare
 
   settled : (t u : Move) → Contains leaf.moves t → Contains leaf.moves u → m ≤ t.q → t.r ≡ t.p → u.q ≡ t.s → u.p ≢ t.p
   settled t u ct cu above e f g =

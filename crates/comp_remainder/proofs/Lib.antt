@@ -1,6 +1,13 @@
+pub mod MoveLists
+pub mod Remainders
+pub mod StateKinds
+pub mod StateNames
+pub mod SingleMoves
+pub mod Formed
 pub mod Meetings
 pub mod Multiples
 pub mod Layers
+pub mod Steps
 pub mod Trees
 pub mod Within
 pub mod Valid

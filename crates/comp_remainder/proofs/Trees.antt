@@ -1,11 +1,11 @@
 -- The trees of a built leaf of `Rest` close.
-use Rattle.std.proofs.Common.{◌≡◌, ◌≢◌, ℕ, ◌+◌, ◌%◌, ◌<◌, ◌≤◌, Bool, true, false, List, [], length, get_or, refl, ap, sym, ◌∙◌, zero-add, arith}
-use Rattle.std.specs.Prelude.{ℤ, pos, negsuc, neg_ℤ, ◌+ℤ◌, ◌-ℤ◌, if◌then◌else◌, not, ◌==◌, All, slice_index_or}
+use Rattle.std.proofs.Common.{◌≡◌, ◌≢◌, ℕ, zero, suc, ◌+◌, ◌%◌, ◌<◌, ◌≤◌, Bool, true, false, List, [], length, get_or, refl, ap, sym, ◌∙◌, zero-add, arith}
+use Rattle.std.specs.Prelude.{ℤ, pos, negsuc, replicate, neg_ℤ, ◌+ℤ◌, ◌-ℤ◌, if◌then◌else◌, not, ◌==◌, All, slice_index_or}
 use Rattle.std.proofs.lemmas.Int.{ints}
 use Rattle.std.proofs.Math.Nat.{mod-lt}
 use Rattle.std.proofs.lemmas.Bool.{lt-ltb, le-ltb, eq-eqb, eqb-true, eqb-false, ne_eqb}
 use Rattle.std.proofs.lemmas.List.{length-map, get_or-map}
-use Rattle.std.proofs.lemmas.List.Elements.{All-map, All-from_get_or}
+use Rattle.std.proofs.lemmas.List.Elements.{All-map, All-replicate, All-from_get_or}
 use Rattle.std.proofs.lemmas.List.FromFn.{length-map-range_with_len, get_or-map-range_with_len}
 use Rattle.pop_net.specs.declared.leaf.Move.{Move}
 use Rattle.pop_net.specs.LeafModel.{LeafModel, IsLeaf}
@@ -18,22 +18,28 @@ use Rattle.cert_base.specs.Rows.{input_row, terms_from}
 use Rattle.cert_base.specs.ClosingTests.{closes_by_sum, closes_by_residue}
 use Rattle.cert_base.specs.Closes.{refutes, Closes}
 use Rattle.cert_base.specs.FactsAndCases.{base_list, differs, can_meet_in}
+use Rattle.cert_base.specs.WeightedSums.{total}
 use Rattle.comp_trees.specs.LeaderTree.{IsLed, facts_of_trap, facts_of_leader, company_of, mix_of_leader, value_mix, wrong_mix}
 use Rattle.comp_trees.proofs.LeaderEnds.{wrong_closes, IsOpened, wrong_ruled_out}
 use Rattle.comp_trees.proofs.ValueNodes.{AreEven, residue_closes-true, residue_closes-false}
 use Rattle.comp_trees.proofs.LeaderClosing.{leader_tree-closes}
-use Rattle.comp_remainder_leaf.specs.RemainderLeaf.{residue_of, remainder_follower, leader_meeting, follower_turn, remainder_state_name, remainder_output, remainder_leaf_of}
+use Rattle.comp_remainder.specs.RemainderLeaf.{residue_of, remainder_follower, leader_meeting, follower_turn, remainder_state_name, remainder_output, remainder_leaf_of}
 use Rattle.comp_remainder.specs.RemainderProof.{remainder_value, remainder_leader_node, remainder_tree}
-use Rattle.comp_remainder_leaf.proofs.MoveLists.{all_moves, follower-above}
-use Rattle.comp_remainder_leaf.proofs.Formed.{moves-few}
-use Rattle.comp_remainder_leaf.proofs.StateKinds.{Kind, a_leader, a_follower, kind_of}
-use Rattle.comp_remainder_leaf.proofs.Remainders.{residue-below}
+use Rattle.comp_remainder.proofs.MoveLists.{all_moves, follower-above}
+use Rattle.comp_remainder.proofs.Formed.{moves-few}
+use Rattle.comp_remainder.proofs.StateKinds.{Kind, a_leader, a_follower, kind_of}
+use Rattle.comp_remainder.proofs.Remainders.{residue-below}
 use Rattle.comp_remainder.proofs.Meetings.{leaders-meet, turned-meet}
 use Rattle.comp_remainder.proofs.Multiples.{residue-even, sum-even, differ-odd}
 use Rattle.cert_base.proofs.Integers.{divides-zero}
 
 value-leader : (m q : ℕ) → q < m → remainder_value m q ≡ pos q
 value-leader m q l = rw (lt-ltb q m l) refl
+
+-- values that are all 0
+total-zeros : (w : ℕ → ℤ) (q n : ℕ) → w q ≡ pos 0 → total w (replicate n q) ≡ pos 0
+total-zeros w q zero e = refl
+total-zeros w q (suc n) e = let rest = total-zeros w q n e in omega (arith, ints, e, rest)
 
 value-follower : (m : ℕ) (bit : Bool) → remainder_value m (remainder_follower m bit) ≡ pos 0
 value-follower m bit = let a = follower-above m bit in ap (λ (b : Bool). if b then pos (remainder_follower m bit) else pos 0) (le-ltb (remainder_follower m bit) m a)
@@ -45,9 +51,9 @@ output-follower : (m rest : ℕ) (bit : Bool) → remainder_output m rest (remai
 output-follower m rest true = rw (le-ltb (m + 1) m (omega arith), eq-eqb (m + 1) (m + 1) refl) refl
 output-follower m rest false = rw (le-ltb m m (omega arith), ne_eqb m (m + 1) (λ e. omega arith)) refl
 
-module _ (coefs : List ℤ) (m rest : ℕ) (two : 2 ≤ m) (high : m ≤ 200) (rest_below : rest < m) (formed : IsLeaf (remainder_leaf_of coefs m rest)) where
+module _ (coefs : List ℤ) (m rest spare : ℕ) (two : 2 ≤ m) (high : m ≤ 200) (rest_below : rest < m) (formed : IsLeaf (remainder_leaf_of coefs m rest spare)) where
   abbrev leaf : LeafModel
-  leaf = remainder_leaf_of coefs m rest
+  leaf = remainder_leaf_of coefs m rest spare
 
   abbrev pred : PredModel
   pred = record { variables = length coefs; tree = Congruent coefs m rest }
@@ -60,20 +66,24 @@ module _ (coefs : List ℤ) (m rest : ℕ) (two : 2 ≤ m) (high : m ≤ 200) (r
 
   pub is_led : IsLed leaf m
   is_led = record {
-    helpers = refl;
+    helpers = All-replicate (λ q. q < m) spare 0 (omega arith);
     leaders = omega (arith, states_long);
     inputs = All-map (λ q. q < m) (residue_of m) coefs (All-from_get_or (λ a. residue_of m a < m) coefs (pos 0) (λ i l. residue-below m (get_or coefs i (pos 0)) (omega arith)));
     moves = all_moves m rest (λ t. t.r < m) (λ p q l k. mod-lt (p + q) (omega arith)) (λ p l. l);
-    twins = λ p l. leaders-meet coefs m rest p p l l;
+    twins = λ p l. leaders-meet coefs m rest spare p p l l;
     few = (let moves = moves-few m rest high in let inputs = formed.input_count in omega (arith, states_long, moves, inputs));
   }
+
+  -- a spare helper is a leader of the value 0
+  worthless : total (remainder_value m) leaf.helpers ≡ pos 0
+  worthless = total-zeros (remainder_value m) 0 spare (value-leader m 0 (omega arith))
 
   output-at : (z : ℕ) → z < length leaf.states → slice_index_or leaf.outputs z false ≡ remainder_output m rest z
   output-at z l = get_or-map-range_with_len (remainder_output m rest) 0 (m + 2) z z false (omega (arith, states_long)) (zero-add z)
 
   -- the follower that a leader leaves has the leader's output
   left_follower : (p : ℕ) (bit : Bool) → p < m → can_meet_in leaf p (remainder_follower m bit) ≡ false → bit ≡ (p == rest)
-  left_follower p bit l e = go bit (p == rest) (λ h. let f : true ≡ false = sym (turned-meet coefs m rest p l) ∙ ap (λ (b : Bool). can_meet_in leaf p (remainder_follower m b)) (sym h) ∙ e in cc)
+  left_follower p bit l e = go bit (p == rest) (λ h. let f : true ≡ false = sym (turned-meet coefs m rest spare p l) ∙ ap (λ (b : Bool). can_meet_in leaf p (remainder_follower m b)) (sym h) ∙ e in cc)
     where
       go : (a b : Bool) → (a ≡ not b → ⊥) → a ≡ b
       go true true h = refl
@@ -82,11 +92,11 @@ module _ (coefs : List ℤ) (m rest : ℕ) (two : 2 ≤ m) (high : m ≤ 200) (r
       go false false h = refl
 
   wrong-node : (b : Bool) (opened : Fact) (p : ℕ) → p < m → differs b (remainder_output m rest p) ≡ false → closes_by_sum (facts_of_leader leaf (facts_of_trap leaf (base_list leaf pred b) opened m) p) (terms_from 0 (mix_of_leader leaf (company_of leaf p) (wrong_mix leaf b) p)) ≡ true
-  wrong-node b opened p l right = wrong_closes leaf pred b opened m p (leaders-meet coefs m rest p p l l)
+  wrong-node b opened p l right = wrong_closes leaf pred b opened m p (leaders-meet coefs m rest spare p p l l)
       (wrong_ruled_out leaf b p (remainder_output m rest) output-at right (λ z k. out z (kind_of m z (omega (arith, states_long)))))
     where
       out : (z : ℕ) → Kind m z → differs b (remainder_output m rest z) ≡ true → can_meet_in leaf p z ≡ true
-      out _ (a_leader q k) wrong = leaders-meet coefs m rest p q l k
+      out _ (a_leader q k) wrong = leaders-meet coefs m rest spare p q l k
       out _ (a_follower bit) wrong = go (can_meet_in leaf p (remainder_follower m bit)) refl
         where
           go : (c : Bool) → can_meet_in leaf p (remainder_follower m bit) ≡ c → c ≡ true
@@ -126,17 +136,17 @@ module _ (coefs : List ℤ) (m rest : ℕ) (two : 2 ≤ m) (high : m ≤ 200) (r
   states-even p z l k e = go z (kind_of m z (omega (arith, states_long))) e
     where
       go : (z : ℕ) → Kind m z → can_meet_in leaf p z ≡ false → is_multiple m (neg_ℤ (remainder_value m z)) ≡ true
-      go _ (a_leader q k) e = absurd (let h : true ≡ false = sym (leaders-meet coefs m rest p q l k) ∙ e in cc)
+      go _ (a_leader q k) e = absurd (let h : true ≡ false = sym (leaders-meet coefs m rest spare p q l k) ∙ e in cc)
       go _ (a_follower bit) e = ap (λ v. is_multiple m (neg_ℤ v)) (value-follower m bit) ∙ divides-zero m
 
   abbrev opened_fact : Bool → Fact
   opened_fact b = if b then Cong (input_row coefs (neg_ℤ (pos rest))) m else NotCong (input_row coefs (neg_ℤ (pos rest))) m
 
-  is_opened : (b : Bool) (p : ℕ) (l : p < m) → IsOpened leaf pred b (opened_fact b) m p (leaders-meet coefs m rest p p l l) coefs (neg_ℤ (pos rest))
+  is_opened : (b : Bool) (p : ℕ) (l : p < m) → IsOpened leaf pred b (opened_fact b) m p (leaders-meet coefs m rest spare p p l l) coefs (neg_ℤ (pos rest))
   is_opened true p l = record { long = sym inputs_long; row = refl }
   is_opened false p l = record { long = sym inputs_long; row = refl }
 
-  even : (b : Bool) (p : ℕ) (l : p < m) → AreEven leaf pred b (opened_fact b) m p (leaders-meet coefs m rest p p l l) (omega (arith, states_long)) formed.inputs formed.moves refl coefs (neg_ℤ (pos rest)) (is_opened b p l) m (remainder_value m)
+  even : (b : Bool) (p : ℕ) (l : p < m) → AreEven leaf pred b (opened_fact b) m p (leaders-meet coefs m rest spare p p l l) (omega (arith, states_long)) formed.inputs formed.moves formed.helpers coefs (neg_ℤ (pos rest)) (is_opened b p l) m (remainder_value m)
   even b p l = record {
     of_inputs = input-even;
     of_moves = moves-even;
@@ -148,7 +158,7 @@ module _ (coefs : List ℤ) (m rest : ℕ) (two : 2 ≤ m) (high : m ≤ 200) (r
       let ne : rest ≢ p = λ e. eqb-false p rest other (sym e) in
       let v = value-leader m p l in
       let same : (neg_ℤ (neg_ℤ (pos rest)) -ℤ remainder_value m p) ≡ (pos rest -ℤ pos p) = omega (arith, ints, v) in
-      residue_closes-true leaf pred true (Cong (input_row coefs (neg_ℤ (pos rest))) m) m p (leaders-meet coefs m rest p p l l) (omega (arith, states_long)) formed.inputs formed.moves refl coefs (neg_ℤ (pos rest)) (is_opened true p l) m (remainder_value m)
+      residue_closes-true leaf pred true (Cong (input_row coefs (neg_ℤ (pos rest))) m) m p (leaders-meet coefs m rest spare p p l l) (omega (arith, states_long)) formed.inputs formed.moves formed.helpers coefs (neg_ℤ (pos rest)) (is_opened true p l) m (remainder_value m) worthless
       (divides-zero m) (eq-eqb m m refl) (even true p l) (ap (is_multiple m) same ∙ differ-odd m rest p rest_below l ne)
 
   value-false : (p : ℕ) → p < m → (p == rest) ≡ true → closes_by_residue (facts_of_leader leaf (facts_of_trap leaf (base_list leaf pred false) (NotCong (input_row coefs (neg_ℤ (pos rest))) m) m) p) m (terms_from 0 (mix_of_leader leaf (company_of leaf p) (value_mix (remainder_value m) (pos 0) p) p)) ≡ true
@@ -156,7 +166,7 @@ module _ (coefs : List ℤ) (m rest : ℕ) (two : 2 ≤ m) (high : m ≤ 200) (r
       let e = eqb-true p rest same in
       let v = value-leader m p l in
       let none : (neg_ℤ (remainder_value m p) -ℤ neg_ℤ (pos rest)) ≡ pos 0 = omega (arith, ints, v, ap pos e) in
-      residue_closes-false leaf pred false (NotCong (input_row coefs (neg_ℤ (pos rest))) m) m p (leaders-meet coefs m rest p p l l) (omega (arith, states_long)) formed.inputs formed.moves refl coefs (neg_ℤ (pos rest)) (is_opened false p l) m (remainder_value m)
+      residue_closes-false leaf pred false (NotCong (input_row coefs (neg_ℤ (pos rest))) m) m p (leaders-meet coefs m rest spare p p l l) (omega (arith, states_long)) formed.inputs formed.moves formed.helpers coefs (neg_ℤ (pos rest)) (is_opened false p l) m (remainder_value m) worthless
       (divides-zero m) refl (even false p l) (ap (is_multiple m) none ∙ divides-zero m)
 
   on_true : (p : ℕ) → p < m → refutes (facts_of_leader leaf (facts_of_trap leaf (base_list leaf pred true) (Cong (input_row coefs (neg_ℤ (pos rest))) m) m) p) (remainder_leader_node leaf m rest true p) ≡ true

@@ -12,10 +12,10 @@ use Rattle.cert_base.specs.Rows.{terms_from}
 use Rattle.cert_base.specs.FactsAndCases.{differs, indicator}
 use Rattle.cert_base.specs.ProofLimits.{IsSmall, IsNodeWithin, IsLayerWithin, AreNodesWithin}
 use Rattle.comp_trees.specs.LeaderTree.{company_of, mix_of_leader, value_mix, wrong_mix, weighed_node}
-use Rattle.comp_layers.specs.SortedLayers.{leader_kind, sorted_layer}
+use Rattle.comp_trees.specs.SortedLayers.{leader_kind, sorted_layer}
 use Rattle.comp_trees.proofs.Limits.{mix-small, leader-within, leader-within_terms, tree-within, sign-small}
-use Rattle.comp_layers.proofs.LayerLimits.{layer-within}
-use Rattle.comp_remainder_leaf.specs.RemainderLeaf.{remainder_output, remainder_state_name, remainder_leaf_of}
+use Rattle.comp_trees.proofs.LayerLimits.{layer-within}
+use Rattle.comp_remainder.specs.RemainderLeaf.{remainder_output, remainder_state_name, remainder_leaf_of}
 use Rattle.comp_remainder.proofs.Trees.{is_led}
 use Rattle.comp_remainder.specs.RemainderProof.{remainder_value, opened_by, remainder_leader_node, remainder_tree}
 use Rattle.comp_remainder.specs.RemainderLayers.{indicator_weights, remainder_layers}
@@ -36,9 +36,9 @@ bit-small : (b : Bool) → IsSmall (indicator b)
 bit-small true = omega arith
 bit-small false = omega arith
 
-module _ (coefs : List ℤ) (m rest : ℕ) (low : 2 ≤ m) (high : m ≤ 200) (below : rest < m) (formed : IsLeaf (remainder_leaf_of coefs m rest)) where
+module _ (coefs : List ℤ) (m rest spare : ℕ) (low : 2 ≤ m) (high : m ≤ 200) (below : rest < m) (formed : IsLeaf (remainder_leaf_of coefs m rest spare)) where
   abbrev leaf : LeafModel
-  leaf = remainder_leaf_of coefs m rest
+  leaf = remainder_leaf_of coefs m rest spare
 
   states_long : length leaf.states ≡ m + 2
   states_long = length-map-range_with_len (remainder_state_name m) 0 (m + 2)
@@ -75,4 +75,4 @@ module _ (coefs : List ℤ) (m rest : ℕ) (low : 2 ≤ m) (high : m ≤ 200) (b
       (All-cons IsLayerWithin (one 2 (λ q. q == m + 1)) [] (within 2 (λ q. q == m + 1)) (All-nil IsLayerWithin)))
 
   pub nodes-within : (b : Bool) → AreNodesWithin (remainder_tree leaf m rest b)
-  nodes-within b = tree-within leaf m (remainder_leader_node leaf m rest b) formed (is_led coefs m rest low high below formed) (node b)
+  nodes-within b = tree-within leaf m (remainder_leader_node leaf m rest b) formed (is_led coefs m rest spare low high below formed) (node b)

@@ -1,2 +1,3 @@
+pub mod RemainderLeaf
 pub mod RemainderLayers
 pub mod RemainderProof

@@ -4,8 +4,8 @@ use Rattle.std.specs.List.{range_with_len}
 use Rattle.pop_net.specs.LeafModel.{LeafModel}
 use Rattle.cert_base.specs.declared.layer.Layer.{Layer}
 use Rattle.cert_base.specs.FactsAndCases.{indicator}
-use Rattle.comp_layers.specs.SortedLayers.{sorted_layers, leader_kind}
-use Rattle.comp_remainder_leaf.specs.RemainderLeaf.{remainder_state_count}
+use Rattle.comp_trees.specs.SortedLayers.{sorted_layers, leader_kind}
+use Rattle.comp_remainder.specs.RemainderLeaf.{remainder_state_count}
 
 -- 1 for each state that passes the test
 abbrev pub indicator_weights : ℕ → (ℕ → Bool) → List ℤ

@@ -10,7 +10,7 @@ use Rattle.cert_base.specs.declared.proof.LeafProof.{LeafProof}
 use Rattle.cert_base.specs.Rows.{terms_from}
 use Rattle.cert_base.specs.FactsAndCases.{differs}
 use Rattle.comp_trees.specs.LeaderTree.{company_of, mix_of_leader, wrong_mix, value_mix, weighed_node, leader_tree}
-use Rattle.comp_remainder_leaf.specs.RemainderLeaf.{remainder_output, remainder_leaf_of}
+use Rattle.comp_remainder.specs.RemainderLeaf.{remainder_output, remainder_leaf_of}
 use Rattle.comp_remainder.specs.RemainderLayers.{remainder_layers}
 
 -- a leader's remainder, and 0 for a follower
@@ -39,12 +39,16 @@ remainder_tree leaf m rest b = leader_tree leaf m (remainder_leader_node leaf m 
 
 -- ---- the whole proof of the leaf
 
+-- how many steps per agent the proof allows: one in each layer
+abbrev pub remainder_steps : ℕ
+remainder_steps = 3
+
 abbrev pub congruence : List ℤ → (m rest : ℕ) → PredModel
 congruence coefs m rest = record { variables = length coefs; tree = Congruent coefs m rest }
 
-abbrev pub remainder_part : List ℤ → (m rest : ℕ) → LeafProof
-remainder_part coefs m rest =
-    let leaf = remainder_leaf_of coefs m rest in
+abbrev pub remainder_part : List ℤ → (m rest spare : ℕ) → LeafProof
+remainder_part coefs m rest spare =
+    let leaf = remainder_leaf_of coefs m rest spare in
     record {
       pred = congruence coefs m rest;
       layers = remainder_layers leaf m;

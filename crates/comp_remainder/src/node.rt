@@ -1,33 +1,34 @@
 //! The node of a leader that is present.
 
-ghost use Rattle.std.specs.Prelude.{◌≡◌, ◌<◌, ◌≤◌, map, neg_ℤ, length, slice_index_or, true, false, IfOk};
+ghost use Rattle.std.specs.Prelude.{◌≡◌, ◌<◌, map, neg_ℤ, length, slice_index_or, true, false, IfOk};
 ghost use Rattle.std.specs.List.{range_with_len};
-ghost use Rattle.pres_ast.specs.declared.limits.TheConstants.{MODULUS_LIMIT};
 ghost use Rattle.cert_base.specs.FactsAndCases.{states_of, indicator, differs};
-ghost use Rattle.comp_remainder_leaf.specs.RemainderLeaf.{remainder_state_count};
+ghost use Rattle.comp_remainder.specs.RemainderLeaf.{remainder_state_count};
 ghost use Rattle.comp_remainder.specs.RemainderProof.{remainder_value, opened_by, remainder_value_node};
 ghost use Rattle.comp_remainder.specs.RemainderProof.{remainder_wrong_node, remainder_leader_node, remainder_tree};
 
+use crate::leaf::output;
+use crate::modulus::Modulus;
 use cert_base::Node;
-use comp_remainder_leaf::output;
 use comp_trees::{multipliers, terms, tree, weighed};
 use pop_io::{List, NoMemory};
 use pop_net::Leaf;
 use std::alloc::Global;
 
 /// What a state counts for.
-fn value(modulus: u16, q: u16) -> i64
-    ensures { result ≡ remainder_value modulus q }
+fn value(modulus: Modulus, q: u16) -> i64
+    ensures { result ≡ remainder_value modulus.number q }
 {
-    if q < modulus { i64::from(q) } else { 0 }
+    if q < modulus.number { i64::from(q) } else { 0 }
 }
 
-fn values(alloc: Global, modulus: u16) -> Result<Vec<i64>, NoMemory>
-    requires { modulus ≤ MODULUS_LIMIT }
+fn values(alloc: Global, modulus: Modulus) -> Result<Vec<i64>, NoMemory>
     ensures { IfOk result (λ values.
-        values.items ≡ map (remainder_value modulus) (range_with_len 0 (remainder_state_count modulus))) }
+        values.items ≡ map (remainder_value modulus.number) (range_with_len 0 (remainder_state_count modulus.number))) }
 {
-    let values = (0..modulus + 2).map(|q| value(modulus, q)).collect(alloc)?;
+    let values = (0..modulus.number + 2)
+        .map(|q| value(modulus, q))
+        .collect(alloc)?;
     Ok(values)
 }
 
@@ -61,14 +62,13 @@ fn opened(answer: bool) -> i64
 fn value_node(
     alloc: Global,
     leaf: &Leaf,
-    modulus: u16,
+    modulus: Modulus,
     answer: bool,
     p: u16,
 ) -> Result<Node, NoMemory>
-    requires few { modulus ≤ MODULUS_LIMIT }
-    requires leader { p < modulus }
-    requires states { length leaf.now.states ≡ remainder_state_count modulus }
-    ensures { IfOk result (λ node. node ≡ remainder_value_node leaf.now modulus answer p) }
+    requires leader { p < modulus.number }
+    requires states { length leaf.now.states ≡ remainder_state_count modulus.number }
+    ensures { IfOk result (λ node. node ≡ remainder_value_node leaf.now modulus.number answer p) }
 {
     let values = values(alloc, modulus)?;
     let added = opened(answer);
@@ -83,7 +83,7 @@ fn value_node(
         values.as_slice(),
         alone,
     )?;
-    Ok(Node::Residue(u32::from(modulus), terms(alloc, mixed.as_slice())?))
+    Ok(Node::Residue(u32::from(modulus.number), terms(alloc, mixed.as_slice())?))
 }
 
 /// No state with another output is left.
@@ -100,15 +100,14 @@ fn wrong_node(alloc: Global, leaf: &Leaf, answer: bool, p: u16) -> Result<Node, 
 fn leader_node(
     alloc: Global,
     leaf: &Leaf,
-    modulus: u16,
+    modulus: Modulus,
     rest: u16,
     answer: bool,
     p: u16,
 ) -> Result<Node, NoMemory>
-    requires few { modulus ≤ MODULUS_LIMIT }
-    requires leader { p < modulus }
-    requires states { length leaf.now.states ≡ remainder_state_count modulus }
-    ensures { IfOk result (λ node. node ≡ remainder_leader_node leaf.now modulus rest answer p) }
+    requires leader { p < modulus.number }
+    requires states { length leaf.now.states ≡ remainder_state_count modulus.number }
+    ensures { IfOk result (λ node. node ≡ remainder_leader_node leaf.now modulus.number rest answer p) }
 {
     if output(modulus, rest, p) == answer {
         wrong_node(alloc, leaf, answer, p)
@@ -121,17 +120,16 @@ fn leader_node(
 fn ends(
     alloc: Global,
     leaf: &Leaf,
-    modulus: u16,
+    modulus: Modulus,
     rest: u16,
     answer: bool,
 ) -> Result<Vec<Node>, NoMemory>
-    requires few { modulus ≤ MODULUS_LIMIT }
-    requires states { length leaf.now.states ≡ remainder_state_count modulus }
+    requires states { length leaf.now.states ≡ remainder_state_count modulus.number }
     ensures { IfOk result
-        (λ nodes. nodes.items ≡ map (remainder_leader_node leaf.now modulus rest answer) (range_with_len 0 modulus)) }
+        (λ nodes. nodes.items ≡ map (remainder_leader_node leaf.now modulus.number rest answer) (range_with_len 0 modulus.number)) }
 {
     let mut nodes = Vec::new(alloc);
-    for p in 0..modulus {
+    for p in 0..modulus.number {
         nodes.push(leader_node(alloc, leaf, modulus, rest, answer, p)?)?;
     }
     Ok(nodes)
@@ -141,13 +139,12 @@ fn ends(
 fn leaf_tree(
     alloc: Global,
     leaf: &Leaf,
-    modulus: u16,
+    modulus: Modulus,
     rest: u16,
     answer: bool,
 ) -> Result<List<Node>, NoMemory>
-    requires few { modulus ≤ MODULUS_LIMIT }
-    requires states { length leaf.now.states ≡ remainder_state_count modulus }
-    ensures { IfOk result (λ nodes. nodes ≡ remainder_tree leaf.now modulus rest answer) }
+    requires states { length leaf.now.states ≡ remainder_state_count modulus.number }
+    ensures { IfOk result (λ nodes. nodes ≡ remainder_tree leaf.now modulus.number rest answer) }
 {
     let nodes = ends(alloc, leaf, modulus, rest, answer)?;
     tree(alloc, leaf, nodes)
@@ -157,13 +154,12 @@ fn leaf_tree(
 pub(crate) fn both_trees(
     alloc: Global,
     leaf: &Leaf,
-    modulus: u16,
+    modulus: Modulus,
     rest: u16,
 ) -> Result<(List<Node>, List<Node>), NoMemory>
-    requires few { modulus ≤ MODULUS_LIMIT }
-    requires states { length leaf.now.states ≡ remainder_state_count modulus }
-    ensures on_true { IfOk result (λ both. both.0 ≡ remainder_tree leaf.now modulus rest true) }
-    ensures on_false { IfOk result (λ both. both.1 ≡ remainder_tree leaf.now modulus rest false) }
+    requires states { length leaf.now.states ≡ remainder_state_count modulus.number }
+    ensures on_true { IfOk result (λ both. both.0 ≡ remainder_tree leaf.now modulus.number rest true) }
+    ensures on_false { IfOk result (λ both. both.1 ≡ remainder_tree leaf.now modulus.number rest false) }
 {
     let on_true = leaf_tree(alloc, leaf, modulus, rest, true)?;
     let on_false = leaf_tree(alloc, leaf, modulus, rest, false)?;

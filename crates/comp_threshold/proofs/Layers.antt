@@ -9,44 +9,44 @@ use Rattle.std.proofs.lemmas.List.FromFn.{length-map-range_with_len, get_or-map-
 use Rattle.pop_net.specs.declared.leaf.Move.{Move}
 use Rattle.pop_net.specs.LeafModel.{LeafModel, silent_move}
 use Rattle.cert_base.specs.ValidLayers.{weight_at, IsLower, ValidLayers}
-use Rattle.comp_layers.specs.SortedLayers.{leader_kind, IsLeaderProtocol}
-use Rattle.comp_layers.proofs.SortedLayers.{AreKinds, sorted_layers-valid}
-use Rattle.comp_layers.proofs.LeaderLayers.{kind-pair, kind-below, kind-first, kind-up, kind-down, leader_wakes}
-use Rattle.comp_threshold_leaf.specs.ThresholdLeaf.{span_of, threshold_place, threshold_follower, joined_value, leftover, threshold_leader_move, alters_states, threshold_moves, threshold_state_count, threshold_state_name, built}
+use Rattle.comp_trees.specs.SortedLayers.{leader_kind, IsLeaderProtocol}
+use Rattle.comp_trees.proofs.SortedLayers.{AreKinds, sorted_layers-valid}
+use Rattle.comp_trees.proofs.LeaderLayers.{kind-pair, kind-below, kind-first, kind-up, kind-down, leader_wakes}
+use Rattle.comp_threshold.specs.ThresholdLeaf.{span_of, threshold_place, threshold_follower, joined_value, leftover, threshold_leader_move, alters_states, threshold_moves, threshold_state_count, threshold_state_name, built}
 use Rattle.comp_threshold.specs.ThresholdProof.{threshold_distance, threshold_first_weight, threshold_false_weight, threshold_true_weight, threshold_weights, threshold_layers}
-use Rattle.comp_threshold_leaf.proofs.Places.{IsCut, cut, Kind, a_leader, a_follower, kind_of, place-follower, follower-above, follower-below}
-use Rattle.comp_threshold_leaf.proofs.MoveLists.{all_moves_changing, leader_move-cut, pair-loud, turn-loud, has_pair}
+use Rattle.comp_threshold.proofs.Places.{IsCut, cut, Kind, a_leader, a_follower, kind_of, place-follower, follower-above, follower-below}
+use Rattle.comp_threshold.proofs.MoveLists.{all_moves_changing, leader_move-cut, pair-loud, turn-loud, has_pair}
 
 -- ---- weights
 
 weight-is : (s : ℕ) (weight : ℕ → ℤ) (q : ℕ) → q < threshold_state_count s → weight_at (threshold_weights s weight) q ≡ weight q
 weight-is s weight q l = get_or-map-range_with_len weight 0 (threshold_state_count s) q q (pos 0) l (zero-add q)
 
-first-leader : (s p : ℕ) → p < span_of s → threshold_first_weight s p ≡ pos (s + 1)
+pub first-leader : (s p : ℕ) → p < span_of s → threshold_first_weight s p ≡ pos (s + 1)
 first-leader s p l = rw (lt-ltb p (span_of s) l) refl
 
-first-follower : (s v : ℕ) (bit : Bool) → v < span_of s → threshold_first_weight s (threshold_follower s bit v) ≡ pos (threshold_distance s v)
+pub first-follower : (s v : ℕ) (bit : Bool) → v < span_of s → threshold_first_weight s (threshold_follower s bit v) ≡ pos (threshold_distance s v)
 first-follower s v bit l =
     let above = follower-above s v bit in
     let place = place-follower s v bit l in
     ap (λ (b : Bool). if b then pos (s + 1) else pos (threshold_distance s (threshold_place s (threshold_follower s bit v)))) (le-ltb (threshold_follower s bit v) (span_of s) above) ∙ ap (λ k. pos (threshold_distance s k)) place
 
-false-leader : (s p : ℕ) → p < span_of s → threshold_false_weight s p ≡ pos 0
+pub false-leader : (s p : ℕ) → p < span_of s → threshold_false_weight s p ≡ pos 0
 false-leader s p l = rw (lt-ltb p (span_of s) l) refl
 
-false-false : (s v : ℕ) → v < span_of s → threshold_false_weight s (threshold_follower s false v) ≡ pos 1
+pub false-false : (s v : ℕ) → v < span_of s → threshold_false_weight s (threshold_follower s false v) ≡ pos 1
 false-false s v l = rw (le-ltb (span_of s + v) (span_of s) (omega arith), lt-ltb (span_of s + v) (span_of s + span_of s) (omega arith)) refl
 
 false-true : (s v : ℕ) → threshold_false_weight s (threshold_follower s true v) ≡ pos 0
 false-true s v = rw (le-ltb (span_of s + span_of s + v) (span_of s) (omega arith), le-ltb (span_of s + span_of s + v) (span_of s + span_of s) (omega arith)) refl
 
-true-leader : (s p : ℕ) → p < span_of s → threshold_true_weight s p ≡ pos 0
+pub true-leader : (s p : ℕ) → p < span_of s → threshold_true_weight s p ≡ pos 0
 true-leader s p l = rw (lt-ltb p (span_of s + span_of s) (omega arith)) refl
 
 true-false : (s v : ℕ) → v < span_of s → threshold_true_weight s (threshold_follower s false v) ≡ pos 0
 true-false s v l = rw (lt-ltb (span_of s + v) (span_of s + span_of s) (omega arith)) refl
 
-true-true : (s v : ℕ) → threshold_true_weight s (threshold_follower s true v) ≡ pos 1
+pub true-true : (s v : ℕ) → threshold_true_weight s (threshold_follower s true v) ≡ pos 1
 true-true s v = rw (le-ltb (span_of s + span_of s + v) (span_of s + span_of s) (omega arith)) refl
 
 -- ---- a move lowers its weights

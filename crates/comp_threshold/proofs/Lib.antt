@@ -1,4 +1,10 @@
+pub mod Places
+pub mod MoveLists
+pub mod StateNames
+pub mod Formed
+pub mod Single
 pub mod Trees
 pub mod Layers
+pub mod Steps
 pub mod Within
 pub mod Valid

@@ -4,7 +4,7 @@ use Rattle.std.specs.Prelude.{ℤ, pos, negsuc, neg_ℤ, ◌+ℤ◌, ◌-ℤ◌,
 use Rattle.std.proofs.lemmas.Int.{ints}
 use Rattle.std.proofs.lemmas.Bool.{ltb-true, ltb-false, eqb-true, not-false, and_parts}
 use Rattle.std.proofs.lemmas.List.{length-map, get_or-map}
-use Rattle.std.proofs.lemmas.List.Elements.{All-map, All-from_get_or}
+use Rattle.std.proofs.lemmas.List.Elements.{All-nil, All-map, All-from_get_or}
 use Rattle.std.proofs.lemmas.List.FromFn.{length-map-range_with_len, get_or-map-range_with_len}
 use Rattle.pop_net.specs.LeafModel.{LeafModel, IsLeaf}
 use Rattle.pres_ast.specs.PredTree.{LessThan}
@@ -20,10 +20,10 @@ use Rattle.comp_trees.specs.LeaderTree.{IsLed, facts_of_trap, facts_of_leader, c
 use Rattle.comp_trees.proofs.LeaderEnds.{wrong_closes, wrong_ruled_out}
 use Rattle.comp_trees.proofs.ValueNodes.{value_closes}
 use Rattle.comp_trees.proofs.LeaderClosing.{leader_tree-closes}
-use Rattle.comp_threshold_leaf.specs.ThresholdLeaf.{threshold_width, span_of, place_of_value, threshold_place, threshold_follower, joined_value, leftover, threshold_output, threshold_leader_move, alters_states, threshold_state_count, threshold_state_name, threshold_leaf_of, threshold_value}
+use Rattle.comp_threshold.specs.ThresholdLeaf.{threshold_width, span_of, place_of_value, threshold_place, threshold_follower, joined_value, leftover, threshold_output, threshold_leader_move, alters_states, threshold_state_count, threshold_state_name, threshold_leaf_of, threshold_value}
 use Rattle.comp_threshold.specs.ThresholdProof.{signed_value, threshold_leader_node, threshold_tree}
-use Rattle.comp_threshold_leaf.proofs.Places.{cut, Kind, a_leader, a_follower, kind_of, place-leader, place-follower, follower-above, output-leader, output-follower, place-within, place-most, value-place, width-bound, width-coef}
-use Rattle.comp_threshold_leaf.proofs.MoveLists.{all_moves, leader_move-cut, leaders-meet, turned-meet}
+use Rattle.comp_threshold.proofs.Places.{cut, Kind, a_leader, a_follower, kind_of, place-leader, place-follower, follower-above, output-leader, output-follower, place-within, place-most, value-place, width-bound, width-coef}
+use Rattle.comp_threshold.proofs.MoveLists.{all_moves, leader_move-cut, leaders-meet, turned-meet}
 
 -- ---- the values of a move
 
@@ -76,7 +76,7 @@ kept-value s p v l m e =
       ]
     ]
 
-module _ (coefs : List ℤ) (bound : ℤ) (formed : IsLeaf (threshold_leaf_of coefs bound)) (few : length (threshold_leaf_of coefs bound).states + length (threshold_leaf_of coefs bound).moves + length (threshold_leaf_of coefs bound).inputs + 5 ≤ FACT_LIMIT) where
+module _ (coefs : List ℤ) (bound : ℤ) (formed : IsLeaf (threshold_leaf_of coefs bound)) (few : length (threshold_leaf_of coefs bound).states + length (threshold_leaf_of coefs bound).moves + length (threshold_leaf_of coefs bound).inputs + 6 ≤ FACT_LIMIT) where
   abbrev s : ℕ
   s = threshold_width coefs bound
 
@@ -114,7 +114,7 @@ module _ (coefs : List ℤ) (bound : ℤ) (formed : IsLeaf (threshold_leaf_of co
 
   pub is_led : IsLed leaf (span_of s)
   is_led = record {
-    helpers = refl;
+    helpers = All-nil (λ q. q < span_of s);
     few = few;
     leaders = omega (arith, states_long);
     inputs = All-map (λ q. q < span_of s) (place_of_value s) coefs (All-from_get_or (λ a. place_of_value s a < span_of s) coefs (pos 0) (λ i l. place-most s (get_or coefs i (pos 0)) (width-coef coefs bound i (pos 0) l)));
@@ -176,9 +176,9 @@ module _ (coefs : List ℤ) (bound : ℤ) (formed : IsLeaf (threshold_leaf_of co
       let twin = leaders-meet s t p p leaf.inputs l l in
       let at_least = ltb-false p t above in
       let low = bound_low in
-      value_closes leaf pred true (Ge (input_row (map neg_ℤ coefs) (bound -ℤ pos 1))) (span_of s) p twin (omega (arith, states_long)) formed.inputs formed.moves refl (map neg_ℤ coefs) (bound -ℤ pos 1)
+      value_closes leaf pred true (Ge (input_row (map neg_ℤ coefs) (bound -ℤ pos 1))) (span_of s) p twin (omega (arith, states_long)) formed.inputs formed.moves formed.helpers (map neg_ℤ coefs) (bound -ℤ pos 1)
       (record { long = length-map coefs neg_ℤ ∙ sym inputs_long; row = refl })
-      (threshold_value s) refl
+      (threshold_value s) refl refl
       (λ i k. let e = input-value i k in let f = get_or-map neg_ℤ coefs i (pos 0) (pos 0) (omega (arith, inputs_long)) in omega (arith, ints, e, f))
       (λ i d k. let e = all_values i d k in omega (arith, ints, e))
       (λ z k ne e. left_over (λ c. pos 0 ≤ℤ c) p z l k e (λ v h. elim h [ inl a ↦ absurd (omega (arith, a.0)) | inr a ↦ elim a [ inl c ↦ omega (arith, ints, c.1) | inr c ↦ omega (arith, ints) ] ]))
@@ -189,9 +189,9 @@ module _ (coefs : List ℤ) (bound : ℤ) (formed : IsLeaf (threshold_leaf_of co
       let twin = leaders-meet s t p p leaf.inputs l l in
       let less = ltb-true p t below in
       let high = bound_high in
-      value_closes leaf pred false (Ge (input_row coefs (neg_ℤ bound))) (span_of s) p twin (omega (arith, states_long)) formed.inputs formed.moves refl coefs (neg_ℤ bound)
+      value_closes leaf pred false (Ge (input_row coefs (neg_ℤ bound))) (span_of s) p twin (omega (arith, states_long)) formed.inputs formed.moves formed.helpers coefs (neg_ℤ bound)
       (record { long = sym inputs_long; row = refl })
-      (λ q. neg_ℤ (threshold_value s q)) refl
+      (λ q. neg_ℤ (threshold_value s q)) refl refl
       (λ i k. let e = input-value i k in omega (arith, ints, e))
       (λ i d k. let e = all_values i d k in omega (arith, ints, e))
       (λ z k ne e. left_over (λ c. pos 0 ≤ℤ neg_ℤ c) p z l k e (λ v h. elim h [ inl a ↦ omega (arith, ints, a.1) | inr a ↦ elim a [ inl c ↦ absurd (omega (arith, c.0)) | inr c ↦ omega (arith, ints) ] ]))

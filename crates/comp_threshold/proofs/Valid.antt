@@ -10,17 +10,19 @@ use Rattle.std.specs.Prelude.{ℤ, AllPairs}
 use Rattle.std.specs.List.{range_with_len}
 use Rattle.std.proofs.lemmas.List.FromFn.{length-map-range_with_len}
 use Rattle.pop_net.specs.Reaction.{Differ}
+use Rattle.cert_base.specs.ProofBound.{layers_bound}
 use Rattle.cert_base.specs.ProofLimits.{IsLeafProofWithin}
 use Rattle.cert_base.specs.ValidProof.{ValidLeafProof}
-use Rattle.comp_threshold_leaf.specs.ThresholdLeaf.{threshold_width, place_of_value, threshold_state_count, threshold_state_name, threshold_output, threshold_leaf_of}
+use Rattle.comp_threshold.specs.ThresholdLeaf.{threshold_width, place_of_value, threshold_state_count, threshold_state_name, threshold_output, threshold_leaf_of}
 use Rattle.comp_threshold.specs.ThresholdProof.{threshold_part, threshold_layers, threshold_tree}
 use Rattle.comp_threshold.specs.Built.{IsThreshold}
 use Rattle.comp_threshold.proofs.Trees.{tree-true, tree-false}
 use Rattle.comp_threshold.proofs.Layers.{layers-valid}
-use Rattle.comp_threshold_leaf.proofs.Formed.{threshold-formed, threshold-few, built-is}
+use Rattle.comp_threshold.proofs.Formed.{threshold-formed, threshold-few, built-is}
 use Rattle.comp_threshold.proofs.Within.{threshold-within}
+use Rattle.comp_threshold.proofs.Steps.{steps_are}
 use Rattle.pop_io.specs.declared.names.TheConstants.{VARIABLE_LIMIT}
-use Rattle.comp_threshold_leaf.specs.declared.limits.TheConstants.{WIDTH_LIMIT}
+use Rattle.comp_threshold.specs.declared.limits.TheConstants.{WIDTH_LIMIT}
 
 pub threshold-valid : (coefs : List ℤ) (bound : ℤ) → 1 ≤ length coefs → length coefs ≤ VARIABLE_LIMIT → threshold_width coefs bound ≤ WIDTH_LIMIT → ValidLeafProof (threshold_leaf_of coefs bound) (threshold_part coefs bound)
 threshold-valid coefs bound some few narrow =
@@ -53,6 +55,7 @@ whole-valid coefs bound s t leaf pred layers on_true on_false es et el single ep
       leaf_is = el;
       pred_is = ep;
       valid = subst (λ l. ValidLeafProof l (part pred layers on_true on_false)) (sym el) (subst (ValidLeafProof (threshold_leaf_of coefs bound)) (sym part_is) (threshold-valid coefs bound some few w));
+      bound = ap layers_bound layers_is ∙ steps_are (threshold_leaf_of coefs bound) (threshold_width coefs bound);
       within = subst (IsLeafProofWithin (length coefs)) (sym part_is) (threshold-within coefs bound some few w);
       single = single;
     }

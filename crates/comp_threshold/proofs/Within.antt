@@ -7,18 +7,18 @@ use Rattle.std.proofs.lemmas.List.FromFn.{length-map-range_with_len}
 use Rattle.std.proofs.lemmas.List.Elements.{All-nil, All-cons, All-map}
 use Rattle.pop_net.specs.LeafModel.{LeafModel, IsLeaf}
 use Rattle.pop_io.specs.declared.names.TheConstants.{VARIABLE_LIMIT}
-use Rattle.comp_threshold_leaf.specs.declared.limits.TheConstants.{WIDTH_LIMIT}
+use Rattle.comp_threshold.specs.declared.limits.TheConstants.{WIDTH_LIMIT}
 use Rattle.cert_base.specs.declared.layer.Layer.{Layer}
 use Rattle.cert_base.specs.FactsAndCases.{differs}
 use Rattle.cert_base.specs.ProofLimits.{IsSmall, IsNodeWithin, IsLayerWithin, IsLeafProofWithin}
 use Rattle.comp_trees.specs.LeaderTree.{value_mix, wrong_mix, IsLed}
-use Rattle.comp_layers.specs.SortedLayers.{leader_kind, sorted_layer}
+use Rattle.comp_trees.specs.SortedLayers.{leader_kind, sorted_layer}
 use Rattle.comp_trees.proofs.Limits.{mix-small, leader-within, tree-within, sign-small}
-use Rattle.comp_layers.proofs.LayerLimits.{layer-within}
-use Rattle.comp_threshold_leaf.specs.ThresholdLeaf.{threshold_width, span_of, place_of_value, threshold_place, threshold_output, threshold_state_count, threshold_state_name, threshold_leaf_of, threshold_value}
+use Rattle.comp_trees.proofs.LayerLimits.{layer-within}
+use Rattle.comp_threshold.specs.ThresholdLeaf.{threshold_width, span_of, place_of_value, threshold_place, threshold_output, threshold_state_count, threshold_state_name, threshold_leaf_of, threshold_value}
 use Rattle.comp_threshold.specs.ThresholdProof.{signed_value, threshold_leader_node, threshold_value_node, threshold_wrong_node, threshold_distance, threshold_first_weight, threshold_false_weight, threshold_true_weight, threshold_weights, threshold_part}
-use Rattle.comp_threshold_leaf.proofs.Places.{kind_of, place-below}
-use Rattle.comp_threshold_leaf.proofs.Formed.{threshold-formed, threshold-few}
+use Rattle.comp_threshold.proofs.Places.{kind_of, place-below}
+use Rattle.comp_threshold.proofs.Formed.{threshold-formed, threshold-few}
 use Rattle.comp_threshold.proofs.Trees.{is_led}
 use Rattle.list_laws.proofs.Ranges.{all_range}
 

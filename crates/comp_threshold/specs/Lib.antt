@@ -1,2 +1,3 @@
+pub mod ThresholdLeaf
 pub mod ThresholdProof
 pub mod Built

@@ -3,14 +3,14 @@ use Rattle.std.specs.Prelude.{length, ℕ, ◌+◌, ◌-◌, Bool, true, false, 
 use Rattle.std.specs.Prelude.{neg_ℤ, map}
 use Rattle.std.specs.List.{range_with_len}
 use Rattle.cert_base.specs.declared.layer.Layer.{Layer}
-use Rattle.comp_layers.specs.SortedLayers.{sorted_layers, leader_kind}
+use Rattle.comp_trees.specs.SortedLayers.{sorted_layers, leader_kind}
 use Rattle.pop_net.specs.LeafModel.{LeafModel}
 use Rattle.cert_base.specs.declared.node.Node.{Node}
 use Rattle.cert_base.specs.FactsAndCases.{differs, indicator}
 use Rattle.comp_trees.specs.LeaderTree.{company_of, mix_of_leader, wrong_mix, value_mix, weighed_node, leader_tree}
-use Rattle.comp_threshold_leaf.specs.ThresholdLeaf.{span_of, place_of_value, threshold_place, threshold_output}
-use Rattle.comp_threshold_leaf.specs.ThresholdLeaf.{threshold_state_count}
-use Rattle.comp_threshold_leaf.specs.ThresholdLeaf.{threshold_width, threshold_value, threshold_leaf_of}
+use Rattle.comp_threshold.specs.ThresholdLeaf.{span_of, place_of_value, threshold_place, threshold_output}
+use Rattle.comp_threshold.specs.ThresholdLeaf.{threshold_state_count}
+use Rattle.comp_threshold.specs.ThresholdLeaf.{threshold_width, threshold_value, threshold_leaf_of}
 use Rattle.pres_ast.specs.PredTree.{LessThan}
 use Rattle.cert_base.specs.declared.proof.LeafProof.{LeafProof}
 

@@ -1,5 +1,5 @@
 //! A leaf that computes a threshold, and its proof.
-//! It stands on `comp_threshold_leaf`, `comp_trees` and `comp_layers`.
+//! It stands on `comp_trees`.
 //! The layer above uses: `threshold` gives exactly the built leaf, and a proof valid for it and within the limits.
 //!
 //! *It ends.* First leaders meet, and leaders take from followers: one leader fewer, or the follower comes closer to
@@ -10,10 +10,18 @@
 //! no value, or one beyond the end of the range at which the leader stands.
 #![tactic(auto)]
 
+mod building;
 mod fault;
+mod limits;
+mod listing;
+mod naming;
 mod node;
+mod values;
 mod weights;
 mod whole;
+mod wide;
 
 pub use fault::ThresholdFault;
+pub use limits::WIDTH_LIMIT;
 pub use whole::threshold;
+pub use wide::width;

@@ -2,13 +2,14 @@
 
 ghost use Rattle.std.specs.Prelude.{◌≡◌, ◌<◌, ◌≤◌, List, map, length, true, false, IfOk};
 ghost use Rattle.std.specs.List.{range_with_len};
-ghost use Rattle.comp_threshold_leaf.specs.ThresholdLeaf.{span_of, threshold_state_count, threshold_output};
-ghost use Rattle.comp_threshold_leaf.specs.declared.limits.TheConstants.{WIDTH_LIMIT};
+ghost use Rattle.comp_threshold.specs.ThresholdLeaf.{span_of, threshold_state_count, threshold_output};
+ghost use Rattle.comp_threshold.specs.declared.limits.TheConstants.{WIDTH_LIMIT};
 ghost use Rattle.comp_threshold.specs.ThresholdProof.{signed_value, threshold_leader_node, wrong_sign};
 ghost use Rattle.comp_threshold.specs.ThresholdProof.{threshold_value_node, threshold_wrong_node, threshold_tree};
 
+use crate::building::output;
+use crate::values::{place_in, span};
 use cert_base::Node;
-use comp_threshold_leaf::{output, place_in, span};
 use comp_trees::{multipliers, tree, weighed};
 use pop_io::{List, NoMemory};
 use pop_net::Leaf;

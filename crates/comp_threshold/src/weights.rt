@@ -1,14 +1,14 @@
 //! The layers of a leaf.
 
 ghost use Rattle.std.specs.Prelude.{◌≡◌, ◌≤◌, map, IfOk};
-ghost use Rattle.comp_threshold_leaf.specs.declared.limits.TheConstants.{WIDTH_LIMIT};
+ghost use Rattle.comp_threshold.specs.declared.limits.TheConstants.{WIDTH_LIMIT};
 ghost use Rattle.comp_threshold.specs.ThresholdProof.{threshold_distance, threshold_first_weight};
 ghost use Rattle.comp_threshold.specs.ThresholdProof.{threshold_false_weight, threshold_true_weight, threshold_weights};
 ghost use Rattle.comp_threshold.specs.ThresholdProof.{threshold_layers};
 
+use crate::values::{place_in, span};
 use cert_base::Layer;
-use comp_layers::layer;
-use comp_threshold_leaf::{place_in, span};
+use comp_trees::layer;
 use pop_io::{List, NoMemory};
 use pop_net::Leaf;
 use std::alloc::Global;

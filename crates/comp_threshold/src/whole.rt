@@ -5,15 +5,18 @@ ghost use Rattle.pop_net.specs.Reaction.{Differ};
 ghost use Rattle.pres_ast.specs.PredTree.{LessThan};
 ghost use Rattle.pres_ast.specs.declared.limits.TheConstants.{BOUND_LIMIT};
 ghost use Rattle.pres_ast.specs.PredModel.{IsAtomSum};
-ghost use Rattle.comp_threshold_leaf.specs.ThresholdLeaf.{threshold_leaf_of, threshold_width};
+ghost use Rattle.comp_threshold.specs.ThresholdLeaf.{threshold_leaf_of, threshold_width};
 ghost use Rattle.comp_threshold.specs.Built.{IsThreshold, BuildsThreshold};
 
+use crate::building::threshold_leaf;
 use crate::fault::ThresholdFault;
+use crate::limits::WIDTH_LIMIT;
 use crate::node::both_trees;
+use crate::values::place;
 use crate::weights::leaf_layers;
+use crate::wide::width;
 use cert_base::LeafProof;
-use comp_threshold_leaf::{WIDTH_LIMIT, place, threshold_leaf, width};
-use pop_io::{List, NoMemory};
+use pop_io::{Failure, List, NoMemory};
 use pop_net::Leaf;
 use pres_ast::{Pred, Tree};
 use std::alloc::Global;
@@ -80,14 +83,14 @@ pub fn threshold(
     alloc: Global,
     coefs: &[i64],
     bound: i64,
-) -> Result<(Leaf, LeafProof), ThresholdFault>
+) -> Result<(Leaf, LeafProof), Failure<ThresholdFault>>
     requires sum { IsAtomSum coefs.now }
     requires bound { nat_abs bound ≤ BOUND_LIMIT }
     ensures { BuildsThreshold coefs.now bound result }
 {
     let s = width(coefs, bound);
     if WIDTH_LIMIT < s {
-        return Err(ThresholdFault::TooWide(s));
+        return Err(Failure::Fault(ThresholdFault::TooWide(s)));
     }
     Ok(leaf_of_width(alloc, coefs, bound, s as u16)?)
 }

@@ -1,6 +1,6 @@
 -- The whole tree of a leaf with leaders closes its base facts, if the node of each leader closes.
 use Rattle.std.proofs.Common.{◌≡◌, subst, ℕ, zero, suc, ◌+◌, ◌<◌, ◌≤◌, Bool, true, false, ◌&&◌, List, [], ◌∷◌, ◌++◌, length, map, append_assoc, refl, ap, sym, ◌∙◌, zero-add, arith, length-append}
-use Rattle.std.specs.Prelude.{pos, negsuc, if◌then◌else◌, not, ◌==◌, Some, nat_lt, count_by}
+use Rattle.std.specs.Prelude.{pos, negsuc, if◌then◌else◌, not, ◌==◌, Some, nat_lt}
 use Rattle.std.specs.List.{range_with_len, list_all}
 use Rattle.std.proofs.lemmas.Bool.{lt-ltb}
 use Rattle.std.proofs.lemmas.List.{length-map, append-nil}
@@ -12,11 +12,10 @@ use Rattle.cert_base.specs.declared.fact.Fact.{Fact}
 use Rattle.cert_base.specs.declared.fact.Fact.TheVariants.{Ge, Eq, Holds}
 use Rattle.cert_base.specs.declared.node.Node.{Node}
 use Rattle.cert_base.specs.declared.node.Node.TheVariants.{Present, Trap, Open}
-use Rattle.cert_base.specs.FactsAndCases.{states_of, flow, base_list, two_agents_fact, wrong_output_fact, absent_fact, occurs_fact, alone_fact, can_meet_in, cases_of_present, cases_of_trap, cases_of_open, some_taken_fact, no_moves, no_start_facts, count_row, takes_from, puts_into, is_in, no_helper_facts}
-use Rattle.cert_base.specs.Rows.{constant_row}
+use Rattle.cert_base.specs.FactsAndCases.{states_of, flow, base_list, two_agents_fact, wrong_output_fact, absent_fact, occurs_fact, alone_fact, can_meet_in, cases_of_present, cases_of_open, some_taken_fact, no_moves, no_start_facts, count_row, takes_from, puts_into, no_helper_facts}
 use Rattle.cert_base.specs.Closes.{refutes, cases_of, ClosesUnder, refuted, by_cases, no_case, next_case, Closes}
 use Rattle.comp_trees.specs.LeaderTree.{leaders, company_of, facts_of_trap, facts_without, facts_of_leader, leader_nodes, leader_tree, weighed_node, no_leader_mix, no_leak_mix, no_start_mix, IsLed}
-use Rattle.comp_trees.proofs.TrapNodes.{no_leak_closes, no_start_closes, no_leader_closes, length_opened, length_taken, length_started}
+use Rattle.comp_trees.proofs.TrapNodes.{no_leak_closes, no_start_closes, no_leader_closes, length_opened, length_nobody}
 use Rattle.list_laws.proofs.Lists.{at_end}
 
 -- the second case of a leader
@@ -29,11 +28,6 @@ all_below a (suc n) m l =
     let here : nat_lt a m ≡ true = lt-ltb a m (omega arith) in
     let rest = all_below (a + 1) n m (omega arith) in
     rw (here, rest) refl
-
--- no helper is in a set
-no_helps : (leaf : LeafModel) (set : List ℕ) → leaf.helpers ≡ [] → no_helper_facts leaf set ≡ []
-no_helps leaf set e =
-    ap (λ (hs : List ℕ). if count_by (is_in set) hs == 0 then [] else (Eq (constant_row (pos (count_by (is_in set) hs))) ∷ [])) e
 
 module _ (leaf : LeafModel) (pred : PredModel) (b : Bool) (opened : Fact) (n : ℕ) (is : IsLed leaf n) (formed : IsLeaf leaf) (opens : cases_of_open pred b ≡ (opened ∷ []) ∷ []) (ends : ℕ → Node) where
   abbrev base : List Fact
@@ -114,12 +108,11 @@ module _ (leaf : LeafModel) (pred : PredModel) (b : Bool) (opened : Fact) (n : �
       let facts = base ++ opened ∷ [] in
       let own = leader_nodes ends last 0 n in
       let leak = some_taken_fact leaf (λ t. takes_from (leaders n) t && not (puts_into (leaders n) t)) in
-      let start = (no_moves leaf (puts_into (leaders n)) ++ no_start_facts leaf (leaders n)) ++ Eq (count_row leaf (leaders n) (pos 0)) ∷ [] in
+      let start = (no_moves leaf (puts_into (leaders n)) ++ no_start_facts leaf (leaders n)) ++ Eq (count_row leaf (leaders n) (pos 0)) ∷ no_helper_facts leaf (leaders n) in
       let trap = Ge (count_row leaf (leaders n) (negsuc 0)) in
       let length_facts = length_opened leaf pred b opened n is in
       let length_base : length base ≡ length leaf.states + 3 = omega (arith, length-append base (opened ∷ []), length_facts) in
-      let length_start : length (facts ++ start) ≡ length leaf.states + length leaf.moves + length leaf.inputs + 5 =
-      omega (arith, length-append facts start, length_facts, length-append (no_moves leaf (puts_into (leaders n)) ++ no_start_facts leaf (leaders n)) (Eq (count_row leaf (leaders n) (pos 0)) ∷ []), length-append (no_moves leaf (puts_into (leaders n))) (no_start_facts leaf (leaders n)), length_taken leaf pred b opened n is, length_started leaf pred b opened n is) in
+      let length_start = length_nobody leaf pred b opened n is in
       let length_leak : length (facts ++ leak ∷ []) ≡ length leaf.states + 5 = omega (arith, length-append facts (leak ∷ []), length_facts) in
       let first : ClosesUnder leaf 2 (facts ++ leak ∷ []) (weighed_node (no_leak_mix leaf) ∷ weighed_node (no_start_mix leaf) ∷ own) (weighed_node (no_start_mix leaf) ∷ own) =
       refuted 2 (facts ++ leak ∷ []) (weighed_node (no_leak_mix leaf)) (weighed_node (no_start_mix leaf) ∷ own) (record { depth = omega arith; fact_count = omega arith }) (no_leak_closes leaf pred b opened n is) in
@@ -131,7 +124,7 @@ module _ (leaf : LeafModel) (pred : PredModel) (b : Bool) (opened : Fact) (n : �
       let cases : ClosesUnder leaf 1 facts (Trap (leaders n) ∷ weighed_node (no_leak_mix leaf) ∷ weighed_node (no_start_mix leaf) ∷ own) [] =
       by_cases 1 facts (Trap (leaders n)) (weighed_node (no_leak_mix leaf) ∷ weighed_node (no_start_mix leaf) ∷ own) [] ((leak ∷ []) ∷ start ∷ (trap ∷ []) ∷ [])
       (record { depth = omega arith; fact_count = omega arith })
-      ((let here = all_below 0 n (length leaf.states) (omega arith) in rw here refl) ∙ ap Some trap_is)
+      (let here = all_below 0 n (length leaf.states) (omega arith) in rw here refl)
       (next_case 2 facts (leak ∷ []) (start ∷ (trap ∷ []) ∷ []) _ _ [] first
       (next_case 2 facts start ((trap ∷ []) ∷ []) _ _ [] second
       (next_case 2 facts (trap ∷ []) [] own [] [] third (no_case 2 facts [])))) in
@@ -144,7 +137,3 @@ module _ (leaf : LeafModel) (pred : PredModel) (b : Bool) (opened : Fact) (n : �
       open_is =
           let at = at_end (map (flow leaf) (states_of leaf)) (two_agents_fact leaf ∷ Holds pred b ∷ wrong_output_fact leaf b ∷ []) (length leaf.states) 1 (length-map-range_with_len (flow leaf) 0 (length leaf.states)) in
           rw at refl
-
-      trap_is : cases_of_trap leaf (leaders n) ≡ (some_taken_fact leaf (λ t. takes_from (leaders n) t && not (puts_into (leaders n) t)) ∷ []) ∷ ((no_moves leaf (puts_into (leaders n)) ++ no_start_facts leaf (leaders n)) ++ Eq (count_row leaf (leaders n) (pos 0)) ∷ []) ∷ (Ge (count_row leaf (leaders n) (negsuc 0)) ∷ []) ∷ []
-      trap_is =
-          ap (λ fs. (some_taken_fact leaf (λ t. takes_from (leaders n) t && not (puts_into (leaders n) t)) ∷ []) ∷ ((no_moves leaf (puts_into (leaders n)) ++ no_start_facts leaf (leaders n)) ++ Eq (count_row leaf (leaders n) (pos 0)) ∷ fs) ∷ (Ge (count_row leaf (leaders n) (negsuc 0)) ∷ []) ∷ []) (no_helps leaf (leaders n) is.helpers)

@@ -1,6 +1,6 @@
 -- The two kinds of nodes that end a leader's branch.
 use Rattle.std.proofs.Common.{◌≡◌, ◌≢◌, ◌⊎◌, inl, inr, ℕ, ◌+◌, ◌<◌, ◌≤◌, Bool, true, false, ◌&&◌, ◌||◌, List, [], ◌∷◌, ◌++◌, length, map, get_or, refl, ap, sym, ◌∙◌, zero-add, arith}
-use Rattle.std.specs.Prelude.{ℤ, pos, negsuc, neg_ℤ, ◌+ℤ◌, ◌-ℤ◌, ◌*ℤ◌, ◌≤ℤ◌, if◌then◌else◌, not, ◌==◌, filter, cond, slice_index_or, count_by}
+use Rattle.std.specs.Prelude.{ℤ, pos, negsuc, neg_ℤ, ◌+ℤ◌, ◌-ℤ◌, ◌*ℤ◌, ◌≤ℤ◌, if◌then◌else◌, not, ◌==◌, filter, cond, slice_index_or, All}
 use Rattle.std.specs.Ordering.{int_eq}
 use Rattle.std.specs.List.{range_with_len}
 use Rattle.std.proofs.lemmas.Int.{ints}
@@ -23,6 +23,7 @@ use Rattle.cert_base.specs.WeightedSums.{total}
 use Rattle.comp_trees.specs.LeaderTree.{leaders, company_of, facts_of_trap, facts_without, facts_of_leader, LeaderMix, mix_of_trap, mix_of_leader, wrong_mix, value_mix}
 use Rattle.cert_base.proofs.WeightedSums.{may_weigh-append, may_weigh-zeros, linear_closes-weighted}
 use Rattle.cert_base.proofs.FlowSums.{coefficient-dense, total-same, total-none, total-none_range, total-one, weighted_sum-map, valued, law-input, law-state, law-move, law-past, each_variable, like, times-one, mul-neg}
+use Rattle.comp_trees.proofs.HelperSums.{constant-helpers}
 use Rattle.comp_trees.proofs.LeaderSums.{leader_sum, as_long}
 use Rattle.std.proofs.lemmas.Bool.{ne_eqb, or_right}
 
@@ -161,10 +162,6 @@ valued-none : (value : Fact → ℤ) (leaf : LeafModel) → sum_of_facts value (
 valued-none value leaf =
     weighted_sum-map value (flow leaf) (λ q. pos 0) (states_of leaf)
     ∙ total-none (λ q. pos 0 *ℤ value (flow leaf q)) (states_of leaf) (λ q. zero-*ℤ (value (flow leaf q)))
-
--- without helpers, a flow fact has the constant 0
-flow-constant : (leaf : LeafModel) (q : ℕ) → leaf.helpers ≡ [] → constant_of (flow leaf q) ≡ pos 0
-flow-constant leaf q e = ap (λ (hs : List ℕ). pos (count_by (λ z. z == q) hs)) e
 
 -- the alone fact of another variable
 alone-none : (leaf : LeafModel) (p x : ℕ) (a : ℤ) → (length leaf.inputs + p) ≢ x → (a *ℤ coefficient x (alone_fact leaf p)) ≡ pos 0
@@ -313,10 +310,11 @@ module _ (leaf : LeafModel) (pred : PredModel) (b : Bool) (opened : Fact) (n p :
           rw h.0 (omega (arith, ints, e, one, same))
       go (inr h) = rw h.0 (met (can_meet_in leaf p z) refl h.0)
 
-  pub value-constant : (w : ℕ → ℤ) (m : ℤ) (coefs : List ℤ) (constant : ℤ) → leaf.helpers ≡ [] → IsOpened coefs constant → sum_of_facts constant_of all_facts (value_terms w m) ≡ ((m *ℤ constant) -ℤ w p)
-  value-constant w m coefs constant no_helpers is =
+  -- all helpers together are worth nothing
+  pub value-constant : (w : ℕ → ℤ) (m : ℤ) (coefs : List ℤ) (constant : ℤ) → All (λ q. q < length leaf.states) leaf.helpers → total w leaf.helpers ≡ pos 0 → IsOpened coefs constant → sum_of_facts constant_of all_facts (value_terms w m) ≡ ((m *ℤ constant) -ℤ w p)
+  value-constant w m coefs constant helpers worthless is =
       let sum = leader_sum constant_of leaf pred b opened n p (value_mix w m p) twin in
-      let first = weighted_sum-map constant_of (flow leaf) w (states_of leaf) ∙ total-none (λ q. w q *ℤ constant_of (flow leaf q)) (states_of leaf) (λ q. ap (λ c. w q *ℤ c) (flow-constant leaf q no_helpers) ∙ *ℤ-zero (w q)) in
+      let first = constant-helpers leaf w helpers ∙ worthless in
       let third = ap (λ (row : Row). m *ℤ row.constant) is.row in
       let fourth = total-none (λ q. w q *ℤ pos 0) (company_of leaf p) (λ q. *ℤ-zero (w q)) in
       let fifth : (w p *ℤ negsuc 0) ≡ neg_ℤ (w p) = mul-neg (w p) (pos 1) ∙ ap neg_ℤ (times-one (w p)) in

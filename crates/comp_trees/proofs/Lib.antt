@@ -1,3 +1,12 @@
+pub mod SortedLayers
+pub mod LeaderLayers
+pub mod PlacesMore
+pub mod Members
+pub mod Single
+pub mod LayerLimits
+pub mod ThreeLayers
+pub mod StateNames
+pub mod HelperSums
 pub mod LeaderSums
 pub mod LeaderEnds
 pub mod TrapNodes
@@ -6,4 +15,4 @@ pub mod ValueNodes
 pub mod TreeOfEnds
 pub mod SameMix
 pub mod Limits
-pub mod Company
+pub mod FilteredRanges

@@ -13,7 +13,7 @@ use Rattle.cert_base.specs.declared.limits.TheConstants.{TERM_LIMIT}
 use Rattle.cert_base.specs.Rows.{terms_from, zeros}
 use Rattle.cert_base.specs.ProofLimits.{IsSmall, IsAscending, IsTermWithin, AreTermsWithin, IsSetWithin, IsNodeWithin, AreNodesWithin}
 use Rattle.cert_base.specs.FactsAndCases.{states_of, can_meet_in, indicator}
-use Rattle.comp_trees.specs.LeaderTree.{leaders, company_of, LeaderMix, mix_of_trap, mix_of_leader, leader_nodes, leader_tree, weighed_node, no_leader_mix, no_leak_mix, no_start_mix, IsLed}
+use Rattle.comp_trees.specs.LeaderTree.{leaders, company_of, LeaderMix, mix_of_trap, mix_of_leader, leader_nodes, leader_tree, weighed_node, no_leader_mix, no_leak_mix, no_input_mix, helped_mix, no_start_mix, IsLed}
 use Rattle.comp_trees.proofs.SameMix.{mix_short}
 use Rattle.list_laws.proofs.Ranges.{all_range}
 
@@ -69,6 +69,10 @@ nodes-within ends last n p (suc k) l few h each =
     All-cons IsNodeWithin (Present p) (leader_nodes ends last (p + 1) k ++ ends p ∷ []) (omega arith)
     (All-append IsNodeWithin (leader_nodes ends last (p + 1) k) (ends p ∷ []) (nodes-within ends last n (p + 1) k (omega arith) few h each) (All-cons IsNodeWithin (ends p) [] (each p (omega arith)) (All-nil IsNodeWithin)))
 
+either_within : (c : Bool) (ms ns : List ℤ) → IsNodeWithin (weighed_node ms) → IsNodeWithin (weighed_node ns) → IsNodeWithin (weighed_node (if c then ms else ns))
+either_within true ms ns h k = h
+either_within false ms ns h k = k
+
 pub tree-within : (leaf : LeafModel) (n : ℕ) (ends : ℕ → Node) → IsLeaf leaf → IsLed leaf n → ((q : ℕ) → q < n → IsNodeWithin (ends q)) → AreNodesWithin (leader_tree leaf n ends)
 tree-within leaf n ends formed is each =
     let states = formed.states in
@@ -84,7 +88,12 @@ tree-within leaf n ends formed is each =
     let start_all = All-append IsSmall (first_list ++ pos 0 ∷ []) (own_list ++ pos 0 ∷ [])
     (All-append IsSmall first_list (pos 0 ∷ []) (All-append IsSmall (zeros (length leaf.states)) (pos 1 ∷ pos 0 ∷ pos 0 ∷ []) (all-zeros (length leaf.states)) (All-cons IsSmall (pos 1) (pos 0 ∷ pos 0 ∷ []) (omega arith) (All-cons IsSmall (pos 0) (pos 0 ∷ []) (omega arith) (one (pos 0) (omega arith))))) (one (pos 0) (omega arith)))
     (All-append IsSmall own_list (pos 0 ∷ []) (All-append IsSmall (zeros (length leaf.moves)) (replicate (length leaf.inputs) (negsuc 0)) (all-zeros (length leaf.moves)) (ones (length leaf.inputs))) (one (pos 0) (omega arith))) in
-    let start = weighed-within (no_start_mix leaf) (omega (arith, length-append (first_list ++ pos 0 ∷ []) (own_list ++ pos 0 ∷ []), length-append first_list (pos 0 ∷ []), length-append (zeros (length leaf.states)) (pos 1 ∷ pos 0 ∷ pos 0 ∷ []), length-replicate (length leaf.states) (pos 0), length-append own_list (pos 0 ∷ []), length-append (zeros (length leaf.moves)) (replicate (length leaf.inputs) (negsuc 0)), length-replicate (length leaf.moves) (pos 0), length-replicate (length leaf.inputs) (negsuc 0))) start_all in
+    let input = weighed-within (no_input_mix leaf) (omega (arith, length-append (first_list ++ pos 0 ∷ []) (own_list ++ pos 0 ∷ []), length-append first_list (pos 0 ∷ []), length-append (zeros (length leaf.states)) (pos 1 ∷ pos 0 ∷ pos 0 ∷ []), length-replicate (length leaf.states) (pos 0), length-append own_list (pos 0 ∷ []), length-append (zeros (length leaf.moves)) (replicate (length leaf.inputs) (negsuc 0)), length-replicate (length leaf.moves) (pos 0), length-replicate (length leaf.inputs) (negsuc 0))) start_all in
+    let high_list = zeros (length leaf.states + 4) in
+    let low_list = zeros (length leaf.moves + length leaf.inputs + 1) in
+    let helped = weighed-within (helped_mix leaf) (omega (arith, length-append high_list (low_list ++ negsuc 0 ∷ []), length-append low_list (negsuc 0 ∷ []), length-replicate (length leaf.states + 4) (pos 0), length-replicate (length leaf.moves + length leaf.inputs + 1) (pos 0)))
+    (All-append IsSmall high_list (low_list ++ negsuc 0 ∷ []) (all-zeros (length leaf.states + 4)) (All-append IsSmall low_list (negsuc 0 ∷ []) (all-zeros (length leaf.moves + length leaf.inputs + 1)) (one (negsuc 0) (omega arith)))) in
+    let start = either_within (length leaf.helpers == 0) (no_input_mix leaf) (helped_mix leaf) input helped in
     let nodes = leader_nodes ends (weighed_node (no_leader_mix leaf n)) 0 n in
     let set : IsSetWithin (leaders n) = ((omega (arith, length-range_with_len 0 n)), all_range (λ q. q < 2 ^ 16) 0 n (λ q l m. omega arith), ascending 0 n) in (
       (omega (arith, nodes-long ends (weighed_node (no_leader_mix leaf n)) 0 n)),

@@ -1,6 +1,6 @@
 -- The nodes that say that a leader is left: the leaders are a trap, some input starts there, and not all are absent.
-use Rattle.std.proofs.Common.{◌≡◌, ◌≢◌, ◌⊎◌, inl, inr, subst, ℕ, zero, suc, ◌+◌, ◌<◌, ◌≤◌, Bool, true, false, ◌&&◌, ◌||◌, List, [], ◌∷◌, ◌++◌, length, map, get_or, replicate, refl, ap, sym, ◌∙◌, zero-add, arith}
-use Rattle.std.specs.Prelude.{ℤ, pos, negsuc, ◌+ℤ◌, ◌*ℤ◌, ◌≤ℤ◌, if◌then◌else◌, not, ◌==◌, All}
+use Rattle.std.proofs.Common.{◌≡◌, ◌≢◌, ◌⊎◌, inl, inr, subst, ℕ, zero, suc, ◌+◌, ◌<◌, ◌≤◌, Bool, true, false, ◌&&◌, ◌||◌, List, [], ◌∷◌, ◌++◌, length, map, get_or, replicate, append_assoc, refl, ap, sym, ◌∙◌, zero-add, arith}
+use Rattle.std.specs.Prelude.{ℤ, pos, negsuc, neg_ℤ, ◌+ℤ◌, ◌*ℤ◌, ◌≤ℤ◌, if◌then◌else◌, not, ◌==◌, All}
 use Rattle.std.specs.List.{range_with_len}
 use Rattle.std.proofs.lemmas.Int.{ints}
 use Rattle.std.proofs.Math.IntN.{zero-*ℤ, *ℤ_comm}
@@ -16,15 +16,16 @@ use Rattle.pop_net.specs.LeafModel.{LeafModel}
 use Rattle.pres_ast.specs.PredModel.{PredModel}
 use Rattle.cert_base.specs.declared.fact.Fact.{Fact}
 use Rattle.cert_base.specs.declared.fact.Fact.TheVariants.{Ge, Eq, Holds}
-use Rattle.cert_base.specs.Rows.{terms_from, zeros, single_row, input_variable}
+use Rattle.cert_base.specs.Rows.{terms_from, zeros, single_row, constant_row, input_variable}
 use Rattle.cert_base.specs.ClosingTests.{coefficient_in, row_of, closes_by_sum, may_add}
-use Rattle.cert_base.specs.FactsAndCases.{indicator, states_of, flow, base_list, two_agents_fact, wrong_output_fact, absent_fact, count_row, is_in, takes_from, puts_into, places_from, some_taken_fact, no_moves, no_start_facts}
+use Rattle.cert_base.specs.FactsAndCases.{indicator, states_of, flow, base_list, two_agents_fact, wrong_output_fact, absent_fact, count_row, is_in, takes_from, puts_into, places_from, some_taken_fact, no_moves, no_start_facts, helpers_among, no_helper_facts}
 use Rattle.cert_base.proofs.TermLists.{terms_from-zeros}
 use Rattle.cert_base.specs.WeightedSums.{sum_of_facts, coefficient, constant_of, may_weigh}
 use Rattle.cert_base.specs.WeightedSums.{total}
-use Rattle.comp_trees.specs.LeaderTree.{leaders, facts_of_trap, facts_without, IsLed, no_leader_mix, no_leak_mix, no_start_mix}
+use Rattle.comp_trees.specs.LeaderTree.{leaders, facts_of_trap, facts_without, IsLed, no_leader_mix, no_leak_mix, no_input_mix, helped_mix, no_start_mix}
 use Rattle.cert_base.proofs.WeightedSums.{weighted_sum-append, weighted_sum-zeros, may_weigh-append, may_weigh-zeros, linear_closes-weighted}
-use Rattle.cert_base.proofs.FlowSums.{coefficient-dense, total-same, total-none, total-none_range, total-one, weighted_sum-map, each_variable, times-one}
+use Rattle.cert_base.proofs.FlowSums.{coefficient-dense, total-same, total-none, total-none_range, total-one, weighted_sum-map, each_variable, times-one, mul-neg}
+use Rattle.comp_trees.proofs.HelperSums.{count-all}
 use Rattle.comp_trees.proofs.LeaderEnds.{absent-at, shifted, may_weigh-eqs, apart, apart_past}
 use Rattle.list_laws.proofs.Numbers.{same_turned}
 
@@ -213,7 +214,7 @@ module _ (leaf : LeafModel) (pred : PredModel) (b : Bool) (opened : Fact) (n : �
   length_fourth : length (not_taken ++ not_started) ≡ length (zeros (length leaf.moves) ++ minus_ones)
   length_fourth = omega (arith, length-append not_taken not_started, length-append (zeros (length leaf.moves)) minus_ones, length_third, length_started, length-replicate (length leaf.inputs) (negsuc 0))
 
-  start_sum : (value : Fact → ℤ) → sum_of_facts value start_facts (no_start_mix leaf) ≡ (value (two_agents_fact leaf) +ℤ total (λ i. negsuc 0 *ℤ value (started i)) (range_with_len 0 (length leaf.inputs)))
+  start_sum : (value : Fact → ℤ) → sum_of_facts value start_facts (no_input_mix leaf) ≡ (value (two_agents_fact leaf) +ℤ total (λ i. negsuc 0 *ℤ value (started i)) (range_with_len 0 (length leaf.inputs)))
   start_sum value =
       let e1 = weighted_sum-append value (base ++ opened ∷ []) ((not_taken ++ not_started) ++ no_count ∷ []) (first_by ++ pos 0 ∷ []) ((zeros (length leaf.moves) ++ minus_ones) ++ pos 0 ∷ []) length_second in
       let e2 = weighted_sum-append value base (opened ∷ []) first_by (pos 0 ∷ []) length_first in
@@ -230,7 +231,7 @@ module _ (leaf : LeafModel) (pred : PredModel) (b : Bool) (opened : Fact) (n : �
       let last : sum_of_facts value not_started minus_ones ≡ total (λ i. negsuc 0 *ℤ value (started i)) (range_with_len 0 (length leaf.inputs)) = ap (λ fs. sum_of_facts value fs minus_ones) not_started_is ∙ ap (sum_of_facts value (map started (range_with_len 0 (length leaf.inputs)))) (sym (range-constant (negsuc 0) 0 (length leaf.inputs))) ∙ weighted_sum-map value started (λ i. negsuc 0) (range_with_len 0 (length leaf.inputs)) in
       omega (arith, ints, e1, e2, e3, e4, e5, z1, z2, z3, z4, z5, z6, one, last)
 
-  start_may : may_weigh may_add start_facts (no_start_mix leaf) ≡ true
+  start_may : may_weigh may_add start_facts (no_input_mix leaf) ≡ true
   start_may =
       let m1 = may_weigh-append may_add flows (two_agents_fact leaf ∷ Holds pred b ∷ wrong_output_fact leaf b ∷ []) (zeros (length leaf.states)) (pos 1 ∷ pos 0 ∷ pos 0 ∷ []) length_flows (may_weigh-zeros may_add flows (length leaf.states) (omega (arith, length-map-range_with_len (flow leaf) 0 (length leaf.states)))) refl in
       let m2 = may_weigh-append may_add base (opened ∷ []) first_by (pos 0 ∷ []) length_first m1 refl in
@@ -262,7 +263,7 @@ module _ (leaf : LeafModel) (pred : PredModel) (b : Bool) (opened : Fact) (n : �
   started_out x l =
       total-none_range (λ j. negsuc 0 *ℤ coefficient x (started j)) 0 (length leaf.inputs) (λ j m. ap (λ c. negsuc 0 *ℤ c) (started-at j x ∙ ap indicator (ne_eqb j x (apart_high (length leaf.inputs) j x (omega arith) l))))
 
-  start_low : (x : ℕ) → (x < length leaf.inputs) ⊎ (length leaf.inputs ≤ x) → sum_of_facts (coefficient x) start_facts (no_start_mix leaf) ≤ℤ pos 0
+  start_low : (x : ℕ) → (x < length leaf.inputs) ⊎ (length leaf.inputs ≤ x) → sum_of_facts (coefficient x) start_facts (no_input_mix leaf) ≤ℤ pos 0
   start_low x (inl l) =
       let e = start_sum (coefficient x) in
       let f = two-at x ∙ get_or-replicate (length leaf.inputs) x (pos 1) (pos 0) l in
@@ -274,11 +275,87 @@ module _ (leaf : LeafModel) (pred : PredModel) (b : Bool) (opened : Fact) (n : �
       let g = started_out x l in
       omega (arith, ints, e, f, g)
 
-  pub no_start_closes : closes_by_sum start_facts (terms_from 0 (no_start_mix leaf)) ≡ true
-  no_start_closes =
-      linear_closes-weighted start_facts (no_start_mix leaf) start_may
+  no_input_closes : length leaf.helpers ≡ 0 → closes_by_sum start_facts (terms_from 0 (no_input_mix leaf)) ≡ true
+  no_input_closes none =
+      linear_closes-weighted start_facts (no_input_mix leaf) start_may
       (λ x. start_low x (cases_lt x (length leaf.inputs)))
-      (let e = start_sum constant_of in let f = total-none (λ (i : ℕ). negsuc 0 *ℤ pos 0) (range_with_len 0 (length leaf.inputs)) (λ i. refl) in let h = ap length is.helpers in omega (arith, ints, e, f, h))
+      (let e = start_sum constant_of in let f = total-none (λ (i : ℕ). negsuc 0 *ℤ pos 0) (range_with_len 0 (length leaf.inputs)) (λ i. refl) in omega (arith, ints, e, f, none))
+
+  -- ---- or a helper does
+
+  abbrev helped : Fact
+  helped = Eq (constant_row (pos (helpers_among leaf (leaders n))))
+
+  abbrev helped_facts : List Fact
+  helped_facts = (base ++ opened ∷ []) ++ ((not_taken ++ not_started) ++ no_count ∷ helped ∷ [])
+
+  helpers_are : helpers_among leaf (leaders n) ≡ length leaf.helpers
+  helpers_are =
+      count-all (is_in (leaders n)) leaf.helpers (All-weaker (λ q. q < n) (λ q. is_in (leaders n) q ≡ true) (λ q l. is_in-yes n q l) leaf.helpers is.helpers)
+
+  abbrev before : List Fact
+  before = (not_taken ++ not_started) ++ no_count ∷ []
+
+  abbrev before_by : List ℤ
+  before_by = zeros (length leaf.moves + length leaf.inputs + 1)
+
+  length_before : length before ≡ length leaf.moves + length leaf.inputs + 1
+  length_before = omega (arith, length-append (not_taken ++ not_started) (no_count ∷ []), length-append not_taken not_started, length_taken, length_started)
+
+  length_high : length (base ++ opened ∷ []) ≡ length (zeros (length leaf.states + 4))
+  length_high = length_opened ∙ sym (length-replicate (length leaf.states + 4) (pos 0))
+
+  length_low : length before ≡ length before_by
+  length_low = length_before ∙ sym (length-replicate (length leaf.moves + length leaf.inputs + 1) (pos 0))
+
+  helped_split : helped_facts ≡ (base ++ opened ∷ []) ++ (before ++ helped ∷ [])
+  helped_split = ap (λ (fs : List Fact). (base ++ opened ∷ []) ++ fs) (sym (append_assoc (not_taken ++ not_started) (no_count ∷ []) (helped ∷ [])))
+
+  helped_sum : (value : Fact → ℤ) → sum_of_facts value ((base ++ opened ∷ []) ++ (before ++ helped ∷ [])) (helped_mix leaf) ≡ neg_ℤ (value helped)
+  helped_sum value =
+      let e1 = weighted_sum-append value (base ++ opened ∷ []) (before ++ helped ∷ []) (zeros (length leaf.states + 4)) (before_by ++ negsuc 0 ∷ []) length_high in
+      let e2 = weighted_sum-append value before (helped ∷ []) before_by (negsuc 0 ∷ []) length_low in
+      let z1 = weighted_sum-zeros value (base ++ opened ∷ []) (length leaf.states + 4) in
+      let z2 = weighted_sum-zeros value before (length leaf.moves + length leaf.inputs + 1) in
+      let one : (negsuc 0 *ℤ value helped) ≡ neg_ℤ (value helped) = *ℤ_comm (negsuc 0) (value helped) ∙ mul-neg (value helped) (pos 1) ∙ ap neg_ℤ (times-one (value helped)) in
+      omega (arith, ints, e1, e2, z1, z2, one)
+
+  helped_may : may_weigh may_add ((base ++ opened ∷ []) ++ (before ++ helped ∷ [])) (helped_mix leaf) ≡ true
+  helped_may =
+      may_weigh-append may_add (base ++ opened ∷ []) (before ++ helped ∷ []) (zeros (length leaf.states + 4)) (before_by ++ negsuc 0 ∷ []) length_high
+      (may_weigh-zeros may_add (base ++ opened ∷ []) (length leaf.states + 4) (omega (arith, length_opened)))
+      (may_weigh-append may_add before (helped ∷ []) before_by (negsuc 0 ∷ []) length_low (may_weigh-zeros may_add before (length leaf.moves + length leaf.inputs + 1) (omega (arith, length_before))) refl)
+
+  helped_closes : 1 ≤ length leaf.helpers → closes_by_sum ((base ++ opened ∷ []) ++ (before ++ helped ∷ [])) (terms_from 0 (helped_mix leaf)) ≡ true
+  helped_closes some =
+      linear_closes-weighted ((base ++ opened ∷ []) ++ (before ++ helped ∷ [])) (helped_mix leaf) helped_may
+      (λ x. let e = helped_sum (coefficient x) in omega (arith, ints, e))
+      (let e = helped_sum constant_of in let h = helpers_are in omega (arith, ints, e, h, some))
+
+  abbrev nobody_facts : List Fact
+  nobody_facts = (base ++ opened ∷ []) ++ ((not_taken ++ not_started) ++ no_count ∷ no_helper_facts leaf (leaders n))
+
+  abbrev closes_nobody : Bool → Bool → Type 0
+  closes_nobody counted listed =
+      closes_by_sum ((base ++ opened ∷ []) ++ ((not_taken ++ not_started) ++ no_count ∷ (if counted then [] else (helped ∷ [])))) (terms_from 0 (if listed then no_input_mix leaf else helped_mix leaf)) ≡ true
+
+  pub no_start_closes : closes_by_sum nobody_facts (terms_from 0 (no_start_mix leaf)) ≡ true
+  no_start_closes =
+      subst (λ (c : Bool). closes_nobody c (length leaf.helpers == 0)) (sym (ap (λ (h : ℕ). h == 0) helpers_are)) (go (eqb_tells (length leaf.helpers) 0))
+    where
+      go : ((length leaf.helpers == 0) ≡ true) × (length leaf.helpers ≡ 0) ⊎ ((length leaf.helpers == 0) ≡ false) × (length leaf.helpers ≢ 0) → closes_nobody (length leaf.helpers == 0) (length leaf.helpers == 0)
+      go (inl h) = subst (λ (c : Bool). closes_nobody c c) (sym h.0) (no_input_closes h.1)
+      go (inr h) =
+          subst (λ (c : Bool). closes_nobody c c) (sym h.0) (subst (λ (fs : List Fact). closes_by_sum fs (terms_from 0 (helped_mix leaf)) ≡ true) (sym helped_split) (helped_closes (let ne = h.1 in omega (arith, ne))))
+
+  pub length_nobody : length nobody_facts ≤ length leaf.states + length leaf.moves + length leaf.inputs + 6
+  length_nobody =
+      let tail = short (helpers_among leaf (leaders n) == 0) in
+      omega (arith, length-append (base ++ opened ∷ []) ((not_taken ++ not_started) ++ no_count ∷ no_helper_facts leaf (leaders n)), length-append (not_taken ++ not_started) (no_count ∷ no_helper_facts leaf (leaders n)), length-append not_taken not_started, length_taken, length_started, length_opened, tail)
+    where
+      short : (c : Bool) → length (if c then [] else (helped ∷ [])) ≤ 1
+      short true = omega arith
+      short false = omega arith
 
   -- ---- not all leaders are absent
 

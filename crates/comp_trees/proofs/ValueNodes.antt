@@ -15,13 +15,13 @@ use Rattle.cert_base.specs.declared.fact.Fact.TheVariants.{NotCong}
 use Rattle.cert_base.specs.Rows.{terms_from, input_row}
 use Rattle.cert_base.specs.ClosingTests.{closes_by_sum, closes_by_residue, may_add, may_add_modulo, coefficient_in}
 use Rattle.cert_base.specs.FactsAndCases.{base_list, can_meet_in}
-use Rattle.cert_base.specs.WeightedSums.{sum_of_facts, coefficient, constant_of}
+use Rattle.cert_base.specs.WeightedSums.{sum_of_facts, coefficient, constant_of, total}
 use Rattle.comp_trees.specs.LeaderTree.{facts_of_trap, facts_without, value_mix}
 use Rattle.cert_base.proofs.WeightedSums.{linear_closes-weighted, residue_closes-constant, residue_closes-denied}
 use Rattle.cert_base.proofs.FlowSums.{each_variable, times-one, mul-neg}
 use Rattle.comp_trees.proofs.LeaderEnds.{all_facts, value_terms, IsOpened, may_leader, value-input, value-state, value-move, value-past, value-constant, opened-at}
 
-module _ (leaf : LeafModel) (pred : PredModel) (b : Bool) (opened : Fact) (n p : ℕ) (twin : can_meet_in leaf p p ≡ true) (below : p < length leaf.states) (inputs : All (λ q. q < length leaf.states) leaf.inputs) (moves : All (IsMoveBelow (length leaf.states)) leaf.moves) (no_helpers : leaf.helpers ≡ []) (coefs : List ℤ) (constant : ℤ) (is : IsOpened leaf pred b opened n p twin coefs constant) where
+module _ (leaf : LeafModel) (pred : PredModel) (b : Bool) (opened : Fact) (n p : ℕ) (twin : can_meet_in leaf p p ≡ true) (below : p < length leaf.states) (inputs : All (λ q. q < length leaf.states) leaf.inputs) (moves : All (IsMoveBelow (length leaf.states)) leaf.moves) (helpers : All (λ q. q < length leaf.states) leaf.helpers) (coefs : List ℤ) (constant : ℤ) (is : IsOpened leaf pred b opened n p twin coefs constant) where
   abbrev facts : List Fact
   facts = all_facts leaf pred b opened n p twin
 
@@ -50,8 +50,8 @@ module _ (leaf : LeafModel) (pred : PredModel) (b : Bool) (opened : Fact) (n p :
   a_move : Move
   a_move = record { p = 0; q = 0; r = 0; s = 0 }
 
-  pub value_closes : (w : ℕ → ℤ) → may_add (pos 1) opened ≡ true → ((i : ℕ) → i < length leaf.inputs → (w (get_or leaf.inputs i 0) +ℤ get_or coefs i (pos 0)) ≤ℤ pos 0) → All (λ m. (w m.r +ℤ w m.s) ≤ℤ (w m.p +ℤ w m.q)) leaf.moves → ((z : ℕ) → z < length leaf.states → z ≢ p → can_meet_in leaf p z ≡ false → pos 0 ≤ℤ w z) → (constant -ℤ w p) ≤ℤ negsuc 0 → closes_by_sum facts (terms_from 0 (by_values w (pos 1))) ≡ true
-  value_closes w may at_inputs at_moves at_states last =
+  pub value_closes : (w : ℕ → ℤ) → total w leaf.helpers ≡ pos 0 → may_add (pos 1) opened ≡ true → ((i : ℕ) → i < length leaf.inputs → (w (get_or leaf.inputs i 0) +ℤ get_or coefs i (pos 0)) ≤ℤ pos 0) → All (λ m. (w m.r +ℤ w m.s) ≤ℤ (w m.p +ℤ w m.q)) leaf.moves → ((z : ℕ) → z < length leaf.states → z ≢ p → can_meet_in leaf p z ≡ false → pos 0 ≤ℤ w z) → (constant -ℤ w p) ≤ℤ negsuc 0 → closes_by_sum facts (terms_from 0 (by_values w (pos 1))) ≡ true
+  value_closes w worthless may at_inputs at_moves at_states last =
       linear_closes-weighted facts (by_values w (pos 1))
       (may_leader may_add (λ a row. refl) leaf pred b opened n p (value_mix w (pos 1) p) twin refl may)
       (each_variable leaf (λ x. sum_of_facts (coefficient x) facts (by_values w (pos 1)) ≤ℤ pos 0)
@@ -59,7 +59,7 @@ module _ (leaf : LeafModel) (pred : PredModel) (b : Bool) (opened : Fact) (n p :
       (λ z l. subst (λ c. c ≤ℤ pos 0) (sym (value-state leaf pred b opened n p twin w (pos 1) coefs constant z is l)) (state_passes (λ c. c ≤ℤ pos 0) w z (omega (arith, ints)) (λ ne e. let f = at_states z l ne e in omega (arith, ints, f))))
       (λ t l. let e = value-move leaf pred b opened n p twin w (pos 1) coefs constant t a_move is below l (move_below t a_move l) in let f = All-get_or (λ m. (w m.r +ℤ w m.s) ≤ℤ (w m.p +ℤ w m.q)) leaf.moves t a_move l at_moves in omega (arith, ints, e, f))
       (λ j. let e = value-past leaf pred b opened n p twin w (pos 1) coefs constant j is below in omega (arith, ints, e)))
-      (let e = value-constant leaf pred b opened n p twin w (pos 1) coefs constant no_helpers is in let g = *ℤ_comm (pos 1) constant ∙ times-one constant in omega (arith, ints, e, last, g))
+      (let e = value-constant leaf pred b opened n p twin w (pos 1) coefs constant helpers worthless is in let g = *ℤ_comm (pos 1) constant ∙ times-one constant in omega (arith, ints, e, last, g))
 
   -- what holds for the values modulo m
   pub record AreEven (m : ℕ) (w : ℕ → ℤ) : Type 0 where
@@ -71,8 +71,8 @@ module _ (leaf : LeafModel) (pred : PredModel) (b : Bool) (opened : Fact) (n p :
   minus_one a = *ℤ_comm (negsuc 0) a ∙ mul-neg a (pos 1) ∙ ap neg_ℤ (times-one a)
 
   -- the opened fact is a congruence
-  pub residue_closes-true : (m : ℕ) (w : ℕ → ℤ) → is_multiple m (pos 0) ≡ true → may_add_modulo m (negsuc 0) opened ≡ true → AreEven m w → is_multiple m (neg_ℤ constant -ℤ w p) ≡ false → closes_by_residue facts m (terms_from 0 (by_values w (negsuc 0))) ≡ true
-  residue_closes-true m w none may even odd =
+  pub residue_closes-true : (m : ℕ) (w : ℕ → ℤ) → total w leaf.helpers ≡ pos 0 → is_multiple m (pos 0) ≡ true → may_add_modulo m (negsuc 0) opened ≡ true → AreEven m w → is_multiple m (neg_ℤ constant -ℤ w p) ≡ false → closes_by_residue facts m (terms_from 0 (by_values w (negsuc 0))) ≡ true
+  residue_closes-true m w worthless none may even odd =
       residue_closes-constant facts m (by_values w (negsuc 0))
       (may_leader (may_add_modulo m) (λ a row. refl) leaf pred b opened n p (value_mix w (negsuc 0) p) twin refl may)
       (each_variable leaf (λ x. is_multiple m (sum_of_facts (coefficient x) facts (by_values w (negsuc 0))) ≡ true)
@@ -80,7 +80,7 @@ module _ (leaf : LeafModel) (pred : PredModel) (b : Bool) (opened : Fact) (n p :
       (λ z l. ap (is_multiple m) (value-state leaf pred b opened n p twin w (negsuc 0) coefs constant z is l) ∙ state_passes (λ c. is_multiple m c ≡ true) w z none (even.of_states z l))
       (λ t l. ap (is_multiple m) (value-move leaf pred b opened n p twin w (negsuc 0) coefs constant t a_move is below l (move_below t a_move l)) ∙ All-get_or (λ t. is_multiple m ((w t.r +ℤ w t.s) -ℤ (w t.p +ℤ w t.q)) ≡ true) leaf.moves t a_move l even.of_moves)
       (λ j. ap (is_multiple m) (value-past leaf pred b opened n p twin w (negsuc 0) coefs constant j is below) ∙ none))
-      (ap (is_multiple m) (value-constant leaf pred b opened n p twin w (negsuc 0) coefs constant no_helpers is ∙ ap (λ c. c -ℤ w p) (minus_one constant)) ∙ odd)
+      (ap (is_multiple m) (value-constant leaf pred b opened n p twin w (negsuc 0) coefs constant helpers worthless is ∙ ap (λ c. c -ℤ w p) (minus_one constant)) ∙ odd)
 
   opened_there : Contains facts opened
   opened_there =
@@ -90,13 +90,13 @@ module _ (leaf : LeafModel) (pred : PredModel) (b : Bool) (opened : Fact) (n p :
       (Contains-append_right (base_list leaf pred b) (opened ∷ []) opened (0, (let e : 0 < length (opened ∷ []) = omega arith in e), refl))))
 
   -- the opened fact denies a congruence
-  pub residue_closes-false : (m : ℕ) (w : ℕ → ℤ) → is_multiple m (pos 0) ≡ true → opened ≡ NotCong (input_row coefs constant) m → AreEven m w → is_multiple m (neg_ℤ (w p) -ℤ constant) ≡ true → closes_by_residue facts m (terms_from 0 (by_values w (pos 0))) ≡ true
-  residue_closes-false m w none opened_is even same =
+  pub residue_closes-false : (m : ℕ) (w : ℕ → ℤ) → total w leaf.helpers ≡ pos 0 → is_multiple m (pos 0) ≡ true → opened ≡ NotCong (input_row coefs constant) m → AreEven m w → is_multiple m (neg_ℤ (w p) -ℤ constant) ≡ true → closes_by_residue facts m (terms_from 0 (by_values w (pos 0))) ≡ true
+  residue_closes-false m w worthless none opened_is even same =
       residue_closes-denied facts m (by_values w (pos 0)) (input_row coefs constant) (subst (Contains facts) opened_is opened_there)
       (may_leader (may_add_modulo m) (λ a row. refl) leaf pred b opened n p (value_mix w (pos 0) p) twin refl refl)
       (each_variable leaf (λ x. is_multiple m (sum_of_facts (coefficient x) facts (by_values w (pos 0)) +ℤ (negsuc 0 *ℤ coefficient_in (input_row coefs constant).terms x)) ≡ true)
       at_input at_state at_move at_past)
-      (let e = value-constant leaf pred b opened n p twin w (pos 0) coefs constant no_helpers is in
+      (let e = value-constant leaf pred b opened n p twin w (pos 0) coefs constant helpers worthless is in
       let z = zero-*ℤ constant in
       let f = minus_one constant in
       ap (is_multiple m) (let h : (sum_of_facts constant_of facts (by_values w (pos 0)) +ℤ (negsuc 0 *ℤ constant)) ≡ (neg_ℤ (w p) -ℤ constant) = omega (arith, ints, e, z, f) in h) ∙ same)

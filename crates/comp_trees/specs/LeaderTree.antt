@@ -68,10 +68,19 @@ abbrev pub no_leak_mix : LeafModel → List ℤ
 no_leak_mix leaf = zeros (length leaf.states + 4) ++ pos 1 ∷ []
 
 -- there are at least two agents, and no input starts among the leaders
-abbrev pub no_start_mix : LeafModel → List ℤ
-no_start_mix leaf =
+abbrev pub no_input_mix : LeafModel → List ℤ
+no_input_mix leaf =
     ((zeros (length leaf.states) ++ pos 1 ∷ pos 0 ∷ pos 0 ∷ []) ++ pos 0 ∷ [])
     ++ ((zeros (length leaf.moves) ++ replicate (length leaf.inputs) (negsuc 0)) ++ pos 0 ∷ [])
+
+-- no helper starts among the leaders
+abbrev pub helped_mix : LeafModel → List ℤ
+helped_mix leaf =
+    zeros (length leaf.states + 4) ++ (zeros (length leaf.moves + length leaf.inputs + 1) ++ negsuc 0 ∷ [])
+
+-- nobody starts among the leaders
+abbrev pub no_start_mix : LeafModel → List ℤ
+no_start_mix leaf = if length leaf.helpers == 0 then no_input_mix leaf else helped_mix leaf
 
 abbrev pub weighed_node : List ℤ → Node
 weighed_node multipliers = Linear (terms_from 0 multipliers)
@@ -106,16 +115,16 @@ value_mix value opened p =
       alone = value p;
     }
 
--- what a leaf with n leaders has: no helpers, each input is a leader, each move puts a leader first, and each leader
+-- what a leaf with n leaders has: each helper and each input is a leader, each move puts a leader first, and each leader
 -- can meet itself
 pub record IsLed (leaf : LeafModel) (n : ℕ) : Type 0 where
-  pub helpers : leaf.helpers ≡ []
+  pub helpers : All (λ q. q < n) leaf.helpers
   pub leaders : n ≤ length leaf.states
   pub inputs : All (λ q. q < n) leaf.inputs
   pub moves : All (λ t. t.r < n) leaf.moves
   pub twins : (p : ℕ) → p < n → can_meet_in leaf p p ≡ true
   -- the longest case is that the leaders were never marked
-  pub few : length leaf.states + length leaf.moves + length leaf.inputs + 5 ≤ FACT_LIMIT
+  pub few : length leaf.states + length leaf.moves + length leaf.inputs + 6 ≤ FACT_LIMIT
 
 -- ---- as the code builds them
 

@@ -1,2 +1,4 @@
+pub mod SortedLayers
+pub mod DefinedLeaf
 pub mod LeaderTree
 pub mod BuiltLeaf

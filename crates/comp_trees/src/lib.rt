@@ -1,6 +1,7 @@
-//! Trees of cases for a leaf in which leaders turn the others.
-//! It stands on `cert_base`, and on the lists of `comp_layers`.
-//! The layer above uses: `tree` and `multipliers` are the defined ones; `leader_tree-closes` says when one closes.
+//! Trees of cases, and layers by kinds of moves, for a leaf in which leaders turn the others.
+//! It stands on `cert_base`.
+//! The layer above uses: `tree`, `multipliers`, `company`, `picked` and `layer` are the defined ones;
+//! `leader_tree-closes` says when a tree closes, and `sorted_layers-valid` when layers are valid.
 //!
 //! Agents start as leaders, and each move leaves a leader. So the leaders are a trap that is marked at the start, and
 //! one is left at the end. Any two leaders can meet, so at a terminal end there is no other. Each leader in turn is
@@ -11,6 +12,9 @@
 mod mixing;
 mod others;
 mod preorder;
+mod sorting;
 
-pub use mixing::{MULTIPLIER_LIMIT, multipliers, terms, weighed};
+pub use mixing::{MULTIPLIER_LIMIT, multipliers, picked, terms, weighed};
+pub use others::company;
 pub use preorder::tree;
+pub use sorting::layer;

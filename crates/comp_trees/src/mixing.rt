@@ -78,7 +78,7 @@ fn own(
 }
 
 /// The multipliers of these states.
-fn picked(alloc: Global, out: &[i64], states: &[u16]) -> Result<Vec<i64>, NoMemory>
+pub fn picked(alloc: Global, out: &[i64], states: &[u16]) -> Result<Vec<i64>, NoMemory>
     requires { All (λ q. q < length out.now) states.now }
     ensures { IfOk result (λ multipliers. multipliers.items ≡ map (λ q. slice_index_or out.now q (pos 0)) states.now) }
 {

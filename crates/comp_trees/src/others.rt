@@ -10,7 +10,7 @@ use pop_net::Leaf;
 use std::alloc::Global;
 
 /// The other states that can meet this one, in ascending order.
-pub(crate) fn company(alloc: Global, leaf: &Leaf, state: u16) -> Result<Vec<u16>, NoMemory>
+pub fn company(alloc: Global, leaf: &Leaf, state: u16) -> Result<Vec<u16>, NoMemory>
     requires { state < length leaf.now.states }
     ensures states { IfOk result (λ states. states.items ≡ company_of leaf.now state) }
     ensures below { IfOk result (λ states. All (λ q. q < length leaf.now.states) states.items) }

@@ -4,7 +4,7 @@ ghost use Rattle.std.specs.Prelude.{◌≡◌, ◌++◌, ◌≤◌, ◌+◌, map
 ghost use Rattle.std.specs.List.{range_with_len};
 ghost use Rattle.cert_base.specs.declared.node.Node.TheVariants.{Present as present_node};
 ghost use Rattle.comp_trees.specs.LeaderTree.{tree_of_ends, no_leak_mix, no_start_mix};
-ghost use Rattle.comp_trees.specs.LeaderTree.{no_leader_mix, top_nodes, weighed_node};
+ghost use Rattle.comp_trees.specs.LeaderTree.{no_input_mix, helped_mix, no_leader_mix, top_nodes, weighed_node};
 
 use crate::mixing::{MULTIPLIER_LIMIT, weighed};
 use cert_base::Node;
@@ -96,6 +96,29 @@ fn no_leak_by(alloc: Global, leaf: &Leaf) -> Result<Vec<i64>, NoMemory>
 
 fn no_start_by(alloc: Global, leaf: &Leaf) -> Result<Vec<i64>, NoMemory>
     ensures list { IfOk result (λ multipliers. multipliers.items ≡ no_start_mix leaf.now) }
+    ensures short { IfOk result (λ multipliers. length multipliers.items ≤ MULTIPLIER_LIMIT) }
+{
+    if leaf.helper_count() == 0 {
+        no_input_by(alloc, leaf)
+    } else {
+        helped_by(alloc, leaf)
+    }
+}
+
+fn helped_by(alloc: Global, leaf: &Leaf) -> Result<Vec<i64>, NoMemory>
+    ensures list { IfOk result (λ multipliers. multipliers.items ≡ helped_mix leaf.now) }
+    ensures short { IfOk result (λ multipliers. length multipliers.items ≤ MULTIPLIER_LIMIT) }
+{
+    let mut multipliers = vec![in alloc; 0i64; usize::from(leaf.state_count()) + 4]?;
+    let started = leaf.move_count() as usize + usize::from(leaf.input_count());
+    let mut own = vec![in alloc; 0i64; started + 1]?;
+    own.push(-1)?;
+    multipliers.extend_from_slice(own.as_slice())?;
+    Ok(multipliers)
+}
+
+fn no_input_by(alloc: Global, leaf: &Leaf) -> Result<Vec<i64>, NoMemory>
+    ensures list { IfOk result (λ multipliers. multipliers.items ≡ no_input_mix leaf.now) }
     ensures short { IfOk result (λ multipliers. length multipliers.items ≤ MULTIPLIER_LIMIT) }
 {
     let mut multipliers = vec![in alloc; 0i64; usize::from(leaf.state_count())]?;

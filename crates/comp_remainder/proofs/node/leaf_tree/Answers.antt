@@ -8,8 +8,8 @@ use Rattle.comp_remainder.proofs.node.leaf_tree.Goals as goal
 
 pub tree-requires : goal.tree-requires
 tree-requires c =
-    omega (arith, ap length c.in_ok-nodes.ensures, length-map-range_with_len (remainder_leader_node c.args.leaf.now c.args.modulus c.args.rest c.args.answer) 0 c.args.modulus, c.requires.states)
+    omega (arith, ap length c.in_ok-nodes.ensures, length-map-range_with_len (remainder_leader_node c.args.leaf.now c.args.modulus.number c.args.rest c.args.answer) 0 c.args.modulus.number, c.requires.states)
 
 pub returns : goal.returns
 returns c =
-    IfOk-weaker c.tree.result _ _ (λ nodes h. h ∙ ap (tree_of_ends c.args.leaf.now) c.in_ok-nodes.ensures ∙ tree-flat c.args.leaf.now c.args.modulus (remainder_leader_node c.args.leaf.now c.args.modulus c.args.rest c.args.answer)) c.tree.ensures
+    IfOk-weaker c.tree.result _ _ (λ nodes h. h ∙ ap (tree_of_ends c.args.leaf.now) c.in_ok-nodes.ensures ∙ tree-flat c.args.leaf.now c.args.modulus.number (remainder_leader_node c.args.leaf.now c.args.modulus.number c.args.rest c.args.answer)) c.tree.ensures

@@ -1,4 +1,4 @@
-use Rattle.comp_layers.proofs.Members.{map_range_push}
+use Rattle.comp_trees.proofs.Members.{map_range_push}
 use Rattle.comp_threshold.specs.ThresholdProof.{threshold_leader_node}
 use Rattle.comp_threshold.proofs.node.ends.Goals as goal
 

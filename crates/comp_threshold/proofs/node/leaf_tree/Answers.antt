@@ -3,7 +3,7 @@ use Rattle.std.proofs.lemmas.Result.{IfOk-weaker}
 use Rattle.std.proofs.lemmas.List.FromFn.{length-map-range_with_len}
 use Rattle.comp_trees.specs.LeaderTree.{tree_of_ends}
 use Rattle.comp_trees.proofs.TreeOfEnds.{tree-flat}
-use Rattle.comp_threshold_leaf.specs.ThresholdLeaf.{span_of}
+use Rattle.comp_threshold.specs.ThresholdLeaf.{span_of}
 use Rattle.comp_threshold.specs.ThresholdProof.{threshold_leader_node}
 use Rattle.comp_threshold.proofs.node.leaf_tree.Goals as goal
 

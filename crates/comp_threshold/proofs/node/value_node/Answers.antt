@@ -6,7 +6,7 @@ use Rattle.std.proofs.lemmas.Result.{IfOk-weaker}
 use Rattle.std.proofs.lemmas.List.FromFn.{length-map-range_with_len}
 use Rattle.comp_trees.specs.LeaderTree.{company_of, mix_by, mix_of_leader, weighed_node}
 use Rattle.comp_trees.proofs.SameMix.{listed_mix}
-use Rattle.comp_threshold_leaf.specs.ThresholdLeaf.{threshold_state_count}
+use Rattle.comp_threshold.specs.ThresholdLeaf.{threshold_state_count}
 use Rattle.comp_threshold.specs.ThresholdProof.{signed_value}
 use Rattle.comp_threshold.proofs.node.value_node.Goals as goal
 

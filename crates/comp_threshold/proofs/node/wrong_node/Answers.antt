@@ -7,7 +7,7 @@ use Rattle.cert_base.specs.FactsAndCases.{states_of, indicator, differs}
 use Rattle.comp_trees.specs.LeaderTree.{weighed_node}
 use Rattle.comp_trees.proofs.SameMix.{listed_mix, map-same}
 use Rattle.comp_trees.proofs.TrapNodes.{range-constant}
-use Rattle.comp_threshold_leaf.specs.ThresholdLeaf.{threshold_state_count, threshold_output}
+use Rattle.comp_threshold.specs.ThresholdLeaf.{threshold_state_count, threshold_output}
 use Rattle.comp_threshold.specs.ThresholdProof.{wrong_sign}
 use Rattle.comp_threshold.proofs.node.wrong_node.Goals as goal
 use Rattle.list_laws.proofs.Ranges.{all_range}

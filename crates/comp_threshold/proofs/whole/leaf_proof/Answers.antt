@@ -2,8 +2,8 @@ use Rattle.std.proofs.Common.{◌∙◌, ap, length, arith, rules, w64, SFits}
 use Rattle.std.specs.Prelude.{nat_abs}
 use Rattle.std.proofs.lemmas.Int.{to_z-of_z}
 use Rattle.pres_ast.specs.PredTree.{LessThan}
-use Rattle.comp_threshold_leaf.specs.ThresholdLeaf.{place_of_value}
-use Rattle.comp_threshold_leaf.proofs.Places.{width-bound}
+use Rattle.comp_threshold.specs.ThresholdLeaf.{place_of_value}
+use Rattle.comp_threshold.proofs.Places.{width-bound}
 use Rattle.comp_threshold.proofs.Valid.{whole-valid, outputs-are, states-are}
 use Rattle.comp_threshold.proofs.whole.leaf_proof.Goals as goal
 

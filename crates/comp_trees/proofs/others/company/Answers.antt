@@ -1,7 +1,7 @@
 use Rattle.std.proofs.Common.{length, arith}
 use Rattle.std.specs.Prelude.{not, ◌==◌, ◌&&◌}
 use Rattle.cert_base.specs.FactsAndCases.{can_meet_in}
-use Rattle.comp_trees.proofs.Company.{filter_range_more, filter_range_below}
+use Rattle.comp_trees.proofs.FilteredRanges.{filter_range_more, filter_range_below}
 use Rattle.comp_trees.proofs.others.company.Goals as goal
 
 pub loop-q-preserved : goal.loop-q-preserved

@@ -1,0 +1,73 @@
+-- Powers of 2, and the sizes of states.
+use Rattle.std.proofs.Common.{◌≡◌, ◌⊎◌, ◌∙◌, inl, inr, ℕ, zero, suc, ◌+◌, ◌-◌, ◌^◌, ◌<◌, ◌≤◌, true, refl, ap, arith}
+use Rattle.std.specs.Prelude.{pos, ◌-ℤ◌, ◌*ℤ◌, int_le}
+use Rattle.std.specs.List.{range_with_len}
+use Rattle.std.proofs.lemmas.Int.{ints}
+use Rattle.std.proofs.Math.Pow.{pow-lt}
+use Rattle.std.proofs.Math.Nat.{pow-le-pow_right, one-le-pow, two-pow-succ}
+use Rattle.std.proofs.lemmas.Bool.{cases_lt, ne_eqb}
+use Rattle.cert_base.specs.WeightedSums.{total}
+use Rattle.cert_base.proofs.FlowSums.{times-one}
+use Rattle.comp_flock.specs.declared.limits.TheConstants.{POWER_LIMIT}
+use Rattle.comp_flock.specs.FlockLeaf.{size_in}
+use Rattle.cert_base.proofs.WeightedSums.{le-test}
+
+pub power-double : (i : ℕ) → 2 ^ (i + 1) ≡ 2 ^ i + 2 ^ i
+power-double i = ap (λ m. 2 ^ m) (let e : i + 1 ≡ suc i = omega arith in e) ∙ two-pow-succ i
+
+pub power-some : (i : ℕ) → 1 ≤ 2 ^ i
+power-some i = one-le-pow i 2 (omega arith)
+
+pub power-le : (i j : ℕ) → i ≤ j → 2 ^ i ≤ 2 ^ j
+power-le i j l = pow-le-pow_right (let some : 0 < 2 = omega arith in some) l
+
+pub power_small : (k : ℕ) → k ≤ POWER_LIMIT → 2 ^ k ≤ 549755813888
+power_small k l = power-le k 39 l
+
+-- the size of state i + 1
+pub size-power : (i : ℕ) → size_in (i + 1) ≡ 2 ^ i
+size-power i =
+    let some = ne_eqb (i + 1) 0 (λ e. omega arith) in
+    let less : i + 1 - 1 ≡ i = omega arith in
+    rw (some, less) refl
+
+size-suc : (i : ℕ) → size_in (suc i) ≡ 2 ^ i
+size-suc i = ap size_in (let e : suc i ≡ i + 1 = omega arith in e) ∙ size-power i
+
+-- the size of a later state
+pub size-at : (q i : ℕ) → q ≡ i + 1 → size_in q ≡ 2 ^ i
+size-at q i e = ap size_in e ∙ size-power i
+
+pub size-le : (k q : ℕ) → q ≤ k + 1 → size_in q ≤ 2 ^ k
+size-le k zero l = omega (arith, power-some k)
+size-le k (suc i) l = let e = size-suc i in let m = power-le i k (omega arith) in omega (arith, e, m)
+
+pub size-apart : (p q : ℕ) → p < q → size_in p < size_in q
+size-apart p zero l = absurd (omega arith)
+size-apart zero (suc j) l = let e = size-suc j in let m = power-some j in omega (arith, e, m)
+size-apart (suc i) (suc j) l =
+    let e = size-suc i in let f = size-suc j in let m = pow-lt (let k : i < j = omega arith in k) in omega (arith, e, f, m)
+
+pub size-injective : (p q : ℕ) → size_in p ≡ size_in q → p ≡ q
+size-injective p q e = go (cases_lt p q) (cases_lt q p)
+  where
+    go : (p < q) ⊎ (q ≤ p) → (q < p) ⊎ (p ≤ q) → p ≡ q
+    go (inl l) m = let f = size-apart p q l in absurd (omega arith)
+    go (inr l) (inl m) = let f = size-apart q p m in absurd (omega arith)
+    go (inr l) (inr m) = omega arith
+
+-- the sizes of n states from state a + 1 on
+pub sizes-total : (a n : ℕ) → total (λ q. pos (size_in q) *ℤ pos 1) (range_with_len (a + 1) n) ≡ (pos (2 ^ (a + n)) -ℤ pos (2 ^ a))
+sizes-total a zero =
+    let same : 2 ^ (a + 0) ≡ 2 ^ a = ap (λ m. 2 ^ m) (let e : a + 0 ≡ a = omega arith in e) in omega (arith, ints, same)
+sizes-total a (suc n) =
+    let rest = sizes-total (a + 1) n in
+    let here = times-one (pos (size_in (a + 1))) in
+    let size = size-power a in
+    let double = power-double a in
+    let same : 2 ^ (a + suc n) ≡ 2 ^ (a + 1 + n) = ap (λ m. 2 ^ m) (let e : a + suc n ≡ a + 1 + n = omega arith in e) in
+    omega (arith, ints, rest, here, size, double, same)
+
+-- a number that is no less than 0
+pub zero_le : (n : ℕ) → int_le (pos 0) (pos n) ≡ true
+zero_le n = le-test (pos 0) (pos n) (omega (arith, ints))

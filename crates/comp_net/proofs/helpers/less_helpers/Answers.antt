@@ -1,0 +1,13 @@
+use Rattle.std.proofs.Common.{◌∙◌, sym, arith}
+use Rattle.comp_net.proofs.Chosen.{range_found}
+use Rattle.comp_net.proofs.helpers.less_helpers.Goals as goal
+
+pub overflow_add-result : goal.overflow_add-result
+overflow_add-result c =
+    let low = range_found c.args.choice c.args.coefs.now _ c.in-Powers.range (sym c.less_leaf.ensures ∙ c.in-Powers.is) in
+    omega (arith, low)
+
+pub returns-in-Powers-clause-few : goal.returns-in-Powers-clause-few
+returns-in-Powers-clause-few c =
+    let low = range_found c.args.choice c.args.coefs.now _ c.in-Powers.range (sym c.less_leaf.ensures ∙ c.in-Powers.is) in
+    omega (arith, low)

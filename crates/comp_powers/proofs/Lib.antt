@@ -1,0 +1,13 @@
+pub mod Mixes
+pub mod Layers
+pub mod Own
+pub mod Nodes
+pub mod Tops
+pub mod Closing
+pub mod Within
+pub mod MoveBelow
+pub mod ByPlace
+pub mod Steps
+pub mod Listed
+pub mod Parts
+pub mod Small

@@ -1,0 +1,216 @@
+//! What the states count, as multipliers: each list has one for each state.
+
+ghost use Rattle.std.specs.Prelude.{◌≡◌, ◌<◌, ◌≤◌, ◌^◌, pos, length, map, IfOk};
+ghost use Rattle.std.specs.List.{range_with_len};
+ghost use Rattle.cert_base.specs.FactsAndCases.{states_of};
+ghost use Rattle.comp_powers_leaf.specs.declared.limits.TheConstants.{RANGE_LIMIT};
+ghost use Rattle.comp_powers_leaf.specs.PowersLeaf.{worth, role_at, IsRole, HasRange, roles as all_roles};
+ghost use Rattle.comp_powers.specs.PowersProof.{by_role, credit, minus_credit, minus_worth, minus_ready, minus_wrong};
+ghost use Rattle.comp_powers.specs.PowersProof.{AreStates};
+
+use comp_powers_leaf::{Role, owed_by, two_to};
+use pop_io::NoMemory;
+use pop_net::Leaf;
+use std::alloc::Global;
+
+/// What a state is worth.
+fn worth_of(coefs: &[i64], k: u32, role: Role) -> i64
+    requires range { HasRange coefs.now k }
+    requires there { IsRole coefs.now k role }
+    ensures { result ≡ worth coefs.now k role }
+{
+    match role {
+        Role::Low => -(two_to(k) as i64),
+        Role::High => 0,
+        Role::Nothing(_) => 0,
+        Role::Piece(i, _) => two_to(u32::from(i)) as i64,
+        Role::Plus => two_to(k) as i64,
+        Role::Debtor(j) => coefs[usize::from(j)],
+        Role::Token(j, i) => {
+            let owed = owed_by(k, coefs[usize::from(j)]);
+            (owed % two_to(u32::from(i) + 1)) as i64
+        }
+    }
+}
+
+/// What it is worth, but 0 for hubs and debtors.
+fn credit_of(coefs: &[i64], k: u32, role: Role) -> i64
+    requires range { HasRange coefs.now k }
+    requires there { IsRole coefs.now k role }
+    ensures { result ≡ credit coefs.now k role }
+{
+    match role {
+        Role::Low => 0,
+        Role::Debtor(_) => 0,
+        _ => worth_of(coefs, k, role),
+    }
+}
+
+/// -1, but 0 for those that wait.
+fn ready_of(role: Role) -> i64
+    ensures { result ≡ minus_ready role }
+{
+    match role {
+        Role::Nothing(_) => -1,
+        Role::Piece(_, _) => -1,
+        Role::Plus => -1,
+        _ => 0,
+    }
+}
+
+/// The role of a state.
+fn role_in(coefs: &[i64], k: u32, roles: &[Role], q: u16) -> Role
+    requires roles { roles.now ≡ all_roles coefs.now k }
+    requires state { q < length roles.now }
+    ensures role { result ≡ role_at coefs.now k q }
+    ensures there { IsRole coefs.now k result }
+{
+    roles[usize::from(q)]
+}
+
+fn worth_at(coefs: &[i64], k: u32, roles: &[Role], q: u16) -> i64
+    requires range { HasRange coefs.now k }
+    requires roles { roles.now ≡ all_roles coefs.now k }
+    requires state { q < length roles.now }
+    ensures { result ≡ by_role coefs.now k (worth coefs.now k) q }
+{
+    worth_of(coefs, k, role_in(coefs, k, roles, q))
+}
+
+fn owed_at(coefs: &[i64], k: u32, roles: &[Role], q: u16) -> i64
+    requires range { HasRange coefs.now k }
+    requires roles { roles.now ≡ all_roles coefs.now k }
+    requires state { q < length roles.now }
+    ensures { result ≡ by_role coefs.now k (minus_worth coefs.now k) q }
+{
+    -worth_of(coefs, k, role_in(coefs, k, roles, q))
+}
+
+fn lost_at(coefs: &[i64], k: u32, roles: &[Role], q: u16) -> i64
+    requires range { HasRange coefs.now k }
+    requires roles { roles.now ≡ all_roles coefs.now k }
+    requires state { q < length roles.now }
+    ensures { result ≡ by_role coefs.now k (minus_credit coefs.now k) q }
+{
+    -credit_of(coefs, k, role_in(coefs, k, roles, q))
+}
+
+fn wrong_at(leaf: &Leaf, b: bool, q: u16) -> i64
+    requires { q < length leaf.now.states }
+    ensures { result ≡ minus_wrong leaf.now b q }
+{
+    if leaf.output(q) == b { 0 } else { -1 }
+}
+
+/// The same for all states.
+pub(crate) fn same(alloc: Global, leaf: &Leaf, value: i64) -> Result<Vec<i64>, NoMemory>
+    ensures { IfOk result (λ flows. flows.items ≡ map (λ q. value) (states_of leaf.now)) }
+{
+    let flows = vec![in alloc; value; usize::from(leaf.state_count())]?;
+    Ok(flows)
+}
+
+/// What they are worth.
+pub(crate) fn worths(
+    alloc: Global,
+    leaf: &Leaf,
+    coefs: &[i64],
+    k: u32,
+    roles: &[Role],
+) -> Result<Vec<i64>, NoMemory>
+    requires { AreStates leaf.now coefs.now k roles.now }
+    ensures { IfOk result (λ flows. flows.items ≡ map (by_role coefs.now k (worth coefs.now k)) (states_of leaf.now)) }
+{
+    let flows = (0..leaf.state_count())
+        .map(|q| worth_at(coefs, k, roles, q))
+        .collect(alloc)?;
+    Ok(flows)
+}
+
+/// Minus what they are worth.
+pub(crate) fn owed(
+    alloc: Global,
+    leaf: &Leaf,
+    coefs: &[i64],
+    k: u32,
+    roles: &[Role],
+) -> Result<Vec<i64>, NoMemory>
+    requires { AreStates leaf.now coefs.now k roles.now }
+    ensures { IfOk result (λ flows.
+        flows.items ≡ map (by_role coefs.now k (minus_worth coefs.now k)) (states_of leaf.now)) }
+{
+    let flows = (0..leaf.state_count())
+        .map(|q| owed_at(coefs, k, roles, q))
+        .collect(alloc)?;
+    Ok(flows)
+}
+
+/// Minus what they are worth, but 0 for hubs and debtors.
+pub(crate) fn lost(
+    alloc: Global,
+    leaf: &Leaf,
+    coefs: &[i64],
+    k: u32,
+    roles: &[Role],
+) -> Result<Vec<i64>, NoMemory>
+    requires { AreStates leaf.now coefs.now k roles.now }
+    ensures { IfOk result (λ flows.
+        flows.items ≡ map (by_role coefs.now k (minus_credit coefs.now k)) (states_of leaf.now)) }
+{
+    let flows = (0..leaf.state_count())
+        .map(|q| lost_at(coefs, k, roles, q))
+        .collect(alloc)?;
+    Ok(flows)
+}
+
+fn ready_at(coefs: &[i64], k: u32, roles: &[Role], q: u16) -> i64
+    requires roles { roles.now ≡ all_roles coefs.now k }
+    requires state { q < length roles.now }
+    ensures { result ≡ by_role coefs.now k minus_ready q }
+{
+    ready_of(role_in(coefs, k, roles, q))
+}
+
+/// -1, but 0 for those that wait.
+pub(crate) fn ready(
+    alloc: Global,
+    leaf: &Leaf,
+    coefs: &[i64],
+    k: u32,
+    roles: &[Role],
+) -> Result<Vec<i64>, NoMemory>
+    requires { AreStates leaf.now coefs.now k roles.now }
+    ensures { IfOk result (λ flows. flows.items ≡ map (by_role coefs.now k minus_ready) (states_of leaf.now)) }
+{
+    let flows = (0..leaf.state_count())
+        .map(|q| ready_at(coefs, k, roles, q))
+        .collect(alloc)?;
+    Ok(flows)
+}
+
+/// -1 for those with another output than the predicate's value.
+pub(crate) fn wrong(alloc: Global, leaf: &Leaf, b: bool) -> Result<Vec<i64>, NoMemory>
+    ensures { IfOk result (λ flows. flows.items ≡ map (minus_wrong leaf.now b) (states_of leaf.now)) }
+{
+    let flows = (0..leaf.state_count())
+        .map(|q| wrong_at(leaf, b, q))
+        .collect(alloc)?;
+    Ok(flows)
+}
+
+/// 2^i.
+pub(crate) fn size(i: u32) -> i64
+    requires { i ≤ RANGE_LIMIT }
+    ensures { result ≡ pos (2 ^ i) }
+{
+    two_to(i) as i64
+}
+
+/// The powers below 2^k.
+pub(crate) fn sizes(alloc: Global, k: u32) -> Result<Vec<i64>, NoMemory>
+    requires { k ≤ RANGE_LIMIT }
+    ensures { IfOk result (λ sizes. sizes.items ≡ map (λ i. pos (2 ^ i)) (range_with_len 0 k)) }
+{
+    let sizes = (0..k).map(|i| size(i)).collect(alloc)?;
+    Ok(sizes)
+}

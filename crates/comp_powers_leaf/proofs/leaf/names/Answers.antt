@@ -1,0 +1,7 @@
+use Rattle.comp_trees.proofs.Members.{map_range_push}
+use Rattle.comp_powers_leaf.specs.PowersLeaf.{state_name_at}
+use Rattle.comp_powers_leaf.proofs.leaf.names.Goals as goal
+
+pub loop-q-preserved : goal.loop-q-preserved
+loop-q-preserved c =
+    map_range_push state_name_at c.loop-q.q c.loop-q.names.items c.push.new.self.items c.in_ok-name_of.field-0 c.loop-q.invariant c.in_ok-name_of.ensures c.in_ok-push.ensures.items
