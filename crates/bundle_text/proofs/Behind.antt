@@ -20,3 +20,7 @@ seven t0 t1 t2 t3 t4 t5 t6 t7 a b c d e f g h1 h2 h3 h4 h5 h6 h7 =
 pub nine : (t0 t1 t2 t3 t4 t5 t6 t7 t8 t9 a b c d e f g h i : List ℕ) → t1 ≡ t0 ++ a → t2 ≡ t1 ++ b → t3 ≡ t2 ++ c → t4 ≡ t3 ++ d → t5 ≡ t4 ++ e → t6 ≡ t5 ++ f → t7 ≡ t6 ++ g → t8 ≡ t7 ++ h → t9 ≡ t8 ++ i → t9 ≡ t0 ++ (a ++ (b ++ (c ++ (d ++ (e ++ (f ++ (g ++ (h ++ i))))))))
 nine t0 t1 t2 t3 t4 t5 t6 t7 t8 t9 a b c d e f g h i h1 h2 h3 h4 h5 h6 h7 h8 h9 =
     behind t0 t1 t9 a (b ++ (c ++ (d ++ (e ++ (f ++ (g ++ (h ++ i))))))) h1 (behind t1 t2 t9 b (c ++ (d ++ (e ++ (f ++ (g ++ (h ++ i)))))) h2 (seven t2 t3 t4 t5 t6 t7 t8 t9 c d e f g h i h3 h4 h5 h6 h7 h8 h9))
+
+-- three pieces before a rest
+pub headed : (a b c rest : List ℕ) → (a ++ (b ++ c)) ++ rest ≡ a ++ (b ++ (c ++ rest))
+headed a b c rest = append_assoc a (b ++ c) rest ∙ ap (λ t. a ++ t) (append_assoc b c rest)

@@ -1,2 +1,3 @@
 pub mod Bundle
+pub mod LeafText
 pub mod ReadBack

@@ -1,8 +1,7 @@
 //! A bundle as one line of JSON text.
 
-ghost use Rattle.std.specs.Prelude.{◌≡◌, ◌++◌, false, All, length, OnOk};
+ghost use Rattle.std.specs.Prelude.{◌≡◌, ◌++◌, All, length, OnOk};
 ghost use Rattle.serde_json.specs.Written.{compact_text};
-ghost use Rattle.net_json.specs.Written.{is_helped};
 ghost use Rattle.bundle_text.specs.Bundle.{bundle_data};
 
 use crate::net::write_net;
@@ -13,11 +12,10 @@ use pop_io::NoMemory;
 use pres_read::print_pred;
 use std::alloc::Global;
 
-/// Adds the text of a bundle whose net has no helpers: no spaces, no line feed, and the members in the byte order of
+/// Adds the text of a bundle: no spaces, no line feed, and the members in the byte order of
 /// their names. Besides the text it holds at most one name or predicate at a time.
 #[tactic(auto, unfolding(crate::specs::Bundle::bundle_data))]
 pub fn write_bundle(alloc: Global, out: &mut Vec<u8>, bundle: &Bundle) -> Result<(), NoMemory>
-    requires no_helpers { is_helped bundle.now.net ≡ false }
     requires variables { bundle.now.pred.variables ≡ length bundle.now.net.variables }
     requires parts { All (λ part. part.pred.variables ≡ length bundle.now.net.variables) bundle.now.proof.leaves }
     ensures { OnOk result (out.new.items ≡ out.old.items ++ compact_text (bundle_data bundle.now)) }

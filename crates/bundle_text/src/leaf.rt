@@ -1,8 +1,9 @@
-//! A leaf without helpers as JSON text.
+//! A leaf as JSON text.
 
-ghost use Rattle.std.specs.Prelude.{◌≡◌, ◌++◌, false, OnOk};
+ghost use Rattle.std.specs.Prelude.{◌≡◌, ◌++◌, true, OnOk};
 ghost use Rattle.serde_json.specs.Written.{compact_text};
 ghost use Rattle.net_json.specs.Written.{move_data, leaf_data};
+ghost use Rattle.bundle_text.specs.LeafText.{leaf_head};
 
 use crate::list::{WriteItems, write_list};
 use crate::pieces::{push_quoted, push_text, push_truth};
@@ -10,6 +11,12 @@ use pop_io::NoMemory;
 use pop_lines::push_number;
 use pop_net::{Leaf, Move};
 use std::alloc::{AllocError, Global};
+
+/// The states in which helpers start.
+#[derive(Drop)]
+struct Helpers<'n> {
+    leaf: &'n Leaf,
+}
 
 /// The states in which agents start, one for each variable.
 #[derive(Drop)]
@@ -46,6 +53,25 @@ fn push_move(out: &mut Vec<u8>, t: Move) -> Result<(), AllocError>
     push_number(out, u64::from(t.s))?;
     push_text(out, b"]")?;
     Ok(())
+}
+
+impl WriteItems for Helpers<'_> {
+    ghost use Rattle.std.specs.Prelude.{⊤, map};
+    ghost use Rattle.net_json.specs.Written.{number_data};
+
+    ghost can_write = { λ _. ⊤ };
+
+    ghost items = { λ list. map number_data list.leaf.now.helpers };
+
+    fn count(&self) -> usize {
+        self.leaf.helper_count() as usize
+    }
+
+    fn write(&self, _alloc: Global, out: &mut Vec<u8>, i: usize) -> Result<(), NoMemory> {
+        let _formed = self.leaf.helper_count();
+        push_number(out, u64::from(self.leaf.helper(i as u32)))?;
+        Ok(())
+    }
 }
 
 impl WriteItems for Inputs<'_> {
@@ -123,10 +149,38 @@ impl WriteItems for States<'_> {
     }
 }
 
-pub(crate) fn write_leaf(alloc: Global, out: &mut Vec<u8>, leaf: &Leaf) -> Result<(), NoMemory>
-    ensures { OnOk result (out.new.items ≡ out.old.items ++ compact_text (leaf_data false leaf.now)) }
+/// The helpers, and what stands between them and the inputs.
+fn write_helpers(alloc: Global, out: &mut Vec<u8>, leaf: &Leaf) -> Result<(), NoMemory>
+    ensures { OnOk result (out.new.items ≡ out.old.items ++ leaf_head true leaf.now) }
 {
-    push_text(out, b"{\"input\":")?;
+    push_text(out, b"{\"helpers\":")?;
+    write_list(alloc, out, &Helpers { leaf })?;
+    push_text(out, b",\"input\":")?;
+    Ok(())
+}
+
+/// What stands before a leaf's inputs.
+fn write_head(alloc: Global, out: &mut Vec<u8>, helped: bool, leaf: &Leaf) -> Result<(), NoMemory>
+    ensures { OnOk result (out.new.items ≡ out.old.items ++ leaf_head helped leaf.now) }
+{
+    if helped {
+        write_helpers(alloc, out, leaf)?;
+    } else {
+        push_text(out, b"{\"input\":")?;
+    }
+    Ok(())
+}
+
+/// In the format with or without helpers.
+pub(crate) fn write_leaf(
+    alloc: Global,
+    out: &mut Vec<u8>,
+    helped: bool,
+    leaf: &Leaf,
+) -> Result<(), NoMemory>
+    ensures { OnOk result (out.new.items ≡ out.old.items ++ compact_text (leaf_data helped leaf.now)) }
+{
+    write_head(alloc, out, helped, leaf)?;
     write_list(alloc, out, &Inputs { leaf })?;
     push_text(out, b",\"moves\":")?;
     write_list(alloc, out, &Moves { leaf })?;

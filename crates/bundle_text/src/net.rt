@@ -1,8 +1,8 @@
-//! A net without helpers as JSON text.
+//! A net as JSON text.
 
-ghost use Rattle.std.specs.Prelude.{◌≡◌, ◌++◌, false, OnOk};
+ghost use Rattle.std.specs.Prelude.{◌≡◌, ◌++◌, OnOk};
 ghost use Rattle.serde_json.specs.Written.{compact_text};
-ghost use Rattle.net_json.specs.Written.{net_data, is_helped, item_data};
+ghost use Rattle.net_json.specs.Written.{net_data, format_of, item_data};
 
 use crate::leaf::write_leaf;
 use crate::list::{WriteItems, write_list};
@@ -13,7 +13,10 @@ use pop_net::{Item, Net};
 use std::alloc::{AllocError, Global};
 
 /// The format of nets without helpers.
-const FORMAT: u64 = 1;
+const PLAIN_FORMAT: u64 = 1;
+
+/// The format of nets with helpers.
+const HELPER_FORMAT: u64 = 2;
 
 /// The combination in postfix.
 #[derive(Drop)]
@@ -21,9 +24,11 @@ struct Combination<'n> {
     net: &'n Net,
 }
 
+/// The leaves, in the format with or without helpers.
 #[derive(Drop)]
 struct Leaves<'n> {
     net: &'n Net,
+    helped: bool,
 }
 
 /// The names of the variables.
@@ -64,12 +69,12 @@ impl WriteItems for Combination<'_> {
 }
 
 impl WriteItems for Leaves<'_> {
-    ghost use Rattle.std.specs.Prelude.{⊤, map, false};
+    ghost use Rattle.std.specs.Prelude.{⊤, map};
     ghost use Rattle.net_json.specs.Written.{leaf_data};
 
     ghost can_write = { λ _. ⊤ };
 
-    ghost items = { λ list. map (leaf_data false) list.net.now.leaves };
+    ghost items = { λ list. map (leaf_data list.helped) list.net.now.leaves };
 
     fn count(&self) -> usize {
         self.net.leaf_count() as usize
@@ -77,7 +82,7 @@ impl WriteItems for Leaves<'_> {
 
     fn write(&self, alloc: Global, out: &mut Vec<u8>, i: usize) -> Result<(), NoMemory> {
         let _formed = self.net.leaf_count();
-        write_leaf(alloc, out, self.net.leaf(i as u8))
+        write_leaf(alloc, out, self.helped, self.net.leaf(i as u8))
     }
 }
 
@@ -98,16 +103,23 @@ impl WriteItems for Names<'_> {
     }
 }
 
+/// The number of the format with or without helpers.
+fn format_number(helped: bool) -> u64
+    ensures { result ≡ format_of helped }
+{
+    if helped { HELPER_FORMAT } else { PLAIN_FORMAT }
+}
+
 pub(crate) fn write_net(alloc: Global, out: &mut Vec<u8>, net: &Net) -> Result<(), NoMemory>
-    requires { is_helped net.now ≡ false }
     ensures { OnOk result (out.new.items ≡ out.old.items ++ compact_text (net_data net.now)) }
 {
+    let helped = 0 < net.helper_count();
     push_text(out, b"{\"combine\":")?;
     write_list(alloc, out, &Combination { net })?;
     push_text(out, b",\"format\":")?;
-    push_number(out, FORMAT)?;
+    push_number(out, format_number(helped))?;
     push_text(out, b",\"leaves\":")?;
-    write_list(alloc, out, &Leaves { net })?;
+    write_list(alloc, out, &Leaves { net, helped })?;
     push_text(out, b",\"vars\":")?;
     let names = net.var_names().as_slice();
     write_list(alloc, out, &Names { names })?;

@@ -12,16 +12,16 @@ use Rattle.pop_words.specs.declared.spec.RunSpec.{RunSpec}
 use Rattle.pop_words.specs.declared.options.RunOption.{RunOption}
 use Rattle.pop_words.specs.declared.options.RunOption.TheVariants.{Workers, Shards, Turns, Seed}
 use Rattle.pop_words.specs.declared.command.Command.{Command}
-use Rattle.pop_words.specs.declared.command.Command.TheVariants.{Play, Eval, Check, Run, Watch, Replay, ReplayWatched, Settle, Compile, Flocks, Demo}
+use Rattle.pop_words.specs.declared.command.Command.TheVariants.{Play, Eval, Check, Show, Run, Watch, Replay, ReplayWatched, Settle, Compile, Flocks, Succinct, Demo}
 use Rattle.pop_words.specs.declared.command.Usage.{Usage}
 use Rattle.pop_words.specs.declared.command.UsageWhy.{UsageWhy}
-use Rattle.pop_words.specs.declared.command.UsageWhy.TheVariants.{Missing, Unknown, Product}
-use Rattle.pop_words.specs.declared.words.Flag.{Flag}
-use Rattle.pop_words.specs.declared.words.Flag.TheVariants.{OfCompile, OfReplay}
+use Rattle.pop_words.specs.declared.command.UsageWhy.TheVariants.{Missing, Product}
+use Rattle.pop_words.specs.declared.words.Flags.{Flags}
+use Rattle.pop_words.specs.declared.words.Flags.TheVariants.{OfCompile, OfReplay}
 use Rattle.pop_words.specs.declared.words.Form.{Form}
 use Rattle.pop_words.specs.declared.words.Form.TheVariants.{Alone, WithOptions, WithNumber, WithFlag}
 use Rattle.pop_words.specs.Options.{least_of, most_of, default_of, name_of, number_behind, option_value, spec_of, bad_at, run_with, or_fault, first_fault, options_meaning, IsWithin, IsWithinLimits}
-use Rattle.pop_words.specs.Words.{form_named, commands, no_more, run_command, to_run, demo_with, demo_meaning, flag_name, flagged_command, behind_flag, flag_meaning, meaning_behind, meaning_of}
+use Rattle.pop_words.specs.Words.{row_of, form_named, commands, no_more, run_command, to_run, demo_with, demo_meaning, flag_rows, flagged_command, behind_flag, flag_meaning, meaning_behind, meaning_of}
 
 pub default_within : (kind : RunKind) (option : RunOption) → IsWithin kind option (default_of option)
 default_within Whole Workers = (omega arith, omega arith)
@@ -72,6 +72,7 @@ abbrev AreBounded : Command → Type 0
 AreBounded Play = Unit {0}
 AreBounded Eval = Unit {0}
 AreBounded Check = Unit {0}
+AreBounded Show = Unit {0}
 AreBounded (Run spec) = IsBounded Whole spec
 AreBounded (Watch spec) = IsBounded Watched spec
 AreBounded Replay = Unit {0}
@@ -79,6 +80,7 @@ AreBounded ReplayWatched = Unit {0}
 AreBounded Settle = Unit {0}
 AreBounded Compile = Unit {0}
 AreBounded Flocks = Unit {0}
+AreBounded Succinct = Unit {0}
 AreBounded (Demo number) = number ≤ DEMO_LIMIT
 
 spec_within : (kind : RunKind) (words : List (List ℕ)) → IsWithinLimits (spec_of kind words) × ((spec_of kind words).workers ≤ most_workers_of kind)
@@ -112,20 +114,20 @@ abbrev FormIsBounded : Form → Type 0
 FormIsBounded (Alone command) = AreBounded command
 FormIsBounded (WithOptions kind) = Unit {0}
 FormIsBounded WithNumber = Unit {0}
-FormIsBounded (WithFlag flag) = Unit {0}
+FormIsBounded (WithFlag flags) = Unit {0}
 
-found_row : (row : List ℕ × Form) (rest : Option (List ℕ × Form)) (b : Bool) → FormIsBounded row.1 → IfSome (option_map (λ row. row.1) rest) FormIsBounded
-    → IfSome (option_map (λ row. row.1) (if b then Some row else rest)) FormIsBounded
-found_row row rest true here later = here
-found_row row rest false here later = later
+found_row : {A : Type 0} (P : A → Type 0) (row : List ℕ × A) (rest : Option (List ℕ × A)) (b : Bool) → P row.1 → IfSome (option_map (λ row. row.1) rest) P
+    → IfSome (option_map (λ row. row.1) (if b then Some row else rest)) P
+found_row P row rest true here later = here
+found_row P row rest false here later = later
 
-abbrev AllBounded : List (List ℕ × Form) → Type 0
-AllBounded [] = Unit {0}
-AllBounded (row ∷ rows) = FormIsBounded row.1 × AllBounded rows
+abbrev AllRows : {A : Type 0} → (A → Type 0) → List (List ℕ × A) → Type 0
+AllRows P [] = Unit {0}
+AllRows P (row ∷ rows) = P row.1 × AllRows P rows
 
-found : (p : List ℕ × Form → Bool) (rows : List (List ℕ × Form)) → AllBounded rows → IfSome (option_map (λ row. row.1) (find p rows)) FormIsBounded
-found p [] all = tt
-found p (row ∷ rows) all = found_row row (find p rows) (p row) all.0 (found p rows all.1)
+found : {A : Type 0} (P : A → Type 0) (word : List ℕ) (rows : List (List ℕ × A)) → AllRows P rows → IfSome (row_of word rows) P
+found P word [] all = tt
+found P word (row ∷ rows) all = found_row P row (find (λ row. bytes_eq word row.0) rows) (bytes_eq word row.0) all.0 (found P word rows all.1)
 
 alone_within : (command : Command) (words : List (List ℕ)) → AreBounded command → IfOk (no_more command words) AreBounded
 alone_within command [] is = is
@@ -140,20 +142,19 @@ number_limits : (words : List (List ℕ)) → IfOk (demo_meaning words) AreBound
 number_limits [] = tt
 number_limits (number ∷ rest) = demo_within (number_of_within 0 DEMO_LIMIT number) rest (within 0 DEMO_LIMIT (number_of number))
 
-flagged_within : (flag : Flag) (rest : List (List ℕ)) → IfOk (behind_flag (flagged_command flag) rest) AreBounded
-flagged_within OfCompile [] = tt
-flagged_within OfReplay [] = tt
-flagged_within OfCompile (word ∷ rest) = tt
-flagged_within OfReplay (word ∷ rest) = tt
+rows_within : (flags : Flags) → AllRows AreBounded (flag_rows flags)
+rows_within OfCompile = (tt, (tt, tt))
+rows_within OfReplay = (tt, tt)
 
-flag_or_not : (flag : Flag) (rest : List (List ℕ)) (b : Bool) → IfOk (if b then behind_flag (flagged_command flag) rest else bad_at 1 Unknown) AreBounded
-flag_or_not flag rest true = flagged_within flag rest
-flag_or_not flag rest false = tt
+flagged_within : (command : Option Command) (rest : List (List ℕ)) → IfSome command AreBounded → IfOk (behind_flag command rest) AreBounded
+flagged_within None rest is = tt
+flagged_within (Some command) [] is = is
+flagged_within (Some command) (word ∷ rest) is = tt
 
-flag_within : (flag : Flag) (words : List (List ℕ)) → IfOk (flag_meaning flag words) AreBounded
+flag_within : (flags : Flags) (words : List (List ℕ)) → IfOk (flag_meaning flags words) AreBounded
 flag_within OfCompile [] = tt
 flag_within OfReplay [] = tt
-flag_within flag (word ∷ rest) = flag_or_not flag rest (bytes_eq word (flag_name flag))
+flag_within flags (word ∷ rest) = flagged_within (flagged_command flags word) rest (found AreBounded word (flag_rows flags) (rows_within flags))
 
 behind_within : (form : Option Form) (words : List (List ℕ)) → IfSome form FormIsBounded → IfOk (meaning_behind form words) AreBounded
 behind_within None words is = tt
@@ -163,12 +164,12 @@ behind_within (Some (WithOptions kind)) words is =
     (fault_within kind (first_fault kind words) (run_with kind words)
     (run_within kind words (length words % 2 == 1) (nat_lt MEETING_LIMIT ((spec_of kind words).workers * (spec_of kind words).turns)) refl))
 behind_within (Some WithNumber) words is = number_limits words
-behind_within (Some (WithFlag flag)) words is = flag_within flag words
+behind_within (Some (WithFlag flags)) words is = flag_within flags words
 
 meaning_bounded : (words : List (List ℕ)) → IfOk (meaning_of words) AreBounded
 meaning_bounded [] = tt
 meaning_bounded (first ∷ words) =
-    behind_within (form_named first) words (found (λ row. bytes_eq first row.0) commands (tt, (tt, (tt, (tt, (tt, (tt, (tt, (tt, (tt, tt))))))))))
+    behind_within (form_named first) words (found FormIsBounded first commands (tt, (tt, (tt, (tt, (tt, (tt, (tt, (tt, (tt, (tt, tt)))))))))))
 
 of_kind : (kind : RunKind) (spec : RunSpec) → AreBounded (run_command kind spec) → IsBounded kind spec
 of_kind Whole spec is = is

@@ -6,8 +6,9 @@ use Rattle.std.specs.Str.{bytes_eq}
 use Rattle.pop_io.specs.Gives.{Gives}
 use Rattle.pop_lines.specs.Lines.{pieces}
 use Rattle.pop_lines.specs.Numbers.{small_number_of}
-use Rattle.pop_words.specs.declared.counts.CountFault.{CountFault}
-use Rattle.pop_words.specs.declared.counts.CountFault.TheVariants.{Count, NoMemory}
+use Rattle.pop_io.specs.declared.failure.Failure.{Failure}
+use Rattle.pop_io.specs.Failures.{fault_of}
+use Rattle.pop_words.specs.declared.counts.BadWord.{BadWord}
 
 -- what precedes the first byte c, and what follows it
 abbrev pub split_once : ℕ → List ℕ → Option (List ℕ × List ℕ)
@@ -52,11 +53,10 @@ with_zeros (Err word) = Err word
 unfoldable pub counts_of : List (List ℕ) → List ℕ → Result (List ℕ) ℕ
 counts_of names line = with_zeros (counts_behind names (pieces 32 line))
 
--- the bad word, unless out of memory
-abbrev pub bad_word_of : CountFault → Option ℕ
-bad_word_of NoMemory = None
-bad_word_of (Count word) = Some word
+-- the number of the bad word, unless out of memory
+abbrev pub bad_word_of : Failure BadWord → Option ℕ
+bad_word_of failure = option_map (λ bad. bad.0) (fault_of failure)
 
 -- what a function returned is what was read, unless out of memory
-abbrev pub Counted : {A : Type 0} → Result A CountFault → Result A ℕ → Type 0
+abbrev pub Counted : {A : Type 0} → Result A (Failure BadWord) → Result A ℕ → Type 0
 Counted result read = Gives bad_word_of (λ counts. counts) result read

@@ -6,8 +6,9 @@ use Rattle.std.specs.Str.{bytes_eq}
 use Rattle.pop_io.specs.Names.{variable_name, AreNames}
 use Rattle.pop_io.specs.declared.names.TheConstants.{VARIABLE_LIMIT}
 use Rattle.pop_lines.specs.Lines.{pieces}
-use Rattle.pop_words.specs.declared.vars.VarsFault.{VarsFault}
-use Rattle.pop_words.specs.declared.vars.VarsFault.TheVariants.{Form, NoMemory}
+use Rattle.pop_io.specs.declared.failure.Failure.{Failure}
+use Rattle.pop_io.specs.declared.failure.Failure.TheVariants.{Fault, NoMemory}
+use Rattle.pop_words.specs.declared.vars.NoVars.{NoVars}
 
 -- no name is equal to a later one
 abbrev pub are_distinct : List (List ℕ) → Bool
@@ -30,9 +31,9 @@ unfoldable pub vars_of : List ℕ → Option (List (List ℕ))
 vars_of line = behind_vars (pieces 32 line)
 
 -- what a function returned is what the line says, unless out of memory
-abbrev pub Named : Result (List (List ℕ)) VarsFault → Option (List (List ℕ)) → Type 0
+abbrev pub Named : Result (List (List ℕ)) (Failure NoVars) → Option (List (List ℕ)) → Type 0
 Named (Ok names) read = read ≡ Some names
-Named (Err Form) read = read ≡ None
+Named (Err (Fault _)) read = read ≡ None
 Named (Err NoMemory) read = Unit {0}
 
 -- the names of a net's or a predicate's variables

@@ -7,8 +7,9 @@ use Rattle.pop_io.specs.Names.{variable_name}
 use Rattle.pop_io.specs.declared.names.TheConstants.{VARIABLE_LIMIT}
 use Rattle.pop_lines.specs.Lines.{pieces}
 use Rattle.pop_words.specs.Vars.{are_variables}
-use Rattle.pop_words.specs.declared.vars.VarsFault.{VarsFault}
-use Rattle.pop_words.specs.declared.vars.VarsFault.TheVariants.{Form, NoMemory}
+use Rattle.pop_io.specs.declared.failure.Failure.{Failure}
+use Rattle.pop_io.specs.declared.failure.Failure.TheVariants.{Fault, NoMemory}
+use Rattle.pop_words.specs.declared.vars.NoVars.{NoVars}
 
 -- the words after a space, if there is one
 abbrev pub words_behind : Option (List ℕ) → List (List ℕ)
@@ -30,7 +31,7 @@ can_join names word =
     variable_name word && (nat_lt (length names) VARIABLE_LIMIT && not (list_any (bytes_eq word) names))
 
 -- the words, if they are names of variables
-abbrev pub NamedBehind : Result (List (List ℕ)) VarsFault → List (List ℕ) → Type 0
+abbrev pub NamedBehind : Result (List (List ℕ)) (Failure NoVars) → List (List ℕ) → Type 0
 NamedBehind (Ok names) words = (names ≡ words) × (are_variables words ≡ true)
-NamedBehind (Err Form) words = are_variables words ≡ false
+NamedBehind (Err (Fault _)) words = are_variables words ≡ false
 NamedBehind (Err NoMemory) words = Unit {0}

@@ -9,6 +9,8 @@ pub enum Command {
     Play,
     Eval,
     Check,
+    /// Checks, and shows what is certified.
+    Show,
     Run(RunSpec),
     /// Runs, and stops the last round once the crowd is terminal.
     Watch(RunSpec),
@@ -20,6 +22,8 @@ pub enum Command {
     Compile,
     /// Compiles, with succinct leaves for flock atoms.
     Flocks,
+    /// Compiles, with succinct leaves for all atoms.
+    Succinct,
     /// Compiles, checks and runs the case with this number.
     Demo(u32),
 }

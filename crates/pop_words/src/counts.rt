@@ -1,60 +1,38 @@
 //! The crowd line.
 
 ghost use Rattle.std.specs.Prelude.{◌≡◌, ◌≤◌, ◌+◌, true, None, Some, length, map};
-ghost use Rattle.std.specs.Prelude.{unwrap_or, IfOk, IfErr, MatchBool, false};
+ghost use Rattle.std.specs.Prelude.{unwrap_or, IfOk, MatchBool, false};
 ghost use Rattle.std.specs.Option.{option_copied};
 ghost use Rattle.pop_words.specs.Vars.{AreVariables};
 ghost use Rattle.pop_words.specs.Counts.{with_word, with_words, counts_of, Counted};
 ghost use Rattle.pop_words.specs.Walk.{words_behind, without_count};
 
-use pop_io::{List, Text, VARIABLE_LIMIT, place_of};
+use pop_io::{Failure, List, Text, VARIABLE_LIMIT, place_of};
 use pop_lines::{cut, small_number};
-use std::alloc::{AllocError, AllocFailed, Global};
+use std::alloc::{AllocError, Global};
 
-/// Why a crowd line was not read.
+/// The first word of a crowd line that breaks its form, counted from 0.
 #[derive(Clone, Copy, PartialEq, Eq)]
-pub enum CountFault {
-    /// The first word of the line that breaks its form, counted from 0.
-    Count(u32),
-    /// Out of memory.
-    NoMemory,
-}
-
-impl From<AllocError> for CountFault {
-    ghost use Rattle.std.specs.Prelude.{◌≡◌};
-    ghost use Rattle.pop_words.specs.declared.counts.CountFault.TheVariants.{NoMemory};
-
-    ghost from_gives = { λ _ e. e ≡ NoMemory };
-
-    fn from(_e: AllocError) -> CountFault {
-        CountFault::NoMemory
-    }
-}
-
-impl<T: Drop> From<AllocFailed<T>> for CountFault {
-    ghost use Rattle.std.specs.Prelude.{◌≡◌};
-    ghost use Rattle.pop_words.specs.declared.counts.CountFault.TheVariants.{NoMemory};
-
-    ghost from_gives = { λ _ e. e ≡ NoMemory };
-
-    fn from(_e: AllocFailed<T>) -> CountFault {
-        CountFault::NoMemory
-    }
-}
+pub struct BadWord(pub u32);
 
 /// The counts of a crowd line, one per variable in the order of `names`.
 #[tactic(auto, unfolding(crate::specs::Counts::counts_of))]
-pub fn read_counts(alloc: Global, line: &[u8], names: &List<Text>) -> Result<List<u64>, CountFault>
+pub fn read_counts(
+    alloc: Global,
+    line: &[u8],
+    names: &List<Text>,
+) -> Result<List<u64>, Failure<BadWord>>
     requires names { AreVariables names.now }
     ensures counts { Counted result (counts_of names.now line.now) }
     ensures len { IfOk result (λ counts. length counts ≡ length names.now) }
 {
     let (first, rest) = cut(line, b' ');
     if first != b"crowd".as_slice() {
-        return Err(CountFault::Count(0));
+        return Err(Failure::Fault(BadWord(0)));
     }
     let found = counts_behind(alloc, names.as_slice(), rest)?;
-    totals_of(alloc, found.as_slice())
+    let counts = totals_of(alloc, found.as_slice())?;
+    Ok(counts)
 }
 
 /// The counts that the words after the first give.
@@ -62,7 +40,7 @@ fn counts_behind(
     alloc: Global,
     names: &[Text],
     words: Option<&[u8]>,
-) -> Result<List<Option<u64>>, CountFault>
+) -> Result<List<Option<u64>>, Failure<BadWord>>
     requires few { length names.now ≤ VARIABLE_LIMIT }
     ensures counts { Counted result
         (with_words names.now (map (λ _. None) names.now) 1 (words_behind (option_copied words.entry))) }
@@ -74,7 +52,7 @@ fn counts_behind(
     'words: while let Some(bytes) = rest {
         let (word, after) = cut(bytes, b' ');
         if !enter(names, &mut found, word) {
-            return Err(CountFault::Count(at));
+            return Err(Failure::Fault(BadWord(at)));
         }
         at += 1;
         rest = after;
@@ -118,9 +96,8 @@ fn none_of(alloc: Global, names: &[Text]) -> Result<Vec<Option<u64>>, AllocError
     Ok(found)
 }
 
-fn totals_of(alloc: Global, found: &[Option<u64>]) -> Result<List<u64>, CountFault>
-    ensures ok { IfOk result (λ v. v ≡ map (λ o. unwrap_or o 0) found.now) }
-    ensures memory { IfErr result (λ e. e ≡ CountFault.NoMemory) }
+fn totals_of(alloc: Global, found: &[Option<u64>]) -> Result<List<u64>, AllocError>
+    ensures { IfOk result (λ v. v ≡ map (λ o. unwrap_or o 0) found.now) }
 {
     let mut counts = Vec::new(alloc);
     for count in found {

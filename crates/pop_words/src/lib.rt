@@ -13,9 +13,9 @@ mod vars;
 mod words;
 
 pub use command::{Command, Usage, UsageWhy};
-pub use counts::{CountFault, read_counts};
+pub use counts::{BadWord, read_counts};
 pub use kind::RunKind;
 pub use meeting::{MeetingFault, read_meeting};
 pub use spec::{DEMO_LIMIT, MEETING_LIMIT, RunSpec, SEED_LIMIT, TURN_LIMIT, WATCHED_WORKERS};
-pub use vars::{VarsFault, read_vars};
+pub use vars::{NoVars, read_vars};
 pub use words::{WORD_LIMIT, read_words};

@@ -7,55 +7,28 @@ ghost use Rattle.pop_io.specs.Names.{variable_name};
 ghost use Rattle.pop_words.specs.Vars.{vars_of, Named, AreVariables};
 ghost use Rattle.pop_words.specs.Walk.{words_behind, can_join, NamedBehind};
 
-use pop_io::{List, Text, VARIABLE_LIMIT, is_among, is_variable_name};
+use pop_io::{Failure, List, Text, VARIABLE_LIMIT, is_among, is_variable_name};
 use pop_lines::cut;
-use std::alloc::{AllocError, AllocFailed, Global};
+use std::alloc::Global;
 
-/// Why a vars line was not read.
+/// A line that isn't `vars` and 1 to `VARIABLE_LIMIT` distinct names, one space before each.
 #[derive(Clone, Copy, PartialEq, Eq)]
-pub enum VarsFault {
-    /// It isn't `vars` and 1 to `VARIABLE_LIMIT` distinct names, one space before each.
-    Form,
-    /// Out of memory.
-    NoMemory,
-}
-
-impl From<AllocError> for VarsFault {
-    ghost use Rattle.std.specs.Prelude.{◌≡◌};
-    ghost use Rattle.pop_words.specs.declared.vars.VarsFault.TheVariants.{NoMemory};
-
-    ghost from_gives = { λ _ e. e ≡ NoMemory };
-
-    fn from(_e: AllocError) -> VarsFault {
-        VarsFault::NoMemory
-    }
-}
-
-impl<T: Drop> From<AllocFailed<T>> for VarsFault {
-    ghost use Rattle.std.specs.Prelude.{◌≡◌};
-    ghost use Rattle.pop_words.specs.declared.vars.VarsFault.TheVariants.{NoMemory};
-
-    ghost from_gives = { λ _ e. e ≡ NoMemory };
-
-    fn from(_e: AllocFailed<T>) -> VarsFault {
-        VarsFault::NoMemory
-    }
-}
+pub struct NoVars;
 
 /// The names of the variables that a line lists.
-pub fn read_vars(alloc: Global, line: &[u8]) -> Result<List<Text>, VarsFault>
+pub fn read_vars(alloc: Global, line: &[u8]) -> Result<List<Text>, Failure<NoVars>>
     ensures vars { Named result (vars_of line.now) }
     ensures names { IfOk result AreVariables }
 {
     let (first, rest) = cut(line, b' ');
     if first != b"vars".as_slice() {
-        return Err(VarsFault::Form);
+        return Err(Failure::Fault(NoVars));
     }
     names_behind(alloc, rest)
 }
 
 /// The names, if all words are names and there is at least one.
-fn names_behind(alloc: Global, words: Option<&[u8]>) -> Result<List<Text>, VarsFault>
+fn names_behind(alloc: Global, words: Option<&[u8]>) -> Result<List<Text>, Failure<NoVars>>
     ensures { NamedBehind result (words_behind (option_copied words.entry)) }
 {
     let mut names: Vec<Text> = Vec::new(alloc);
@@ -63,14 +36,14 @@ fn names_behind(alloc: Global, words: Option<&[u8]>) -> Result<List<Text>, VarsF
     'words: while let Some(bytes) = rest {
         let (word, after) = cut(bytes, b' ');
         let Some(name) = further_name(names.as_slice(), word) else {
-            return Err(VarsFault::Form);
+            return Err(Failure::Fault(NoVars));
         };
         let text = String::from_str(alloc, name)?;
         names.push(Text::from_string(text))?;
         rest = after;
     }
     if names.is_empty() {
-        return Err(VarsFault::Form);
+        return Err(Failure::Fault(NoVars));
     }
     Ok(List::from_vec(names))
 }

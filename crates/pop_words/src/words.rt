@@ -6,7 +6,7 @@ ghost use Rattle.pop_words.specs.CommandLine.{texts_of};
 ghost use Rattle.pop_words.specs.Kinds.{most_workers_of};
 ghost use Rattle.pop_words.specs.Options.{IsWithinLimits};
 ghost use Rattle.pop_words.specs.Words.{meaning_of, meaning_behind, form_named, run_command, demo_meaning};
-ghost use Rattle.pop_words.specs.Words.{flag_meaning, HasLimits, FormHasLimits};
+ghost use Rattle.pop_words.specs.Words.{flagged_command, flag_meaning, HasLimits, FormHasLimits};
 
 use crate::command::{Command, Usage, UsageWhy};
 use crate::kind::RunKind;
@@ -26,48 +26,63 @@ pub(crate) enum Form {
     WithOptions(RunKind),
     /// The number of a demo case.
     WithNumber,
-    /// Nothing, or the flag that turns it into another command.
-    WithFlag(Flag),
+    /// Nothing, or one of the flags that turn it into another command.
+    WithFlag(Flags),
 }
 
-/// A flag that turns the command before it into another one.
+/// The flags of which one may follow a command's own word.
 #[derive(Clone, Copy)]
-pub(crate) enum Flag {
+pub(crate) enum Flags {
     OfCompile,
     OfReplay,
 }
 
-impl Flag {
-    ghost use Rattle.std.specs.Prelude.{◌≡◌};
-    ghost use Rattle.pop_words.specs.Words.{flag_name, unflagged_command, flagged_command};
+impl Flags {
+    ghost use Rattle.std.specs.Prelude.{◌≡◌, IfSome};
+    ghost use Rattle.pop_words.specs.Words.{unflagged_command, flagged_command, HasLimits};
 
-    fn name(self) -> &'static str
-        ensures { result.now ≡ flag_name self }
-    {
-        match self {
-            Flag::OfCompile => "--flocks",
-            Flag::OfReplay => "--watched",
-        }
-    }
-
-    /// The command without the flag.
+    /// The command without a flag.
     fn unflagged(self) -> Command
         ensures { result ≡ unflagged_command self }
     {
         match self {
-            Flag::OfCompile => Command::Compile,
-            Flag::OfReplay => Command::Replay,
+            Flags::OfCompile => Command::Compile,
+            Flags::OfReplay => Command::Replay,
         }
     }
 
-    /// The command with the flag.
-    fn flagged(self) -> Command
-        ensures { result ≡ flagged_command self }
+    /// The command with this flag, if the word is one.
+    fn flagged(self, word: &str) -> Option<Command>
+        ensures command { result ≡ flagged_command self word.now }
+        ensures limits { IfSome result HasLimits }
     {
         match self {
-            Flag::OfCompile => Command::Flocks,
-            Flag::OfReplay => Command::ReplayWatched,
+            Flags::OfCompile => compile_with(word),
+            Flags::OfReplay => replay_with(word),
         }
+    }
+}
+
+/// The command of `compile` with this flag.
+fn compile_with(word: &str) -> Option<Command>
+    ensures command { result ≡ flagged_command Flags.OfCompile word.now }
+    ensures limits { IfSome result HasLimits }
+{
+    match word {
+        "--flocks" => Some(Command::Flocks),
+        "--succinct" => Some(Command::Succinct),
+        _ => None,
+    }
+}
+
+/// The command of `replay` with this flag.
+fn replay_with(word: &str) -> Option<Command>
+    ensures command { result ≡ flagged_command Flags.OfReplay word.now }
+    ensures limits { IfSome result HasLimits }
+{
+    match word {
+        "--watched" => Some(Command::ReplayWatched),
+        _ => None,
     }
 }
 
@@ -95,11 +110,12 @@ fn form_of(word: &str) -> Option<Form>
         "play" => Some(Form::Alone(Command::Play)),
         "eval" => Some(Form::Alone(Command::Eval)),
         "check" => Some(Form::Alone(Command::Check)),
+        "show" => Some(Form::Alone(Command::Show)),
         "run" => Some(Form::WithOptions(RunKind::Whole)),
         "watch" => Some(Form::WithOptions(RunKind::Watched)),
-        "replay" => Some(Form::WithFlag(Flag::OfReplay)),
+        "replay" => Some(Form::WithFlag(Flags::OfReplay)),
         "settle" => Some(Form::Alone(Command::Settle)),
-        "compile" => Some(Form::WithFlag(Flag::OfCompile)),
+        "compile" => Some(Form::WithFlag(Flags::OfCompile)),
         "demo" => Some(Form::WithNumber),
         _ => None,
     }
@@ -116,7 +132,7 @@ fn read_behind(form: Form, words: &[&str]) -> Result<Command, Usage>
         Form::Alone(_) => Err(bad(1, UsageWhy::Unknown)),
         Form::WithOptions(kind) => Ok(command_of(kind, read_options(kind, words)?)),
         Form::WithNumber => read_number(words),
-        Form::WithFlag(flag) => read_flag(flag, words),
+        Form::WithFlag(flags) => read_flag(flags, words),
     }
 }
 
@@ -150,17 +166,21 @@ fn read_number(words: &[&str]) -> Result<Command, Usage>
     Ok(Command::Demo(number as u32))
 }
 
-/// The plain command if no word follows its own, and the other one if only the flag does.
-fn read_flag(flag: Flag, words: &[&str]) -> Result<Command, Usage>
-    ensures meaning { result ≡ flag_meaning flag (texts_of words.now) }
+/// The plain command if no word follows its own, and another one if only one of its flags does.
+fn read_flag(flags: Flags, words: &[&str]) -> Result<Command, Usage>
+    ensures meaning { result ≡ flag_meaning flags (texts_of words.now) }
     ensures limits { IfOk result HasLimits }
 {
-    match words {
-        [] => Ok(flag.unflagged()),
-        [first, ..] if *first != flag.name() => Err(bad(1, UsageWhy::Unknown)),
-        [_] => Ok(flag.flagged()),
-        _ => Err(bad(2, UsageWhy::Unknown)),
+    let [flag, more @ ..] = words else {
+        return Ok(flags.unflagged());
+    };
+    let Some(command) = flags.flagged(flag) else {
+        return Err(bad(1, UsageWhy::Unknown));
+    };
+    if !more.is_empty() {
+        return Err(bad(2, UsageWhy::Unknown));
     }
+    Ok(command)
 }
 
 fn bad(word: u32, why: UsageWhy) -> Usage

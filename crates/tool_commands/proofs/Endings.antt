@@ -4,6 +4,7 @@ use Rattle.std.specs.Prelude.{◌≢◌, MatchBool, ◌+◌, length}
 use Rattle.pop_words.specs.Vars.{vars_of}
 use Rattle.pop_words.specs.declared.command.Command.{Command}
 use Rattle.pop_words.specs.declared.command.Command.TheVariants.{Play, Eval, Check, Run, Watch, Replay, ReplayWatched, Settle, Compile, Flocks, Demo}
+use Rattle.pop_words.specs.declared.command.Command.TheVariants.{Show, Succinct}
 use Rattle.pop_words.specs.declared.kind.RunKind.{RunKind}
 use Rattle.pop_words.specs.declared.kind.RunKind.TheVariants.{Whole, Watched}
 use Rattle.pop_words.specs.declared.spec.RunSpec.{RunSpec}
@@ -22,6 +23,7 @@ use Rattle.tool_texts.proofs.Goes.{bind_keeps, after_keeps}
 use Rattle.tool_commands.specs.Eval.{named, truth_in, eval_output}
 use Rattle.tool_commands.specs.Play.{end_crowd, OfEnd, OfLines, PlayGives}
 use Rattle.tool_commands.specs.Check.{judgement, OfBundle, OfLine, CheckGives}
+use Rattle.tool_commands.specs.Show.{shown_or_rejected, OfBundle as OfShownBundle, OfLine as OfShownLine, ShowGives}
 use Rattle.tool_commands.specs.Run.{run_ending, OfJudged, OfLines as OfRunLines, RunGives}
 use Rattle.tool_commands.specs.declared.replay.TheConstants.{JOURNAL_LINE}
 use Rattle.tool_commands.specs.Replay.{journal_read, compared_output, journal_output, judged_output, OfBegun as OfReplayBegun, OfLines as OfReplayLines, ReplayGives}
@@ -61,6 +63,15 @@ check_other : (lines : List (List ℕ)) (given : Result Output Refusal) → Chec
 check_other lines =
     after_keeps IsOther refused (just_one lines) OfLine
     (λ line given is. after_keeps IsOther refused is.0 OfBundle (λ bundle given is. subst IsOther (sym is.2) (judgement_other bundle is.0)) given is.2)
+
+shown_other : (bundle : Bundle) (judged : Option Rejected) → IsOther (Ok (shown_or_rejected bundle judged))
+shown_other bundle None e = absurd cc
+shown_other bundle (Some rejected) e = absurd cc
+
+show_other : (lines : List (List ℕ)) (given : Result Output Refusal) → ShowGives lines given → IsOther given
+show_other lines =
+    after_keeps IsOther refused (just_one lines) OfShownLine
+    (λ line given is. after_keeps IsOther refused is.0 OfShownBundle (λ bundle given is. subst IsOther (sym is.2) (shown_other bundle is.0)) given is.2)
 
 run_ending_other : (pair : Option (ℕ × ℕ)) → run_ending pair ≢ ReadFault
 run_ending_other None e = absurd cc
@@ -118,6 +129,7 @@ pub given_ending : (command : Command) (lines : List (List ℕ)) (given : Result
 given_ending Play lines given is = play_other lines given is
 given_ending Eval lines given is = subst IsOther (sym is) (eval_other lines)
 given_ending Check lines given is = check_other lines given is
+given_ending Show lines given is = show_other lines given is
 given_ending (Run spec) lines given is = run_other Whole spec lines given is
 given_ending (Watch spec) lines given is = run_other Watched spec lines given is
 given_ending Replay lines given is = replay_other Whole lines given is
@@ -125,4 +137,5 @@ given_ending ReplayWatched lines given is = replay_other Watched lines given is
 given_ending Settle lines given is = settle_other lines given is
 given_ending Compile lines given is = compile_other leaves.Plain lines given is
 given_ending Flocks lines given is = compile_other leaves.Flocks lines given is
+given_ending Succinct lines given is = compile_other leaves.Succinct lines given is
 given_ending (Demo number) lines given is = demo_other number given is

@@ -1,9 +1,9 @@
 -- What is prepared leads to outputs of a rule.
+use Rattle.tool_texts.specs.Steps.{Stop}
 use Rattle.std.proofs.Common.{◌≡◌, Result, Ok, Err, sym, subst}
 use Rattle.pop_words.specs.declared.kind.RunKind.TheVariants.{Whole}
 use Rattle.tool_texts.specs.declared.refusal.Refusal.{Refusal}
-use Rattle.tool_texts.specs.declared.stop.Stop.{Stop}
-use Rattle.tool_texts.specs.declared.stop.Stop.TheVariants.{Refused, NoMemory}
+use Rattle.pop_io.specs.declared.failure.Failure.TheVariants.{Fault, NoMemory}
 use Rattle.tool_texts.specs.declared.output.Output.{Output}
 use Rattle.tool_commands.specs.declared.prepared.PendingRun.{PendingRun}
 use Rattle.tool_commands.specs.declared.prepared.Prepared.{Prepared}
@@ -35,5 +35,5 @@ leads_wider rule wider so prepared leads = record { can = leads.can; allowed = �
 pub prepares_wider : (rule wider : Result Output Refusal → Type 0) → ((given : Result Output Refusal) → rule given → wider given)
     → (r : Result Prepared Stop) → Prepares rule r → Prepares wider r
 prepares_wider rule wider so (Ok prepared) is = leads_wider (λ o. rule (Ok o)) (λ o. wider (Ok o)) (λ o. so (Ok o)) prepared is
-prepares_wider rule wider so (Err (Refused refusal)) is = so (Err refusal) is
+prepares_wider rule wider so (Err (Fault refusal)) is = so (Err refusal) is
 prepares_wider rule wider so (Err NoMemory) is = tt

@@ -13,11 +13,12 @@ pub mod Endings
 pub mod OneLast
 pub mod OnePlay
 pub mod OneCheck
+pub mod Shown
+pub mod OneShow
 pub mod OneRun
 pub mod OneReplay
 pub mod OneSettle
 pub mod Settled
-pub mod Compiled
 pub mod DemoCases
 pub mod Changed
 pub mod OneDemo

@@ -2,10 +2,9 @@
 use Rattle.std.proofs.Common.{◌≡◌, List, ℕ, Result, Ok, Err, sym, subst}
 use Rattle.pop_words.specs.declared.command.Command.{Command}
 use Rattle.tool_texts.specs.declared.refusal.Refusal.{Refusal}
-use Rattle.tool_texts.specs.declared.stop.Stop.{Stop}
-use Rattle.tool_texts.specs.declared.stop.Stop.TheVariants.{Refused, NoMemory}
+use Rattle.pop_io.specs.declared.failure.Failure.TheVariants.{Fault, NoMemory}
 use Rattle.tool_texts.specs.declared.output.Output.{Output}
-use Rattle.tool_texts.specs.Steps.{GivesStep, Obeys}
+use Rattle.tool_texts.specs.Steps.{GivesStep, Obeys, Stop}
 use Rattle.tool_commands.specs.declared.prepared.Prepared.{Prepared}
 use Rattle.tool_commands.specs.Prepared.{ready, Prepares}
 use Rattle.tool_commands.specs.Commands.{CommandGives}
@@ -13,7 +12,7 @@ use Rattle.tool_commands.proofs.Leads.{text_leads}
 
 pub ready_leads : (rule : Result Output Refusal → Type 0) (given : Result Output Stop) → Obeys rule (λ output. output) given → Prepares rule (ready given)
 ready_leads rule (Ok output) is = text_leads (λ o. rule (Ok o)) output is
-ready_leads rule (Err (Refused refusal)) is = is
+ready_leads rule (Err (Fault refusal)) is = is
 ready_leads rule (Err NoMemory) is = tt
 
 -- the same for a command, by its name
@@ -26,5 +25,5 @@ command_ready command name lines given prepared named obeys is =
 -- a step that gives one output allows that one
 pub step_obeys : (given : Result Output Stop) (step : Result Output Refusal) → GivesStep (λ output. output) given step → Obeys (λ allowed. allowed ≡ step) (λ output. output) given
 step_obeys (Ok output) step is = sym is
-step_obeys (Err (Refused refusal)) step is = sym is
+step_obeys (Err (Fault refusal)) step is = sym is
 step_obeys (Err NoMemory) step is = tt

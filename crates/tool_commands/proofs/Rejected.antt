@@ -6,10 +6,9 @@ use Rattle.pop_checker.specs.declared.fault.CheckFault.{CheckFault}
 use Rattle.pop_checker.specs.declared.fault.CheckFault.TheVariants.{Rejected as Rejects, NoMemory}
 use Rattle.pop_checker.specs.Rejections.{IsCheckFault}
 use Rattle.tool_texts.specs.declared.refusal.Refusal.{Refusal}
-use Rattle.tool_texts.specs.declared.stop.Stop.{Stop}
 use Rattle.tool_texts.specs.declared.output.Output.{Output}
 use Rattle.tool_texts.specs.Rejections.{rejection_output}
-use Rattle.tool_texts.specs.Steps.{Obeys}
+use Rattle.tool_texts.specs.Steps.{Obeys, Stop}
 use Rattle.tool_texts.proofs.Goes.{obeys_wider}
 use Rattle.tool_commands.specs.Bundles.{IsJudged, TellsRejection}
 

@@ -1,5 +1,6 @@
--- What `compile` and `compile --flocks` make of the lines of their input: a vars line and a predicate.
-use Rattle.std.specs.Prelude.{◌≡◌, ℕ, List, Option, Some, None, option_and_then, Result, Ok, Err}
+-- What `compile`, with one of its words or none, makes of the lines of their input: a vars line and a predicate.
+use Rattle.std.specs.Prelude.{◌≡◌, ℕ, List, Option, Some, None, Result, Ok, Err}
+use Rattle.std.specs.Option.{option_map}
 use Rattle.pop_lines.specs.Lines.{ended}
 use Rattle.pres_ast.specs.PredTree.{PredTree}
 use Rattle.pres_ast.specs.PredModel.{PredModel}
@@ -7,6 +8,7 @@ use Rattle.pres_read.specs.Reading.{pred_read}
 use Rattle.pop_net.specs.Reaction.{IsSingle}
 use Rattle.pop_words.specs.Vars.{vars_of}
 use Rattle.serde_json.specs.Written.{compact_text}
+use Rattle.cert_base.specs.ProofBound.{proof_bound}
 use Rattle.cert_base.specs.ValidProof.{ValidProof}
 use Rattle.cert_json.specs.declared.bundle.Bundle.{Bundle}
 use Rattle.bundle_text.specs.Bundle.{bundle_data}
@@ -14,11 +16,13 @@ use Rattle.bundle_text.specs.ReadBack.{IsWritable}
 use Rattle.pop_checker.specs.Sound.{IsRight}
 use Rattle.comp_net.specs.declared.choice.LeafChoice.{LeafChoice}
 use Rattle.comp_net.specs.declared.fault.CompileFault.{CompileFault}
-use Rattle.comp_net.specs.declared.fault.CompileFault.TheVariants.{ManyAtoms, TooWide, WideNet, NoMemory}
+use Rattle.comp_net.specs.declared.fault.CompileFault.TheVariants.{ManyAtoms, NoRange, TooWide, ManyStates}
+use Rattle.comp_net.specs.declared.fault.CompileFault.TheVariants.{WideNet}
 use Rattle.comp_net.specs.CompileFaults.{fault_with}
 use Rattle.comp_net.specs.BuiltNet.{net_with}
+use Rattle.comp_net.specs.BuiltBound.{built_bound}
 use Rattle.tool_texts.specs.declared.refusal.Refusal.{Refusal}
-use Rattle.tool_texts.specs.declared.refusal.Refusal.TheVariants.{Atoms, Width, Wide}
+use Rattle.tool_texts.specs.declared.refusal.Refusal.TheVariants.{Atoms, Range, Width, States, Wide}
 use Rattle.tool_texts.specs.Steps.{◌>>=◌, After}
 use Rattle.tool_texts.specs.Lines.{just_two}
 use Rattle.tool_texts.specs.declared.output.Output.{Output}
@@ -33,12 +37,13 @@ asked_by lines = do
   pred ← understood (pred_read names two.1)
   Ok (names, pred)
 
--- how a predicate without a built net is refused; out of memory is no refusal
-abbrev pub refusal_of : CompileFault → Option Refusal
-refusal_of (ManyAtoms atoms) = Some (Atoms atoms)
-refusal_of (TooWide atom s) = Some (Width atom s)
-refusal_of (WideNet atom) = Some (Wide atom)
-refusal_of NoMemory = None
+-- how a predicate without a built net is refused
+abbrev pub refusal_of : CompileFault → Refusal
+refusal_of (ManyAtoms atoms) = Atoms atoms
+refusal_of (NoRange atom) = Range atom
+refusal_of (TooWide atom s) = Width atom s
+refusal_of (ManyStates atom states) = States atom states
+refusal_of (WideNet atom) = Wide atom
 
 abbrev pub unless_refused : Option Refusal → Result (Unit {0}) Refusal
 unless_refused None = Ok tt
@@ -46,14 +51,15 @@ unless_refused (Some refusal) = Err refusal
 
 -- the predicate has a built net with these leaves, or it is refused
 abbrev pub fits_its_leaves : LeafChoice → PredTree → Result (Unit {0}) Refusal
-fits_its_leaves choice tree = unless_refused (option_and_then refusal_of (fault_with choice tree))
+fits_its_leaves choice tree = unless_refused (option_map refusal_of (fault_with choice tree))
 
--- A bundle of the predicate's built net over these names, the predicate, and a valid proof. It can be written, no
--- leaf has two moves that take the same states, and the net computes the predicate.
+-- A bundle of the predicate's built net over these names, the predicate, and a valid proof with the bound that the
+-- atoms give. It can be written, no leaf has two moves that take the same states, and the net computes the predicate.
 pub record IsCompiled (choice : LeafChoice) (names : List (List ℕ)) (pred : PredModel) (bundle : Bundle) : Type 0 where
   pub net_is : bundle.net ≡ net_with choice names pred.tree
   pub pred_is : bundle.pred ≡ pred
   pub valid : ValidProof bundle.net bundle.pred bundle.proof
+  pub bound : proof_bound bundle.proof ≡ built_bound choice pred.tree
   pub writable : IsWritable bundle
   pub single : IsSingle bundle.net
   pub right : IsRight bundle.net bundle.pred bundle.proof

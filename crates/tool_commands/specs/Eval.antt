@@ -2,7 +2,7 @@
 use Rattle.std.specs.Prelude.{ℕ, Bool, true, false, List, codes, Option, Some, None, Result, Ok, Err}
 use Rattle.pres_ast.specs.PredModel.{PredModel}
 use Rattle.pres_ast.specs.PredicateValue.{predicate_value}
-use Rattle.pres_read.specs.TextFault.{TextFault}
+use Rattle.pres_read.specs.declared.fault.ReadPred.{ReadPred}
 use Rattle.pres_read.specs.Reading.{pred_read}
 use Rattle.cert_json.specs.Examined.{why_of}
 use Rattle.pop_words.specs.Vars.{vars_of}
@@ -20,7 +20,7 @@ abbrev pub named : Option (List (List ℕ)) → Result (List (List ℕ)) Refusal
 named None = Err (Line 1 Form)
 named (Some names) = Ok names
 
-abbrev pub understood : Result PredModel TextFault → Result PredModel Refusal
+abbrev pub understood : Result PredModel ReadPred → Result PredModel Refusal
 understood (Ok pred) = Ok pred
 understood (Err fault) = Err (Pred (why_of fault))
 

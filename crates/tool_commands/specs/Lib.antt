@@ -2,6 +2,7 @@ pub mod Eval
 pub mod Start
 pub mod Bundles
 pub mod Check
+pub mod Show
 pub mod Play
 pub mod Run
 pub mod Replay

@@ -13,9 +13,8 @@ use Rattle.pop_words.specs.declared.kind.RunKind.TheVariants.{Whole}
 use Rattle.pop_words.specs.Kinds.{most_workers_of}
 use Rattle.pop_words.specs.Options.{IsWithinLimits}
 use Rattle.tool_texts.specs.declared.refusal.Refusal.{Refusal}
-use Rattle.tool_texts.specs.declared.stop.Stop.{Stop}
 use Rattle.tool_texts.specs.declared.output.Output.{Output}
-use Rattle.tool_texts.specs.Steps.{MayStop}
+use Rattle.tool_texts.specs.Steps.{MayStop, Stop}
 use Rattle.tool_commands.specs.declared.prepared.Setting.{Setting}
 use Rattle.tool_commands.specs.declared.prepared.PendingRun.{PendingRun}
 use Rattle.tool_commands.specs.declared.prepared.Prepared.{Prepared}

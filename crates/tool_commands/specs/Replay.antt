@@ -6,6 +6,8 @@ use Rattle.pop_net.specs.InputCrowd.{input_crowd}
 use Rattle.pop_words.specs.declared.kind.RunKind.{RunKind}
 use Rattle.pop_words.specs.declared.spec.RunSpec.{RunSpec}
 use Rattle.pair_workers.specs.Run.{joined}
+use Rattle.pop_journal.specs.declared.fault.JournalFault.{JournalFault}
+use Rattle.pop_journal.specs.declared.fault.JournalFault.TheVariants as fault
 use Rattle.pop_journal.specs.declared.journal.Journal.{Journal}
 use Rattle.pop_journal.specs.Form.{Parts, Out, journal_in}
 use Rattle.pop_journal.specs.Expected.{Difference, first_difference, journal_compared}
@@ -28,6 +30,10 @@ holds_text meetings = codes "holds " ++ decimal meetings
 
 abbrev pub holds_output : ℕ → Output
 holds_output meetings = record { text = ended (holds_text meetings); ending = Done }
+
+-- how a text with this fault is refused
+abbrev pub journal_refusal : JournalFault → Refusal
+journal_refusal (fault.Out line why) = refusal.Journal line why
 
 -- the journal of a run of this kind that lines give, the first of which has the number JOURNAL_LINE
 abbrev pub journal_read : RunKind → Result (RunSpec × Parts) Out → Result Journal Refusal

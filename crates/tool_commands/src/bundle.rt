@@ -12,9 +12,10 @@ ghost use Rattle.tool_commands.specs.Bundles.{bundle_in, begun, IsBundleWithin, 
 use crate::start::{Start, start_of};
 use cert_json::{Bundle, read_bundle};
 use pop_checker::{CheckFault, Checked, check};
+use pop_io::Failure;
 use serde_json::Value;
 use std::alloc::Global;
-use tool_texts::{Output, Refusal, Stop, value_of};
+use tool_texts::{Output, Refusal, Stop, stop_of, value_of};
 
 /// The bundle of a line that has this value.
 fn bundle_of_value(alloc: Global, value: &Option<Value>) -> Result<Bundle, Stop>
@@ -22,10 +23,12 @@ fn bundle_of_value(alloc: Global, value: &Option<Value>) -> Result<Bundle, Stop>
     ensures limits { IfOk result IsBundleWithin }
 {
     let Some(value) = value else {
-        return Err(Stop::Refused(Refusal::NotJson));
+        return Err(Failure::Fault(Refusal::NotJson));
     };
-    let bundle = read_bundle(alloc, value)?;
-    Ok(bundle)
+    match read_bundle(alloc, value) {
+        Ok(bundle) => Ok(bundle),
+        Err(fault) => Err(stop_of(fault)),
+    }
 }
 
 /// The bundle of a line. The line's value is dropped.
@@ -82,6 +85,6 @@ pub(crate) fn rejection_of(alloc: Global, fault: CheckFault) -> Result<Output, S
 {
     match fault {
         CheckFault::Rejected(rejected) => Ok(Output::of_rejection(alloc, rejected)?),
-        CheckFault::NoMemory => Err(Stop::NoMemory),
+        CheckFault::NoMemory => Err(Failure::NoMemory),
     }
 }

@@ -1,11 +1,11 @@
-//! The commands `compile` and `compile --flocks`.
+//! The commands `compile`, `compile --flocks` and `compile --succinct`.
 
 ghost use Rattle.std.specs.Prelude.{◌≡◌, length, Ok, IfOk};
 ghost use Rattle.pop_lines.specs.Lines.{lines_of};
 ghost use Rattle.pop_words.specs.Vars.{AreVariables};
 ghost use Rattle.comp_net.specs.Compiles.{Compiles};
 ghost use Rattle.tool_texts.specs.Steps.{GivesStep, Obeys};
-ghost use Rattle.tool_commands.specs.Compile.{asked_by, fits_its_leaves, compiled_output};
+ghost use Rattle.tool_commands.specs.Compile.{asked_by, fits_its_leaves, refusal_of, compiled_output};
 ghost use Rattle.tool_commands.specs.Compile.{IsCompiled, OfAsked, CompileGives};
 
 use crate::eval::{names_of, pred_of};
@@ -13,7 +13,7 @@ use bundle_text::write_bundle;
 use cert_base::Proof;
 use cert_json::Bundle;
 use comp_net::{CompileFault, LeafChoice};
-use pop_io::{List, Text};
+use pop_io::{Failure, List, Text};
 use pop_net::Net;
 use pres_ast::Pred;
 use std::alloc::Global;
@@ -38,7 +38,7 @@ fn build_with(
     choice: LeafChoice,
     pred: &Pred,
     names: &List<Text>,
-) -> Result<(Net, Proof), CompileFault>
+) -> Result<(Net, Proof), Failure<CompileFault>>
     requires formed { AreVariables names.now }
     requires count { pred.now.variables ≡ length names.now }
     ensures { Compiles choice names.now pred.now result }
@@ -46,6 +46,20 @@ fn build_with(
     match choice {
         LeafChoice::Plain => comp_net::compile(alloc, pred, names),
         LeafChoice::Flocks => comp_net::compile_flocks(alloc, pred, names),
+        LeafChoice::Succinct => comp_net::compile_succinct(alloc, pred, names),
+    }
+}
+
+/// How a predicate without a built net is refused.
+fn refusal_of(fault: CompileFault) -> Refusal
+    ensures { result ≡ refusal_of fault }
+{
+    match fault {
+        CompileFault::ManyAtoms(atoms) => Refusal::Atoms(atoms),
+        CompileFault::NoRange(atom) => Refusal::Range(atom),
+        CompileFault::TooWide { atom, s } => Refusal::Width(atom, s),
+        CompileFault::ManyStates { atom, states } => Refusal::States(atom, states),
+        CompileFault::WideNet(atom) => Refusal::Wide(atom),
     }
 }
 
@@ -62,14 +76,11 @@ fn built_bundle(
     ensures compiled { IfOk result (IsCompiled choice names.now pred) }
 {
     let _limits = pred.vars();
-    let refusal = match build_with(alloc, choice, &pred, names) {
-        Ok((net, proof)) => return Ok(Bundle { net, pred, proof }),
-        Err(CompileFault::ManyAtoms(atoms)) => Refusal::Atoms(atoms),
-        Err(CompileFault::TooWide { atom, s }) => Refusal::Width(atom, s),
-        Err(CompileFault::WideNet(atom)) => Refusal::Wide(atom),
-        Err(CompileFault::NoMemory) => return Err(Stop::NoMemory),
-    };
-    Err(Stop::Refused(refusal))
+    match build_with(alloc, choice, &pred, names) {
+        Ok((net, proof)) => Ok(Bundle { net, pred, proof }),
+        Err(Failure::Fault(fault)) => Err(Failure::Fault(refusal_of(fault))),
+        Err(Failure::NoMemory) => Err(Failure::NoMemory),
+    }
 }
 
 /// The output for a bundle that was built: its line.

@@ -17,12 +17,12 @@ ghost use Rattle.tool_commands.specs.Demo.{DemoGives, IsBuiltNet, IsCase, IsDemo
 use crate::prepared::Prepared;
 use crate::run::last_and_ending;
 use cert_base::Proof;
-use comp_net::{CompileFault, compile};
+use comp_net::compile;
 use pair_workers::{RunEnd, run_alone};
 use pop_checker::{CheckFault, Checked, check};
 use pop_crowd::{Crowd, CrowdFault, Meeting};
 use pop_demo::{demo_case, demo_names, demo_run};
-use pop_io::{Gate, List, NoMemory};
+use pop_io::{Failure, Gate, List, NoMemory};
 use pop_journal::{Last, push_last_line};
 use pop_lines::push_number;
 use pop_net::Net;
@@ -55,7 +55,7 @@ fn built(alloc: Global, pred: &Pred) -> Result<(Net, Proof), NoMemory>
     let names = demo_names(alloc)?;
     match compile(alloc, pred, &names) {
         Ok(built) => Ok(built),
-        Err(CompileFault::NoMemory) => Err(NoMemory),
+        Err(Failure::NoMemory) => Err(NoMemory),
         Err(_) => unreachable!(),
     }
 }
@@ -97,8 +97,8 @@ fn first_crowd(alloc: Global, case: &Case) -> Result<Crowd, NoMemory>
 {
     match Crowd::of_counts(alloc, case.checked.net(), case.counts.as_slice()) {
         Ok(crowd) => Ok(crowd),
-        Err(CrowdFault::NoMemory) => Err(NoMemory),
-        Err(CrowdFault::Size(_)) => unreachable!(),
+        Err(Failure::NoMemory) => Err(NoMemory),
+        Err(Failure::Fault(CrowdFault::Size(_))) => unreachable!(),
     }
 }
 

@@ -8,11 +8,11 @@ ghost use Rattle.pres_read.specs.Reading.{pred_read};
 ghost use Rattle.tool_texts.specs.Steps.{GivesStep};
 ghost use Rattle.tool_commands.specs.Eval.{named, understood, counted, truth_line, truth_in, eval_output};
 
-use json_shape::PredWhy;
-use pop_io::{List, Text};
-use pop_words::{CountFault, VarsFault, read_counts, read_vars};
+use cert_json::pred_why;
+use pop_io::{Failure, List, Text};
+use pop_words::{BadWord, NoVars, read_counts, read_vars};
 use pres_ast::Pred;
-use pres_read::{ReadPred, read_pred};
+use pres_read::read_pred;
 use std::alloc::{AllocError, Global};
 use tool_texts::{Ending, LineWhy, Output, Refusal, Stop, just_three_lines};
 
@@ -23,8 +23,8 @@ pub(crate) fn names_of(alloc: Global, line: &[u8]) -> Result<List<Text>, Stop>
 {
     match read_vars(alloc, line) {
         Ok(names) => Ok(names),
-        Err(VarsFault::Form) => Err(Stop::Refused(Refusal::Line(1, LineWhy::Form))),
-        Err(VarsFault::NoMemory) => Err(Stop::NoMemory),
+        Err(Failure::Fault(NoVars)) => Err(Failure::Fault(Refusal::Line(1, LineWhy::Form))),
+        Err(Failure::NoMemory) => Err(Failure::NoMemory),
     }
 }
 
@@ -34,16 +34,11 @@ pub(crate) fn pred_of(alloc: Global, line: &[u8], names: &List<Text>) -> Result<
     ensures pred { GivesStep (λ pred. pred) result (understood (pred_read names.now line.now)) }
     ensures variables { IfOk result (λ pred. pred.variables ≡ length names.now) }
 {
-    let why = match read_pred(alloc, line, names) {
-        Ok(pred) => return Ok(pred),
-        Err(ReadPred::Syntax(at)) => PredWhy::Syntax(at),
-        Err(ReadPred::UnknownName(at)) => PredWhy::UnknownName(at),
-        Err(ReadPred::TooLarge(at)) => PredWhy::TooLarge(at),
-        Err(ReadPred::TooDeep(at)) => PredWhy::TooDeep(at),
-        Err(ReadPred::LongText(length)) => PredWhy::LongText(length),
-        Err(ReadPred::NoMemory) => return Err(Stop::NoMemory),
-    };
-    Err(Stop::Refused(Refusal::Pred(why)))
+    match read_pred(alloc, line, names) {
+        Ok(pred) => Ok(pred),
+        Err(Failure::Fault(fault)) => Err(Failure::Fault(Refusal::Pred(pred_why(fault)))),
+        Err(Failure::NoMemory) => Err(Failure::NoMemory),
+    }
 }
 
 /// The counts of a crowd line, one per variable.
@@ -54,8 +49,8 @@ pub(crate) fn counts_in(alloc: Global, line: &[u8], names: &List<Text>) -> Resul
 {
     match read_counts(alloc, line, names) {
         Ok(counts) => Ok(counts),
-        Err(CountFault::Count(word)) => Err(Stop::Refused(Refusal::Count(word))),
-        Err(CountFault::NoMemory) => Err(Stop::NoMemory),
+        Err(Failure::Fault(BadWord(word))) => Err(Failure::Fault(Refusal::Count(word))),
+        Err(Failure::NoMemory) => Err(Failure::NoMemory),
     }
 }
 

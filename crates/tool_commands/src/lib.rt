@@ -13,6 +13,7 @@ mod prepared;
 mod replay;
 mod run;
 mod settle;
+mod show;
 mod start;
 mod table;
 

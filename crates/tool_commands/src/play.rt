@@ -11,7 +11,7 @@ ghost use Rattle.tool_commands.specs.Play.{end_line, play_output, OfEnd, PlayGiv
 
 use crate::start::net_and_start;
 use pop_crowd::Crowd;
-use pop_io::NoMemory;
+use pop_io::{Failure, NoMemory};
 use pop_journal::short_pair;
 use pop_lines::{next_line, push_number};
 use pop_net::Net;
@@ -31,8 +31,8 @@ fn pair_of(line: &[u8], agents: u32, number: u64) -> Result<(u32, u32), Stop>
 {
     match read_meeting(line, agents) {
         Ok(pair) => Ok(pair),
-        Err(MeetingFault::Form) => Err(Stop::Refused(Refusal::Line(number, LineWhy::Form))),
-        Err(MeetingFault::Agents) => Err(Stop::Refused(Refusal::Line(number, LineWhy::Agents))),
+        Err(MeetingFault::Form) => Err(Failure::Fault(Refusal::Line(number, LineWhy::Form))),
+        Err(MeetingFault::Agents) => Err(Failure::Fault(Refusal::Line(number, LineWhy::Agents))),
     }
 }
 

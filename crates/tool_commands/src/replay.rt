@@ -10,11 +10,12 @@ ghost use Rattle.tool_texts.specs.Steps.{GivesStep, Obeys};
 ghost use Rattle.tool_commands.specs.Bundles.{IsBundleWithin};
 ghost use Rattle.tool_texts.specs.Differences.{difference_output};
 ghost use Rattle.tool_commands.specs.Replay.{holds_output, journal_read, journal_output, replay_output};
-ghost use Rattle.tool_commands.specs.Replay.{OfBundle, ReplayGives};
+ghost use Rattle.tool_commands.specs.Replay.{OfBundle, ReplayGives, journal_refusal};
 
 use crate::bundle::{begin, check_bundle, rejection_of};
 use cert_json::Bundle;
 use pop_crowd::Crowd;
+use pop_io::Failure;
 use pop_journal::{Journal, JournalFault, VerifyFault, read_journal, verify};
 use pop_net::Net;
 use pop_words::RunKind;
@@ -40,6 +41,15 @@ fn differs(alloc: Global, line: u64, kept: &[u8], found: &[u8]) -> Result<Output
     Ok(Output::of_difference(alloc, line, kept, found)?)
 }
 
+/// How a text that is no journal is refused.
+fn refusal_of(fault: JournalFault) -> Refusal
+    ensures { result ≡ journal_refusal fault }
+{
+    match fault {
+        JournalFault::Out { line, why } => Refusal::Journal(line, why),
+    }
+}
+
 /// The journal of a run of this kind that a text gives, for this many agents.
 fn journal_of(alloc: Global, kind: RunKind, text: &[u8], agents: u32) -> Result<Journal, Stop>
     ensures read { GivesStep (λ journal. journal) result
@@ -50,8 +60,8 @@ fn journal_of(alloc: Global, kind: RunKind, text: &[u8], agents: u32) -> Result<
 {
     match read_journal(alloc, kind, text, JOURNAL_LINE, agents) {
         Ok(journal) => Ok(journal),
-        Err(JournalFault::Out { line, why }) => Err(Stop::Refused(Refusal::Journal(line, why))),
-        Err(JournalFault::NoMemory) => Err(Stop::NoMemory),
+        Err(Failure::Fault(fault)) => Err(Failure::Fault(refusal_of(fault))),
+        Err(Failure::NoMemory) => Err(Failure::NoMemory),
     }
 }
 
@@ -65,10 +75,10 @@ fn compare(alloc: Global, net: &Net, crowd: Crowd, journal: &Journal) -> Result<
 {
     match verify(alloc, net, crowd, journal) {
         Ok(meetings) => holds(alloc, meetings),
-        Err(VerifyFault::Differs { line, kept, found }) => {
+        Err(Failure::Fault(VerifyFault::Differs { line, kept, found })) => {
             differs(alloc, line, kept.as_slice(), found.as_slice())
         }
-        Err(VerifyFault::NoMemory) => Err(Stop::NoMemory),
+        Err(Failure::NoMemory) => Err(Failure::NoMemory),
     }
 }
 

@@ -25,7 +25,7 @@ use cert_json::Bundle;
 use pair_workers::End;
 use pop_checker::{CheckFault, Checked};
 use pop_crowd::Crowd;
-use pop_io::{Gate, List, NoMemory};
+use pop_io::{Failure, Gate, List, NoMemory};
 use pop_journal::{Last, push_end, push_run_alone};
 use pop_watch::push_run;
 use pop_words::{RunKind, RunSpec};
@@ -111,8 +111,8 @@ pub fn make_alone<G: Gate>(alloc: Global, run: PendingRun, gate: &G) -> Result<O
         crowd,
     } = run;
     let (net, spec) = (setting.checked.net(), &setting.spec);
-    let mut text = lines.into_vec();
-    let (last_crowd, end) = push_run_alone(alloc, &mut text, net, crowd, spec, gate)?;
+    let text = lines.into_vec();
+    let (text, last_crowd, end) = push_run_alone(alloc, text, net, crowd, spec, gate)?;
     run_output(alloc, text, &setting, &last_crowd, end)
 }
 
@@ -132,8 +132,8 @@ pub fn make_on_threads<R: Threads + Wait + Sync, G: Gate>(
         crowd,
     } = run;
     let (net, spec) = (setting.checked.net(), &setting.spec);
-    let mut text = lines.into_vec();
-    let (last_crowd, end) = push_run(rt, alloc, &mut text, setting.kind, net, crowd, spec, gate)?;
+    let text = lines.into_vec();
+    let (text, last_crowd, end) = push_run(rt, alloc, text, setting.kind, net, crowd, spec, gate)?;
     run_output(alloc, text, &setting, &last_crowd, end)
 }
 
@@ -201,7 +201,7 @@ fn prepare_begun(
         Err(CheckFault::Rejected(rejected)) => {
             Ok(Prepared::Text(Output::of_rejection(alloc, rejected)?))
         }
-        Err(CheckFault::NoMemory) => Err(Stop::NoMemory),
+        Err(CheckFault::NoMemory) => Err(Failure::NoMemory),
     }
 }
 

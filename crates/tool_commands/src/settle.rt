@@ -16,7 +16,7 @@ use cert_base::Proof;
 use cert_json::Bundle;
 use pop_checker::{Checked, check};
 use pop_crowd::Crowd;
-use pop_io::NoMemory;
+use pop_io::{Failure, NoMemory};
 use pop_journal::{Last, push_last_line};
 use pop_lines::push_field;
 use pop_net::Net;
@@ -83,8 +83,10 @@ fn settle_start(
             let text = settled_text(alloc, checked.net(), &settled, verdict)?;
             Ok(Output::new(text, Ending::Done))
         }
-        Err(SettleFault::Long(takes)) => Err(Stop::Refused(Refusal::Settle(takes))),
-        Err(SettleFault::NoMemory) => Err(Stop::NoMemory),
+        Err(Failure::Fault(SettleFault::Long(takes))) => Err(Failure::Fault(Refusal::Settle(
+            takes,
+        ))),
+        Err(Failure::NoMemory) => Err(Failure::NoMemory),
     }
 }
 

@@ -9,21 +9,23 @@ ghost use Rattle.tool_commands.specs.Start.{net_in, fitting_in, start_in, IsStar
 use crate::eval::counts_in;
 use net_json::read_net;
 use pop_crowd::{Crowd, CrowdFault};
-use pop_io::List;
+use pop_io::{Failure, List};
 use pop_net::Net;
 use serde_json::Value;
 use std::alloc::Global;
-use tool_texts::{Refusal, Stop};
+use tool_texts::{Refusal, Stop, stop_of};
 
 /// The net of a line that has this value.
 fn net_of_value(alloc: Global, value: &Option<Value>) -> Result<Net, Stop>
     ensures { GivesStep (λ net. net) result (net_in (option_map view value.now)) }
 {
     let Some(value) = value else {
-        return Err(Stop::Refused(Refusal::NotJson));
+        return Err(Failure::Fault(Refusal::NotJson));
     };
-    let net = read_net(alloc, value)?;
-    Ok(net)
+    match read_net(alloc, value) {
+        Ok(net) => Ok(net),
+        Err(fault) => Err(stop_of(fault)),
+    }
 }
 
 /// How a net starts: the counts of a crowd line, and the crowd that has them.
@@ -42,8 +44,8 @@ pub(crate) fn start_of(alloc: Global, net: &Net, line: &[u8]) -> Result<Start, S
     let counts = counts_in(alloc, line, net.var_names())?;
     match Crowd::of_counts(alloc, net, counts.as_slice()) {
         Ok(crowd) => Ok(Start { counts, crowd }),
-        Err(CrowdFault::Size(agents)) => Err(Stop::Refused(Refusal::Size(agents))),
-        Err(CrowdFault::NoMemory) => Err(Stop::NoMemory),
+        Err(Failure::Fault(CrowdFault::Size(agents))) => Err(Failure::Fault(Refusal::Size(agents))),
+        Err(Failure::NoMemory) => Err(Failure::NoMemory),
     }
 }
 

@@ -15,6 +15,7 @@ use crate::prepared::Prepared;
 use crate::replay::replay;
 use crate::run::{is_by_one, prepare_run};
 use crate::settle::settle;
+use crate::show::show;
 use comp_net::LeafChoice;
 use pop_words::{Command, RunKind};
 use std::alloc::Global;
@@ -31,6 +32,7 @@ pub fn prepare_command(alloc: Global, command: Command, input: &[u8]) -> Result<
         Command::Play => ready(play(alloc, input)),
         Command::Eval => ready(eval(alloc, input)),
         Command::Check => ready(check(alloc, input)),
+        Command::Show => ready(show(alloc, input)),
         Command::Run(spec) => prepare_run(alloc, RunKind::Whole, spec, input),
         Command::Watch(spec) => prepare_run(alloc, RunKind::Watched, spec, input),
         Command::Replay => ready(replay(alloc, RunKind::Whole, input)),
@@ -38,6 +40,7 @@ pub fn prepare_command(alloc: Global, command: Command, input: &[u8]) -> Result<
         Command::Settle => ready(settle(alloc, input)),
         Command::Compile => ready(compile(alloc, LeafChoice::Plain, input)),
         Command::Flocks => ready(compile(alloc, LeafChoice::Flocks, input)),
+        Command::Succinct => ready(compile(alloc, LeafChoice::Succinct, input)),
         Command::Demo(number) => Ok(prepare_demo(alloc, number)?),
     }
 }

@@ -1,9 +1,8 @@
 -- Steps one after the other.
 use Rattle.std.proofs.Common.{◌≡◌, Result, Ok, Err, refl, sym, subst, ◌∙◌}
 use Rattle.tool_texts.specs.declared.refusal.Refusal.{Refusal}
-use Rattle.tool_texts.specs.declared.stop.Stop.{Stop}
-use Rattle.tool_texts.specs.declared.stop.Stop.TheVariants.{Refused, NoMemory}
-use Rattle.tool_texts.specs.Steps.{◌>>=◌, After, GivesStep, MayStop, Obeys}
+use Rattle.pop_io.specs.declared.failure.Failure.TheVariants.{Fault, NoMemory}
+use Rattle.tool_texts.specs.Steps.{◌>>=◌, After, GivesStep, MayStop, Obeys, Stop}
 
 pub bind_ok : {A B : Type 0} (r : Result A Refusal) (f : A → Result B Refusal) (y : B) → (r >>= f) ≡ Ok y → (x : A) × (r ≡ Ok x) × (f x ≡ Ok y)
 bind_ok (Ok x) f y e = (x, refl, e)
@@ -16,20 +15,20 @@ same_ok x y e = cc
 pub gives_obeys : {A B : Type 0} (rule : Result B Refusal → Type 0) (view : A → B) (r : Result A Stop) (step : Result B Refusal) → rule step → GivesStep view r step → Obeys rule view r
 gives_obeys rule view (Ok x) step allowed is = subst rule is allowed
 gives_obeys rule view (Err NoMemory) step allowed is = tt
-gives_obeys rule view (Err (Refused r)) step allowed is = subst rule is allowed
+gives_obeys rule view (Err (Fault r)) step allowed is = subst rule is allowed
 
 -- what one rule allows is allowed by a wider one
 pub obeys_wider : {A B : Type 0} (rule wider : Result B Refusal → Type 0) → ((given : Result B Refusal) → rule given → wider given)
     → (view : A → B) (r : Result A Stop) → Obeys rule view r → Obeys wider view r
 obeys_wider rule wider so view (Ok x) is = so (Ok (view x)) is
 obeys_wider rule wider so view (Err NoMemory) is = tt
-obeys_wider rule wider so view (Err (Refused r)) is = so (Err r) is
+obeys_wider rule wider so view (Err (Fault r)) is = so (Err r) is
 
 -- a stop that one rule allows, handed on
 pub may_stop : {A B : Type 0} (rule : Result A Refusal → Type 0) (next : Result B Refusal → Type 0) → ((r : Refusal) → rule (Err r) → next (Err r))
     → (stop : Stop) → MayStop rule stop → MayStop next stop
 may_stop rule next so NoMemory is = tt
-may_stop rule next so (Refused r) is = so r is
+may_stop rule next so (Fault r) is = so r is
 
 -- a rule that allows one outcome for each value allows one after a step
 pub one_after : {A B : Type 0} (step : Result A Refusal) (next : A → Result B Refusal → Type 0)

@@ -9,7 +9,8 @@ use Rattle.tool_texts.specs.declared.refusal.LineWhy.{LineWhy}
 use Rattle.tool_texts.specs.declared.refusal.LineWhy.TheVariants as line
 use Rattle.tool_texts.specs.declared.refusal.Refusal.{Refusal}
 use Rattle.tool_texts.specs.declared.refusal.Refusal.TheVariants.{TooLong, Line, NotJson, Format, Pred, Count, Size}
-use Rattle.tool_texts.specs.declared.refusal.Refusal.TheVariants.{Journal, Atoms, Width, Wide, Settle}
+use Rattle.tool_texts.specs.declared.refusal.Refusal.TheVariants.{Journal, Atoms, Range, Width, States, Wide}
+use Rattle.tool_texts.specs.declared.refusal.Refusal.TheVariants.{Settle}
 use Rattle.tool_texts.specs.declared.output.Output.{Output}
 use Rattle.tool_texts.specs.declared.output.Ending.TheVariants as ending
 
@@ -32,7 +33,9 @@ refusal_text (Count word) = codes "fault: count " ++ decimal word
 refusal_text (Size agents) = codes "fault: size " ++ decimal agents
 refusal_text (Journal number why) = codes "fault: journal " ++ decimal number ++ codes " " ++ journal_reason why
 refusal_text (Atoms count) = codes "fault: atoms " ++ decimal count
+refusal_text (Range atom) = codes "fault: range " ++ decimal atom
 refusal_text (Width atom width) = codes "fault: width " ++ decimal atom ++ codes " " ++ decimal width
+refusal_text (States atom states) = codes "fault: states " ++ decimal atom ++ codes " " ++ decimal states
 refusal_text (Wide atom) = codes "fault: wide " ++ decimal atom
 refusal_text (Settle takes) = codes "fault: settle " ++ decimal takes
 

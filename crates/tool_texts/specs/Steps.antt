@@ -1,11 +1,15 @@
 -- The steps of a command: each gives a value, or the refusal of the input.
 use Rattle.std.specs.Prelude.{◌≡◌, Result, Ok, Err}
+use Rattle.pop_io.specs.declared.failure.Failure.{Failure}
+use Rattle.pop_io.specs.declared.failure.Failure.TheVariants.{Fault, NoMemory}
 use Rattle.json_shape.specs.declared.fault.FormatFault.{FormatFault}
 use Rattle.json_shape.specs.declared.fault.FormatFault.TheVariants.{Broken, NoMemory as OutOfMemory}
 use Rattle.tool_texts.specs.declared.refusal.Refusal.{Refusal}
 use Rattle.tool_texts.specs.declared.refusal.Refusal.TheVariants.{Format}
-use Rattle.tool_texts.specs.declared.stop.Stop.{Stop}
-use Rattle.tool_texts.specs.declared.stop.Stop.TheVariants.{Refused, NoMemory}
+
+-- the input is refused, or memory ran out
+abbrev pub Stop : Type 0
+Stop = Failure Refusal
 
 infixl 10 ◌>>=◌
 -- then go on with the value, or hand the refusal on
@@ -21,7 +25,7 @@ After (Err r) next given = given ≡ Err r
 -- the stop is this refusal, unless out of memory
 abbrev pub Stops : {B : Type 0} → Stop → Result B Refusal → Type 0
 Stops NoMemory step = Unit {0}
-Stops (Refused r) step = step ≡ Err r
+Stops (Fault r) step = step ≡ Err r
 
 -- what a function returned, seen by `view`, is what the step gives, unless out of memory
 abbrev pub GivesStep : {A B : Type 0} → (A → B) → Result A Stop → Result B Refusal → Type 0
@@ -31,7 +35,7 @@ GivesStep view (Err stop) step = Stops stop step
 -- the rule allows this refusal, unless out of memory
 abbrev pub MayStop : {B : Type 0} → (Result B Refusal → Type 0) → Stop → Type 0
 MayStop rule NoMemory = Unit {0}
-MayStop rule (Refused r) = rule (Err r)
+MayStop rule (Fault r) = rule (Err r)
 
 -- the rule allows what a function returned, seen by `view`, unless out of memory
 abbrev pub Obeys : {A B : Type 0} → (Result B Refusal → Type 0) → (A → B) → Result A Stop → Type 0
@@ -40,5 +44,5 @@ Obeys rule view (Err stop) = MayStop rule stop
 
 -- a file that breaks a rule is refused
 abbrev pub stop_of : FormatFault → Stop
-stop_of (Broken path why) = Refused (Format path why)
+stop_of (Broken path why) = Fault (Format path why)
 stop_of OutOfMemory = NoMemory

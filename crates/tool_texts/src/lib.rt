@@ -19,4 +19,4 @@ pub use lines::{
 pub use output::{Ending, Output};
 pub use refusal::{LineWhy, Refusal};
 pub use status::Status;
-pub use stop::Stop;
+pub use stop::{Stop, stop_of};

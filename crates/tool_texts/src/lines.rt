@@ -4,18 +4,19 @@ ghost use Rattle.std.specs.Prelude.{◌≡◌, ◌≤◌, length, IfOk};
 ghost use Rattle.pop_lines.specs.Lines.{lines_of};
 ghost use Rattle.tool_texts.specs.Steps.{GivesStep};
 ghost use Rattle.tool_texts.specs.Lines.{line_refusal, two_and_more, two_and_some, just_one, just_two, just_three};
-ghost use Rattle.tool_texts.specs.declared.stop.Stop.TheVariants.{Refused};
+ghost use Rattle.pop_io.specs.declared.failure.Failure.TheVariants.{Fault};
 
 use crate::refusal::{LineWhy, Refusal};
 use crate::stop::Stop;
+use pop_io::Failure;
 use pop_lines::{LineFault, next_line, one_line, three_lines, two_lines, two_lines_and_more};
 
 fn refused(fault: LineFault) -> Stop
-    ensures { result ≡ Refused (line_refusal fault) }
+    ensures { result ≡ Fault (line_refusal fault) }
 {
     match fault {
-        LineFault::Missing(number) => Stop::Refused(Refusal::Line(number, LineWhy::Missing)),
-        LineFault::Extra(number) => Stop::Refused(Refusal::Line(number, LineWhy::Extra)),
+        LineFault::Missing(number) => Failure::Fault(Refusal::Line(number, LineWhy::Missing)),
+        LineFault::Extra(number) => Failure::Fault(Refusal::Line(number, LineWhy::Extra)),
     }
 }
 

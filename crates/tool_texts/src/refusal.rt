@@ -45,8 +45,12 @@ pub enum Refusal {
     Journal(u64, JournalWhy),
     /// A predicate with this many atoms is not compiled.
     Atoms(u32),
+    /// No range suffices for the numbers of the atom.
+    Range(u32),
     /// The atom has this width, too much for a leaf.
     Width(u32, u64),
+    /// The atom's leaf would have this many states, too many for a leaf.
+    States(u32, u64),
     /// The atom makes a wide leaf, and there are too many atoms for one.
     Wide(u32),
     /// A crowd for which a proof allows this many takes is not settled.
@@ -84,7 +88,9 @@ impl fmt::Display for Refusal {
             Refusal::Size(agents) => write!(f, "fault: size {agents}"),
             Refusal::Journal(number, why) => write!(f, "fault: journal {number} {why}"),
             Refusal::Atoms(count) => write!(f, "fault: atoms {count}"),
+            Refusal::Range(atom) => write!(f, "fault: range {atom}"),
             Refusal::Width(atom, width) => write!(f, "fault: width {atom} {width}"),
+            Refusal::States(atom, states) => write!(f, "fault: states {atom} {states}"),
             Refusal::Wide(atom) => write!(f, "fault: wide {atom}"),
             Refusal::Settle(takes) => write!(f, "fault: settle {takes}"),
         }

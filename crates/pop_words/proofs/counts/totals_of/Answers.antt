@@ -13,8 +13,8 @@ loop-count-preserved c =
     ∙ ap (λ (l : List ℕ). l ++ unwrap_or (get_or found k None) 0 ∷ []) c.loop-count.invariant
     ∙ sym (map_more (λ (o : Option ℕ). unwrap_or o 0) found k None (omega arith))
 
-pub returns-clause-ok : goal.returns-clause-ok
-returns-clause-ok c =
+pub returns : goal.returns
+returns c =
     let found = c.args.found.now in
     c.from_vec.ensures
     ∙ c.loop-count.invariant

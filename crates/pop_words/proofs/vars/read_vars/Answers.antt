@@ -5,8 +5,9 @@ use Rattle.std.proofs.lemmas.Bool.{not-false, not-true}
 use Rattle.pop_lines.specs.Lines.{pieces}
 use Rattle.pop_words.specs.Vars.{vars_of, Named, AreVariables}
 use Rattle.pop_words.specs.Walk.{words_behind, NamedBehind}
-use Rattle.pop_words.specs.declared.vars.VarsFault.{VarsFault}
-use Rattle.pop_words.specs.declared.vars.VarsFault.TheVariants.{Form, NoMemory}
+use Rattle.pop_io.specs.declared.failure.Failure.{Failure}
+use Rattle.pop_io.specs.declared.failure.Failure.TheVariants.{Fault, NoMemory}
+use Rattle.pop_words.specs.declared.vars.NoVars.{NoVars}
 use Rattle.pop_words.proofs.Cuts.{words-cut}
 use Rattle.pop_words.proofs.NameLists.{variables}
 use Rattle.pop_words.proofs.vars.read_vars.Goals as goal
@@ -15,13 +16,13 @@ other_word : (line first : List ℕ) (rest : Option (List ℕ)) → pieces 32 li
 unfolding vars_of
 other_word line first rest words other = rw (words, other) refl
 
-named : (line first : List ℕ) (rest : Option (List ℕ)) (result : Result (List (List ℕ)) VarsFault) → pieces 32 line ≡ first ∷ words_behind rest → bytes_eq first (codes "vars") ≡ true → NamedBehind result (words_behind rest) → Named result (vars_of line)
+named : (line first : List ℕ) (rest : Option (List ℕ)) (result : Result (List (List ℕ)) (Failure NoVars)) → pieces 32 line ≡ first ∷ words_behind rest → bytes_eq first (codes "vars") ≡ true → NamedBehind result (words_behind rest) → Named result (vars_of line)
 unfolding vars_of
 named line first rest (Ok names) words is behind = rw (words, is, behind.1) (ap Some (sym behind.0))
-named line first rest (Err Form) words is behind = rw (words, is, behind) refl
+named line first rest (Err (Fault _)) words is behind = rw (words, is, behind) refl
 named line first rest (Err NoMemory) words is behind = tt
 
-formed : (words : List (List ℕ)) (result : Result (List (List ℕ)) VarsFault) → NamedBehind result words → IfOk result AreVariables
+formed : (words : List (List ℕ)) (result : Result (List (List ℕ)) (Failure NoVars)) → NamedBehind result words → IfOk result AreVariables
 formed words (Ok names) behind = variables names (rw behind.0 behind.1)
 formed words (Err e) behind = tt
 

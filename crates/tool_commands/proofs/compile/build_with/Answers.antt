@@ -3,3 +3,6 @@ use Rattle.tool_commands.proofs.compile.build_with.Goals as goal
 
 pub returns-in-Flocks : goal.returns-in-Flocks
 returns-in-Flocks c = search rules
+
+pub returns-in-Succinct : goal.returns-in-Succinct
+returns-in-Succinct c = search rules

@@ -1,9 +1,11 @@
 use Rattle.std.proofs.Common.{◌≡◌, length, refl, ap, sym, subst, ◌∙◌}
 use Rattle.std.specs.Prelude.{All}
+use Rattle.std.specs.Option.{option_map}
 use Rattle.cert_base.specs.declared.proof.LeafProof.{LeafProof}
 use Rattle.cert_base.specs.ProofLimits.{IsProofWithin}
 use Rattle.pop_net.specs.NetModel.{NetModel}
 use Rattle.pres_ast.specs.PredModel.{IsPred}
+use Rattle.tool_commands.specs.Compile.{refusal_of, unless_refused}
 use Rattle.tool_commands.proofs.compile.built_bundle.Goals as goal
 
 pub returns-in-Ok-clause-compiled : goal.returns-in-Ok-clause-compiled
@@ -17,6 +19,7 @@ returns-in-Ok-clause-compiled c =
       net_is = built.net;
       pred_is = refl;
       valid = built.valid;
+      bound = built.bound;
       writable = record {
         net = built.formed;
         variables = over;
@@ -27,3 +30,7 @@ returns-in-Ok-clause-compiled c =
       single = built.single;
       right = built.right;
     }
+
+pub returns-in-Err-Fault-clause-fits : goal.returns-in-Err-Fault-clause-fits
+returns-in-Err-Fault-clause-fits c =
+    rw c.refusal_of.ensures (ap (λ found. unless_refused (option_map refusal_of found)) (rw c.in-Err-Fault.field-0-is at c.in-Err-Fault.ensures.refused))

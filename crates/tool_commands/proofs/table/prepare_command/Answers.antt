@@ -1,4 +1,5 @@
 use Rattle.pop_words.specs.declared.command.Command.TheVariants.{Play, Eval, Check, Replay, ReplayWatched, Settle, Compile, Flocks}
+use Rattle.pop_words.specs.declared.command.Command.TheVariants.{Show, Succinct}
 use Rattle.tool_commands.proofs.Ready.{command_ready, step_obeys}
 use Rattle.tool_commands.proofs.table.prepare_command.Goals as goal
 
@@ -10,6 +11,9 @@ returns-in-Eval-clause-leads c = command_ready c.args.command Eval _ c.eval.resu
 
 pub returns-in-Check-clause-leads : goal.returns-in-Check-clause-leads
 returns-in-Check-clause-leads c = command_ready c.args.command Check _ c.check.result c.ready-in-Check.result c.in-Check.is c.check.ensures c.ready-in-Check.ensures
+
+pub returns-in-Show-clause-leads : goal.returns-in-Show-clause-leads
+returns-in-Show-clause-leads c = command_ready c.args.command Show _ c.show.result c.ready-in-Show.result c.in-Show.is c.show.ensures c.ready-in-Show.ensures
 
 pub returns-in-Replay-clause-leads : goal.returns-in-Replay-clause-leads
 returns-in-Replay-clause-leads c = command_ready c.args.command Replay _ c.replay.result c.ready-in-Replay.result c.in-Replay.is c.replay.ensures c.ready-in-Replay.ensures
@@ -25,3 +29,6 @@ returns-in-Compile-clause-leads c = command_ready c.args.command Compile _ c.com
 
 pub returns-in-Flocks-clause-leads : goal.returns-in-Flocks-clause-leads
 returns-in-Flocks-clause-leads c = command_ready c.args.command Flocks _ c.compile-in-Flocks.result c.ready-in-Flocks.result c.in-Flocks.is c.compile-in-Flocks.ensures c.ready-in-Flocks.ensures
+
+pub returns-in-Succinct-clause-leads : goal.returns-in-Succinct-clause-leads
+returns-in-Succinct-clause-leads c = command_ready c.args.command Succinct _ c.compile-in-Succinct.result c.ready-in-Succinct.result c.in-Succinct.is c.compile-in-Succinct.ensures c.ready-in-Succinct.ensures

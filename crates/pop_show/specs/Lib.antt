@@ -1,0 +1,4 @@
+pub mod Lines
+pub mod LeafLines
+pub mod Shown
+pub mod Showable
