@@ -57,7 +57,7 @@ meetings_lead net (m ∷ meetings) crowd h =
 
 -- ---- crowds that are reachable from an input
 
-reached_states : (net : NetModel) (counts : List ℕ) (crowd : CrowdModel) → IsNet net → IsInput (length net.variables) (number_of_helpers net) counts → Reachable (Step net) (input_crowd net counts) crowd → All (HasStates net) crowd
+pub reached_states : (net : NetModel) (counts : List ℕ) (crowd : CrowdModel) → IsNet net → IsInput (length net.variables) (number_of_helpers net) counts → Reachable (Step net) (input_crowd net counts) crowd → All (HasStates net) crowd
 reached_states net counts crowd is input r k d l i leaf h =
     let inputs = All-slice_get (λ (l : LeafModel). length l.inputs ≡ length net.variables) net.leaves i leaf is.inputs h in
     let helpers = All-slice_get (λ (l : LeafModel). length l.helpers ≡ number_of_helpers net) net.leaves i leaf is.helpers h in

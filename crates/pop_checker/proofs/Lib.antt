@@ -7,6 +7,10 @@ pub mod Outputs
 pub mod Meetings
 pub mod Settles
 pub mod Fairness
+pub mod LeastMoves
+pub mod Synchronous
+pub mod Random
+pub mod OneLayer
 pub mod Verdicts
 pub mod RightEnds
 pub mod MajorityProof

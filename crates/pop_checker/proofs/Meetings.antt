@@ -25,7 +25,7 @@ use Rattle.pop_crowd.proofs.Reached.{length-after_meeting, tuples_after_meeting}
 abbrev pub IsSingleLeaf : LeafModel → Type 0
 IsSingleLeaf leaf = AllPairs Differ leaf.moves
 
-turned : (x y u v : ℕ) → same_pair x y u v ≡ true → same_pair u v x y ≡ true
+pub turned : (x y u v : ℕ) → same_pair x y u v ≡ true → same_pair u v x y ≡ true
 turned x y u v e = go (same_pair_cases x y u v e)
   where
     go : ((x ≡ u) × (y ≡ v)) ⊎ ((x ≡ v) × (y ≡ u)) → same_pair u v x y ≡ true

@@ -14,13 +14,12 @@ use Rattle.cert_base.specs.Closes.{Closes}
 use Rattle.cert_base.specs.FactsAndCases.{base_list}
 use Rattle.cert_base.specs.ValidLayers.{ValidLayers}
 use Rattle.cert_base.specs.ValidProof.{ValidLeafProof, ValidProof}
-use Rattle.cert_layers.specs.declared.fault.LayerFault.TheVariants.{Broken as LayersBroken}
+use Rattle.pop_io.specs.declared.failure.Failure.TheVariants.{Fault}
 use Rattle.cert_layers.specs.declared.fault.LayerWhy.{LayerWhy}
 use Rattle.cert_layers.specs.declared.fault.LayerWhy.TheVariants.{Shape, NoLayer, NotLower, Wakes}
 use Rattle.cert_layers.specs.LayerFaults.{ShapedAt, ListedAt, LowerAt, SleepsAt, Each, IsFirstFailing, AreBrokenFirst}
 use Rattle.cert_layers.proofs.Valid.{accepted}
 use Rattle.cert_tree.specs.declared.fault.TreeWhy.{TreeWhy}
-use Rattle.cert_tree.specs.declared.fault.TreeFault.TheVariants.{Broken}
 use Rattle.cert_tree.specs.Refusals.{first_refused}
 use Rattle.cert_tree.proofs.Verdicts.{only_memory}
 use Rattle.pop_checker.specs.declared.fault.Rejected.{Rejected}
@@ -76,13 +75,13 @@ one_tree_fault leaf p value nodes named other f g = same_named named other (sym 
 
 not_closed : (leaf : LeafModel) (p : PredModel) (value : Bool) (nodes : List Node) (named : Named) → Closes leaf (base_list leaf p value) nodes [] → first_refused leaf p value nodes ≡ Some named → ⊥
 not_closed leaf p value nodes named closes is =
-    let none = only_memory leaf p value nodes (Broken named.0 named.1) is closes in cc
+    let none = only_memory leaf p value nodes (Fault (record { node = named.0; why = named.1 })) is closes in cc
 
 -- ---- a leaf's proof
 
 not_valid_layers : (leaf : LeafModel) (part : LeafProof) (why : LayerWhy) → ValidLayers leaf part.layers → RejectsLayers leaf part why → ⊥
 not_valid_layers leaf part why valid rejects =
-    let none = accepted leaf part.layers part.layers (Err (LayersBroken why)) refl rejects valid in cc
+    let none = accepted leaf part.layers part.layers (Err (Fault why)) refl rejects valid in cc
 
 not_valid_tree : (leaf : LeafModel) (part : LeafProof) (value : Bool) (named : Named) → ValidLeafProof leaf part → RejectsTree leaf part value named.0 named.1 → ⊥
 not_valid_tree leaf part true named valid rejects =

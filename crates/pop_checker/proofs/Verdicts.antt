@@ -20,6 +20,9 @@ use Rattle.pop_checker.specs.Sound.{IsRight}
 use Rattle.pop_checker.proofs.Outputs.{computes as computed}
 use Rattle.pop_checker.proofs.Settles.{valid_settles}
 use Rattle.pop_checker.proofs.Fairness.{steps_fairly, meetings_fairly}
+use Rattle.pop_checker.proofs.Synchronous.{synchronous_fairly}
+use Rattle.pop_checker.proofs.Random.{meetings_randomly}
+use Rattle.pop_checker.proofs.OneLayer.{one_layer_changes, one_layer_cubic}
 
 -- a net whose proof is right computes the predicate
 pub right_by : (net : NetModel) (p : PredModel) (proof : Proof) → IsNet net → ValidProof net p proof → AreRightBefore net proof.leaves (length net.leaves) → IsRight net p proof
@@ -28,7 +31,11 @@ right_by net p proof is valid right =
       computes = computed net p proof is valid right;
       settles = λ single. valid_settles net p proof is valid single;
       fair = steps_fairly net p.tree (proof_bound proof) (computed net p proof is valid right);
+      fair_synchronous = synchronous_fairly net p proof (proof_bound proof) is valid (computed net p proof is valid right);
       fair_meetings = λ single. meetings_fairly net p.tree (proof_bound proof) is (computed net p proof is valid right) (valid_settles net p proof is valid single);
+      random = λ single. meetings_randomly net p.tree (proof_bound proof) is (computed net p proof is valid right) (valid_settles net p proof is valid single);
+      changes = λ one. one_layer_changes net p proof is valid one;
+      cubic = λ one. one_layer_cubic net p proof is valid one (proof_bound proof) (computed net p proof is valid right);
     }
 
 -- a net whose proof is right is checked
@@ -40,7 +47,9 @@ checked_by net p proof bound is variables valid right e =
       computes = computed net p proof is valid right;
       settles = λ single. valid_settles net p proof is valid single;
       fair = steps_fairly net p.tree (proof_bound proof) (computed net p proof is valid right);
+      fair_synchronous = synchronous_fairly net p proof (proof_bound proof) is valid (computed net p proof is valid right);
       fair_meetings = λ single. meetings_fairly net p.tree (proof_bound proof) is (computed net p proof is valid right) (valid_settles net p proof is valid single);
+      random = λ single. meetings_randomly net p.tree (proof_bound proof) is (computed net p proof is valid right) (valid_settles net p proof is valid single);
     })
 
 -- all agents output the predicate's value

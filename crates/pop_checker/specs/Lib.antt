@@ -1,4 +1,5 @@
 pub mod Computes
+pub mod Changes
 pub mod CheckedModel
 pub mod Rejections
 pub mod Parts

@@ -12,9 +12,9 @@ ghost use Rattle.pop_checker.specs.Parts.{IsRightPart, IsLayersFault, IsValueFau
 
 use crate::fault::{CheckFault, Rejected};
 use cert_base::{LAYER_LIMIT, LeafProof, Node, SIZE_LIMIT};
-use cert_layers::{LayerFault, check_layers};
+use cert_layers::check_layers;
 use cert_tree::{TreeFault, check_tree};
-use pop_io::List;
+use pop_io::{Failure, List};
 use pop_net::Leaf;
 use pres_ast::Pred;
 use std::alloc::Global;
@@ -51,11 +51,11 @@ fn check_order(alloc: Global, leaf: &Leaf, number: u8, part: &LeafProof) -> Resu
 {
     match check_layers(alloc, leaf, &part.layers) {
         Ok(bound) => Ok(bound),
-        Err(LayerFault::Broken(why)) => Err(CheckFault::Rejected(Rejected::Layers {
+        Err(Failure::Fault(why)) => Err(CheckFault::Rejected(Rejected::Layers {
             leaf: number,
             why,
         })),
-        Err(LayerFault::NoMemory) => Err(CheckFault::NoMemory),
+        Err(Failure::NoMemory) => Err(CheckFault::NoMemory),
     }
 }
 
@@ -77,12 +77,12 @@ fn check_value(
 {
     match check_tree(alloc, leaf, pred, value, nodes) {
         Ok(()) => Ok(()),
-        Err(TreeFault::Broken { node, why }) => Err(CheckFault::Rejected(Rejected::Tree {
+        Err(Failure::Fault(TreeFault { node, why })) => Err(CheckFault::Rejected(Rejected::Tree {
             leaf: number,
             value,
             node,
             why,
         })),
-        Err(TreeFault::NoMemory) => Err(CheckFault::NoMemory),
+        Err(Failure::NoMemory) => Err(CheckFault::NoMemory),
     }
 }

@@ -1,5 +1,7 @@
 -- What the calls of a crowd promise.
-use Rattle.std.specs.Prelude.{◌≡◌, ℕ, ◌≤◌, Bool, List, length, Result, IfOk, IfErr}
+use Rattle.std.specs.Prelude.{◌≡◌, ℕ, ◌≤◌, Bool, List, length, Result, IfOk}
+use Rattle.pop_io.specs.declared.failure.Failure.{Failure}
+use Rattle.pop_io.specs.Failures.{IfFault, OnlyMemory}
 use Rattle.pop_net.specs.NetModel.{NetModel}
 use Rattle.pop_net.specs.InputCrowd.{input_crowd}
 use Rattle.pop_net.specs.Lanes.{crowd_of, AreValid}
@@ -10,19 +12,17 @@ use Rattle.pop_net.specs.declared.net.Word.{Word}
 use Rattle.pop_crowd.specs.declared.crowd.Crowd.{Crowd}
 use Rattle.pop_crowd.specs.declared.crowd.Meeting.{Meeting}
 use Rattle.pop_crowd.specs.declared.fault.CrowdFault.{CrowdFault}
-use Rattle.pop_crowd.specs.declared.fault.CrowdFault.TheVariants.{NoMemory as OutOfMemory}
 use Rattle.pop_crowd.specs.declared.limits.TheConstants.{AGENT_LEAST, AGENT_LIMIT}
 use Rattle.pop_crowd.specs.Crowds.{RefusesCounts, input_size}
 use Rattle.pop_crowd.specs.Replay.{changes, replay, change_count}
 
 -- the input crowd of these counts, or why there is none
-pub record IsCrowdOfCounts (net : NetModel) (counts : List ℕ) (result : Result Crowd CrowdFault) : Type 0 where
+pub record IsCrowdOfCounts (net : NetModel) (counts : List ℕ) (result : Result Crowd (Failure CrowdFault)) : Type 0 where
   pub start : IfOk result (λ crowd. crowd_of net crowd ≡ input_crowd net counts)
   pub valid : IfOk result (AreValid net)
   pub size : IfOk result (λ crowd. (AGENT_LEAST ≤ length crowd) × (length crowd ≤ AGENT_LIMIT))
-  pub refused : IfErr result (RefusesCounts net counts)
-  pub accepts : AGENT_LEAST ≤ input_size net counts → input_size net counts ≤ AGENT_LIMIT
-      → IfErr result (λ fault. fault ≡ OutOfMemory)
+  pub refused : IfFault result (RefusesCounts net counts)
+  pub accepts : AGENT_LEAST ≤ input_size net counts → input_size net counts ≤ AGENT_LIMIT → OnlyMemory result
 
 -- these are the crowd's words
 pub record AreWordsOf (crowd result : List Word) : Type 0 where

@@ -1,5 +1,5 @@
 -- When counts give no crowd that can be run.
-use Rattle.std.specs.Prelude.{◌≡◌, ◌⊎◌, ℕ, ◌+◌, ◌&&◌, nat_le, List, sum, Option, Some}
+use Rattle.std.specs.Prelude.{◌≡◌, ℕ, ◌+◌, ◌&&◌, nat_le, List, sum, Option, Some}
 use Rattle.pop_net.specs.FirstFault.{unless}
 use Rattle.pop_net.specs.NetModel.{NetModel, number_of_helpers}
 use Rattle.pop_crowd.specs.declared.limits.TheConstants.{AGENT_LEAST, AGENT_LIMIT}
@@ -13,6 +13,6 @@ input_size net counts = sum counts + number_of_helpers net
 abbrev pub size_fault : ℕ → Option CrowdFault
 size_fault agents = unless (nat_le AGENT_LEAST agents && nat_le agents AGENT_LIMIT) (fault.Size agents)
 
--- the input crowd is too small or too large, unless memory ran out
+-- the input crowd is too small or too large
 abbrev pub RefusesCounts : NetModel → List ℕ → CrowdFault → Type 0
-RefusesCounts net counts f = (f ≡ fault.NoMemory) ⊎ (size_fault (input_size net counts) ≡ Some f)
+RefusesCounts net counts f = size_fault (input_size net counts) ≡ Some f

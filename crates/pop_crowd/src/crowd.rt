@@ -6,7 +6,7 @@ use crate::fault::CrowdFault;
 use crate::limits::{AGENT_LEAST, AGENT_LIMIT};
 use crate::lines::lines_of;
 use crate::starts::{input_words, size};
-use pop_io::{List, NoMemory};
+use pop_io::{Failure, List, NoMemory};
 use pop_net::{Net, Word};
 use std::alloc::Global;
 use std::marker::Model;
@@ -52,14 +52,14 @@ impl Crowd {
     ghost use Rattle.pop_crowd.specs.Calls.{IsCrowdOfCounts, AreWordsOf, IsSizeOf, HasMet, HasReplayed};
 
     /// The input crowd: first the agents of variable 0, then those of variable 1, and so on, then the helpers.
-    pub fn of_counts(alloc: Global, net: &Net, counts: &[u64]) -> Result<Crowd, CrowdFault>
+    pub fn of_counts(alloc: Global, net: &Net, counts: &[u64]) -> Result<Crowd, Failure<CrowdFault>>
         requires { length counts.now ≡ length net.now.variables }
         ensures { IsCrowdOfCounts net.now counts.now result }
     {
         let _ = net.var_count();
         let agents = size(net, counts);
         if agents < u128::from(AGENT_LEAST) || u128::from(AGENT_LIMIT) < agents {
-            return Err(CrowdFault::Size(agents));
+            return Err(Failure::Fault(CrowdFault::Size(agents)));
         }
         let words = input_words(alloc, net, counts)?;
         Ok(Crowd { words })

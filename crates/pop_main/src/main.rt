@@ -1,10 +1,11 @@
 //! The program: its words and the standard streams go to the top call, whose status is the exit status.
 //! It stands on `pop_tool` and `pop_io`.
-//! Nothing stands above it: it is the trusted edge, and adds no clause to those of `run_tool`.
+//! Nothing stands above it: it is the trusted edge, and adds no clause to those of `run_plain`, which returns, and of
+//! `run_tool`.
 #![tactic(auto)]
 
 use pop_io::{OpenGate, StdSink, StdSource};
-use pop_tool::{Status, WORD_LIMIT, run_tool};
+use pop_tool::{Status, WORD_LIMIT, is_plain, run_plain, run_tool};
 use std::alloc::AllocError;
 use std::process::ExitCode;
 use std::rt::Env;
@@ -52,7 +53,8 @@ fn refs<'w>(rt: &impl AllocGlobal, words: &'w [String]) -> Result<Vec<&'w str>, 
     Ok(list)
 }
 
-/// The status of the top call over the standard streams. A faulty command line is not handed on.
+/// The status of the top call over the standard streams: of the one that returns, if the words need no threads. A faulty
+/// command line is not handed on.
 fn status_of<R>(rt: &R) -> Status
 where
     R: Env + Input + Print + AllocGlobal + Threads + Wait + Sync,
@@ -70,6 +72,9 @@ where
     }
     let mut source = StdSource::new(rt);
     let mut sink = StdSink::new(rt);
+    if is_plain(&words) {
+        return run_plain(rt.alloc(), &words, &mut source, &mut sink, &OpenGate);
+    }
     run_tool(rt, rt.alloc(), &words, &mut source, &mut sink, &OpenGate)
 }
 

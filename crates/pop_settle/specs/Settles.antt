@@ -1,5 +1,5 @@
 -- Settles: what `settle` says of a net, a proof of it and a crowd's words.
-use Rattle.std.specs.Prelude.{◌≡◌, ◌*◌, ◌≤◌, List, length, Result, IfOk, IfErr}
+use Rattle.std.specs.Prelude.{◌≡◌, ◌*◌, ◌≤◌, List, length, Result, IfOk}
 use Rattle.pop_net.specs.declared.net.Word.{Word}
 use Rattle.pop_net.specs.NetModel.{NetModel}
 use Rattle.pop_net.specs.Lanes.{crowd_of, AreValid}
@@ -13,9 +13,11 @@ use Rattle.pop_settle.specs.declared.fault.SettleFault.{SettleFault}
 use Rattle.pop_settle.specs.declared.take.Settled.{Settled}
 use Rattle.pop_settle.specs.Settlement.{IsSettlement}
 use Rattle.pop_settle.specs.Laws.{IsOnlySettlement}
+use Rattle.pop_io.specs.declared.failure.Failure.{Failure}
+use Rattle.pop_io.specs.Failures.{IfFault}
 use Rattle.pop_settle.specs.Settling.{RefusesSettle}
 
-pub record Settles (net : NetModel) (proof : Proof) (words : List Word) (result : Result Settled SettleFault)
+pub record Settles (net : NetModel) (proof : Proof) (words : List Word) (result : Result Settled (Failure SettleFault))
     : Type 0 where
   pub settled : IfOk result (λ s. IsSettlement net proof (crowd_of net words) s.takes (crowd_of net s.crowd))
   -- there is no other settlement
@@ -27,4 +29,4 @@ pub record Settles (net : NetModel) (proof : Proof) (words : List Word) (result 
   pub valid : IfOk result (λ s. AreValid net s.crowd)
   pub agents : IfOk result (λ s. length s.crowd ≡ length words)
   pub accepts : IfOk result (λ s. proof_bound proof * length words ≤ TAKE_LIMIT)
-  pub refused : IfErr result (RefusesSettle proof (length words))
+  pub refused : IfFault result (RefusesSettle proof (length words))

@@ -10,7 +10,7 @@ use Rattle.cert_base.specs.ValidLayers.{ValidLayers}
 use Rattle.cert_layers.specs.LayerFaults.{IsWeight}
 use Rattle.pop_settle.specs.declared.limits.TheConstants.{TAKE_LIMIT}
 use Rattle.pop_settle.specs.declared.fault.SettleFault.{SettleFault}
-use Rattle.pop_settle.specs.declared.fault.SettleFault.TheVariants.{Long, NoMemory}
+use Rattle.pop_settle.specs.declared.fault.SettleFault.TheVariants.{Long}
 
 -- each leaf has a proof with valid layers
 pub record AreLayersValid (net : NetModel) (proof : Proof) : Type 0 where
@@ -29,7 +29,6 @@ pub record HasLayers (net : NetModel) (proof : Proof) : Type 0 where
   pub layers : AreLayersValid net proof
   pub few : AreFewLayers proof
 
--- the bound of the proof is too great for this many agents, unless memory ran out
+-- the bound of the proof is too great for this many agents
 abbrev pub RefusesSettle : Proof → ℕ → SettleFault → Type 0
 RefusesSettle proof agents (Long most) = (most ≡ proof_bound proof * agents) × (TAKE_LIMIT < most)
-RefusesSettle proof agents NoMemory = Unit {0}

@@ -22,13 +22,18 @@ use crate::take::{Settled, Take};
 use crate::walk::Walk;
 use cert_base::{Layer, Proof};
 use pop_crowd::Crowd;
-use pop_io::{List, NoMemory};
+use pop_io::{Failure, List, NoMemory};
 use pop_net::{Leaf, Net};
 use std::alloc::Global;
 
 /// Takes the moves by the proof's layers until none can be taken (layered termination of Blondin, Esparza, Jaax,
 /// Meyer 2017). The definition looks at all leaves and layers each time; this call never goes back to an earlier one.
-pub fn settle(alloc: Global, net: &Net, proof: &Proof, crowd: Crowd) -> Result<Settled, SettleFault>
+pub fn settle(
+    alloc: Global,
+    net: &Net,
+    proof: &Proof,
+    crowd: Crowd,
+) -> Result<Settled, Failure<SettleFault>>
     requires layers { HasLayers net.now proof.now }
     requires valid { AreValid net.now crowd }
     ensures { Settles net.now proof.now crowd result }
@@ -37,7 +42,7 @@ pub fn settle(alloc: Global, net: &Net, proof: &Proof, crowd: Crowd) -> Result<S
     let _formed = net.leaf_count();
     let most = most_takes(proof, crowd.len());
     if TAKE_LIMIT < most {
-        return Err(SettleFault::Long(most));
+        return Err(Failure::Fault(SettleFault::Long(most)));
     }
     let mut walk = Walk::of_crowd(alloc, &crowd)?;
     settle_leaves(alloc, net, proof, &mut walk)?;

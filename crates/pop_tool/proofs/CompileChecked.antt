@@ -4,7 +4,7 @@ use Rattle.std.specs.Prelude.{MatchBool}
 use Rattle.pop_io.specs.declared.whole.TheConstants.{INPUT_LIMIT}
 use Rattle.pop_lines.specs.Lines.{lines_of}
 use Rattle.pop_words.specs.declared.command.Command.{Command}
-use Rattle.pop_words.specs.declared.command.Command.TheVariants.{Check, Compile, Flocks}
+use Rattle.pop_words.specs.declared.command.Command.TheVariants.{Check, Compile, Flocks, Succinct}
 use Rattle.pop_words.specs.Words.{meaning_of}
 use Rattle.comp_net.specs.declared.choice.LeafChoice.{LeafChoice}
 use Rattle.comp_net.specs.declared.choice.LeafChoice.TheVariants as leaves
@@ -24,17 +24,20 @@ use Rattle.pop_tool.proofs.CompileHeadline.{compile_says}
 compile_command : LeafChoice → Command
 compile_command leaves.Plain = Compile
 compile_command leaves.Flocks = Flocks
+compile_command leaves.Succinct = Succinct
 
 compile_means : (choice : LeafChoice) → meaning_of (compile_words choice) ≡ Ok (compile_command choice)
 unfolding compile_command
 compile_means leaves.Plain = refl
 compile_means leaves.Flocks = refl
+compile_means leaves.Succinct = refl
 
 compile_given : (choice : LeafChoice) (input : List ℕ) (given : Result Output Refusal) → InputGives (compile_command choice) input given
     → MatchBool (nat_lt INPUT_LIMIT (length input)) (given ≡ Err TooLong) (CompileGives choice (lines_of input) given)
 unfolding compile_command
 compile_given leaves.Plain input given of = of
 compile_given leaves.Flocks input given of = of
+compile_given leaves.Succinct input given of = of
 
 pub compiled_is_certified : IsCompiledCertified
 compiled_is_certified choice input written answer is done short checked =

@@ -4,7 +4,7 @@ use Rattle.std.specs.Prelude.{MatchBool}
 use Rattle.pop_io.specs.declared.whole.TheConstants.{INPUT_LIMIT}
 use Rattle.pop_lines.specs.Lines.{lines_of}
 use Rattle.pres_ast.specs.PredModel.{PredModel}
-use Rattle.pres_read.specs.TextFault.{TextFault}
+use Rattle.pres_read.specs.declared.fault.ReadPred.{ReadPred}
 use Rattle.pres_read.specs.Reading.{pred_read}
 use Rattle.pres_read.proofs.PredTexts.{read_meant}
 use Rattle.pop_words.specs.Vars.{vars_of}
@@ -52,7 +52,7 @@ names_of : (read : Option (List (List ℕ))) (names : List (List ℕ)) → named
 names_of None names e = absurd cc
 names_of (Some read) names e = cc
 
-pred_of : (read : Result PredModel TextFault) (pred : PredModel) → understood read ≡ Ok pred → read ≡ Ok pred
+pred_of : (read : Result PredModel ReadPred) (pred : PredModel) → understood read ≡ Ok pred → read ≡ Ok pred
 pred_of (Err fault) pred e = absurd cc
 pred_of (Ok read) pred e = cc
 

@@ -5,7 +5,7 @@ use Rattle.pop_journal.specs.Expected.{Difference}
 use Rattle.pop_checker.specs.declared.fault.Rejected.{Rejected}
 use Rattle.pop_checker.specs.declared.fault.Rejected.TheVariants.{Layers, Tree, Predicate}
 use Rattle.tool_texts.specs.declared.refusal.Refusal.{Refusal}
-use Rattle.tool_texts.specs.declared.refusal.Refusal.TheVariants.{TooLong, Line, NotJson, Format, Pred, Count, Size, Journal, Atoms, Width, Wide, Settle}
+use Rattle.tool_texts.specs.declared.refusal.Refusal.TheVariants.{TooLong, Line, NotJson, Format, Pred, Count, Size, Journal, Atoms, Range, Width, States, Wide, Settle}
 use Rattle.tool_texts.specs.Refusals.{refusal_text}
 use Rattle.tool_texts.specs.Rejections.{rejected_text}
 use Rattle.tool_texts.specs.Differences.{difference_text}
@@ -25,7 +25,9 @@ refusal_begins (Count word) = refl
 refusal_begins (Size agents) = refl
 refusal_begins (Journal number why) = refl
 refusal_begins (Atoms count) = refl
+refusal_begins (Range atom) = refl
 refusal_begins (Width atom width) = refl
+refusal_begins (States atom states) = refl
 refusal_begins (Wide atom) = refl
 refusal_begins (Settle takes) = refl
 

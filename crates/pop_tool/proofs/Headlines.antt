@@ -1,11 +1,12 @@
 -- What an answer says of a protocol.
-use Rattle.std.proofs.Common.{◌≡◌, ◌<◌, ◌^◌, ℕ, List, ◌++◌, Option, Some, Result, Ok, sym, ap, subst, ◌∙◌}
+use Rattle.std.proofs.Common.{◌≡◌, ℕ, List, ◌++◌, Option, Some, Result, Ok, sym, ap, subst, ◌∙◌}
 use Rattle.std.specs.Prelude.{◌↔◌}
 use Rattle.std.specs.Io.KnownBytes.{Appends}
 use Rattle.std.proofs.lemmas.List.{append_cancel_left}
 use Rattle.pop_lines.specs.Lines.{ended}
 use Rattle.pop_words.specs.declared.command.Command.{Command}
 use Rattle.pop_words.specs.declared.command.Command.TheVariants.{Check, Settle, Compile, Flocks}
+use Rattle.pop_words.specs.declared.command.Command.TheVariants.{Show, Succinct}
 use Rattle.pop_words.specs.declared.kind.RunKind.{RunKind}
 use Rattle.pop_words.specs.declared.kind.RunKind.TheVariants.{Whole, Watched}
 use Rattle.pop_words.specs.declared.spec.RunSpec.{RunSpec}
@@ -24,13 +25,15 @@ use Rattle.tool_commands.specs.Replay.{holds_text, holds_output}
 use Rattle.pop_tool.specs.Answer.{InputGives, Answer}
 use Rattle.pop_tool.specs.Outcome.{HasLeft, Wrote, Outcome}
 use Rattle.comp_net.specs.declared.choice.LeafChoice.TheVariants as leaves
-use Rattle.pop_tool.specs.Headline.{IsBundleLine, CheckSays, IsValidLine, IsHeldInput, CompileSays, SettleSays, RunSays, SaysHolds, WasRun, Headline, IsHeadline}
+use Rattle.pop_tool.specs.Headline.{IsBundleLine, HasValidProof, CheckSays, IsValidLine, SaysShown, IsShownLine, IsHeldInput, CompileSays, SettleSays, RunSays, SaysHolds, WasRun, Headline, IsHeadline}
 use Rattle.pop_tool.proofs.Replies.{given_for}
 use Rattle.pop_tool.proofs.CheckHeadline.{check_says, check_only}
+use Rattle.pop_tool.proofs.ShowHeadline.{show_says, show_done}
 use Rattle.pop_tool.proofs.RunHeadline.{run_says}
 use Rattle.pop_tool.proofs.CompileHeadline.{compile_says}
 use Rattle.pop_tool.proofs.SettleHeadline.{settle_says}
 use Rattle.pop_tool.proofs.ReplayHeadline.{held_given, replay_only}
+use Rattle.pop_tool.proofs.HeldText.{held_read, read_held}
 
 module _ (words : List (List ℕ)) (input : List ℕ) (output : Output) (answer : Answer words input output) where
   given : (command : Command) → meaning_of words ≡ Ok command → (given : Result Output Refusal) × InputGives command input given × (output ≡ output_for given)
@@ -46,18 +49,28 @@ module _ (words : List (List ℕ)) (input : List ℕ) (output : Output) (answer 
       let a = given Check is in
       check_only k input a.0 a.1 (subst (λ (o : Output). o.text ≡ ended (certified_text k)) a.2 printed)
 
-  run_headline : (kind : RunKind) (spec : RunSpec) → meaning_of words ≡ Ok (run_command kind spec) → WasRun (status_of output.ending) → RunSays kind spec input output.text
+  show_headline : (bundle : Bundle) → meaning_of words ≡ Ok Show → IsBundleLine input bundle → SaysShown bundle output.text (status_of output.ending) ↔ HasValidProof bundle
+  show_headline bundle is line =
+      let a = given Show is in
+      subst (λ (o : Output). SaysShown bundle o.text (status_of o.ending) ↔ HasValidProof bundle) (sym a.2) (show_says input bundle a.0 line a.1)
+
+  shown_headline : meaning_of words ≡ Ok Show → status_of output.ending ≡ Done → IsShownLine input output.text
+  shown_headline is done =
+      let a = given Show is in
+      subst (λ (o : Output). IsShownLine input o.text) (sym a.2) (show_done input a.0 a.1 (subst (λ (o : Output). status_of o.ending ≡ Done) a.2 done))
+
+  run_headline : (kind : RunKind) (spec : RunSpec) → meaning_of words ≡ Ok (run_command kind spec) → WasRun (status_of output.ending) → RunSays kind spec input output.text (status_of output.ending)
   run_headline kind spec is ran =
       let a = given (run_command kind spec) is in
-      subst (λ (o : Output). RunSays kind spec input o.text) (sym a.2) (run_says kind spec input a.0 a.1 (subst (λ (o : Output). WasRun (status_of o.ending)) a.2 ran))
+      subst (λ (o : Output). RunSays kind spec input o.text (status_of o.ending)) (sym a.2) (run_says kind spec input a.0 a.1 (subst (λ (o : Output). WasRun (status_of o.ending)) a.2 ran))
 
-  replay_headline : (kind : RunKind) → meaning_of words ≡ Ok (replay_command kind) → (k : ℕ) → k < 2 ^ 64
+  replay_headline : (kind : RunKind) → meaning_of words ≡ Ok (replay_command kind) → (k : ℕ)
       → SaysHolds k output.text (status_of output.ending) ↔ IsHeldInput kind input k
-  replay_headline kind is k small =
+  replay_headline kind is k =
       let a = given (replay_command kind) is in (
-        λ printed. replay_only k small kind input a.0 a.1 (subst (λ (o : Output). o.text ≡ ended (holds_text k)) a.2 printed.0),
+        λ printed. read_held kind input k (replay_only k kind input a.0 a.1 (subst (λ (o : Output). o.text ≡ ended (holds_text k)) a.2 printed.0)),
         λ held.
-            let out : output ≡ holds_output k = a.2 ∙ ap output_for (held_given kind input k held a.0 a.1) in
+            let out : output ≡ holds_output k = a.2 ∙ ap output_for (held_given kind input k (held_read kind input k held) a.0 a.1) in
             (ap (λ (o : Output). o.text) out, ap (λ (o : Output). status_of o.ending) out),
       )
 
@@ -71,6 +84,11 @@ module _ (words : List (List ℕ)) (input : List ℕ) (output : Output) (answer 
       let a = given Flocks is in
       subst (λ (o : Output). CompileSays leaves.Flocks input o.text) (sym a.2) (compile_says leaves.Flocks input a.0 a.1 (subst (λ (o : Output). status_of o.ending ≡ Done) a.2 done))
 
+  succinct_headline : meaning_of words ≡ Ok Succinct → status_of output.ending ≡ Done → CompileSays leaves.Succinct input output.text
+  succinct_headline is done =
+      let a = given Succinct is in
+      subst (λ (o : Output). CompileSays leaves.Succinct input o.text) (sym a.2) (compile_says leaves.Succinct input a.0 a.1 (subst (λ (o : Output). status_of o.ending ≡ Done) a.2 done))
+
   settle_headline : meaning_of words ≡ Ok Settle → status_of output.ending ≡ Done → SettleSays input output.text
   settle_headline is done =
       let a = given Settle is in
@@ -81,10 +99,13 @@ module _ (words : List (List ℕ)) (input : List ℕ) (output : Output) (answer 
       record {
         check = check_headline;
         only = only_headline;
+        show = show_headline;
+        shown = shown_headline;
         run = run_headline Whole;
         watch = run_headline Watched;
         compile = compile_headline;
         flocks = flocks_headline;
+        succinct = succinct_headline;
         settle = settle_headline;
         replay = replay_headline Whole;
         replay_watched = replay_headline Watched;

@@ -4,8 +4,14 @@ mod One
 mod BundleInput
 mod FirstBytes
 mod CheckHeadline
+mod ShowHeadline
+mod ShowChecked
 mod RunHeadline
+mod CountLengths
+mod Decimals
 mod ReplayHeadline
+mod LastLine
+mod HeldText
 mod RunHeld
 mod CompileHeadline
 mod CompileChecked

@@ -2,7 +2,6 @@
 use Rattle.std.proofs.Common.{◌≡◌, ℕ, ◌+◌, ◌<◌, ◌≤◌, ◌^◌, Bool, true, false, nat_lt, List, [], ◌∷◌, length, Option, Some, None, Result, Ok, Err, refl, sym, ap, subst, ◌∙◌, arith}
 use Rattle.std.specs.Prelude.{MatchBool}
 use Rattle.std.proofs.lemmas.Bool.{le-ltb, ltb-false}
-use Rattle.std.proofs.lemmas.Fmt.{decimal_injective}
 use Rattle.std.proofs.lemmas.List.{append_cancel_right}
 use Rattle.pop_io.specs.declared.whole.TheConstants.{INPUT_LIMIT}
 use Rattle.pop_lines.specs.Lines.{lines_of, ended}
@@ -40,9 +39,26 @@ use Rattle.tool_commands.proofs.OneCheck.{one_begin}
 use Rattle.tool_commands.proofs.InputSize.{length-input_crowd}
 use Rattle.tool_commands.proofs.Begun.{begun_two, begun_few}
 use Rattle.pop_tool.specs.Answer.{InputGives}
-use Rattle.pop_tool.specs.Headline.{HasValidProof, IsHeldInput}
+use Rattle.pop_tool.specs.Headline.{IsBundleInput, HasValidProof}
+use Rattle.pop_tool.proofs.Decimals.{one_decimal}
 use Rattle.pop_tool.proofs.BundleInput.{begins_input, input_begins}
 use Rattle.pop_tool.proofs.FirstBytes.{first_byte, refusal_begins, rejection_begins, difference_begins}
+
+-- the input is a bundle whose proof is valid, a crowd line, and a journal that is read and holds
+pub record IsReadHeld (kind : RunKind) (input : List ℕ) (meetings : ℕ) : Type 0 where
+  pub short : length input ≤ INPUT_LIMIT
+  pub first : List ℕ
+  pub second : List ℕ
+  pub more : List (List ℕ)
+  pub lines : lines_of input ≡ first ∷ second ∷ more
+  pub bundle : Bundle
+  pub counts : List ℕ
+  pub begins : IsBundleInput first second bundle counts
+  pub valid : HasValidProof bundle
+  pub journal : Journal
+  pub read : journal_read kind (journal_in kind (length (input_crowd bundle.net counts)) JOURNAL_LINE more) ≡ Ok journal
+  pub holds : Holds bundle.net (input_crowd bundle.net counts) journal
+  pub all : length (joined journal.rounds) ≡ meetings
 
 -- a refusal begins with an f, a rejection with an r, a difference with a d, and `holds` with an h
 not_refusal : (refusal : Refusal) (k : ℕ) → ended (refusal_text refusal) ≡ ended (holds_text k) → ⊥
@@ -62,11 +78,11 @@ tail_of [] = []
 tail_of (b ∷ bytes) = bytes
 
 -- the number that is printed
-one_number : (n k : ℕ) → n < 2 ^ 64 → k < 2 ^ 64 → ended (holds_text n) ≡ ended (holds_text k) → n ≡ k
+one_number : (n k : ℕ) → n < 2 ^ 64 → ended (holds_text n) ≡ ended (holds_text k) → n ≡ k
 unfolding tail_of
-one_number n k small few e =
+one_number n k small e =
     let text = append_cancel_right (holds_text n) (holds_text k) (10 ∷ []) e in
-    decimal_injective n k small few (ap (λ (t : List ℕ). tail_of (tail_of (tail_of (tail_of (tail_of (tail_of t)))))) text)
+    one_decimal n k small (ap (λ (t : List ℕ). tail_of (tail_of (tail_of (tail_of (tail_of (tail_of t)))))) text)
 
 abbrev Printed : Result Output Refusal → ℕ → Type 0
 Printed given k = (output_for given).text ≡ ended (holds_text k)
@@ -86,7 +102,7 @@ module _ (kind : RunKind) (first second : List ℕ) (bundle : Bundle) (counts : 
       let l = begun_few begins.0 second bundle counts (sym begins.2) in
       let e = length-input_crowd bundle.net counts in omega (arith, l, e)
 
-  read_ok : (r : Result (RunSpec × Parts) Out) (journal : Journal) → journal_read kind r ≡ Ok journal → (r ≡ Ok (journal.spec, (journal.rounds, journal.tail))) × (kind ≡ journal.kind)
+  pub read_ok : (r : Result (RunSpec × Parts) Out) (journal : Journal) → journal_read kind r ≡ Ok journal → (r ≡ Ok (journal.spec, (journal.rounds, journal.tail))) × (kind ≡ journal.kind)
   read_ok (Ok (spec, parts)) journal e =
       let made : Journal = record { kind = kind; spec = spec; rounds = parts.0; tail = parts.1; first = JOURNAL_LINE } in
       let same : made ≡ journal = (let ok : ◌≡◌ {A = Result Journal Refusal} (Ok made) (Ok journal) = e in cc) in
@@ -112,15 +128,15 @@ module _ (kind : RunKind) (first second : List ℕ) (bundle : Bundle) (counts : 
         ap (λ (r : Result Journal Refusal). r >>= λ j. Ok (journal_output bundle.net start j)) read
         ∙ ap (λ (d : Option Difference). Ok (compared_output (length (joined journal.rounds)) d)) (none_differs holds)
 
-    compared_held : (k : ℕ) → k < 2 ^ 64 → (found : Option Difference) → first_difference (journal.first + 1) (journal_compared bundle.net start journal) ≡ found
+    compared_held : (k : ℕ) → (found : Option Difference) → first_difference (journal.first + 1) (journal_compared bundle.net start journal) ≡ found
         → (compared_output (length (joined journal.rounds)) found).text ≡ ended (holds_text k) → Holds bundle.net start journal × (length (joined journal.rounds) ≡ k)
-    compared_held k small None is printed =
-        (none_is_held is, one_number (length (joined journal.rounds)) k (few_meetings journal.kind journal.spec (length start) journal.rounds formed.0 formed.1) small printed)
-    compared_held k small (Some difference) is printed = absurd (not_difference difference k printed)
+    compared_held k None is printed =
+        (none_is_held is, one_number (length (joined journal.rounds)) k (few_meetings journal.kind journal.spec (length start) journal.rounds formed.0 formed.1) printed)
+    compared_held k (Some difference) is printed = absurd (not_difference difference k printed)
 
     -- and no other
-    pub output_held : (k : ℕ) → k < 2 ^ 64 → (journal_output bundle.net start journal).text ≡ ended (holds_text k) → Holds bundle.net start journal × (length (joined journal.rounds) ≡ k)
-    output_held k small printed = compared_held k small (first_difference (journal.first + 1) (journal_compared bundle.net start journal)) refl printed
+    pub output_held : (k : ℕ) → (journal_output bundle.net start journal).text ≡ ended (holds_text k) → Holds bundle.net start journal × (length (joined journal.rounds) ≡ k)
+    output_held k printed = compared_held k (first_difference (journal.first + 1) (journal_compared bundle.net start journal)) refl printed
 
 replay_given : (kind : RunKind) (input : List ℕ) (given : Result Output Refusal) → InputGives (replay_command kind) input given
     → MatchBool (nat_lt INPUT_LIMIT (length input)) (given ≡ Err TooLong) (ReplayGives kind (lines_of input) given)
@@ -141,7 +157,7 @@ judged_given kind bundle counts lines None is valid = refl
 judged_given kind bundle counts lines (Some rejected) is valid = absurd (none_rejected bundle.net bundle.pred bundle.proof rejected valid is)
 
 -- a journal that holds is answered with `holds`
-pub held_given : (kind : RunKind) (input : List ℕ) (k : ℕ) → IsHeldInput kind input k → (given : Result Output Refusal) → InputGives (replay_command kind) input given → given ≡ Ok (holds_output k)
+pub held_given : (kind : RunKind) (input : List ℕ) (k : ℕ) → IsReadHeld kind input k → (given : Result Output Refusal) → InputGives (replay_command kind) input given → given ≡ Ok (holds_output k)
 held_given kind input k held given is =
     let start = input_crowd held.bundle.net held.counts in
     let lines : After (two_and_some (held.first ∷ held.second ∷ held.more)) (OfLines kind) given = subst (λ (ls : List (List ℕ)). After (two_and_some ls) (OfLines kind) given) held.lines (short_lines kind input given held.short is) in
@@ -153,16 +169,16 @@ held_given kind input k held given is =
     ∙ held_output kind held.first held.second held.bundle held.counts begins held.more held.journal held.read held.holds
     ∙ ap (λ (n : ℕ). Ok (holds_output n)) held.all
 
-module _ (k : ℕ) (small : k < 2 ^ 64) where
+module _ (k : ℕ) where
   refused : (refusal : Refusal) (given : Result Output Refusal) → given ≡ Err refusal → Printed given k → ⊥
   refused refusal given is printed = not_refusal refusal k (subst (λ (g : Result Output Refusal). Printed g k) is printed)
 
   module _ (kind : RunKind) (input first second : List ℕ) (more : List (List ℕ)) (short : length input ≤ INPUT_LIMIT) (lines : lines_of input ≡ first ∷ second ∷ more) where
     read_only : (bundle : Bundle) (counts : List ℕ) → IsBegunBy first second (Ok (bundle, counts)) → HasValidProof bundle → (r : Result Journal Refusal) → journal_read kind (journal_in kind (length (input_crowd bundle.net counts)) JOURNAL_LINE more) ≡ r
-        → Printed (r >>= λ journal. Ok (journal_output bundle.net (input_crowd bundle.net counts) journal)) k → IsHeldInput kind input k
+        → Printed (r >>= λ journal. Ok (journal_output bundle.net (input_crowd bundle.net counts) journal)) k → IsReadHeld kind input k
     read_only bundle counts begins valid (Err refusal) read printed = absurd (not_refusal refusal k printed)
     read_only bundle counts begins valid (Ok journal) read printed =
-        let held = output_held kind first second bundle counts begins more journal read k small printed in
+        let held = output_held kind first second bundle counts begins more journal read k printed in
         record {
           short = short;
           first = first;
@@ -179,27 +195,27 @@ module _ (k : ℕ) (small : k < 2 ^ 64) where
           all = held.1;
         }
 
-    judged_only : (bundle : Bundle) (counts : List ℕ) → IsBegunBy first second (Ok (bundle, counts)) → (judged : Option Rejected) → IsJudged bundle judged → Printed (judged_output kind bundle counts more judged) k → IsHeldInput kind input k
+    judged_only : (bundle : Bundle) (counts : List ℕ) → IsBegunBy first second (Ok (bundle, counts)) → (judged : Option Rejected) → IsJudged bundle judged → Printed (judged_output kind bundle counts more judged) k → IsReadHeld kind input k
     judged_only bundle counts begins None is printed =
         read_only bundle counts begins is (journal_read kind (journal_in kind (length (input_crowd bundle.net counts)) JOURNAL_LINE more)) refl printed
     judged_only bundle counts begins (Some rejected) is printed = absurd (not_rejection rejected k printed)
 
-    begun_only : (r : Result (Bundle × List ℕ) Refusal) → IsBegunBy first second r → (given : Result Output Refusal) → After r (OfBegun kind more) given → Printed given k → IsHeldInput kind input k
+    begun_only : (r : Result (Bundle × List ℕ) Refusal) → IsBegunBy first second r → (given : Result Output Refusal) → After r (OfBegun kind more) given → Printed given k → IsReadHeld kind input k
     begun_only (Err refusal) begins given of printed = absurd (refused refusal given of printed)
     begun_only (Ok begin) begins given of printed =
         judged_only begin.0 begin.1 begins of.0 of.1 (subst (λ (g : Result Output Refusal). Printed g k) of.2 printed)
 
-  lines_only : (kind : RunKind) (input : List ℕ) (lines : List (List ℕ)) → length input ≤ INPUT_LIMIT → lines_of input ≡ lines → (given : Result Output Refusal) → ReplayGives kind lines given → Printed given k → IsHeldInput kind input k
+  lines_only : (kind : RunKind) (input : List ℕ) (lines : List (List ℕ)) → length input ≤ INPUT_LIMIT → lines_of input ≡ lines → (given : Result Output Refusal) → ReplayGives kind lines given → Printed given k → IsReadHeld kind input k
   lines_only kind input [] short is given of printed = absurd (refused _ given of printed)
   lines_only kind input (first ∷ []) short is given of printed = absurd (refused _ given of printed)
   lines_only kind input (first ∷ second ∷ []) short is given of printed = absurd (refused _ given of printed)
   lines_only kind input (first ∷ second ∷ third ∷ more) short is given of printed =
       begun_only kind input first second (third ∷ more) short is of.0 of.1 given of.2 printed
 
-  by_length : (kind : RunKind) (input : List ℕ) (long : Bool) → nat_lt INPUT_LIMIT (length input) ≡ long → (given : Result Output Refusal) → MatchBool long (given ≡ Err TooLong) (ReplayGives kind (lines_of input) given) → Printed given k → IsHeldInput kind input k
+  by_length : (kind : RunKind) (input : List ℕ) (long : Bool) → nat_lt INPUT_LIMIT (length input) ≡ long → (given : Result Output Refusal) → MatchBool long (given ≡ Err TooLong) (ReplayGives kind (lines_of input) given) → Printed given k → IsReadHeld kind input k
   by_length kind input true is given of printed = absurd (refused TooLong given of printed)
   by_length kind input false is given of printed = lines_only kind input (lines_of input) (ltb-false INPUT_LIMIT (length input) is) refl given of printed
 
   -- `holds` is given only for a journal that holds
-  pub replay_only : (kind : RunKind) (input : List ℕ) (given : Result Output Refusal) → InputGives (replay_command kind) input given → Printed given k → IsHeldInput kind input k
+  pub replay_only : (kind : RunKind) (input : List ℕ) (given : Result Output Refusal) → InputGives (replay_command kind) input given → Printed given k → IsReadHeld kind input k
   replay_only kind input given is printed = by_length kind input (nat_lt INPUT_LIMIT (length input)) refl given (replay_given kind input given is) printed

@@ -8,6 +8,7 @@ use Rattle.pop_io.specs.declared.whole.TheConstants.{INPUT_LIMIT}
 use Rattle.pop_lines.specs.Lines.{lines_of}
 use Rattle.pop_words.specs.declared.command.Command.{Command}
 use Rattle.pop_words.specs.declared.command.Command.TheVariants.{Play, Eval, Check, Run, Watch, Replay, ReplayWatched, Settle, Compile, Flocks, Demo}
+use Rattle.pop_words.specs.declared.command.Command.TheVariants.{Show, Succinct}
 use Rattle.pop_words.specs.declared.command.Usage.{Usage}
 use Rattle.pop_words.specs.Words.{meaning_of}
 use Rattle.tool_texts.specs.declared.refusal.Refusal.{Refusal}
@@ -47,6 +48,7 @@ unread_given : (command : Command) → reads command ≡ false → (lines others
 unread_given Play unread lines others given is = absurd cc
 unread_given Eval unread lines others given is = absurd cc
 unread_given Check unread lines others given is = absurd cc
+unread_given Show unread lines others given is = absurd cc
 unread_given (Run spec) unread lines others given is = absurd cc
 unread_given (Watch spec) unread lines others given is = absurd cc
 unread_given Replay unread lines others given is = absurd cc
@@ -54,6 +56,7 @@ unread_given ReplayWatched unread lines others given is = absurd cc
 unread_given Settle unread lines others given is = absurd cc
 unread_given Compile unread lines others given is = absurd cc
 unread_given Flocks unread lines others given is = absurd cc
+unread_given Succinct unread lines others given is = absurd cc
 unread_given (Demo number) unread lines others given is = is
 
 read_given : (command : Command) (input : List ℕ) (given : Result Output Refusal) → length input ≤ INPUT_LIMIT → CommandGives command (lines_of input) given → (b : Bool)

@@ -1,6 +1,6 @@
 -- What a printed text of `run` or `watch` says of a bundle.
 use Rattle.std.proofs.Common.{◌≡◌, inl, inr, ℕ, Bool, true, false, nat_lt, List, [], ◌∷◌, ◌++◌, length, Option, Some, None, Result, Ok, Err, refl, sym, ap, subst}
-use Rattle.std.specs.Prelude.{All, MatchBool}
+use Rattle.std.specs.Prelude.{◌↔◌, All, MatchBool}
 use Rattle.pop_io.specs.declared.whole.TheConstants.{INPUT_LIMIT}
 use Rattle.pop_lines.specs.Lines.{lines_of, ended}
 use Rattle.pres_ast.specs.PredicateValue.{predicate_value}
@@ -18,19 +18,20 @@ use Rattle.pop_checker.specs.declared.fault.Rejected.{Rejected}
 use Rattle.tool_texts.specs.declared.refusal.Refusal.{Refusal}
 use Rattle.tool_texts.specs.declared.refusal.Refusal.TheVariants.{TooLong}
 use Rattle.tool_texts.specs.declared.output.Output.{Output}
+use Rattle.tool_texts.specs.declared.output.Ending.{Ending}
 use Rattle.tool_texts.specs.declared.status.Status.{Status}
-use Rattle.tool_texts.specs.declared.status.Status.TheVariants.{Refused, Rejected as IsRejectedStatus}
+use Rattle.tool_texts.specs.declared.status.Status.TheVariants.{Done, Undecided, Refused, Rejected as IsRejectedStatus}
 use Rattle.tool_texts.specs.Statuses.{status_of}
 use Rattle.tool_texts.specs.Steps.{After}
 use Rattle.tool_texts.specs.Lines.{just_two}
 use Rattle.tool_texts.specs.Refusals.{output_for}
 use Rattle.tool_commands.specs.Bundles.{IsBegunBy, IsJudged}
 use Rattle.tool_commands.specs.Play.{IsLast}
-use Rattle.tool_commands.specs.Run.{journal_end, IsRunOutput, OfJudged, OfBegun, OfLines, RunGives}
+use Rattle.tool_commands.specs.Run.{journal_end, run_ending, IsRunOutput, OfJudged, OfBegun, OfLines, RunGives}
 use Rattle.tool_commands.proofs.Begun.{begun_two}
 use Rattle.tool_commands.proofs.Ran.{run_tuples}
 use Rattle.pop_tool.specs.Answer.{InputGives}
-use Rattle.pop_tool.specs.Headline.{HasValidProof, RunSays, WasRun}
+use Rattle.pop_tool.specs.Headline.{HasValidProof, IsLastLine, RunSays, WasRun}
 use Rattle.pop_tool.proofs.BundleInput.{begins_input, file_computes}
 
 pub two_lines : (lines : List (List ℕ)) (found : List ℕ × List ℕ) → just_two lines ≡ Ok found → lines ≡ found.0 ∷ found.1 ∷ []
@@ -41,13 +42,26 @@ two_lines (a ∷ b ∷ []) found e =
 two_lines (a ∷ b ∷ c ∷ more) found e = absurd cc
 
 module _ (net : NetModel) (end : CrowdModel) (tuples : All (IsTuple net) end) (value : Bool) where
-  ends_by_verdict : (pair : Option (ℕ × ℕ)) → IsLast net end pair → IsTerminal (Step net) end → journal_end value pair ≡ Verdict value
-  ends_by_verdict None is terminal = refl
-  ends_by_verdict (Some (a, b)) is terminal = absurd (not_terminal net end tuples a b is.enabled terminal)
+  last_line : (pair : Option (ℕ × ℕ)) → IsLast net end pair → IsLastLine net value end (journal_end value pair)
+  last_line None is = record { verdict = λ terminal. refl; undecided = λ moves. absurd (moves is) }
+  last_line (Some (a, b)) is = record {
+    verdict = λ terminal. absurd (not_terminal net end tuples a b is.enabled terminal);
+    undecided = λ moves. (a, b, is, refl);
+  }
 
   verdict_ends : (pair : Option (ℕ × ℕ)) (v : Bool) → IsLast net end pair → journal_end value pair ≡ Verdict v → IsTerminal (Step net) end
   verdict_ends None v is e = is
   verdict_ends (Some (a, b)) v is e = absurd cc
+
+  done_ends : (pair : Option (ℕ × ℕ)) → IsLast net end pair → (status_of (run_ending pair) ≡ Done) ↔ IsTerminal (Step net) end
+  done_ends None is = (λ e. is, λ terminal. refl)
+  done_ends (Some (a, b)) is =
+      (λ e. absurd cc, λ terminal. absurd (not_terminal net end tuples a b is.enabled terminal))
+
+  undecided_ends : (pair : Option (ℕ × ℕ)) → IsLast net end pair → (status_of (run_ending pair) ≡ Undecided) ↔ (IsTerminal (Step net) end → ⊥)
+  undecided_ends None is = (λ e. absurd cc, λ moves. absurd (moves is))
+  undecided_ends (Some (a, b)) is =
+      (λ e terminal. not_terminal net end tuples a b is.enabled terminal, λ moves. refl)
 
 not_rejected : (status : Status) → status ≡ IsRejectedStatus → WasRun status → ⊥
 not_rejected status is (inl done) = absurd (cc (is, done))
@@ -107,7 +121,7 @@ module _ (kind : RunKind) (spec : RunSpec) (input : List ℕ) where
   pub run_made : (given : Result Output Refusal) → InputGives (run_command kind spec) input given → Ran given → IsMade kind spec input (output_for given)
   run_made given of ran = by_length (nat_lt INPUT_LIMIT (length input)) given (run_given kind spec input given of) ran
 
-  made_says : (output : Output) → IsMade kind spec input output → RunSays kind spec input output.text
+  made_says : (output : Output) → IsMade kind spec input output → RunSays kind spec input output.text (status_of output.ending)
   made_says output made =
       let net = made.bundle.net in
       let tuples = run_tuples net made.counts (begun_two made.begins.0 made.second made.bundle made.counts (sym made.begins.2)) kind spec made.is.rounds made.is.end made.is.run in
@@ -126,9 +140,11 @@ module _ (kind : RunKind) (spec : RunSpec) (input : List ℕ) where
         run = made.is.run;
         last = journal_end truth made.is.pair;
         printed = made.is.text;
-        verdict = ends_by_verdict net made.is.end tuples truth made.is.pair made.is.last;
+        ends = last_line net made.is.end tuples truth made.is.pair made.is.last;
         terminal = λ v. verdict_ends net made.is.end tuples truth made.is.pair v made.is.last;
+        done = subst (λ (e : Ending). (status_of e ≡ Done) ↔ IsTerminal (Step net) made.is.end) (sym made.is.ending) (done_ends net made.is.end tuples truth made.is.pair made.is.last);
+        undecided = subst (λ (e : Ending). (status_of e ≡ Undecided) ↔ (IsTerminal (Step net) made.is.end → ⊥)) (sym made.is.ending) (undecided_ends net made.is.end tuples truth made.is.pair made.is.last);
       }
 
-  pub run_says : (given : Result Output Refusal) → InputGives (run_command kind spec) input given → Ran given → RunSays kind spec input (output_for given).text
+  pub run_says : (given : Result Output Refusal) → InputGives (run_command kind spec) input given → Ran given → RunSays kind spec input (output_for given).text (status_of (output_for given).ending)
   run_says given of ran = made_says (output_for given) (run_made given of ran)

@@ -45,12 +45,12 @@ use Rattle.tool_commands.specs.Replay.{journal_read}
 use Rattle.tool_commands.proofs.Begun.{begun_two}
 use Rattle.tool_commands.proofs.Ran.{run_reaches, run_tuples}
 use Rattle.pop_journal.proofs.RunKinds.{is_watched}
-use Rattle.pop_tool.specs.Headline.{IsBundleInput, WasRun, IsHeldInput}
+use Rattle.pop_tool.specs.Headline.{IsBundleInput, WasRun}
 use Rattle.pop_tool.specs.ReplayHeld.{replay_words, IsReplayHeld}
 use Rattle.pop_tool.proofs.BundleInput.{begins_input, file_computes}
 use Rattle.pop_tool.proofs.Replies.{given_for}
 use Rattle.pop_tool.proofs.RunHeadline.{IsMade, run_made}
-use Rattle.pop_tool.proofs.ReplayHeadline.{held_given, least_start, most_start}
+use Rattle.pop_tool.proofs.ReplayHeadline.{IsReadHeld, held_given, least_start, most_start}
 
 all_unbroken : (line : List ℕ) → All (λ b. b ≢ 10) line → IsUnbroken line
 all_unbroken [] all = refl
@@ -124,7 +124,7 @@ module _ (kind : RunKind) (spec : RunSpec) (input : List ℕ) (output : Output) 
       ∙ ap (λ (t : List ℕ). ended made.first ++ t ++ journal_text kind net spec made.is.rounds end (ending_of net end)) (sym (append-nil (ended made.second))))
       ∙ lines_text (made.first ∷ made.second ∷ []) (journal_text kind net spec made.is.rounds end (ending_of net end)) (both.0, (both.1, tt))
 
-  pub made_held : length output.text ≤ INPUT_LIMIT → IsHeldInput kind output.text (length (joined made.is.rounds))
+  pub made_held : length output.text ≤ INPUT_LIMIT → IsReadHeld kind output.text (length (joined made.is.rounds))
   made_held short =
       record {
         short = short;

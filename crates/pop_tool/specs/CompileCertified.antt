@@ -4,7 +4,7 @@ use Rattle.pop_io.specs.declared.whole.TheConstants.{INPUT_LIMIT}
 use Rattle.cert_base.specs.ProofBound.{proof_bound}
 use Rattle.cert_json.specs.declared.bundle.Bundle.{Bundle}
 use Rattle.comp_net.specs.declared.choice.LeafChoice.{LeafChoice}
-use Rattle.comp_net.specs.declared.choice.LeafChoice.TheVariants.{Plain, Flocks}
+use Rattle.comp_net.specs.declared.choice.LeafChoice.TheVariants.{Plain, Flocks, Succinct}
 use Rattle.tool_texts.specs.declared.output.Output.{Output}
 use Rattle.tool_texts.specs.declared.status.Status.TheVariants.{Done}
 use Rattle.tool_texts.specs.Statuses.{status_of}
@@ -16,6 +16,7 @@ use Rattle.pop_tool.specs.Headline.{IsBundleLine, SaysCertified}
 abbrev pub compile_words : LeafChoice → List (List ℕ)
 compile_words Plain = codes "compile" ∷ []
 compile_words Flocks = codes "compile" ∷ codes "--flocks" ∷ []
+compile_words Succinct = codes "compile" ∷ codes "--succinct" ∷ []
 
 -- What was compiled is the line of a bundle. Unless it is too long for an input, `check` answers it with `certified`
 -- and the bound of that bundle's proof.

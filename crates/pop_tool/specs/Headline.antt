@@ -1,32 +1,34 @@
 -- Headline: what a printed text says of a protocol.
-use Rattle.std.specs.Prelude.{◌≡◌, ◌↔◌, ◌⊎◌, ◌≤◌, ◌<◌, ◌^◌, ℕ, Bool, List, [], ◌∷◌, ◌++◌, length, All, Option, Some, Ok}
+use Rattle.std.specs.Prelude.{◌≡◌, ◌↔◌, ◌⊎◌, ◌*◌, ◌≤◌, ℕ, Bool, List, [], ◌∷◌, ◌++◌, length, All, Option, Some, Ok}
 use Rattle.serde_json.specs.Data.{Data}
 use Rattle.pop_io.specs.declared.whole.TheConstants.{INPUT_LIMIT}
 use Rattle.pop_lines.specs.Lines.{lines_of, ended}
 use Rattle.pres_ast.specs.PredicateValue.{predicate_value}
 use Rattle.pres_ast.specs.PredModel.{PredModel}
 use Rattle.pres_read.specs.PredText.{IsTextOf}
-use Rattle.pop_net.specs.NetModel.{CrowdModel, output_of}
+use Rattle.pop_net.specs.NetModel.{NetModel, CrowdModel, output_of}
 use Rattle.pop_net.specs.InputCrowd.{input_crowd}
 use Rattle.pop_net.specs.Step.{Step}
 use Rattle.pop_net.specs.Reachable.{Reachable}
 use Rattle.pop_net.specs.Terminal.{IsTerminal}
 use Rattle.pop_crowd.specs.declared.crowd.Meeting.{Meeting}
+use Rattle.terminal_test.specs.Pairs.{IsLeastPair}
 use Rattle.pop_words.specs.declared.kind.RunKind.{RunKind}
 use Rattle.pop_words.specs.declared.kind.RunKind.TheVariants.{Whole, Watched}
 use Rattle.pop_words.specs.declared.spec.RunSpec.{RunSpec}
+use Rattle.pop_words.specs.declared.spec.TheConstants.{MEETING_LIMIT}
+use Rattle.pop_words.specs.Options.{IsWithinLimits}
+use Rattle.pop_words.specs.Kinds.{most_workers_of}
 use Rattle.pop_words.specs.declared.command.Command.TheVariants.{Check, Run, Watch, Replay}
 use Rattle.pop_words.specs.declared.command.Command.TheVariants.{ReplayWatched, Settle, Compile, Flocks}
+use Rattle.pop_words.specs.declared.command.Command.TheVariants.{Show, Succinct}
 use Rattle.pop_words.specs.Words.{meaning_of}
 use Rattle.pop_words.specs.Vars.{vars_of}
 use Rattle.pair_workers.specs.Run.{joined}
 use Rattle.pair_workers.specs.WatchedRun.{IsRunOf}
 use Rattle.pop_journal.specs.Journal.{journal_text}
-use Rattle.pop_journal.specs.Form.{journal_in}
-use Rattle.pop_journal.specs.Expected.{Holds}
-use Rattle.pop_journal.specs.declared.journal.Journal.{Journal}
 use Rattle.pop_journal.specs.declared.last.Last.{Last}
-use Rattle.pop_journal.specs.declared.last.Last.TheVariants.{Verdict}
+use Rattle.pop_journal.specs.declared.last.Last.TheVariants.{Verdict, Undecided as UndecidedBy}
 use Rattle.cert_base.specs.ProofBound.{proof_bound}
 use Rattle.cert_base.specs.ValidProof.{ValidProof}
 use Rattle.cert_json.specs.BundleFile.{IsBundleFile}
@@ -40,8 +42,8 @@ use Rattle.tool_texts.specs.declared.status.Status.TheVariants.{Done, Undecided}
 use Rattle.tool_texts.specs.Json.{HasValue}
 use Rattle.tool_commands.specs.Start.{fitting_in}
 use Rattle.tool_commands.specs.Check.{certified_text}
-use Rattle.tool_commands.specs.declared.replay.TheConstants.{JOURNAL_LINE}
-use Rattle.tool_commands.specs.Replay.{holds_text, journal_read}
+use Rattle.tool_commands.specs.Show.{shown_text}
+use Rattle.tool_commands.specs.Replay.{holds_text}
 use Rattle.comp_net.specs.declared.choice.LeafChoice.{LeafChoice}
 use Rattle.comp_net.specs.declared.choice.LeafChoice.TheVariants as leaves
 use Rattle.tool_commands.specs.Settle.{settle_text}
@@ -84,9 +86,29 @@ pub record IsValidLine (input : List ℕ) : Type 0 where
   pub line : IsBundleLine input bundle
   pub valid : HasValidProof bundle
 
+-- a bundle is shown: `certified` with its bound, and then the lines of its net, its predicate and its layers
+abbrev pub SaysShown : Bundle → List ℕ → Status → Type 0
+SaysShown bundle text status = (text ≡ shown_text bundle) × (status ≡ Done)
+
+-- the input is the line of some bundle whose proof is valid, so that its net computes its predicate, and this bundle is
+-- what the text shows
+pub record IsShownLine (input text : List ℕ) : Type 0 where
+  pub bundle : Bundle
+  pub line : IsBundleLine input bundle
+  pub valid : HasValidProof bundle
+  pub right : IsRight bundle.net bundle.pred bundle.proof
+  pub printed : text ≡ shown_text bundle
+
+-- the last line of a journal that ends in this crowd: the value if the crowd is terminal, and else the least pair of
+-- agents that a meeting changes
+pub record IsLastLine (net : NetModel) (value : Bool) (end : CrowdModel) (last : Last) : Type 0 where
+  pub verdict : IsTerminal (Step net) end → last ≡ Verdict value
+  pub undecided : ¬ IsTerminal (Step net) end
+      → (a : ℕ) × (b : ℕ) × IsLeastPair net end a b × (last ≡ UndecidedBy a b)
+
 -- The printed journal is a run of this kind of the bundle's net from the input crowd. It has a verdict exactly when the
--- last crowd is terminal, and the verdict is the predicate's value.
-pub record RunSays (kind : RunKind) (spec : RunSpec) (input text : List ℕ) : Type 0 where
+-- last crowd is terminal, and the verdict is the predicate's value; then the status is Done, and else Undecided.
+pub record RunSays (kind : RunKind) (spec : RunSpec) (input text : List ℕ) (status : Status) : Type 0 where
   pub first : List ℕ
   pub second : List ℕ
   pub lines : lines_of input ≡ first ∷ second ∷ []
@@ -99,8 +121,10 @@ pub record RunSays (kind : RunKind) (spec : RunSpec) (input text : List ℕ) : T
   pub run : IsRunOf kind bundle.net (input_crowd bundle.net counts) spec rounds end
   pub last : Last
   pub printed : text ≡ ended first ++ ended second ++ journal_text kind bundle.net spec rounds end last
-  pub verdict : IsTerminal (Step bundle.net) end → last ≡ Verdict (predicate_value bundle.pred.tree counts)
+  pub ends : IsLastLine bundle.net (predicate_value bundle.pred.tree counts) end last
   pub terminal : (value : Bool) → last ≡ Verdict value → IsTerminal (Step bundle.net) end
+  pub done : (status ≡ Done) ↔ IsTerminal (Step bundle.net) end
+  pub undecided : (status ≡ Undecided) ↔ ¬ IsTerminal (Step bundle.net) end
 
 -- The printed takes lead from the input crowd of the bundle's net to the printed crowd, which is terminal. The
 -- verdict is the predicate's value, and every agent's output.
@@ -120,22 +144,31 @@ pub record SettleSays (input text : List ℕ) : Type 0 where
   pub outputs : All (λ tuple. output_of bundle.net tuple ≡ predicate_value bundle.pred.tree counts) end
   pub printed : text ≡ settle_text bundle.net takes end (predicate_value bundle.pred.tree counts)
 
--- The input is a bundle whose proof is valid, a crowd line, and a journal: as it is read, its rounds are a run of this
--- kind of the bundle's net from the input crowd, with this many meetings, and it gives the crowd in which they end.
+-- the numbers of a run of this kind are within their limits
+pub record IsAllowedRun (kind : RunKind) (spec : RunSpec) : Type 0 where
+  pub each : IsWithinLimits spec
+  pub workers : spec.workers ≤ most_workers_of kind
+  pub meetings : spec.workers * spec.turns ≤ MEETING_LIMIT
+
+-- The input is a bundle whose proof is valid, a crowd line, and the text of a journal: of some rounds that are a run of
+-- this kind of the bundle's net from the input crowd, with this many meetings.
 pub record IsHeldInput (kind : RunKind) (input : List ℕ) (meetings : ℕ) : Type 0 where
   pub short : length input ≤ INPUT_LIMIT
   pub first : List ℕ
   pub second : List ℕ
-  pub more : List (List ℕ)
-  pub lines : lines_of input ≡ first ∷ second ∷ more
   pub bundle : Bundle
   pub counts : List ℕ
   pub begins : IsBundleInput first second bundle counts
   pub valid : HasValidProof bundle
-  pub journal : Journal
-  pub read : journal_read kind (journal_in kind (length (input_crowd bundle.net counts)) JOURNAL_LINE more) ≡ Ok journal
-  pub holds : Holds bundle.net (input_crowd bundle.net counts) journal
-  pub all : length (joined journal.rounds) ≡ meetings
+  pub spec : RunSpec
+  pub allowed : IsAllowedRun kind spec
+  pub rounds : List (List Meeting)
+  pub end : CrowdModel
+  pub run : IsRunOf kind bundle.net (input_crowd bundle.net counts) spec rounds end
+  pub last : Last
+  pub ends : IsLastLine bundle.net (predicate_value bundle.pred.tree counts) end last
+  pub lines : lines_of input ≡ first ∷ second ∷ lines_of (journal_text kind bundle.net spec rounds end last)
+  pub all : length (joined rounds) ≡ meetings
 
 -- `holds` is printed, with this many meetings
 abbrev pub SaysHolds : ℕ → List ℕ → Status → Type 0
@@ -169,14 +202,22 @@ pub record Headline (words : List (List ℕ)) (input text : List ℕ) (status : 
   pub check : (bundle : Bundle) → meaning_of words ≡ Ok Check → IsBundleLine input bundle → CheckSays bundle text status
   -- `certified`, with any number, is printed only for a valid proof
   pub only : meaning_of words ≡ Ok Check → (k : ℕ) → text ≡ ended (certified_text k) → IsValidLine input
-  pub run : (spec : RunSpec) → meaning_of words ≡ Ok (Run spec) → WasRun status → RunSays Whole spec input text
-  pub watch : (spec : RunSpec) → meaning_of words ≡ Ok (Watch spec) → WasRun status → RunSays Watched spec input text
+  -- a bundle is shown exactly when its proof is valid
+  pub show : (bundle : Bundle) → meaning_of words ≡ Ok Show → IsBundleLine input bundle
+      → SaysShown bundle text status ↔ HasValidProof bundle
+  -- what `show` prints shows the very net and predicate that are certified
+  pub shown : meaning_of words ≡ Ok Show → status ≡ Done → IsShownLine input text
+  pub run : (spec : RunSpec) → meaning_of words ≡ Ok (Run spec) → WasRun status
+      → RunSays Whole spec input text status
+  pub watch : (spec : RunSpec) → meaning_of words ≡ Ok (Watch spec) → WasRun status
+      → RunSays Watched spec input text status
   pub compile : meaning_of words ≡ Ok Compile → status ≡ Done → CompileSays leaves.Plain input text
   pub flocks : meaning_of words ≡ Ok Flocks → status ≡ Done → CompileSays leaves.Flocks input text
+  pub succinct : meaning_of words ≡ Ok Succinct → status ≡ Done → CompileSays leaves.Succinct input text
   pub settle : meaning_of words ≡ Ok Settle → status ≡ Done → SettleSays input text
-  -- `holds`, with a number of 64 bits, is printed exactly for a journal of a run of the kind with this many meetings
-  pub replay : meaning_of words ≡ Ok Replay → (k : ℕ) → k < 2 ^ 64 → SaysHolds k text status ↔ IsHeldInput Whole input k
-  pub replay_watched : meaning_of words ≡ Ok ReplayWatched → (k : ℕ) → k < 2 ^ 64
+  -- `holds`, with any number, is printed exactly for a journal of a run of the kind with this many meetings
+  pub replay : meaning_of words ≡ Ok Replay → (k : ℕ) → SaysHolds k text status ↔ IsHeldInput Whole input k
+  pub replay_watched : meaning_of words ≡ Ok ReplayWatched → (k : ℕ)
       → SaysHolds k text status ↔ IsHeldInput Watched input k
 
 -- if it is known what the source had left and what the sink holds, then what the sink gained says so

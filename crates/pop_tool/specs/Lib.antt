@@ -7,5 +7,6 @@ pub mod OneAnswer
 pub mod Headline
 pub mod ReplayHeld
 pub mod CompileCertified
+pub mod ShownChecked
 pub mod Complete
 pub mod Call

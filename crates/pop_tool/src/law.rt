@@ -1,8 +1,12 @@
 //! Laws of the definitions.
 
+ghost use Rattle.std.specs.Prelude.{◌≡◌, ◌∷◌, [], codes, Ok};
+ghost use Rattle.pop_words.specs.declared.command.Command.TheVariants.{Check};
+ghost use Rattle.pop_words.specs.Words.{meaning_of};
 ghost use Rattle.pop_tool.specs.OneAnswer.{IsOneAnswer};
 ghost use Rattle.pop_tool.specs.CompileCertified.{IsCompiledCertified};
 ghost use Rattle.pop_tool.specs.ReplayHeld.{IsReplayHeld};
+ghost use Rattle.pop_tool.specs.ShownChecked.{IsShownAsChecked};
 
 /// The output is a function of the words and the input, except for a run with two or more workers, for `watch`, and for
 /// `compile`, for which any valid proof will do. A theorem; the body is empty.
@@ -16,8 +20,18 @@ pub fn replay_holds()
     ensures { IsReplayHeld }
 {}
 
-/// What `compile` wrote, with flocks or without, is certified by `check`, unless it is too long for an input.
+/// What `compile` wrote, with one of its words or none, is certified by `check`, unless it is too long for an input.
 /// A theorem; the body is empty.
 pub fn compiled_is_certified()
     ensures { IsCompiledCertified }
+{}
+
+/// `show` says what `check` says, and behind `certified` it adds the lines of the bundle. A theorem; the body is empty.
+pub fn shown_is_checked()
+    ensures { IsShownAsChecked }
+{}
+
+/// The word `check` alone means the command `check`. A theorem; the body is empty.
+pub fn check_is_meant()
+    ensures { meaning_of (codes "check" ∷ []) ≡ Ok Check }
 {}

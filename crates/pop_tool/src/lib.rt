@@ -11,7 +11,7 @@ mod tool;
 mod write;
 
 pub use calm::run_calm;
-pub use law::{compiled_is_certified, one_answer, replay_holds};
+pub use law::{check_is_meant, compiled_is_certified, one_answer, replay_holds, shown_is_checked};
 pub use pop_words::WORD_LIMIT;
 pub use tool::{is_plain, run_plain, run_tool};
 pub use tool_texts::Status;

@@ -12,7 +12,7 @@ ghost use Rattle.pop_tool.specs.Answer.{IsOfCommand};
 ghost use Rattle.pop_tool.specs.Source.{HasSuffix, words_read};
 ghost use Rattle.pop_tool.specs.Written.{IsRightOutput};
 
-use pop_io::{NoMemory, ReadAll, Source, read_all};
+use pop_io::{Failure, NoMemory, ReadAll, Source, read_all};
 use pop_words::{Command, read_words};
 use std::alloc::Global;
 use tool_commands::{Prepared, prepare_command, reads_input};
@@ -27,8 +27,8 @@ fn prepare_for(alloc: Global, command: Command, input: &[u8]) -> Result<Prepared
 {
     match prepare_command(alloc, command, input) {
         Ok(prepared) => Ok(prepared),
-        Err(Stop::Refused(refusal)) => Ok(Prepared::Text(Output::of_refusal(alloc, &refusal)?)),
-        Err(Stop::NoMemory) => Err(NoMemory),
+        Err(Failure::Fault(refusal)) => Ok(Prepared::Text(Output::of_refusal(alloc, &refusal)?)),
+        Err(Failure::NoMemory) => Err(NoMemory),
     }
 }
 

@@ -12,8 +12,8 @@ returns-in-Ok-clause-closes c = search rules
 pub returns-in-Ok-clause-right : goal.returns-in-Ok-clause-right
 returns-in-Ok-clause-right c = search rules
 
-pub returns-in-Err-Broken-clause-fault : goal.returns-in-Err-Broken-clause-fault
-returns-in-Err-Broken-clause-fault c = search rules
+pub returns-in-Err-Fault-clause-fault : goal.returns-in-Err-Fault-clause-fault
+returns-in-Err-Fault-clause-fault c = search rules
 
-pub returns-in-Err-Broken-clause-accepts : goal.returns-in-Err-Broken-clause-accepts
-returns-in-Err-Broken-clause-accepts c = search rules
+pub returns-in-Err-Fault-clause-accepts : goal.returns-in-Err-Fault-clause-accepts
+returns-in-Err-Fault-clause-accepts c = search rules
