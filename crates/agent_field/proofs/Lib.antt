@@ -19,3 +19,4 @@ pub mod Closing
 pub mod Below
 pub mod Usable
 pub mod OneHistory
+pub mod PlayKinds

@@ -4,6 +4,7 @@ pub mod Layouts
 pub mod Steps
 pub mod Kinds
 pub mod DrawLaws
+pub mod Plays
 pub mod Seats
 pub mod Tokens
 pub mod Calls

@@ -19,5 +19,5 @@ pub use close::Round;
 pub use field::{Field, FieldSeat, Met};
 pub use layout::Layout;
 pub use limits::{LOG_LIMIT, LOOK_LIMIT, SEAT_LIMIT};
-pub use moments::{draws_beside_a_third, each_moment_stands};
+pub use moments::{draws_beside_a_third, each_moment_stands, plays_are_kinds};
 pub use view::{Logged, Look};

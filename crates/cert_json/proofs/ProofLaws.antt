@@ -11,7 +11,7 @@ use Rattle.json_shape.proofs.Steps.{bind_ok, same_ok}
 use Rattle.json_shape.proofs.Readers
 use Rattle.json_shape.proofs.Fresh.{EachFrom-All, All-EachFrom}
 use Rattle.pres_ast.specs.PredModel.{PredModel}
-use Rattle.pres_read.specs.TextFault.{TextFault}
+use Rattle.pres_read.specs.declared.fault.ReadPred.{ReadPred}
 use Rattle.pres_read.specs.Reading.{pred_read}
 use Rattle.pres_read.proofs.PredTexts.{read_meant, meant_read}
 use Rattle.cert_base.specs.declared.layer.Layer.{Layer}
@@ -24,7 +24,7 @@ use Rattle.cert_json.specs.Examined.{pred_or_why, pred_at, layers_at, nodes_at, 
 use Rattle.cert_json.proofs.PartLaws.{layers_at-takes, layers_at-again}
 use Rattle.cert_json.proofs.NodeLaws.{nodes_at-takes, nodes_at-again}
 
-read_ok : (path : List ℕ) (r : Result PredModel TextFault) (p : PredModel) → pred_or_why path r ≡ Ok p → r ≡ Ok p
+read_ok : (path : List ℕ) (r : Result PredModel ReadPred) (p : PredModel) → pred_or_why path r ≡ Ok p → r ≡ Ok p
 read_ok path (Ok q) p e = ap (λ (m : PredModel). Ok m) (same_ok q p e)
 read_ok path (Err f) p e = absurd cc
 

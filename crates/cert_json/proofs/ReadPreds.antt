@@ -15,7 +15,8 @@ use Rattle.pres_tokens.specs.Symbols.{Placed}
 use Rattle.pres_tokens.specs.Tokens.{tokens_of}
 use Rattle.pres_read.specs.declared.depth.TheConstants.{PARENTHESIS_LIMIT}
 use Rattle.pres_read.specs.declared.read.TheConstants.{TEXT_LIMIT}
-use Rattle.pres_read.specs.TextFault.{TextFault, TooDeep, LongText}
+use Rattle.pres_read.specs.declared.fault.ReadPred.{ReadPred}
+use Rattle.pres_read.specs.declared.fault.ReadPred.TheVariants.{TooDeep, LongText}
 use Rattle.pres_read.specs.Outcome.{◌>>=◌}
 use Rattle.pres_read.specs.Progress.{Progress, start}
 use Rattle.pres_read.specs.Depth.{Depth, surface, deeper, sunk}
@@ -31,7 +32,7 @@ use Rattle.cert_json.specs.BundleFile.{IsBundleFile}
 -- ---- one text
 
 charge_small : (t : Placed) (d e : Depth) (heavy deep : Bool) → ltb WEIGHT_LIMIT d.charge ≡ heavy
-    → ◌≡◌ {A = Result Depth TextFault} (if heavy || deep then Err (TooDeep t.place) else Ok d) (Ok e) → e.charge ≤ WEIGHT_LIMIT
+    → ◌≡◌ {A = Result Depth ReadPred} (if heavy || deep then Err (TooDeep t.place) else Ok d) (Ok e) → e.charge ≤ WEIGHT_LIMIT
 charge_small t d e true deep is h = absurd cc
 charge_small t d e false true is h = absurd cc
 charge_small t d e false false is h =
@@ -42,15 +43,15 @@ sunk_small t d e h =
     charge_small t (deeper d t.symbol) e (ltb WEIGHT_LIMIT (deeper d t.symbol).charge) (ltb PARENTHESIS_LIMIT (deeper d t.symbol).parentheses) refl h
 
 module _ (names : List (List ℕ)) (one : 1 ≤ length names) (most : length names ≤ VARIABLE_LIMIT) where
-  abbrev Fits : Result PredTree TextFault → Type 0
+  abbrev Fits : Result PredTree ReadPred → Type 0
   Fits r = IfOk r (IsPred (length names))
 
-  depth_fits : (end : ℕ) (ts : List Placed) (t : Placed) (q : Progress) (d : Depth) (r : Result Depth TextFault) → sunk d t ≡ r
+  depth_fits : (end : ℕ) (ts : List Placed) (t : Placed) (q : Progress) (d : Depth) (r : Result Depth ReadPred) → sunk d t ≡ r
       → ((e : Depth) → sunk d t ≡ Ok e → Fits (run names end q e ts)) → Fits (with_progress q r >>= λ x. run names end x.0 x.1 ts)
   depth_fits end ts t q d (Ok e) is later = later e is
   depth_fits end ts t q d (Err e) is later = tt
 
-  step_fits : (end : ℕ) (ts : List Placed) (t : Placed) (p : Progress) (d : Depth) (r : Result Progress TextFault) → step names p t ≡ r
+  step_fits : (end : ℕ) (ts : List Placed) (t : Placed) (p : Progress) (d : Depth) (r : Result Progress ReadPred) → step names p t ≡ r
       → ((q : Progress) (e : Depth) → step names p t ≡ Ok q → sunk d t ≡ Ok e → Fits (run names end q e ts))
       → Fits ((r >>= λ q. with_progress q (sunk d t)) >>= λ x. run names end x.0 x.1 ts)
   step_fits end ts t p d (Ok q) is later = depth_fits end ts t q d (sunk d t) refl (λ e deep. later q e is deep)
@@ -75,7 +76,7 @@ module _ (names : List (List ℕ)) (one : 1 ≤ length names) (most : length nam
   abbrev IsOver : PredModel → Type 0
   IsOver p = (p.variables ≡ length names) × HasAtoms p.variables p.tree
 
-  over_fits : (r : Result PredTree TextFault) → Fits r → IfOk (over_names (length names) r) IsOver
+  over_fits : (r : Result PredTree ReadPred) → Fits r → IfOk (over_names (length names) r) IsOver
   over_fits (Ok tree) fits = (refl, fits.atoms)
   over_fits (Err e) fits = tt
 
@@ -85,7 +86,7 @@ module _ (names : List (List ℕ)) (one : 1 ≤ length names) (most : length nam
   -- ---- the predicates of a proof
 
   text_over : (p : PredModel) (d : Data) → IsPredText names p d → IsOver p
-  text_over p d is = subst (λ (r : Result PredModel TextFault). IfOk r IsOver) (meant_read names is.0 p is.2) (read_fits is.0)
+  text_over p d is = subst (λ (r : Result PredModel ReadPred). IfOk r IsOver) (meant_read names is.0 p is.2) (read_fits is.0)
 
   parts_over : (parts : List LeafProof) (ds : List Data) → AreItems (IsLeafProofFile names) parts ds
       → (i : ℕ) (part : LeafProof) → slice_get parts i ≡ Some part → IsOver part.pred

@@ -10,7 +10,8 @@ use Rattle.json_shape.specs.Paths.{item_path}
 use Rattle.json_shape.specs.Shapes.{object_at, member_by, number_at, integer_at, last_of, ascending_at, text_at}
 use Rattle.json_shape.specs.Shapes.{items_at, pair_at, word_at, one_after, two_after, each_at}
 use Rattle.pres_ast.specs.PredModel.{PredModel}
-use Rattle.pres_read.specs.TextFault.{TextFault, Syntax, UnknownName, TooLarge, TooDeep, LongText}
+use Rattle.pres_read.specs.declared.fault.ReadPred.{ReadPred}
+use Rattle.pres_read.specs.declared.fault.ReadPred.TheVariants.{Syntax, UnknownName, TooLarge, TooDeep, LongText}
 use Rattle.pres_read.specs.Reading.{pred_read}
 use Rattle.cert_base.specs.declared.fact.Term.{Term}
 use Rattle.cert_base.specs.declared.layer.Layer.{Layer}
@@ -27,7 +28,7 @@ use Rattle.cert_json.specs.declared.kind.NodeKind.TheVariants as kind
 use Rattle.cert_json.specs.Kinds.{kind_named}
 
 -- why a text is no predicate, as a refusal says it
-abbrev pub why_of : TextFault → PredWhy
+abbrev pub why_of : ReadPred → PredWhy
 why_of (Syntax at) = why.Syntax at
 why_of (UnknownName at) = why.UnknownName at
 why_of (TooLarge at) = why.TooLarge at
@@ -35,7 +36,7 @@ why_of (TooDeep at) = why.TooDeep at
 why_of (LongText n) = why.LongText n
 
 -- a predicate, or what is wrong with its text
-abbrev pub pred_or_why : List ℕ → Result PredModel TextFault → Result PredModel Fault
+abbrev pub pred_or_why : List ℕ → Result PredModel ReadPred → Result PredModel Fault
 pred_or_why path (Ok p) = Ok p
 pred_or_why path (Err fault) = broken path (Pred (why_of fault))
 

@@ -14,5 +14,5 @@ mod write_node;
 
 pub use bundle::{Bundle, read_bundle};
 pub use json_shape::{FormatFault, PredWhy, Why};
-pub use read::read_proof;
+pub use read::{pred_why, read_proof};
 pub use write::write_proof;

@@ -1,14 +1,13 @@
 //! Reading a proof from a bundle's JSON value.
 
-ghost use Rattle.std.specs.Prelude.{◌≡◌, ◌≤◌, codes, length, IfOk, IfSome, IfNone};
+ghost use Rattle.std.specs.Prelude.{◌≡◌, ◌≤◌, codes, length, IfOk};
 ghost use Rattle.serde_json.specs.View.{view};
 ghost use Rattle.pop_io.specs.Names.{variable_name, AreNames};
-ghost use Rattle.json_shape.specs.Faults.{GivesRead, Says};
+ghost use Rattle.json_shape.specs.Faults.{GivesRead};
 ghost use Rattle.json_shape.specs.Paths.{path_text};
 ghost use Rattle.json_shape.specs.Shapes.{member_by};
 ghost use Rattle.cert_base.specs.declared.proof.Proof.{Proof};
 ghost use Rattle.cert_json.specs.Calls.{IsReadProof};
-ghost use Rattle.pres_read.specs.Outcome.{text_fault_of};
 ghost use Rattle.cert_json.specs.Examined.{pred_at, why_of, leaf_proofs_at, proof_at};
 
 use crate::layers::layers_of;
@@ -17,27 +16,24 @@ use cert_base::{LeafProof, Proof};
 use json_shape::{
     FormatFault, Path, PredWhy, ReadItem, Why, broken, each_in, member_of, object_of, text_of,
 };
-use pop_io::{List, Text, VARIABLE_LIMIT};
+use pop_io::{Failure, List, Text, VARIABLE_LIMIT};
 use pop_net::Net;
 use pres_ast::Pred;
 use pres_read::{ReadPred, read_pred};
 use serde_json::Value;
 use std::alloc::Global;
 
-/// The fault of a text at this path that is no predicate.
-fn text_fault(alloc: Global, path: &Path<'_>, fault: ReadPred) -> FormatFault
-    ensures told { IfSome (text_fault_of fault) (λ f. Says result (path_text path.now) (Why.Pred (why_of f))) }
-    ensures memory { IfNone (text_fault_of fault) (result ≡ FormatFault.NoMemory) }
+/// Why a text is no predicate, in the words of a file's fault.
+pub fn pred_why(fault: ReadPred) -> PredWhy
+    ensures { result ≡ why_of fault }
 {
-    let why = match fault {
+    match fault {
         ReadPred::Syntax(at) => PredWhy::Syntax(at),
         ReadPred::UnknownName(at) => PredWhy::UnknownName(at),
         ReadPred::TooLarge(at) => PredWhy::TooLarge(at),
         ReadPred::TooDeep(at) => PredWhy::TooDeep(at),
         ReadPred::LongText(length) => PredWhy::LongText(length),
-        ReadPred::NoMemory => return FormatFault::NoMemory,
-    };
-    broken(alloc, path, Why::Pred(why))
+    }
 }
 
 /// A predicate over these names.
@@ -57,7 +53,8 @@ fn pred_from(
     let text = text_of(alloc, path, value)?;
     match read_pred(alloc, text.as_bytes(), names) {
         Ok(pred) => Ok(pred),
-        Err(fault) => Err(text_fault(alloc, path, fault)),
+        Err(Failure::Fault(fault)) => Err(broken(alloc, path, Why::Pred(pred_why(fault)))),
+        Err(Failure::NoMemory) => Err(FormatFault::NoMemory),
     }
 }
 

@@ -1,6 +1,6 @@
 -- Layers without a failing place are valid, and conversely.
 use Rattle.std.proofs.Common.{◌≡◌, ◌≢◌, ℕ, suc, ◌+◌, ◌<◌, List, [], ◌∷◌, ◌++◌, length, take, drop, get_or, refl, ap, sym, subst, ◌∙◌, arith, length-append}
-use Rattle.std.specs.Prelude.{Result, Ok, Err, IfOk, IfErr, All, AllPairs, Contains}
+use Rattle.std.specs.Prelude.{Result, Ok, Err, IfOk, All, AllPairs, Contains}
 use Rattle.std.proofs.Math.Seq.{take-length}
 use Rattle.std.proofs.lemmas.List.{get_or_default, get_or_append_left, take-append-drop}
 use Rattle.std.proofs.lemmas.List.Elements.{All-contains}
@@ -11,9 +11,11 @@ use Rattle.pop_net.proofs.Quiet.{All-slice_get}
 use Rattle.cert_base.specs.declared.layer.Layer.{Layer}
 use Rattle.cert_base.specs.ValidLayers.{moves_of_layers, ValidLayers}
 use Rattle.cert_base.specs.ProofBound.{layers_bound}
-use Rattle.cert_layers.specs.LayerFaults.{ShapedAt, ListedAt, LowerAt, SleepsAt, Each, IsLayerFault, EndsWithin}
-use Rattle.cert_layers.specs.declared.fault.LayerFault.{LayerFault}
-use Rattle.cert_layers.specs.declared.fault.LayerFault.TheVariants.{Broken, NoMemory}
+use Rattle.cert_layers.specs.LayerFaults.{ShapedAt, ListedAt, LowerAt, SleepsAt, Each, AreBrokenFirst, EndsWithin}
+use Rattle.pop_io.specs.declared.failure.Failure.{Failure}
+use Rattle.pop_io.specs.declared.failure.Failure.TheVariants.{Fault, NoMemory}
+use Rattle.pop_io.specs.Failures.{Names, IfFault, OnlyMemory}
+use Rattle.cert_layers.specs.declared.fault.LayerWhy.{LayerWhy}
 use Rattle.cert_layers.specs.declared.fault.LayerWhy.TheVariants.{Shape, NoLayer, NotLower, Wakes}
 use Rattle.cert_layers.proofs.NotLower.{contains-listed}
 use Rattle.cert_layers.proofs.Termination.{listed_at, valid_layers-end}
@@ -55,11 +57,11 @@ module _ (leaf : LeafModel) (layers : List Layer) (v : ValidLayers leaf layers) 
   }
 
   -- valid layers fail nowhere
-  pub valid-fault : (fault : LayerFault) → IsLayerFault leaf layers fault → fault ≡ NoMemory
-  valid-fault (Broken (Shape n)) f = absurd (f.0 (each-shaped n))
-  valid-fault (Broken (NoLayer n)) f = absurd (f.1.0 (v.all n))
-  valid-fault (Broken (NotLower n)) f = absurd (f.2.0 (λ i t at number. v.lower i t at))
-  valid-fault (Broken (Wakes n m)) f = absurd (f.4.0 (λ i j t u before at number earlier number'. v.wakes_none i j t u before at earlier))
+  pub valid-fault : (failure : Failure LayerWhy) → Names (AreBrokenFirst leaf layers) failure → failure ≡ NoMemory
+  valid-fault (Fault (Shape n)) f = absurd (f.0 (each-shaped n))
+  valid-fault (Fault (NoLayer n)) f = absurd (f.1.0 (v.all n))
+  valid-fault (Fault (NotLower n)) f = absurd (f.2.0 (λ i t at number. v.lower i t at))
+  valid-fault (Fault (Wakes n m)) f = absurd (f.4.0 (λ i j t u before at number earlier number'. v.wakes_none i j t u before at earlier))
   valid-fault NoMemory f = refl
 
 -- valid layers bring every crowd to an end
@@ -68,10 +70,10 @@ valid-ends leaf layers formed v crowd some range =
     let e = valid_layers-end leaf layers formed v crowd range in (e.end, e.terminal, e.reached)
 
 -- what a check of valid layers answers
-pub accepted : (leaf : LeafModel) (same layers : List Layer) (result : Result ℕ LayerFault) → same ≡ layers → IfErr result (IsLayerFault leaf same) → ValidLayers leaf layers → IfErr result (λ fault. fault ≡ NoMemory)
+pub accepted : (leaf : LeafModel) (same layers : List Layer) (result : Result ℕ (Failure LayerWhy)) → same ≡ layers → IfFault result (AreBrokenFirst leaf same) → ValidLayers leaf layers → OnlyMemory result
 accepted leaf same layers (Ok bound) is f v = tt
 accepted leaf same layers (Err fault) is f v = valid-fault leaf same (subst (λ (ls : List Layer). ValidLayers leaf ls) (sym is) v) fault f
 
-pub ended : (leaf : LeafModel) (layers : List Layer) (result : Result ℕ LayerFault) → IsLeaf leaf → IfOk result (λ bound. ValidLayers leaf layers × (bound ≡ layers_bound layers)) → IfOk result (EndsWithin leaf)
+pub ended : (leaf : LeafModel) (layers : List Layer) (result : Result ℕ (Failure LayerWhy)) → IsLeaf leaf → IfOk result (λ bound. ValidLayers leaf layers × (bound ≡ layers_bound layers)) → IfOk result (EndsWithin leaf)
 ended leaf layers (Ok bound) formed v = subst (λ (k : ℕ). EndsWithin leaf k) (sym v.1) (valid-ends leaf layers formed v.0)
 ended leaf layers (Err fault) formed v = tt

@@ -1,6 +1,8 @@
 -- The first place at which the layers of a leaf fail.
 use Rattle.std.specs.Prelude.{◌≡◌, ◌≢◌, ℕ, ◌+◌, ◌<◌, ◌≤◌, ◌*◌, false, ℤ, nat_abs, List, Some, slice_get, length, take}
-use Rattle.std.specs.Prelude.{All, AllPairs, Contains, Result, IfOk, IfErr}
+use Rattle.std.specs.Prelude.{All, AllPairs, Contains, Result, IfOk}
+use Rattle.pop_io.specs.declared.failure.Failure.{Failure}
+use Rattle.pop_io.specs.Failures.{IfFault, OnlyMemory}
 use Rattle.pop_net.specs.declared.leaf.Move.{Move}
 use Rattle.pop_net.specs.LeafModel.{LeafModel, silent_move}
 use Rattle.pop_net.specs.Step.{LeafStep}
@@ -10,8 +12,6 @@ use Rattle.cert_base.specs.declared.limits.TheConstants.{LAYER_LIMIT, SIZE_LIMIT
 use Rattle.cert_base.specs.declared.layer.Layer.{Layer}
 use Rattle.cert_base.specs.ProofBound.{layers_bound}
 use Rattle.cert_base.specs.ValidLayers.{moves_of_layers, IsInLayer, IsLower, IsEnabledBefore, ValidLayers}
-use Rattle.cert_layers.specs.declared.fault.LayerFault.{LayerFault}
-use Rattle.cert_layers.specs.declared.fault.LayerFault.TheVariants.{Broken, NoMemory}
 use Rattle.cert_layers.specs.declared.fault.LayerWhy.{LayerWhy}
 use Rattle.cert_layers.specs.declared.fault.LayerWhy.TheVariants.{Shape, NoLayer, NotLower, Wakes}
 
@@ -62,11 +62,6 @@ AreBrokenFirst leaf layers (Wakes n m) =
     × IsFirstFailing (λ t. Each (SleepsAt leaf layers t)) n
     × IsFirstFailing (SleepsAt leaf layers n) m
 
--- the fault tells where the layers fail first
-abbrev pub IsLayerFault : LeafModel → List Layer → LayerFault → Type 0
-IsLayerFault leaf layers (Broken why) = AreBrokenFirst leaf layers why
-IsLayerFault leaf layers NoMemory = Unit {0}
-
 -- a weight within the limits of a proof
 abbrev pub IsWeight : ℤ → Type 0
 IsWeight w = nat_abs w ≤ SIZE_LIMIT
@@ -84,9 +79,9 @@ EndsWithin leaf k =
     × ReachedWithin (LeafStep leaf) (k * length crowd) crowd end
 
 -- what `check_layers` says: the layers are valid, with their bound; or this is where they fail first
-pub record ChecksLayers (leaf : LeafModel) (layers : List Layer) (result : Result ℕ LayerFault) : Type 0 where
+pub record ChecksLayers (leaf : LeafModel) (layers : List Layer) (result : Result ℕ (Failure LayerWhy)) : Type 0 where
   pub valid : IfOk result (λ bound. ValidLayers leaf layers × (bound ≡ layers_bound layers))
-  pub fault : IfErr result (IsLayerFault leaf layers)
-  pub accepts : ValidLayers leaf layers → IfErr result (λ fault. fault ≡ NoMemory)
+  pub fault : IfFault result (AreBrokenFirst leaf layers)
+  pub accepts : ValidLayers leaf layers → OnlyMemory result
   -- every crowd of the leaf can reach a terminal one, within this many steps for each agent
   pub ends : IfOk result (EndsWithin leaf)

@@ -5,8 +5,9 @@ use Rattle.std.specs.List.{slice_index_or, slice_set}
 use Rattle.pop_net.specs.LeafModel.{LeafModel}
 use Rattle.cert_base.specs.declared.layer.Layer.{Layer}
 use Rattle.cert_layers.specs.LayerFaults.{Each, ShapedAt, IsFirstFailing}
-use Rattle.cert_layers.specs.declared.fault.LayerFault.{LayerFault}
-use Rattle.cert_layers.specs.declared.fault.LayerFault.TheVariants.{Broken, NoMemory}
+use Rattle.pop_io.specs.declared.failure.Failure.{Failure}
+use Rattle.pop_io.specs.declared.failure.Failure.TheVariants.{Fault, NoMemory}
+use Rattle.cert_layers.specs.declared.fault.LayerWhy.{LayerWhy}
 use Rattle.cert_layers.specs.declared.fault.LayerWhy.TheVariants.{Shape}
 
 abbrev pub layer_of : List (Option ℕ) → ℕ → Option ℕ
@@ -36,8 +37,8 @@ pub record AreMoveLayers (leaf : LeafModel) (layers : List Layer) (layer_of_move
       → layer_of layer_of_move n ≡ Some i
   pub shaped : Each (ShapedAt leaf layers)
 
-abbrev pub FindsMoveLayers : LeafModel → List Layer → Result (List (Option ℕ)) LayerFault → Type 0
+abbrev pub FindsMoveLayers : LeafModel → List Layer → Result (List (Option ℕ)) (Failure LayerWhy) → Type 0
 FindsMoveLayers leaf layers (Ok layer_of_move) = AreMoveLayers leaf layers layer_of_move
-FindsMoveLayers leaf layers (Err (Broken (Shape n))) = IsFirstFailing (ShapedAt leaf layers) n
+FindsMoveLayers leaf layers (Err (Fault (Shape n))) = IsFirstFailing (ShapedAt leaf layers) n
 FindsMoveLayers leaf layers (Err NoMemory) = Unit {0}
 FindsMoveLayers leaf layers (Err _) = ⊥

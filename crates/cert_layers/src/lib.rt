@@ -13,4 +13,4 @@ mod waking;
 
 pub use bound::bound_of;
 pub use check::check_layers;
-pub use fault::{LayerFault, LayerWhy};
+pub use fault::LayerWhy;

@@ -4,9 +4,9 @@ ghost use Rattle.std.specs.Prelude.{◌≡◌, ◌≤◌, length, Some, None, If
 ghost use Rattle.pop_net.specs.LeafModel.{IsLeaf};
 ghost use Rattle.cert_layers.specs.MoveLayers.{enter_all, entered_layer, FindsMoveLayers};
 
-use crate::fault::{LayerFault, LayerWhy};
+use crate::fault::LayerWhy;
 use cert_base::{LAYER_LIMIT, Layer};
-use pop_io::List;
+use pop_io::{Failure, List};
 use pop_net::Leaf;
 use std::alloc::{AllocError, Global};
 
@@ -15,7 +15,7 @@ pub(crate) fn layers_of_moves(
     alloc: Global,
     leaf: &Leaf,
     layers: &[Layer],
-) -> Result<List<Option<u16>>, LayerFault>
+) -> Result<List<Option<u16>>, Failure<LayerWhy>>
     requires { length layers.now ≤ LAYER_LIMIT }
     ensures layer_of_move { FindsMoveLayers leaf.now layers.now result }
     ensures formed { IsLeaf leaf.now }
@@ -24,7 +24,7 @@ pub(crate) fn layers_of_moves(
     let mut layer_of_move = all_unlisted(alloc, leaf.move_count())?;
     for (i, layer) in layers.iter().enumerate() {
         if !enter_layer(&mut layer_of_move, states, layer, i as u16) {
-            return Err(LayerFault::Broken(LayerWhy::Shape(i as u32)));
+            return Err(Failure::Fault(LayerWhy::Shape(i as u32)));
         }
     }
     Ok(List::from_vec(layer_of_move))

@@ -1,11 +1,10 @@
 //! The least layer in which two states are taken.
 
-ghost use Rattle.std.specs.Prelude.{◌≡◌, ◌+◌, ◌*◌, ◌<◌, min, length, IfOk, IfErr};
+ghost use Rattle.std.specs.Prelude.{◌≡◌, ◌+◌, ◌*◌, ◌<◌, min, length, IfOk};
 ghost use Rattle.std.specs.List.{slice_set};
 ghost use Rattle.pop_net.specs.LeafModel.{IsLeaf};
 ghost use Rattle.cert_layers.specs.Waking.{first_at, is_early, empty_table, IsWakingTable};
 
-use crate::fault::LayerFault;
 use pop_io::List;
 use pop_net::{Leaf, STATE_LIMIT};
 use std::alloc::{AllocError, Global};
@@ -50,11 +49,10 @@ pub(crate) fn pair_table(
     alloc: Global,
     leaf: &Leaf,
     layer_of_move: &[Option<u16>],
-) -> Result<PairTable, LayerFault>
+) -> Result<PairTable, AllocError>
     requires formed { IsLeaf leaf.now }
     requires long { length layer_of_move.now ≡ length leaf.now.moves }
-    ensures ok { IfOk result (IsWakingTable leaf.now layer_of_move.now (length leaf.now.moves)) }
-    ensures memory { IfErr result (λ e. e ≡ LayerFault.NoMemory) }
+    ensures { IfOk result (IsWakingTable leaf.now layer_of_move.now (length leaf.now.moves)) }
 {
     let mut layers = no_layers(alloc)?;
     for t in 0..leaf.move_count() {

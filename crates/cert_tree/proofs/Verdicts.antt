@@ -17,16 +17,17 @@ use Rattle.cert_base.specs.Valuation.{Valuation, times_taken, IsOfExecution}
 use Rattle.cert_base.specs.Ends.{IsWrongEnd, EndsRight, HoldAtWrongEnds}
 use Rattle.cert_tree.specs.declared.fault.TreeWhy.TheVariants.{Missing}
 use Rattle.cert_tree.specs.declared.fault.TreeFault.{TreeFault}
-use Rattle.cert_tree.specs.declared.fault.TreeFault.TheVariants.{Broken, NoMemory as OutOfMemory}
-use Rattle.cert_tree.specs.declared.halt.Halt.{Halt}
-use Rattle.cert_tree.specs.declared.halt.Halt.TheVariants.{Refused, NoMemory}
+use Rattle.pop_io.specs.declared.failure.Failure.{Failure}
+use Rattle.pop_io.specs.declared.failure.Failure.TheVariants.{Fault, NoMemory}
+use Rattle.pop_io.specs.Failures.{Names}
+use Rattle.cert_tree.specs.declared.fault.TreeWhy.{TreeWhy}
 use Rattle.cert_tree.specs.Refusals.{Waiting, first_from, first_refused, IsTreeFault}
 use Rattle.cert_tree.specs.Frames.{HaltsAt, fault_at, StillCover}
 use Rattle.cert_tree.proofs.ClosedWalk.{Closes-unrefused}
 
 -- a node at which the walk halts is the first that is refused
-pub broken_at : (leaf : LeafModel) (p : PredModel) (value : Bool) (nodes rest : List Node) (before : List Waiting) (number : ℕ) (node : Node) (halt : Halt) → first_refused leaf p value nodes ≡ first_from leaf before number (drop number nodes) → drop number nodes ≡ node ∷ rest → HaltsAt leaf before node halt → IsTreeFault leaf p value nodes (fault_at number halt)
-broken_at leaf p value nodes rest before number node (Refused why) same d h =
+pub broken_at : (leaf : LeafModel) (p : PredModel) (value : Bool) (nodes rest : List Node) (before : List Waiting) (number : ℕ) (node : Node) (halt : Failure TreeWhy) → first_refused leaf p value nodes ≡ first_from leaf before number (drop number nodes) → drop number nodes ≡ node ∷ rest → HaltsAt leaf before node halt → Names (IsTreeFault leaf p value nodes) (fault_at number halt)
+broken_at leaf p value nodes rest before number node (Fault why) same d h =
     same ∙ ap (first_from leaf before number) d ∙ h number rest
 broken_at leaf p value nodes rest before number node NoMemory same d h = tt
 
@@ -37,10 +38,10 @@ pub none_at : (leaf : LeafModel) (p : PredModel) (value : Bool) (nodes : List No
 none_at leaf p value nodes before number same d e = same ∙ rw (d, e) refl
 
 -- a tree that closes is refused only when memory runs out
-pub only_memory : (leaf : LeafModel) (p : PredModel) (value : Bool) (nodes : List Node) (fault : TreeFault) → IsTreeFault leaf p value nodes fault → Closes leaf (base_list leaf p value) nodes [] → fault ≡ OutOfMemory
-only_memory leaf p value nodes (Broken number why) is closes =
-    let none = Closes-unrefused leaf p value nodes closes in let clash : Some (number, why) ≡ None = sym is ∙ none in cc
-only_memory leaf p value nodes OutOfMemory is closes = refl
+pub only_memory : (leaf : LeafModel) (p : PredModel) (value : Bool) (nodes : List Node) (fault : Failure TreeFault) → Names (IsTreeFault leaf p value nodes) fault → Closes leaf (base_list leaf p value) nodes [] → fault ≡ NoMemory
+only_memory leaf p value nodes (Fault fault) is closes =
+    let none = Closes-unrefused leaf p value nodes closes in let clash : Some (fault.node, fault.why) ≡ None = sym is ∙ none in cc
+only_memory leaf p value nodes NoMemory is closes = refl
 
 -- ---- the counts of an execution
 

@@ -12,11 +12,10 @@ use Rattle.pres_ast.specs.PredModel.{PredModel}
 use Rattle.cert_linear.specs.Conditions.{IsOrdered}
 use Rattle.cert_tree.specs.declared.fault.TreeWhy.{TreeWhy}
 use Rattle.cert_tree.specs.declared.fault.TreeFault.{TreeFault}
-use Rattle.cert_tree.specs.declared.fault.TreeFault.TheVariants.{Broken, NoMemory as OutOfMemory}
+use Rattle.pop_io.specs.declared.failure.Failure.{Failure}
+use Rattle.pop_io.specs.declared.failure.Failure.TheVariants.{Fault, NoMemory}
 use Rattle.cert_tree.specs.declared.walk.Frame.{Frame}
 use Rattle.cert_tree.specs.declared.walk.Walk.{Walk}
-use Rattle.cert_tree.specs.declared.halt.Halt.{Halt}
-use Rattle.cert_tree.specs.declared.halt.Halt.TheVariants.{Refused, NoMemory}
 use Rattle.cert_tree.specs.Refusals.{Waiting, first_from, own_refusal, cases_at}
 
 -- the cases that wait at a node
@@ -87,8 +86,8 @@ pub record IsPassed (leaf : LeafModel) (facts : List Fact) (node : Node) (cases 
   pub cover : CoverUnder leaf facts cases
 
 -- the reason of a halt is this one, unless memory ran out
-abbrev pub HaltsBy : Option TreeWhy → Halt → Type 0
-HaltsBy why (Refused reason) = why ≡ Some reason
+abbrev pub HaltsBy : Option TreeWhy → Failure TreeWhy → Type 0
+HaltsBy why (Fault reason) = why ≡ Some reason
 HaltsBy why NoMemory = Unit {0}
 
 -- a node is passed: the first refused node is the same with it and without it
@@ -98,15 +97,15 @@ GoesOn leaf before node after =
     → first_from leaf before number (node ∷ nodes) ≡ first_from leaf after (number + 1) nodes
 
 -- a node is the first that is refused
-abbrev pub HaltsAt : LeafModel → List Waiting → Node → Halt → Type 0
-HaltsAt leaf before node (Refused why) =
+abbrev pub HaltsAt : LeafModel → List Waiting → Node → Failure TreeWhy → Type 0
+HaltsAt leaf before node (Fault why) =
     (number : ℕ) (nodes : List Node) → first_from leaf before number (node ∷ nodes) ≡ Some (number, why)
 HaltsAt leaf before node NoMemory = Unit {0}
 
 -- the fault of a halt at a node
-abbrev pub fault_at : ℕ → Halt → TreeFault
-fault_at node (Refused why) = Broken node why
-fault_at node NoMemory = OutOfMemory
+abbrev pub fault_at : ℕ → Failure TreeWhy → Failure TreeFault
+fault_at node (Fault why) = Fault (record { node = node; why = why })
+fault_at node NoMemory = NoMemory
 
 -- the walk stands at the beginning of a tree: the base facts wait alone, and every wrong end meets them
 pub record IsWalkStart (leaf : LeafModel) (p : PredModel) (value : Bool) (walk : Walk) : Type 0 where

@@ -1,7 +1,6 @@
 -- Refusals: which node of a tree is refused first, and why.
 use Rattle.std.specs.Prelude.{◌≡◌, ◌≤◌, ℕ, ◌+◌, Bool, true, false, not, if◌then◌else◌, nat_lt, nat_le, List}
 use Rattle.std.specs.Prelude.{[], ◌∷◌, ◌++◌, map, length, Option, Some, None, unwrap_or, slice_get, All, Result, OnOk}
-use Rattle.std.specs.Prelude.{IfErr}
 use Rattle.std.specs.List.{list_all}
 use Rattle.pres_ast.specs.PredModel.{PredModel}
 use Rattle.pop_net.specs.LeafModel.{LeafModel}
@@ -19,7 +18,8 @@ use Rattle.cert_tree.specs.declared.fault.TreeWhy.{TreeWhy}
 use Rattle.cert_tree.specs.declared.fault.TreeWhy.TheVariants.{Missing, TooDeep, BadIndex, NoTwin, NotOpen, NotClosed}
 use Rattle.cert_tree.specs.declared.fault.TreeWhy.TheVariants.{TooManyFacts, Rest}
 use Rattle.cert_tree.specs.declared.fault.TreeFault.{TreeFault}
-use Rattle.cert_tree.specs.declared.fault.TreeFault.TheVariants.{Broken, NoMemory}
+use Rattle.pop_io.specs.declared.failure.Failure.{Failure}
+use Rattle.pop_io.specs.Failures.{IfFault, OnlyMemory}
 
 -- whether all fact, state and variable numbers of a node are in range
 abbrev pub names_in_range : LeafModel → List Fact → Node → Bool
@@ -107,8 +107,7 @@ first_refused leaf p value nodes = first_from leaf ((0, base_list leaf p value) 
 
 -- the fault names the first node that is refused, and why
 abbrev pub IsTreeFault : LeafModel → PredModel → Bool → List Node → TreeFault → Type 0
-IsTreeFault leaf p value nodes (Broken number why) = first_refused leaf p value nodes ≡ Some (number, why)
-IsTreeFault leaf p value nodes NoMemory = Unit {0}
+IsTreeFault leaf p value nodes fault = first_refused leaf p value nodes ≡ Some (fault.node, fault.why)
 
 -- what is required of the nodes of a tree for a predicate of a leaf
 pub record AreNodesOf (leaf : LeafModel) (p : PredModel) (nodes : List Node) : Type 0 where
@@ -118,9 +117,9 @@ pub record AreNodesOf (leaf : LeafModel) (p : PredModel) (nodes : List Node) : T
 
 -- what `check_tree` says: the nodes close the base facts; or this is the first that is refused
 pub record ChecksTree (leaf : LeafModel) (p : PredModel) (value : Bool) (nodes : List Node)
-    (result : Result (Unit {0}) TreeFault) : Type 0 where
+    (result : Result (Unit {0}) (Failure TreeFault)) : Type 0 where
   pub closes : OnOk result (Closes leaf (base_list leaf p value) nodes [])
-  pub fault : IfErr result (IsTreeFault leaf p value nodes)
-  pub accepts : Closes leaf (base_list leaf p value) nodes [] → IfErr result (λ fault. fault ≡ NoMemory)
+  pub fault : IfFault result (IsTreeFault leaf p value nodes)
+  pub accepts : Closes leaf (base_list leaf p value) nodes [] → OnlyMemory result
   -- from every input at which the predicate has the value, each agent of each reachable terminal crowd outputs it
   pub right : OnOk result (EndsRight leaf p.tree value)

@@ -1,18 +1,11 @@
 //! Why a tree is refused.
 
-use pop_io::NoMemory as OutOfMemory;
-
 /// The first node that is refused.
 #[derive(Clone, Copy, PartialEq, Eq)]
-pub enum TreeFault {
-    /// A node is refused.
-    Broken {
-        /// The number of the node, or the number of nodes if one is missing.
-        node: u32,
-        why: TreeWhy,
-    },
-    /// Out of memory.
-    NoMemory,
+pub struct TreeFault {
+    /// The number of the node, or the number of nodes if one is missing.
+    pub node: u32,
+    pub why: TreeWhy,
 }
 
 /// Why a node is refused: the first of several reasons.
@@ -34,15 +27,4 @@ pub enum TreeWhy {
     TooManyFacts,
     /// The tree was already closed.
     Rest,
-}
-
-impl From<OutOfMemory> for TreeFault {
-    ghost use Rattle.std.specs.Prelude.{◌≡◌};
-    ghost use Rattle.cert_tree.specs.declared.fault.TreeFault.TheVariants.{NoMemory};
-
-    ghost from_gives = { λ _ e. e ≡ NoMemory };
-
-    fn from(_e: OutOfMemory) -> TreeFault {
-        TreeFault::NoMemory
-    }
 }

@@ -4,7 +4,6 @@
 #![tactic(auto)]
 
 mod fault;
-mod halt;
 mod law;
 mod nodes;
 mod tree;

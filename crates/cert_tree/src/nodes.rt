@@ -13,11 +13,10 @@ ghost use Rattle.cert_tree.specs.Refusals.{own_refusal};
 ghost use Rattle.cert_tree.specs.Frames.{IsPassed, HaltsBy};
 
 use crate::fault::TreeWhy;
-use crate::halt::Halt;
 use cert_base::{Fact, Node, Row, SIZE_LIMIT, Term, count_variables, open_cases, split_cases};
 use cert_linear::Trail;
 use cert_traps::{present_cases, siphon_cases, trap_cases, twin_case};
-use pop_io::List;
+use pop_io::{Failure, List};
 use pop_net::Leaf;
 use std::alloc::Global;
 
@@ -27,7 +26,7 @@ pub(crate) fn node_cases(
     leaf: &Leaf,
     trail: &mut Trail,
     node: &Node,
-) -> Result<List<List<Fact>>, Halt>
+) -> Result<List<List<Fact>>, Failure<TreeWhy>>
     requires within { IsWithinFormat node.now }
     requires ordered { All IsOrdered trail.old }
     ensures passed { IfOk result (IsPassed leaf.now trail.old node.now) }
@@ -51,7 +50,7 @@ fn linear_node(
     alloc: Global,
     trail: &mut Trail,
     terms: &List<Term>,
-) -> Result<List<List<Fact>>, Halt>
+) -> Result<List<List<Fact>>, Failure<TreeWhy>>
     requires multipliers { AreMultipliers terms.now }
     requires ordered { All IsOrdered trail.old }
     ensures passed { (leaf : LeafModel) → IfOk result (IsPassed leaf trail.old (Linear terms.now)) }
@@ -59,10 +58,10 @@ fn linear_node(
     ensures unchanged { trail.new ≡ trail.old }
 {
     if !name_facts(terms.as_slice(), trail.len()) {
-        return Err(Halt::Refused(TreeWhy::BadIndex));
+        return Err(Failure::Fault(TreeWhy::BadIndex));
     }
     if !trail.is_refuted_by_sum(terms)? {
-        return Err(Halt::Refused(TreeWhy::NotClosed));
+        return Err(Failure::Fault(TreeWhy::NotClosed));
     }
     Ok(List::from_vec(Vec::new(alloc)))
 }
@@ -72,7 +71,7 @@ fn residue_node(
     trail: &mut Trail,
     modulus: u32,
     terms: &List<Term>,
-) -> Result<List<List<Fact>>, Halt>
+) -> Result<List<List<Fact>>, Failure<TreeWhy>>
     requires modulus { 2 ≤ modulus }
     requires multipliers { AreMultipliers terms.now }
     requires ordered { All IsOrdered trail.old }
@@ -82,81 +81,97 @@ fn residue_node(
     ensures unchanged { trail.new ≡ trail.old }
 {
     if !name_facts(terms.as_slice(), trail.len()) {
-        return Err(Halt::Refused(TreeWhy::BadIndex));
+        return Err(Failure::Fault(TreeWhy::BadIndex));
     }
     if !trail.is_refuted_by_residue(modulus, terms)? {
-        return Err(Halt::Refused(TreeWhy::NotClosed));
+        return Err(Failure::Fault(TreeWhy::NotClosed));
     }
     Ok(List::from_vec(Vec::new(alloc)))
 }
 
-fn split_node(alloc: Global, leaf: &Leaf, row: &Row) -> Result<List<List<Fact>>, Halt>
+fn split_node(alloc: Global, leaf: &Leaf, row: &Row) -> Result<List<List<Fact>>, Failure<TreeWhy>>
     requires coefs { All (λ t. nat_abs t.by ≤ SIZE_LIMIT) row.now.terms }
     requires constant { nat_abs row.now.constant ≤ SIZE_LIMIT }
     ensures passed { (facts : List Fact) → IfOk result (IsPassed leaf.now facts (Split row.now)) }
     ensures halts { (facts : List Fact) → IfErr result (HaltsBy (own_refusal leaf.now facts (Split row.now))) }
 {
     if !name_facts(row.terms.as_slice(), count_variables(leaf)) {
-        return Err(Halt::Refused(TreeWhy::BadIndex));
+        return Err(Failure::Fault(TreeWhy::BadIndex));
     }
     Ok(split_cases(alloc, row)?)
 }
 
-fn present_node(alloc: Global, leaf: &Leaf, state: u16) -> Result<List<List<Fact>>, Halt>
+fn present_node(
+    alloc: Global,
+    leaf: &Leaf,
+    state: u16,
+) -> Result<List<List<Fact>>, Failure<TreeWhy>>
     ensures passed { (facts : List Fact) → IfOk result (IsPassed leaf.now facts (Present state)) }
     ensures halts { (facts : List Fact) → IfErr result (HaltsBy (own_refusal leaf.now facts (Present state))) }
 {
     if leaf.state_count() <= state {
-        return Err(Halt::Refused(TreeWhy::BadIndex));
+        return Err(Failure::Fault(TreeWhy::BadIndex));
     }
     Ok(present_cases(alloc, leaf, state)?)
 }
 
-fn twin_node(alloc: Global, leaf: &Leaf, state: u16) -> Result<List<List<Fact>>, Halt>
+fn twin_node(alloc: Global, leaf: &Leaf, state: u16) -> Result<List<List<Fact>>, Failure<TreeWhy>>
     ensures passed { (facts : List Fact) → IfOk result (IsPassed leaf.now facts (Twin state)) }
     ensures halts { (facts : List Fact) → IfErr result (HaltsBy (own_refusal leaf.now facts (Twin state))) }
 {
     if leaf.state_count() <= state {
-        return Err(Halt::Refused(TreeWhy::BadIndex));
+        return Err(Failure::Fault(TreeWhy::BadIndex));
     }
     let Some(own) = twin_case(alloc, leaf, state)? else {
-        return Err(Halt::Refused(TreeWhy::NoTwin));
+        return Err(Failure::Fault(TreeWhy::NoTwin));
     };
     let mut cases = Vec::new(alloc);
     cases.push(own)?;
     Ok(List::from_vec(cases))
 }
 
-fn trap_node(alloc: Global, leaf: &Leaf, set: &List<u16>) -> Result<List<List<Fact>>, Halt>
+fn trap_node(
+    alloc: Global,
+    leaf: &Leaf,
+    set: &List<u16>,
+) -> Result<List<List<Fact>>, Failure<TreeWhy>>
     ensures passed { (facts : List Fact) → IfOk result (IsPassed leaf.now facts (Trap set.now)) }
     ensures halts { (facts : List Fact) → IfErr result (HaltsBy (own_refusal leaf.now facts (Trap set.now))) }
 {
     if !name_states(set.as_slice(), leaf.state_count()) {
-        return Err(Halt::Refused(TreeWhy::BadIndex));
+        return Err(Failure::Fault(TreeWhy::BadIndex));
     }
     Ok(trap_cases(alloc, leaf, set)?)
 }
 
-fn siphon_node(alloc: Global, leaf: &Leaf, set: &List<u16>) -> Result<List<List<Fact>>, Halt>
+fn siphon_node(
+    alloc: Global,
+    leaf: &Leaf,
+    set: &List<u16>,
+) -> Result<List<List<Fact>>, Failure<TreeWhy>>
     ensures passed { (facts : List Fact) → IfOk result (IsPassed leaf.now facts (Siphon set.now)) }
     ensures halts { (facts : List Fact) → IfErr result (HaltsBy (own_refusal leaf.now facts (Siphon set.now))) }
 {
     if !name_states(set.as_slice(), leaf.state_count()) {
-        return Err(Halt::Refused(TreeWhy::BadIndex));
+        return Err(Failure::Fault(TreeWhy::BadIndex));
     }
     Ok(siphon_cases(alloc, leaf, set)?)
 }
 
-fn open_node(alloc: Global, trail: &Trail, number: u32) -> Result<List<List<Fact>>, Halt>
+fn open_node(
+    alloc: Global,
+    trail: &Trail,
+    number: u32,
+) -> Result<List<List<Fact>>, Failure<TreeWhy>>
     ensures passed { (leaf : LeafModel) → IfOk result (IsPassed leaf trail.now (Open number)) }
     ensures halts { (leaf : LeafModel) → IfErr result (HaltsBy (own_refusal leaf trail.now (Open number))) }
 {
     if trail.len() <= number {
-        return Err(Halt::Refused(TreeWhy::BadIndex));
+        return Err(Failure::Fault(TreeWhy::BadIndex));
     }
     match trail.fact(number) {
         Fact::Holds(pred, value) => Ok(open_cases(alloc, pred, *value)?),
-        _ => Err(Halt::Refused(TreeWhy::NotOpen)),
+        _ => Err(Failure::Fault(TreeWhy::NotOpen)),
     }
 }
 

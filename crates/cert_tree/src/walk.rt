@@ -10,11 +10,10 @@ ghost use Rattle.cert_tree.specs.Frames.{waiting, waiting_with, AreNested, IsNes
 ghost use Rattle.cert_tree.specs.Frames.{GoesOn, HaltsAt, StillCover};
 
 use crate::fault::TreeWhy;
-use crate::halt::Halt;
 use crate::nodes::node_cases;
 use cert_base::{FACT_LIMIT, Fact, Node, PATH_LIMIT};
 use cert_linear::Trail;
-use pop_io::{List, NoMemory};
+use pop_io::{Failure, List, NoMemory};
 use pop_net::Leaf;
 use std::alloc::Global;
 
@@ -53,7 +52,12 @@ impl Walk {
     }
 
     /// Passes the next node, if it isn't refused.
-    pub(crate) fn visit(&mut self, alloc: Global, leaf: &Leaf, node: &Node) -> Result<(), Halt>
+    pub(crate) fn visit(
+        &mut self,
+        alloc: Global,
+        leaf: &Leaf,
+        node: &Node,
+    ) -> Result<(), Failure<TreeWhy>>
         requires within { IsWithinFormat node.now }
         requires nested { IsNested self.old }
         requires fit { All IsFit (waiting self.old) }
@@ -64,14 +68,14 @@ impl Walk {
         ensures halts { IfErr result (HaltsAt leaf.now (waiting self.old) node.now) }
     {
         if !self.next_case()? {
-            return Err(Halt::Refused(TreeWhy::Rest));
+            return Err(Failure::Fault(TreeWhy::Rest));
         }
         if self.frames.len() > PATH_LIMIT {
-            return Err(Halt::Refused(TreeWhy::TooDeep));
+            return Err(Failure::Fault(TreeWhy::TooDeep));
         }
         let cases = node_cases(alloc, leaf, &mut self.trail, node)?;
         if !has_room(&self.trail, cases.as_slice()) {
-            return Err(Halt::Refused(TreeWhy::TooManyFacts));
+            return Err(Failure::Fault(TreeWhy::TooManyFacts));
         }
         self.frames.push(Frame {
             len: self.trail.len(),

@@ -1,6 +1,7 @@
 //! Why leaves are refused, and their parts and reactions.
 
 use crate::parts::{listed, repeated};
+use pop_io::Failure;
 use pop_net::{Leaf, LeafFault, Move, Net};
 use sample_nets::{majority, numbered, step, texts};
 use std::alloc::Global;
@@ -16,7 +17,7 @@ const SIZES: [(Sizes, LeafFault); 5] = [
     ((1, 0, 1, 1, 1_025), LeafFault::Helpers(1_025)),
 ];
 
-fn fault_of(alloc: Global, sizes: Sizes) -> Option<LeafFault> {
+fn fault_of(alloc: Global, sizes: Sizes) -> Option<Failure<LeafFault>> {
     let (states, moves, inputs, outputs, helpers) = sizes;
     let states = numbered(alloc, states).ok()?;
     let moves = repeated(alloc, step(0, 0, 0, 0), moves);
@@ -29,7 +30,7 @@ fn fault_of(alloc: Global, sizes: Sizes) -> Option<LeafFault> {
 #[test]
 fn leaves_of_many_sizes(rt: HostRuntime) {
     for (sizes, fault) in SIZES {
-        assert!(rt; fault_of(rt.alloc(), sizes) == Some(fault));
+        assert!(rt; fault_of(rt.alloc(), sizes) == Some(Failure::Fault(fault)));
     }
 }
 
@@ -43,7 +44,7 @@ const PARTS: [(Parts, LeafFault); 4] = [
     ((["A", "B"], [1, 1], [0, 1], 2), LeafFault::Helper(0)),
 ];
 
-fn fault_of_parts(alloc: Global, parts: Parts) -> Option<LeafFault> {
+fn fault_of_parts(alloc: Global, parts: Parts) -> Option<Failure<LeafFault>> {
     let (names, ends, inputs, helper) = parts;
     let names = texts(alloc, names.as_slice()).ok()?;
     let moves = [step(0, 1, ends[0], 0), step(1, 1, ends[1], 1)];
@@ -57,7 +58,7 @@ fn fault_of_parts(alloc: Global, parts: Parts) -> Option<LeafFault> {
 #[test]
 fn names_and_numbers_of_a_leaf(rt: HostRuntime) {
     for (parts, fault) in PARTS {
-        assert!(rt; fault_of_parts(rt.alloc(), parts) == Some(fault));
+        assert!(rt; fault_of_parts(rt.alloc(), parts) == Some(Failure::Fault(fault)));
     }
 }
 

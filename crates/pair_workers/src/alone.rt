@@ -4,17 +4,17 @@ ghost use Rattle.std.specs.Prelude.{◌≡◌, ◌≤◌, length, IfOk};
 ghost use Rattle.pop_net.specs.Lanes.{AreValid};
 ghost use Rattle.pair_workers.specs.OneRun.{IsOnlyRunFrom};
 ghost use Rattle.pair_workers.specs.Played.{PlaysOn};
+ghost use Rattle.pair_workers.specs.Kept.{keeps_round};
 ghost use Rattle.pair_workers.specs.Ends.{CanMakeRun};
 
-use crate::ends::{end_of, goes_on};
 use crate::meet::meet_next;
 use crate::picker::Picker;
+use crate::run_loop::{RoundSink, run_into};
 use pop_crowd::{Crowd, Meeting};
 use pop_io::{Gate, List, NoMemory};
 use pop_net::Net;
 use pop_words::RunSpec;
 use std::alloc::Global;
-use terminal_test::PairTable;
 
 /// The most meetings of a worker in a round.
 pub const ROUND_TURNS: u64 = 4_096;
@@ -36,8 +36,22 @@ pub struct RunEnd {
     pub end: End,
 }
 
-/// A run by the worker 0 alone. Before each round the crowd is tested for being terminal, and the round's log is
-/// reserved. `shards` is ignored.
+/// The rounds of a run, kept as a list.
+#[derive(Drop)]
+pub struct KeptRounds {
+    pub rounds: Vec<List<Meeting>>,
+}
+
+impl RoundSink for KeptRounds {
+    ghost takes = { keeps_round };
+
+    fn take(&mut self, _number: u64, meetings: Vec<Meeting>) -> Result<(), NoMemory> {
+        self.rounds.push(List::from_vec(meetings))?;
+        Ok(())
+    }
+}
+
+/// A run by the worker 0 alone, with its rounds. `shards` is ignored.
 pub fn run_alone<G: Gate>(
     alloc: Global,
     net: &Net,
@@ -50,19 +64,11 @@ pub fn run_alone<G: Gate>(
     // No other rounds and no other end are a run.
     ensures { IfOk result (IsOnlyRunFrom net.now crowd spec.now) }
 {
-    let mut crowd = crowd;
-    let mut picker = Picker::new(spec.seed, 0);
-    let mut rounds = Vec::new(alloc);
-    let mut left = spec.turns;
-    let table = PairTable::new(alloc, net)?;
-    let mut last = None;
-    'rounds: while goes_on(alloc, &table, &crowd, left, &mut last)? {
-        let turns = ROUND_TURNS.min(left);
-        let meetings = play_round(alloc, net, &mut crowd, &mut picker, turns, gate)?;
-        rounds.push(List::from_vec(meetings))?;
-        left -= turns;
-    }
-    let end = end_of(alloc, &table, &crowd)?;
+    let mut kept = KeptRounds {
+        rounds: Vec::new(alloc),
+    };
+    let (crowd, end) = run_into(alloc, net, crowd, spec, gate, &mut kept)?;
+    let KeptRounds { rounds } = kept;
     Ok(RunEnd {
         rounds: List::from_vec(rounds),
         crowd,

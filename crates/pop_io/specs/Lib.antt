@@ -4,3 +4,4 @@ pub mod SourceModels
 pub mod SinkModels
 pub mod Names
 pub mod Gives
+pub mod Failures

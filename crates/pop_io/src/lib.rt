@@ -3,6 +3,7 @@
 //! The layer above uses: `read_all` gives all bytes, `write_all` appends all or a prefix; a fault has its cause.
 #![tactic(auto)]
 
+mod failure;
 mod fault;
 mod gate;
 mod list;
@@ -15,6 +16,7 @@ mod text;
 mod trouble;
 mod whole;
 
+pub use failure::Failure;
 pub use fault::{Failed, NoMemory, ReadAll, WriteFault};
 pub use gate::{Gate, OpenGate, SHARD_LIMIT, WORKER_LIMIT};
 pub use list::List;

@@ -11,6 +11,7 @@ use Rattle.pop_words.specs.declared.spec.RunSpec.{RunSpec}
 use Rattle.pair_workers.specs.Run.{joined}
 use Rattle.pop_journal.specs.Journal.{meeting_line}
 use Rattle.pop_journal.specs.Ending.{is_terminal, least_pair, common_output, ending_for, ending_of, last_is_undecided}
+use Rattle.pop_io.specs.declared.failure.Failure.{Failure}
 use Rattle.pop_journal.specs.declared.fault.VerifyFault.{VerifyFault}
 use Rattle.pop_journal.specs.Expected.{Compared, both, next_meeting, line_at_end, rounds_compared, tail_compared, whole_tail, first_difference}
 use Rattle.pop_journal.specs.Standing.{IsForEnd, Passes, lacking_behind}
@@ -63,5 +64,5 @@ module _ (net : NetModel) (start : CrowdModel) (spec : RunSpec) (rounds : List (
     pub end_passes : first_difference line told ≡ None → first_difference first lines ≡ None
     end_passes none = passed ∙ ap (first_difference line) (sym end_left) ∙ none
 
-    pub end_differs : (A B : Type 0) (fault : VerifyFault) → Passes {A = A} line told (Err fault) → Passes {A = B} first lines (Err fault)
+    pub end_differs : (A B : Type 0) (fault : Failure VerifyFault) → Passes {A = A} line told (Err fault) → Passes {A = B} first lines (Err fault)
     end_differs A B fault found = carried A B first line lines told wanted fault (λ d h. ap (first_difference line) (sym end_left) ∙ h) passed found

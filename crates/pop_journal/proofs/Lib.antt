@@ -20,3 +20,4 @@ pub mod Feeds
 pub mod Written
 pub mod MadeAlone
 pub mod PairLine
+pub mod WrittenAll

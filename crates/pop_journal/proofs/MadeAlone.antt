@@ -11,13 +11,6 @@ use Rattle.pair_workers.proofs.ManyRounds.{AreOnTheRun}
 use Rattle.pop_journal.specs.Journal.{run_line, round_lines, run_lines, text_of}
 use Rattle.pop_journal.proofs.Texts.{run_text}
 
--- some rounds were made, and their lines follow the run's first
-pub record Made (net : NetModel) (start : CrowdModel) (spec : RunSpec) (before text : List ℕ) (crowd : CrowdModel) (picker : List ℕ) (left number : ℕ) : Type 0 where
-  pub rounds : List (List Meeting)
-  pub run : AreOnTheRun net start spec rounds crowd (picker ∷ []) left
-  pub written : text ≡ (before ++ ended (run_line Whole spec)) ++ text_of (round_lines 1 rounds)
-  pub next : number ≡ length rounds + 1
-
 -- the run's lines up to `end`
 pub ended_text : (kind : RunKind) (spec : RunSpec) (before text after : List ℕ) (rounds : List (List Meeting)) → text ≡ (before ++ ended (run_line kind spec)) ++ text_of (round_lines 1 rounds) → after ≡ text ++ codes "end\n"
     → after ≡ before ++ text_of (run_lines kind spec rounds)

@@ -92,13 +92,14 @@ named_is name least most (word ∷ digits ∷ rest) n more small e =
       printed.1,
     )
 
-end_is : (spec spec' : RunSpec) (words : List (List ℕ)) → at_the_end spec words ≡ Some spec' → (words ≡ []) × (spec ≡ spec')
+end_is : (spec spec' : RunSpec) (words : List (List ℕ)) → at_the_end spec words ≡ Some spec' → (words ≡ []) × (spec ≡ spec') × (spec.workers * spec.turns ≤ MEETING_LIMIT)
 end_is spec spec' [] e =
-    let both = test (nat_le (spec.workers * spec.turns) MEETING_LIMIT) (Some spec) spec' e in (refl, let same : Some spec ≡ Some spec' = both.1 in cc)
+    let both = test (nat_le (spec.workers * spec.turns) MEETING_LIMIT) (Some spec) spec' e in
+    (refl, (let same : Some spec ≡ Some spec' = both.1 in cc), leb-true (spec.workers * spec.turns) MEETING_LIMIT both.0)
 end_is spec spec' (word ∷ words) e = absurd cc
 
 -- the words of a line that was read
-words_are : (kind : RunKind) (words : List (List ℕ)) (spec : RunSpec) → spec_words kind words ≡ Some spec → (words ≡ words_of kind spec) × IsWithinLimits spec × (spec.workers ≤ most_workers_of kind)
+words_are : (kind : RunKind) (words : List (List ℕ)) (spec : RunSpec) → spec_words kind words ≡ Some spec → (words ≡ words_of kind spec) × IsWithinLimits spec × (spec.workers ≤ most_workers_of kind) × (spec.workers * spec.turns ≤ MEETING_LIMIT)
 words_are kind [] spec e = absurd cc
 words_are kind (first ∷ words) spec e =
     let run = test (bytes_eq first (kind_word kind)) _ spec e in
@@ -122,14 +123,14 @@ words_are kind (first ∷ words) spec e =
     (shards.0 ∙ ap (λ (ws : List (List ℕ)). codes "shards" ∷ decimal s.0.0 ∷ ws)
     (turns.0 ∙ ap (λ (ws : List (List ℕ)). codes "turns" ∷ decimal t.0.0 ∷ ws)
     (seed.0 ∙ ap (λ (ws : List (List ℕ)). codes "seed" ∷ decimal n.0.0 ∷ ws) done.0)))) in
-    (all ∙ ap (words_of kind) done.1, subst IsWithinLimits done.1 limits, subst (λ (s : RunSpec). s.workers ≤ most_workers_of kind) done.1 workers.1.1)
+    (all ∙ ap (words_of kind) done.1, subst IsWithinLimits done.1 limits, subst (λ (s : RunSpec). s.workers ≤ most_workers_of kind) done.1 workers.1.1, subst (λ (s : RunSpec). s.workers * s.turns ≤ MEETING_LIMIT) done.1 done.2)
 
 -- a line that is read is the line of its run
-pub spec_spelled : (kind : RunKind) (line : List ℕ) (spec : RunSpec) → spec_in kind line ≡ Some spec → (line ≡ run_line kind spec) × IsWithinLimits spec × (spec.workers ≤ most_workers_of kind)
+pub spec_spelled : (kind : RunKind) (line : List ℕ) (spec : RunSpec) → spec_in kind line ≡ Some spec → (line ≡ run_line kind spec) × IsWithinLimits spec × (spec.workers ≤ most_workers_of kind) × (spec.workers * spec.turns ≤ MEETING_LIMIT)
 unfolding spec_in
 spec_spelled kind line spec e =
     let are = words_are kind (pieces 32 line) spec e in
-    (sym (join_with_byte-slice_split 32 line) ∙ ap (join_with_byte 32) are.0 ∙ sym (run_right kind spec), are.1, are.2)
+    (sym (join_with_byte-slice_split 32 line) ∙ ap (join_with_byte 32) are.0 ∙ sym (run_right kind spec), are.1, are.2, are.3)
 
 -- in the other direction: a number is cut off at a space
 pub cut_number : (n : ℕ) (rest : List ℕ) → n < 2 ^ 64 → pieces 32 (decimal n ++ 32 ∷ rest) ≡ decimal n ∷ pieces 32 rest

@@ -13,8 +13,10 @@ use Rattle.pop_crowd.proofs.Words.{crowd_tuples}
 use Rattle.pop_words.specs.Options.{IsWithinLimits}
 use Rattle.pair_workers.specs.Run.{joined}
 use Rattle.pair_workers.specs.WatchedRun.{IsWatchedRun}
+use Rattle.pop_io.specs.declared.failure.Failure.{Failure}
+use Rattle.pop_io.specs.declared.failure.Failure.TheVariants.{Fault, NoMemory}
 use Rattle.pop_journal.specs.declared.fault.VerifyFault.{VerifyFault}
-use Rattle.pop_journal.specs.declared.fault.VerifyFault.TheVariants.{Differs, NoMemory}
+use Rattle.pop_journal.specs.declared.fault.VerifyFault.TheVariants.{Differs}
 use Rattle.pop_journal.specs.declared.journal.Journal.{Journal}
 use Rattle.pop_journal.specs.Rounds.{AreRoundsOf}
 use Rattle.pop_journal.specs.Expected.{Difference, first_difference, journal_compared, whole_tail, Holds}
@@ -38,7 +40,7 @@ module _ (net : NetModel) (start : CrowdModel) (journal : Journal) (two : AGENT_
       none_of_run net start journal.spec two few workers.1 tuples journal.rounds watched (journal.first + 1) journal.tail holds.0 workers.0 run
       (holds.2 ∙ ap (λ (c : CrowdModel). lines_of (whole_tail net c)) (sym run.replays))
 
-module _ (net : NetModel) (words : List Word) (journal : Journal) (r : Result ℕ VerifyFault) (limits : IsWithinLimits journal.spec) (form : AreRoundsOf journal.kind journal.spec (length words) journal.rounds) (two : AGENT_LEAST ≤ length words) (few : length words ≤ AGENT_LIMIT) where
+module _ (net : NetModel) (words : List Word) (journal : Journal) (r : Result ℕ (Failure VerifyFault)) (limits : IsWithinLimits journal.spec) (form : AreRoundsOf journal.kind journal.spec (length words) journal.rounds) (two : AGENT_LEAST ≤ length words) (few : length words ≤ AGENT_LIMIT) where
   abbrev start : CrowdModel
   start = crowd_of net words
 
@@ -57,10 +59,10 @@ module _ (net : NetModel) (words : List Word) (journal : Journal) (r : Result �
   pub holds_where : Passes (journal.first + 1) (journal_compared net start journal) r → IfOk r (λ _. Holds net start journal)
   holds_where h = by_result r h
     where
-      by_result : (s : Result ℕ VerifyFault) → Passes (journal.first + 1) (journal_compared net start journal) s → IfOk s (λ _. Holds net start journal)
+      by_result : (s : Result ℕ (Failure VerifyFault)) → Passes (journal.first + 1) (journal_compared net start journal) s → IfOk s (λ _. Holds net start journal)
       by_result (Ok n) e =
           none_held net start journal more fewer limits.workers (crowd_tuples net words) rounds_form e
-      by_result (Err (Differs line kept found)) e = tt
+      by_result (Err (Fault (Differs line kept found))) e = tt
       by_result (Err NoMemory) e = tt
 
   pub fails_where : Passes (journal.first + 1) (journal_compared net start journal) r → Holds net start journal → IfErr r (λ fault. fault ≡ NoMemory)
@@ -70,7 +72,7 @@ module _ (net : NetModel) (words : List Word) (journal : Journal) (r : Result �
       none =
           held_none net start journal more fewer limits.workers (crowd_tuples net words) rounds_form holds
 
-      by_result : (s : Result ℕ VerifyFault) → Passes (journal.first + 1) (journal_compared net start journal) s → IfErr s (λ fault. fault ≡ NoMemory)
+      by_result : (s : Result ℕ (Failure VerifyFault)) → Passes (journal.first + 1) (journal_compared net start journal) s → IfErr s (λ fault. fault ≡ NoMemory)
       by_result (Ok n) e = tt
-      by_result (Err (Differs line kept found)) e = let both : None ≡ Some (let d : Difference = record { line = line; kept = kept; found = found } in d) = sym none ∙ e in absurd cc
+      by_result (Err (Fault (Differs line kept found))) e = let both : None ≡ Some (let d : Difference = record { line = line; kept = kept; found = found } in d) = sym none ∙ e in absurd cc
       by_result (Err NoMemory) e = refl

@@ -23,6 +23,7 @@ use Rattle.pop_journal.specs.Rounds.{AreRounds, AreWatchedRounds, AreRoundsOf}
 use Rattle.pop_journal.specs.Ending.{ending_of}
 use Rattle.pop_journal.specs.Expected.{whole_tail}
 use Rattle.pop_journal.specs.Form.{spec_in, Reading, Parts, Out, lines_read, under, with_spec, journal_in}
+use Rattle.pop_io.specs.declared.failure.Failure.{Failure}
 use Rattle.pop_journal.specs.declared.fault.JournalFault.{JournalFault}
 use Rattle.pop_journal.specs.ReadLines.{ReadsJournal}
 use Rattle.pop_journal.specs.Laws.{IsOneSpelling, IsRunReadBack, IsWrittenHeld}
@@ -57,11 +58,11 @@ lines_told kind spec parts = run_line kind spec ∷ (round_lines 1 parts.0 ++ co
 
 -- a text that is read has the lines of its journal, whose rounds are well-formed
 pub journal_form : (kind : RunKind) (agents first : ℕ) (lines : List (List ℕ)) (spec : RunSpec) (parts : Parts) → agents < 2 ^ 32 → journal_in kind agents first lines ≡ Ok (spec, parts)
-    → (lines ≡ run_line kind spec ∷ (round_lines 1 parts.0 ++ codes "end" ∷ parts.1)) × IsWithinLimits spec × AreRoundsOf kind spec agents parts.0
+    → (lines ≡ run_line kind spec ∷ (round_lines 1 parts.0 ++ codes "end" ∷ parts.1)) × IsWithinLimits spec × AreRoundsOf kind spec agents parts.0 × (spec.workers ≤ most_workers_of kind) × (spec.workers * spec.turns ≤ MEETING_LIMIT)
 journal_form kind agents first [] spec parts few e = absurd cc
 journal_form kind agents first (line ∷ lines) spec parts few e = by_spec (spec_in kind line) refl e
   where
-    by_spec : (o : Option RunSpec) → spec_in kind line ≡ o → with_spec kind agents first lines o ≡ Ok (spec, parts) → (line ∷ lines ≡ lines_told kind spec parts) × IsWithinLimits spec × AreRoundsOf kind spec agents parts.0
+    by_spec : (o : Option RunSpec) → spec_in kind line ≡ o → with_spec kind agents first lines o ≡ Ok (spec, parts) → (line ∷ lines ≡ lines_told kind spec parts) × IsWithinLimits spec × AreRoundsOf kind spec agents parts.0 × (spec.workers ≤ most_workers_of kind) × (spec.workers * spec.turns ≤ MEETING_LIMIT)
     by_spec None is h = absurd cc
     by_spec (Some s) is h =
         let none : Reading = ([], None) in
@@ -69,14 +70,14 @@ journal_form kind agents first (line ∷ lines) spec parts few e = by_spec (spec
         let spelled = spec_spelled kind line s is in
         let limits : IsWithinLimits s = spelled.1 in
         let read = read_spelled kind s agents limits.workers.1 few (first + 1) none lines parts (no_rounds s agents, tt) found.1 in
-        subst (λ (r : RunSpec). (line ∷ lines ≡ lines_told kind r parts) × IsWithinLimits r × AreRoundsOf kind r agents parts.0) found.0
-        ((λ i. spelled.0 i ∷ read.0 i), limits, read.1)
+        subst (λ (r : RunSpec). (line ∷ lines ≡ lines_told kind r parts) × IsWithinLimits r × AreRoundsOf kind r agents parts.0 × (r.workers ≤ most_workers_of kind) × (r.workers * r.turns ≤ MEETING_LIMIT)) found.0
+        ((λ i. spelled.0 i ∷ read.0 i), limits, read.1, spelled.2, spelled.3)
 
-pub form_of : (kind : RunKind) (agents first : ℕ) (lines : List (List ℕ)) (r : Result Journal JournalFault) → agents < 2 ^ 32 → ReadsJournal kind agents first lines r → IfOk r (λ journal. AreRoundsOf kind journal.spec agents journal.rounds)
+pub form_of : (kind : RunKind) (agents first : ℕ) (lines : List (List ℕ)) (r : Result Journal (Failure JournalFault)) → agents < 2 ^ 32 → ReadsJournal kind agents first lines r → IfOk r (λ journal. AreRoundsOf kind journal.spec agents journal.rounds)
 form_of kind agents first lines (Ok journal) few e = (journal_form kind agents first lines journal.spec (journal.rounds, journal.tail) few e).2
 form_of kind agents first lines (Err fault) few e = tt
 
-pub spelling_of : (kind : RunKind) (agents first : ℕ) (lines : List (List ℕ)) (r : Result Journal JournalFault) → agents < 2 ^ 32 → ReadsJournal kind agents first lines r
+pub spelling_of : (kind : RunKind) (agents first : ℕ) (lines : List (List ℕ)) (r : Result Journal (Failure JournalFault)) → agents < 2 ^ 32 → ReadsJournal kind agents first lines r
     → IfOk r (λ journal. lines ≡ run_line kind journal.spec ∷ (round_lines 1 journal.rounds ++ codes "end" ∷ journal.tail))
 spelling_of kind agents first lines (Ok journal) few e = (journal_form kind agents first lines journal.spec (journal.rounds, journal.tail) few e).0
 spelling_of kind agents first lines (Err fault) few e = tt
@@ -132,7 +133,7 @@ module _ (kind : RunKind) (net : NetModel) (start : CrowdModel) (spec : RunSpec)
   not_many =
       let bound = few_rounds rounds 245 (λ k r h. early spec k r limits.turns.1 (watched.each k r h)) in omega (arith, bound)
 
-  cut : lines_of (journal_text kind net spec rounds end (ending_of net end)) ≡ run_line kind spec ∷ (round_lines 1 rounds ++ codes "end" ∷ tail)
+  pub cut : lines_of (journal_text kind net spec rounds end (ending_of net end)) ≡ run_line kind spec ∷ (round_lines 1 rounds ++ codes "end" ∷ tail)
   cut =
       ap lines_of (append_assoc (text_of (run_lines kind spec rounds)) (crowd_lines net end) (ended (last_line (ending_of net end))))
       ∙ lines_text (run_lines kind spec rounds) (whole_tail net end) (lines_unbroken kind spec rounds limits not_many all_small)

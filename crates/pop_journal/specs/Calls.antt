@@ -1,5 +1,5 @@
 -- Calls: what the calls on journals require and promise.
-use Rattle.std.specs.Prelude.{◌≡◌, ℕ, ◌+◌, ◌≤◌, List, ◌∷◌, ◌++◌, length, codes, Result, IfOk, IfErr}
+use Rattle.std.specs.Prelude.{◌≡◌, ℕ, ◌+◌, ◌≤◌, List, ◌∷◌, ◌++◌, length, codes, Result, IfOk}
 use Rattle.pop_net.specs.NetModel.{NetModel}
 use Rattle.pop_net.specs.declared.net.Word.{Word}
 use Rattle.pop_net.specs.Lanes.{crowd_of, AreValid}
@@ -9,7 +9,8 @@ use Rattle.pop_words.specs.Options.{IsWithinLimits}
 use Rattle.pair_workers.specs.Run.{joined}
 use Rattle.pop_journal.specs.declared.fault.JournalFault.{JournalFault}
 use Rattle.pop_journal.specs.declared.fault.VerifyFault.{VerifyFault}
-use Rattle.pop_journal.specs.declared.fault.VerifyFault.TheVariants.{NoMemory as OutOfMemory}
+use Rattle.pop_io.specs.declared.failure.Failure.{Failure}
+use Rattle.pop_io.specs.Failures.{OnlyMemory}
 use Rattle.pop_journal.specs.declared.journal.Journal.{Journal}
 use Rattle.pop_journal.specs.declared.journal.TheConstants.{LINE_LIMIT}
 use Rattle.pop_journal.specs.Journal.{run_line, round_lines}
@@ -21,7 +22,7 @@ use Rattle.pop_journal.specs.Standing.{Passes}
 -- what was read of these lines, the first of which has this number, as the journal of a run of this kind for so many
 -- agents
 pub record IsReadFrom (lines : List (List ℕ)) (run : RunKind) (number agents : ℕ)
-    (result : Result Journal JournalFault) : Type 0 where
+    (result : Result Journal (Failure JournalFault)) : Type 0 where
   pub read : ReadsJournal run agents number lines result
   pub kind : IfOk result (λ journal. journal.kind ≡ run)
   pub first : IfOk result (λ journal. journal.first ≡ number)
@@ -41,10 +42,10 @@ pub record CanVerify (net : NetModel) (crowd : List Word) (journal : Journal) : 
 
 -- the journal was compared with the run that it records from this crowd
 pub record IsVerified (net : NetModel) (crowd : List Word) (journal : Journal)
-    (result : Result ℕ VerifyFault) : Type 0 where
+    (result : Result ℕ (Failure VerifyFault)) : Type 0 where
   -- the first line that isn't the expected one is the refusal
   pub passes : Passes (journal.first + 1) (journal_compared net (crowd_of net crowd) journal) result
   pub meetings : IfOk result (λ k. k ≡ length (joined journal.rounds))
   -- it passes exactly when the rounds are a run of the journal's kind and the tail has the lines of its end
   pub holds : IfOk result (λ _. Holds net (crowd_of net crowd) journal)
-  pub accepts : Holds net (crowd_of net crowd) journal → IfErr result (λ fault. fault ≡ OutOfMemory)
+  pub accepts : Holds net (crowd_of net crowd) journal → OnlyMemory result

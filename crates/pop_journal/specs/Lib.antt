@@ -10,3 +10,4 @@ pub mod Reasons
 pub mod WrittenRun
 pub mod FirstPair
 pub mod Calls
+pub mod WrittenRound

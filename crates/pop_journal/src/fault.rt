@@ -1,11 +1,6 @@
 //! What is wrong with a journal.
 
-ghost use Rattle.std.specs.Prelude.{◌≡◌};
-ghost use Rattle.pop_journal.specs.declared.fault.JournalFault.TheVariants.{NoMemory as ReadNoMemory};
-ghost use Rattle.pop_journal.specs.declared.fault.VerifyFault.TheVariants.{NoMemory as OutOfMemory};
-
-use pop_io::{List, NoMemory};
-use std::alloc::{AllocError, AllocFailed};
+use pop_io::List;
 use std::fmt;
 
 /// Why a line is invalid.
@@ -46,8 +41,6 @@ impl fmt::Display for JournalWhy {
 pub enum JournalFault {
     /// The first invalid line.
     Out { line: u64, why: JournalWhy },
-    /// Out of memory.
-    NoMemory,
 }
 
 /// Why a journal doesn't hold.
@@ -59,46 +52,4 @@ pub enum VerifyFault {
         kept: List<u8>,
         found: List<u8>,
     },
-    /// Out of memory.
-    NoMemory,
-}
-
-impl From<NoMemory> for JournalFault {
-    ghost from_gives = { λ _ f. f ≡ ReadNoMemory };
-
-    fn from(_fault: NoMemory) -> JournalFault {
-        JournalFault::NoMemory
-    }
-}
-
-impl From<AllocError> for JournalFault {
-    ghost from_gives = { λ _ f. f ≡ ReadNoMemory };
-
-    fn from(_fault: AllocError) -> JournalFault {
-        JournalFault::NoMemory
-    }
-}
-
-impl<T: Drop> From<AllocFailed<T>> for JournalFault {
-    ghost from_gives = { λ _ f. f ≡ ReadNoMemory };
-
-    fn from(_fault: AllocFailed<T>) -> JournalFault {
-        JournalFault::NoMemory
-    }
-}
-
-impl From<NoMemory> for VerifyFault {
-    ghost from_gives = { λ _ f. f ≡ OutOfMemory };
-
-    fn from(_fault: NoMemory) -> VerifyFault {
-        VerifyFault::NoMemory
-    }
-}
-
-impl From<AllocError> for VerifyFault {
-    ghost from_gives = { λ _ f. f ≡ OutOfMemory };
-
-    fn from(_fault: AllocError) -> VerifyFault {
-        VerifyFault::NoMemory
-    }
 }

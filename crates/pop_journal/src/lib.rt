@@ -14,6 +14,7 @@ mod limits;
 mod read;
 mod replayer;
 mod short;
+mod sink;
 mod verdict;
 mod write;
 
@@ -24,8 +25,6 @@ pub use last::Last;
 pub use law::{one_spelling, written_holds};
 pub use read::read_journal;
 pub use short::short_pair;
+pub use sink::WrittenRounds;
 pub use verdict::verify;
-pub use write::{
-    MEETING_ROOM, PAGE_SIZE, push_end, push_journal, push_last_line, push_round, push_run_line,
-    write_journal,
-};
+pub use write::{MEETING_ROOM, push_end, push_journal, push_last_line, write_journal};

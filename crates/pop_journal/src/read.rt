@@ -1,7 +1,7 @@
 //! Journals read from their lines.
 
 ghost use Rattle.std.specs.Prelude.{◌≡◌, ◌+◌, ◌*◌, ◌<◌, ◌≤◌, List as Items, [], length, Some};
-ghost use Rattle.std.specs.Prelude.{None, Ok, Err, IfOk, IfErr};
+ghost use Rattle.std.specs.Prelude.{None, Ok, Err, IfOk};
 ghost use Rattle.std.specs.Str.{bytes_eq};
 ghost use Rattle.pop_journal.specs.Calls.{IsReadFrom};
 ghost use Rattle.pop_journal.specs.Journal.{round_line};
@@ -9,7 +9,8 @@ ghost use Rattle.pop_lines.specs.Lines.{lines_of};
 ghost use Rattle.pop_words.specs.Kinds.{most_workers_of};
 ghost use Rattle.pop_words.specs.Options.{IsWithinLimits};
 ghost use Rattle.pair_workers.specs.Run.{turns_in};
-ghost use Rattle.pop_journal.specs.declared.fault.JournalFault.TheVariants.{NoMemory as OutOfMemory, Out};
+ghost use Rattle.pop_journal.specs.declared.fault.JournalFault.TheVariants.{Out};
+ghost use Rattle.pop_io.specs.declared.failure.Failure.TheVariants.{Fault};
 ghost use Rattle.pop_journal.specs.ReadLines.{ReadsRound, ReadsRounds, ReadsJournal};
 
 use crate::fault::{JournalFault, JournalWhy};
@@ -19,10 +20,10 @@ use crate::limits::FIRST_MEETING_LIMIT;
 use itoa::Buffer;
 use pair_workers::ROUND_TURNS;
 use pop_crowd::Meeting;
-use pop_io::{List, WORKER_LIMIT};
+use pop_io::{Failure, List, WORKER_LIMIT};
 use pop_lines::next_line;
 use pop_words::{RunKind, RunSpec};
-use std::alloc::Global;
+use std::alloc::{AllocError, Global};
 
 /// How the lines of a round end.
 #[derive(Clone, Copy)]
@@ -43,7 +44,7 @@ fn read_round<'t>(
     text: &'t [u8],
     number: u64,
     meetings: &mut Vec<Meeting>,
-) -> Result<(LinesEnd, &'t [u8]), JournalFault>
+) -> Result<(LinesEnd, &'t [u8]), Failure<JournalFault>>
     requires spec { IsWithinLimits spec.now }
     requires turns { (1 ≤ turns) × (turns ≤ ROUND_TURNS) }
     requires none { meetings.old.items ≡ [] }
@@ -65,7 +66,7 @@ fn read_round<'t>(
         }
         let meeting = match checked(told, spec, agents, &made, turns) {
             Ok(meeting) => meeting,
-            Err(why) => return Err(JournalFault::Out { line, why }),
+            Err(why) => return Err(fault_at(line, why)),
         };
         made[meeting.worker as usize] += 1;
         meetings.push(meeting)?;
@@ -83,7 +84,7 @@ fn read_rounds<'t>(
     text: &'t [u8],
     number: u64,
     rounds: &mut Vec<List<Meeting>>,
-) -> Result<&'t [u8], JournalFault>
+) -> Result<&'t [u8], Failure<JournalFault>>
     requires spec { IsWithinLimits spec.now }
     requires none { rounds.old.items ≡ [] }
     requires number { number ≤ LINE_LIMIT + 1 }
@@ -127,10 +128,10 @@ fn read_rounds<'t>(
 }
 
 /// What is wrong with the line of this number.
-fn fault_at(line: u64, why: JournalWhy) -> JournalFault
-    ensures { result ≡ Out line why }
+fn fault_at(line: u64, why: JournalWhy) -> Failure<JournalFault>
+    ensures { result ≡ Fault (Out line why) }
 {
-    JournalFault::Out { line, why }
+    Failure::Fault(JournalFault::Out { line, why })
 }
 
 /// Whether a line is that of the round with this number.
@@ -147,9 +148,8 @@ fn is_round_line(line: &[u8], round: u64) -> bool
 }
 
 /// The lines of a text.
-fn take_lines(alloc: Global, text: &[u8]) -> Result<Vec<List<u8>>, JournalFault>
-    ensures lines { IfOk result (λ lines. lines.items ≡ lines_of text.now) }
-    ensures memory { IfErr result (λ fault. fault ≡ OutOfMemory) }
+fn take_lines(alloc: Global, text: &[u8]) -> Result<Vec<List<u8>>, AllocError>
+    ensures { IfOk result (λ lines. lines.items ≡ lines_of text.now) }
 {
     let mut lines = Vec::new(alloc);
     let mut rest = text;
@@ -167,7 +167,7 @@ fn read_lines(
     text: &[u8],
     first: u64,
     agents: u32,
-) -> Result<Journal, JournalFault>
+) -> Result<Journal, Failure<JournalFault>>
     requires first { first ≤ LINE_LIMIT }
     ensures read { ReadsJournal kind agents first (lines_of text.now) result }
     ensures kind { IfOk result (λ journal. journal.kind ≡ kind) }
@@ -200,7 +200,7 @@ pub fn read_journal(
     text: &[u8],
     first: u64,
     agents: u32,
-) -> Result<Journal, JournalFault>
+) -> Result<Journal, Failure<JournalFault>>
     requires { first ≤ LINE_LIMIT }
     ensures { IsReadFrom (lines_of text.now) kind first agents result }
 {

@@ -11,6 +11,7 @@ ghost use Rattle.pop_journal.specs.Journal.{meeting_line, round_line, last_line}
 ghost use Rattle.pop_journal.specs.Ending.{is_terminal, ending_of, ending_for, last_is_undecided};
 ghost use Rattle.pop_journal.specs.Expected.{next_meeting, meetings_compared, tail_compared};
 ghost use Rattle.pop_journal.specs.Standing.{IsReplaying, Passes};
+ghost use Rattle.pop_io.specs.declared.failure.Failure.TheVariants.{Fault};
 ghost use Rattle.pop_journal.specs.declared.fault.VerifyFault.TheVariants.{Differs};
 ghost use Rattle.terminal_test.specs.TableNet.{table_net};
 
@@ -20,7 +21,7 @@ use crate::limits::ROUND_LIMIT;
 use crate::write::{push_last_line, push_meeting_numbers};
 use pair_workers::{Picker, ROUND_TURNS, meet_next};
 use pop_crowd::{Crowd, Meeting};
-use pop_io::{List, NoMemory, WORKER_LIMIT};
+use pop_io::{Failure, List, NoMemory, WORKER_LIMIT};
 use pop_lines::{next_line, push_number};
 use pop_net::Net;
 use pop_words::RunSpec;
@@ -59,12 +60,12 @@ fn differs(
     line: u64,
     kept: &Meeting,
     found: &Meeting,
-) -> Result<VerifyFault, AllocError>
-    ensures { IfOk result (λ fault. fault ≡ Differs line (meeting_line kept.now) (meeting_line found.now)) }
+) -> Result<Failure<VerifyFault>, AllocError>
+    ensures { IfOk result (λ fault. fault ≡ Fault (Differs line (meeting_line kept.now) (meeting_line found.now))) }
 {
     let kept = meeting_text(alloc, kept)?;
     let found = meeting_text(alloc, found)?;
-    Ok(VerifyFault::Differs { line, kept, found })
+    Ok(Failure::Fault(VerifyFault::Differs { line, kept, found }))
 }
 
 impl Replayer {
@@ -106,7 +107,7 @@ impl Replayer {
         net: &Net,
         meetings: &[Meeting],
         line: u64,
-    ) -> Result<(), VerifyFault>
+    ) -> Result<(), Failure<VerifyFault>>
         requires valid { AreValid net.now self.old.crowd }
         requires meetings { AreMeetings (length self.old.crowd) meetings.now }
         requires workers { All (λ m. m.worker < length self.old.pickers.items) meetings.now }
@@ -136,7 +137,7 @@ impl Replayer {
         round: u64,
         meetings: &[Meeting],
         line: u64,
-    ) -> Result<(), VerifyFault>
+    ) -> Result<(), Failure<VerifyFault>>
         requires table { table_net table.now ≡ net.now }
         requires valid { AreValid net.now self.old.crowd }
         requires meetings { AreMeetings (length self.old.crowd) meetings.now }
@@ -200,7 +201,7 @@ impl Replayer {
         lacking: Option<u16>,
         tail: &[List<u8>],
         line: u64,
-    ) -> Result<(), VerifyFault>
+    ) -> Result<(), Failure<VerifyFault>>
         requires table { table_net table.now ≡ net.now }
         requires valid { AreValid net.now self.old.crowd }
         requires round { (1 ≤ round) × (round ≤ ROUND_LIMIT + 1) }
@@ -214,11 +215,11 @@ impl Replayer {
         let last = ending(alloc, net, table, &self.crowd)?;
         let wanted = tail_text(alloc, net, &self.crowd, last)?;
         if let Some(found) = self.line_for_end(alloc, net, spec, round, lacking, last)? {
-            return Err(VerifyFault::Differs {
+            return Err(Failure::Fault(VerifyFault::Differs {
                 line,
                 kept: end_text(alloc)?,
                 found,
-            });
+            }));
         }
         compare_tail(alloc, tail, &wanted, line + 1)
     }
@@ -294,12 +295,12 @@ fn end_text(alloc: Global) -> Result<List<u8>, AllocError>
 }
 
 /// A round line where `end` is expected.
-fn round_for_end(alloc: Global, line: u64, round: u64) -> Result<VerifyFault, AllocError>
-    ensures { IfOk result (λ fault. fault ≡ Differs line (round_line round) (codes "end")) }
+fn round_for_end(alloc: Global, line: u64, round: u64) -> Result<Failure<VerifyFault>, AllocError>
+    ensures { IfOk result (λ fault. fault ≡ Fault (Differs line (round_line round) (codes "end"))) }
 {
     let kept = round_text(alloc, round)?;
     let found = end_text(alloc)?;
-    Ok(VerifyFault::Differs { line, kept, found })
+    Ok(Failure::Fault(VerifyFault::Differs { line, kept, found }))
 }
 
 /// A line of the tail that isn't the expected one.
@@ -308,12 +309,12 @@ fn tail_differs(
     line: u64,
     kept: &[u8],
     found: &[u8],
-) -> Result<VerifyFault, AllocError>
-    ensures { IfOk result (λ fault. fault ≡ Differs line kept.now found.now) }
+) -> Result<Failure<VerifyFault>, AllocError>
+    ensures { IfOk result (λ fault. fault ≡ Fault (Differs line kept.now found.now)) }
 {
     let kept = List::from_vec(Vec::from_slice(alloc, kept)?);
     let found = List::from_vec(Vec::from_slice(alloc, found)?);
-    Ok(VerifyFault::Differs { line, kept, found })
+    Ok(Failure::Fault(VerifyFault::Differs { line, kept, found }))
 }
 
 /// Compares the lines after `end`, the first of which has this number, with the lines of a text.
@@ -322,7 +323,7 @@ fn compare_tail(
     tail: &[List<u8>],
     wanted: &[u8],
     line: u64,
-) -> Result<(), VerifyFault>
+) -> Result<(), Failure<VerifyFault>>
     requires { line + length tail.now < 2 ^ 64 }
     ensures { Passes line (tail_compared tail.now (lines_of wanted.now)) result }
 {

@@ -17,7 +17,7 @@ use crate::lacking::lacking_last;
 use crate::replayer::Replayer;
 use pair_workers::first_pickers;
 use pop_crowd::Crowd;
-use pop_io::NoMemory;
+use pop_io::{Failure, NoMemory};
 use pop_net::Net;
 use pop_words::{RunSpec, SEED_LIMIT};
 use std::alloc::Global;
@@ -53,7 +53,7 @@ fn compare_lines(
     table: &PairTable,
     replayer: &mut Replayer,
     journal: &Journal,
-) -> Result<u64, VerifyFault>
+) -> Result<u64, Failure<VerifyFault>>
     requires table { table_net table.now ≡ net.now }
     requires valid { AreValid net.now replayer.old.crowd }
     requires agents { IsCrowdSize (length replayer.old.crowd) }
@@ -82,7 +82,12 @@ fn compare_lines(
 }
 
 /// Compares all lines of a journal after the first.
-fn compare(alloc: Global, net: &Net, crowd: Crowd, journal: &Journal) -> Result<u64, VerifyFault>
+fn compare(
+    alloc: Global,
+    net: &Net,
+    crowd: Crowd,
+    journal: &Journal,
+) -> Result<u64, Failure<VerifyFault>>
     requires valid { AreValid net.now crowd }
     requires first { journal.now.first ≤ LINE_LIMIT }
     requires spec { IsWithinLimits journal.now.spec }
@@ -99,7 +104,12 @@ fn compare(alloc: Global, net: &Net, crowd: Crowd, journal: &Journal) -> Result<
 
 /// Compares each line of a journal after the first with the one expected after the lines before it.
 /// Returns the number of meetings.
-pub fn verify(alloc: Global, net: &Net, crowd: Crowd, journal: &Journal) -> Result<u64, VerifyFault>
+pub fn verify(
+    alloc: Global,
+    net: &Net,
+    crowd: Crowd,
+    journal: &Journal,
+) -> Result<u64, Failure<VerifyFault>>
     requires { CanVerify net.now crowd journal.now }
     ensures { IsVerified net.now crowd journal.now result }
 {

@@ -1,5 +1,5 @@
 -- A leaf breaks no rule exactly when its names are well-formed and its numbers in range.
-use Rattle.std.proofs.Common.{◌≡◌, inl, inr, ℕ, ◌<◌, ◌≤◌, ◌&&◌, nat_le, nat_lt, length}
+use Rattle.std.proofs.Common.{◌≡◌, ℕ, ◌<◌, ◌≤◌, ◌&&◌, nat_le, nat_lt, length}
 use Rattle.std.specs.Prelude.{None, Decides, All}
 use Rattle.std.proofs.lemmas.Bool.Decides.{Decides-eqb, Decides-ltb, Decides-and, Decides-like}
 use Rattle.std.proofs.lemmas.Bool.{leb-true, le-leb}
@@ -60,9 +60,8 @@ unbroken_leaf leaf e =
       helpers = k.1.1.1.1.1.1.1.1.0;
     }
 
--- a leaf that breaks no rule is refused only when memory runs out
-pub right_leaf : (leaf : LeafModel) (f : LeafFault) → RefusesLeaf leaf f → IsLeaf leaf → f ≡ fault.NoMemory
-right_leaf leaf f (inl memory) h = memory
-right_leaf leaf f (inr e) h =
+-- a leaf that keeps the rules breaks none
+pub right_leaf : (leaf : LeafModel) (f : LeafFault) → RefusesLeaf leaf f → IsLeaf leaf → ⊥
+right_leaf leaf f e h =
     let none = (rules_of leaf).1 ((h.some_state, h.states), (h.names, (h.move_count, (h.moves, ((h.some_input, h.input_count), (h.inputs, (h.outputs, (h.helper_count, (h.helpers, tt))))))))) in
     cc

@@ -1,6 +1,6 @@
 -- A net whose leaves break no rule breaks none itself exactly when its names are well-formed, its numbers in range,
 -- and its combination is one tree.
-use Rattle.std.proofs.Common.{◌≡◌, inl, inr, ◌≤◌, Bool, true, false, not, nat_lt, length, List, [], ◌∷◌, refl, ap, sym, ◌∙◌, arith}
+use Rattle.std.proofs.Common.{◌≡◌, ◌≤◌, Bool, true, false, not, nat_lt, length, List, [], ◌∷◌, refl, ap, sym, ◌∙◌, arith}
 use Rattle.std.specs.Prelude.{None, All, IsSomeAnd, ◌==◌, position, if◌then◌else◌}
 use Rattle.std.proofs.lemmas.List.Folds.{list_any_none, list_any_at}
 use Rattle.std.proofs.lemmas.Bool.{not-true, false≢true, false_from_ne_true, ltb-true, ltb-false}
@@ -85,9 +85,8 @@ pub some_item : (items : List Item) → IsSomeAnd (combined depth_operators item
 some_item [] h = absurd h
 some_item (item ∷ items) h = omega arith
 
--- a net that breaks no rule is refused only when memory runs out
-pub right_net : (net : NetModel) (f : NetFault) → RefusesNet net f → IsNet net → f ≡ fault.NoMemory
-right_net net f (inl memory) h = memory
-right_net net f (inr e) h =
+-- a net that keeps the rules breaks none
+pub right_net : (net : NetModel) (f : NetFault) → RefusesNet net f → IsNet net → ⊥
+right_net net f e h =
     let none = (rules_of net).1 ((h.some_variable, h.variables), (h.variable_names, ((h.some_leaf, h.leaf_count), (h.inputs, ((some_item net.combine h.depth, h.items), (record { named = h.leaf_numbers; depth = h.depth }, (h.helpers, (h.wide, tt)))))))) in
     cc

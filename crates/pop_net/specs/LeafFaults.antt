@@ -1,5 +1,5 @@
 -- The first rule that a leaf breaks.
-use Rattle.std.specs.Prelude.{◌≡◌, ◌⊎◌, ℕ, Bool, not, ◌&&◌, ◌==◌, nat_lt, nat_le, [], ◌∷◌, length, Option, Some}
+use Rattle.std.specs.Prelude.{◌≡◌, ℕ, Bool, not, ◌&&◌, ◌==◌, nat_lt, nat_le, [], ◌∷◌, length, Option, Some}
 use Rattle.std.specs.Prelude.{position}
 use Rattle.std.specs.Option.{option_map}
 use Rattle.pop_io.specs.Names.{state_name}
@@ -31,6 +31,6 @@ fault_of_leaf leaf =
     ∷ option_map fault.Helper (position (λ q. not (nat_lt q states)) leaf.helpers)
     ∷ [])
 
--- the fault is the first rule that the leaf breaks, unless memory ran out
+-- the fault is the first rule that the leaf breaks
 abbrev pub RefusesLeaf : LeafModel → LeafFault → Type 0
-RefusesLeaf leaf f = (f ≡ fault.NoMemory) ⊎ (fault_of_leaf leaf ≡ Some f)
+RefusesLeaf leaf f = fault_of_leaf leaf ≡ Some f

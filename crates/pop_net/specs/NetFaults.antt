@@ -1,5 +1,5 @@
 -- The first rule that a net breaks.
-use Rattle.std.specs.Prelude.{◌≡◌, ◌⊎◌, ℕ, ◌+◌, Bool, true, not, ◌&&◌, ◌==◌, nat_lt, nat_le, List, [], ◌∷◌, length}
+use Rattle.std.specs.Prelude.{◌≡◌, ℕ, ◌+◌, Bool, true, not, ◌&&◌, ◌==◌, nat_lt, nat_le, List, [], ◌∷◌, length}
 use Rattle.std.specs.Prelude.{take, Option, Some, None, if◌then◌else◌, position, false, ◌≤◌, All, IsSomeAnd}
 use Rattle.std.specs.List.{list_all}
 use Rattle.std.specs.Option.{option_map, option_map_or}
@@ -76,6 +76,6 @@ fault_of_net net =
     ∷ option_map fault.Wide (first_wide_leaf net.leaves)
     ∷ [])
 
--- the fault is the first rule that the net breaks, unless memory ran out
+-- the fault is the first rule that the net breaks
 abbrev pub RefusesNet : NetModel → NetFault → Type 0
-RefusesNet net f = (f ≡ fault.NoMemory) ⊎ (fault_of_net net ≡ Some f)
+RefusesNet net f = fault_of_net net ≡ Some f

@@ -1,10 +1,10 @@
 -- Promises: what the calls of leaves and nets promise, each in one record.
-use Rattle.std.specs.Prelude.{◌≡◌, ℕ, ◌<◌, length, Result, IfOk, IfErr}
+use Rattle.std.specs.Prelude.{◌≡◌, ℕ, ◌<◌, length, Result, IfOk, IfErr, IsOk}
+use Rattle.pop_io.specs.declared.failure.Failure.{Failure}
+use Rattle.pop_io.specs.Failures.{IfFault, OnlyMemory}
 use Rattle.pop_net.specs.declared.net.Word.{Word}
 use Rattle.pop_net.specs.declared.fault.LeafFault.{LeafFault}
-use Rattle.pop_net.specs.declared.fault.LeafFault.TheVariants.{NoMemory as LeafMemory}
 use Rattle.pop_net.specs.declared.fault.NetFault.{NetFault}
-use Rattle.pop_net.specs.declared.fault.NetFault.TheVariants.{NoMemory as NetMemory}
 use Rattle.pop_net.specs.LeafModel.{LeafModel, IsLeaf}
 use Rattle.pop_net.specs.LeafFaults.{RefusesLeaf}
 use Rattle.pop_net.specs.NetModel.{NetModel, Tuple, IsNet}
@@ -14,16 +14,16 @@ use Rattle.pop_net.specs.Reaction.{leaf_reaction, reaction}
 use Rattle.pop_net.specs.Step.{LeafChange, TupleChange}
 
 -- a leaf of these parts, or the first rule that they break
-pub record MakesLeaf (leaf : LeafModel) (result : Result LeafModel LeafFault) : Type 0 where
+pub record MakesLeaf (leaf : LeafModel) (result : Result LeafModel (Failure LeafFault)) : Type 0 where
   pub kept : IfOk result (λ made. made ≡ leaf)
-  pub refused : IfErr result (RefusesLeaf leaf)
-  pub accepts : IsLeaf leaf → IfErr result (λ fault. fault ≡ LeafMemory)
+  pub refused : IfFault result (RefusesLeaf leaf)
+  pub accepts : IsLeaf leaf → OnlyMemory result
 
 -- a net of these parts, or the first rule that they break
 pub record MakesNet (net : NetModel) (result : Result NetModel NetFault) : Type 0 where
   pub kept : IfOk result (λ made. made ≡ net)
   pub refused : IfErr result (RefusesNet net)
-  pub accepts : IsNet net → IfErr result (λ fault. fault ≡ NetMemory)
+  pub accepts : IsNet net → IsOk result
 
 -- what the states x and y become
 pub record LeafReacts (leaf : LeafModel) (x y : ℕ) (result : ℕ × ℕ) : Type 0 where

@@ -2,9 +2,6 @@
 
 ghost use Rattle.std.specs.Prelude.{◌≡◌};
 ghost use Rattle.pop_net.specs.NetFaults.{net_fault};
-ghost use Rattle.pop_net.specs.declared.fault.LeafFault.TheVariants.{NoMemory as OutOfMemory};
-
-use pop_io::NoMemory;
 
 /// The first rule that a leaf breaks.
 #[derive(Clone, Copy, PartialEq, Eq)]
@@ -27,7 +24,6 @@ pub enum LeafFault {
     Helpers(u64),
     /// The first helper with a number that no state has.
     Helper(u32),
-    NoMemory,
 }
 
 /// The first rule that a net breaks.
@@ -51,7 +47,6 @@ pub enum NetFault {
     LeafHelpers(u8),
     /// The first wide leaf among more than `WIDE_LEAF_LIMIT` leaves.
     Wide(u8),
-    NoMemory,
 }
 
 /// The first rule that a combination of at most `ITEM_LIMIT` items breaks.
@@ -61,14 +56,6 @@ pub enum CombinationFault {
     Item(u32),
     /// The number of operands that the items leave, if it isn't 1.
     Open(u32),
-}
-
-impl From<NoMemory> for LeafFault {
-    ghost from_gives = { λ _ f. f ≡ OutOfMemory };
-
-    fn from(_fault: NoMemory) -> LeafFault {
-        LeafFault::NoMemory
-    }
 }
 
 impl From<CombinationFault> for NetFault {

@@ -8,7 +8,7 @@ use crate::fault::LeafFault;
 use crate::limits::NARROW_STATE_LIMIT;
 use crate::moves::reaction_table;
 use crate::rules::leaf_fault;
-use pop_io::{List, NoMemory, Text};
+use pop_io::{Failure, List, NoMemory, Text};
 use std::alloc::Global;
 use std::marker::Model;
 
@@ -96,7 +96,7 @@ impl Leaf {
         moves: List<Move>,
         inputs: List<u16>,
         outputs: List<bool>,
-    ) -> Result<Leaf, LeafFault>
+    ) -> Result<Leaf, Failure<LeafFault>>
         ensures { MakesLeaf
             (record { states = states; moves = moves; inputs = inputs; outputs = outputs; helpers = [] })
             result }
@@ -113,7 +113,7 @@ impl Leaf {
         inputs: List<u16>,
         outputs: List<bool>,
         helpers: List<u16>,
-    ) -> Result<Leaf, LeafFault>
+    ) -> Result<Leaf, Failure<LeafFault>>
         ensures { MakesLeaf
             (record { states = states; moves = moves; inputs = inputs; outputs = outputs; helpers = helpers })
             result }
@@ -125,7 +125,7 @@ impl Leaf {
             outputs.as_slice(),
             helpers.as_slice(),
         ) {
-            Some(fault) => Err(fault),
+            Some(fault) => Err(Failure::Fault(fault)),
             None => Ok(Leaf::of_valid(alloc, states, moves, inputs, outputs, helpers)?),
         }
     }

@@ -2,4 +2,4 @@ pub mod Renumbered
 pub mod Parts
 pub mod MoreMeetings
 pub mod WatchedRounds
-pub mod WrittenRounds
+pub mod RunsOfKind

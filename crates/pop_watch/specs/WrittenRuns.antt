@@ -4,26 +4,10 @@ use Rattle.pop_net.specs.NetModel.{NetModel}
 use Rattle.pop_net.specs.declared.net.Word.{Word}
 use Rattle.pop_crowd.specs.declared.crowd.Meeting.{Meeting}
 use Rattle.pop_words.specs.declared.kind.RunKind.{RunKind}
-use Rattle.pop_words.specs.declared.kind.RunKind.TheVariants.{Whole, Watched}
 use Rattle.pop_words.specs.declared.spec.RunSpec.{RunSpec}
 use Rattle.pair_workers.specs.declared.alone.End.{End}
-use Rattle.pair_workers.specs.declared.alone.RunEnd.{RunEnd}
-use Rattle.pair_workers.specs.declared.round_end.RoundEnd.{RoundEnd}
-use Rattle.pair_workers.specs.Ends.{IsRunFrom}
-use Rattle.pair_workers.specs.Turns.{IsWholeRound}
 use Rattle.pop_journal.specs.Journal.{run_lines, text_of}
-use Rattle.pop_watch.specs.Playing.{IsWatchedRoundFrom}
-use Rattle.pop_watch.specs.WatchedEnds.{IsWatchedRunFrom}
-
--- a round of a run of this kind
-abbrev pub IsRoundOf : RunKind → NetModel → List Word → ℕ → ℕ → List (List ℕ) → RoundEnd → Type 0
-IsRoundOf Whole net crowd workers turns before p = IsWholeRound net crowd workers turns before p
-IsRoundOf Watched net crowd workers turns before p = IsWatchedRoundFrom net crowd workers turns before p
-
--- a run of this kind from a crowd
-abbrev pub IsRunOfKind : RunKind → NetModel → List Word → RunSpec → RunEnd → Type 0
-IsRunOfKind Whole net crowd spec ran = IsRunFrom net crowd spec ran
-IsRunOfKind Watched net crowd spec ran = IsWatchedRunFrom net crowd spec ran
+pub use Rattle.pop_watch.specs.RunsOfKind.{IsRoundOf, IsRunOfKind}
 
 -- a run of this kind from a crowd to this end, and its lines after earlier text
 pub record IsWrittenRunOf (kind : RunKind) (net : NetModel) (crowd : List Word) (spec : RunSpec)

@@ -10,7 +10,7 @@ ghost use Rattle.pop_watch.specs.Journals.{watched_last};
 
 use pair_workers::{End, RunEnd};
 use pop_crowd::Crowd;
-use pop_io::{List, NoMemory};
+use pop_io::{Failure, List, NoMemory};
 use pop_journal::{
     Journal, JournalFault, LINE_LIMIT, Last, VerifyFault, read_journal, verify, write_journal,
 };
@@ -45,7 +45,7 @@ pub fn read_watched(
     text: &[u8],
     first: u64,
     agents: u32,
-) -> Result<Journal, JournalFault>
+) -> Result<Journal, Failure<JournalFault>>
     requires { first ≤ LINE_LIMIT }
     ensures { IsReadFrom (lines_of text.now) Watched first agents result }
 {
@@ -58,7 +58,7 @@ pub fn verify_watched(
     net: &Net,
     crowd: Crowd,
     journal: &Journal,
-) -> Result<u64, VerifyFault>
+) -> Result<u64, Failure<VerifyFault>>
     requires can { CanVerify net.now crowd journal.now }
     requires kind { journal.now.kind ≡ Watched }
     ensures { IsVerified net.now crowd journal.now result }

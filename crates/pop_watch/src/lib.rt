@@ -3,12 +3,14 @@
 //! The layer above uses: `push_run` makes and writes a run by `IsWrittenRunOf`; `verify_watched` checks a journal.
 #![tactic(auto)]
 
+mod context;
 mod journal;
 mod laws;
 mod limits;
 mod missing;
 mod observe;
 mod round;
+mod threads;
 mod watched;
 mod written;
 

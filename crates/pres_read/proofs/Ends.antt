@@ -1,4 +1,5 @@
 -- What was read is a predicate within the limits.
+use Rattle.pop_io.specs.declared.failure.Failure.{Failure}
 use Rattle.std.proofs.Common.{◌≡◌, ℕ, ◌+◌, ◌≤◌, Bool, true, false, List, [], ◌∷◌, length, ltb, Option, IfOk, Result, Ok, Err, sym, ap, subst, arith}
 use Rattle.std.specs.Prelude.{if◌then◌else◌, ◌||◌}
 use Rattle.pres_ast.specs.declared.limits.TheConstants.{WEIGHT_LIMIT}
@@ -11,7 +12,7 @@ use Rattle.pres_ast.specs.declared.tree.Tree.{Tree}
 use Rattle.pres_tokens.specs.Symbols.{Placed}
 use Rattle.pres_read.specs.Outcome.{GivesParsed}
 use Rattle.pres_read.specs.declared.fault.ReadPred.{ReadPred}
-use Rattle.pres_read.specs.TextFault.{TextFault, TooDeep}
+use Rattle.pres_read.specs.declared.fault.ReadPred.TheVariants.{TooDeep}
 use Rattle.pres_read.specs.Atoms.{negation_if, equality_tree}
 use Rattle.pres_read.specs.Progress.{Span, Around, Next, AUnit, ATerm, AStar, AName, ARelation, AConstant, ANumber, AModulo, AModulus, ASign, Progress}
 use Rattle.pres_read.specs.Depth.{Depth, symbol_charge, deeper, sunk}
@@ -20,7 +21,7 @@ use Rattle.pres_read.specs.Sound.{option_weight, span_weight, spans_weight, next
 use Rattle.pres_read.proofs.Limits.{weight-disjoined, HasAtoms-disjoined, HasAtoms-negated_if, HasAtoms-equality}
 use Rattle.pres_read.proofs.Steps.{weight-up_to_unit, HasAtoms-up_to_unit, weight-unequal, step_goes}
 
-charge-within : (t : Placed) (d e : Depth) (b : Bool) → ◌≡◌ {A = Result Depth TextFault} (if b then Err (TooDeep t.place) else Ok d) (Ok e) → e.charge ≡ d.charge
+charge-within : (t : Placed) (d e : Depth) (b : Bool) → ◌≡◌ {A = Result Depth ReadPred} (if b then Err (TooDeep t.place) else Ok d) (Ok e) → e.charge ≡ d.charge
 charge-within t d e true h = cc
 charge-within t d e false h = let same : d ≡ e = cc in ap (λ (x : Depth). x.charge) (sym same)
 
@@ -70,6 +71,6 @@ finish_fits n charge end p one most small sound =
     finish_by_fits n charge end p.around p.next one most small sound.above sound.span sound.next sound.settled sound.weight
 
 -- what a call gave is within the limits too
-pub given_fits : (n : ℕ) (r : Result Tree ReadPred) (q : Result PredTree TextFault) → GivesParsed tree_of r q → IfOk q (IsPred n) → IfOk r (λ tree. IsPred n (tree_of tree))
+pub given_fits : (n : ℕ) (r : Result Tree (Failure ReadPred)) (q : Result PredTree ReadPred) → GivesParsed tree_of r q → IfOk q (IsPred n) → IfOk r (λ tree. IsPred n (tree_of tree))
 given_fits n (Ok tree) q e h = rw e at h
 given_fits n (Err f) q e h = tt

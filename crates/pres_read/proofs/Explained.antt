@@ -1,4 +1,7 @@
 -- What is read keeps all rules, and each fault is that of a broken one.
+use Rattle.pop_io.specs.declared.failure.Failure.{Failure}
+use Rattle.pop_io.specs.declared.failure.Failure.TheVariants.{Fault, NoMemory}
+use Rattle.pop_io.specs.Failures.{IfFault}
 use Rattle.std.proofs.Common.{◌≡◌, ◌≤◌, inl, inr, ℕ, Bool, true, false, List, [], ◌∷◌, ◌++◌, length, ltb, Option, Some, None, IfOk, Result, Ok, Err, refl, sym, ap, subst, ◌∙◌, append_assoc, arith}
 use Rattle.std.specs.Prelude.{if◌then◌else◌, ◌||◌, IfErr, IfSome}
 use Rattle.std.proofs.lemmas.Bool.{ltb-true, ltb-false}
@@ -9,10 +12,10 @@ use Rattle.pres_ast.specs.PredModel.{PredModel}
 use Rattle.pres_tokens.specs.Symbols.{Symbol, Name, Number, Star, Placed}
 use Rattle.pres_tokens.specs.Tokens.{tokens_of}
 use Rattle.pres_read.specs.declared.fault.ReadPred.{ReadPred}
-use Rattle.pres_read.specs.TextFault.{TextFault, Syntax, UnknownName, TooLarge, TooDeep, LongText}
+use Rattle.pres_read.specs.declared.fault.ReadPred.TheVariants.{Syntax, UnknownName, TooLarge, TooDeep, LongText}
 use Rattle.pres_read.specs.declared.read.TheConstants.{TEXT_LIMIT}
 use Rattle.pres_read.specs.declared.depth.TheConstants.{PARENTHESIS_LIMIT}
-use Rattle.pres_read.specs.Outcome.{◌>>=◌, text_fault_of, GivesParsed}
+use Rattle.pres_read.specs.Outcome.{◌>>=◌, GivesParsed}
 use Rattle.pres_read.specs.Progress.{AName, Progress, start}
 use Rattle.pres_read.specs.Depth.{Depth, surface, deeper, sunk}
 use Rattle.pres_read.specs.Reading.{step, finish, with_progress, run, over_names, pred_read}
@@ -122,7 +125,7 @@ module _ (names : List (List ℕ)) (text : List ℕ) where
 
   -- ---- each fault
 
-  abbrev Explains : Result PredTree TextFault → Type 0
+  abbrev Explains : Result PredTree ReadPred → Type 0
   Explains (Ok tree) = KeepsRules names (text_symbols text)
   Explains (Err e) = IsReadFault names text e
 
@@ -265,7 +268,7 @@ module _ (names : List (List ℕ)) (text : List ℕ) where
     place = is;
   }
 
-  step_explains : (before ts : List Placed) (p : Progress) (a : Trace) (d : Depth) (t : Placed) (o : Option Trace) (r : Result Progress TextFault) (at : Stands names before p a d) → tokens_of text ≡ before ++ t ∷ ts
+  step_explains : (before ts : List Placed) (p : Progress) (a : Trace) (d : Depth) (t : Placed) (o : Option Trace) (r : Result Progress ReadPred) (at : Stands names before p a d) → tokens_of text ≡ before ++ t ∷ ts
       → trace_step a t.symbol ≡ o → Agrees names r o t.place → SaysAt names a at.first t.place t.symbol r → Known names t.symbol r → BegunAfter r (before ++ t ∷ [])
       → ((q : Progress) (b : Trace) → Stands names (before ++ t ∷ []) q b (deeper d t.symbol) → Explains (run names (length text) q (deeper d t.symbol) ts))
       → Explains (going names (length text) ts (r >>= λ q. with_progress q (sunk d t)))
@@ -282,7 +285,7 @@ module _ (names : List (List ℕ)) (text : List ℕ) where
   step_explains before ts p a d t o (Err (TooDeep place)) at tokens e agrees says known begun_on later = absurd says
   step_explains before ts p a d t o (Err (LongText n)) at tokens e agrees says known begun_on later = absurd agrees
 
-  end_explains : (before : List Placed) (p : Progress) (a : Trace) (d : Depth) (r : Result PredTree TextFault) → tokens_of text ≡ before → Stands names before p a d → EndAgrees names r (trace_end a) (length text) → Fine r → Explains r
+  end_explains : (before : List Placed) (p : Progress) (a : Trace) (d : Depth) (r : Result PredTree ReadPred) → tokens_of text ≡ before → Stands names before p a d → EndAgrees names r (trace_end a) (length text) → Fine r → Explains r
   end_explains before p a d (Ok tree) tokens at agrees fine = subst (λ (us : List Placed). KeepsRules names (symbols_of us)) (sym tokens) (keeps_at before p a d at)
   end_explains before p a d (Err (Syntax place)) tokens at agrees fine =
       syntax_at before [] p a d place (tokens ∙ sym (append-nil before)) at (stuck_law a (symbols_of before) [] at.went agrees.0) (sym agrees.1)
@@ -298,11 +301,11 @@ module _ (names : List (List ℕ)) (text : List ℕ) where
       step_explains before ts p a d t (trace_step a t.symbol) (step names p t) at tokens refl (step_agrees names p a t (at.first, at.shown_at)) (step_says names p a at.first t at.shown_at) (step_known names p t) (step_begun names p before t at.term)
       (λ q b on. run_explains ts (before ++ t ∷ []) q b (deeper d t.symbol) (tokens ∙ sym (append_assoc before (t ∷ []) ts)) on)
 
-  abbrev ExplainsAll : Result PredModel TextFault → Type 0
+  abbrev ExplainsAll : Result PredModel ReadPred → Type 0
   ExplainsAll (Ok pred) = KeepsRules names (text_symbols text)
   ExplainsAll (Err e) = IsReadFault names text e
 
-  over_explains : (r : Result PredTree TextFault) → Explains r → ExplainsAll (over_names (length names) r)
+  over_explains : (r : Result PredTree ReadPred) → Explains r → ExplainsAll (over_names (length names) r)
   over_explains (Ok tree) h = h
   over_explains (Err e) h = h
 
@@ -317,14 +320,11 @@ module _ (names : List (List ℕ)) (text : List ℕ) where
       by_length false e = over_explains (run names (length text) start surface (tokens_of text)) (run_explains (tokens_of text) [] start begun surface refl start_stands)
 
   -- the same for what a call gave, which may be out of memory
-  pub given_rules : (r : Result PredModel ReadPred) → GivesParsed (λ pred. pred) r (pred_read names text) → IfOk r (λ pred. KeepsRules names (text_symbols text))
+  pub given_rules : (r : Result PredModel (Failure ReadPred)) → GivesParsed (λ pred. pred) r (pred_read names text) → IfOk r (λ pred. KeepsRules names (text_symbols text))
   given_rules (Ok pred) h = subst ExplainsAll h read_explains
   given_rules (Err e) h = tt
 
-  by_fault : (fault : Option TextFault) → IfSome fault (λ f. pred_read names text ≡ Err f) → IfSome fault (IsReadFault names text)
-  by_fault None h = tt
-  by_fault (Some fault) h = subst ExplainsAll h read_explains
-
-  pub given_fault : (r : Result PredModel ReadPred) → GivesParsed (λ pred. pred) r (pred_read names text) → IfErr r (λ fault. IfSome (text_fault_of fault) (IsReadFault names text))
+  pub given_fault : (r : Result PredModel (Failure ReadPred)) → GivesParsed (λ pred. pred) r (pred_read names text) → IfFault r (IsReadFault names text)
   given_fault (Ok pred) h = tt
-  given_fault (Err e) h = by_fault (text_fault_of e) h
+  given_fault (Err (Fault f)) h = subst ExplainsAll h read_explains
+  given_fault (Err NoMemory) h = tt

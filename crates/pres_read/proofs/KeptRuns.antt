@@ -1,4 +1,5 @@
 -- If the rules are kept, only faults of syntax occur, and so a text of the grammar is read.
+use Rattle.pop_io.specs.declared.failure.Failure.{Failure}
 use Rattle.std.proofs.Common.{◌≡◌, ℕ, ◌≤◌, Bool, true, false, List, [], ◌∷◌, length, ltb, Option, Some, None, Result, Ok, Err, refl, sym, ap, subst, arith, ℤ, pos, ◌+ℤ◌, nat_abs, position, get_or, slice_set}
 use Rattle.std.specs.Prelude.{if◌then◌else◌, ◌||◌}
 use Rattle.std.specs.Str.{bytes_eq}
@@ -12,8 +13,8 @@ use Rattle.pres_tokens.specs.declared.token.Relation.{Relation}
 use Rattle.pres_tokens.specs.Symbols.{Symbol, Name, Number, Plus, Minus, Star, Compare, And, Or, Not, Open, Close, Mod, Placed}
 use Rattle.pres_tokens.specs.Tokens.{tokens_of}
 use Rattle.pres_read.specs.declared.fault.ReadPred.{ReadPred}
-use Rattle.pres_read.specs.declared.fault.ReadPred.TheVariants as reading
-use Rattle.pres_read.specs.TextFault.{TextFault, Syntax, UnknownName, TooLarge, TooDeep, LongText}
+use Rattle.pop_io.specs.declared.failure.Failure.TheVariants.{Fault, NoMemory}
+use Rattle.pres_read.specs.declared.fault.ReadPred.TheVariants.{Syntax, UnknownName, TooLarge, TooDeep, LongText}
 use Rattle.pres_read.specs.Outcome.{◌>>=◌, GivesParsed}
 use Rattle.pres_read.specs.Numbers.{value_of_digits, value_within}
 use Rattle.pres_read.specs.Atoms.{signed_number, negation_if, equality_tree, limit_of, Factor, lone, with_coef_at, with_number, with_term, added}
@@ -28,12 +29,12 @@ use Rattle.pres_read.proofs.Shows.{side_spans, around_side, lead_coefs, lead_neg
 use Rattle.pres_read.proofs.Kept.{RuleUnit, RuleName, RuleConstant, RuleModulus, RuleInner, RuleAt, KeptAfter, Kept, kept_symbols}
 use Rattle.pres_read.proofs.Outcomes.{Comes, run_comes, only_law, never_law, going}
 
-abbrev Went : {X : Type 0} → Result X TextFault → Type 0
+abbrev Went : {X : Type 0} → Result X ReadPred → Type 0
 Went (Ok x) = Unit {0}
 Went (Err e) = ⊥
 
 -- no fault, or one of syntax
-abbrev pub Fine : {X : Type 0} → Result X TextFault → Type 0
+abbrev pub Fine : {X : Type 0} → Result X ReadPred → Type 0
 Fine (Ok x) = Unit {0}
 Fine (Err (Syntax at)) = Unit {0}
 Fine (Err (UnknownName at)) = ⊥
@@ -60,7 +61,7 @@ term_went : (coefs : List ℤ) (o : Option ℕ) (factor : Factor) (place : ℕ) 
 term_went coefs None factor place h g = absurd g
 term_went coefs (Some i) factor place h g = number_went coefs i factor COEFFICIENT_LIMIT (value_of_digits factor.digits) h g
 
-sum_fine : (a : Around) (r : Result (List ℤ) TextFault) → Went r → Fine (after_sum a r)
+sum_fine : (a : Around) (r : Result (List ℤ) ReadPred) → Went r → Fine (after_sum a r)
 sum_fine a (Ok coefs) h = tt
 sum_fine a (Err e) h = absurd h
 
@@ -178,7 +179,7 @@ deep_fine names end t ts q d c p h = by_tests (ltb WEIGHT_LIMIT d.charge) refl (
     by_tests false x true y = let past = ltb-true PARENTHESIS_LIMIT d.parentheses y in absurd (omega (arith, past, p))
     by_tests false x false y = h
 
-step_run_fine : (names : List (List ℕ)) (end : ℕ) (t : Placed) (ts : List Placed) (d : Depth) (o : Option Trace) (r : Result Progress TextFault)
+step_run_fine : (names : List (List ℕ)) (end : ℕ) (t : Placed) (ts : List Placed) (d : Depth) (o : Option Trace) (r : Result Progress ReadPred)
     → Agrees names r o t.place → Fine r → KeptAfter o (λ b. Kept names b (symbols_of ts)) → (deeper d t.symbol).charge ≤ WEIGHT_LIMIT → (deeper d t.symbol).parentheses ≤ PARENTHESIS_LIMIT
     → ((q : Progress) (b : Trace) → IsShown names q b → Kept names b (symbols_of ts) → Fine (run names end q (deeper d t.symbol) ts))
     → Fine (going names end ts (r >>= λ q. with_progress q (sunk d t)))
@@ -197,7 +198,7 @@ run_fine names end (t ∷ ts) p a d h k deep =
     step_run_fine names end t ts d (trace_step a t.symbol) (step names p t) (step_agrees names p a t h) (step_fine names p a t h k.0) k.1 deep.0 deep.1
     (λ q b s l. run_fine names end ts q b (deeper d t.symbol) s l deep.2)
 
-read_fine : (names : List (List ℕ)) (text : List ℕ) (p : Phrase APred) (r : Result PredTree TextFault) → symbols p ≡ text_symbols text
+read_fine : (names : List (List ℕ)) (text : List ℕ) (p : Phrase APred) (r : Result PredTree ReadPred) → symbols p ≡ text_symbols text
     → Comes names begun (tokens_of text) (length text) r → Fine r → r ≡ Ok (meaning names p)
 read_fine names text p (Ok tree) e comes fine = ap Ok (only_law names (tokens_of text) tree (meaning names p) comes (record { phrase = p; spelled = e; means = refl }))
 read_fine names text p (Err (Syntax at)) e comes fine =
@@ -222,13 +223,9 @@ kept_read names text p e short fits shallow =
     by_length false x read = ap (over_names (length names)) read
 
 -- the same for what a call gave, which may be out of memory
-pub given_kept : (names : List (List ℕ)) (text : List ℕ) (tree : PredTree) (r : Result PredModel ReadPred) → GivesParsed (λ pred. pred) r (pred_read names text)
+pub given_kept : (names : List (List ℕ)) (text : List ℕ) (tree : PredTree) (r : Result PredModel (Failure ReadPred)) → GivesParsed (λ pred. pred) r (pred_read names text)
     → pred_read names text ≡ Ok (record { variables = length names; tree = tree }) → IsReadTo tree r
 given_kept names text tree (Ok pred) h e =
     let same : pred ≡ record { variables = length names; tree = tree } = cc in ap (λ (p : PredModel). p.tree) same
-given_kept names text tree (Err (reading.Syntax at)) h e = cc
-given_kept names text tree (Err (reading.UnknownName at)) h e = cc
-given_kept names text tree (Err (reading.TooLarge at)) h e = cc
-given_kept names text tree (Err (reading.TooDeep at)) h e = cc
-given_kept names text tree (Err (reading.LongText n)) h e = cc
-given_kept names text tree (Err reading.NoMemory) h e = tt
+given_kept names text tree (Err (Fault f)) h e = cc
+given_kept names text tree (Err NoMemory) h e = tt

@@ -4,14 +4,14 @@ use Rattle.std.specs.Str.{bytes_eq}
 use Rattle.pres_ast.specs.PredTree.{PredTree}
 use Rattle.pres_tokens.specs.declared.token.Relation.{Relation}
 use Rattle.pres_tokens.specs.Symbols.{Symbol, Name, Minus, Not, Open, Placed}
-use Rattle.pres_read.specs.TextFault.{TextFault}
+use Rattle.pres_read.specs.declared.fault.ReadPred.{ReadPred}
 use Rattle.pres_read.specs.Atoms.{Factor, lone, with_term}
 use Rattle.pres_read.specs.Progress.{Span, Around, Next, AUnit, ATerm, AStar, AName, ARelation, AConstant, ANumber, AModulo, AModulus, ASign, Progress}
 use Rattle.pres_read.specs.Reading.{after_sum, term_step, unit_step, star_step, name_step, relation_step, number_step, constant_step, modulus_step, sign_step, modulo_step, by_next, step}
 use Rattle.pres_read.specs.Atoms.{zero_coefs}
 use Rattle.pres_read.specs.Rules.{IsKnown}
 
-abbrev pub Known : List (List ℕ) → Symbol → Result Progress TextFault → Type 0
+abbrev pub Known : List (List ℕ) → Symbol → Result Progress ReadPred → Type 0
 Known names s r = IfOk r (λ q. IsKnown names s)
 
 sum_known : (names : List (List ℕ)) (a : Around) (coefs : List ℤ) (o : Option ℕ) (factor : Factor) (place : ℕ) (word : List ℕ) → o ≡ position (bytes_eq word) names
@@ -19,7 +19,7 @@ sum_known : (names : List (List ℕ)) (a : Around) (coefs : List ℤ) (o : Optio
 sum_known names a coefs None factor place word e = tt
 sum_known names a coefs (Some i) factor place word e = by_sum (with_term coefs (Some i) factor place)
   where
-    by_sum : (r : Result (List ℤ) TextFault) → Known names (Name word) (after_sum a r)
+    by_sum : (r : Result (List ℤ) ReadPred) → Known names (Name word) (after_sum a r)
     by_sum (Ok sum) = rw (← e) refl
     by_sum (Err f) = tt
 
@@ -38,7 +38,7 @@ name_known names a coefs factor place (Name word) = sum_known names a coefs (pos
 name_known names a coefs factor place s = tt
 
 -- a symbol other than a name has no rule here
-any_known : (names : List (List ℕ)) (s : Symbol) (r : Result Progress TextFault) → IsKnown names s → Known names s r
+any_known : (names : List (List ℕ)) (s : Symbol) (r : Result Progress ReadPred) → IsKnown names s → Known names s r
 any_known names s (Ok q) h = h
 any_known names s (Err e) h = tt
 

@@ -11,7 +11,8 @@ use Rattle.std.specs.Str.{bytes_eq}
 use Rattle.pres_ast.specs.declared.limits.TheConstants.{COEFFICIENT_LIMIT, BOUND_LIMIT, MODULUS_LIMIT}
 use Rattle.pres_tokens.specs.declared.token.Relation.{Relation}
 use Rattle.pres_tokens.specs.declared.token.Relation.TheVariants.{Less, AtMost, Greater, AtLeast, Equal, Unequal}
-use Rattle.pres_read.specs.TextFault.{TextFault, TooLarge}
+use Rattle.pres_read.specs.declared.fault.ReadPred.{ReadPred}
+use Rattle.pres_read.specs.declared.fault.ReadPred.TheVariants.{TooLarge}
 use Rattle.pres_read.specs.Numbers.{value_within, value_of_digits}
 use Rattle.pres_read.specs.Atoms.{signed_number, turned, negation_if, equality_tree, compared_tree, remainder, congruent_tree, limit_of, Factor, with_coef_at, with_number, with_term, added}
 use Rattle.pres_read.specs.Reading.{negation, conjunction, disjunction}
@@ -92,7 +93,7 @@ within_limit limit v = by_test (ltb limit v) refl
 with_coef_fits : (n : ℕ) (coefs : List ℤ) (i : ℕ) (z : ℤ) (place : ℕ) → AreCoefs n coefs → IfOk (with_coef_at coefs i z place) (AreCoefs n)
 with_coef_fits n coefs i z place h = by_test (ltb COEFFICIENT_LIMIT (nat_abs z)) refl
   where
-    by_test : (b : Bool) → ltb COEFFICIENT_LIMIT (nat_abs z) ≡ b → IfOk {E = TextFault} (if b then Err (TooLarge place) else Ok (slice_set coefs i z)) (AreCoefs n)
+    by_test : (b : Bool) → ltb COEFFICIENT_LIMIT (nat_abs z) ≡ b → IfOk {E = ReadPred} (if b then Err (TooLarge place) else Ok (slice_set coefs i z)) (AreCoefs n)
     by_test true e = tt
     by_test false e = (length-set coefs i z ∙ h.0, All-set IsCoef coefs i z (ltb-false COEFFICIENT_LIMIT (nat_abs z) e) h.1)
 

@@ -1,4 +1,5 @@
 -- What reading gives, compared with the trees of productions.
+use Rattle.pop_io.specs.declared.failure.Failure.{Failure}
 use Rattle.std.proofs.Common.{◌≡◌, ℕ, Bool, true, false, List, [], ◌∷◌, ◌++◌, length, ltb, Option, Some, None, IfOk, Result, Ok, Err, refl, sym, ap, subst, ◌∙◌, append_assoc}
 use Rattle.std.specs.Prelude.{if◌then◌else◌, ◌||◌, IfSome}
 use Rattle.std.proofs.lemmas.List.{append-nil, map-append}
@@ -10,8 +11,8 @@ use Rattle.pres_ast.specs.PredModel.{PredModel}
 use Rattle.pres_tokens.specs.Symbols.{Symbol, Placed}
 use Rattle.pres_tokens.specs.Tokens.{tokens_of}
 use Rattle.pres_read.specs.declared.fault.ReadPred.{ReadPred}
-use Rattle.pres_read.specs.declared.fault.ReadPred.TheVariants as reading
-use Rattle.pres_read.specs.TextFault.{TextFault, Syntax, UnknownName, TooLarge, TooDeep, LongText}
+use Rattle.pop_io.specs.declared.failure.Failure.TheVariants.{Fault, NoMemory}
+use Rattle.pres_read.specs.declared.fault.ReadPred.TheVariants.{Syntax, UnknownName, TooLarge, TooDeep, LongText}
 use Rattle.pres_read.specs.Outcome.{◌>>=◌, GivesParsed}
 use Rattle.pres_read.specs.Progress.{Progress, start}
 use Rattle.pres_read.specs.Depth.{Depth, surface, deeper, sunk}
@@ -41,7 +42,7 @@ pub record ReadsTo (names : List (List ℕ)) (a : Trace) (ts : List Placed) (tre
   read : trace_read a (symbols_of ts) ≡ Some phrase
   means : meaning names phrase ≡ tree
 
-abbrev pub Comes : List (List ℕ) → Trace → List Placed → ℕ → Result PredTree TextFault → Type 0
+abbrev pub Comes : List (List ℕ) → Trace → List Placed → ℕ → Result PredTree ReadPred → Type 0
 Comes names a ts end (Ok tree) = ReadsTo names a ts tree
 Comes names a ts end (Err (Syntax at)) = StopsAt a ts end at
 Comes names a ts end (Err (UnknownName at)) = Unit {0}
@@ -49,7 +50,7 @@ Comes names a ts end (Err (TooLarge at)) = Unit {0}
 Comes names a ts end (Err (TooDeep at)) = Unit {0}
 Comes names a ts end (Err (LongText n)) = ⊥
 
-end_comes : (names : List (List ℕ)) (a : Trace) (end : ℕ) (o : Option (Phrase APred)) (r : Result PredTree TextFault)
+end_comes : (names : List (List ℕ)) (a : Trace) (end : ℕ) (o : Option (Phrase APred)) (r : Result PredTree ReadPred)
     → trace_end a ≡ o → EndAgrees names r o end → Comes names a [] end r
 end_comes names a end None (Ok q) e h = absurd h
 end_comes names a end (Some p) (Ok q) e h = record { phrase = p; read = e; means = h }
@@ -61,7 +62,7 @@ end_comes names a end o (Err (TooDeep at)) e h = tt
 end_comes names a end o (Err (LongText n)) e h = absurd h
 
 -- what comes after one more token
-further_comes : (names : List (List ℕ)) (a b : Trace) (t : Placed) (ts : List Placed) (end : ℕ) (r : Result PredTree TextFault)
+further_comes : (names : List (List ℕ)) (a b : Trace) (t : Placed) (ts : List Placed) (end : ℕ) (r : Result PredTree ReadPred)
     → trace_step a t.symbol ≡ Some b → Comes names b ts end r → Comes names a (t ∷ ts) end r
 further_comes names a b t ts end (Ok tree) e h =
     record { phrase = h.phrase; read = ap (λ o. trace_then o (λ c. trace_read c (symbols_of ts))) e ∙ h.read; means = h.means }
@@ -79,7 +80,7 @@ further_comes names a b t ts end (Err (TooLarge at)) e h = tt
 further_comes names a b t ts end (Err (TooDeep at)) e h = tt
 further_comes names a b t ts end (Err (LongText n)) e h = absurd h
 
-abbrev pub going : List (List ℕ) → ℕ → List Placed → Result (Progress × Depth) TextFault → Result PredTree TextFault
+abbrev pub going : List (List ℕ) → ℕ → List Placed → Result (Progress × Depth) ReadPred → Result PredTree ReadPred
 going names end ts r = r >>= λ q. run names end q.0 q.1 ts
 
 deep_comes : (names : List (List ℕ)) (a b : Trace) (t : Placed) (ts : List Placed) (end : ℕ) (q : Progress) (d : Depth) (deep : Bool)
@@ -88,7 +89,7 @@ deep_comes : (names : List (List ℕ)) (a b : Trace) (t : Placed) (ts : List Pla
 deep_comes names a b t ts end q d true e h = tt
 deep_comes names a b t ts end q d false e h = further_comes names a b t ts end (run names end q d ts) e (h d)
 
-step_comes : (names : List (List ℕ)) (a : Trace) (t : Placed) (ts : List Placed) (end : ℕ) (d : Depth) (o : Option Trace) (r : Result Progress TextFault)
+step_comes : (names : List (List ℕ)) (a : Trace) (t : Placed) (ts : List Placed) (end : ℕ) (d : Depth) (o : Option Trace) (r : Result Progress ReadPred)
     → ((q : Progress) (b : Trace) (e : Depth) → IsShown names q b → Comes names b ts end (run names end q e ts))
     → trace_step a t.symbol ≡ o → Agrees names r o t.place
     → Comes names a (t ∷ ts) end (going names end ts (r >>= λ q. with_progress q (sunk d t)))
@@ -156,7 +157,7 @@ never_law names ts end at tree h d =
 -- ---- the laws on what reading a text gives
 
 -- what the grammar leaves open for a text that it relates to this tree
-abbrev pub MayGive : PredTree → Result PredModel TextFault → Type 0
+abbrev pub MayGive : PredTree → Result PredModel ReadPred → Type 0
 MayGive tree (Ok pred) = pred.tree ≡ tree
 MayGive tree (Err (Syntax at)) = ⊥
 MayGive tree (Err (UnknownName at)) = Unit {0}
@@ -164,11 +165,11 @@ MayGive tree (Err (TooLarge at)) = Unit {0}
 MayGive tree (Err (TooDeep at)) = Unit {0}
 MayGive tree (Err (LongText n)) = Unit {0}
 
-pub record Laws (names : List (List ℕ)) (text : List ℕ) (r : Result PredModel TextFault) : Type 0 where
+pub record Laws (names : List (List ℕ)) (text : List ℕ) (r : Result PredModel ReadPred) : Type 0 where
   pub derived : IfOk r (λ pred. Derives names (text_symbols text) pred.tree)
   pub only : (tree : PredTree) → Derives names (text_symbols text) tree → MayGive tree r
 
-run_laws : (names : List (List ℕ)) (text : List ℕ) (r : Result PredTree TextFault) → Comes names begun (tokens_of text) (length text) r → Laws names text (over_names (length names) r)
+run_laws : (names : List (List ℕ)) (text : List ℕ) (r : Result PredTree ReadPred) → Comes names begun (tokens_of text) (length text) r → Laws names text (over_names (length names) r)
 run_laws names text (Ok tree) h = record {
   derived = derived_law names (tokens_of text) tree h;
   only = λ other d. only_law names (tokens_of text) tree other h d;
@@ -192,15 +193,15 @@ read_laws names text = by_length (ltb TEXT_LIMIT (length text))
         (run_comes names (length text) (tokens_of text) start begun surface (start_shown names))
 
 -- the same for what a call gave, which may be out of memory
-pub record GivenLaws (names : List (List ℕ)) (text : List ℕ) (r : Result PredModel ReadPred) : Type 0 where
+pub record GivenLaws (names : List (List ℕ)) (text : List ℕ) (r : Result PredModel (Failure ReadPred)) : Type 0 where
   pub derived : IfOk r (λ pred. Derives names (text_symbols text) pred.tree)
   pub only : (tree : PredTree) → Derives names (text_symbols text) tree → IsReadAs tree r
 
-pub given_laws : (names : List (List ℕ)) (text : List ℕ) (r : Result PredModel ReadPred) → GivesParsed (λ pred. pred) r (pred_read names text) → GivenLaws names text r
+pub given_laws : (names : List (List ℕ)) (text : List ℕ) (r : Result PredModel (Failure ReadPred)) → GivesParsed (λ pred. pred) r (pred_read names text) → GivenLaws names text r
 given_laws names text (Ok pred) h = let laws = subst (Laws names text) h (read_laws names text) in record { derived = laws.derived; only = laws.only }
-given_laws names text (Err (reading.Syntax at)) h = record { derived = tt; only = (subst (Laws names text) h (read_laws names text)).only }
-given_laws names text (Err (reading.UnknownName at)) h = record { derived = tt; only = λ tree d. tt }
-given_laws names text (Err (reading.TooLarge at)) h = record { derived = tt; only = λ tree d. tt }
-given_laws names text (Err (reading.TooDeep at)) h = record { derived = tt; only = λ tree d. tt }
-given_laws names text (Err (reading.LongText n)) h = record { derived = tt; only = λ tree d. tt }
-given_laws names text (Err reading.NoMemory) h = record { derived = tt; only = λ tree d. tt }
+given_laws names text (Err (Fault (Syntax at))) h = record { derived = tt; only = (subst (Laws names text) h (read_laws names text)).only }
+given_laws names text (Err (Fault (UnknownName at))) h = record { derived = tt; only = λ tree d. tt }
+given_laws names text (Err (Fault (TooLarge at))) h = record { derived = tt; only = λ tree d. tt }
+given_laws names text (Err (Fault (TooDeep at))) h = record { derived = tt; only = λ tree d. tt }
+given_laws names text (Err (Fault (LongText n))) h = record { derived = tt; only = λ tree d. tt }
+given_laws names text (Err NoMemory) h = record { derived = tt; only = λ tree d. tt }

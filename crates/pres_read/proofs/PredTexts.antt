@@ -1,4 +1,5 @@
 -- A text is read as a predicate exactly when the grammar gives it this meaning within the limits.
+use Rattle.pop_io.specs.declared.failure.Failure.{Failure}
 use Rattle.std.proofs.Common.{◌≡◌, ℕ, ◌≤◌, Bool, true, false, List, [], ◌∷◌, ◌++◌, length, ltb, Result, Ok, Err, refl, sym, ap, ◌∙◌, arith, append_assoc, append-nil}
 use Rattle.std.specs.Prelude.{IfOk, if◌then◌else◌}
 use Rattle.std.proofs.lemmas.Bool.{ltb-false}
@@ -8,7 +9,7 @@ use Rattle.pres_tokens.specs.Symbols.{Symbol, Number, Compare, And, Or, Not, Ope
 use Rattle.pres_tokens.specs.Tokens.{tokens_of}
 use Rattle.pres_read.specs.declared.read.TheConstants.{TEXT_LIMIT}
 use Rattle.pres_read.specs.declared.fault.ReadPred.{ReadPred}
-use Rattle.pres_read.specs.TextFault.{TextFault, LongText}
+use Rattle.pres_read.specs.declared.fault.ReadPred.TheVariants.{LongText}
 use Rattle.pres_read.specs.Outcome.{GivesParsed}
 use Rattle.pres_read.specs.Progress.{start}
 use Rattle.pres_read.specs.Depth.{surface}
@@ -95,7 +96,7 @@ module _ (names : List (List ℕ)) (text : List ℕ) where
   read_over : (p : PredModel) → pred_read names text ≡ Ok p → IsOver p
   read_over p = by_length (ltb TEXT_LIMIT (length text)) refl
     where
-      given : (r : Result PredTree TextFault) → over_names (length names) r ≡ Ok p → p.variables ≡ length names
+      given : (r : Result PredTree ReadPred) → over_names (length names) r ≡ Ok p → p.variables ≡ length names
       given (Ok tree) e = let same : (let m : PredModel = record { variables = length names; tree = tree } in m) ≡ p = cc in ap (λ (m : PredModel). m.variables) (sym same)
       given (Err f) e = absurd cc
 
@@ -107,7 +108,7 @@ module _ (names : List (List ℕ)) (text : List ℕ) where
 
   pub read_meant : (p : PredModel) → pred_read names text ≡ Ok p → IsTextOf names text p
   read_meant p e =
-      let r : Result PredModel ReadPred = Ok p in
+      let r : Result PredModel (Failure ReadPred) = Ok p in
       let derived = (given_laws names text r e).derived in
       let rules : KeepsRules names (text_symbols text) = given_rules names text r e in
       let over = read_over p e in
@@ -126,6 +127,6 @@ module _ (names : List (List ℕ)) (text : List ℕ) where
       kept_read names text is.phrase is.spelled is.short is.fits is.shallow
       ∙ ap (λ (m : PredModel). Ok m) (λ i. record { variables = sym is.variables i; tree = is.means i })
 
-  pub given_meant : (r : Result PredModel ReadPred) → GivesParsed (λ pred. pred) r (pred_read names text) → IfOk r (IsTextOf names text)
+  pub given_meant : (r : Result PredModel (Failure ReadPred)) → GivesParsed (λ pred. pred) r (pred_read names text) → IfOk r (IsTextOf names text)
   given_meant (Ok p) h = read_meant p h
   given_meant (Err e) h = tt

@@ -8,7 +8,8 @@ use Rattle.pres_ast.specs.PredTree.{PredTree}
 use Rattle.pres_tokens.specs.declared.token.Relation.{Relation}
 use Rattle.pres_tokens.specs.declared.token.Relation.TheVariants.{Less, AtMost, Greater, AtLeast, Equal, Unequal}
 use Rattle.pres_tokens.specs.Symbols.{Symbol, Name, Number, Plus, Minus, Star, Compare, And, Or, Not, Open, Close, Mod, Placed}
-use Rattle.pres_read.specs.TextFault.{TextFault, Syntax, UnknownName, TooLarge, TooDeep, LongText}
+use Rattle.pres_read.specs.declared.fault.ReadPred.{ReadPred}
+use Rattle.pres_read.specs.declared.fault.ReadPred.TheVariants.{Syntax, UnknownName, TooLarge, TooDeep, LongText}
 use Rattle.pres_read.specs.Numbers.{value_of_digits, value_within}
 use Rattle.pres_read.specs.Atoms.{signed_number, negation_if, equality_tree, congruent_tree, limit_of, Factor, lone, with_coef_at, with_number, with_term, added}
 use Rattle.pres_read.specs.Progress.{Span, Around, Next, AUnit, ATerm, AStar, AName, ARelation, AConstant, ANumber, AModulo, AModulus, ASign, Progress}
@@ -21,7 +22,7 @@ use Rattle.pres_read.proofs.Shows.{side_spans, around_side, lead_coefs, lead_neg
 use Rattle.pres_read.proofs.Kept.{RuleUnit, RuleConstant, RuleModulus, RuleInner, RuleAt}
 
 -- what goes on keeps the rule; a fault is that the name is unknown, or that the rule is broken
-abbrev pub Says : {X : Type 0} → (rule known : Type 0) (place first : ℕ) → Result X TextFault → Type 0
+abbrev pub Says : {X : Type 0} → (rule known : Type 0) (place first : ℕ) → Result X ReadPred → Type 0
 Says rule known place first (Ok x) = rule
 Says rule known place first (Err (UnknownName at)) = (known → ⊥) × (place ≡ at)
 Says rule known place first (Err (TooLarge at)) = known × (rule → ⊥) × (first ≡ at)
@@ -49,7 +50,7 @@ term_says coefs (Some i) factor place = by_test (ltb COEFFICIENT_LIMIT (value_of
     by_test true e = let past = ltb-true COEFFICIENT_LIMIT (value_of_digits factor.digits) e in (refl, (λ h. let most = h.0 in absurd (omega (arith, past, most))), refl)
     by_test false e = coef_says coefs i factor place (ltb-false COEFFICIENT_LIMIT (value_of_digits factor.digits) e)
 
-sum_says : (a : Around) (rule known : Type 0) (place first : ℕ) (r : Result (List ℤ) TextFault) → Says rule known place first r → Says rule known place first (after_sum a r)
+sum_says : (a : Around) (rule known : Type 0) (place first : ℕ) (r : Result (List ℤ) ReadPred) → Says rule known place first r → Says rule known place first (after_sum a r)
 sum_says a rule known place first (Ok coefs) h = h
 sum_says a rule known place first (Err (Syntax at)) h = tt
 sum_says a rule known place first (Err (UnknownName at)) h = h
@@ -58,14 +59,14 @@ sum_says a rule known place first (Err (TooDeep at)) h = h
 sum_says a rule known place first (Err (LongText n)) h = tt
 
 -- a step without a rule of its own has no such fault
-abbrev Plain : {X : Type 0} → Result X TextFault → Type 0
+abbrev Plain : {X : Type 0} → Result X ReadPred → Type 0
 Plain (Ok x) = Unit {0}
 Plain (Err (UnknownName at)) = ⊥
 Plain (Err (TooLarge at)) = ⊥
 Plain (Err (TooDeep at)) = ⊥
 Plain (Err e) = Unit {0}
 
-plain_says : {X : Type 0} (known : Type 0) (place first : ℕ) (r : Result X TextFault) → Plain r → Says (Unit {0}) known place first r
+plain_says : {X : Type 0} (known : Type 0) (place first : ℕ) (r : Result X ReadPred) → Plain r → Says (Unit {0}) known place first r
 plain_says known place first (Ok x) h = tt
 plain_says known place first (Err (Syntax at)) h = tt
 plain_says known place first (Err (UnknownName at)) h = absurd h
@@ -145,7 +146,7 @@ abbrev pub first_at : Trace → ℕ → ℕ → ℕ
 first_at (Inside above side (IName lead digits)) first place = first
 first_at a first place = place
 
-abbrev pub SaysAt : List (List ℕ) → Trace → ℕ → ℕ → Symbol → Result Progress TextFault → Type 0
+abbrev pub SaysAt : List (List ℕ) → Trace → ℕ → ℕ → Symbol → Result Progress ReadPred → Type 0
 SaysAt names a first place s r = Says (RuleAt names a s) (IsKnown names s) place (first_at a first place) r
 
 shown_says : (names : List (List ℕ)) (a : Trace) (first : ℕ) (t : Placed) → SaysAt names a first t.place t.symbol (step names (shown names first a) t)
@@ -179,10 +180,10 @@ TermBegun (AName coefs factor) before =
     (earlier : List Placed) × (number : Placed) × (star : Placed) × (before ≡ earlier ++ number ∷ star ∷ []) × (number.symbol ≡ Number factor.digits) × (star.symbol ≡ Star) × (number.place ≡ factor.place)
 TermBegun next before = Unit {0}
 
-abbrev pub BegunAfter : Result Progress TextFault → List Placed → Type 0
+abbrev pub BegunAfter : Result Progress ReadPred → List Placed → Type 0
 BegunAfter r before = IfOk r (λ q. TermBegun q.next before)
 
-sum_begun : (a : Around) (r : Result (List ℤ) TextFault) (before : List Placed) → BegunAfter (after_sum a r) before
+sum_begun : (a : Around) (r : Result (List ℤ) ReadPred) (before : List Placed) → BegunAfter (after_sum a r) before
 sum_begun a (Ok coefs) before = tt
 sum_begun a (Err e) before = tt
 

@@ -7,7 +7,8 @@ use Rattle.pres_ast.specs.PredTree.{PredTree, Negation}
 use Rattle.pres_tokens.specs.declared.token.Relation.{Relation}
 use Rattle.pres_tokens.specs.declared.token.Relation.TheVariants.{Less, AtMost, Greater, AtLeast, Equal, Unequal}
 use Rattle.pres_tokens.specs.Symbols.{Symbol, Name, Number, Plus, Minus, Star, Compare, And, Or, Not, Open, Close, Mod, Placed}
-use Rattle.pres_read.specs.TextFault.{TextFault, Syntax, UnknownName, TooLarge, TooDeep, LongText}
+use Rattle.pres_read.specs.declared.fault.ReadPred.{ReadPred}
+use Rattle.pres_read.specs.declared.fault.ReadPred.TheVariants.{Syntax, UnknownName, TooLarge, TooDeep, LongText}
 use Rattle.pres_read.specs.Numbers.{value_of_digits, value_within}
 use Rattle.pres_read.specs.Atoms.{signed_number, negation_if, equality_tree, compared_tree, congruent_tree, limit_of, Factor, with_coef_at, with_number, with_term, added}
 use Rattle.pres_read.specs.Progress.{Span, Around, Next, AUnit, ATerm, AStar, AName, ARelation, AConstant, ANumber, AModulo, AModulus, ASign, Progress, start}
@@ -60,14 +61,14 @@ abbrev pub IsShown : List (List ℕ) → Progress → Trace → Type 0
 IsShown names p a = (place : ℕ) × (p ≡ shown names place a)
 
 -- a fault is of syntax exactly when the trace can't go on
-abbrev pub FaultAt : {A : Type 0} → TextFault → Option A → ℕ → Type 0
+abbrev pub FaultAt : {A : Type 0} → ReadPred → Option A → ℕ → Type 0
 FaultAt (Syntax at) o place = (o ≡ None) × (at ≡ place)
 FaultAt (UnknownName at) o place = IsSome o
 FaultAt (TooLarge at) o place = IsSome o
 FaultAt (TooDeep at) o place = IsSome o
 FaultAt (LongText n) o place = ⊥
 
-abbrev pub Agrees : List (List ℕ) → Result Progress TextFault → Option Trace → ℕ → Type 0
+abbrev pub Agrees : List (List ℕ) → Result Progress ReadPred → Option Trace → ℕ → Type 0
 Agrees names (Ok q) None place = ⊥
 Agrees names (Ok q) (Some b) place = IsShown names q b
 Agrees names (Err e) o place = FaultAt e o place
@@ -100,7 +101,7 @@ unit_shown names above side u p e = (
 
 -- ---- the coefficients of a sum
 
-abbrev IsAdded : Result (List ℤ) TextFault → List ℤ → Type 0
+abbrev IsAdded : Result (List ℤ) ReadPred → List ℤ → Type 0
 IsAdded (Ok s) x = s ≡ x
 IsAdded (Err e) x = FaultAt e (Some x) 0
 
@@ -124,7 +125,7 @@ term_added : (coefs : List ℤ) (o : Option ℕ) (factor : Factor) (place : ℕ)
 term_added coefs None factor place = refl
 term_added coefs (Some i) factor place = number_added coefs i factor COEFFICIENT_LIMIT (value_of_digits factor.digits)
 
-sum_agrees : (names : List (List ℕ)) (above : List Side) (side : Side) (place : ℕ) (r : Result (List ℤ) TextFault) (x : List ℤ) (sum : Sum)
+sum_agrees : (names : List (List ℕ)) (above : List Side) (side : Side) (place : ℕ) (r : Result (List ℤ) ReadPred) (x : List ℤ) (sum : Sum)
     → coefs_of names sum ≡ x → IsAdded r x → Agrees names (after_sum (around_side names above side) r) (Some (Inside above side (IRelation sum))) place
 sum_agrees names above side place (Ok s) x sum e h = (0, ap (λ coefs. going_on (around_side names above side) (ARelation coefs)) (h ∙ sym e))
 sum_agrees names above side place (Err (Syntax at)) x sum e h = let no = h.0 in cc
@@ -286,7 +287,7 @@ step_agrees names p a t h =
 
 -- ---- the end
 
-abbrev pub EndAgrees : List (List ℕ) → Result PredTree TextFault → Option (Phrase APred) → ℕ → Type 0
+abbrev pub EndAgrees : List (List ℕ) → Result PredTree ReadPred → Option (Phrase APred) → ℕ → Type 0
 EndAgrees names (Ok q) None place = ⊥
 EndAgrees names (Ok q) (Some p) place = meaning names p ≡ q
 EndAgrees names (Err e) o place = FaultAt e o place

@@ -8,7 +8,8 @@ use Rattle.pres_ast.specs.PredModel.{AreCoefs, HasAtoms, weight_of}
 use Rattle.pres_tokens.specs.declared.token.Relation.{Relation}
 use Rattle.pres_tokens.specs.declared.token.Relation.TheVariants.{Less, AtMost, Greater, AtLeast, Equal, Unequal}
 use Rattle.pres_tokens.specs.Symbols.{Symbol, Name, Number, Plus, Minus, Star, Compare, And, Or, Not, Open, Close, Mod, Placed}
-use Rattle.pres_read.specs.TextFault.{TextFault, TooLarge}
+use Rattle.pres_read.specs.declared.fault.ReadPred.{ReadPred}
+use Rattle.pres_read.specs.declared.fault.ReadPred.TheVariants.{TooLarge}
 use Rattle.pres_read.specs.Numbers.{value_within, value_of_digits}
 use Rattle.pres_read.specs.Atoms.{signed_number, negation_if, equality_tree, compared_tree, congruent_tree, limit_of, Factor, lone, added}
 use Rattle.pres_read.specs.Progress.{Span, Around, Next, AUnit, ATerm, AStar, AName, ARelation, AConstant, ANumber, AModulo, AModulus, ASign, Progress}
@@ -24,7 +25,7 @@ pub record Rests (n : ℕ) (a : Around) (charge : ℕ) : Type 0 where
   pub span : HasSpan n a.span
   pub weight : spans_weight a.above + span_weight a.span ≡ charge
 
-abbrev pub Goes : ℕ → ℕ → Result Progress TextFault → Type 0
+abbrev pub Goes : ℕ → ℕ → Result Progress ReadPred → Type 0
 Goes n charge r = IfOk r (λ q. IsSoundProgress n q charge)
 
 pub weight-up_to_unit : (span : Span) (p : PredTree) → weight_of (tree_up_to_unit span p) ≡ option_weight span.ands + (weight_of p + span.nots)
@@ -43,7 +44,7 @@ sound-after_unit n charge more a p r g w = record {
   weight = (let whole = weight-up_to_unit a.span p in let rests = r.weight in omega (arith, whole, rests, w));
 }
 
-after_sum_goes : (n charge more : ℕ) (a : Around) (r : Result (List ℤ) TextFault) → Rests n a charge → more ≡ 0 → IfOk r (AreCoefs n) → Goes n (charge + more) (after_sum a r)
+after_sum_goes : (n charge more : ℕ) (a : Around) (r : Result (List ℤ) ReadPred) → Rests n a charge → more ≡ 0 → IfOk r (AreCoefs n) → Goes n (charge + more) (after_sum a r)
 after_sum_goes n charge more a (Ok coefs) rests e h =
     record { above = rests.above; span = rests.span; next = h; settled = tt; weight = (let w = rests.weight in omega (arith, w, e)) }
 after_sum_goes n charge more a (Err f) rests e h = tt
@@ -123,7 +124,7 @@ weight-congruent : (b : Bool) (coefs : List ℤ) (c : ℤ) (m : ℕ) → weight_
 weight-congruent false coefs c m = refl
 weight-congruent true coefs c m = refl
 
-weighs : (n m k : ℕ) (r : Result Progress TextFault) → m ≡ k → Goes n m r → Goes n k r
+weighs : (n m k : ℕ) (r : Result Progress ReadPred) → m ≡ k → Goes n m r → Goes n k r
 weighs n m k r e h = subst (λ c. Goes n c r) e h
 
 number_goes : (n charge : ℕ) (a : Around) (coefs : List ℤ) (r : Relation) (negative : Bool) (place : ℕ) (s : Symbol)

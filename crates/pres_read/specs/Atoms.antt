@@ -9,7 +9,8 @@ use Rattle.pres_ast.specs.PredTree.{PredTree, LessThan, Congruent, Negation, Con
 use Rattle.pres_tokens.specs.declared.token.Relation.{Relation}
 use Rattle.pres_tokens.specs.declared.token.Relation.TheVariants.{Less, AtMost, Greater, AtLeast, Equal, Unequal}
 use Rattle.pres_read.specs.Numbers.{value_of_digits, value_within}
-use Rattle.pres_read.specs.TextFault.{TextFault, UnknownName, TooLarge}
+use Rattle.pres_read.specs.declared.fault.ReadPred.{ReadPred}
+use Rattle.pres_read.specs.declared.fault.ReadPred.TheVariants.{UnknownName, TooLarge}
 
 abbrev pub zero_coefs : List (List ℕ) → List ℤ
 zero_coefs names = replicate (length names) (pos 0)
@@ -65,20 +66,20 @@ abbrev pub lone : Bool → ℕ → Factor
 lone negative place = record { negative = negative; digits = codes "1"; place = place }
 
 -- the coefficients with z for variable i, if z is at most 2^31 in size
-abbrev pub with_coef_at : List ℤ → ℕ → ℤ → ℕ → Result (List ℤ) TextFault
+abbrev pub with_coef_at : List ℤ → ℕ → ℤ → ℕ → Result (List ℤ) ReadPred
 with_coef_at coefs i z place =
     if nat_lt COEFFICIENT_LIMIT (nat_abs z) then Err (TooLarge place) else Ok (slice_set coefs i z)
 
-abbrev pub with_number : List ℤ → ℕ → Factor → Option ℕ → Result (List ℤ) TextFault
+abbrev pub with_number : List ℤ → ℕ → Factor → Option ℕ → Result (List ℤ) ReadPred
 with_number coefs i factor None = Err (TooLarge factor.place)
 with_number coefs i factor (Some n) =
     with_coef_at coefs i (slice_index_or coefs i (pos 0) +ℤ signed_number factor.negative n) factor.place
 
-abbrev pub with_term : List ℤ → Option ℕ → Factor → ℕ → Result (List ℤ) TextFault
+abbrev pub with_term : List ℤ → Option ℕ → Factor → ℕ → Result (List ℤ) ReadPred
 with_term coefs None factor place = Err (UnknownName place)
 with_term coefs (Some i) factor place =
     with_number coefs i factor (value_within COEFFICIENT_LIMIT (value_of_digits factor.digits))
 
 -- the coefficients after a term at this name: those of equal names add up
-abbrev pub added : List (List ℕ) → List ℤ → Factor → ℕ → List ℕ → Result (List ℤ) TextFault
+abbrev pub added : List (List ℕ) → List ℤ → Factor → ℕ → List ℕ → Result (List ℤ) ReadPred
 added names coefs factor place word = with_term coefs (position (bytes_eq word) names) factor place

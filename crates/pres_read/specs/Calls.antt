@@ -1,5 +1,7 @@
 -- Calls: what reading a predicate requires and promises.
+use Rattle.pop_io.specs.declared.failure.Failure.{Failure}
 use Rattle.std.specs.Prelude.{◌≡◌, ℕ, ◌≤◌, List, length, Result, Ok, IfOk, IfErr, IfSome}
+use Rattle.pop_io.specs.Failures.{IfFault}
 use Rattle.pop_io.specs.declared.fault.NoMemory.{NoMemory}
 use Rattle.pop_io.specs.declared.names.TheConstants.{VARIABLE_LIMIT}
 use Rattle.pop_io.specs.Names.{variable_name, AreNames}
@@ -7,7 +9,7 @@ use Rattle.pres_ast.specs.PredTree.{PredTree}
 use Rattle.pres_ast.specs.PredModel.{PredModel}
 use Rattle.pres_read.specs.declared.fault.ReadPred.{ReadPred}
 use Rattle.pres_read.specs.declared.read.TheConstants.{TEXT_LIMIT}
-use Rattle.pres_read.specs.Outcome.{GivesParsed, text_fault_of}
+use Rattle.pres_read.specs.Outcome.{GivesParsed}
 use Rattle.pres_read.specs.Canonical.{tree_text}
 use Rattle.pres_read.specs.Depth.{surface}
 use Rattle.pres_read.specs.Reading.{pred_read}
@@ -24,7 +26,7 @@ pub record AreVariableNames (variables : List (List ℕ)) : Type 0 where
   pub names : AreNames variable_name variables
 
 -- what was read of a text, as a predicate over these names
-pub record IsReadFrom (text : List ℕ) (variables : List (List ℕ)) (result : Result PredModel ReadPred) : Type 0 where
+pub record IsReadFrom (text : List ℕ) (variables : List (List ℕ)) (result : Result PredModel (Failure ReadPred)) : Type 0 where
   -- the result is that of reading token by token, down to each fault and its place
   pub exact : GivesParsed (λ pred. pred) result (pred_read variables text)
   -- the grammar gives the text this meaning, and no other
@@ -39,7 +41,7 @@ pub record IsReadFrom (text : List ℕ) (variables : List (List ℕ)) (result : 
   pub kept : (phrase : Phrase APred) → symbols phrase ≡ text_symbols text → length text ≤ TEXT_LIMIT
       → Fits variables phrase → IsShallow surface (text_symbols text) → IsReadTo (meaning variables phrase) result
   -- the tokens before the place begin a text of the grammar and keep all rules, and the next breaks the fault's rule
-  pub faults : IfErr result (λ fault. IfSome (text_fault_of fault) (IsReadFault variables text))
+  pub faults : IfFault result (IsReadFault variables text)
 
 -- the canonical text of a predicate over these names was printed
 pub record IsPrinted (variables : List (List ℕ)) (pred : PredModel) (result : Result (List ℕ) NoMemory) : Type 0 where

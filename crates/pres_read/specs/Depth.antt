@@ -6,7 +6,8 @@ use Rattle.pres_tokens.specs.declared.token.Relation.{Relation}
 use Rattle.pres_tokens.specs.declared.token.Relation.TheVariants.{Less, AtMost, Greater, AtLeast, Equal, Unequal}
 use Rattle.pres_tokens.specs.Symbols.{Symbol, Name, Number, Plus, Minus, Star, Compare}
 use Rattle.pres_tokens.specs.Symbols.{And, Or, Not, Open, Close, Mod, Stray, Placed}
-use Rattle.pres_read.specs.TextFault.{TextFault, TooDeep}
+use Rattle.pres_read.specs.declared.fault.ReadPred.{ReadPred}
+use Rattle.pres_read.specs.declared.fault.ReadPred.TheVariants.{TooDeep}
 
 pub record Depth : Type 0 where
   pub charge : ℕ
@@ -58,9 +59,9 @@ abbrev pub deeper : Depth → Symbol → Depth
 deeper d s = record { charge = d.charge + symbol_charge s; parentheses = parentheses_after d.parentheses s }
 
 -- at most 64 of each
-abbrev pub within_depth : Placed → Depth → Result Depth TextFault
+abbrev pub within_depth : Placed → Depth → Result Depth ReadPred
 within_depth t d =
     if nat_lt WEIGHT_LIMIT d.charge || nat_lt PARENTHESIS_LIMIT d.parentheses then Err (TooDeep t.place) else Ok d
 
-abbrev pub sunk : Depth → Placed → Result Depth TextFault
+abbrev pub sunk : Depth → Placed → Result Depth ReadPred
 sunk d t = within_depth t (deeper d t.symbol)

@@ -3,7 +3,8 @@
 use Rattle.std.specs.Prelude.{◌≡◌, ◌<◌, ◌⊎◌, ℕ, false, List, [], ◌∷◌, ◌++◌, length}
 use Rattle.pres_tokens.specs.Symbols.{Symbol, Number, Placed}
 use Rattle.pres_tokens.specs.Tokens.{tokens_of}
-use Rattle.pres_read.specs.TextFault.{TextFault, Syntax, UnknownName, TooLarge, TooDeep, LongText}
+use Rattle.pres_read.specs.declared.fault.ReadPred.{ReadPred}
+use Rattle.pres_read.specs.declared.fault.ReadPred.TheVariants.{Syntax, UnknownName, TooLarge, TooDeep, LongText}
 use Rattle.pres_read.specs.declared.read.TheConstants.{TEXT_LIMIT}
 use Rattle.pres_read.specs.Depth.{surface}
 use Rattle.pres_read.specs.Grammar.{Term, term_symbols}
@@ -62,7 +63,7 @@ pub record IsTooDeep (names : List (List ℕ)) (text : List ℕ) (at : ℕ) : Ty
   pub place : sign.place ≡ at
 
 -- the fault of a text
-abbrev pub IsReadFault : List (List ℕ) → List ℕ → TextFault → Type 0
+abbrev pub IsReadFault : List (List ℕ) → List ℕ → ReadPred → Type 0
 IsReadFault names text (Syntax at) = IsSyntaxFault names text at
 IsReadFault names text (UnknownName at) = IsUnknownName names text at
 IsReadFault names text (TooLarge at) = IsTooLarge names text at

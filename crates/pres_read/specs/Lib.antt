@@ -1,4 +1,3 @@
-pub mod TextFault
 pub mod Outcome
 pub mod Numbers
 pub mod Atoms

@@ -1,4 +1,6 @@
 -- Texts of the grammar, and where one can't go on.
+use Rattle.pop_io.specs.declared.failure.Failure.{Failure}
+use Rattle.pop_io.specs.declared.failure.Failure.TheVariants.{Fault, NoMemory}
 use Rattle.std.specs.Prelude.{◌≡◌, ℕ, List, [], ◌∷◌, ◌++◌, map, Result, Ok, Err}
 use Rattle.pres_ast.specs.PredTree.{PredTree}
 use Rattle.pres_ast.specs.PredModel.{PredModel}
@@ -6,7 +8,7 @@ use Rattle.pres_tokens.specs.Symbols.{Symbol, Placed}
 use Rattle.pres_tokens.specs.Tokens.{tokens_of}
 use Rattle.pres_read.specs.declared.fault.ReadPred.{ReadPred}
 use Rattle.pres_read.specs.declared.fault.ReadPred.TheVariants.{Syntax, UnknownName, TooLarge}
-use Rattle.pres_read.specs.declared.fault.ReadPred.TheVariants.{TooDeep, LongText, NoMemory}
+use Rattle.pres_read.specs.declared.fault.ReadPred.TheVariants.{TooDeep, LongText}
 use Rattle.pres_read.specs.Grammar.{APred, Phrase, symbols}
 
 abbrev pub symbols_of : List Placed → List Symbol
@@ -33,21 +35,17 @@ place_of [] end = end
 place_of (t ∷ ts) end = t.place
 
 -- the outcomes for a text that the grammar relates to this tree: the tree, or any fault but one of syntax
-abbrev pub IsReadAs : PredTree → Result PredModel ReadPred → Type 0
+abbrev pub IsReadAs : PredTree → Result PredModel (Failure ReadPred) → Type 0
 IsReadAs tree (Ok pred) = pred.tree ≡ tree
-IsReadAs tree (Err (Syntax at)) = ⊥
-IsReadAs tree (Err (UnknownName at)) = Unit {0}
-IsReadAs tree (Err (TooLarge at)) = Unit {0}
-IsReadAs tree (Err (TooDeep at)) = Unit {0}
-IsReadAs tree (Err (LongText n)) = Unit {0}
+IsReadAs tree (Err (Fault (Syntax at))) = ⊥
+IsReadAs tree (Err (Fault (UnknownName at))) = Unit {0}
+IsReadAs tree (Err (Fault (TooLarge at))) = Unit {0}
+IsReadAs tree (Err (Fault (TooDeep at))) = Unit {0}
+IsReadAs tree (Err (Fault (LongText n))) = Unit {0}
 IsReadAs tree (Err NoMemory) = Unit {0}
 
 -- the tree is read, unless out of memory
-abbrev pub IsReadTo : PredTree → Result PredModel ReadPred → Type 0
+abbrev pub IsReadTo : PredTree → Result PredModel (Failure ReadPred) → Type 0
 IsReadTo tree (Ok pred) = pred.tree ≡ tree
-IsReadTo tree (Err (Syntax at)) = ⊥
-IsReadTo tree (Err (UnknownName at)) = ⊥
-IsReadTo tree (Err (TooLarge at)) = ⊥
-IsReadTo tree (Err (TooDeep at)) = ⊥
-IsReadTo tree (Err (LongText n)) = ⊥
+IsReadTo tree (Err (Fault fault)) = ⊥
 IsReadTo tree (Err NoMemory) = Unit {0}

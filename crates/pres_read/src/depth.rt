@@ -7,6 +7,7 @@ ghost use Rattle.pres_read.specs.Depth.{symbol_charge, charge_of_relation, sunk,
 ghost use Rattle.pres_read.specs.Views.{depth_of};
 
 use crate::fault::ReadPred;
+use pop_io::Failure;
 use pres_ast::WEIGHT_LIMIT;
 use pres_tokens::{Kind, Relation, Token};
 
@@ -30,7 +31,7 @@ impl Depth {
     }
 
     /// The depth after a token.
-    pub fn after(self, token: Token<'_>) -> Result<Depth, ReadPred>
+    pub fn after(self, token: Token<'_>) -> Result<Depth, Failure<ReadPred>>
         requires charge { self.charge ≤ WEIGHT_LIMIT }
         requires parentheses { self.parentheses ≤ PARENTHESIS_LIMIT }
         ensures { GivesParsed depth_of result (sunk (depth_of self) (token_of token.entry)) }
@@ -42,7 +43,7 @@ impl Depth {
             _ => self.parentheses,
         };
         if charge > WEIGHT_LIMIT || parentheses > PARENTHESIS_LIMIT {
-            return Err(ReadPred::TooDeep(token.place));
+            return Err(Failure::Fault(ReadPred::TooDeep(token.place)));
         }
         Ok(Depth {
             charge,

@@ -23,7 +23,7 @@ use crate::number::number_within;
 use crate::place::{Around, Expect, Factor, Level, Next, Parser};
 use crate::sum::{signed, with_term};
 use crate::unit::{after_unit, at_sign, ended, up_to_unit};
-use pop_io::{List, Text};
+use pop_io::{Failure, List, Text};
 use pres_ast::{BOUND_LIMIT, COEFFICIENT_LIMIT, MODULUS_LIMIT, Tree};
 use pres_tokens::{Kind, Relation, Token};
 use std::alloc::{AllocError, Global};
@@ -40,7 +40,7 @@ fn at_unit<'a>(
     names: &List<Text>,
     around: &mut Around,
     token: Token<'a>,
-) -> Result<Expect<'a>, ReadPred>
+) -> Result<Expect<'a>, Failure<ReadPred>>
     requires { around.old.level.nots ≤ WEIGHT_LIMIT }
     ensures { GivesParsed (λ e. going_on (around_of around.new) (next_expected e)) result
         (unit_step names.now (around_of around.old) token.entry.place (symbol_of token.entry.kind)) }
@@ -55,7 +55,7 @@ fn at_unit<'a>(
     }
 }
 
-fn opened<'a>(around: &mut Around) -> Result<Expect<'a>, ReadPred>
+fn opened<'a>(around: &mut Around) -> Result<Expect<'a>, Failure<ReadPred>>
     ensures { GivesParsed
         (λ e. going_on (around_of around.new) (next_expected e)) result (Ok (after_open (around_of around.old))) }
 {
@@ -65,7 +65,11 @@ fn opened<'a>(around: &mut Around) -> Result<Expect<'a>, ReadPred>
 }
 
 /// What follows the first token of a sum, whatever surrounds it.
-fn at_first<'a>(alloc: Global, names: &List<Text>, token: Token<'a>) -> Result<Expect<'a>, ReadPred>
+fn at_first<'a>(
+    alloc: Global,
+    names: &List<Text>,
+    token: Token<'a>,
+) -> Result<Expect<'a>, Failure<ReadPred>>
     ensures { (a : Surroundings) → GivesParsed (λ e. going_on a (next_expected e)) result
         (first_step names.now a token.entry.place (symbol_of token.entry.kind)) }
 {
@@ -84,7 +88,7 @@ fn at_term<'a>(
     coefs: Vec<i64>,
     negative: bool,
     token: Token<'a>,
-) -> Result<Expect<'a>, ReadPred>
+) -> Result<Expect<'a>, Failure<ReadPred>>
     requires { AreCoefs (length names.now) coefs.items }
     ensures { (a : Surroundings) → GivesParsed (λ e. going_on a (next_expected e)) result
         (term_step names.now a coefs.items negative token.entry.place (symbol_of token.entry.kind)) }
@@ -111,7 +115,7 @@ fn at_term<'a>(
                 next: Next::Star { factor },
             })
         }
-        _ => Err(ReadPred::Syntax(place)),
+        _ => Err(Failure::Fault(ReadPred::Syntax(place))),
     }
 }
 
@@ -122,7 +126,7 @@ fn after_term<'a>(
     factor: Factor<'_>,
     word: &[u8],
     place: u32,
-) -> Result<Expect<'a>, ReadPred>
+) -> Result<Expect<'a>, Failure<ReadPred>>
     requires { AreCoefs (length names.now) coefs.items }
     ensures { (a : Surroundings) → GivesParsed (λ e. going_on a (next_expected e)) result
         (after_sum a (added names.now coefs.items (factor_of factor.entry) place word.now)) }
@@ -138,7 +142,7 @@ fn at_star<'a>(
     coefs: Vec<i64>,
     factor: Factor<'a>,
     token: Token<'a>,
-) -> Result<Expect<'a>, ReadPred>
+) -> Result<Expect<'a>, Failure<ReadPred>>
     ensures { (a : Surroundings) → GivesParsed (λ e. going_on a (next_expected e)) result
         (star_step a coefs.items (factor_of factor.entry) token.entry.place (symbol_of token.entry.kind)) }
 {
@@ -147,7 +151,7 @@ fn at_star<'a>(
             coefs,
             next: Next::Name { factor },
         }),
-        _ => Err(ReadPred::Syntax(token.place)),
+        _ => Err(Failure::Fault(ReadPred::Syntax(token.place))),
     }
 }
 
@@ -156,7 +160,7 @@ fn at_name<'a>(
     coefs: Vec<i64>,
     factor: Factor<'a>,
     token: Token<'a>,
-) -> Result<Expect<'a>, ReadPred>
+) -> Result<Expect<'a>, Failure<ReadPred>>
     requires { AreCoefs (length names.now) coefs.items }
     ensures { (a : Surroundings) → GivesParsed (λ e. going_on a (next_expected e)) result
         (name_step names.now a coefs.items (factor_of factor.entry) token.entry.place
@@ -164,11 +168,11 @@ fn at_name<'a>(
 {
     match token.kind {
         Kind::Name(word) => after_term(names, coefs, factor, word, token.place),
-        _ => Err(ReadPred::Syntax(token.place)),
+        _ => Err(Failure::Fault(ReadPred::Syntax(token.place))),
     }
 }
 
-fn at_relation<'a>(coefs: Vec<i64>, token: Token<'a>) -> Result<Expect<'a>, ReadPred>
+fn at_relation<'a>(coefs: Vec<i64>, token: Token<'a>) -> Result<Expect<'a>, Failure<ReadPred>>
     ensures { (a : Surroundings) → GivesParsed (λ e. going_on a (next_expected e)) result
         (relation_step a coefs.items token.entry.place (symbol_of token.entry.kind)) }
 {
@@ -176,7 +180,7 @@ fn at_relation<'a>(coefs: Vec<i64>, token: Token<'a>) -> Result<Expect<'a>, Read
         Kind::Plus => Next::Term { negative: false },
         Kind::Minus => Next::Term { negative: true },
         Kind::Compare(relation) => Next::Constant { relation },
-        _ => return Err(ReadPred::Syntax(token.place)),
+        _ => return Err(Failure::Fault(ReadPred::Syntax(token.place))),
     };
     Ok(Expect::Atom { coefs, next })
 }
@@ -187,7 +191,7 @@ fn at_constant<'a>(
     coefs: Vec<i64>,
     relation: Relation,
     token: Token<'a>,
-) -> Result<Expect<'a>, ReadPred>
+) -> Result<Expect<'a>, Failure<ReadPred>>
     requires { All (λ a. nat_abs a ≤ COEFFICIENT_LIMIT) coefs.items }
     ensures { GivesParsed (λ e. going_on (around_of around.new) (next_expected e)) result
         (constant_step (around_of around.old) coefs.items relation token.entry.place (symbol_of token.entry.kind)) }
@@ -202,18 +206,22 @@ fn at_constant<'a>(
 }
 
 /// The constant that a token gives, whatever surrounds it.
-fn constant_of(relation: Relation, negative: bool, token: Token<'_>) -> Result<i64, ReadPred>
+fn constant_of(
+    relation: Relation,
+    negative: bool,
+    token: Token<'_>,
+) -> Result<i64, Failure<ReadPred>>
     ensures constant { (a : Surroundings) → (coefs : Items ℤ)
         → GivesParsed (λ c. progress_after_constant a coefs relation c) result
         (number_step a coefs relation negative token.entry.place (symbol_of token.entry.kind)) }
     ensures small { IfOk result (λ c. nat_abs c ≤ limit_of relation) }
 {
     let Kind::Number(digits) = token.kind else {
-        return Err(ReadPred::Syntax(token.place));
+        return Err(Failure::Fault(ReadPred::Syntax(token.place)));
     };
     match number_within(digits, constant_limit(relation)) {
         Some(size) => Ok(signed(negative, size)),
-        None => Err(ReadPred::TooLarge(token.place)),
+        None => Err(Failure::Fault(ReadPred::TooLarge(token.place))),
     }
 }
 
@@ -224,7 +232,7 @@ fn at_number<'a>(
     relation: Relation,
     negative: bool,
     token: Token<'a>,
-) -> Result<Expect<'a>, ReadPred>
+) -> Result<Expect<'a>, Failure<ReadPred>>
     requires { All (λ a. nat_abs a ≤ COEFFICIENT_LIMIT) coefs.items }
     ensures { GivesParsed (λ e. going_on (around_of around.new) (next_expected e)) result
         (number_step (around_of around.old) coefs.items relation negative token.entry.place
@@ -240,7 +248,7 @@ fn after_constant<'a>(
     coefs: Vec<i64>,
     relation: Relation,
     constant: i64,
-) -> Result<Expect<'a>, ReadPred>
+) -> Result<Expect<'a>, Failure<ReadPred>>
     requires coefs { All (λ a. nat_abs a ≤ COEFFICIENT_LIMIT) coefs.items }
     requires constant { nat_abs constant ≤ limit_of relation }
     ensures { GivesParsed (λ e. going_on (around_of around.new) (next_expected e)) result
@@ -267,7 +275,7 @@ fn at_modulo<'a>(
     unequal: bool,
     constant: i64,
     token: Token<'a>,
-) -> Result<Expect<'a>, ReadPred>
+) -> Result<Expect<'a>, Failure<ReadPred>>
     requires coefs { All (λ a. nat_abs a ≤ COEFFICIENT_LIMIT) coefs.items }
     requires constant { nat_abs constant ≤ BOUND_LIMIT - 1 }
     ensures { GivesParsed (λ e. going_on (around_of around.new) (next_expected e)) result
@@ -290,7 +298,7 @@ fn after_equality<'a>(
     unequal: bool,
     constant: i64,
     token: Token<'a>,
-) -> Result<Expect<'a>, ReadPred>
+) -> Result<Expect<'a>, Failure<ReadPred>>
     requires coefs { All (λ a. nat_abs a ≤ COEFFICIENT_LIMIT) coefs.items }
     requires constant { nat_abs constant ≤ BOUND_LIMIT - 1 }
     ensures { GivesParsed (λ e. going_on (around_of around.new) (next_expected e)) result
@@ -309,19 +317,19 @@ fn congruence(
     unequal: bool,
     constant: i64,
     token: Token<'_>,
-) -> Result<Tree, ReadPred>
+) -> Result<Tree, Failure<ReadPred>>
     ensures { (a : Surroundings) → GivesParsed (λ tree. progress_after_unit a (tree_of tree)) result
         (modulus_step a coefs.items unequal constant token.entry.place (symbol_of token.entry.kind)) }
 {
     let Kind::Number(digits) = token.kind else {
-        return Err(ReadPred::Syntax(token.place));
+        return Err(Failure::Fault(ReadPred::Syntax(token.place)));
     };
     match number_within(digits, u64::from(MODULUS_LIMIT)) {
         Some(modulus) if 2 <= modulus => {
             let tree = congruent(alloc, coefs, unequal, constant, modulus as u32)?;
             Ok(tree)
         }
-        _ => Err(ReadPred::TooLarge(token.place)),
+        _ => Err(Failure::Fault(ReadPred::TooLarge(token.place))),
     }
 }
 
@@ -332,7 +340,7 @@ fn at_modulus<'a>(
     unequal: bool,
     constant: i64,
     token: Token<'a>,
-) -> Result<Expect<'a>, ReadPred>
+) -> Result<Expect<'a>, Failure<ReadPred>>
     ensures { GivesParsed (λ e. going_on (around_of around.new) (next_expected e)) result
         (modulus_step (around_of around.old) coefs.items unequal constant token.entry.place
         (symbol_of token.entry.kind)) }
@@ -348,7 +356,7 @@ fn in_atom<'a>(
     coefs: Vec<i64>,
     next: Next<'a>,
     token: Token<'a>,
-) -> Result<Expect<'a>, ReadPred>
+) -> Result<Expect<'a>, Failure<ReadPred>>
     requires next { HasNext (length names.now) (next_in_atom coefs.items next) }
     ensures { GivesParsed (λ e. going_on (around_of around.new) (next_expected e)) result
         (by_next names.now (around_of around.old) (next_in_atom coefs.items next.entry) token.entry.place
@@ -378,7 +386,7 @@ pub(crate) fn after_token<'a>(
     around: &mut Around,
     expect: Expect<'a>,
     token: Token<'a>,
-) -> Result<Expect<'a>, ReadPred>
+) -> Result<Expect<'a>, Failure<ReadPred>>
     requires nots { around.old.level.nots ≤ WEIGHT_LIMIT }
     requires next { HasNext (length names.now) (next_expected expect) }
     ensures { GivesParsed (λ e. going_on (around_of around.new) (next_expected e)) result
@@ -399,12 +407,12 @@ fn at_end(
     around: &mut Around,
     expect: Expect<'_>,
     end: u32,
-) -> Result<Tree, ReadPred>
+) -> Result<Tree, Failure<ReadPred>>
     requires next { HasNext (length names.now) (next_expected expect) }
     ensures { GivesParsed tree_of result (finish (going_on (around_of around.old) (next_expected expect.entry)) end) }
 {
     match expect {
-        Expect::Unit => Err(ReadPred::Syntax(end)),
+        Expect::Unit => Err(Failure::Fault(ReadPred::Syntax(end))),
         Expect::Atom { coefs, next } => end_of_atom(alloc, names, around, coefs, next, end),
         Expect::Sign { tree } => ended(alloc, around, tree, end),
     }
@@ -418,13 +426,13 @@ fn end_of_atom(
     coefs: Vec<i64>,
     next: Next<'_>,
     end: u32,
-) -> Result<Tree, ReadPred>
+) -> Result<Tree, Failure<ReadPred>>
     requires next { HasNext (length names.now) (next_in_atom coefs.items next) }
     ensures { GivesParsed tree_of result
         (finish_by (around_of around.old) (next_in_atom coefs.items next.entry) end) }
 {
     let Next::Modulo { unequal, constant } = next else {
-        return Err(ReadPred::Syntax(end));
+        return Err(Failure::Fault(ReadPred::Syntax(end)));
     };
     let tree = equal(alloc, coefs, unequal, constant)?;
     let tree = up_to_unit(alloc, &mut around.level, tree)?;
@@ -450,7 +458,7 @@ impl<'a> Parser<'a> {
         alloc: Global,
         names: &List<Text>,
         token: Token<'a>,
-    ) -> Result<(), ReadPred>
+    ) -> Result<(), Failure<ReadPred>>
         requires nots { self.old.around.level.nots ≤ WEIGHT_LIMIT }
         requires next { HasNext (length names.now) (next_expected self.old.expect) }
         ensures { GivesParsed (λ _. progress_of self.new) result
@@ -462,7 +470,12 @@ impl<'a> Parser<'a> {
     }
 
     /// The tree at the end of the text.
-    pub fn finish(self, alloc: Global, names: &List<Text>, end: u32) -> Result<Tree, ReadPred>
+    pub fn finish(
+        self,
+        alloc: Global,
+        names: &List<Text>,
+        end: u32,
+    ) -> Result<Tree, Failure<ReadPred>>
         requires next { HasNext (length names.now) (next_expected self.expect) }
         ensures { GivesParsed tree_of result (finish (progress_of self.entry) end) }
     {

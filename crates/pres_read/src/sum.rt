@@ -10,7 +10,7 @@ ghost use Rattle.pres_read.specs.Views.{factor_of};
 use crate::fault::ReadPred;
 use crate::number::number_within;
 use crate::place::Factor;
-use pop_io::{List, Text, place_of};
+use pop_io::{Failure, List, Text, place_of};
 use pres_ast::COEFFICIENT_LIMIT;
 
 /// The coefficients after a further term, whose name is the word at `place`.
@@ -20,16 +20,16 @@ pub(crate) fn with_term(
     factor: Factor<'_>,
     word: &[u8],
     place: u32,
-) -> Result<Vec<i64>, ReadPred>
+) -> Result<Vec<i64>, Failure<ReadPred>>
     requires { AreCoefs (length names.now) coefs.items }
     ensures { GivesParsed
         (λ sum. sum.items) result (added names.now coefs.items (factor_of factor.entry) place word.now) }
 {
     let Some(at) = place_of(names.as_slice(), word) else {
-        return Err(ReadPred::UnknownName(place));
+        return Err(Failure::Fault(ReadPred::UnknownName(place)));
     };
     let Some(size) = number_within(factor.digits, COEFFICIENT_LIMIT) else {
-        return Err(ReadPred::TooLarge(factor.place));
+        return Err(Failure::Fault(ReadPred::TooLarge(factor.place)));
     };
     let coef = grown(coefs.as_slice(), at, signed(factor.negative, size));
     with_coef(coefs, at, coef, factor.place)
@@ -44,12 +44,17 @@ fn grown(coefs: &[i64], at: usize, amount: i64) -> i64
     coefs[at] + amount
 }
 
-fn with_coef(mut coefs: Vec<i64>, at: usize, coef: i64, place: u32) -> Result<Vec<i64>, ReadPred>
+fn with_coef(
+    mut coefs: Vec<i64>,
+    at: usize,
+    coef: i64,
+    place: u32,
+) -> Result<Vec<i64>, Failure<ReadPred>>
     requires { at < vec_len coefs }
     ensures { GivesParsed (λ sum. sum.items) result (with_coef_at coefs.items at coef place) }
 {
     if coef.unsigned_abs() > COEFFICIENT_LIMIT {
-        return Err(ReadPred::TooLarge(place));
+        return Err(Failure::Fault(ReadPred::TooLarge(place)));
     }
     coefs[at] = coef;
     Ok(coefs)

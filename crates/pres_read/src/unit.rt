@@ -12,7 +12,7 @@ ghost use Rattle.pres_read.specs.Views.{span_of_level, spans_of, around_of, next
 
 use crate::fault::ReadPred;
 use crate::place::{Around, Expect, Level};
-use pop_io::NoMemory;
+use pop_io::{Failure, NoMemory};
 use pres_ast::Tree;
 use pres_tokens::{Kind, Token};
 use std::alloc::Global;
@@ -37,7 +37,7 @@ fn conjoined(alloc: Global, left: Option<Tree>, right: Tree) -> Result<Tree, NoM
     }
 }
 
-fn disjoined(alloc: Global, left: Option<Tree>, right: Tree) -> Result<Tree, ReadPred>
+fn disjoined(alloc: Global, left: Option<Tree>, right: Tree) -> Result<Tree, Failure<ReadPred>>
     ensures { GivesParsed tree_of result (Ok (disjunction (option_map tree_of left) (tree_of right))) }
 {
     match left {
@@ -63,7 +63,7 @@ pub(crate) fn after_unit<'a>(
     alloc: Global,
     around: &mut Around,
     tree: Tree,
-) -> Result<Expect<'a>, ReadPred>
+) -> Result<Expect<'a>, Failure<ReadPred>>
     ensures { GivesParsed (λ e. going_on (around_of around.new) (next_expected e)) result
         (Ok (progress_after_unit (around_of around.old) (tree_of tree))) }
 {
@@ -77,7 +77,7 @@ pub(crate) fn at_sign<'a>(
     around: &mut Around,
     tree: Tree,
     token: Token<'a>,
-) -> Result<Expect<'a>, ReadPred>
+) -> Result<Expect<'a>, Failure<ReadPred>>
     ensures { GivesParsed (λ e. going_on (around_of around.new) (next_expected e)) result
         (sign_step (spans_of around.old.above) (option_map tree_of around.old.level.ors) (tree_of tree)
         token.entry.place (symbol_of token.entry.kind)) }
@@ -86,7 +86,7 @@ pub(crate) fn at_sign<'a>(
         Kind::And => Ok(after_and(around, tree)),
         Kind::Or => after_or(alloc, around, tree),
         Kind::Close => after_close(alloc, around, tree, token.place),
-        _ => Err(ReadPred::Syntax(token.place)),
+        _ => Err(Failure::Fault(ReadPred::Syntax(token.place))),
     }
 }
 
@@ -101,7 +101,11 @@ fn after_and<'a>(around: &mut Around, tree: Tree) -> Expect<'a>
 }
 
 /// What comes after a `||`.
-fn after_or<'a>(alloc: Global, around: &mut Around, tree: Tree) -> Result<Expect<'a>, ReadPred>
+fn after_or<'a>(
+    alloc: Global,
+    around: &mut Around,
+    tree: Tree,
+) -> Result<Expect<'a>, Failure<ReadPred>>
     ensures { GivesParsed (λ e. going_on (around_of around.new) (next_expected e)) result
         (Ok (progress_after_or (spans_of around.old.above) (option_map tree_of around.old.level.ors) (tree_of tree))) }
 {
@@ -120,7 +124,7 @@ fn after_close<'a>(
     around: &mut Around,
     tree: Tree,
     place: u32,
-) -> Result<Expect<'a>, ReadPred>
+) -> Result<Expect<'a>, Failure<ReadPred>>
     ensures { GivesParsed (λ e. going_on (around_of around.new) (next_expected e)) result
         (close_step (spans_of around.old.above) (disjunction (option_map tree_of around.old.level.ors) (tree_of tree))
         place) }
@@ -131,12 +135,12 @@ fn after_close<'a>(
 }
 
 /// Goes back to the level around the innermost open parenthesis.
-fn leave(around: &mut Around, place: u32) -> Result<(), ReadPred>
+fn leave(around: &mut Around, place: u32) -> Result<(), Failure<ReadPred>>
     ensures { (p : PredTree) → GivesParsed (λ _. progress_after_unit (around_of around.new) p) result
         (close_step (spans_of around.old.above) p place) }
 {
     let Some(level) = around.above.pop() else {
-        return Err(ReadPred::Syntax(place));
+        return Err(Failure::Fault(ReadPred::Syntax(place)));
     };
     around.level = level;
     Ok(())
@@ -148,12 +152,12 @@ pub(crate) fn ended(
     around: &mut Around,
     tree: Tree,
     end: u32,
-) -> Result<Tree, ReadPred>
+) -> Result<Tree, Failure<ReadPred>>
     ensures { GivesParsed tree_of result
         (end_step (spans_of around.old.above) (option_map tree_of around.old.level.ors) (tree_of tree) end) }
 {
     if !around.above.is_empty() {
-        return Err(ReadPred::Syntax(end));
+        return Err(Failure::Fault(ReadPred::Syntax(end)));
     }
     disjoined(alloc, around.level.ors.take(), tree)
 }

@@ -2,6 +2,7 @@
 
 use cert_base::LeafProof;
 use comp_threshold::{ThresholdFault, threshold};
+use pop_io::Failure;
 use pop_net::Leaf;
 use pop_words::read_vars;
 use pres_ast::{Pred, Tree};
@@ -20,7 +21,7 @@ fn pred(alloc: Global, vars: &str, text: &str) -> Result<Pred, Fail> {
     }
 }
 
-type Built = Result<(Leaf, LeafProof), ThresholdFault>;
+type Built = Result<(Leaf, LeafProof), Failure<ThresholdFault>>;
 
 /// The leaf of a threshold, with its proof.
 fn built(alloc: Global, pred: &Pred) -> Result<Built, Fail> {
@@ -49,10 +50,11 @@ const SIZES: [(&str, &str, Size); 9] = [
     ),
 ];
 
-fn size(built: Built) -> Size {
+fn size(built: Built) -> Result<Size, Fail> {
     match built {
-        Ok((leaf, _)) => Ok((leaf.state_count(), leaf.move_count())),
-        Err(fault) => Err(fault),
+        Ok((leaf, _)) => Ok(Ok((leaf.state_count(), leaf.move_count()))),
+        Err(Failure::Fault(fault)) => Ok(Err(fault)),
+        Err(Failure::NoMemory) => Err("memory ran out".into()),
     }
 }
 
@@ -61,7 +63,7 @@ fn sizes(rt: HostRuntime) -> Result<(), Fail> {
     let alloc = rt.alloc();
     for (vars, text, want) in SIZES {
         let pred = pred(alloc, vars, text)?;
-        assert_eq!(rt; size(built(alloc, &pred)?), want, "at {text}");
+        assert_eq!(rt; size(built(alloc, &pred)?)?, want, "at {text}");
     }
     Ok(())
 }

@@ -2,7 +2,7 @@
 
 ghost use Rattle.std.specs.Prelude.{◌≡◌, [], ◌∷◌, IfOk, codes};
 
-use pop_io::{List, Text};
+use pop_io::{Failure, List, Text};
 use pres_read::{ReadPred, print_pred, read_pred};
 use pres_tokens::next_token;
 use std::alloc::{AllocError, Global};
@@ -64,7 +64,7 @@ fn trees(rt: HostRuntime) -> Result<(), Fail> {
 fn a_line_feed_is_no_token(rt: HostRuntime) -> Result<(), Fail> {
     let names = names(rt.alloc())?;
     let read = read_pred(rt.alloc(), b"\nx < 1", &names);
-    assert!(rt; matches!(read, Err(ReadPred::Syntax(0))));
+    assert!(rt; matches!(read, Err(Failure::Fault(ReadPred::Syntax(0)))));
     Ok(())
 }
 

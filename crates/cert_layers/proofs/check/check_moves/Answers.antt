@@ -16,7 +16,7 @@ returns-in-Some-first_not_lower-clause-fault c = (
 
 pub returns-in-Some-first_waking-clause-fault : goal.returns-in-Some-first_waking-clause-fault
 returns-in-Some-first_waking-clause-fault c =
-    let woken = first_woken c.args.leaf.now c.args.layers.now c.args.layer_of_move.now c.requires.placed c.in_ok-table.table c.requires.formed c.in_ok-table.ensures.ok c.requires.within.few c.in-Some-first_waking.t c.in-Some-first_waking.u c.in-Some-first_waking.ensures in (
+    let woken = first_woken c.args.leaf.now c.args.layers.now c.args.layer_of_move.now c.requires.placed c.in_ok-table.table c.requires.formed c.in_ok-table.ensures c.requires.within.few c.in-Some-first_waking.t c.in-Some-first_waking.u c.in-Some-first_waking.ensures in (
       c.requires.placed.shaped,
       all_listed c.args.leaf.now c.args.layers.now c.args.layer_of_move.now c.requires.placed (sym c.first_unlisted.ensures ∙ c.in_default.is),
       all_lower c.args.leaf.now c.args.layers.now c.args.layer_of_move.now c.requires.placed (sym c.first_not_lower.ensures ∙ c.in_default-first_not_lower.is),
@@ -29,4 +29,4 @@ returns-clause-valid c =
     valid-each c.args.leaf.now c.args.layers.now c.requires.placed.shaped
     (all_listed c.args.leaf.now c.args.layers.now c.args.layer_of_move.now c.requires.placed (sym c.first_unlisted.ensures ∙ c.in_default.is))
     (all_lower c.args.leaf.now c.args.layers.now c.args.layer_of_move.now c.requires.placed (sym c.first_not_lower.ensures ∙ c.in_default-first_not_lower.is))
-    (all_asleep c.args.leaf.now c.args.layers.now c.args.layer_of_move.now c.requires.placed c.in_ok-table.table c.requires.formed c.in_ok-table.ensures.ok c.requires.within.few c.in-None.ensures)
+    (all_asleep c.args.leaf.now c.args.layers.now c.args.layer_of_move.now c.requires.placed c.in_ok-table.table c.requires.formed c.in_ok-table.ensures c.requires.within.few c.in-None.ensures)

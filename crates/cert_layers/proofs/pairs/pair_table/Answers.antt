@@ -6,7 +6,7 @@ use Rattle.cert_layers.proofs.pairs.pair_table.Goals as goal
 pub loop-t-init : goal.loop-t-init
 loop-t-init c = rw c.in_ok-layers.ensures (table-empty c.args.leaf.now c.args.layer_of_move.now)
 
-pub returns-clause-ok : goal.returns-clause-ok
-returns-clause-ok c =
+pub returns : goal.returns
+returns c =
     let all : c.loop-t.t ≡ length c.args.leaf.now.moves = omega arith in
     rw c.from_vec.ensures (subst (λ (n : ℕ). IsWakingTable c.args.leaf.now c.args.layer_of_move.now n c.loop-t.layers.items) all c.loop-t.invariant)

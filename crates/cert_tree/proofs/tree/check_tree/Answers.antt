@@ -3,7 +3,9 @@ use Rattle.std.specs.Prelude.{Some}
 use Rattle.std.proofs.lemmas.List.{drop_all}
 use Rattle.cert_base.specs.FactsAndCases.{base_list}
 use Rattle.cert_tree.specs.declared.fault.TreeWhy.TheVariants.{Missing}
-use Rattle.cert_tree.specs.declared.fault.TreeFault.TheVariants.{Broken}
+use Rattle.cert_tree.specs.declared.fault.TreeFault.{TreeFault}
+use Rattle.pop_io.specs.declared.failure.Failure.TheVariants.{Fault}
+use Rattle.pop_io.specs.Failures.{Names}
 use Rattle.cert_tree.specs.Refusals.{Waiting, first_from, IsTreeFault}
 use Rattle.cert_tree.specs.Frames.{waiting, MeetsWaiting, StandsAtFirst}
 use Rattle.cert_tree.proofs.ClosedWalk.{unrefused-Closes}
@@ -24,12 +26,12 @@ pub returns-in-Err : goal.returns-in-Err
 returns-in-Err c =
     let items = c.as_slice-node-items.ensures in
     let d = item_at c.args.nodes.now c.as_slice-node-items.result.now c.loop-number.number c.node-item.result items c.loop-number-test.true c.node-item.is in
-    let fault : IsTreeFault c.args.leaf.now c.args.pred.now c.args.value c.args.nodes.now c.at.result =
-    rw c.at.ensures (broken_at c.args.leaf.now c.args.pred.now c.args.value c.args.nodes.now (drop (c.loop-number.number + 1) c.args.nodes.now) (waiting c.loop-number.walk) c.loop-number.number c.node-item.result c.in-Err.halt c.loop-number.invariant.same d c.in-Err.ensures.halts) in
+    let fault : Names (IsTreeFault c.args.leaf.now c.args.pred.now c.args.value c.args.nodes.now) c.at_node.result =
+    rw c.at_node.ensures (broken_at c.args.leaf.now c.args.pred.now c.args.value c.args.nodes.now (drop (c.loop-number.number + 1) c.args.nodes.now) (waiting c.loop-number.walk) c.loop-number.number c.node-item.result c.in-Err.halt c.loop-number.invariant.same d c.in-Err.ensures.halts) in
     record {
       closes = tt;
       fault = fault;
-      accepts = only_memory c.args.leaf.now c.args.pred.now c.args.value c.args.nodes.now c.at.result fault;
+      accepts = only_memory c.args.leaf.now c.args.pred.now c.args.value c.args.nodes.now c.at_node.result fault;
       right = tt;
     }
 
@@ -50,11 +52,12 @@ returns-then-branch c =
     let past : length c.args.nodes.now ≤ c.loop-number.number = rw c.as_slice-node-items.ensures at c.loop-number-test.false in
     let missing = missing_at c.args.leaf.now c.args.pred.now c.args.value c.args.nodes.now (at.above, c.next_case.new.self.trail) (waiting c.loop-number.walk) (waiting c.next_case.new.self) c.loop-number.number c.loop-number.invariant.same (drop_all c.loop-number.number c.args.nodes.now past) at.first in
     let end : c.loop-number.number ≡ length c.as_slice.result.now = omega (arith, past, c.loop-number.auto.number-end, ap length c.as_slice-node-items.ensures, ap length c.as_slice.ensures) in
-    let fault : IsTreeFault c.args.leaf.now c.args.pred.now c.args.value c.args.nodes.now (Broken (length c.as_slice.result.now) Missing) = missing ∙ ap (λ n. Some (n, Missing)) end in
+    let named : TreeFault = record { node = length c.as_slice.result.now; why = Missing } in
+    let fault : IsTreeFault c.args.leaf.now c.args.pred.now c.args.value c.args.nodes.now named = missing ∙ ap (λ n. Some (n, Missing)) end in
     record {
       closes = tt;
       fault = fault;
-      accepts = only_memory c.args.leaf.now c.args.pred.now c.args.value c.args.nodes.now (Broken (length c.as_slice.result.now) Missing) fault;
+      accepts = only_memory c.args.leaf.now c.args.pred.now c.args.value c.args.nodes.now (Fault named) fault;
       right = tt;
     }
 

@@ -1,63 +1,11 @@
-use Rattle.std.proofs.Common.{◌≡◌, ℕ, ◌-◌, min, List, [], ◌∷◌, ◌++◌, sym, ap, subst, ◌∙◌, arith, rules, refl}
-use Rattle.std.specs.Prelude.{true, ◌↔◌}
-use Rattle.pop_net.specs.NetModel.{NetModel}
-use Rattle.pop_net.specs.Lanes.{crowd_of, AreValid}
+use Rattle.std.proofs.Common.{◌≡◌, List, ◌++◌, subst, sym, ap, ◌∙◌}
 use Rattle.pop_crowd.specs.declared.crowd.Meeting.{Meeting}
-use Rattle.pair_workers.specs.Turns.{ArePlayed}
-use Rattle.pair_workers.specs.Ends.{RunGoesOn}
-use Rattle.pair_workers.proofs.ManyRounds.{AreOnTheRun, alone_played, all_more_rounds, all_no_rounds, first_alone}
-use Rattle.pair_workers.proofs.OnlyRun.{only_run}
-use Rattle.pair_workers.proofs.RunEnds.{run_ended}
+use Rattle.pair_workers.specs.OneRun.{IsOnlyRunFrom}
+use Rattle.pair_workers.proofs.KeptAll.{all_kept}
 use Rattle.pair_workers.proofs.alone.run_alone.Goals as goal
-
-pub rounds-preserved : goal.rounds-preserved
-rounds-preserved g c =
-    let net = c.args.net.now in
-    let spec = c.args.spec.now in
-    let start = crowd_of net c.args.crowd in
-    let before = c.rounds.picker in
-    let after = c.play_round.new.picker in
-    let meetings = c.in_ok-meetings.meetings.items in
-    let plays = c.in_ok-meetings.ensures.1 in
-    let least : c.min-turns.result ≡ min 4096 c.rounds.left = c.min-turns.ensures in
-    let pushed : c.push.new.self.items ≡ c.rounds.rounds.items ++ meetings ∷ [] = search rules in
-    let more = (subst (λ (n : NetModel). (c.in_ok-goes_on.field-0 ≡ true) ↔ RunGoesOn n (crowd_of n c.rounds.crowd) c.rounds.left) c.in_ok-table.ensures c.in_ok-goes_on.ensures).0 c.if-branch.true in
-    let alone = alone_played net (crowd_of net c.rounds.crowd) (min 4096 c.rounds.left) (before ∷ []) before after meetings (crowd_of net c.play_round.new.crowd)
-    plays.played (c.in_ok-meetings.ensures.0 ∙ least) refl (λ d. refl) in
-    let played : ArePlayed net (crowd_of net c.rounds.crowd) spec.workers (min 4096 c.rounds.left) (before ∷ []) (after ∷ []) meetings (crowd_of net c.play_round.new.crowd) =
-    subst (λ (n : ℕ). ArePlayed net (crowd_of net c.rounds.crowd) n (min 4096 c.rounds.left) (before ∷ []) (after ∷ []) meetings (crowd_of net c.play_round.new.crowd)) (sym c.requires.alone) alone in
-    let left : c.rounds.left - min 4096 c.rounds.left ≡ c.rounds.left - c.min-turns.result = ap (λ n. c.rounds.left - n) (sym least) in
-    record {
-      run = subst (λ (t : List (List Meeting) × ℕ). AreOnTheRun net start spec t.0 (crowd_of net c.play_round.new.crowd) (after ∷ []) t.1) (λ i. (sym pushed i, left i))
-          (all_more_rounds net start spec c.rounds.rounds.items _ (before ∷ []) c.rounds.left c.rounds.invariant.run _ (after ∷ []) meetings played more.0 more.1);
-      valid = plays.valid;
-      agents = plays.agents ∙ c.rounds.invariant.agents;
-      few = omega (arith, c.rounds.invariant.few);
-    }
 
 pub returns : goal.returns
 returns g c =
-    let net = c.args.net.now in
-    let was = c.rounds.invariant in
-    let run = run_ended net _ c.args.crowd c.rounds.crowd c.args.spec.now c.rounds.rounds.items _ (c.rounds.picker ∷ []) c.rounds.left c.in_ok-goes_on.field-0 c.in_ok-end.end was.run was.valid was.agents c.if-branch.false c.in_ok-table.ensures c.in_ok-goes_on.ensures c.in_ok-end.ensures c.from_vec-2.ensures in
-    record { run = run; only = only_run net _ c.args.spec.now _ _ c.requires.alone run.run }
-
-pub rounds-init : goal.rounds-init
-rounds-init g c =
-    let net = c.args.net.now in
-    let start = crowd_of net c.args.crowd in
-    let spec = c.args.spec.now in
-    let picker = c.new-picker.result in
-    record {
-      run = subst (λ (rounds : List (List Meeting)). AreOnTheRun net start spec rounds start (picker ∷ []) spec.turns) (sym c.new-rounds.ensures.items)
-          (all_no_rounds net start spec (picker ∷ []) (first_alone spec picker c.requires.alone c.new-picker.ensures.state));
-      valid = c.requires.can.valid;
-      agents = refl;
-      few = c.requires.can.limits.turns.1;
-    }
-
-pub goes_on-requires : goal.goes_on-requires
-goes_on-requires g c = subst (λ (n : NetModel). AreValid n c.rounds.crowd) (sym c.in_ok-table.ensures) c.rounds.invariant.valid
-
-pub end_of-requires : goal.end_of-requires
-end_of-requires g c = subst (λ (n : NetModel). AreValid n c.rounds.crowd) (sym c.in_ok-table.ensures) c.rounds.invariant.valid
+    let ran = c.in_ok-crowd.ensures in
+    let same : c.from_vec.result ≡ ran.rounds = c.from_vec.ensures ∙ all_kept _ _ 1 ran.rounds ran.taken ∙ ap (λ (l : List (List Meeting)). l ++ ran.rounds) c.new.ensures.items in
+    subst (λ (rounds : List (List Meeting)). IsOnlyRunFrom c.args.net.now c.args.crowd c.args.spec.now (record { rounds = rounds; crowd = c.in_ok-crowd.crowd; end = c.in_ok-crowd.end })) (sym same) ran.run

@@ -1,83 +1,16 @@
-use Rattle.std.proofs.Common.{◌≡◌, ℕ, ◌-◌, min, [], ◌∷◌, ◌++◌, sym, ap, subst, ◌∙◌, arith, rules, refl, append-nil, length-append}
-use Rattle.std.specs.Prelude.{true, ◌↔◌}
-use Rattle.pop_net.specs.NetModel.{NetModel}
-use Rattle.pop_net.specs.Lanes.{crowd_of, AreValid}
+use Rattle.std.proofs.Common.{◌≡◌, List, ℕ, ◌++◌, ap, ◌∙◌}
 use Rattle.pop_words.specs.declared.kind.RunKind.TheVariants.{Whole}
-use Rattle.pair_workers.specs.Turns.{ArePlayed}
-use Rattle.pair_workers.specs.Ends.{RunGoesOn}
-use Rattle.pair_workers.proofs.ManyRounds.{AreOnTheRun, alone_played, all_more_rounds, all_no_rounds, first_alone}
-use Rattle.pair_workers.proofs.OnlyRun.{only_run}
-use Rattle.pair_workers.proofs.RunEnds.{run_ended}
-use Rattle.pop_journal.proofs.Texts.{round_pushed}
+use Rattle.pop_journal.specs.Journal.{round_lines, text_of}
 use Rattle.pop_journal.proofs.MadeAlone.{ended_text}
+use Rattle.pop_journal.proofs.WrittenAll.{all_written}
 use Rattle.pop_journal.proofs.alone.push_run_alone.Goals as goal
-
-pub rounds-preserved : goal.rounds-preserved
-rounds-preserved g c =
-    let net = c.args.net.now in
-    let spec = c.args.spec.now in
-    let start = crowd_of net c.args.crowd in
-    let made = c.rounds.invariant.made in
-    let before = c.rounds.picker in
-    let after = c.play_round.new.picker in
-    let meetings = c.in_ok-meetings.meetings.items in
-    let plays = c.in_ok-meetings.ensures.1 in
-    let least : c.min-turns.result ≡ min 4096 c.rounds.left = c.min-turns.ensures in
-    let more = (subst (λ (n : NetModel). (c.in_ok-goes_on.field-0 ≡ true) ↔ RunGoesOn n (crowd_of n c.rounds.crowd) c.rounds.left) c.in_ok-table.ensures c.in_ok-goes_on.ensures).0 c.if-branch.true in
-    let alone = alone_played net (crowd_of net c.rounds.crowd) (min 4096 c.rounds.left) (before ∷ []) before after meetings (crowd_of net c.play_round.new.crowd)
-    plays.played (c.in_ok-meetings.ensures.0 ∙ least) refl (λ d. refl) in
-    let played : ArePlayed net (crowd_of net c.rounds.crowd) spec.workers (min 4096 c.rounds.left) (before ∷ []) (after ∷ []) meetings (crowd_of net c.play_round.new.crowd) =
-    subst (λ (n : ℕ). ArePlayed net (crowd_of net c.rounds.crowd) n (min 4096 c.rounds.left) (before ∷ []) (after ∷ []) meetings (crowd_of net c.play_round.new.crowd)) (sym c.requires.alone) alone in
-    let left : c.rounds.left - min 4096 c.rounds.left ≡ c.rounds.left - c.min-turns.result = ap (λ n. c.rounds.left - n) (sym least) in
-    record {
-      made = record {
-        rounds = made.rounds ++ meetings ∷ [];
-        run = subst (λ (n : ℕ). AreOnTheRun net start spec (made.rounds ++ meetings ∷ []) (crowd_of net c.play_round.new.crowd) (after ∷ []) n) left
-            (all_more_rounds net start spec made.rounds _ (before ∷ []) c.rounds.left made.run _ (after ∷ []) meetings played more.0 more.1);
-        written = round_pushed _ made.rounds c.rounds.number meetings c.rounds.text.items c.push_round.new.text.items made.next made.written (rw c.as_slice.ensures.value at c.in_ok-push_round.ensures);
-        next = omega (arith, made.next, length-append made.rounds (meetings ∷ []));
-      };
-      valid = plays.valid;
-      agents = plays.agents ∙ c.rounds.invariant.agents;
-      few = omega (arith, c.rounds.invariant.few);
-      count = omega (arith, c.rounds.invariant.count, least, more.0);
-      room = search rules;
-    }
 
 pub returns : goal.returns
 returns g c =
-    let net = c.args.net.now in
-    let was = c.rounds.invariant in
-    let made = was.made in
-    let run = run_ended net _ c.args.crowd c.rounds.crowd c.args.spec.now made.rounds made.rounds (c.rounds.picker ∷ []) c.rounds.left c.in_ok-goes_on.field-0 c.in_ok-end.end made.run was.valid was.agents c.if-branch.false c.in_ok-table.ensures c.in_ok-goes_on.ensures c.in_ok-end.ensures refl in
+    let ran = c.in_ok-crowd.ensures in
+    let so_far = all_written _ _ 1 ran.rounds ran.taken ∙ ap (λ (t : List ℕ). t ++ text_of (round_lines 1 ran.rounds)) c.in_ok-written.ensures in
     record {
-      rounds = made.rounds;
-      run = record { run = run; only = only_run net _ c.args.spec.now _ _ c.requires.alone run.run };
-      text = ended_text Whole c.args.spec.now c.args.text.now.items c.rounds.text.items _ made.rounds made.written c.in_ok-extend_from_slice.ensures.items;
+      rounds = ran.rounds;
+      run = ran.run;
+      text = ended_text Whole c.args.spec.now c.args.text.items _ _ ran.rounds so_far c.in_ok-text.ensures;
     }
-
-pub rounds-init : goal.rounds-init
-rounds-init g c =
-    let net = c.args.net.now in
-    let start = crowd_of net c.args.crowd in
-    let spec = c.args.spec.now in
-    let picker = c.new-picker.result in
-    record {
-      made = record {
-        rounds = [];
-        run = all_no_rounds net start spec (picker ∷ []) (first_alone spec picker c.requires.alone c.new-picker.ensures.state);
-        written = c.in_ok-push_run_line.ensures ∙ sym (append-nil _);
-        next = refl;
-      };
-      valid = c.requires.can.valid;
-      agents = refl;
-      few = c.requires.can.limits.turns.1;
-      count = omega (arith, c.requires.can.limits.turns.1);
-      room = search rules;
-    }
-
-pub goes_on-requires : goal.goes_on-requires
-goes_on-requires g c = subst (λ (n : NetModel). AreValid n c.rounds.crowd) (sym c.in_ok-table.ensures) c.rounds.invariant.valid
-
-pub end_of-requires : goal.end_of-requires
-end_of-requires g c = subst (λ (n : NetModel). AreValid n c.rounds.crowd) (sym c.in_ok-table.ensures) c.rounds.invariant.valid

@@ -1,6 +1,5 @@
-use Rattle.std.proofs.Common.{rules, ◌≡◌, inr, sym, ◌∙◌}
+use Rattle.std.proofs.Common.{rules, sym, ◌∙◌}
 use Rattle.pop_net.specs.LeafModel.{IsLeaf}
-use Rattle.pop_net.specs.declared.fault.LeafFault.TheVariants.{NoMemory}
 use Rattle.pop_net.proofs.LeafFaults.{unbroken_leaf, right_leaf}
 use Rattle.pop_net.proofs.leaf.Leaf.with_helpers.Goals as goal
 
@@ -11,9 +10,9 @@ of_valid-requires c =
 
 pub returns-in-Some : goal.returns-in-Some
 returns-in-Some c =
-    let refused : IsLeaf (record { states = c.as_slice.result.now; moves = c.as_slice-2.result.now; inputs = c.as_slice-3.result.now; outputs = c.as_slice-4.result.now; helpers = c.as_slice-5.result.now }) → c.in-Some.fault ≡ NoMemory = right_leaf _ _ (inr (sym c.leaf_fault.ensures ∙ c.in-Some.is)) in
+    let refused : IsLeaf (record { states = c.as_slice.result.now; moves = c.as_slice-2.result.now; inputs = c.as_slice-3.result.now; outputs = c.as_slice-4.result.now; helpers = c.as_slice-5.result.now }) → ⊥ = right_leaf _ _ (sym c.leaf_fault.ensures ∙ c.in-Some.is) in
     record {
       kept = tt;
       refused = search rules;
-      accepts = rw (c.as_slice.ensures, c.as_slice-2.ensures, c.as_slice-3.ensures, c.as_slice-4.ensures, c.as_slice-5.ensures) at refused;
+      accepts = λ right. absurd ((rw (c.as_slice.ensures, c.as_slice-2.ensures, c.as_slice-3.ensures, c.as_slice-4.ensures, c.as_slice-5.ensures) at refused) right);
     }

@@ -1,8 +1,7 @@
-use Rattle.std.proofs.Common.{rules, ◌≡◌, inr, sym, ◌∙◌}
+use Rattle.std.proofs.Common.{rules, sym, ◌∙◌}
 use Rattle.std.specs.Prelude.{All}
 use Rattle.pop_net.specs.LeafModel.{IsLeaf}
 use Rattle.pop_net.specs.NetModel.{IsNet}
-use Rattle.pop_net.specs.declared.fault.NetFault.TheVariants.{NoMemory}
 use Rattle.pop_net.proofs.NetFaults.{unbroken_net, right_net}
 use Rattle.pop_net.proofs.net.Net.new.Goals as goal
 
@@ -14,9 +13,9 @@ of_valid-requires c =
 
 pub returns-in-Some : goal.returns-in-Some
 returns-in-Some c =
-    let refused : IsNet (record { variables = c.as_slice.result.now; leaves = c.as_slice-2.result.now; combine = c.as_slice-3.result.now }) → c.in-Some.fault ≡ NoMemory = right_net _ _ (inr (sym c.net_fault.ensures.first ∙ c.in-Some.is)) in
+    let refused : IsNet (record { variables = c.as_slice.result.now; leaves = c.as_slice-2.result.now; combine = c.as_slice-3.result.now }) → ⊥ = right_net _ _ (sym c.net_fault.ensures.first ∙ c.in-Some.is) in
     record {
       kept = tt;
       refused = search rules;
-      accepts = rw (c.as_slice.ensures, c.as_slice-2.ensures, c.as_slice-3.ensures) at refused;
+      accepts = λ right. absurd ((rw (c.as_slice.ensures, c.as_slice-2.ensures, c.as_slice-3.ensures) at refused) right);
     }

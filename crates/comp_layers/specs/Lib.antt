@@ -1,2 +1,0 @@
-pub mod SortedLayers
-pub mod DefinedLeaf

@@ -1,6 +1,0 @@
-use Rattle.std.proofs.Common.{◌≡◌, map, take}
-use Rattle.comp_threshold_leaf.specs.ThresholdLeaf.{place_of_value}
-use Rattle.comp_threshold_leaf.proofs.building.inputs.Given as goal
-
-abbrev pub invariant-loop-a : goal.invariant-loop-a
-invariant-loop-a l = l.inputs.items ≡ map (place_of_value l.s) (take l.a-index l.coefs)

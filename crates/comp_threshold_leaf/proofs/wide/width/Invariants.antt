@@ -1,7 +1,0 @@
-use Rattle.std.proofs.Common.{◌≡◌, ◌+◌, take}
-use Rattle.std.specs.Prelude.{nat_abs, fold}
-use Rattle.comp_threshold_leaf.specs.ThresholdLeaf.{greater}
-use Rattle.comp_threshold_leaf.proofs.wide.width.Given as goal
-
-abbrev pub invariant-loop-a : goal.invariant-loop-a
-invariant-loop-a l = l.s ≡ fold (λ s a. greater s (nat_abs a)) (nat_abs l.bound + 1) (take l.a-index l.coefs)

@@ -1,0 +1,33 @@
+-- Runs of either kind, and their rounds.
+use Rattle.std.specs.Prelude.{ℕ, List}
+use Rattle.pop_net.specs.NetModel.{NetModel}
+use Rattle.pop_net.specs.declared.net.Word.{Word}
+use Rattle.pop_crowd.specs.declared.crowd.Meeting.{Meeting}
+use Rattle.pop_words.specs.declared.kind.RunKind.{RunKind}
+use Rattle.pop_words.specs.declared.kind.RunKind.TheVariants.{Whole, Watched}
+use Rattle.pop_words.specs.declared.spec.RunSpec.{RunSpec}
+use Rattle.pair_workers.specs.declared.alone.End.{End}
+use Rattle.pair_workers.specs.declared.alone.RunEnd.{RunEnd}
+use Rattle.pair_workers.specs.declared.round_end.RoundEnd.{RoundEnd}
+use Rattle.pair_workers.specs.Ends.{IsRunFrom}
+use Rattle.pair_workers.specs.TakenRun.{Step, TakesAll}
+use Rattle.pair_workers.specs.Turns.{IsWholeRound}
+use Rattle.pop_watch.specs.Playing.{IsWatchedRoundFrom}
+use Rattle.pop_watch.specs.WatchedEnds.{IsWatchedRunFrom}
+
+-- a round of a run of this kind
+abbrev pub IsRoundOf : RunKind → NetModel → List Word → ℕ → ℕ → List (List ℕ) → RoundEnd → Type 0
+IsRoundOf Whole net crowd workers turns before p = IsWholeRound net crowd workers turns before p
+IsRoundOf Watched net crowd workers turns before p = IsWatchedRoundFrom net crowd workers turns before p
+
+-- a run of this kind from a crowd
+abbrev pub IsRunOfKind : RunKind → NetModel → List Word → RunSpec → RunEnd → Type 0
+IsRunOfKind Whole net crowd spec ran = IsRunFrom net crowd spec ran
+IsRunOfKind Watched net crowd spec ran = IsWatchedRunFrom net crowd spec ran
+
+-- a run of this kind from a crowd to this end, whose rounds were taken
+pub record IsTakenRunOf (kind : RunKind) {S : Type 0} (takes : Step S) (net : NetModel) (crowd : List Word)
+    (spec : RunSpec) (before after : S) (last : List Word) (end : End) : Type 0 where
+  pub rounds : List (List Meeting)
+  pub run : IsRunOfKind kind net crowd spec (record { rounds = rounds; crowd = last; end = end })
+  pub taken : TakesAll takes before 1 rounds after

@@ -1,0 +1,92 @@
+//! The loop of a run on threads, whatever becomes of its rounds.
+
+ghost use Rattle.std.specs.Prelude.{◌≤◌, IfOk};
+ghost use Rattle.agent_field.specs.Layouts.{Serves};
+ghost use Rattle.pop_words.specs.Kinds.{most_workers_of};
+ghost use Rattle.pair_workers.specs.Turns.{CanMakeRound};
+ghost use Rattle.pair_workers.specs.Ends.{CanMakeRun};
+ghost use Rattle.pop_watch.specs.RunsOfKind.{IsRoundOf, IsTakenRunOf};
+
+use crate::context::RunContext;
+use crate::round::watched_round;
+use agent_field::Layout;
+use pair_workers::{
+    End, Picker, ROUND_TURNS, RoundEnd, RoundSink, end_of, first_pickers, goes_on, next_round,
+};
+use pop_crowd::Crowd;
+use pop_io::{Gate, NoMemory};
+use pop_net::Net;
+use pop_words::{RunKind, RunSpec};
+use std::alloc::Global;
+use std::sync::Wait;
+use std::thread::Threads;
+use terminal_test::PairTable;
+
+/// The next round of a run of this kind.
+fn round_of<R: Threads + Wait + Sync, G: Gate>(
+    rt: &R,
+    alloc: Global,
+    kind: RunKind,
+    run: &RunContext<G>,
+    crowd: Crowd,
+    pickers: Vec<Picker>,
+    turns: u64,
+    layout: &mut Layout,
+) -> Result<RoundEnd, NoMemory>
+    requires round { CanMakeRound run.now.net.now crowd run.now.spec.now.workers turns pickers.items }
+    requires workers { run.now.spec.now.workers ≤ most_workers_of kind }
+    requires serves { Serves layout.old crowd run.now.spec.now.shards }
+    ensures round { IfOk result (IsRoundOf kind run.now.net.now crowd run.now.spec.now.workers turns pickers.items) }
+    ensures serves { IfOk result (λ r. Serves layout.new r.crowd run.now.spec.now.shards) }
+{
+    let (net, spec, gate) = (run.net, run.spec, run.gate);
+    match kind {
+        RunKind::Whole => next_round(rt, alloc, net, crowd, spec, pickers, turns, layout, gate),
+        RunKind::Watched => watched_round(
+            rt, alloc, net, run.table, crowd, spec, pickers, turns, layout, gate,
+        ),
+    }
+}
+
+/// A run of this kind on threads, whose rounds are given to a sink. Before each round the crowd is tested for being
+/// terminal. Returns the run's last crowd, and why it ended.
+pub(crate) fn run_on_threads<R: Threads + Wait + Sync, G: Gate, S: RoundSink>(
+    rt: &R,
+    alloc: Global,
+    kind: RunKind,
+    net: &Net,
+    crowd: Crowd,
+    spec: &RunSpec,
+    gate: &G,
+    sink: &mut S,
+) -> Result<(Crowd, End), NoMemory>
+    requires can { CanMakeRun net.now crowd spec.now }
+    requires workers { spec.now.workers ≤ most_workers_of kind }
+    ensures { IfOk result
+        (λ end. IsTakenRunOf kind S.takes net.now crowd spec.now sink.old sink.new end.0 end.1) }
+{
+    let mut crowd = crowd;
+    let mut pickers = first_pickers(alloc, spec)?;
+    let mut left = spec.turns;
+    let mut number = 1;
+    let mut layout = Layout::new(alloc);
+    let table = PairTable::new(alloc, net)?;
+    let run = RunContext {
+        net,
+        table: &table,
+        spec,
+        gate,
+    };
+    let mut last = None;
+    'rounds: while goes_on(alloc, &table, &crowd, left, &mut last)? {
+        let turns = ROUND_TURNS.min(left);
+        let played = round_of(rt, alloc, kind, &run, crowd, pickers, turns, &mut layout)?;
+        sink.take(number, played.meetings)?;
+        crowd = played.crowd;
+        pickers = played.pickers;
+        number += 1;
+        left -= turns;
+    }
+    let end = end_of(alloc, &table, &crowd)?;
+    Ok((crowd, end))
+}
