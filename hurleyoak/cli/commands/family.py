@@ -1,0 +1,47 @@
+"""`find` of a family: a line for each member, with what the program said of it."""
+from __future__ import annotations
+
+import sys
+import time
+
+from ...engine import program
+from ...statuses import DONE, UNDECIDED
+from ...text.families import member_name
+from ..table.reading import Given
+from .inputs import load_member, named
+
+HEAD = ("member", "states", "moves", "seconds", "answer")
+
+
+def _answer(given: Given, values: dict[str, int], text: str) -> tuple[str, ...]:
+    """The row of a member."""
+    from ...search.finding import find
+    from ...search.jobs import processors
+
+    loaded = load_member(text, values, named(given.path))
+    begun = time.time()
+    found = find(loaded, given.number("--seconds"), given.number("--small"), given.whole("--jobs") or processors())
+    if found.bundle is not None:
+        answer = program.check(found.bundle.line()).first_line
+    else:
+        answer = "wrong: `refute` shows how" if found.flaw is not None else "not found"
+    leaves = loaded.net.leaves
+    states, moves = sum(len(leaf.states) for leaf in leaves), sum(len(leaf.moves) for leaf in leaves)
+    return member_name(values), str(states), str(moves), f"{time.time() - begun:.1f}", answer
+
+
+def find_all(given: Given, found: list[dict[str, int]], text: str) -> int:
+    """Prints the table as it comes; 4 where a member isn't certified."""
+    widths = [max(len(HEAD[0]), *(len(member_name(values)) for values in found)), *map(len, HEAD[1:])]
+    status = DONE
+    for row in [HEAD, *(_answer(given, values, text) for values in found)]:
+        print(
+            "  ".join(
+                cell.ljust(width) if i in (0, 4) else cell.rjust(width)
+                for i, (cell, width) in enumerate(zip(row, widths))
+            )
+        )
+        sys.stdout.flush()
+        if row is not HEAD and not row[-1].startswith("certified "):
+            status = UNDECIDED
+    return status

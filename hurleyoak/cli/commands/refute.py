@@ -1,0 +1,82 @@
+"""`pop refute [FILE] [PREDICATE]`: looks for a crowd that the protocol gets wrong, and for no proof."""
+from __future__ import annotations
+
+import sys
+import time
+
+from ...engine import program
+from ...faults import UsageFault
+from ...limits import AGENT_LEAST
+from ...text.files import Loaded
+from ..table.reading import Given
+from .find import NOT_FOUND, show_flaw
+from .inputs import loaded_of
+
+EVERY = 0.5  # seconds between two progress lines
+
+
+class _Progress:
+    """A progress line on a terminal."""
+
+    def __init__(self) -> None:
+        self.last = time.time()
+        self.shown = False
+
+    def __call__(self, tried: "object", agents: int) -> None:
+        from ...search.flaws import Tried
+
+        assert isinstance(tried, Tried)
+        if sys.stderr.isatty() and time.time() - self.last > EVERY:
+            self.last, self.shown = time.time(), True
+            print(
+                f"\rpop: {agents} agents; {tried.inputs:,} inputs, {tried.crowds:,} crowds so far",
+                end="",
+                file=sys.stderr,
+                flush=True,
+            )
+
+    def end(self) -> None:
+        """Goes to a new line where one was shown."""
+        if self.shown:
+            print(file=sys.stderr)
+
+
+def that_meet(loaded: Loaded) -> str:
+    """Which inputs are meant, where a file assumes something."""
+    return f" that meet {' and '.join(f'`{text}`' for text in loaded.assumed)}" if loaded.assumed else ""
+
+
+def run(given: Given) -> int:
+    """Tells a counterexample, or up to how many agents there is none."""
+    loaded = loaded_of(given)
+    tree = loaded.whole_tree()
+    from ...search.explore import explore
+    from ...search.whole import system_of
+
+    agents = given.whole("--agents") if given.has("--agents") else None
+    least = max(0, AGENT_LEAST - len(loaded.net.leaves[0].helpers))
+    if agents is not None and agents < least:
+        raise UsageFault(f"`--agents` is {least} at least: a crowd of this net has {AGENT_LEAST} agents, or more")
+    progress = _Progress()
+    flaw, tried = explore(system_of(loaded.net), tree, agents, given.number("--seconds"), progress, loaded.meets)
+    progress.end()
+    if flaw is not None:
+        return show_flaw(loaded, flaw, given.text("--write"))
+    whole = tried.agents
+    if tried.restless is not None:
+        from ...show.telling import restless_told
+
+        assert loaded.predicate is not None
+        print(restless_told(loaded.net, tree, loaded.predicate, tried.restless, tried))
+        return NOT_FOUND
+    print(
+        f"no flaw: all inputs of up to {whole} agents beside helpers{that_meet(loaded)} were tried"
+        if whole or agents == 0
+        else "no flaw in what was tried"
+    )
+    if agents is not None and whole < agents:
+        print(
+            f"not all inputs of up to {agents} agents could be tried: their crowds are too many, or the time was up; --seconds gives more",
+            file=sys.stderr,
+        )
+    return NOT_FOUND if whole < (agents or 0) or not whole and agents is None else program.DONE

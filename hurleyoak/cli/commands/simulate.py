@@ -1,0 +1,111 @@
+"""`pop simulate [FILE] x=30 y=10`: a run of a net by counts; it needs no proof, and proves nothing."""
+from __future__ import annotations
+
+from pathlib import Path
+
+from ...simulation.crowds import counts_of, crowd_words, split_words, whole_word
+from ...simulation.curves import Recorder
+from ..progress import Progress
+from ...show.outcome import told
+from ...simulation.limits import MEETING_LIMIT
+from ...simulation.carrying import Limits, carry_out
+from ...simulation.simulation import AGREED, ENDLESS, MEETINGS, TERMINAL, Simulation, Stop
+from ...faults import InputFault
+from ...text.files import STANDARD_INPUT, Loaded, with_predicate
+from ...protocol.laws import LAWS_TOLD
+from ...protocol.predicates import value_at
+from ...statuses import DONE, UNDECIDED
+from ...writing import write_text
+from . import warn
+from ...faults import UsageFault
+from ..table.reading import Given, takes
+from .inputs import load_given
+from ...wholes import is_whole
+
+
+def net_title(loaded: Loaded) -> str:
+    """The net's name: its file's without the ending, or its folder's where the file is `net` or `bundle`."""
+    return title_of(loaded.name)
+
+
+def title_of(name: str) -> str:
+    """The same, of a file by its name."""
+    path = Path(name)
+    return path.resolve().parent.name if path.stem in ("net", "bundle") else path.stem
+
+
+def value_of(loaded: Loaded, counts: tuple[int, ...]) -> bool | None:
+    """The value of the predicate at the input; None where there is none."""
+    return None if loaded.predicate is None else value_at(loaded.whole_tree(), counts)
+
+
+def _limits(given: Given) -> Limits:
+    until = given.text("--until") or TERMINAL
+    changes = given.whole("--changes") if given.has("--changes") else None
+    if until in (TERMINAL, AGREED):
+        return Limits(Stop(until), ENDLESS, changes)
+    if not is_whole(until):
+        raise UsageFault(f"`--until` is followed by `terminal`, `agreed` or a number of meetings, found `{until}`")
+    return Limits(MEETINGS, whole_word("--until", until, 0, MEETING_LIMIT), changes)
+
+
+def many(given: Given, loaded: Loaded, counts: tuple[int, ...], limits: Limits, value: bool | None) -> int:
+    """Many runs on one grid of times; 4 where one of them stopped before its end."""
+    from ...simulation.ensembles import ensemble
+    from ...simulation.ensembles import told as told_of
+
+    every, runs, trace = given.number("--every"), given.whole("--runs"), given.text("--trace")
+    if every <= 0 or limits.until == AGREED or limits.changes is not None:
+        raise UsageFault(
+            "`--every` is followed by meetings per agent above 0; it goes with `--until terminal` or a number of meetings, and without `--changes`"
+        )
+    progress = Progress()
+    made = ensemble(
+        loaded.net,
+        counts,
+        given.whole("--seed"),
+        runs,
+        every,
+        limits.meetings,
+        net_title(loaded),
+        lambda done: progress(lambda: f"{done:,} of {runs:,} runs"),
+    )
+    progress.end()
+    if trace is not None:
+        write_text(trace, made.text())
+    print("\n".join(told_of(made, value)))
+    return DONE if made.terminal == runs or limits.until == MEETINGS else UNDECIDED
+
+
+def run(given: Given) -> int:
+    """Prints the end crowd and how it came to it; 4 where it stopped before the end that was asked for."""
+    files, count_words = split_words(given.words)
+    if len(files) > 1:
+        raise UsageFault(takes(given.command))
+    seed, trace, predicate = given.whole("--seed"), given.text("--trace"), given.text("--predicate")
+    limits = _limits(given)
+    loaded = load_given(given, files[0] if files else STANDARD_INPUT)
+    if predicate is not None:
+        loaded = with_predicate(loaded, predicate)
+    warn([told for told in loaded.warnings if told != LAWS_TOLD], loaded.name)
+    counts = counts_of(loaded.net, count_words)
+    if not loaded.meets(counts):
+        raise InputFault(f"{loaded.name}: this crowd doesn't meet what the file assumes: {', '.join(loaded.assumed)}")
+    value = value_of(loaded, counts)
+    if given.has("--every"):
+        return many(given, loaded, counts, limits, value)
+    simulation = Simulation(loaded.net, counts, seed)
+    recorder = Recorder() if trace is not None else None
+    progress = Progress()
+    carry_out(
+        simulation,
+        limits,
+        value,
+        recorder.watch(simulation) if recorder else None,
+        lambda: progress(lambda: f"{simulation.meetings:,} meetings, {simulation.changes:,} changes"),
+    )
+    progress.end()
+    if recorder and trace is not None:
+        write_text(trace, recorder.curve(simulation, net_title(loaded), crowd_words(loaded.net, counts), seed).text())
+    print("\n".join(told(simulation, value)))
+    return DONE if simulation.ended in (TERMINAL, limits.until) else UNDECIDED

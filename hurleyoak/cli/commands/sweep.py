@@ -1,0 +1,174 @@
+"""`pop sweep FILE.. x=10..1000*2`: many runs over sizes, seeds and nets, and how their meetings grow."""
+from __future__ import annotations
+
+import os
+import shlex
+import sys
+from dataclasses import dataclass, replace
+from pathlib import Path
+from typing import Iterator, Mapping, Sequence
+
+from ...simulation.crowds import counts_of, crowd_words, split_words
+from ..progress import Progress
+from ...simulation.sharing import POP, Gathered, done_here, journal_of, read_folder, shared
+from ...simulation.sizes import sizes_of
+from ...simulation.sweepjobs import BY_RUN, BY_SIMULATE, RUN_MEETINGS, Job, Way, load_net, mark_of, read_job, result_of
+from ...simulation.table import Row, aligned, csv_text, growths, row_of
+from ...faults import InputFault
+from ...protocol.laws import LAWS_TOLD
+from ...text.families import member_name
+from ...text.files import STANDARD_INPUT, read_text
+from ...text.membersof import members_of
+from ...statuses import DONE, UNDECIDED
+from ...writing import write_text
+from . import JOB_WORD, warn
+from ...faults import UsageFault
+from ..table.reading import Given, takes
+from .simulate import title_of
+
+SAID = ("--by", "--changes", "--meetings", "--runs", "--seed")
+
+
+@dataclass(frozen=True)
+class Group:
+    """A net at one size, and its jobs."""
+
+    net: str
+    crowd: str
+    jobs: list[Job]
+
+
+def _groups(given: Given) -> list[Group]:
+    files, ranges = split_words(given.words)
+    if not files or STANDARD_INPUT in files:
+        raise UsageFault(f"it reads files that are named: {takes(given.command)}")
+    meetings = given.whole("--meetings")
+    if given.text("--by") == BY_RUN and meetings > RUN_MEETINGS:
+        raise UsageFault(f"`--meetings` goes to {RUN_MEETINGS:,} with `--by run`, found {meetings}")
+    if any("\n" in path for path in files):
+        raise UsageFault("the name of a net's file has a line feed: jobs are given a line each")
+    sizes = sizes_of(ranges)
+    return [group for path in files for member in _members(path) for group in _groups_of(given, path, member, sizes)]
+
+
+def _members(path: str) -> list[str]:
+    """The members of a family by their names; one without a name where the file has one protocol."""
+    return [member_name(values) for values in members_of(read_text(path), path)] or [""]
+
+
+def _groups_of(given: Given, path: str, member: str, sizes: Sequence[Mapping[str, int]]) -> Iterator[Group]:
+    """A group for each size that meets what the net assumes."""
+    predicate, first = given.text("--predicate") or "", given.whole("--seed")
+    loaded = load_net(path, predicate, member)
+    warn([told for told in loaded.warnings if told != LAWS_TOLD], loaded.name)
+    job = Job(
+        by=Way(given.text("--by") or BY_SIMULATE),
+        path=str(Path(path).absolute()),
+        crowd="",
+        seed=first,
+        changes=given.whole("--changes"),
+        meetings=given.whole("--meetings"),
+        predicate=predicate,
+        mark=mark_of(loaded),
+        member=member,
+    )
+    for size in sizes:
+        counts = counts_of(loaded.net, [f"{name}={k}" for name, k in size.items()])
+        if loaded.meets(counts):
+            crowd = crowd_words(loaded.net, counts)
+            jobs = [replace(job, crowd=crowd, seed=first + i) for i in range(given.whole("--runs"))]
+            yield Group(f"{title_of(path)} {member}".rstrip(), crowd, jobs)
+
+
+def _told(given: Given) -> str:
+    """The words that say what was measured."""
+    nets = [title_of(word) for word in given.words if "=" not in word]
+    sizes = [word for word in given.words if "=" in word]
+    usual = {option.name: option.usual for option in given.command.options}
+    said = [f"{name} {given.text(name)}" for name in SAID if given.values[name] != usual[name]]
+    return "  ".join([" ".join(nets), " ".join(sizes), *said])
+
+
+def do_jobs(words: list[str]) -> int:
+    """Does the jobs that the words are, and prints a result on a line for each."""
+    if not words:
+        raise UsageFault(f"`{JOB_WORD}` is followed by jobs, as `pop sweep --list` prints them")
+    for word in words:
+        print(result_of(read_job(word)).line(), flush=True)
+    return DONE
+
+
+def _print_as_given(text: str) -> None:
+    """Prints words for a shell: a name that is no UTF-8 by its own bytes."""
+    sys.stdout.flush()
+    sys.stdout.buffer.write(os.fsencode(text) + b"\n")
+
+
+def _print_jobs(jobs: list[Job], chunk: int) -> None:
+    """Prints a command for each job, or for so many together."""
+    for at in range(0, len(jobs), chunk):
+        some = [job.text() for job in jobs[at : at + chunk]]
+        _print_as_given(shlex.join([str(POP), "sweep", JOB_WORD, *some]))
+
+
+def _rows(groups: list[Group], gathered: Gathered) -> list[Row]:
+    rows = []
+    for group in groups:
+        results = [gathered.found[name] for name in map(Job.text, group.jobs) if name in gathered.found]
+        if results:
+            rows.append(row_of(group.net, group.crowd, results))
+    return rows
+
+
+def _carry_out(given: Given, jobs: list[Job], gathered: Gathered) -> None:
+    progress = Progress()
+
+    def told() -> None:
+        progress(lambda: f"{len(gathered.found):,} of {len(jobs):,} runs")
+
+    places, hosts = given.whole("--jobs"), given.text("--hosts")
+    try:
+        if places > 1 or hosts:
+            shared(jobs, places, hosts, gathered, told)
+        else:
+            done_here(gathered.missing(jobs), gathered, told)
+    finally:
+        progress.end()
+
+
+def run(given: Given) -> int:
+    """Prints the table and how meetings grow; 4 where runs are missing."""
+    gather, csv, journal = given.text("--gather"), given.text("--csv"), given.text("--journal")
+    groups = _groups(given)
+    jobs = [job for group in groups for job in group.jobs]
+    gathered = Gathered(jobs)
+    if gather is not None:
+        read_folder(gather, gathered)
+        if gathered.odd:
+            print(
+                f"pop: {gathered.odd} line{'' if gathered.odd == 1 else 's'} of {gather} that "
+                f"{'is no result' if gathered.odd == 1 else 'are no results'} {'is' if gathered.odd == 1 else 'are'} passed over",
+                file=sys.stderr,
+            )
+    if given.has("--list"):
+        _print_jobs(gathered.missing(jobs), given.whole("--chunk"))
+        return DONE
+    if gather is None and journal is not None:
+        with journal_of(journal, gathered):
+            _carry_out(given, jobs, gathered)
+    elif gather is None:
+        _carry_out(given, jobs, gathered)
+    rows = _rows(groups, gathered)
+    missing = len(gathered.missing(jobs))
+    if not rows:
+        raise InputFault(f"none of the {len(jobs)} runs has a result")
+    if csv is not None:
+        write_text(csv, csv_text(rows, _told(given)))
+    print(aligned(rows))
+    print("\n".join(["", *growths(rows), "measured, and not proved"]))
+    if missing:
+        print(
+            f"pop: {missing} of {len(jobs)} runs are missing; `--list` prints those that `--gather` doesn't find",
+            file=sys.stderr,
+        )
+    return UNDECIDED if missing else DONE

@@ -1,0 +1,291 @@
+"""Protocols as values: what the program says of them, what is found, and how their crowds behave."""
+from __future__ import annotations
+
+from html import escape
+from typing import Any, Iterable, Sequence
+
+from ..compiler.drafts import NotBuilt as NoLeaf
+from ..compiler.whole import Helpers
+from ..engine import program
+from ..engine.compiling import Way, make_bundle
+from ..engine.places import BY_SCRIPT
+from ..engine.program import NoProgram
+from ..faults import InputFault, UsageFault
+from ..protocol.nets import Net
+from ..protocol.predicates import read_predicate, value_at
+from ..simulation.carrying import Limits, carry_out
+from ..simulation.crowds import counts_of, crowd_words
+from ..simulation.curves import Recorder
+from ..simulation.seeds import seed_of
+from ..simulation.simulation import ENDLESS, Simulation, Stop
+from ..simulation.sweepjobs import BY_SIMULATE, mark_of
+from ..text.files import Loaded, LoadedBundle, load_path, strict_bundle, with_predicate
+from ..text.files import load as load_text
+from ..text.relaxed import in_form
+from ..text.writer import text_of
+from .results import Found, Refuted, Run, Runs, Table, Verdict
+
+SECONDS, SMALLER, AGENTS, RUNS = 60.0, 4.0, 6, 20
+GIVEN = "the text"
+
+
+class NotBuilt(NoProgram):
+    """The proved program isn't there: `bin/pop build` proves and builds it, or POP_MAIN names one."""
+
+
+def _ready() -> None:
+    """NotBuilt where the program would have to be built first."""
+    try:
+        found = program.program_path()
+    except NoProgram as fault:
+        raise NotBuilt(str(fault)) from None
+    if found == str(BY_SCRIPT):
+        raise NotBuilt("the proved program isn't built: `bin/pop build` proves and builds it, in about half an hour")
+
+
+class Protocol:
+    """A net with its predicate, and with a proof if it has one."""
+
+    def __init__(self, loaded: Loaded) -> None:
+        self._loaded = loaded
+
+    @classmethod
+    def parse(cls, text: str, name: str = GIVEN) -> Protocol:
+        """The protocol of a `.pop` text or of JSON; InputFault says what is wrong and where."""
+        return cls(load_text(text, name))
+
+    @property
+    def net(self) -> Net:
+        """The net: leaves side by side, and the combination of their outputs."""
+        return self._loaded.net
+
+    @property
+    def predicate(self) -> str | None:
+        """The predicate's text, if there is one."""
+        return self._loaded.predicate
+
+    @property
+    def warnings(self) -> list[str]:
+        """What is probably not meant."""
+        return list(self._loaded.warnings)
+
+    def computes(self, predicate: str) -> Protocol:
+        """The same net with another predicate, as people write them (`x >= y`); it has no proof."""
+        form, _ = in_form(predicate, list(self.net.names))
+        made = Protocol.parse(self.text(), self._loaded.name)
+        return Protocol(with_predicate(made._loaded, form))
+
+    def text(self) -> str:
+        """The protocol as a `.pop` file, with its proof if it has a whole one."""
+        loaded = self._loaded
+        return text_of(loaded.net, strict_bundle(loaded) if self.has_proof else None, loaded.labels)
+
+    @property
+    def has_proof(self) -> bool:
+        """Whether there is a whole proof."""
+        loaded = self._loaded
+        return (
+            isinstance(loaded, LoadedBundle)
+            or bool(loaded.drafts)
+            and all(draft.is_given for draft in loaded.drafts or [])
+        )
+
+    def check(self) -> Verdict:
+        """What the proved program says of the proof; InputFault where there is none."""
+        _ready()
+        return _verdict(program.check(strict_bundle(self._loaded).line()).first_line)
+
+    def find(self, seconds: float = SECONDS, jobs: int | None = None) -> Found:
+        """Looks for a proof, which the program certifies, and for a counterexample, which it plays."""
+        _ready()
+        from ..search.finding import find
+        from ..search.jobs import processors
+        from ..show.telling import failure_told
+
+        outcome = find(self._loaded, seconds, SMALLER, jobs or processors())
+        if outcome.flaw is not None:
+            refuted = self._refuted(outcome.flaw)
+            return Found(None, None, refuted, refuted.told)
+        if outcome.bundle is None:
+            return Found(None, None, None, failure_told(self._loaded, outcome.failures[0]))
+        line = outcome.bundle.line()
+        verdict = _verdict(program.check(line).first_line)
+        protocol = Protocol.parse(line, self._loaded.name) if verdict else None
+        return Found(protocol, verdict, None, verdict.line)
+
+    def refute(self, agents: int = AGENTS, seconds: float = SECONDS) -> Refuted | None:
+        """A counterexample among all inputs of up to so many agents, played by the program; None where there is none."""
+        _ready()
+        from ..search.explore import explore
+        from ..search.whole import system_of
+
+        flaw, _ = explore(system_of(self.net), self._loaded.whole_tree(), agents, seconds, meets=self._loaded.meets)
+        return None if flaw is None else self._refuted(flaw)
+
+    def _refuted(self, flaw: Any) -> Refuted:
+        from ..search.playing import play
+        from ..show.telling import flaw_told
+
+        tree = self._loaded.whole_tree()
+        played = play(self.net, flaw, value_at(tree, flaw.counts)) if flaw.by_meetings else None
+        told = flaw_told(self.net, tree, self.predicate or "", flaw, played)
+        return Refuted(dict(zip(self.net.names, flaw.counts)), told)
+
+    def simulate(self, seed: int = 0, until: str = "terminal", changes: int | None = None, **counts: int) -> Run:
+        """One run from so many agents for each variable; helpers are added. Measured, and not proved."""
+        chosen = self._counts(counts)
+        value = None
+        if self.predicate is not None:
+            value = value_at(read_predicate(self.predicate, self.net.names), chosen)
+        run, recorder = Simulation(self.net, chosen, seed), Recorder()
+        carry_out(run, Limits(until=Stop(until), changes=changes), value, recorder.watch(run))
+        curve = recorder.curve(run, self._loaded.name, "", seed)
+        return Run(
+            crowd={run.reactions.name(word): k for word, k in run.crowd().items()},
+            agents=run.agents,
+            meetings=run.meetings,
+            changes=run.changes,
+            last_change=run.last_change,
+            agreed=run.since,
+            output=run.output,
+            terminal=run.is_terminal,
+            right=None if value is None else run.output == value,
+            times=[meetings / run.agents for meetings in curve.times],
+            curves={name: [row[i] for row in curve.rows] for i, name in enumerate(curve.names)},
+        )
+
+    def ensemble(
+        self, every: float, runs: int = RUNS, seed: int = 0, meetings: int | None = None, **counts: int
+    ) -> Runs:
+        """Many runs, each looked at after every so many meetings per agent, up to its end or so many meetings."""
+        from ..simulation.ensembles import ensemble
+
+        if every <= 0 or runs < 1:
+            raise InputFault("the grid of an ensemble has steps above 0, and there is one run at least")
+        chosen = self._counts(counts)
+        made = ensemble(self.net, chosen, seed, runs, every, ENDLESS if meetings is None else meetings, self._loaded.name)
+        by_state = {name: [[row[i] for row in rows] for rows in made.rows] for i, name in enumerate(made.names)}
+        return Runs(made.times, by_state, made.agents, made.terminal)
+
+    def sweep(self, runs: int = RUNS, seed: int = 0, progress: bool = False, **sizes: int | Iterable[int]) -> Table:
+        """Many runs for each size: `sweep(x=[10, 100, 1000], y=5)`; ranges go in step."""
+        from ..simulation.growth import quantile
+
+        ranges = {name: [size] if isinstance(size, int) else list(size) for name, size in sizes.items()}
+        length = max((len(values) for values in ranges.values()), default=0)
+        if any(len(values) not in (1, length) for values in ranges.values()):
+            raise InputFault("the ranges of a sweep are equally long, or of one size")
+        rows: list[dict[str, Any]] = []
+        for i in _told(range(length), progress):
+            counts = {name: values[i if len(values) > 1 else 0] for name, values in ranges.items()}
+            made = [self.simulate(self._stream(seed + k, counts), "terminal", None, **counts) for k in range(runs)]
+            ends = sorted(float(run.last_change) for run in made if run.terminal)
+            figures = {f"{part:.0%} end": quantile(ends, part) for part in (0.25, 0.5, 0.75)} if ends else {}
+            wrong = sum(run.right is False for run in made) if self.predicate is not None else None
+            rows.append(
+                {**counts, "agents": made[0].agents, "runs": runs, "ended": len(ends), "wrong": wrong, **figures}
+            )
+        return Table(rows)
+
+    def _stream(self, seed: int, counts: dict[str, int]) -> int:
+        """The seed with which `bin/pop sweep` runs the same."""
+        crowd = crowd_words(self.net, self._counts(counts))
+        return seed_of(BY_SIMULATE, crowd, str(seed), mark_of(self._loaded))
+
+    def _counts(self, counts: dict[str, int]) -> tuple[int, ...]:
+        """The counts of all variables; InputFault where they make no crowd."""
+        try:
+            return counts_of(self.net, [f"{name}={k}" for name, k in counts.items()])
+        except UsageFault as fault:
+            raise InputFault(str(fault)) from None
+
+    def explain(self) -> str:
+        """Layers, trees and facts by names, with the program's line first."""
+        _ready()
+        from ..show.drawing import drawn
+        from ..show.explaining import bundle_to_explain, explain
+
+        bundle = bundle_to_explain(self._loaded)
+        return drawn(explain(self._loaded, bundle, program.check(bundle.line()).first_line))
+
+    def __repr__(self) -> str:
+        leaves = self.net.leaves
+        states = " + ".join(str(len(leaf.states)) for leaf in leaves)
+        helpers = f", {len(leaves[0].helpers)} helpers" if leaves[0].helpers else ""
+        proof = "with a proof" if self.has_proof else "without a proof"
+        return f"<Protocol of {self.predicate or 'no predicate'}: {states} states{helpers}, {proof}>"
+
+    def _repr_html_(self) -> str:
+        return f"<pre>{escape(self.text())}</pre>"
+
+
+def _told(items: Sequence[int], progress: bool) -> Iterable[int]:
+    """The items, with a bar by tqdm where that is wanted and there."""
+    if not progress:
+        return items
+    try:
+        from tqdm.auto import tqdm
+    except ImportError:
+        return items
+    bar: Iterable[int] = tqdm(items)
+    return bar
+
+
+def _verdict(line: str) -> Verdict:
+    word, _, rest = line.partition(" ")
+    certified = word == "certified"
+    return Verdict(line, certified, int(rest) if certified else None)
+
+
+def load(path: str) -> Protocol:
+    """The protocol of a file: `.pop`, a net or a bundle in JSON."""
+    return Protocol(load_path(path))
+
+
+def compile(predicate: str, helpers: bool = True) -> Protocol:
+    """A protocol for a predicate, with its proof: the smaller of the program's net and a succinct one, certified.
+
+    Without helpers where `helpers` is false; InputFault where there is none within the limits.
+    """
+    _ready()
+    form, names = in_form(predicate, None)
+    try:
+        if helpers:
+            made = make_bundle(names, form)
+        else:
+            made = make_bundle(names, form, Way.SUCCINCT, Helpers.NONE)
+    except NoLeaf as why:
+        raise InputFault(str(why)) from None
+    if made.answer.status != program.DONE:
+        raise InputFault(made.answer.first_line)
+    return Protocol.parse(made.answer.first_line, f"the net of {form}")
+
+
+def check(path: str) -> Verdict:
+    """What the program says of the bundle in a file."""
+    return load(path).check()
+
+
+def find(path: str, seconds: float = SECONDS) -> Found:
+    """Looks for a proof of the protocol in a file."""
+    return load(path).find(seconds)
+
+
+def refute(path: str, agents: int = AGENTS, seconds: float = SECONDS) -> Refuted | None:
+    """A counterexample to the protocol in a file."""
+    return load(path).refute(agents, seconds)
+
+
+def simulate(path: str, seed: int = 0, **counts: int) -> Run:
+    """One run of the protocol in a file."""
+    return load(path).simulate(seed, "terminal", None, **counts)
+
+
+def sweep(path: str, runs: int = RUNS, **sizes: int | Iterable[int]) -> Table:
+    """Many runs of the protocol in a file."""
+    return load(path).sweep(runs, 0, False, **sizes)
+
+
+def explain(path: str) -> str:
+    """The proof in a file, by names."""
+    return load(path).explain()

@@ -1,0 +1,147 @@
+"""What the calls of the library give: verdicts, counterexamples, runs and tables, shown well in a notebook."""
+from __future__ import annotations
+
+from dataclasses import dataclass, field
+from html import escape
+from typing import TYPE_CHECKING, Any, Iterator
+
+if TYPE_CHECKING:
+    from pandas import DataFrame
+
+    from .protocols import Protocol
+
+
+@dataclass(frozen=True)
+class Verdict:
+    """The program's line on a bundle. `bound` is the number behind `certified`: steps for each agent; None if rejected."""
+
+    line: str
+    certified: bool
+    bound: int | None
+
+    def __repr__(self) -> str:
+        return self.line
+
+    def __bool__(self) -> bool:
+        return self.certified
+
+
+@dataclass(frozen=True)
+class Refuted:
+    """An input for which the protocol goes wrong: the counts of the variables, and what is said of it."""
+
+    counts: dict[str, int]
+    told: str
+
+    def __repr__(self) -> str:
+        return self.told
+
+
+@dataclass(frozen=True)
+class Found:
+    """What came of `find`: a certified protocol with its proof, or a counterexample, or neither; `told` says what."""
+
+    protocol: Protocol | None
+    verdict: Verdict | None
+    refuted: Refuted | None
+    told: str
+
+    def __repr__(self) -> str:
+        return self.told
+
+    def __bool__(self) -> bool:
+        return self.protocol is not None
+
+
+@dataclass(frozen=True, kw_only=True)
+class Run:
+    """A simulated run. `crowd` has the number of agents for each state at the end; `agreed` is the meeting since which all output the same."""
+
+    crowd: dict[str, int]
+    agents: int
+    meetings: int
+    changes: int
+    last_change: int
+    agreed: int | None
+    output: bool | None
+    terminal: bool
+    right: bool | None
+    times: list[float] = field(repr=False, default_factory=list)
+    curves: dict[str, list[int]] = field(repr=False, default_factory=dict)
+
+    @property
+    def parallel_time(self) -> float:
+        """Meetings for each agent."""
+        return self.meetings / self.agents
+
+    def frame(self) -> DataFrame:
+        """The curve as a table of pandas: a row for each time (meetings for each agent), a column for each state."""
+        from pandas import DataFrame as Frame
+
+        return Frame(self.curves, index=self.times)
+
+    def _repr_html_(self) -> str:
+        rows = "".join(f"<tr><td>{escape(name)}</td><td>{count:,}</td></tr>" for name, count in self.crowd.items())
+        end = "terminal" if self.terminal else "not terminal"
+        return (
+            f"<table><tr><th>state</th><th>agents</th></tr>{rows}</table>"
+            f"<p>{self.meetings:,} meetings, {self.parallel_time:.4g} for each agent; {end}; measured, not proved</p>"
+        )
+
+
+@dataclass(frozen=True)
+class Runs:
+    """Many runs of one crowd on one grid of times. `counts[state][run][time]` are agents; a run that has ended stays as it is."""
+
+    times: list[float]
+    counts: dict[str, list[list[int]]] = field(repr=False)
+    agents: int
+    terminal: int
+
+    def __len__(self) -> int:
+        return len(next(iter(self.counts.values())))
+
+    def mean(self, state: str) -> list[float]:
+        """The mean number of agents in a state at each time."""
+        return [sum(now) / len(now) for now in zip(*self.counts[state])]
+
+    def frame(self) -> DataFrame:
+        """A table of pandas: a row for each run and time, a column for each state."""
+        from pandas import DataFrame as Frame
+        from pandas import MultiIndex
+
+        index = MultiIndex.from_product([range(len(self)), self.times], names=["run", "time"])
+        return Frame({name: [k for run in runs for k in run] for name, runs in self.counts.items()}, index=index)
+
+    def _repr_html_(self) -> str:
+        rows = "".join(f"<tr><td>{escape(name)}</td><td>{self.mean(name)[-1]:,.4g}</td></tr>" for name in self.counts)
+        return (
+            f"<table><tr><th>state</th><th>mean at the end</th></tr>{rows}</table>"
+            f"<p>{len(self)} runs of {self.agents:,} agents, of which {self.terminal} ended; measured, not proved</p>"
+        )
+
+
+@dataclass(frozen=True)
+class Table:
+    """Runs over sizes: a row for each size, with quartiles of the meetings to the end."""
+
+    rows: list[dict[str, Any]]
+
+    def frame(self) -> DataFrame:
+        """The rows as a table of pandas."""
+        from pandas import DataFrame as Frame
+
+        return Frame(self.rows)
+
+    def __iter__(self) -> Iterator[dict[str, Any]]:
+        return iter(self.rows)
+
+    def __len__(self) -> int:
+        return len(self.rows)
+
+    def _repr_html_(self) -> str:
+        if not self.rows:
+            return "<p>no runs</p>"
+        head = "".join(f"<th>{escape(name)}</th>" for name in self.rows[0])
+        body = "".join("<tr>" + "".join(f"<td>{cell}</td>" for cell in row.values()) + "</tr>" for row in self.rows)
+        return f"<table><tr>{head}</tr>{body}</table><p>measured, not proved</p>"

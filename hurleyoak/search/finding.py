@@ -1,0 +1,138 @@
+"""Looks for the proofs of all leaves side by side, and says what came of it."""
+from __future__ import annotations
+
+import time
+from dataclasses import dataclass, field
+from importlib import import_module
+from typing import Callable, Iterator
+
+from ..faults import InputFault
+from ..text.files import Loaded, predicates_differ
+from ..text.proofreader import ProofDraft
+from ..proof.bundles import Bundle, LeafProof
+from .flaws import RESTLESS, Flaw
+from .howfar import Going
+from .jobs import FALSE, FLAW, LAYERS, MISSES, NO_LAYERS, TRUE, WHOLE, WRONG_END, Result, Task, results, work
+
+ORDER = (MISSES, RESTLESS, NO_LAYERS, WRONG_END)  # which failure is told where there are several
+
+
+@dataclass
+class Outcome:
+    """A bundle that no one has certified yet; or a flaw of the net; or failures, the one to be told first."""
+
+    bundle: Bundle | None = None
+    flaw: Flaw | None = None
+    failures: list[Result] = field(default_factory=list)
+    done: dict[tuple[str, int], Result] = field(default_factory=dict)
+    seconds: float = 0.0
+
+    def told(self) -> list[str]:
+        """What was found of each leaf, in a line."""
+        out = []
+        for i in range(1 + max(at for _, at in self.done)):
+            layers, true, false = (self.done[kind, i] for kind in (LAYERS, TRUE, FALSE))
+            bound = sum(layer.spread for layer in layers.layers)
+            out.append(
+                f"leaf {i}: {len(layers.layers)} layer{'' if len(layers.layers) == 1 else 's'}, bound {bound} ({layers.seconds:.1f} s); "
+                f"trees of {len(true.tree)} and {len(false.tree)} nodes ({true.seconds:.1f} s, {false.seconds:.1f} s)"
+            )
+        return out
+
+
+def drafts_of(loaded: Loaded, anew: bool) -> list[ProofDraft]:
+    """What is written of the leaves' proofs: nothing where they are looked for anew. InputFault where it names what isn't there."""
+    if anew or loaded.drafts is None:
+        return [ProofDraft() for _ in loaded.net.leaves]
+    for draft in loaded.drafts:
+        for note in draft.notes:
+            raise note.place.fault(note.told).of_input(loaded.name)
+    return loaded.drafts
+
+
+def tasks_of(loaded: Loaded, drafts: list[ProofDraft], seconds: float, small: float) -> list[Task]:
+    """The tasks, small crowds first, as they answer soonest: those of the whole net, and of each leaf where there are several."""
+    trees = loaded.part_trees()
+    net, whole = loaded.net, loaded.whole_tree()
+    both = list(enumerate(zip(net.leaves, trees)))
+    tasks = [whole_task(loaded, seconds, small)]
+    if len(both) > 1:
+        tasks += [Task(FLAW, i, leaf, tree, seconds, small, net=net, whole=whole) for i, (leaf, tree) in both]
+    for i, (leaf, tree) in both:
+        tasks.append(Task(LAYERS, i, leaf, tree, seconds, small, layers=drafts[i].layers, net=net, whole=whole))
+        for kind in (TRUE, FALSE):
+            tasks.append(
+                Task(kind, i, leaf, tree, seconds, small, nodes=drafts[i].tree(kind == TRUE), net=net, whole=whole)
+            )
+    return tasks
+
+
+def whole_task(loaded: Loaded, seconds: float, small: float) -> Task:
+    """Small crowds of the whole net."""
+    whole = loaded.whole_tree()
+    return Task(FLAW, WHOLE, loaded.net.leaves[0], whole, seconds, small, net=loaded.net, whole=whole)
+
+
+def find(
+    loaded: Loaded,
+    seconds: float,
+    small: float,
+    jobs: int,
+    anew: bool = False,
+    begins: Callable[[list[Task]], None] | None = None,
+    came: Callable[[Result], None] | None = None,
+    going: Going | None = None,
+) -> Outcome:
+    """What came of it; InputFault where the input has no predicate, or predicates that don't fit.
+
+    `begins` is told which tasks there are, `came` what came of each, and `going` how far each is.
+    """
+    start = time.time()
+    if loaded.predicate is not None and (loaded.parts is None or predicates_differ(loaded)):
+        out = Outcome(flaw=work(whole_task(loaded, seconds, small)).flaw, seconds=time.time() - start)
+        if out.flaw is not None:
+            return out
+        loaded.part_trees()
+        raise InputFault(
+            "the leaves' predicates combine to another tree than the whole predicate's (docs/guide/certificates.md, \"How a predicate becomes a tree\")"
+        )
+    tasks = tasks_of(loaded, drafts_of(loaded, anew), seconds, small)
+    # (before processes are made, so that they share what is loaded, and a missing package is told once)
+    import_module(".highs", __package__)
+    import_module(".layerjob", __package__)
+    import_module(".treefinder", __package__)
+    if begins:
+        begins(tasks)
+    out = _done(tasks, results(tasks, jobs, going), came)
+    if out.flaw is None and not out.failures:
+        out.bundle = _assembled(loaded, out)
+    out.seconds = time.time() - start
+    return out
+
+
+def _done(tasks: list[Task], coming: Iterator[Result], came: Callable[[Result], None] | None) -> Outcome:
+    """What comes of the tasks, up to a flaw of the net, or to a failure once small crowds were tried."""
+    out = Outcome()
+    small_crowds = {task.at for task in tasks if task.kind == FLAW}
+    for result in coming:
+        if came:
+            came(result)
+        out.done[result.kind, result.at] = result
+        if result.flaw is not None:
+            out.flaw = result.flaw
+            break
+        if result.why:
+            out.failures.append(result)
+        if out.failures and all((FLAW, i) in out.done for i in small_crowds):
+            break
+    out.failures.sort(key=lambda result: ORDER.index(result.why) if result.why in ORDER else len(ORDER))
+    return out
+
+
+def _assembled(loaded: Loaded, out: Outcome) -> Bundle:
+    assert loaded.parts is not None and loaded.predicate is not None
+    parts = [
+        LeafProof(text, tuple(out.done[LAYERS, i].layers), out.done[TRUE, i].tree, out.done[FALSE, i].tree)
+        for i, text in enumerate(loaded.parts)
+    ]
+    return Bundle(loaded.net, loaded.predicate, tuple(parts))

@@ -1,0 +1,250 @@
+"""The work of `find` cut into tasks, which the processors share: small crowds, layers, and two trees for each leaf."""
+from __future__ import annotations
+
+import multiprocessing
+import os
+import signal
+import sys
+import threading
+from dataclasses import dataclass, field
+from enum import StrEnum
+from typing import Any, Callable, Iterator, Sequence
+
+from ..protocol.nets import Leaf, Net
+from ..protocol.predicates import Predicate
+from ..text.proofreader import LayerDraft
+from ..text.treereader import DraftNode
+from ..proof.bundles import Layer, Tree
+from .candidates import candidate_order, flaw_by, net_flaw_by
+from . import howfar
+from .explore import explore, by_arrays
+from .flaws import RESTLESS, Flaw, Tried
+from .limits import clock
+from .ordering import Order
+from .whole import system_of
+
+
+class TaskKind(StrEnum):
+    """What a task looks for."""
+
+    FLAW = "small crowds"
+    LAYERS = "layers"
+    TRUE = "true"
+    FALSE = "false"
+
+
+FLAW, LAYERS, TRUE, FALSE = TaskKind.FLAW, TaskKind.LAYERS, TaskKind.TRUE, TaskKind.FALSE
+
+STACK_BYTES = 512 << 20
+DEEP = 200_000
+FLAW_SECONDS = 2.0  # for small crowds, at most a tenth of all
+FLAW_AGENTS = 7
+CANDIDATE_SECONDS = 10.0
+
+
+@dataclass
+class Task:
+    """One task of one leaf, or of the whole net; `net` and `whole` are the net and its predicate."""
+
+    kind: TaskKind
+    at: int
+    leaf: Leaf
+    tree: Predicate
+    seconds: float
+    small: float
+    nodes: Sequence[DraftNode] | None = None
+    layers: Sequence[LayerDraft] | None = None
+    net: Net | None = None
+    whole: Predicate | None = None
+
+
+@dataclass
+class Result:
+    """What came of a task; `why` is empty where it was done, else `restless`, `misses`, `wrong end`, `no layers`, `gave up`.
+
+    `flaw` is one of the whole net, `missed` one of a leaf for its own predicate.
+    """
+
+    kind: TaskKind
+    at: int
+    seconds: float = 0.0
+    layers: list[Layer] = field(default_factory=list)
+    tree: Tree = ()
+    flaw: Flaw | None = None
+    missed: Flaw | None = None
+    restless: Flaw | None = None
+    tried: Tried = field(default_factory=Tried)
+    why: str = ""
+    told: str = ""
+    point: list[int] = field(default_factory=list)
+    order: Order | None = None
+    crowds: int | None = None
+    moves: list[int] = field(default_factory=list)
+    are_none: bool = False
+
+
+MISSES, WRONG_END, NO_LAYERS, GAVE_UP = "misses", "wrong end", "no layers", "gave up"
+WHOLE = -1  # in the place of a leaf's number: the whole net
+
+
+def _layers(task: Task, result: Result, deadline: float) -> None:
+    from .layerjob import NoLayers, fill_layers, find_layers
+
+    try:
+        result.layers = (
+            find_layers(task.leaf, deadline) if task.layers is None else fill_layers(task.leaf, task.layers, deadline)
+        )
+    except NoLayers as none:
+        result.why, result.told, result.moves, result.are_none = NO_LAYERS, none.told, none.moves, none.is_shown
+
+
+def _tree(task: Task, result: Result, deadline: float) -> None:
+    from .branch import GaveUp, WrongEnd
+    from .solver import Trouble
+    from .treefinder import find_tree
+
+    try:
+        result.tree = find_tree(task.leaf, task.tree, task.kind == TRUE, task.nodes, deadline, task.small)
+    except WrongEnd as end:
+        result.why, result.point = WRONG_END, end.point
+        if _ordered(task, result):
+            return
+        found = by_arrays()(
+            task.leaf, task.tree, tuple(end.point[: len(task.leaf.inputs)]), clock() + CANDIDATE_SECONDS
+        )
+        if isinstance(found, Flaw) and found.kind == RESTLESS:
+            result.why, result.restless = RESTLESS, found
+        elif isinstance(found, Flaw):
+            _missed(task, result, found)
+        else:
+            result.crowds = found
+    except (GaveUp, Trouble) as none:
+        result.why, result.told = GAVE_UP, str(none)
+
+
+def _ordered(task: Task, result: Result) -> bool:
+    """Whether the candidate's own moves lead to a flaw: of the net, or of the leaf alone."""
+    assert task.net is not None and task.whole is not None
+    result.order = candidate_order(task.leaf, result.point, CANDIDATE_SECONDS)
+    counts = tuple(result.point[: len(task.leaf.inputs)])
+    missed = flaw_by(task.leaf, task.tree, counts, result.order) if result.order.is_found else None
+    if missed is None:
+        return False
+    result.flaw = net_flaw_by(task.net, task.whole, task.at, missed)
+    if result.flaw is not None:
+        result.why = ""
+    else:
+        _missed(task, result, missed)
+    return True
+
+
+def _missed(task: Task, result: Result, missed: Flaw) -> None:
+    """A leaf's flaw: it is one of the net where the net is wrong at this input too."""
+    assert task.net is not None and task.whole is not None
+    found = by_arrays()(system_of(task.net), task.whole, missed.counts, clock() + CANDIDATE_SECONDS)
+    if isinstance(found, Flaw) and found.kind != RESTLESS:
+        result.why, result.flaw = "", found
+    else:
+        result.why, result.missed = MISSES, missed
+
+
+def _small(task: Task, result: Result) -> None:
+    """Small crowds: of the whole net, or of a leaf for its own predicate."""
+    assert task.net is not None and task.whole is not None
+    system, tree = (system_of(task.net), task.whole) if task.at == WHOLE else (task.leaf, task.tree)
+    flaw, result.tried = explore(
+        system,
+        tree,
+        FLAW_AGENTS,
+        min(FLAW_SECONDS, task.seconds / 10),
+        lambda tried, agents: howfar.note((agents - 1) / FLAW_AGENTS),
+    )
+    if flaw is not None and task.at == WHOLE:
+        result.flaw = flaw
+    elif flaw is not None:
+        _missed(task, result, flaw)
+    elif result.tried.restless is not None:
+        result.why, result.restless = RESTLESS, result.tried.restless
+
+
+def work(task: Task) -> Result:
+    """Does one task."""
+    start = clock()
+    result = Result(task.kind, task.at)
+    deadline = start + task.seconds
+    if task.kind == FLAW:
+        _small(task, result)
+    elif task.kind == LAYERS:
+        _layers(task, result, deadline)
+    else:
+        _tree(task, result, deadline)
+    result.seconds = clock() - start
+    return result
+
+
+def deep(call: Callable[[], Any]) -> Any:
+    """Runs a call with a stack for deep trees."""
+    sys.setrecursionlimit(DEEP)
+    threading.stack_size(STACK_BYTES)
+    box: list[Any] = []
+    faults: list[BaseException] = []
+
+    def run() -> None:
+        try:
+            box.append(call())
+        except BaseException as fault:  # noqa: B036  handed on to the caller
+            faults.append(fault)
+
+    thread = threading.Thread(target=run)
+    thread.start()
+    thread.join()
+    if faults:
+        raise faults[0]
+    return box[0]
+
+
+def deep_work(numbered: tuple[int, Task]) -> Result:
+    """Does one task with a stack for deep trees."""
+    number, task = numbered
+    howfar.begin(number)
+    result: Result = deep(lambda: work(task))
+    return result
+
+
+def processors() -> int:
+    """How many processors this process may use."""
+    return len(os.sched_getaffinity(0))
+
+
+def _begin_worker(shares: howfar.Shares) -> None:
+    """A process that works for another one has nothing to take back when it is asked to end."""
+    signal.signal(signal.SIGTERM, signal.SIG_DFL)
+    howfar.serve(shares)
+
+
+def results(tasks: Sequence[Task], jobs: int, going: howfar.Going | None = None) -> Iterator[Result]:
+    """The results as they come; with one job, in the order of the tasks. Who stops listening ends the work that is left.
+
+    `going` is told now and then how far each task is, where several processes work.
+    """
+    if jobs <= 1 or len(tasks) <= 1:
+        yield from map(deep_work, enumerate(tasks))
+        return
+    # (threads of a linear algebra library would only be in each other's way)
+    os.environ.setdefault("OMP_NUM_THREADS", "1")
+    shares = howfar.shared(len(tasks))
+    with multiprocessing.get_context("fork").Pool(min(jobs, len(tasks)), _begin_worker, (shares,)) as pool:
+        coming = pool.imap_unordered(deep_work, enumerate(tasks))
+        for _ in tasks:
+            yield _next(coming, shares, going)
+
+
+def _next(coming: Any, shares: howfar.Shares, going: howfar.Going | None) -> Result:
+    """The next result; until it comes, how far the tasks are is told."""
+    while True:
+        try:
+            result: Result = coming.next(howfar.LOOK if going else None)
+            return result
+        except multiprocessing.TimeoutError:
+            assert going is not None
+            going(list(shares))

@@ -1,0 +1,89 @@
+"""The tree for one value: searched in several ways where there is time, and made smaller."""
+from __future__ import annotations
+
+from typing import Sequence
+
+from ..protocol.nets import Leaf
+from ..protocol.predicates import Predicate
+from ..text.treereader import DraftNode
+from ..proof.bundles import Hole, Tree
+from .branch import FLOATS, GaveUp, WrongEnd, greatest_number
+from ..proof.items import Cases
+from .limits import Limit
+from .search import Prover, Way
+from .shrinking import shrunk
+from .solver import Trouble
+from .tightening import tightened
+from .trees import Grown, written
+
+WAYS = (
+    Way(6, is_told=True),
+    Way(6, is_plain=True),
+    Way(2, is_plain=True),
+)  # one search after the other; the smallest tree is kept
+ENOUGH = 5  # nodes of a tree that is small as it is
+FAR = 2  # a tree that is so many times larger than another is left as it is
+
+Found = tuple[Prover, Grown]
+
+
+def _searched(
+    cases: Cases, tree: Predicate, value: bool, nodes: Sequence[DraftNode], limit: Limit, way: Way, exact: bool
+) -> Found:
+    """One search; in exact numbers where floats won't do."""
+    made = Prover(cases, tree, value, limit, way, exact)
+    try:
+        return made, made.proved(nodes)
+    except Trouble:
+        if exact:
+            raise
+        made = Prover(cases, tree, value, limit, way, True)
+        return made, made.proved(nodes)
+
+
+def _less(found: Found, limit: Limit, exact: bool) -> Found:
+    """The tree with nodes dropped that it can do without; exact numbers take too long for that."""
+    made, root = found
+    return (made, root) if exact else (made, shrunk(made, root, limit))
+
+
+def _smallest(
+    cases: Cases, tree: Predicate, value: bool, first: Found, limit: Limit, more: Limit, exact: bool
+) -> Found:
+    """The smallest of the trees that are found in all ways, made smaller in its parts; a way is gone while there is `more` time."""
+    best = _less(first, limit, exact)
+    for way in WAYS[1:]:
+        if best[1].size <= ENOUGH or more.is_over():
+            break
+        try:
+            found = _searched(cases, tree, value, [Hole()], limit, way, exact)
+        except (WrongEnd, GaveUp, Trouble):
+            continue
+        if found[1].size > FAR * best[1].size:
+            continue
+        found = _less(found, limit, exact)
+        if found[1].size < best[1].size:
+            best = found
+    made, root = best
+    if root.size > ENOUGH and not exact and not limit.is_over():
+        made.limit = limit
+        root = tightened(made, root)
+    return made, root
+
+
+def find_tree(
+    leaf: Leaf, tree: Predicate, value: bool, nodes: Sequence[DraftNode] | None, deadline: float, small: float
+) -> Tree:
+    """The nodes for a value of the predicate, those that are given kept; or WrongEnd, GaveUp or Trouble.
+
+    Where all of the tree is to be found, up to `small` seconds of this process's work then make it smaller.
+    """
+    limit = Limit(deadline)
+    more = limit.after(small * 3 / 4)
+    cases = Cases(leaf)
+    given: Sequence[DraftNode] = nodes if nodes is not None else [Hole()]
+    exact = greatest_number(tree) > FLOATS
+    found = _searched(cases, tree, value, given, limit, WAYS[0], exact)
+    if len(given) == 1 and isinstance(given[0], Hole) and small > 0:
+        found = _smallest(cases, tree, value, found, limit.after(small), more, exact)
+    return written(found[0].base, found[1])

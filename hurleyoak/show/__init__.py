@@ -1,0 +1,1 @@
+"""What a person is shown: explanations, sentences, pages, plots and drawings."""

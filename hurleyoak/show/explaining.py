@@ -1,0 +1,230 @@
+"""What there is to say of a proof: layers as tables, trees with their facts, and what is missing where it is refused.
+
+The first line is the proved program's; all else is the workbench's own reading of the same bundle.
+"""
+from __future__ import annotations
+
+from dataclasses import dataclass, field
+
+from ..proof.branches import Visit, visits
+from ..proof.checking import LayerFault, layer_fault, verdict
+from ..proof.facts import Space
+from ..text.files import Loaded, LoadedBundle, predicates_differ
+from ..proof.names import Names
+from ..protocol.nets import Leaf
+from ..protocol.predicates import Predicate, canonical_text, read_predicate
+from ..text.proofreader import ProofDraft
+from ..text.treereader import Note
+from ..protocol.combining import combined_predicate
+from ..proof.bundles import Bundle, Hole, Layer, LeafProof, Linear, Node, Residue
+from ..protocol.naming import state_text
+from ..text.writer import leaf_names, node_lines
+from .reasons import closes_told, gloss, layer_lacks, node_lacks, sum_told
+
+ROOM = 100
+
+
+@dataclass
+class ToldFact:
+    """A fact: its number, its name, what it says, what that means."""
+
+    number: int
+    name: str
+    says: str
+    means: str
+
+
+@dataclass
+class ToldNode:
+    """A node as it is shown; `text` are its lines in the `.pop` file, `sum` and `closes` are for `lin` and `residue`, whose
+    `terms` are the facts with their multipliers."""
+
+    visit: Visit
+    number: int
+    facts: list[ToldFact]
+    text: list[str]
+    terms: list[tuple[int, ToldFact]] = field(default_factory=list)
+    sum: str = ""
+    closes: str = ""
+    refused: str = ""
+    lacks: list[str] = field(default_factory=list)
+    notes: list[str] = field(default_factory=list)
+    is_open: bool = False
+
+
+@dataclass
+class ToldMove:
+    """A move of a layer: weights before and after."""
+
+    number: int
+    name: str
+    before: tuple[int, int]
+    after: tuple[int, int]
+    silent: bool
+
+    @property
+    def lowers(self) -> int:
+        """How much it lowers the weights."""
+        return sum(self.before) - sum(self.after)
+
+
+@dataclass
+class ToldLayer:
+    """A layer: its weights by state, its moves, what each agent pays for it; `raw` where it is malformed."""
+
+    weights: list[tuple[str, int]]
+    moves: list[ToldMove]
+    bound: int
+    is_shaped: bool
+
+
+@dataclass
+class ToldLeaf:
+    """A leaf with its proof."""
+
+    leaf: Leaf
+    part: LeafProof
+    names: Names
+    tree: Predicate
+    layers: list[ToldLayer]
+    layer_fault: str = ""
+    layer_lacks: list[str] = field(default_factory=list)
+    notes: list[str] = field(default_factory=list)
+
+    def nodes(self, value: bool, notes: list[Note], holes: set[int]) -> "list[ToldNode]":
+        """The nodes of a tree, up to the first one that is refused for its shape."""
+        return [
+            _node(self.names, visit, notes, holes)
+            for visit in visits(self.names, self.tree, value, self.part.tree(value))
+        ]
+
+
+@dataclass(kw_only=True)
+class Explanation:
+    """All that is told of a bundle. `line` is what the program said."""
+
+    line: str
+    bundle: Bundle
+    leaves: list[ToldLeaf]
+    drafts: list[ProofDraft]
+    warnings: list[str]
+    predicate: list[str]
+    differs: list[str]
+    labels: list[str]
+
+    def tree(self, at: int, value: bool) -> list[ToldNode]:
+        """The nodes of a leaf's tree."""
+        draft = self.drafts[at] if self.drafts else ProofDraft()
+        notes = [note for note in draft.notes if note.tree is value]
+        nodes = draft.tree(value) or []
+        return self.leaves[at].nodes(value, notes, {i for i, n in enumerate(nodes) if isinstance(n, Hole)})
+
+
+def _node(names: Names, visit: Visit, notes: list[Note], holes: set[int]) -> ToldNode:
+    branch = visit.branch
+    facts = [ToldFact(i, name, names.says(fact), gloss(name)) for i, fact, name in visit.own]
+    told = ToldNode(visit, visit.number, facts, node_lines(visit, names, ROOM))
+    told.notes = [f"{note.told}: left out (line {note.place.line})" for note in notes if note.node == visit.number]
+    told.is_open = visit.number in holes
+    if told.is_open:
+        told.text = [f"{visit.label}: ?" if visit.label else "?"]
+    node = visit.node
+    if isinstance(node, (Linear, Residue)):
+        told.terms = [
+            (k, ToldFact(f, branch.names[f], names.says(branch.facts[f]), gloss(branch.names[f])))
+            for f, k in node.terms
+            if f < len(branch.facts)
+        ]
+    if visit.why:
+        told.refused = visit.why
+        told.lacks = node_lacks(names, Space(names.leaf), branch.facts, branch.names, node, visit.why)
+    elif isinstance(node, (Linear, Residue)):
+        told.sum = sum_told(names, branch.facts, node)
+        told.closes = closes_told(names, branch.facts, node)
+    return told
+
+
+def _layer(names: Names, leaf: Leaf, layer: Layer) -> ToldLayer:
+    shaped = len(layer.weights) == len(leaf.states) and all(t < len(leaf.moves) for t in layer.moves)
+    weights = [(names.state(q), w) for q, w in enumerate(layer.weights)]
+    moves = []
+    if shaped:
+        for t in layer.moves:
+            p, q, r, s = leaf.moves[t]
+            w = layer.weights
+            moves.append(ToldMove(t, names.move(t), (w[p], w[q]), (w[r], w[s]), t not in leaf.active))
+    return ToldLayer(weights, moves, layer.spread, shaped)
+
+
+def _leaf(bundle: Bundle, at: int, draft: ProofDraft | None) -> ToldLeaf:
+    leaf, part = bundle.net.leaves[at], bundle.proof[at]
+    names = Names(bundle.net.names, leaf)
+    told = ToldLeaf(
+        leaf,
+        part,
+        names,
+        read_predicate(part.pred, bundle.net.names),
+        [_layer(names, leaf, layer) for layer in part.layers],
+    )
+    fault: LayerFault | None = layer_fault(leaf, part.layers)
+    if fault:
+        told.layer_fault, told.layer_lacks = fault.words(), layer_lacks(names, leaf, part.layers, fault)
+    if draft:
+        told.notes = [f"{note.told}: left out (line {note.place.line})" for note in draft.notes if note.tree is None]
+    return told
+
+
+def _closed_holes(draft: ProofDraft, text: str, states: int) -> LeafProof:
+    """A draft as a proof: open weights are 0, an open subtree is a `lin` without a fact, open layers and trees are empty."""
+
+    def tree(value: bool) -> tuple[Node, ...]:
+        return tuple(Linear(()) if isinstance(n, Hole) else n for n in draft.tree(value) or [])
+
+    layers = [Layer(layer.moves, layer.weights or (0,) * states) for layer in draft.layers or []]
+    return LeafProof(text, tuple(layers), tree(True), tree(False))
+
+
+def bundle_to_explain(loaded: Loaded) -> Bundle:
+    """The bundle of an input; where parts of its proof are open or missing, with nothing in their place."""
+    if isinstance(loaded, LoadedBundle):
+        return loaded.bundle
+    trees = loaded.part_trees()
+    drafts = loaded.drafts or [ProofDraft() for _ in trees]
+    assert loaded.parts is not None and loaded.predicate is not None
+    parts = [
+        _closed_holes(draft, text, len(leaf.states))
+        for draft, text, leaf in zip(drafts, loaded.parts, loaded.net.leaves)
+    ]
+    return Bundle(loaded.net, loaded.predicate, tuple(parts))
+
+
+def explain(loaded: Loaded, bundle: Bundle, line: str) -> Explanation:
+    """All that there is to say of a bundle, of which the program said this line."""
+    drafts = loaded.drafts or []
+    leaves = [_leaf(bundle, i, drafts[i] if drafts else None) for i in range(len(bundle.net.leaves))]
+    predicate = []
+    if predicates_differ(loaded):
+        made = combined_predicate(bundle.net, loaded.part_trees())
+        whole = read_predicate(bundle.pred, bundle.net.names)
+        predicate = [
+            f"the leaves' predicates combine to {canonical_text(made, bundle.net.names)}",
+            f"the bundle's predicate is {canonical_text(whole, bundle.net.names)}, another tree",
+        ]
+    own = verdict(bundle)
+    differs = (
+        [
+            f"the workbench reads this bundle otherwise, as `{own}`; the line above, the program's, is the one that counts"
+        ]
+        if own != line
+        else []
+    )
+    return Explanation(
+        line=line,
+        bundle=bundle,
+        leaves=leaves,
+        drafts=drafts,
+        warnings=loaded.warnings,
+        predicate=predicate,
+        differs=differs,
+        labels=[state_text(label) for label in loaded.labels] or leaf_names(bundle.net),
+    )

@@ -1,0 +1,18 @@
+"""What one layer for each leaf says of every run: a theorem of the program's (docs/trust/certified.md)."""
+from __future__ import annotations
+
+from ..proof.bundles import Bundle
+
+CERTIFIED = "certified "
+
+
+def one_layer_told(bundle: Bundle, line: str) -> list[str]:
+    """A sentence where the program certified the bundle by this line, and each leaf has one layer; else none."""
+    if not line.startswith(CERTIFIED) or any(len(part.layers) != 1 for part in bundle.proof):
+        return []
+    bound = int(line.removeprefix(CERTIFIED))
+    times = "" if bound == 1 else f"{bound} "
+    return [
+        f"each leaf has one layer, so in every run of n agents at most {times}n meetings change anything; "
+        f"random meetings come to the end within {times}n n (n - 1) on average"
+    ]

@@ -1,0 +1,82 @@
+// What the names in a text mean: for "what is this name" by the pointer, and for the words that may come next.
+import { store } from "./store.js";
+
+const KEYWORDS = {
+  format: "the format of the net's file, 1 or 2",
+  variables: "the input variables in their order",
+  predicate: "what the whole net computes",
+  combine: "how the leaves' answers become one, as in `a && !b`",
+  leaf: "the lines below are those of the leaf with this name",
+  states: "all states of the leaf in their order",
+  inputs: "for each variable the state in which its agents start",
+  helpers: "agents that stand in every crowd beside the input",
+  yes: "the states that say true",
+  no: "the states that say false",
+  computes: "the predicate that the agents have to agree on",
+  layers: "`layers none`, or `layers ?` where they are to be found",
+  layer: "weights of states; each move below lowers their sum, so that they end",
+  when: "a tree that refutes wrong ends, for inputs where the predicate is true or false",
+  open: "says what a predicate's value means",
+  present: "two cases: is nobody in this state at the end, or is somebody?",
+  twin: "two of this state would meet, so at most one is left",
+  trap: "agents in this set stay in it, unless a move leaves it",
+  siphon: "this set stays empty, unless a move enters it or somebody starts in it",
+  split: "three cases: is this sum above 0, is it 0, or is it below?",
+  lin: "closes the branch: this sum of facts would be below 0, and it is at least 0",
+  residue: "closes the branch: this sum cannot be divided so",
+};
+const FACTS = {
+  wrong: "somebody says the wrong output",
+  value: "what the predicate's value means for the input",
+  flow: "a state's agents: those that started there, and what moves brought and took",
+  absent: "nobody is in this state",
+  here: "somebody is in this state",
+  leaves: "agents that leave a set",
+  never: "a move that is never made",
+};
+const WORD = /[A-Za-z0-9_'.^~@$%]+/g;
+
+// The word at a column, with where it begins and ends.
+export function wordAt(line, column) {
+  for (const found of line.matchAll(WORD)) {
+    const [from, to] = [found.index, found.index + found[0].length];
+    if (from <= column && column <= to) return { word: found[0], from, to };
+  }
+  return null;
+}
+
+function state(word, tally) {
+  const out = [];
+  (store.net?.leaves || []).forEach((leaf, i) => {
+    const q = leaf.states.indexOf(word);
+    if (q < 0) return;
+    const starts = store.net.names.filter((_, v) => leaf.inputs[v] === q);
+    const moves = leaf.moves.filter(([p, r]) => p === q || r === q).length;
+    const now = [...(tally || [])].reduce((sum, [kind, k]) => sum + (kind.word[i] === q ? k : 0), 0);
+    out.push(`state ${word}${store.net.leaves.length > 1 ? ` of ${leaf.label}` : ""}: says ${leaf.outputs[q]}${starts.length ? `; ${starts.join(", ")} starts here` : ""}; it meets in ${moves} move${moves === 1 ? "" : "s"}; ${now} of Play's crowd are in it`);
+  });
+  return out;
+}
+
+// What a word of a line means; empty where it means nothing that is known.
+export function meaningOf(word, line, tally = null) {
+  const isHead = new RegExp(`^[\\s│├└─]*(?:[a-z]+: )?${word.replace(/[^A-Za-z0-9_]/g, "\\$&")}(?![A-Za-z0-9_])`).test(line);
+  if (isHead && Object.hasOwn(KEYWORDS, word)) return `${word}: ${KEYWORDS[word]}`;
+  const found = state(word, tally);
+  if (found.length) return found.join("\n");
+  if (store.net?.names.includes(word)) return `variable ${word}: how many agents of the input start with it`;
+  if (Object.hasOwn(FACTS, word)) return `fact ${word}: ${FACTS[word]}`;
+  return "";
+}
+
+// The words that may stand at a place of a line, keywords first where the line begins.
+export function wordsFor(line, column) {
+  const before = line.slice(0, column);
+  const typed = /[A-Za-z0-9_'.^~@$%]*$/.exec(before)[0];
+  const states = (store.net?.leaves || []).flatMap((leaf) => leaf.states);
+  const names = store.net?.names || [];
+  const heads = /^\s*(?:[a-z]+:\s*)?[A-Za-z]*$/.test(before) ? Object.keys(KEYWORDS) : [];
+  const facts = /\b(?:lin|residue|split)\b/.test(before) ? ["wrong", "value", ...["absent", "here", "flow"].flatMap((name) => states.map((q) => `${name}(${q})`))] : [];
+  const words = [...new Set([...heads, ...facts, ...(/^\s*(?:computes|predicate)\b/.test(before) ? [] : states), ...names])];
+  return { typed, words: words.filter((word) => word.startsWith(typed) && word !== typed) };
+}

@@ -1,0 +1,47 @@
+// Light or dark, and what the browser keeps for a tab, where it keeps anything.
+const THEMES = ["auto", "light", "dark"];
+const SIGNS = { auto: "◐", light: "☀", dark: "☾" };
+
+// What was kept for this tab; null where nothing was, or where the browser forbids it.
+export function kept(name) {
+  try {
+    return sessionStorage.getItem(name);
+  } catch {
+    return null;
+  }
+}
+
+export function keep(name, value) {
+  try {
+    sessionStorage.setItem(name, value);
+  } catch {
+    // (then it is forgotten)
+  }
+}
+
+function keptTheme() {
+  try {
+    return localStorage.getItem("pop-theme");
+  } catch {
+    return null;
+  }
+}
+
+export function theme(button) {
+  let now = THEMES.includes(keptTheme()) ? keptTheme() : "auto";
+  const show = () => {
+    document.documentElement.dataset.theme = now;
+    button.textContent = SIGNS[now];
+    button.setAttribute("aria-label", `Colours: ${now}`);
+  };
+  button.addEventListener("click", () => {
+    now = THEMES[(THEMES.indexOf(now) + 1) % THEMES.length];
+    try {
+      localStorage.setItem("pop-theme", now);
+    } catch {
+      // (then it is forgotten)
+    }
+    show();
+  });
+  show();
+}

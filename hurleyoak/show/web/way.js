@@ -1,0 +1,35 @@
+// What has happened in a crowd, in words: moves that lead to their lines, and a list of meetings crowd by crowd.
+import { h } from "./dom.js";
+import { store } from "./store.js";
+
+const MOST_ROWS = 200;
+
+// A move, which leads to its line where the text has one.
+export function moveText(net, leaf, t) {
+  const one = net.leaves[leaf];
+  const [p, q, r, z] = one.moves.find((move) => move[4] === t);
+  const text = `${one.shown[p]} + ${one.shown[q]} → ${one.shown[r]} + ${one.shown[z]}`;
+  const line = one.lines[t];
+  return line
+    ? h("button", { type: "button", class: "move", title: `line ${line}`, onclick: () => store.tell("line", line) }, text)
+    : h("span", { class: "move" }, text);
+}
+
+function words(tally) {
+  return [...tally].sort(([a], [b]) => a.id - b.id).map(([kind, k]) => `${k} ${kind.name}`).join(", ");
+}
+
+// The crowds after the meetings that change something; `go(at)` is called for the one that is pressed.
+export function crowdList(crowd, go) {
+  const rows = [];
+  const row = (at, who) => h("li", { data: { at } }, h("button", { type: "button", class: "plain", onclick: () => go(at) }, h("span", { class: "small" }, `${at}${who}`), " ", h("code", {}, words(crowd.tally))));
+  rows.push(row(0, ""));
+  crowd.history.forEach(([a, b, before], k) => {
+    if (!before || rows.length >= MOST_ROWS) return;
+    crowd.go(k + 1);
+    rows.push(row(k + 1, `: ${a} meets ${b}`));
+  });
+  crowd.go(0);
+  const more = rows.length >= MOST_ROWS ? h("p", { class: "small" }, `the first ${MOST_ROWS} are listed`) : null;
+  return h("details", { class: "crowds" }, h("summary", { class: "small" }, "Crowd by crowd"), h("ol", {}, rows), more);
+}

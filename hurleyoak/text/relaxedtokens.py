@@ -1,0 +1,64 @@
+"""The tokens of a predicate as people write it."""
+from __future__ import annotations
+
+import re
+from dataclasses import dataclass
+
+_TOKEN = re.compile(
+    r"[ \t]*(?:([A-Za-z_][A-Za-z0-9_]*)|([0-9]+)|(<=|>=|=<|=>|!=|<>|==|&&|\|\||[-+*<>=!()%&|≤≥≠≡∧∨¬])|(.))", re.DOTALL
+)
+_SAME = {
+    "==": "=",
+    "≡": "=",
+    "≤": "<=",
+    "≥": ">=",
+    "=<": "<=",
+    "=>": ">=",
+    "≠": "!=",
+    "<>": "!=",
+    "&": "&&",
+    "∧": "&&",
+    "and": "&&",
+    "|": "||",
+    "∨": "||",
+    "or": "||",
+    "¬": "!",
+    "not": "!",
+    "mod": "mod",
+}
+RELATIONS = ("<", "<=", ">", ">=", "=", "!=")
+GLUED_MODULUS = re.compile(r"mod[0-9]+")
+
+
+class NotRead(Exception):
+    """A text isn't read: the offset, and what is wrong there."""
+
+    def __init__(self, at: int, told: str) -> None:
+        super().__init__(told)
+        self.at, self.told = at, told
+
+
+@dataclass
+class Token:
+    text: str
+    kind: str
+    at: int
+
+
+def tokens_of(text: str) -> list[Token]:
+    """The tokens of a text, and its end."""
+    out: list[Token] = []
+    for match in _TOKEN.finditer(text):
+        at = match.start(match.lastindex or 0)
+        found = match.group(match.lastindex or 0)
+        kind = ("name", "number", "sign", "odd")[(match.lastindex or 1) - 1]
+        if found in _SAME:
+            found, kind = _SAME[found], "sign"
+        if found.strip():
+            out.append(Token(found, kind, at))
+    return out + [Token("", "end", len(text))]
+
+
+def glued_modulus(word: str) -> str:
+    """What is wrong with `mod3`."""
+    return f"`{word}`: a blank stands between `mod` and the modulus, as in `mod {word.removeprefix('mod')}`"

@@ -1,0 +1,19 @@
+"""The one filter for what is shown: nothing that was quoted from a file, a word or a name steers the terminal."""
+from __future__ import annotations
+
+import re
+
+# control characters but line feed and tab, those of the upper half, and what turns the direction of writing or is a line's end
+_HIDDEN = re.compile(
+    "[\x00-\x08\x0b-\x1f\x7f-\x9f\u061c\u200b-\u200f\u2028-\u202e\u2060-\u206f\ufeff\ufff9-\ufffb\ud800-\udfff]"
+)
+
+
+def visible(text: str) -> str:
+    """The text with each character that would steer the terminal written by its number, as `\\x1b`."""
+    return _HIDDEN.sub(_numbered, text)
+
+
+def _numbered(match: re.Match[str]) -> str:
+    code = ord(match.group())
+    return f"\\x{code:02x}" if code < 0x100 else f"\\u{code:04x}"

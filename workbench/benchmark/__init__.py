@@ -1,1 +1,0 @@
-"""Generated nets on which `find` is measured."""
