@@ -2,7 +2,7 @@
 """Finds what documents name and the repository doesn't have: paths, commands, options, crates, functions, clauses, sections.
 
 Run at the top of the repository. Looked at are code spans, also those that a line's end divides, the command lines of blocks of code,
-links, and the names of files in running text. Lines of documents have at most 120 columns, but for tables and code."""
+links, and the names of files in running text. Lines of documents have at most 120 columns, but for tables and code, and sentences at most 30 words (tests/sentences.py)."""
 from __future__ import annotations
 
 import re
@@ -13,20 +13,24 @@ from dataclasses import dataclass, field
 from functools import cached_property
 from pathlib import Path
 
+from sentences import long_sentences
+
 TOP = Path(__file__).resolve().parent.parent
 COLUMNS = 120
 SPAN = re.compile(r"`([^`\n]+(?:\n[^`\n]+)?)`")
-NAME = re.compile(r"[A-Za-z_][A-Za-z0-9_]{2,}")
+NAME = re.compile(r"(?<![A-Za-z0-9_])[A-Za-z_][A-Za-z0-9_]{2,}")
 PATH = re.compile(r"^[\w.\-]+(?:/[\w.\-]+)+/?$")
 OPTION = re.compile(r"(?<![\w-])--[a-z][a-z-]*")
 METHOD = re.compile(r"\b([A-Z]\w+)::(\w+)")
 LINK = re.compile(r"\]\(([^)#]+)[^)]*\)")
-FILE = re.compile(r"(?<![\w/`.$*-])((?:\.\./)?(?:(?:docs|examples|workbench|bench|tests|crates|bin)/[\w./-]*\w|[A-Z]{4,}\.md))")
-SECTION = re.compile(r'([\w./]*[A-Z]{4,}\.md),\s+"([^"]+)"|"([^"]+)"\s+(?:in|of)\s+([\w./]*[A-Z]{4,}\.md)')
+FILE = re.compile(
+    r"(?<![\w/`.$*-])((?:\.\./)?(?:(?:docs|examples|hurleyoak|bench|tests|crates|bin)/[\w./-]*\w|[A-Z]{4,}\.md))"
+)
+SECTION = re.compile(r'([\w./-]*\w\.md),\s+"([^"]+)"|"([^"]+)"\s+(?:in|of)\s+([\w./-]*\w\.md)')
 CLAUSE = re.compile(r"\b[Cc]lauses?\s+`(\w+)`")
 COMMAND = re.compile(r"^\s*(?:\$ )?((?:bin|tests|bench)/\w[\w.]*|pop|rt|make)(?: +([a-z][\w-]*|--[a-z][\w-]*))?")
 # what stands in the toolchain, in std, or in no file: names, options and commands of the kit, files that are made
-ELSEWHERE = {"CRATE", "div_ceil", "lang", "made", "Over", "Deserialize", "Lts", "specification", "user"}
+ELSEWHERE = {"CRATE", "div_ceil", "lang", "made", "Over", "Deserialize", "Lts", "pip", "specification", "user"}
 KIT = {"all", "check", "ci", "fmt", "must-fail", "new", "plant", "run", "tidy", "try", "verdict", "version"}
 KIT_OPTIONS = {"--anew", "--fail-alloc", "--only", "--stage-times", "--test"}
 BUILT = "out"
@@ -57,8 +61,12 @@ class Repository:
     @cached_property
     def commands(self) -> set[str]:
         """The words that bin/pop knows: those that have a page of help."""
-        helping = [text for file, text in self.texts.items() if re.match(r"workbench/helping/(pages|behaviour)\.py", file)]
-        return {"help", *(word for text in helping for word in re.findall(r'Page\(\s*"([\w-]+)"', text))}
+        helping = [
+            text
+            for file, text in self.texts.items()
+            if re.match(r"hurleyoak/cli/table/(program|protocols|behaviour|other)\.py", file)
+        ]
+        return {"help", *(word for text in helping for word in re.findall(r'Command\(\s*"([\w-]+)"', text))}
 
     @cached_property
     def folders(self) -> set[str]:
@@ -79,7 +87,12 @@ class Repository:
     @cached_property
     def types(self) -> set[str]:
         """The types of the crates."""
-        return {name for file, text in self.texts.items() if file.endswith(".rt") for name in re.findall(r"\b(?:struct|enum|trait) ([A-Z]\w+)", text)}
+        return {
+            name
+            for file, text in self.texts.items()
+            if file.endswith(".rt")
+            for name in re.findall(r"\b(?:struct|enum|trait) ([A-Z]\w+)", text)
+        }
 
     @cached_property
     def methods(self) -> set[tuple[str, str]]:
@@ -145,8 +158,8 @@ def sections(path: Path) -> set[str]:
 
 
 def found_document(name: str, folder: Path) -> Path | None:
-    """The document of this name, beside the one that names it, at the top, or in docs/."""
-    return next((place / name for place in (folder, TOP, TOP / "docs") if (place / name).is_file()), None)
+    """The document of this name, beside the one that names it, or at the top."""
+    return next((place / name for place in (folder, TOP) if (place / name).is_file()), None)
 
 
 def text_faults(prose: str, folder: Path, repository: Repository) -> Iterator[tuple[int, str]]:
@@ -201,15 +214,20 @@ def document_faults(file: str, repository: Repository) -> Iterator[tuple[int, st
     for number, line in enumerate(prose.split("\n"), 1):
         if len(line) > COLUMNS and not line.startswith(("|", "<!--")):
             yield number, f"{len(line)} columns"
+    yield from long_sentences(prose)
 
 
 def crate_faults(repository: Repository) -> Iterator[str]:
-    """Crates that the map of docs/ARCHITECTURE.md lacks, or has too many; and a version that the changes don't begin with."""
-    listed = {line.split(":")[0].split()[0] for line in repository.texts["crates.txt"].splitlines() if ":" in line and not line.startswith("#")}
-    rows = re.findall(r"^\| (`[^|]*`) \|", (TOP / "docs/ARCHITECTURE.md").read_text(), re.MULTILINE)
+    """Crates that the map of docs/develop/architecture.md lacks, or has too many; and a version that the changes don't begin with."""
+    listed = {
+        line.split(":")[0].split()[0]
+        for line in repository.texts["crates.txt"].splitlines()
+        if ":" in line and not line.startswith("#")
+    }
+    rows = re.findall(r"^\| (`[^|]*`) \|", (TOP / "docs/develop/architecture.md").read_text(), re.MULTILINE)
     named = {name for row in rows for name in re.findall(r"`(\w+)`", row)}
-    yield from (f"docs/ARCHITECTURE.md: crate {name}" for name in sorted(listed ^ named))
-    release = re.search(r'^RELEASE = "(.*)"', repository.texts["workbench/building/commands.py"], re.MULTILINE)
+    yield from (f"docs/develop/architecture.md: crate {name}" for name in sorted(listed ^ named))
+    release = re.search(r'^RELEASE = "(.*)"', repository.texts["hurleyoak/version.py"], re.MULTILINE)
     first = re.search(r"^## (.*)", (TOP / "CHANGELOG.md").read_text(), re.MULTILINE)
     if not release or not first or release[1] != first[1]:
         yield "CHANGELOG.md: its first version is not that of `pop --version`"

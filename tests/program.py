@@ -84,8 +84,17 @@ def commands():
     run = bundle + counts
     journal, watched = piped(["run"], run)[1], piped(["watch"], run)[1]
     return [
-        (["play"], net), (["eval"], predicate + counts), (["check"], bundle), (["run", "--workers", "4"], run), (["watch"], run),
-        (["settle"], run), (["compile"], predicate), (["compile", "--flocks"], predicate), (["replay"], journal),
+        (["play"], net),
+        (["eval"], predicate + counts),
+        (["check"], bundle),
+        (["show"], bundle),
+        (["run", "--workers", "4"], run),
+        (["watch"], run),
+        (["settle"], run),
+        (["compile"], predicate),
+        (["compile", "--flocks"], predicate),
+        (["compile", "--succinct"], predicate),
+        (["replay"], journal),
         (["replay", "--watched"], watched),
     ]
 
@@ -95,7 +104,11 @@ def long_cases():
     for words, data in commands():
         name = " ".join(words)
         yield f"{name}, standard input closed", closed_input(words), (6, b"fault: read\n")
-        for how, output in (("full", full_output), ("closed", closed_output), ("a pipe that nobody reads", broken_pipe)):
+        for how, output in (
+            ("full", full_output),
+            ("closed", closed_output),
+            ("a pipe that nobody reads", broken_pipe),
+        ):
             yield f"{name}, standard output {how}", output(words, data), (7, b"")
     yield "demo, standard input closed", (closed_input(["demo", "21"])[0] in (0, 4), b""), (True, b"")
     yield "demo, standard output full", full_output(["demo", "21"], b""), (7, b"")

@@ -94,8 +94,10 @@ def cases():
         "eval": (["eval"], b"vars x y\n2*x - y < 5 && x + y = 1 mod 3\ncrowd x=0 y=1\n", None),
         "check": (["check"], majority, None),
         "check of two leaves": (["check"], contents("and/bundle.json"), None),
+        "show": (["show"], majority, None),
         "compile": (["compile"], b"vars x\nx < 1\n", None),
         "compile --flocks": (["compile", "--flocks"], b"vars x\nx >= 4\n", None),
+        "compile --succinct": (["compile", "--succinct"], b"vars x\nx >= 3 && x = 0 mod 2\n", None),
         "run of two compiled leaves": (short_run, compiled + b"crowd x=2\n", None),
         "run": (short_run, majority + b"crowd x=1 y=1\n", None),
         "run by four workers": (crowded, many, REPLAY),
@@ -148,7 +150,10 @@ def count(library, name, words, data, judge):
     if call == 1:
         wrong += 1
         print(f"DIFFERS {name}: no call was refused, so it takes no memory of the C library, as a program of `rt try`")
-    print(f"{name}: {call - 1} calls refused in turn, {silent} times out of memory, {call - 1 - silent} times the whole answer", flush=True)
+    print(
+        f"{name}: {call - 1} calls refused in turn, {silent} times out of memory, {call - 1 - silent} times the whole answer",
+        flush=True,
+    )
     return wrong
 
 

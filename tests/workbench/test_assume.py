@@ -1,0 +1,44 @@
+"""Lines `assume`: which inputs count, and what is said where a certificate would speak of all."""
+from __future__ import annotations
+
+import pytest
+
+from hurleyoak.engine import program
+from hurleyoak.faults import InputFault
+from hurleyoak.text.files import load
+
+from .conftest import needs_program
+from .test_commands import pop
+
+NET = "inputs x: A  y: B\nA + B -> a + b\nA + b -> A + a\nB + a -> B + b\nyes A a\ncomputes x - y > 0\n"
+
+
+@pytest.mark.parametrize(
+    "lines, counts, meets",
+    [
+        ("", (0, 0), True),
+        ("assume x != y\n", (2, 2), False),
+        ("assume x != y\n", (2, 1), True),
+        ("assume x != y\nassume x + y >= 4\n", (2, 1), False),
+    ],
+)
+def test_which_inputs_count(lines: str, counts: tuple[int, int], meets: bool) -> None:
+    assert load(lines + NET, "x").meets(counts) == meets
+
+
+def test_what_is_assumed_is_a_predicate() -> None:
+    with pytest.raises(InputFault):
+        load("assume x != z\n" + NET, "x")
+
+
+@needs_program
+def test_inputs_that_are_left_out_are_no_counterexample() -> None:
+    run = pop("refute", "--agents", "5", text="assume x != y\n" + NET)
+    assert (
+        run.returncode == 0
+        and run.stdout == "no flaw: all inputs of up to 5 agents beside helpers that meet `x - y != 0` were tried\n"
+    )
+    assert pop("refute", "--agents", "5", text=NET).returncode == program.REJECTED
+    run = pop("simulate", "-", "x=3", "y=3", text="assume x != y\n" + NET)
+    assert run.returncode == program.REFUSED and "doesn't meet what the file assumes: x - y != 0" in run.stderr
+    assert pop("simulate", "-", "x=3", "y=2", text="assume x != y\n" + NET).returncode == 0

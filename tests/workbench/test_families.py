@@ -1,0 +1,107 @@
+"""Families: loops and sums make the texts of the members, and faults name the line of the family."""
+from __future__ import annotations
+
+import shlex
+from pathlib import Path
+
+import pytest
+
+from hurleyoak.simulation.sweepjobs import read_job, result_of
+from hurleyoak.text.families import member, member_name, members, parameters
+from hurleyoak.text.files import load_pop
+from hurleyoak.text.membersof import load_member
+from hurleyoak.text.scanner import TextFault
+
+from .conftest import EXAMPLES, needs_program
+
+FAMILIES = sorted((EXAMPLES / "families").glob("*.pop"))
+FLOCK = (EXAMPLES / "families" / "flock.pop").read_text()
+
+
+@pytest.mark.parametrize("path", FAMILIES, ids=str)
+def test_the_first_and_the_last_member_are_read(path: object) -> None:
+    """Every family of the examples."""
+    text = str(getattr(path, "read_text")())
+    for values in (members(text)[0], members(text)[-1]):
+        loaded = load_pop(member(text, values).text, member_name(values))
+        assert loaded.predicate is not None
+
+
+@needs_program
+@pytest.mark.parametrize("path", FAMILIES, ids=lambda path: str(path.stem))
+def test_a_family_is_certified(path: Path) -> None:
+    """Its first two members, by `find` and the program; `pop find FILE` does so with all."""
+    pytest.importorskip("scipy")
+    from hurleyoak.engine import program
+    from hurleyoak.search.finding import find
+
+    for values in members(path.read_text())[:2]:
+        found = find(load_member(path.read_text(), values, path.name), 60.0, 0.0, 1)
+        assert found.bundle is not None, values
+        assert program.check(found.bundle.line()).first_line.startswith("certified ")
+
+
+def test_a_sweep_goes_over_all_members(tmp_path: Path) -> None:
+    """A group of jobs for each, whose words name the member."""
+    from .test_commands import pop
+
+    listed = pop("sweep", str(EXAMPLES / "families" / "majority.pop"), "x=4", "y=1", "--runs", "2", "--list").stdout
+    lines = listed.splitlines()
+    assert [sum(f"with=t={t} " in line for line in lines) for t in (0, 1)] == [2, 2]
+    for line in lines:
+        job = read_job(shlex.split(line)[-1])
+        assert read_job(job.text()) == job and result_of(job).right is True
+    table = pop("sweep", str(EXAMPLES / "families" / "majority.pop"), "x=4", "y=1", "--runs", "2").stdout
+    assert "majority t=0" in table and "majority t=1" in table
+
+
+def test_members() -> None:
+    """One for each value, the first parameter slowest."""
+    assert members("family m in 2..3\nfamily r in 0..1\n") == [
+        {"m": 2, "r": 0},
+        {"m": 2, "r": 1},
+        {"m": 3, "r": 0},
+        {"m": 3, "r": 1},
+    ]
+    assert members("states A\n") == [] and parameters("family k in 2^3\n") == {"k": range(8, 9)}
+
+
+def test_loops_and_sums() -> None:
+    """Nested loops, conditions, brackets, and the signs."""
+    text = "family m in 3\nfor i in 0..m-1, j in i..m-1 if i != j\n  N{i} + N{j} -> N{(i + j) % m} + f\n"
+    made = member(text, {"m": 3})
+    assert made.text.split("\n")[:3] == ["N0 + N1 -> N1 + f", "N0 + N2 -> N2 + f", "N1 + N2 -> N0 + f"]
+    assert made.sources[:3] == [3, 3, 3]
+    assert member("[{i}^{2*i} for i in 1..2]", {}).text == "1^2 2^4"
+    assert member("{min(k, 3) - max(1, 2) * abs(-2) + 7 // 2 + 2^3}", {"k": 9}).text == "10"
+    assert member("trap {N, O}", {"k": 9}).text == "trap {N, O}", "sets of states stay"
+    nested = "for i in 1..2\n  for j in 1..i\n    {i} + {j} -> 0 + 0\n  {i}\n"
+    assert member(nested, {}).text == "1 + 1 -> 0 + 0\n1\n2 + 1 -> 0 + 0\n2 + 2 -> 0 + 0\n2\n"
+
+
+@pytest.mark.parametrize(
+    "text, line, told",
+    [
+        ("family m in 2..x", 1, "`x` is neither a parameter"),
+        ("family m in 1..99999\nfamily n in 1..9", 1, "it may have 1 to 10000"),
+        ("family m in 2\nfor i in 0..9999999\n  {i}\n", 2, "at most 200000 lines"),
+        ("family m in 2\nfor i\n  {i}\n", 2, "is no range"),
+        ("family m in 2\n\n{m % 0}\n", 3, "a division by 0"),
+        ("family m in 2\n{m ^ 99}\n", 2, "an exponent is 0 to 64"),
+    ],
+)
+def test_faults(text: str, line: int, told: str) -> None:
+    """At the family's own line."""
+    with pytest.raises(TextFault) as caught:
+        for values in members(text):
+            member(text, values)
+    assert caught.value.line == line and told in caught.value.told
+
+
+def test_a_fault_of_a_member_is_told_at_the_family_s_line() -> None:
+    """The reader of `.pop` files knows the member's lines alone."""
+    text = FLOCK.replace("-> {i + j} + 0", "-> {i + j}")
+    made = member(text, {"c": 4})
+    with pytest.raises(TextFault) as caught:
+        load_pop(made.text, "flock")
+    assert "{i} + {j}" in text.split("\n")[made.back(caught.value).line - 1]

@@ -1,0 +1,111 @@
+"""`import hurleyoak`: what the library gives, and that no call starts a build."""
+from __future__ import annotations
+
+import subprocess
+from pathlib import Path
+from typing import Callable
+
+import pytest
+
+import hurleyoak
+from hurleyoak.engine import places, program
+
+from .conftest import EXAMPLES, TOP, needs_program
+
+MAJORITY = str(EXAMPLES / "majority" / "majority.pop")
+EPIDEMIC = "inputs x: I  y: S\nS + I -> I + I\nyes I\ncomputes x >= 1\n"
+
+
+def test_every_name_is_there() -> None:
+    """All that the package says it has."""
+    for name in hurleyoak.__all__:
+        assert callable(getattr(hurleyoak, name)), name
+    with pytest.raises(AttributeError):
+        getattr(hurleyoak, "nothing")
+
+
+def test_texts() -> None:
+    """A protocol of a text: its predicate, its net, its faults."""
+    protocol = hurleyoak.Protocol.parse(EPIDEMIC)
+    assert protocol.predicate == "x >= 1" and not protocol.has_proof
+    assert repr(protocol) == "<Protocol of x >= 1: 2 states, without a proof>"
+    assert hurleyoak.Protocol.parse(protocol.text() + "computes x >= 1\n").net == protocol.net
+    assert protocol.computes("x > y").predicate == "x - y > 0"
+    with pytest.raises(hurleyoak.InputFault, match="computes|expected|line"):
+        hurleyoak.Protocol.parse("S + I ->\n")
+
+
+def test_runs() -> None:
+    """A run, its curve and its picture as HTML."""
+    run = hurleyoak.load(MAJORITY).simulate(x=30, y=10)
+    assert run.terminal and run.output is True and run.right and run.agents == 40 == sum(run.crowd.values())
+    assert run.parallel_time == run.meetings / 40 and "measured, not proved" in run._repr_html_()
+    assert len(run.times) == len(next(iter(run.curves.values())))
+    pytest.importorskip("pandas")
+    assert list(run.frame().columns) == list(run.curves)
+
+
+def test_many_runs() -> None:
+    """Runs on one grid: each has its crowd at each time, and stays at its end."""
+    made = hurleyoak.load(MAJORITY).ensemble(0.5, runs=4, x=8, y=3)
+    assert len(made) == 4 == made.terminal and made.times[:3] == [0.0, 0.5, 1.0]
+    assert all(len(run) == len(made.times) for runs in made.counts.values() for run in runs)
+    assert made.mean("A")[0] == 8 and sum(made.mean(name)[-1] for name in made.counts) == made.agents == 11
+    assert made.mean("A")[-1] == 5 and "measured, not proved" in made._repr_html_()
+    short = hurleyoak.load(MAJORITY).ensemble(1, runs=2, meetings=22, x=8, y=3)
+    assert short.times == [0, 1, 2]
+    with pytest.raises(hurleyoak.InputFault, match="above 0"):
+        hurleyoak.load(MAJORITY).ensemble(0, x=8)
+    pytest.importorskip("pandas")
+    assert list(made.frame().columns) == list(made.counts) and len(made.frame()) == 4 * len(made.times)
+
+
+def test_sweeps() -> None:
+    """Sizes in step, quartiles, and wrong ends counted."""
+    table = hurleyoak.load(MAJORITY).sweep(runs=3, x=[4, 8], y=2)
+    assert [row["agents"] for row in table] == [6, 10] and all(row["wrong"] == 0 for row in table)
+    assert len(table) == 2 and "<table>" in table._repr_html_()
+    with pytest.raises(hurleyoak.InputFault, match="equally long"):
+        hurleyoak.load(MAJORITY).sweep(x=[1, 2], y=[1, 2, 3])
+
+
+@needs_program
+def test_what_the_program_says() -> None:
+    """Verdicts, a found proof, a counterexample, a compiled predicate."""
+    verdict = hurleyoak.check(MAJORITY)
+    assert verdict and verdict.bound == 2 and repr(verdict) == "certified 2"
+    found = hurleyoak.Protocol.parse(EPIDEMIC).find()
+    assert found and found.protocol is not None and found.protocol.check().certified
+    wrong = hurleyoak.Protocol.parse(EPIDEMIC.replace("x >= 1", "x >= 2")).refute(agents=3)
+    assert wrong is not None and wrong.counts["x"] == 1
+    made = hurleyoak.compile("x - y < 1000")
+    assert made.check().bound == 22 and "helpers" in repr(made)
+    assert hurleyoak.compile("x >= 1000", helpers=False).net.leaves[0].helpers == ()
+    with pytest.raises(hurleyoak.InputFault):
+        hurleyoak.compile("x - y < 1000", helpers=False)
+    assert hurleyoak.explain(MAJORITY).startswith("#")
+
+
+def test_no_call_starts_a_build(monkeypatch: pytest.MonkeyPatch, tmp_path: Path) -> None:
+    """Where the program isn't there, NotBuilt says what to do."""
+    monkeypatch.delenv(program.VARIABLE, raising=False)
+    for module in (program, places):
+        monkeypatch.setattr(module, "BUILT", tmp_path / "nothing")
+        monkeypatch.setattr(module, "STANDING", tmp_path / "nothing")
+    calls: list[Callable[[], object]] = [
+        lambda: hurleyoak.check(MAJORITY),
+        lambda: hurleyoak.compile("x < 1"),
+        lambda: hurleyoak.find(MAJORITY),
+    ]
+    for call in calls:
+        with pytest.raises(hurleyoak.NotBuilt, match="bin/pop build"):
+            call()
+
+
+def test_the_command_line_starts_without_the_library() -> None:
+    """`import hurleyoak` alone imports nothing of weight."""
+    words = (
+        "import sys, hurleyoak; print(sorted(m for m in sys.modules if m.startswith(('hurleyoak.', 'numpy', 'scipy'))))"
+    )
+    run = subprocess.run(["/usr/bin/python3", "-c", words], capture_output=True, text=True, cwd=TOP, check=True)
+    assert run.stdout == "[]\n"
