@@ -1,5 +1,5 @@
 #!/usr/bin/python3
-"""Runs the benches of the built program one after the other, and writes the tables of docs/PERFORMANCE.md.
+"""Runs the benches of the built program one after the other, and writes the tables of docs/develop/performance.md.
 
 Run from the top of the repository: bench/all.py [--short] [--into FOLDER] [NAME ..], or bench/all.py --table
 Each bench is a script of its own beside this one. What it prints goes into bench/results/NAME.txt, behind the commit, the machine and
@@ -16,7 +16,21 @@ import textwrap
 from common import IS_SHORT, PROGRAM, TOP, WORDS, heading, write_between
 
 HERE = os.path.dirname(os.path.abspath(__file__))
-OF_THE_PROGRAM = ["check", "play", "net_file", "runs", "threads", "replay", "settle", "compile", "demo", "watch", "growth", "stack", "field"]
+OF_THE_PROGRAM = [
+    "check",
+    "play",
+    "net_file",
+    "runs",
+    "threads",
+    "replay",
+    "settle",
+    "compile",
+    "demo",
+    "watch",
+    "growth",
+    "stack",
+    "field",
+]
 OVER_CRATES = ["bundle_file", "layers", "tree", "pairs"]
 BY_SAMPLES = ["parts", "profile"]
 COMMANDS = ["check", "play", "run", "replay", "settle", "compile", "demo"]
@@ -75,16 +89,20 @@ def growth(rows):
     for commit, (_, name, unit, work, each) in rows:
         steps.setdefault((commit, name, unit), []).append((int(work), each))
     told = [
-        f"`{name}` " + " and ".join(f"{int(each):,} at {work:,}" for work, each in sorted(found)) + f" {unit} ({commit})"
+        f"`{name}` "
+        + " and ".join(f"{int(each):,} at {work:,}" for work, each in sorted(found))
+        + f" {unit} ({commit})"
         for (commit, name, unit), found in steps.items()
     ]
-    return sentence(f"Growth, in nanoseconds for each: {'; '.join(told)}.")
+    return sentence(f"Growth, in nanoseconds for each: {'. '.join(told)}.")
 
 
 def stack(rows):
     """The least stack with which a command ends."""
-    told = ", ".join(f"{name} {size}" for _, (_, name, size) in rows)
-    return sentence(f"The least stack with which a command ends, in KB of `ulimit -s` ({rows[0][0]}): {told}. The usual limit is 8,192.")
+    told = ". ".join(f"{name} {size}" for _, (_, name, size) in rows)
+    return sentence(
+        f"The least stack with which a command ends, in KB of `ulimit -s` ({rows[0][0]}): {told}. The usual limit is 8,192."
+    )
 
 
 def tables(folder):
@@ -97,7 +115,10 @@ def tables(folder):
     out = [*main_table(rows("row")), ""]
     if rows("threads"):
         out += ["| Workers of `run` | Seconds of all processors | Page faults | Commit |", "|---|---|---|---|"]
-        out += [f"| {workers} | {seconds} | {faults} | {commit} |" for commit, (_, workers, seconds, faults) in rows("threads")] + [""]
+        out += [
+            f"| {workers} | {seconds} | {faults} | {commit} |"
+            for commit, (_, workers, seconds, faults) in rows("threads")
+        ] + [""]
     if rows("growth"):
         out += growth(rows("growth"))
     if rows("stack"):
@@ -124,7 +145,7 @@ def main():
         usual = OF_THE_PROGRAM if IS_SHORT else [*OF_THE_PROGRAM, *OVER_CRATES, *BY_SAMPLES]
         failed = [name for name in words or usual if not run_bench(name, folder)]
     if folder == RESULTS:
-        write_between("PERFORMANCE.md", "performance", tables(folder))
+        write_between("develop/performance.md", "performance", tables(folder))
     else:
         print("\n".join(tables(folder)))
     if failed:

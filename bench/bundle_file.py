@@ -13,78 +13,67 @@ import sys
 import tempfile
 import time
 
+from common import source
+
 TOP = os.path.dirname(os.path.dirname(os.path.abspath(__file__)))
-CRATES = ['pop_io', 'json_shape', 'pres_ast', 'pres_tokens', 'pres_read', 'pop_net', 'net_json', 'cert_base', 'cert_json']
+CRATES = [
+    "pop_io",
+    "json_shape",
+    "pres_ast",
+    "pres_tokens",
+    "pres_read",
+    "pop_net",
+    "net_json",
+    "cert_base",
+    "cert_json",
+]
 
-MAIN = '''//! Reads standard input and parses it%(what)s.
-#![tactic(auto)]
+MAIN = source("kit/bundle_file.rt.in")
 
-%(uses)suse pop_io::{StdSource, read_all};
-use serde_json::Value;
-%(std)suse std::process::ExitCode;
-
-%(more)sfn main(rt: HostRuntime) -> ExitCode {
-    let mut source = StdSource::new(&rt);
-    let Ok(bytes) = read_all(rt.alloc(), &mut source) else {
-        return ExitCode::from(2);
-    };
-    match Value::from_slice(rt.alloc(), bytes.as_slice()) {
-        Ok(%(value)s) => ExitCode::from(%(good)s),
-        Err(_) => ExitCode::from(1),
-    }
-}
-'''
-
-READS = '''const NET: &str =
-    "{\\\\"format\\\\":1,\\\\"vars\\\\":[\\\\"x\\\\"],\\\\"leaves\\\\":[{\\\\"states\\\\":[\\\\"A\\\\"],\\\\"moves\\\\":[],\\\\"input\\\\":[0],\\\\"output\\\\":[true]}],\\\\"combine\\\\":[0]}";
-
-fn read(alloc: Global, value: &Value) -> u8 {
-    let Ok(net) = Value::from_str(alloc, NET) else {
-        return 3;
-    };
-    let Ok(net) = read_net(alloc, &net) else {
-        return 4;
-    };
-    match read_proof(alloc, value, &net) {
-        Ok(_) => 0,
-        Err(_) => 5,
-    }
-}
-
-'''.replace('\\\\', '\\')
+READS = source("kit/bundle_file_reads.rt.in")
 
 PROGRAMS = {
-    'plain': dict(what='', uses='', std='', more='', value='_', good='0'),
-    'reader': dict(what=', and reads the proof of the bundle', uses='use cert_json::read_proof;\nuse net_json::read_net;\n',
-                   std='use std::alloc::Global;\n', more=READS, value='value', good='read(rt.alloc(), &value)'),
+    "plain": dict(what="", uses="", std="", more="", value="_", good="0"),
+    "reader": dict(
+        what=", and reads the proof of the bundle",
+        uses="use cert_json::read_proof;\nuse net_json::read_net;\n",
+        std="use std::alloc::Global;\n",
+        more=READS,
+        value="value",
+        good="read(rt.alloc(), &value)",
+    ),
 }
 
 NODE = '["lin",[[0,-1],[1,1],[7,1],[8,-1]%s]]'
 
 
 def built(folder):
-    lines = [line for line in open(os.path.join(TOP, 'crates.txt')) if line.split(':')[0] in CRATES]
+    lines = [line for line in open(os.path.join(TOP, "crates.txt")) if line.split(":")[0] in CRATES]
     for name in CRATES:
-        shutil.copytree(os.path.join(TOP, 'crates', name), os.path.join(folder, 'crates', name),
-                        ignore=shutil.ignore_patterns('out', 'must-fail'))
+        shutil.copytree(
+            os.path.join(TOP, "crates", name),
+            os.path.join(folder, "crates", name),
+            ignore=shutil.ignore_patterns("out", "must-fail"),
+        )
     for name, parts in PROGRAMS.items():
-        os.makedirs(os.path.join(folder, 'crates', name, 'src'))
-        with open(os.path.join(folder, 'crates', name, 'src', 'main.rt'), 'w') as file:
+        os.makedirs(os.path.join(folder, "crates", name, "src"))
+        with open(os.path.join(folder, "crates", name, "src", "main.rt"), "w") as file:
             file.write(MAIN % parts)
-    with open(os.path.join(folder, 'crates.txt'), 'w') as file:
-        file.write(''.join(lines) + 'plain: pop_io serde_json\nreader: pop_io net_json cert_json serde_json\n')
-    subprocess.run(['git', 'init', '-q'], cwd=folder, check=True)
+    with open(os.path.join(folder, "crates.txt"), "w") as file:
+        file.write("".join(lines) + "plain: pop_io serde_json\nreader: pop_io net_json cert_json serde_json\n")
+    subprocess.run(["git", "init", "-q"], cwd=folder, check=True)
     for name in PROGRAMS:
-        subprocess.run(['rt', 'run'], cwd=os.path.join(folder, 'crates', name), stdin=subprocess.DEVNULL,
-                       stdout=subprocess.DEVNULL)
-    return {name: os.path.join(folder, 'crates', name, 'out', name) for name in PROGRAMS}
+        subprocess.run(
+            ["rt", "run"], cwd=os.path.join(folder, "crates", name), stdin=subprocess.DEVNULL, stdout=subprocess.DEVNULL
+        )
+    return {name: os.path.join(folder, "crates", name, "out", name) for name in PROGRAMS}
 
 
 def measured(program, path):
     """The least of three wall clock times in seconds, the greatest resident memory in bytes, and the exit status."""
     times, memory, status = [], 0, 0
     for _ in range(3):
-        with open(path, 'rb') as data:
+        with open(path, "rb") as data:
             start = time.monotonic()
             child = subprocess.Popen([program], stdin=data, stdout=subprocess.DEVNULL)
             _, status, usage = os.wait4(child.pid, 0)
@@ -96,20 +85,22 @@ def measured(program, path):
 def main():
     size = int(sys.argv[1]) * 1_000_000 if len(sys.argv) > 1 else 100_000_000
     count = 1_000_000 if size > 80_000_000 else size // 80
-    node = NODE % (',[9,1]' * max(0, (size // (2 * count) - len(NODE) + 1) // 6))
-    nodes = ','.join([node] * count)
+    node = NODE % (",[9,1]" * max(0, (size // (2 * count) - len(NODE) + 1) // 6))
+    nodes = ",".join([node] * count)
     line = '{"proof":[{"pred":"x < 1","layers":[],"true":[%s],"false":[%s]}]}\n' % (nodes, nodes)
     with tempfile.TemporaryDirectory() as folder:
-        path = os.path.join(folder, 'bundle')
-        with open(path, 'w') as file:
+        path = os.path.join(folder, "bundle")
+        with open(path, "w") as file:
             file.write(line)
         seconds = {}
-        for name, program in built(os.path.join(folder, 'crate')).items():
+        for name, program in built(os.path.join(folder, "crate")).items():
             seconds[name], memory, status = measured(program, path)
-            print(f'{name}: {seconds[name]:.2f} s, {len(line) / seconds[name] / 1e6:.0f} MB/s, '
-                  f'{memory / len(line):.1f} times the bytes in memory, exit status {status}')
+            print(
+                f"{name}: {seconds[name]:.2f} s, {len(line) / seconds[name] / 1e6:.0f} MB/s, "
+                f"{memory / len(line):.1f} times the bytes in memory, exit status {status}"
+            )
         print(f'{2 * count} nodes, {len(line)} bytes: {seconds["reader"] / seconds["plain"]:.2f} times the parse alone')
 
 
-if __name__ == '__main__':
+if __name__ == "__main__":
     main()

@@ -22,7 +22,9 @@ def examples():
     """Each bundle, with the line that is expected of it."""
     for expected in sorted(glob.glob(os.path.join(TOP, "examples/*/*.expected"))):
         folder, name = os.path.split(expected)
-        bundle = os.path.join(folder, "bundle.json") if name == "check.expected" else expected[: -len("expected")] + "json"
+        bundle = (
+            os.path.join(folder, "bundle.json") if name == "check.expected" else expected[: -len("expected")] + "json"
+        )
         if os.path.exists(bundle) and name != "run.expected":
             yield bundle, expected
 
@@ -78,7 +80,9 @@ def main():
             count += 1
         print(f"{count} examples: the same line")
         for name, bundle in bundles(folder):
-            (our_time, memory), (plain_time, plain_memory) = best([PROGRAM, "check"], bundle, ours), best([plain], bundle, theirs)
+            (our_time, memory), (plain_time, plain_memory) = best([PROGRAM, "check"], bundle, ours), best(
+                [plain], bundle, theirs
+            )
             if contents(ours) != contents(theirs):
                 sys.exit(f"{name}: pop {contents(ours)!r}, plain {contents(theirs)!r}")
             size = os.path.getsize(bundle)

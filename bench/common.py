@@ -22,7 +22,9 @@ def few(many, short):
 
 def row(command, work, seconds, plain=None, memory=""):
     """A row of the table: seconds of a processor of the built program and of the plain one, and what the memory was."""
-    print("\t".join(["row", command, work, f"{seconds:.3f}", "" if plain is None else f"{plain:.3f}", memory]), flush=True)
+    print(
+        "\t".join(["row", command, work, f"{seconds:.3f}", "" if plain is None else f"{plain:.3f}", memory]), flush=True
+    )
 
 
 # The peak of a process's memory counts that of the process that started it, so a small one starts what is measured.
@@ -80,6 +82,12 @@ def first_line(words):
     return done.stdout.split("\n")[0] if done.returncode == 0 else ""
 
 
+def source(name):
+    """The text of a program in bench/: a plain one (plain/*.rs), or one over the crates (kit/*.in, for crates that a bench makes)."""
+    with open(os.path.join(TOP, "bench", name)) as file:
+        return file.read()
+
+
 def machine():
     """The processors of this machine."""
     with open("/proc/cpuinfo") as file:
@@ -89,7 +97,17 @@ def machine():
 
 def heading(commit=None):
     """What a file of figures begins with: commit, toolchain, machine and date. Figures that were written are no change."""
-    changed = first_line(["git", "status", "--porcelain", "--untracked-files=no", ".", ":!bench/results", ":!docs/PERFORMANCE.md"])
+    changed = first_line(
+        [
+            "git",
+            "status",
+            "--porcelain",
+            "--untracked-files=no",
+            ".",
+            ":!bench/results",
+            ":!docs/develop/performance.md",
+        ]
+    )
     commit = commit or first_line(["git", "rev-parse", "--short", "HEAD"]) + (" with changes" if changed else "")
     return [
         f"commit {commit}",

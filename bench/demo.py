@@ -68,7 +68,9 @@ def main():
         ended += status == 0
     seconds, slowest = max(times)
     mean = sum(time for time, _ in times) / len(times)
-    print(f"{len(times)} of 10,000: {ended} with a verdict; {mean:.3f} s on the average, at most {seconds:.3f} s (case {slowest})")
+    print(
+        f"{len(times)} of 10,000: {ended} with a verdict; {mean:.3f} s on the average, at most {seconds:.3f} s (case {slowest})"
+    )
     row("demo", f"{len(times)} cases over all 10,000, of which {ended} come to their end; each", mean)
 
 

@@ -6,7 +6,7 @@ Run from the top of the repository: bench/gate.py [FOLDER [COMMIT]], or bench/ga
 
 The clone is made in FOLDER, or in a new temporary folder. `rt ci --anew` proves and tries all, whatever earlier runs kept. With a COMMIT it is that
 one's gate, so that an earlier gate and this one can be measured on one machine; nothing is written then. Without one what is printed of a
-gate that passed goes into bench/results/gate.txt too, and the table of docs/PROVING.md is made of it. --from does both with what an earlier run printed.
+gate that passed goes into bench/results/gate.txt too, and the table of docs/develop/proving.md is made of it. --from does both with what an earlier run printed.
 A process counts for the crate that its command line names. Times are read twice a second, so the last half second of each
 process is missing; what a process took that names no crate stands in the last line.
 
@@ -158,10 +158,13 @@ def cells(name, row):
 
 
 def table(lines):
-    """The table of docs/PROVING.md, some crates a row, and a sentence with the sums."""
+    """The table of docs/develop/proving.md, some crates a row, and a sentence with the sums."""
     rows, told = read_log(lines)
     known = order()
-    names = sorted((name for name in rows if name != "none"), key=lambda name: (known.index(name) if name in known else len(known), name))
+    names = sorted(
+        (name for name in rows if name != "none"),
+        key=lambda name: (known.index(name) if name in known else len(known), name),
+    )
     height = -(-len(names) // ACROSS)
     out = ["| Crate | Proofs | Tests | Seed | Edits " * ACROSS + "|", "|---" * 5 * ACROSS + "|"]
     for at in range(height):
@@ -171,7 +174,7 @@ def table(lines):
     everything = sum(sums[kind] for kind in KINDS)
     parts = f"proofs {sums['proofs']:.0f}, tests {sums['tests']:.0f}, seeds {sums['seeds']:.0f}, {sums['tried']:.0f} edits {sums['edits']:.0f}"
     sentence = (
-        f"In all {everything:.0f} processor minutes ({parts}, no crate {sums['other']:.0f}), {told.get('wall', '').removeprefix('clock ')}; the gate of "
+        f"In all {everything:.0f} processor minutes ({parts}, no crate {sums['other']:.0f}), {told.get('wall', '').removeprefix('clock ')}. The gate is that of "
         f"{told.get('commit', 'unknown')}, on {told.get('machine', 'unknown')}. Beside it a check of `{GAUGE_CRATE}` {told.get(GAUGE_CRATE, 'was not timed')}."
     )
     return [*out, "", *textwrap.wrap(sentence, 120)]
@@ -181,7 +184,7 @@ def keep(lines):
     """Keeps a log as the raw figures, and writes the table."""
     RESULT.parent.mkdir(exist_ok=True)
     RESULT.write_text("\n".join(lines) + "\n")
-    write_between("PROVING.md", "gate", table(lines))
+    write_between("develop/proving.md", "gate", table(lines))
 
 
 def measure(words):

@@ -12,50 +12,43 @@ import subprocess
 import tempfile
 import time
 
-from common import PROGRAM, TOP, IS_SHORT, WORDS, few, row
+from common import IS_SHORT, PROGRAM, TOP, WORDS, few, row, source
 
-NET = ('{"format":1,"vars":["x","y"],"leaves":[{"states":["A","B","a","b"],"moves":[[0,1,2,3],[0,3,0,2],[1,2,1,3],'
-       '[3,2,3,3]],"input":[0,1],"output":[true,false,true,false]}],"combine":[0],"more":[%s]}\n')
+NET = (
+    '{"format":1,"vars":["x","y"],"leaves":[{"states":["A","B","a","b"],"moves":[[0,1,2,3],[0,3,0,2],[1,2,1,3],'
+    '[3,2,3,3]],"input":[0,1],"output":[true,false,true,false]}],"combine":[0],"more":[%s]}\n'
+)
 
-PLAIN = '''//! Reads standard input and parses it.
-#![tactic(auto)]
-
-use pop_io::{StdSource, read_all};
-use serde_json::Value;
-use std::process::ExitCode;
-
-fn main(rt: HostRuntime) -> ExitCode {
-    let mut source = StdSource::new(&rt);
-    let Ok(bytes) = read_all(rt.alloc(), &mut source) else {
-        return ExitCode::from(2);
-    };
-    match Value::from_slice(rt.alloc(), bytes.as_slice()) {
-        Ok(_) => ExitCode::from(0),
-        Err(_) => ExitCode::from(1),
-    }
-}
-'''
+PLAIN = source("kit/net_file.rt.in")
 
 
 def built_plain(folder):
-    os.makedirs(os.path.join(folder, 'crates', 'plain', 'src'))
-    shutil.copytree(os.path.join(TOP, 'crates', 'pop_io'), os.path.join(folder, 'crates', 'pop_io'),
-                    ignore=shutil.ignore_patterns('out', 'must-fail'))
-    with open(os.path.join(folder, 'crates.txt'), 'w') as file:
-        file.write('pop_io:\nplain: pop_io serde_json\n')
-    with open(os.path.join(folder, 'crates', 'plain', 'src', 'main.rt'), 'w') as file:
+    os.makedirs(os.path.join(folder, "crates", "plain", "src"))
+    shutil.copytree(
+        os.path.join(TOP, "crates", "pop_io"),
+        os.path.join(folder, "crates", "pop_io"),
+        ignore=shutil.ignore_patterns("out", "must-fail"),
+    )
+    with open(os.path.join(folder, "crates.txt"), "w") as file:
+        file.write("pop_io:\nplain: pop_io serde_json\n")
+    with open(os.path.join(folder, "crates", "plain", "src", "main.rt"), "w") as file:
         file.write(PLAIN)
-    subprocess.run(['git', 'init', '-q'], cwd=folder, check=True)
-    subprocess.run(['rt', 'run'], cwd=os.path.join(folder, 'crates', 'plain'), stdin=subprocess.DEVNULL,
-                   stdout=subprocess.DEVNULL, stderr=subprocess.DEVNULL)
-    return os.path.join(folder, 'crates', 'plain', 'out', 'plain')
+    subprocess.run(["git", "init", "-q"], cwd=folder, check=True)
+    subprocess.run(
+        ["rt", "run"],
+        cwd=os.path.join(folder, "crates", "plain"),
+        stdin=subprocess.DEVNULL,
+        stdout=subprocess.DEVNULL,
+        stderr=subprocess.DEVNULL,
+    )
+    return os.path.join(folder, "crates", "plain", "out", "plain")
 
 
 def measured(program, words, path):
     """The least of three wall clock times in seconds, and the greatest resident memory in bytes."""
     times, memory = [], 0
     for _ in range(3):
-        with open(path, 'rb') as data:
+        with open(path, "rb") as data:
             start = time.monotonic()
             child = subprocess.Popen([program] + words, stdin=data, stdout=subprocess.DEVNULL)
             _, _, usage = os.wait4(child.pid, 0)
@@ -67,24 +60,31 @@ def measured(program, words, path):
 def main():
     size = int(WORDS[0]) * 1_000_000 if WORDS else few(100_000_000, 1_000_000)
     with tempfile.TemporaryDirectory() as folder:
-        line = NET % ','.join(['1234567'] * ((size - len(NET)) // 8))
-        net, play = os.path.join(folder, 'net'), os.path.join(folder, 'play')
-        with open(net, 'w') as file:
+        line = NET % ",".join(["1234567"] * ((size - len(NET)) // 8))
+        net, play = os.path.join(folder, "net"), os.path.join(folder, "play")
+        with open(net, "w") as file:
             file.write(line)
-        with open(play, 'w') as file:
-            file.write(line + 'crowd x=2 y=1\n0 2\n')
-        programs = [('play', PROGRAM, ['play'], play)]
+        with open(play, "w") as file:
+            file.write(line + "crowd x=2 y=1\n0 2\n")
+        programs = [("play", PROGRAM, ["play"], play)]
         if not IS_SHORT:
-            programs.insert(0, ('serde_json alone', built_plain(os.path.join(folder, 'plain')), [], net))
+            programs.insert(0, ("serde_json alone", built_plain(os.path.join(folder, "plain")), [], net))
         taken = {}
         for name, program, words, path in programs:
             seconds, memory = measured(program, words, path)
-            print(f'{name}: {seconds:.2f} s, {len(line) / seconds / 1e6:.0f} MB/s, '
-                  f'{memory / len(line):.1f} times the bytes in memory')
+            print(
+                f"{name}: {seconds:.2f} s, {len(line) / seconds / 1e6:.0f} MB/s, "
+                f"{memory / len(line):.1f} times the bytes in memory"
+            )
             taken[name] = seconds
-        row('play', f'a net line of {len(line) / 1e6:.0f} MB; plain: the parse of `serde_json` alone', taken['play'],
-            taken.get('serde_json alone'), f'{memory / 1e6:.0f} MB')
+        row(
+            "play",
+            f"a net line of {len(line) / 1e6:.0f} MB; plain: the parse of `serde_json` alone",
+            taken["play"],
+            taken.get("serde_json alone"),
+            f"{memory / 1e6:.0f} MB",
+        )
 
 
-if __name__ == '__main__':
+if __name__ == "__main__":
     main()

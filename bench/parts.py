@@ -28,7 +28,20 @@ PARTS = [
     ("closing it: the logs by ticket", ["Field::close", "Field::join", "run_round"]),
     ("the test of the end", ["enabled_pair", "restless", "partner"]),
     ("starting and ending threads", ["clone", "pthread", "mmap", "exit", "thread"]),
-    ("text", ["itoa", "push_number", "extend_from_slice", "Vec::grow", "run_output", "tally", "memmove", "push_", "rep_movs"]),
+    (
+        "text",
+        [
+            "itoa",
+            "push_number",
+            "extend_from_slice",
+            "Vec::grow",
+            "run_output",
+            "tally",
+            "memmove",
+            "push_",
+            "rep_movs",
+        ],
+    ),
 ]
 REST = "reading, checking, memory, the rest"
 

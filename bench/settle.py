@@ -13,77 +13,12 @@ import resource
 import subprocess
 import tempfile
 
-from common import PROGRAM, TOP, expect_program, few, row
+from common import PROGRAM, TOP, expect_program, few, row, source
 
 TAKES = 8_000_000
 AGENTS = few(65_536, 1_000)
 
-PLAIN = r"""
-use std::collections::BTreeSet;
-use std::io::Write;
-
-/// The least agents that can take a move.
-fn pair(groups: &mut [BTreeSet<u32>], p: usize, q: usize) -> Option<(u32, u32)> {
-    if groups[q].is_empty() {
-        return None;
-    }
-    let a = groups[p].pop_first()?;
-    match groups[q].pop_first() {
-        Some(b) => Some((a, b)),
-        None => {
-            groups[p].insert(a);
-            None
-        }
-    }
-}
-
-fn main() {
-    let mut groups = vec![BTreeSet::new(); NAMES.len()];
-    let mut agent = 0;
-    for (state, count) in STARTS {
-        for _ in 0..count {
-            groups[state].insert(agent);
-            agent += 1;
-        }
-    }
-    let mut text = Vec::new();
-    for layer in LAYERS {
-        'takes: loop {
-            let mut place = 0;
-            while place < layer.len() {
-                let t = layer[place];
-                let (p, q, r, s) = MOVES[t];
-                if groups[p].is_empty() {
-                    while place < layer.len() && MOVES[layer[place]].0 == p {
-                        place += 1;
-                    }
-                    continue;
-                }
-                if (p, q) != (r, s) && (p, q) != (s, r) {
-                    if let Some((a, b)) = pair(&mut groups, p, q) {
-                        groups[r].insert(a);
-                        groups[s].insert(b);
-                        writeln!(text, "take 0 {t} {a} {b}").unwrap();
-                        continue 'takes;
-                    }
-                }
-                place += 1;
-            }
-            break;
-        }
-    }
-    text.extend_from_slice(b"end\n");
-    let mut value = false;
-    for (state, group) in groups.iter().enumerate() {
-        if !group.is_empty() {
-            writeln!(text, "{} {}", NAMES[state], group.len()).unwrap();
-            value = OUTPUTS[state];
-        }
-    }
-    writeln!(text, "verdict {value}").unwrap();
-    std::io::stdout().write_all(&text).unwrap();
-}
-"""
+PLAIN = source("plain/settle.rs")
 
 
 def measured(command, data):
@@ -124,7 +59,9 @@ def cases():
     with open(os.path.join(TOP, "examples/majority/bundle.json")) as file:
         yield "majority", json.load(file), [AGENTS // 2 + 1, AGENTS // 2 - 1]
     for pred in few(["x - y < 3", "x + 2*y = 1 mod 20", "x - y < 20"], ["x - y < 3"]):
-        line = subprocess.run([PROGRAM, "compile"], input=f"vars x y\n{pred}\n".encode(), capture_output=True, check=True).stdout
+        line = subprocess.run(
+            [PROGRAM, "compile"], input=f"vars x y\n{pred}\n".encode(), capture_output=True, check=True
+        ).stdout
         bound = int(subprocess.run([PROGRAM, "check"], input=line, capture_output=True, check=True).stdout.split()[1])
         agents = min(AGENTS, TAKES // bound)
         yield f"`{pred}`", json.loads(line), [agents // 2, agents - agents // 2]
@@ -141,8 +78,11 @@ def main():
         _, check_seconds = best([PROGRAM, "check"], line.encode())
         assert text == wanted, name
         takes = text.count(b"take ")
-        print(f"{name}, {sum(counts)} agents, {takes} takes: {seconds:.2f} s, of which `check` {check_seconds:.2f} s; "
-              f"plain {plain_seconds:.2f} s", flush=True)
+        print(
+            f"{name}, {sum(counts)} agents, {takes} takes: {seconds:.2f} s, of which `check` {check_seconds:.2f} s; "
+            f"plain {plain_seconds:.2f} s",
+            flush=True,
+        )
         row("settle", f"{name}, {sum(counts):,} agents, {takes:,} takes", seconds, plain_seconds)
 
 

@@ -13,42 +13,33 @@ import subprocess
 import tempfile
 import time
 
+from common import source
+
 TOP = os.path.dirname(os.path.dirname(os.path.abspath(__file__)))
-CRATES = ['pop_io', 'json_shape', 'pres_ast', 'pres_tokens', 'pres_read', 'pop_net', 'net_json', 'pop_crowd', 'cert_base',
-          'cert_layers', 'cert_linear', 'cert_traps', 'cert_tree', 'cert_json', 'pop_checker']
+CRATES = [
+    "pop_io",
+    "json_shape",
+    "pres_ast",
+    "pres_tokens",
+    "pres_read",
+    "pop_net",
+    "net_json",
+    "pop_crowd",
+    "cert_base",
+    "cert_layers",
+    "cert_linear",
+    "cert_traps",
+    "cert_tree",
+    "cert_json",
+    "pop_checker",
+]
 
 # the greatest value of a state, the bound, and the coefficients
 TOP_VALUE, BOUND, COEFS = 42, 41, [42, -42]
 VALUES = range(-TOP_VALUE, TOP_VALUE + 1)
 WIDE = len(VALUES)
 
-MAIN = '''//! Reads a bundle from standard input and checks its proof.
-#![tactic(auto)]
-
-use cert_json::read_bundle;
-use pop_checker::check;
-use pop_io::{StdSource, read_all};
-use serde_json::Value;
-use std::process::ExitCode;
-
-fn main(rt: HostRuntime) -> ExitCode {
-    let alloc = rt.alloc();
-    let mut source = StdSource::new(&rt);
-    let Ok(bytes) = read_all(alloc, &mut source) else {
-        return ExitCode::from(2);
-    };
-    let Ok(value) = Value::from_slice(alloc, bytes.as_slice()) else {
-        return ExitCode::from(3);
-    };
-    let Ok(bundle) = read_bundle(alloc, &value) else {
-        return ExitCode::from(4);
-    };
-    match check(alloc, bundle.net, bundle.pred, &bundle.proof) {
-        Ok(_) => ExitCode::from(0),
-        Err(_) => ExitCode::from(1),
-    }
-}
-'''
+MAIN = source("kit/tree.rt.in")
 
 
 def leader(u):
@@ -84,10 +75,12 @@ def moves_of_leaf():
 
 
 def layers_of(numbers):
-    weights = [[TOP_VALUE + 1] * WIDE + [abs(v) for v in VALUES] * 2,
-               [0] * WIDE + [1] * WIDE + [0] * WIDE,
-               [0] * WIDE + [0] * WIDE + [1] * WIDE]
-    return [{'moves': [t for t, layer in enumerate(numbers) if layer == i], 'weights': weights[i]} for i in range(3)]
+    weights = [
+        [TOP_VALUE + 1] * WIDE + [abs(v) for v in VALUES] * 2,
+        [0] * WIDE + [1] * WIDE + [0] * WIDE,
+        [0] * WIDE + [0] * WIDE + [1] * WIDE,
+    ]
+    return [{"moves": [t for t, layer in enumerate(numbers) if layer == i], "weights": weights[i]} for i in range(3)]
 
 
 def tree_of(moves, outputs, value):
@@ -99,11 +92,11 @@ def tree_of(moves, outputs, value):
         partners[q].add(p)
     trap = count + 4
     inputs = [[trap + len(moves) + i, -1] for i in range(len(COEFS))]
-    nodes = [['open', count + 1], ['trap', list(range(WIDE))], ['lin', [[trap, 1]]], ['lin', [[count, 1]] + inputs]]
-    nodes += [['present', p] for p in range(WIDE)]
-    nodes.append(['lin', [[trap, 1]] + [[trap + 1 + p, -1] for p in range(WIDE)]])
+    nodes = [["open", count + 1], ["trap", list(range(WIDE))], ["lin", [[trap, 1]]], ["lin", [[count, 1]] + inputs]]
+    nodes += [["present", p] for p in range(WIDE)]
+    nodes.append(["lin", [[trap, 1]] + [[trap + 1 + p, -1] for p in range(WIDE)]])
     for p in reversed(range(WIDE)):
-        nodes.append(['lin', leaf_terms(p, sorted(partners[p] - {p}), outputs, value)])
+        nodes.append(["lin", leaf_terms(p, sorted(partners[p] - {p}), outputs, value)])
     return nodes
 
 
@@ -126,42 +119,53 @@ def bundles():
     """What is examined, and the bundle."""
     moves, numbers = moves_of_leaf()
     outputs = [u < BOUND for u in VALUES] + [False] * WIDE + [True] * WIDE
-    names = [letter + str(v) for letter in 'Lft' for v in VALUES]
-    net = {'format': 1, 'vars': ['x', 'y'], 'combine': [0],
-           'leaves': [{'states': names, 'moves': moves, 'input': [leader(a) for a in COEFS], 'output': outputs}]}
-    pred = f'{COEFS[0]}*x - {-COEFS[1]}*y < {BOUND}'
+    names = [letter + str(v) for letter in "Lft" for v in VALUES]
+    net = {
+        "format": 1,
+        "vars": ["x", "y"],
+        "combine": [0],
+        "leaves": [{"states": names, "moves": moves, "input": [leader(a) for a in COEFS], "output": outputs}],
+    }
+    pred = f"{COEFS[0]}*x - {-COEFS[1]}*y < {BOUND}"
     layers = layers_of(numbers)
     on_true, on_false = (tree_of(moves, outputs, value) for value in (True, False))
-    print(f'{len(names)} states, {len(moves)} moves, {len(on_true)} and {len(on_false)} nodes')
-    for what, parts in [('nothing', ([], on_true, on_false)), ('the layers', (layers, [], on_false)),
-                        ('the layers and the tree for true', (layers, on_true, [])),
-                        ('the layers and both trees', (layers, on_true, on_false))]:
-        part = dict(zip(['layers', 'true', 'false'], parts), pred=pred)
-        yield what, json.dumps({'net': net, 'pred': pred, 'proof': [part]})
+    print(f"{len(names)} states, {len(moves)} moves, {len(on_true)} and {len(on_false)} nodes")
+    for what, parts in [
+        ("nothing", ([], on_true, on_false)),
+        ("the layers", (layers, [], on_false)),
+        ("the layers and the tree for true", (layers, on_true, [])),
+        ("the layers and both trees", (layers, on_true, on_false)),
+    ]:
+        part = dict(zip(["layers", "true", "false"], parts), pred=pred)
+        yield what, json.dumps({"net": net, "pred": pred, "proof": [part]})
 
 
 def built(folder):
-    lines = [line for line in open(os.path.join(TOP, 'crates.txt')) if line.split(':')[0] in CRATES]
-    crate = os.path.join(folder, 'crates', 'trees')
+    lines = [line for line in open(os.path.join(TOP, "crates.txt")) if line.split(":")[0] in CRATES]
+    crate = os.path.join(folder, "crates", "trees")
     for name in CRATES:
-        shutil.copytree(os.path.join(TOP, 'crates', name), os.path.join(folder, 'crates', name),
-                        ignore=shutil.ignore_patterns('out', 'must-fail'))
-    os.makedirs(os.path.join(crate, 'src'))
-    with open(os.path.join(crate, 'src', 'main.rt'), 'w') as file:
+        shutil.copytree(
+            os.path.join(TOP, "crates", name),
+            os.path.join(folder, "crates", name),
+            ignore=shutil.ignore_patterns("out", "must-fail"),
+        )
+    os.makedirs(os.path.join(crate, "src"))
+    with open(os.path.join(crate, "src", "main.rt"), "w") as file:
         file.write(MAIN)
-    with open(os.path.join(folder, 'crates.txt'), 'w') as file:
-        file.write(''.join(lines) + 'trees: pop_io cert_json pop_checker serde_json\n')
-    subprocess.run(['git', 'init', '-q'], cwd=folder, check=True)
-    subprocess.run(['rt', 'run'], cwd=crate, stdin=subprocess.DEVNULL, stdout=subprocess.DEVNULL,
-                   stderr=subprocess.DEVNULL)
-    return os.path.join(crate, 'out', 'trees')
+    with open(os.path.join(folder, "crates.txt"), "w") as file:
+        file.write("".join(lines) + "trees: pop_io cert_json pop_checker serde_json\n")
+    subprocess.run(["git", "init", "-q"], cwd=folder, check=True)
+    subprocess.run(
+        ["rt", "run"], cwd=crate, stdin=subprocess.DEVNULL, stdout=subprocess.DEVNULL, stderr=subprocess.DEVNULL
+    )
+    return os.path.join(crate, "out", "trees")
 
 
 def measured(program, path):
     """The least wall clock and processor times of three runs in seconds, the greatest memory in bytes, the exit status."""
     times, worked, memory, status = [], [], 0, 0
     for _ in range(3):
-        with open(path, 'rb') as data:
+        with open(path, "rb") as data:
             start = time.monotonic()
             child = subprocess.Popen([program], stdin=data)
             _, status, usage = os.wait4(child.pid, 0)
@@ -173,15 +177,18 @@ def measured(program, path):
 
 def main():
     with tempfile.TemporaryDirectory() as folder:
-        program = built(os.path.join(folder, 'crate'))
-        path = os.path.join(folder, 'bundle')
+        program = built(os.path.join(folder, "crate"))
+        path = os.path.join(folder, "bundle")
         for what, line in bundles():
-            with open(path, 'w') as file:
-                file.write(line + '\n')
+            with open(path, "w") as file:
+                file.write(line + "\n")
             seconds, worked, memory, status = measured(program, path)
-            print(f'{len(line)} bytes read and {what} checked: {seconds:.3f} s, {worked:.3f} s of a processor, '
-                  f'{memory / 1e6:.0f} MB, exit status {status}', flush=True)
+            print(
+                f"{len(line)} bytes read and {what} checked: {seconds:.3f} s, {worked:.3f} s of a processor, "
+                f"{memory / 1e6:.0f} MB, exit status {status}",
+                flush=True,
+            )
 
 
-if __name__ == '__main__':
+if __name__ == "__main__":
     main()

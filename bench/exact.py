@@ -1,0 +1,264 @@
+#!/usr/bin/python3
+"""Holds simulations against exact Markov chains: chi-square and Kolmogorov-Smirnov, by single meetings and by batches.
+
+    /usr/bin/python3 bench/exact.py [RUNS] [-o FILE] [NAME..]
+
+For each protocol the chain of all its crowds is made from the moves alone, here, by no code of the simulation. Then RUNS
+runs (200,000) are made each way. Printed are the p-values: of the crowd after some meetings, and of the meeting of the
+last change. A p-value below 0.0001 is a mistake, or a chance of one in ten thousand. The last line plants a bias of one
+per cent into the draws of the batches, which has to be found.
+"""
+
+from __future__ import annotations
+
+import argparse
+import sys
+import time
+from collections import Counter
+from pathlib import Path
+from typing import Iterator
+
+import numpy as np
+from scipy import sparse, stats
+
+TOP = Path(__file__).resolve().parents[1]
+sys.path.insert(0, str(TOP))
+
+from hurleyoak.protocol.nets import Leaf  # noqa: E402
+from hurleyoak.simulation import batches  # noqa: E402
+from hurleyoak.simulation.batches import Batcher  # noqa: E402
+from hurleyoak.simulation.simulation import Simulation  # noqa: E402
+from hurleyoak.text.files import Loaded, load, load_path  # noqa: E402
+
+RUNS = 200_000
+MOST_CROWDS = 20_000
+LEAST_EXPECTED = 20  # of a cell of the chi-square test
+TAIL = 1e-7  # of the chain's time that is left out
+DENSE = 400  # crowds, up to which a whole matrix is faster
+LONGEST = 100_000  # meetings
+BIAS = 0.01
+DOUBT = 1e-4
+CELLS = 40  # of the time of the last change
+
+COIN = "inputs x: X  y: Y\nX + Y -> X + U\nX + Y -> U + Y\nX + U -> X + X\nY + U -> Y + Y\nyes X\n"
+CHANCE = "inputs x: A  y: B\nA + B -> A + A @ 0.7\nA + B -> B + B @ 0.2\nyes A\n"
+ORDER = "inputs x: A  y: B\nA , B -> A , A @ 0.8\nB , A -> B , B\nyes A\n"
+PROTOCOLS: dict[str, tuple[str, tuple[int, ...]]] = {
+    "majority": ("examples/majority/majority.pop", (3, 5)),
+    "epidemic": ("examples/epidemic/epidemic.pop", (1, 8)),
+    "flock": ("examples/flock/flock.pop", (6, 3)),
+    "remainder": ("examples/remainder/remainder.pop", (5, 3)),
+    "threshold": ("examples/threshold/threshold.pop", (4, 3)),
+    "exactly-one": ("examples/exactly-one/exactly-one.pop", (3, 4)),
+    "mod-three": ("examples/found/mod-three.pop", (4, 3)),
+    "average-and-conquer": ("examples/found/average-and-conquer.pop", (4, 3)),
+    "coin": (COIN, (5, 4)),
+    "chance": (CHANCE, (5, 4)),
+    "order": (ORDER, (5, 4)),
+}
+Crowd = tuple[int, ...]
+
+
+def outcomes(leaf: Leaf, p: int, q: int) -> list[tuple[int, int, float]]:
+    """What an agent in p that begins a meeting with one in q becomes with it, and by which chance; from the moves alone."""
+    found = []
+    for t, (a, b, r, s) in enumerate(leaf.moves):
+        law = leaf.laws[t] if leaf.laws else None
+        chance = None if law is None else law.chance
+        if t not in leaf.active_set and chance is None:
+            continue
+        if (a, b) == (p, q):
+            found.append((r, s, chance))
+        elif (b, a) == (p, q) and not (law and law.ordered):
+            found.append((s, r, chance))
+    given = sum(float(chance) for _, _, chance in found if chance is not None)
+    free = sum(chance is None for _, _, chance in found)
+    made = [(r, s, (1 - given) / free if chance is None else float(chance)) for r, s, chance in found]
+    return made if free or not found else [*made, (p, q, 1 - given)]
+
+
+class Chain:
+    """All crowds that can come up, and the probability of each step among them."""
+
+    def __init__(self, leaf: Leaf, start: Crowd) -> None:
+        self.numbers = {start: 0}
+        self.crowds = [start]
+        made = {(p, q): outcomes(leaf, p, q) for p in range(len(start)) for q in range(len(start))}
+        rows, columns, parts = [], [], []
+        at = 0
+        while at < len(self.crowds):
+            for crowd, part in self._steps(self.crowds[at], made):
+                rows.append(at)
+                columns.append(self._number(crowd))
+                parts.append(part)
+            at += 1
+            if at > MOST_CROWDS:
+                raise SystemExit("too many crowds for a chain")
+        size = len(self.crowds)
+        self.matrix = sparse.csr_matrix((parts, (rows, columns)), shape=(size, size))
+        self.ends = np.isclose(self.matrix.diagonal(), 1.0)
+
+    def _number(self, crowd: Crowd) -> int:
+        known = self.numbers.setdefault(crowd, len(self.crowds))
+        if known == len(self.crowds):
+            self.crowds.append(crowd)
+        return known
+
+    @staticmethod
+    def _steps(
+        crowd: Crowd, made: dict[tuple[int, int], list[tuple[int, int, float]]]
+    ) -> Iterator[tuple[Crowd, float]]:
+        pairs = sum(crowd) * (sum(crowd) - 1)
+        for (p, q), options in made.items():
+            part = crowd[p] * (crowd[q] - (p == q)) / pairs
+            for r, s, chance in (options or [(p, q, 1.0)]) if part > 0 else []:
+                new = list(crowd)
+                for state, k in ((p, -1), (q, -1), (r, 1), (s, 1)):
+                    new[state] += k
+                yield tuple(new), part * chance
+
+    def times(self) -> tuple[list[np.ndarray], np.ndarray]:
+        """The distributions after 0, 1, .. meetings, as far as they are asked for; the probability of an end by each meeting."""
+        matrix = self.matrix.toarray() if len(self.crowds) <= DENSE else self.matrix
+        now = np.zeros(len(self.crowds))
+        now[0] = 1.0
+        kept, ended = [now], [float(now[self.ends].sum())]
+        while ended[-1] < 1 - TAIL and len(ended) < LONGEST:
+            now = now @ matrix
+            if len(kept) <= 4 * sum(self.crowds[0]):
+                kept.append(now)
+            ended.append(float(now[self.ends].sum()))
+        return kept, np.array(ended)
+
+
+class Runs:
+    """Runs of one protocol, each from the start anew."""
+
+    def __init__(self, loaded: Loaded, counts: Crowd, by_batches: bool, seed: int) -> None:
+        self.run = Simulation(loaded.net, counts, seed)
+        self.batcher = Batcher(self.run) if by_batches else None
+        run, start = self.run, {word: k for word, k in zip(self.run.words, self.run.counts)}
+        self.start = [start.get(word, 0) for word in run.words]
+        self.yes = run.yes
+        self.states = [word[0] for word in run.words]
+
+    def _go(self, meetings: int) -> None:
+        run = self.run
+        run.ended = None
+        while not run.ended and run.meetings < meetings:
+            if self.batcher is None or not self.batcher.burst(10**9, meetings):
+                run.burst(10**6, meetings)
+
+    def one(self, meetings: int, states: int) -> tuple[Crowd, int]:
+        """The crowd after so many meetings, and the meeting of the last change."""
+        run = self.run
+        run.counts[:] = [*self.start, *[0] * (len(run.words) - len(self.start))]
+        run.sum_anew()
+        run.meetings = run.changes = run.last_change = 0
+        run.yes = self.yes
+        run.since = 0 if run.yes in (0, run.agents) else None
+        self._go(meetings)
+        crowd = [0] * states
+        for word, k in zip(run.words, run.counts):
+            crowd[word[0]] += k
+        self._go(LONGEST)
+        return tuple(crowd), run.last_change
+
+
+def chi_square(found: Counter[int], expected: np.ndarray, runs: int) -> float:
+    """The p-value of counts by number; rare ones are one cell."""
+    order = [i for i in np.argsort(-expected) if expected[i] * runs >= LEAST_EXPECTED]
+    seen = [float(found[int(i)]) for i in order]
+    wanted = [float(expected[i] * runs) for i in order]
+    if runs - sum(wanted) > 1:
+        seen.append(runs - sum(seen))
+        wanted.append(runs - sum(wanted))
+    elif sum(seen) < runs:
+        return 0.0  # (something was found that can't be)
+    return float(stats.chisquare(seen, np.array(wanted) * sum(seen) / sum(wanted)).pvalue) if len(seen) > 1 else 1.0
+
+
+def by_time(found: list[int], ended: np.ndarray) -> tuple[float, float]:
+    """The p-values of the last changes, by chi-square in equal cells and by Kolmogorov-Smirnov (which is cautious for whole numbers)."""
+    runs = len(found)
+    edges = sorted({int(np.searchsorted(ended, part)) for part in np.arange(1, CELLS) / CELLS} | {len(ended) - 1})
+    parts = np.diff([0.0, *(ended[edge] for edge in edges)])
+    cells = Counter(int(np.searchsorted(edges, time)) for time in found)
+    counts = np.bincount(np.minimum(found, len(ended) - 1), minlength=len(ended))
+    distance = float(np.abs(np.cumsum(counts) / runs - ended).max())
+    return chi_square(cells, parts, runs), float(stats.kstwo.sf(distance, runs))
+
+
+def held(name: str, runs: int, by_batches: bool, seed: int) -> tuple[float, float, float]:
+    """The p-values of one protocol one way: of the crowd, and of the last change two ways."""
+    source, counts = PROTOCOLS[name]
+    loaded = load(source, name) if "\n" in source else load_path(str(TOP / source))
+    leaf = loaded.net.leaves[0]
+    start = [0] * len(leaf.states)
+    for state, k in [*zip(leaf.inputs, counts), *((state, 1) for state in leaf.helpers)]:
+        start[state] += k
+    chain = Chain(leaf, tuple(start))
+    kept, ended = chain.times()
+    meetings = min(sum(start), len(kept) - 1)
+    made = Runs(loaded, counts, by_batches, seed)
+    crowds: Counter[int] = Counter()
+    times = []
+    for _ in range(runs):
+        crowd, last = made.one(meetings, len(start))
+        crowds[chain.numbers.get(crowd, len(chain.crowds))] += 1
+        times.append(last)
+    return (chi_square(crowds, kept[meetings], runs), *by_time(times, ended))
+
+
+def always() -> None:
+    """Batches of any length for crowds of any size."""
+    batches.SHORTEST = 1
+    Batcher.pays = lambda self, most: self.share() > 0  # type: ignore[method-assign]
+
+
+def plant() -> None:
+    """A draw takes one agent more of the first kind, once in a hundred."""
+    good = Batcher._good
+
+    def biased(self: Batcher, of: int, bad: int, taken: int) -> int:
+        drawn = good(self, of, bad, taken)
+        return drawn + int(drawn < min(of, taken) and self.generator.random() < BIAS)
+
+    Batcher._good = biased  # type: ignore[method-assign]
+
+
+def main() -> int:
+    """Prints the table; 1 where a p-value is too small, or the bias isn't found."""
+    words = argparse.ArgumentParser(description=__doc__, formatter_class=argparse.RawDescriptionHelpFormatter)
+    words.add_argument("runs", nargs="?", type=int, default=RUNS)
+    words.add_argument("names", nargs="*", default=[*PROTOCOLS])
+    words.add_argument("-o", "--output", type=Path)
+    given = words.parse_args()
+    always()
+    lines = [
+        f"# p-values against exact chains, {given.runs:,} runs each (bench/exact.py)",
+        f"{'protocol':<20}  {'way':<8}  {'crowd':>8}  {'last change':>11}  {'by KS':>8}  {'seconds':>7}",
+    ]
+    print("\n".join(lines), flush=True)
+    least = 1.0
+
+    def told(name: str, way: str, seed: int, runs: int) -> float:
+        start = time.process_time()
+        found = held(name, runs, way != "meetings", seed)
+        took = time.process_time() - start
+        lines.append(f"{name:<20}  {way:<8}  {found[0]:>8.4f}  {found[1]:>11.4f}  {found[2]:>8.4f}  {took:>7.0f}")
+        print(lines[-1], flush=True)
+        if given.output:
+            given.output.write_text("\n".join(lines) + "\n")
+        return min(found)
+
+    for number, name in enumerate(given.names):
+        for way in ("meetings", "batches"):
+            least = min(least, told(name, way, 1_000 + number, given.runs))
+    plant()
+    biased = told("coin", "biased", 1, max(given.runs, RUNS))  # (with fewer runs so small a bias may hide)
+    return int(least < DOUBT or biased >= DOUBT)
+
+
+if __name__ == "__main__":
+    sys.exit(main())

@@ -1,0 +1,1 @@
+"""Generated nets on which `find` is measured."""

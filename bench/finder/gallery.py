@@ -1,0 +1,131 @@
+"""Writes the gallery of `examples/found`: `python3 -m bench.finder.gallery FOLDER`; each proof is found and then certified."""
+from __future__ import annotations
+
+import sys
+import textwrap
+from dataclasses import replace
+from pathlib import Path
+
+from hurleyoak.engine import program
+from hurleyoak.text.files import LoadedNet
+from hurleyoak.search.finding import find
+from hurleyoak.text.writer import text_of
+from . import own_protocols as own
+from . import protocols as p
+from .making import Case, product
+
+ANGLUIN = "Angluin and others 2006"
+FLOCKS = "after Blondin, Esparza and Jaax 2018"
+SECONDS, SMALL = 60.0, 8.0
+WIDTH = 110
+
+# the file's name, the protocol, how it works, its source
+GALLERY: list[tuple[str, Case, str, str]] = [
+    (
+        "alarm",
+        own.alarm(3),
+        "A sensor network's alarm: at least 3 sensors are warm, and nobody has reset it; a reset silences all",
+        "ours, over the flock of birds of Angluin and others 2006",
+    ),
+    ("angluin-remainder", p.remainder(3, 1), "Leaders with an output bit add up modulo 3 and turn followers", ANGLUIN),
+    (
+        "angluin-threshold",
+        p.threshold((1, -1), 0),
+        "Leaders with an output bit add up values cut at 1; who is left over follows",
+        ANGLUIN,
+    ),
+    (
+        "average-and-conquer",
+        p.average(5),
+        "Odd values up to 5 are averaged, opposite ones cancel out, and who has none follows",
+        "Alistarh, Gelashvili and Vojnovic 2015",
+    ),
+    ("binary-flock-13", p.binary_flock(13), "Powers of 2, and the sums 8, 12, 13 of the highest bits of 13", FLOCKS),
+    (
+        "binary-flock-100",
+        p.binary_flock(100),
+        "A threshold of 100 in 10 states: powers of 2, and the sums 64, 96, 100",
+        FLOCKS,
+    ),
+    ("counter", own.counter(3), "A helper counts to 3, and then tells all", "ours"),
+    ("either", own.either(), "Three of x or two of y, in one leaf", "ours"),
+    ("equal", own.same(True), "Agents of x and y cancel out, and who is left over says no", "ours"),
+    ("flock-with-rest", p.flock(4, rest=True), "A flock whose agents keep what is over 4", ANGLUIN),
+    ("found-out", own.exactly_one(), "One agent of x alone: two are found out, and tell all", "ours"),
+    (
+        "head-start",
+        own.head_start(2),
+        "Majority in which two helpers give y a head start",
+        "ours, over Blondin, Esparza, Jaax and Meyer 2017",
+    ),
+    ("helper-remainder", own.helper_rest(3), "A helper keeps the remainder modulo 3", "ours"),
+    (
+        "interval",
+        own.interval(1, 2),
+        "Values are added up to 3, and each agent knows the greatest total that it heard of",
+        "ours",
+    ),
+    (
+        "majority-with-ties",
+        p.majority(True),
+        "Majority with four states that says yes at a tie",
+        "Blondin, Esparza, Jaax and Meyer 2017",
+    ),
+    ("mod-three", own.mod_three(), "Remainder 0 modulo 3 in four states, without leaders", "ours"),
+    (
+        "product",
+        product("product", "epidemic and majority", p.epidemic(), p.majority(False), "&&"),
+        "Two protocols in one leaf, by pairs of states",
+        "product, Angluin and others 2006",
+    ),
+    ("recall", own.broadcast(), "A message that holds unless somebody recalls it", "ours"),
+    ("tower", p.tower(5), "Of two agents on one floor one goes up", FLOCKS),
+    ("twice", own.twice(), "Each y stands for two debts, which the x pay", "ours"),
+    ("two-rumours", own.two_rumours(), "Who has heard two rumours tells all", ANGLUIN),
+    ("unequal", own.same(False), "Agents of x and y cancel out, and who is left over says yes", "ours"),
+]
+
+APPROXIMATE = """# approximate-majority: y - x < 0. Agents of x and y make each other undecided, and the undecided follow whom they meet.
+# A reaction network that is right with high probability only: x and y meet, one of them becomes undecided and follows the
+# other, whichever was more. So a crowd that outputs the wrong value is terminal and can be reached, and no proof
+# excludes it. Source: Angluin, Aspnes and Eisenstat 2008.
+
+inputs    x: X   y: Y
+X + Y -> X + U
+X + U -> X + X
+Y + U -> Y + Y
+yes       X
+computes  y - x < 0
+"""
+
+
+def written(name: str, case: Case, told: str, source: str) -> tuple[str, str]:
+    """The file's text and what `check` says of it."""
+    loaded = LoadedNet(name, case.net, case.predicate, [case.predicate])
+    found = find(loaded, SECONDS, SMALL, jobs=1)
+    if found.bundle is None:
+        raise SystemExit(f"{name}: not found")
+    answer = program.check(found.bundle.line())
+    if answer.status != program.DONE:
+        raise SystemExit(f"{name}: {answer.first_line}")
+    head = textwrap.wrap(
+        f"{name}: {case.predicate}. {told}. Source: {source}.", WIDTH, initial_indent="# ", subsequent_indent="# "
+    )
+    return "\n".join(head) + "\n\n" + text_of(case.net, replace(found.bundle)), answer.first_line + "\n"
+
+
+def main(folder: Path) -> None:
+    """Writes all files."""
+    folder.mkdir(exist_ok=True)
+    for name, case, told, source in GALLERY:
+        text, expected = written(name, case, told, source)
+        (folder / f"{name}.pop").write_text(text)
+        (folder / f"{name}.expected").write_text(expected)
+        print(f"{name}: {expected}", end="")
+    (folder / "approximate-majority.pop").write_text(APPROXIMATE)
+    answer = "the protocol is wrong: at x=1 y=1 the predicate `y - x < 0` is false, and 2 moves lead to a terminal crowd in which X outputs true\n"
+    (folder / "approximate-majority.expected").write_text(answer)
+
+
+if __name__ == "__main__":
+    main(Path(sys.argv[1]))
