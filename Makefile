@@ -1,37 +1,47 @@
 # make install PREFIX=DIR puts the built program, bin/pop, the workbench, the manual page and completions in their places.
+# POP_MAIN=FILE installs that program in place of the built one. The work is bin/install's, which quotes every path.
 PREFIX = /usr/local
-PROGRAM = crates/pop_main/out/pop_main
-HOME_OF_POP = $(DESTDIR)$(PREFIX)/lib/hurleyoak
-BIN = $(DESTDIR)$(PREFIX)/bin
-MAN = $(DESTDIR)$(PREFIX)/share/man/man1
-BASH_COMPLETION = $(DESTDIR)$(PREFIX)/share/bash-completion/completions
-ZSH_COMPLETION = $(DESTDIR)$(PREFIX)/share/zsh/site-functions
+PROGRAM =
 PYTHON = /usr/bin/python3
+BROWSERS = test_serve_page.py test_page.py test_serve_fuzz.py test_serve_firefox.py
+SCRIPTS = bin/pop bin/install bin/test bin/test_pop bin/gallery docs/pictures/draw
+export PREFIX DESTDIR PROGRAM POP_MAIN
 
-.PHONY: texts install uninstall
+.PHONY: texts docs lint test test-fast install uninstall
 
-# the manual page and the completions, made from the help
+# what is made from the table of commands and from the crates' constants
 texts:
 	mkdir -p man completion
-	$(PYTHON) -m workbench.helping.manual >man/pop.1
-	$(PYTHON) -m workbench.helping.completion bash >completion/pop.bash
-	$(PYTHON) -m workbench.helping.completion zsh >completion/_pop
+	$(PYTHON) tests/limits.py --write
+	$(PYTHON) -m hurleyoak.cli.help.manual >man/pop.1
+	$(PYTHON) -m hurleyoak.cli.help.reference >docs/reference/commands.md
+	$(PYTHON) -m hurleyoak.cli.help.completion bash >completion/pop.bash
+	$(PYTHON) -m hurleyoak.cli.help.completion zsh >completion/_pop
+
+# all of docs/ that is made, the pictures of README and of the tutorials among it
+docs: texts
+	$(PYTHON) tests/theorems.py --write
+	docs/pictures/draw
+
+lint:
+	$(PYTHON) -m black --check --quiet hurleyoak tests bench bin/recheck
+	$(PYTHON) -m mypy hurleyoak bench/finder tests/workbench
+	shellcheck -x $(SCRIPTS)
+
+# what a change of the workbench needs, on a program that is built
+test-fast:
+	$(PYTHON) tests/names.py
+	$(PYTHON) tests/limits.py
+	$(PYTHON) tests/documents.py
+	$(PYTHON) tests/theorems.py
+	$(PYTHON) -m pytest -q -n auto $(BROWSERS:%=--ignore tests/workbench/%) tests/workbench
+
+# everything: each proof, and each of the repository's own checks
+test:
+	bin/test
 
 install:
-	@test -x "$(PROGRAM)" || { echo "pop: the program isn't built; bin/pop build proves and builds it" >&2; exit 1; }
-	rm -rf "$(HOME_OF_POP)"
-	install -d "$(HOME_OF_POP)/bin" "$(HOME_OF_POP)/crates/pop_main/out" "$(BIN)" "$(MAN)" "$(BASH_COMPLETION)" "$(ZSH_COMPLETION)"
-	install -m 755 "$(PROGRAM)" "$(HOME_OF_POP)/crates/pop_main/out/pop_main"
-	install -m 755 bin/pop "$(HOME_OF_POP)/bin/pop"
-	cp -R workbench "$(HOME_OF_POP)/workbench"
-	find "$(HOME_OF_POP)/workbench" -name __pycache__ -o -name tests -o -name benchmark | xargs rm -rf
-	bin/pop --version >"$(HOME_OF_POP)/VERSION"
-	printf '#!/bin/sh\nexec "%s/lib/hurleyoak/bin/pop" "$$@"\n' "$(PREFIX)" >"$(BIN)/pop"
-	chmod 755 "$(BIN)/pop"
-	install -m 644 man/pop.1 "$(MAN)/pop.1"
-	install -m 644 completion/pop.bash "$(BASH_COMPLETION)/pop"
-	install -m 644 completion/_pop "$(ZSH_COMPLETION)/_pop"
+	@bin/install
 
 uninstall:
-	rm -rf "$(HOME_OF_POP)"
-	rm -f "$(BIN)/pop" "$(MAN)/pop.1" "$(BASH_COMPLETION)/pop" "$(ZSH_COMPLETION)/_pop"
+	@bin/install --remove
