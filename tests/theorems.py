@@ -68,7 +68,10 @@ PROMISES = (
     ),
     ("a crowd's only settlement, within the proof's bound, and its last crowd is terminal", "settle, settlements_end"),
     ("a value is the file of this proof or bundle, or this is the first broken rule", "read_proof, read_bundle"),
-    ("a leaf computes a threshold, a remainder, a flock, and its proof is valid", "threshold, remainder, flock, powers"),
+    (
+        "a leaf computes a threshold, a remainder, a flock, and its proof is valid",
+        "threshold, remainder, flock, offset_flock, powers",
+    ),
     (
         "a proof is valid, or this is its first part that fails; a checked net computes its predicate",
         "check, Checked::bound",

@@ -16,12 +16,13 @@ use Rattle.cert_base.specs.Rows.{input_row}
 use Rattle.cert_base.specs.FactsAndCases.{states_of, flow, base_list, two_agents_fact, wrong_output_fact, absent_fact, occurs_fact, alone_fact, not_twice, can_meet_in, cases_of_open}
 use Rattle.cert_base.specs.Closes.{cases_of, ClosesUnder, refuted, by_cases, no_case, next_case, Closes}
 use Rattle.comp_trees.specs.LeaderTree.{weighed_node}
-use Rattle.comp_flock.specs.FlockLeaf.{is_flock_coefficient, flock_bound, flock_leaf_of}
-use Rattle.comp_flock.specs.FlockProof.{few_mix, converted_mix, first_mix, start_mix, never_mix, flock_true_tree, flock_false_tree, flock_pred_of}
+use Rattle.comp_flock.specs.FlockLeaf.{says_enough, flock_leaf_with}
+use Rattle.comp_flock.specs.FlockProof.{few_mix, converted_mix, first_mix, start_mix, never_mix, enough_tree, too_few_tree, offset_pred_of}
 use Rattle.comp_flock.proofs.MoveLists.{doubles, converts}
 use Rattle.comp_flock.proofs.Formed.{states-long}
-use Rattle.comp_flock.proofs.TrueNodes.{few_facts, few_closes, converted_facts, converted_closes}
-use Rattle.comp_flock.proofs.FalseNodes.{full, first_facts, first_closes, start_facts, start_closes, never_facts, never_long, never_closes}
+use Rattle.comp_flock.proofs.Offsets.{opened_row, opened_constant, opened-is, IsFilled}
+use Rattle.comp_flock.proofs.EnoughNodes.{few_facts, few_closes, converted_facts, converted_closes}
+use Rattle.comp_flock.proofs.TooFewNodes.{full, first_facts, first_closes, start_facts, start_closes, never_facts, never_long, never_closes}
 use Rattle.list_laws.proofs.Ranges.{all_range, range_one_more}
 use Rattle.list_laws.proofs.Lists.{at_end}
 
@@ -32,12 +33,19 @@ filter-all test (x ∷ xs) all =
     let rest = filter-all test xs (All-tail (λ x. test x ≡ true) x xs all) in
     rw here (ap (λ ys. x ∷ ys) rest)
 
-module _ (coefs : List ℤ) (k : ℕ) (some : 1 ≤ k) (most : k ≤ 39) (are : list_all is_flock_coefficient coefs ≡ true) (formed : IsLeaf (flock_leaf_of coefs k)) where
+module _ (coefs : List ℤ) (bound : ℤ) (k : ℕ) (helpers : List ℕ) (most : k ≤ 39) (is : IsFilled coefs bound k helpers) where
+  -- the value that says that there are enough
+  abbrev says : Bool
+  says = says_enough bound
+
   abbrev leaf : LeafModel
-  leaf = flock_leaf_of coefs k
+  leaf = flock_leaf_with coefs says k helpers
 
   abbrev pred : PredModel
-  pred = flock_pred_of coefs k
+  pred = offset_pred_of coefs bound
+
+  abbrev opened : Bool → Fact
+  opened b = Ge (input_row (opened_row coefs b) (opened_constant bound b))
 
   long : length leaf.states ≡ k + 2
   long = states-long k
@@ -51,33 +59,30 @@ module _ (coefs : List ℤ) (k : ℕ) (some : 1 ≤ k) (most : k ≤ 39) (are : 
   in_states : nat_lt (k + 1) (length leaf.states) ≡ true
   in_states = lt-ltb (k + 1) (length leaf.states) (omega (arith, long))
 
-  opens : (b : Bool) → cases_of leaf (base b) (Open (k + 2 + 1)) ≡ Some (cases_of_open pred b)
+  opens : (b : Bool) → cases_of leaf (base b) (Open (k + 2 + 1)) ≡ Some ((opened b ∷ []) ∷ [])
   opens b =
       let at = at_end (map (flow leaf) (states_of leaf)) (two_agents_fact leaf ∷ Holds pred b ∷ wrong_output_fact leaf b ∷ []) (k + 2) 1 (length-map-range_with_len (flow leaf) 0 (length leaf.states) ∙ long) in
-      rw at refl
+      rw at (ap (λ cases. Some cases) (opened-is (length coefs) coefs bound b))
 
-  -- ---- the tree for true
+  -- ---- the tree where there are enough
 
-  abbrev true_opened : Fact
-  true_opened = Ge (input_row (map neg_ℤ coefs) (flock_bound k -ℤ pos 1))
+  abbrev enough : List Fact
+  enough = base says ++ opened says ∷ []
 
-  abbrev true_facts : List Fact
-  true_facts = base true ++ true_opened ∷ []
-
-  length_true : length true_facts ≡ k + 6
-  length_true = omega (arith, length-append (base true) (true_opened ∷ []), length_base true)
+  length_enough : length enough ≡ k + 6
+  length_enough = omega (arith, length-append (base says) (opened says ∷ []), length_base says)
 
   abbrev few_at : ℕ → List Fact
-  few_at j = true_facts ++ few_facts coefs k are formed j
+  few_at j = enough ++ few_facts coefs bound k helpers is j
 
   length_few : (j : ℕ) → length (few_at j) ≡ k + 7 + j
-  length_few j = omega (arith, length-append true_facts (few_facts coefs k are formed j), length_true, length-map-range_with_len (not_twice leaf) 1 j)
+  length_few j = omega (arith, length-append enough (few_facts coefs bound k helpers is j), length_enough, length-map-range_with_len (not_twice leaf) 1 j)
 
   -- with one more state that occurs at most once
   one_more : (j : ℕ) → few_at j ++ not_twice leaf (j + 1) ∷ [] ≡ few_at (j + 1)
   one_more j =
-      append_assoc true_facts (few_facts coefs k are formed j) (not_twice leaf (j + 1) ∷ [])
-      ∙ ap (λ fs. true_facts ++ absent_fact leaf (k + 1) ∷ fs) (sym (map-range_with_len_more (not_twice leaf) 1 j (j + 1) (let e : 1 + j ≡ j + 1 = omega arith in e)))
+      append_assoc enough (few_facts coefs bound k helpers is j) (not_twice leaf (j + 1) ∷ [])
+      ∙ ap (λ fs. enough ++ absent_fact leaf (k + 1) ∷ fs) (sym (map-range_with_len_more (not_twice leaf) 1 j (j + 1) (let e : 1 + j ≡ j + 1 = omega arith in e)))
 
   twin_is : (j : ℕ) → j < k → cases_of leaf (few_at j) (Twin (j + 1)) ≡ Some ((not_twice leaf (j + 1) ∷ []) ∷ [])
   twin_is j l =
@@ -89,7 +94,7 @@ module _ (coefs : List ℤ) (k : ℕ) (some : 1 ≤ k) (most : k ≤ 39) (are : 
   close_few j zero rest e =
       let same : k ≡ j = omega arith in
       subst (λ i. ClosesUnder leaf (j + 2) (few_at i) (weighed_node (few_mix k) ∷ rest) rest) same
-      (refuted (j + 2) (few_at k) (weighed_node (few_mix k)) rest (record { depth = omega arith; fact_count = omega (arith, length_few k) }) (few_closes coefs k are formed))
+      (refuted (j + 2) (few_at k) (weighed_node (few_mix k)) rest (record { depth = omega arith; fact_count = omega (arith, length_few k) }) (few_closes coefs bound k helpers is))
   close_few j (suc m) rest e =
       let nodes = map Twin (range_with_len (j + 1 + 1) m) ++ weighed_node (few_mix k) ∷ rest in
       let more = close_few (j + 1) m rest (omega arith) in
@@ -128,69 +133,66 @@ module _ (coefs : List ℤ) (k : ℕ) (some : 1 ≤ k) (most : k ≤ 39) (are : 
       short false = omega arith
 
   abbrev met : List Fact
-  met = converted_facts coefs k are formed extra
+  met = converted_facts coefs bound k helpers is extra
 
   length_met : length met ≤ k + 3
   length_met = omega (arith, length-append (map (absent_fact leaf) (range_with_len 0 (k + 1))) extra, length-map-range_with_len (absent_fact leaf) 0 (k + 1), length_extra)
 
-  present_is : cases_of leaf true_facts (Present (k + 1)) ≡ Some ((absent_fact leaf (k + 1) ∷ []) ∷ met ∷ [])
+  present_is : cases_of leaf enough (Present (k + 1)) ≡ Some ((absent_fact leaf (k + 1) ∷ []) ∷ met ∷ [])
   present_is = rw in_states (ap (λ qs. Some ((absent_fact leaf (k + 1) ∷ []) ∷ (occurs_fact leaf (k + 1) ∷ map (absent_fact leaf) qs ++ extra) ∷ [])) company-all)
 
-  pub tree-true : Closes leaf (base_list leaf pred true) (flock_true_tree k) []
-  tree-true =
+  pub tree-enough : Closes leaf (base_list leaf pred says) (enough_tree k) []
+  tree-enough =
       let last = weighed_node (converted_mix k) in
       let first : ClosesUnder leaf 2 (few_at 0) (map Twin (range_with_len 1 k) ++ weighed_node (few_mix k) ∷ last ∷ []) (last ∷ []) = close_few 0 k (last ∷ []) (zero-add k) in
-      let second : ClosesUnder leaf 2 (true_facts ++ met) (last ∷ []) [] =
-      refuted 2 (true_facts ++ met) last [] (record { depth = omega arith; fact_count = omega (arith, length-append true_facts met, length_true, length_met) }) (converted_closes coefs k are formed extra) in
-      by_cases 0 (base true) (Open (k + 2 + 1)) _ [] ((true_opened ∷ []) ∷ [])
-      (record { depth = omega arith; fact_count = omega (arith, length_base true) }) (opens true)
-      (next_case 1 (base true) (true_opened ∷ []) [] _ [] []
-      (by_cases 1 true_facts (Present (k + 1)) _ [] ((absent_fact leaf (k + 1) ∷ []) ∷ met ∷ [])
-      (record { depth = omega arith; fact_count = omega (arith, length_true) }) present_is
-      (next_case 2 true_facts (absent_fact leaf (k + 1) ∷ []) (met ∷ []) _ (last ∷ []) [] first
-      (next_case 2 true_facts met [] (last ∷ []) [] [] second (no_case 2 true_facts []))))
-      (no_case 1 (base true) []))
+      let second : ClosesUnder leaf 2 (enough ++ met) (last ∷ []) [] =
+      refuted 2 (enough ++ met) last [] (record { depth = omega arith; fact_count = omega (arith, length-append enough met, length_enough, length_met) }) (converted_closes coefs bound k helpers is extra) in
+      by_cases 0 (base says) (Open (k + 2 + 1)) _ [] ((opened says ∷ []) ∷ [])
+      (record { depth = omega arith; fact_count = omega (arith, length_base says) }) (opens says)
+      (next_case 1 (base says) (opened says ∷ []) [] _ [] []
+      (by_cases 1 enough (Present (k + 1)) _ [] ((absent_fact leaf (k + 1) ∷ []) ∷ met ∷ [])
+      (record { depth = omega arith; fact_count = omega (arith, length_enough) }) present_is
+      (next_case 2 enough (absent_fact leaf (k + 1) ∷ []) (met ∷ []) _ (last ∷ []) [] first
+      (next_case 2 enough met [] (last ∷ []) [] [] second (no_case 2 enough []))))
+      (no_case 1 (base says) []))
 
-  -- ---- the tree for false
+  -- ---- the tree where there are too few
 
-  abbrev false_opened : Fact
-  false_opened = Ge (input_row coefs (neg_ℤ (flock_bound k)))
+  abbrev lacking : List Fact
+  lacking = base (not says) ++ opened (not says) ∷ []
 
-  abbrev false_facts : List Fact
-  false_facts = base false ++ false_opened ∷ []
-
-  length_false : length false_facts ≡ k + 6
-  length_false = omega (arith, length-append (base false) (false_opened ∷ []), length_base false)
+  length_lacking : length lacking ≡ k + 6
+  length_lacking = omega (arith, length-append (base (not says)) (opened (not says) ∷ []), length_base (not says))
 
   abbrev firsts : List Fact
-  firsts = first_facts coefs k some are formed
+  firsts = first_facts coefs bound k helpers is
 
   abbrev starts : List Fact
-  starts = start_facts coefs k some are formed
+  starts = start_facts coefs bound k helpers is
 
   abbrev nevers : List Fact
-  nevers = never_facts coefs k some are formed
+  nevers = never_facts coefs bound k helpers is
 
-  siphon_is : cases_of leaf false_facts (Siphon (full k)) ≡ Some (firsts ∷ starts ∷ nevers ∷ [])
+  siphon_is : cases_of leaf lacking (Siphon (full k)) ≡ Some (firsts ∷ starts ∷ nevers ∷ [])
   siphon_is = rw in_states refl
 
-  pub tree-false : Closes leaf (base_list leaf pred false) (flock_false_tree k) []
-  tree-false =
+  pub tree-too-few : Closes leaf (base_list leaf pred (not says)) (too_few_tree k) []
+  tree-too-few =
       let one = weighed_node (first_mix k) in
       let two = weighed_node (start_mix k) in
       let three = weighed_node (never_mix k) in
-      let first : ClosesUnder leaf 2 (false_facts ++ firsts) (one ∷ two ∷ three ∷ []) (two ∷ three ∷ []) =
-      refuted 2 (false_facts ++ firsts) one (two ∷ three ∷ []) (record { depth = omega arith; fact_count = omega (arith, length-append false_facts firsts, length_false) }) (first_closes coefs k some are formed) in
-      let second : ClosesUnder leaf 2 (false_facts ++ starts) (two ∷ three ∷ []) (three ∷ []) =
-      refuted 2 (false_facts ++ starts) two (three ∷ []) (record { depth = omega arith; fact_count = omega (arith, length-append false_facts starts, length_false) }) (start_closes coefs k some are formed) in
-      let third : ClosesUnder leaf 2 (false_facts ++ nevers) (three ∷ []) [] =
-      refuted 2 (false_facts ++ nevers) three [] (record { depth = omega arith; fact_count = omega (arith, length-append false_facts nevers, length_false, never_long coefs k some are formed) }) (never_closes coefs k some are formed) in
-      by_cases 0 (base false) (Open (k + 2 + 1)) _ [] ((false_opened ∷ []) ∷ [])
-      (record { depth = omega arith; fact_count = omega (arith, length_base false) }) (opens false)
-      (next_case 1 (base false) (false_opened ∷ []) [] _ [] []
-      (by_cases 1 false_facts (Siphon (full k)) _ [] (firsts ∷ starts ∷ nevers ∷ [])
-      (record { depth = omega arith; fact_count = omega (arith, length_false) }) siphon_is
-      (next_case 2 false_facts firsts (starts ∷ nevers ∷ []) _ _ [] first
-      (next_case 2 false_facts starts (nevers ∷ []) _ _ [] second
-      (next_case 2 false_facts nevers [] (three ∷ []) [] [] third (no_case 2 false_facts [])))))
-      (no_case 1 (base false) []))
+      let first : ClosesUnder leaf 2 (lacking ++ firsts) (one ∷ two ∷ three ∷ []) (two ∷ three ∷ []) =
+      refuted 2 (lacking ++ firsts) one (two ∷ three ∷ []) (record { depth = omega arith; fact_count = omega (arith, length-append lacking firsts, length_lacking) }) (first_closes coefs bound k helpers is) in
+      let second : ClosesUnder leaf 2 (lacking ++ starts) (two ∷ three ∷ []) (three ∷ []) =
+      refuted 2 (lacking ++ starts) two (three ∷ []) (record { depth = omega arith; fact_count = omega (arith, length-append lacking starts, length_lacking) }) (start_closes coefs bound k helpers is) in
+      let third : ClosesUnder leaf 2 (lacking ++ nevers) (three ∷ []) [] =
+      refuted 2 (lacking ++ nevers) three [] (record { depth = omega arith; fact_count = omega (arith, length-append lacking nevers, length_lacking, never_long coefs bound k helpers is) }) (never_closes coefs bound k helpers is) in
+      by_cases 0 (base (not says)) (Open (k + 2 + 1)) _ [] ((opened (not says) ∷ []) ∷ [])
+      (record { depth = omega arith; fact_count = omega (arith, length_base (not says)) }) (opens (not says))
+      (next_case 1 (base (not says)) (opened (not says) ∷ []) [] _ [] []
+      (by_cases 1 lacking (Siphon (full k)) _ [] (firsts ∷ starts ∷ nevers ∷ [])
+      (record { depth = omega arith; fact_count = omega (arith, length_lacking) }) siphon_is
+      (next_case 2 lacking firsts (starts ∷ nevers ∷ []) _ _ [] first
+      (next_case 2 lacking starts (nevers ∷ []) _ _ [] second
+      (next_case 2 lacking nevers [] (three ∷ []) [] [] third (no_case 2 lacking [])))))
+      (no_case 1 (base (not says)) []))

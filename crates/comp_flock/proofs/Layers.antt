@@ -1,5 +1,5 @@
 -- The layer of a built leaf of a flock atom is valid.
-use Rattle.std.proofs.Common.{◌≡◌, ◌∙◌, subst, ℕ, zero, suc, ◌+◌, ◌<◌, ◌≤◌, true, List, [], ◌∷◌, length, map, refl, ap, sym, zero-add, arith}
+use Rattle.std.proofs.Common.{◌≡◌, ◌∙◌, subst, ℕ, zero, suc, ◌+◌, ◌<◌, ◌≤◌, Bool, true, List, [], ◌∷◌, length, map, refl, ap, sym, zero-add, arith}
 use Rattle.std.specs.Prelude.{ℤ, pos, ◌==◌}
 use Rattle.std.specs.List.{range_with_len}
 use Rattle.std.proofs.lemmas.Int.{ints}
@@ -11,7 +11,7 @@ use Rattle.pop_net.specs.declared.leaf.Move.{Move}
 use Rattle.pop_net.specs.LeafModel.{LeafModel}
 use Rattle.cert_base.specs.ValidLayers.{weight_at, IsLower, ValidLayers}
 use Rattle.comp_trees.proofs.SortedLayers.{AreKinds, sorted_layers-valid}
-use Rattle.comp_flock.specs.FlockLeaf.{doubling_move, conversion_move, flock_moves, flock_leaf_of}
+use Rattle.comp_flock.specs.FlockLeaf.{doubling_move, conversion_move, flock_moves, flock_leaf_with}
 use Rattle.comp_flock.specs.FlockProof.{flock_weight, flock_layers_of}
 use Rattle.comp_flock.proofs.MoveLists.{all_moves, moves-long}
 use Rattle.comp_flock.proofs.Formed.{states-long}
@@ -54,9 +54,9 @@ lower-conversion k (suc i) l =
     let low : IsLower (weights k) (conversion_move k (i + 1)) = omega (arith, ints, p, s) in
     subst (λ q. IsLower (weights k) (conversion_move k q)) (let e : i + 1 ≡ suc i = omega arith in e) low
 
-module _ (coefs : List ℤ) (k : ℕ) where
+module _ (coefs : List ℤ) (says : Bool) (k : ℕ) (helpers : List ℕ) where
   abbrev leaf : LeafModel
-  leaf = flock_leaf_of coefs k
+  leaf = flock_leaf_with coefs says k helpers
 
   are_kinds : AreKinds leaf (λ t. 0) (weights k ∷ [])
   are_kinds = record {

@@ -2,12 +2,13 @@ pub mod Powers
 pub mod MoveLists
 pub mod SingleMoves
 pub mod StateNames
+pub mod OwnFacts
+pub mod Offsets
 pub mod Formed
 pub mod PowerFound
 pub mod Mixes
-pub mod OwnFacts
-pub mod TrueNodes
-pub mod FalseNodes
+pub mod EnoughNodes
+pub mod TooFewNodes
 pub mod Small
 pub mod Closing
 pub mod Layers

@@ -1,6 +1,6 @@
 -- When a node closes whose multipliers are a mix: the sum of its facts, variable by variable.
 use Rattle.std.proofs.Common.{◌≡◌, ◌∙◌, ℕ, ◌+◌, ◌<◌, ◌≤◌, Bool, true, ◌||◌, List, [], ◌∷◌, ◌++◌, length, map, get_or, refl, ap, sym, arith}
-use Rattle.std.specs.Prelude.{ℤ, pos, negsuc, neg_ℤ, ◌+ℤ◌, ◌-ℤ◌, ◌*ℤ◌, ◌≤ℤ◌, All, count_by, int_le, ◌==◌}
+use Rattle.std.specs.Prelude.{ℤ, pos, negsuc, neg_ℤ, ◌+ℤ◌, ◌-ℤ◌, ◌*ℤ◌, ◌≤ℤ◌, All, int_le}
 use Rattle.std.specs.Ordering.{int_eq}
 use Rattle.std.proofs.lemmas.Int.{ints}
 use Rattle.std.proofs.Math.IntN.{*ℤ-zero, zero-*ℤ}
@@ -14,16 +14,17 @@ use Rattle.cert_base.specs.declared.fact.Fact.TheVariants.{Ge, Holds}
 use Rattle.cert_base.specs.Rows.{terms_from, input_row}
 use Rattle.cert_base.specs.ClosingTests.{row_of, closes_by_sum, may_add}
 use Rattle.cert_base.specs.FactsAndCases.{indicator, states_of, flow, base_list, two_agents_fact, wrong_output_fact}
-use Rattle.cert_base.specs.WeightedSums.{sum_of_facts, coefficient, constant_of, may_weigh}
+use Rattle.cert_base.specs.WeightedSums.{sum_of_facts, coefficient, constant_of, may_weigh, total}
 use Rattle.cert_base.proofs.WeightedSums.{weighted_sum-append, may_weigh-append, linear_closes-weighted}
-use Rattle.cert_base.proofs.FlowSums.{coefficient-dense, weighted_sum-map, total-none, law-input, law-state, law-move, law-past, each_variable, times-one, mul-neg}
+use Rattle.cert_base.proofs.FlowSums.{coefficient-dense, law-input, law-state, law-move, law-past, each_variable, times-one, mul-neg}
+use Rattle.comp_trees.proofs.HelperSums.{constant-helpers}
 use Rattle.comp_trees.proofs.LeaderEnds.{may_weigh-eqs, is_wrong}
 use Rattle.comp_trees.proofs.TrapNodes.{states-state, states-input, states-past}
 use Rattle.comp_flock.specs.FlockProof.{flock_mix}
 
--- what is the same for all nodes of a leaf: no helpers, and states that are in range
+-- what is the same for all nodes of a leaf: states that are in range
 pub record IsPlain (leaf : LeafModel) (coefs : List ℤ) : Type 0 where
-  pub helpers : leaf.helpers ≡ []
+  pub helpers : All (λ q. q < length leaf.states) leaf.helpers
   pub inputs : All (λ q. q < length leaf.states) leaf.inputs
   pub moves : All (IsMoveBelow (length leaf.states)) leaf.moves
   pub long : length coefs ≡ length leaf.inputs
@@ -83,16 +84,13 @@ module _ (leaf : LeafModel) (pred : PredModel) (b : Bool) (coefs : List ℤ) (co
     pub at_states : (z : ℕ) → z < length leaf.states → ((neg_ℤ (w z) +ℤ (wrong *ℤ indicator (is_wrong leaf b z))) +ℤ sum_of_facts (coefficient (length leaf.inputs + z)) own ms) ≤ℤ pos 0
     pub at_moves : (t : ℕ) (d : Move) → t < length leaf.moves → (((w (get_or leaf.moves t d).r +ℤ w (get_or leaf.moves t d).s) -ℤ (w (get_or leaf.moves t d).p +ℤ w (get_or leaf.moves t d).q)) +ℤ sum_of_facts (coefficient (length leaf.inputs + length leaf.states + t)) own ms) ≤ℤ pos 0
     pub at_past : (j : ℕ) → sum_of_facts (coefficient (length leaf.inputs + length leaf.states + (length leaf.moves + j))) own ms ≤ℤ pos 0
-    pub at_end : ((neg_ℤ wrong +ℤ (add *ℤ constant)) +ℤ sum_of_facts constant_of own ms) ≤ℤ negsuc 0
+    pub at_end : (((total w leaf.helpers -ℤ wrong) +ℤ (add *ℤ constant)) +ℤ sum_of_facts constant_of own ms) ≤ℤ negsuc 0
 
   times_none : (a c : ℤ) → c ≡ pos 0 → (a *ℤ c) ≡ pos 0
   times_none a c e = ap (λ z. a *ℤ z) e ∙ *ℤ-zero a
 
   opened-past : (x : ℕ) → IsPlain leaf coefs → length leaf.inputs ≤ x → coefficient x opened ≡ pos 0
   opened-past x is l = coefficient-dense coefs x ∙ get_or_past coefs x (pos 0) (omega (arith, is.long))
-
-  flow-constant : (q : ℕ) → IsPlain leaf coefs → constant_of (flow leaf q) ≡ pos 0
-  flow-constant q is = ap (λ (hs : List ℕ). pos (count_by (λ z. z == q) hs)) is.helpers
 
   pub mix_closes : (w : ℕ → ℤ) (wrong add : ℤ) (ms : List ℤ) → IsPlain leaf coefs → (int_eq wrong (pos 0) || int_le (pos 0) wrong) ≡ true → (int_eq add (pos 0) || int_le (pos 0) add) ≡ true → may_weigh may_add own ms ≡ true → IsLow w wrong add ms → closes_by_sum all_facts (terms_from 0 (mixed w wrong add ms)) ≡ true
   mix_closes w wrong add ms is wrong_may add_may own_may low =
@@ -144,7 +142,7 @@ module _ (leaf : LeafModel) (pred : PredModel) (b : Bool) (coefs : List ℤ) (co
       last : sum_of_facts constant_of all_facts (mixed w wrong add ms) ≤ℤ negsuc 0
       last =
           let sum = mix_sum constant_of w wrong add ms in
-          let first = weighted_sum-map constant_of (flow leaf) w (states_of leaf) ∙ total-none (λ q. w q *ℤ constant_of (flow leaf q)) (states_of leaf) (λ q. times_none (w q) (constant_of (flow leaf q)) (flow-constant q is)) in
+          let first = constant-helpers leaf w is.helpers in
           let second : (wrong *ℤ negsuc 0) ≡ neg_ℤ wrong = mul-neg wrong (pos 1) ∙ ap neg_ℤ (times-one wrong) in
           let bound = low.at_end in
           omega (arith, ints, sum, first, second, bound)

@@ -1,14 +1,17 @@
--- What is known of the power of a flock atom.
-use Rattle.std.proofs.Common.{◌≡◌, ◌∙◌, ℕ, ◌+◌, ◌<◌, ◌≤◌, Bool, true, false, List, refl, sym, arith}
-use Rattle.std.specs.Prelude.{ℤ, Some, None, find, if◌then◌else◌}
+-- What is known of the power of a flock atom, with an offset or without.
+use Rattle.std.proofs.Common.{◌≡◌, ◌⊎◌, ◌∙◌, inl, inr, ℕ, zero, suc, ◌+◌, ◌^◌, ◌<◌, ◌≤◌, Bool, true, false, cond, List, length, refl, ap, sym, arith}
+use Rattle.std.specs.Prelude.{ℤ, Some, None, find, nat_le, if◌then◌else◌}
 use Rattle.std.specs.List.{range_with_len, list_all}
 use Rattle.std.specs.Ordering.{int_eq}
 use Rattle.std.proofs.lemmas.Bool.Decides.{Decides-int_eq}
+use Rattle.std.proofs.lemmas.Bool.{leb-true, le-leb, cases_eq, cases_lt}
 use Rattle.std.proofs.lemmas.Option.{slice_get_within, get_or_from_slice_get}
 use Rattle.std.proofs.lemmas.List.FromFn.{length-range_with_len, get_or-range_with_len}
 use Rattle.pop_net.proofs.Found.{find_some}
+use Rattle.pop_io.specs.declared.names.TheConstants.{VARIABLE_LIMIT}
 use Rattle.comp_flock.specs.declared.limits.TheConstants.{POWER_LIMIT}
-use Rattle.comp_flock.specs.FlockLeaf.{is_flock_coefficient, flock_bound, power_of}
+use Rattle.comp_flock.specs.OffsetLaw.{IsLeastPower}
+use Rattle.comp_flock.specs.FlockLeaf.{is_counted, is_flock_coefficient, flock_bound, power_of, says_enough, enough_for, offset_power, IsOffset}
 
 pub record IsPower (coefs : List ℤ) (bound : ℤ) (k : ℕ) : Type 0 where
   pub are : list_all is_flock_coefficient coefs ≡ true
@@ -38,3 +41,73 @@ power_is coefs bound k e = go (list_all is_flock_coefficient coefs) refl e
           high = omega arith;
           bound_is = (Decides-int_eq bound (flock_bound k)).0 found.2;
         }
+
+pub record IsOffsetPower (coefs : List ℤ) (bound : ℤ) (k : ℕ) : Type 0 where
+  pub are : list_all (is_counted (says_enough bound)) coefs ≡ true
+  pub high : k ≤ POWER_LIMIT
+  pub within : enough_for bound ≤ 2 ^ k
+
+pub offset_power_is : (coefs : List ℤ) (bound : ℤ) (k : ℕ) → offset_power coefs bound ≡ Some k → IsOffsetPower coefs bound k
+offset_power_is coefs bound k e = go (list_all (is_counted (says_enough bound)) coefs) refl e
+  where
+    none_some : None ≡ Some k → IsOffsetPower coefs bound k
+    none_some h = cc
+
+    go : (c : Bool) → list_all (is_counted (says_enough bound)) coefs ≡ c → (if c then find (λ j. nat_le (enough_for bound) (2 ^ j)) (range_with_len 0 (POWER_LIMIT + 1)) else None) ≡ Some k → IsOffsetPower coefs bound k
+    go false f h = none_some h
+    go true f h =
+        let found = find_some (λ j. nat_le (enough_for bound) (2 ^ j)) (range_with_len 0 (POWER_LIMIT + 1)) k h in
+        let within = slice_get_within (range_with_len 0 (POWER_LIMIT + 1)) found.0 k found.1 in
+        let below : found.0 < POWER_LIMIT + 1 = omega (arith, within, length-range_with_len 0 (POWER_LIMIT + 1)) in
+        let same : 0 + found.0 ≡ k = sym (get_or-range_with_len 0 (POWER_LIMIT + 1) found.0 0 below) ∙ get_or_from_slice_get (range_with_len 0 (POWER_LIMIT + 1)) found.0 k 0 found.1 in
+        record {
+          are = f;
+          high = omega (arith, below, same);
+          within = leb-true (enough_for bound) (2 ^ k) found.2;
+        }
+
+pub offset_found : (coefs : List ℤ) (bound : ℤ) (k : ℕ) → 1 ≤ length coefs → length coefs ≤ VARIABLE_LIMIT → offset_power coefs bound ≡ Some k → IsOffset coefs bound k
+offset_found coefs bound k some few e =
+    let is = offset_power_is coefs bound k e in record { some = some; few = few; are = is.are; high = is.high; within = is.within }
+
+-- ---- what is found is the first
+
+find-first : (p : ℕ → Bool) (a n k : ℕ) → find p (range_with_len a n) ≡ Some k → (j : ℕ) → a ≤ j → j < k → p j ≡ false
+find-first p a zero k e j l m = absurd (let g : None ≡ Some k = e in cc)
+find-first p a (suc n) k e j l m = go (p a) refl e (λ f h. find-first p (a + 1) n k f j h m)
+  where
+    go : (b : Bool) → p a ≡ b → cond b (Some a) (find p (range_with_len (a + 1) n)) ≡ Some k → (find p (range_with_len (a + 1) n) ≡ Some k → a + 1 ≤ j → p j ≡ false) → p j ≡ false
+    go true h f rest = absurd (let g : Some a ≡ Some k = f in let same : a ≡ k = cc in omega (arith, same, l, m))
+    go false h f rest = elim (cases_eq a j) [
+      | inl g ↦ ap p (sym g) ∙ h
+      | inr g ↦ rest f (omega (arith, g, l))
+    ]
+
+find-any : (p : ℕ → Bool) (a n i : ℕ) → a ≤ i → i < a + n → p i ≡ true → (k : ℕ) × (find p (range_with_len a n) ≡ Some k)
+find-any p a zero i l m e = absurd (omega (arith, l, m))
+find-any p a (suc n) i l m e = go (p a) refl (λ h. find-any p (a + 1) n i h (omega (arith, m)) e)
+  where
+    go : (b : Bool) → p a ≡ b → (a + 1 ≤ i → (k : ℕ) × (find p (range_with_len (a + 1) n) ≡ Some k)) → (k : ℕ) × (cond b (Some a) (find p (range_with_len (a + 1) n)) ≡ Some k)
+    go true h rest = (a, refl)
+    go false h rest = elim (cases_eq a i) [
+      | inl g ↦ absurd (let f : true ≡ false = sym e ∙ ap p (sym g) ∙ h in cc)
+      | inr g ↦ rest (omega (arith, g, l))
+    ]
+
+pub offset_least : (coefs : List ℤ) (bound : ℤ) (k : ℕ) → offset_power coefs bound ≡ Some k → IsLeastPower (enough_for bound) k
+offset_least coefs bound k e = record {
+  enough = (offset_power_is coefs bound k e).within;
+  least = λ j l. go (list_all (is_counted (says_enough bound)) coefs) e j l (cases_lt j k);
+}
+  where
+    go : (c : Bool) → (if c then find (λ j. nat_le (enough_for bound) (2 ^ j)) (range_with_len 0 (POWER_LIMIT + 1)) else None) ≡ Some k → (j : ℕ) → enough_for bound ≤ 2 ^ j → (j < k) ⊎ (k ≤ j) → k ≤ j
+    go c h j l (inr m) = m
+    go false h j l (inl m) = absurd (let g : None ≡ Some k = h in cc)
+    go true h j l (inl m) =
+        let none = find-first (λ j. nat_le (enough_for bound) (2 ^ j)) 0 (POWER_LIMIT + 1) k h j (omega arith) m in
+        absurd (let f : true ≡ false = sym (le-leb (enough_for bound) (2 ^ j) l) ∙ none in cc)
+
+pub offset_every : (coefs : List ℤ) (bound : ℤ) → list_all (is_counted (says_enough bound)) coefs ≡ true → enough_for bound ≤ 2 ^ POWER_LIMIT → (k : ℕ) × (offset_power coefs bound ≡ Some k)
+offset_every coefs bound are l =
+    let found = find-any (λ j. nat_le (enough_for bound) (2 ^ j)) 0 (POWER_LIMIT + 1) POWER_LIMIT (omega arith) (omega arith) (le-leb (enough_for bound) (2 ^ POWER_LIMIT) l) in
+    (found.0, ap (λ (c : Bool). if c then find (λ j. nat_le (enough_for bound) (2 ^ j)) (range_with_len 0 (POWER_LIMIT + 1)) else None) are ∙ found.1)

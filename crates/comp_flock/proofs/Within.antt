@@ -12,7 +12,7 @@ use Rattle.cert_base.specs.ProofLimits.{IsSmall, IsSetWithin, IsNodeWithin, AreN
 use Rattle.comp_trees.specs.LeaderTree.{weighed_node}
 use Rattle.comp_trees.proofs.Limits.{weighed-within, all-zeros, one}
 use Rattle.comp_flock.specs.FlockLeaf.{size_in}
-use Rattle.comp_flock.specs.FlockProof.{flock_weight, flock_layers_of, flock_mix, lesser_size, few_mix, converted_mix, first_mix, start_mix, never_mix, flock_true_tree, flock_false_tree}
+use Rattle.comp_flock.specs.FlockProof.{flock_weight, flock_layers_of, flock_mix, lesser_size, few_mix, converted_mix, first_mix, start_mix, never_mix, enough_tree, too_few_tree, flock_tree}
 use Rattle.comp_flock.proofs.Powers.{size-le, power_small}
 use Rattle.list_laws.proofs.Ranges.{all_range}
 use Rattle.list_laws.proofs.Numbers.{size-neg}
@@ -52,7 +52,7 @@ converted-short k l =
     omega (arith, mix-long (zeros (k + 2)) (pos 1) (pos 0) (pos 0 ∷ replicate (k + 1) (negsuc 0)), length-replicate (k + 2) (pos 0), length-replicate (k + 1) (negsuc 0))
 
 pub start-short : (k : ℕ) → k ≤ 39 → length (start_mix k) ≤ 200
-start-short k l = omega (arith, mix-long (zeros (k + 2)) (pos 0) (pos 0) (pos 1 ∷ []), length-replicate (k + 2) (pos 0))
+start-short k l = omega (arith, mix-long (zeros (k + 2)) (pos 0) (if k == 0 then pos 1 else pos 0) (pos 1 ∷ []), length-replicate (k + 2) (pos 0))
 
 pub never-short : (k : ℕ) → k ≤ 39 → length (never_mix k) ≤ 200
 never-short k l =
@@ -86,8 +86,8 @@ module _ (k : ℕ) (high : k ≤ 39) where
       })
       (All-nil IsLayerWithin)
 
-  nothing : (wrong : ℤ) (own : List ℤ) → IsSmall wrong → length own ≤ k + 2 → All IsSmall own → IsNodeWithin (weighed_node (flock_mix (zeros (k + 2)) wrong (pos 0) own))
-  nothing wrong own w l os = mix-within (zeros (k + 2)) wrong (pos 0) own (k + 2) (k + 2) (omega (arith, length-replicate (k + 2) (pos 0))) l (omega arith) (all-zeros (k + 2)) w (omega arith) os
+  nothing : (wrong add : ℤ) (own : List ℤ) → IsSmall wrong → IsSmall add → length own ≤ k + 2 → All IsSmall own → IsNodeWithin (weighed_node (flock_mix (zeros (k + 2)) wrong add own))
+  nothing wrong add own w a l os = mix-within (zeros (k + 2)) wrong add own (k + 2) (k + 2) (omega (arith, length-replicate (k + 2) (pos 0))) l (omega arith) (all-zeros (k + 2)) w a os
 
   few-within : IsNodeWithin (weighed_node (few_mix k))
   few-within =
@@ -109,22 +109,26 @@ module _ (k : ℕ) (high : k ≤ 39) where
 
   converted-within : IsNodeWithin (weighed_node (converted_mix k))
   converted-within =
-      nothing (pos 1) (pos 0 ∷ replicate (k + 1) (negsuc 0)) (omega arith) (omega (arith, length-replicate (k + 1) (negsuc 0)))
+      nothing (pos 1) (pos 0) (pos 0 ∷ replicate (k + 1) (negsuc 0)) (omega arith) (omega arith) (omega (arith, length-replicate (k + 1) (negsuc 0)))
       (All-cons IsSmall (pos 0) (replicate (k + 1) (negsuc 0)) (omega arith) (All-replicate IsSmall (k + 1) (negsuc 0) (omega arith)))
 
   start-within : IsNodeWithin (weighed_node (start_mix k))
-  start-within = nothing (pos 0) (pos 1 ∷ []) (omega arith) (omega arith) (one (pos 1) (omega arith))
+  start-within = nothing (pos 0) (if k == 0 then pos 1 else pos 0) (pos 1 ∷ []) (omega arith) (once (k == 0)) (omega arith) (one (pos 1) (omega arith))
+    where
+      once : (b : Bool) → IsSmall (if b then pos 1 else pos 0)
+      once true = omega arith
+      once false = omega arith
 
   never-within : IsNodeWithin (weighed_node (never_mix k))
   never-within =
-      nothing (pos 1) (zeros (k + 1) ++ negsuc 0 ∷ []) (omega arith) (omega (arith, length-append (zeros (k + 1)) (negsuc 0 ∷ []), length-replicate (k + 1) (pos 0)))
+      nothing (pos 1) (pos 0) (zeros (k + 1) ++ negsuc 0 ∷ []) (omega arith) (omega arith) (omega (arith, length-append (zeros (k + 1)) (negsuc 0 ∷ []), length-replicate (k + 1) (pos 0)))
       (All-append IsSmall (zeros (k + 1)) (negsuc 0 ∷ []) (all-zeros (k + 1)) (one (negsuc 0) (omega arith)))
 
   twins-within : All IsNodeWithin (map Twin (range_with_len 1 k))
   twins-within = All-map IsNodeWithin Twin (range_with_len 1 k) (all_range (λ q. q < 2 ^ 16) 1 k (λ q l m. omega arith))
 
-  pub true-within : AreNodesWithin (flock_true_tree k)
-  true-within =
+  enough-within : AreNodesWithin (enough_tree k)
+  enough-within =
       let front = Open (k + 2 + 1) ∷ Present (k + 1) ∷ map Twin (range_with_len 1 k) in
       let back = weighed_node (few_mix k) ∷ weighed_node (converted_mix k) ∷ [] in (
         (omega (arith, length-append front back, length-map-range_with_len Twin 1 k)),
@@ -138,8 +142,8 @@ module _ (k : ℕ) (high : k ≤ 39) where
   full-within : IsSetWithin ((k + 1) ∷ [])
   full-within = (omega arith, All-cons (λ q. q < 2 ^ 16) (k + 1) [] (omega arith) (All-nil (λ q. q < 2 ^ 16)), tt)
 
-  pub false-within : AreNodesWithin (flock_false_tree k)
-  false-within =
+  too-few-within : AreNodesWithin (too_few_tree k)
+  too-few-within =
       let three = weighed_node (never_mix k) ∷ [] in
       let two = weighed_node (start_mix k) ∷ three in
       let one = weighed_node (first_mix k) ∷ two in (
@@ -150,3 +154,7 @@ module _ (k : ℕ) (high : k ≤ 39) where
             (All-cons IsNodeWithin (weighed_node (start_mix k)) three start-within
             (All-cons IsNodeWithin (weighed_node (never_mix k)) [] never-within (All-nil IsNodeWithin))))),
       )
+
+  pub tree-within : (enough : Bool) → AreNodesWithin (flock_tree enough k)
+  tree-within true = enough-within
+  tree-within false = too-few-within

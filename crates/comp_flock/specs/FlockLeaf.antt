@@ -1,17 +1,27 @@
--- FlockLeaf: the atoms that say `x >= 2^k`, and their built leaf with k + 2 states (Blondin, Esparza, Jaax 2018).
-use Rattle.std.specs.Prelude.{◌≡◌, ◌≤◌, ℕ, ◌+◌, ◌-◌, ◌^◌, Bool, true, ◌||◌, ◌==◌, if◌then◌else◌, List, [], ◌++◌, length}
-use Rattle.std.specs.Prelude.{map, ℤ, pos, negsuc, ◌-ℤ◌, Option, None, find}
+-- FlockLeaf: the atoms that say that a sum of variables is at least c, or deny it, and their built leaf with k + 2
+-- states, where c <= 2^k (Blondin, Esparza, Jaax 2018). Helpers stand for 2^k - c agents; with c = 2^k there are none.
+use Rattle.std.specs.Prelude.{◌≡◌, ◌≤◌, ℕ, zero, suc, ◌+◌, ◌-◌, ◌^◌, Bool, true, false, not, ◌||◌, ◌==◌, nat_le}
+use Rattle.std.specs.Prelude.{if◌then◌else◌, List, [], ◌++◌, length, map, filter, replicate, ℤ, pos, negsuc, ◌-ℤ◌}
+use Rattle.std.specs.Prelude.{Option, None, find}
 use Rattle.std.specs.List.{range_with_len, list_all}
 use Rattle.std.specs.Ordering.{int_eq}
 use Rattle.std.specs.Fmt.{decimal}
 use Rattle.pop_io.specs.declared.names.TheConstants.{VARIABLE_LIMIT}
+use Rattle.pop_net.specs.declared.limits.TheConstants.{HELPER_LIMIT}
 use Rattle.pop_net.specs.declared.leaf.Move.{Move}
 use Rattle.pop_net.specs.LeafModel.{LeafModel}
+use Rattle.comp_powers_leaf.specs.PowersLeaf.{has_bit}
 use Rattle.comp_flock.specs.declared.limits.TheConstants.{POWER_LIMIT}
+
+-- ---- the atoms that say `x >= 2^k`
+
+-- 0, or what an agent adds to the sum: -1 where the atom says that there are enough, 1 where it denies it
+abbrev pub is_counted : Bool → ℤ → Bool
+is_counted says a = int_eq a (pos 0) || int_eq a (if says then negsuc 0 else pos 1)
 
 -- 0 or -1
 abbrev pub is_flock_coefficient : ℤ → Bool
-is_flock_coefficient a = int_eq a (pos 0) || int_eq a (negsuc 0)
+is_flock_coefficient a = is_counted true a
 
 -- the bound of the atom that says `x >= 2^k`
 abbrev pub flock_bound : ℕ → ℤ
@@ -30,6 +40,38 @@ pub record IsFlock (coefs : List ℤ) (k : ℕ) : Type 0 where
   pub are : list_all is_flock_coefficient coefs ≡ true
   pub low : 1 ≤ k
   pub high : k ≤ POWER_LIMIT
+
+-- ---- the atoms that say `x >= c`, as -x < 1 - c, or deny it, as x < c, for any c from 1 on
+
+-- whether an atom with this bound says that there are enough
+abbrev pub says_enough : ℤ → Bool
+says_enough (pos zero) = true
+says_enough (pos (suc n)) = false
+says_enough (negsuc n) = true
+
+-- c, how many are enough
+abbrev pub enough_for : ℤ → ℕ
+enough_for (pos zero) = 1
+enough_for (pos (suc n)) = n + 1
+enough_for (negsuc n) = n + 2
+
+-- the least k up to the limit with c <= 2^k, if the atom counts agents
+abbrev pub power_of_counted : Bool → ℕ → List ℤ → Option ℕ
+power_of_counted says c coefs =
+    if list_all (is_counted says) coefs then find (λ k. nat_le c (2 ^ k)) (range_with_len 0 (POWER_LIMIT + 1)) else None
+
+abbrev pub offset_power : List ℤ → ℤ → Option ℕ
+offset_power coefs bound = power_of_counted (says_enough bound) (enough_for bound) coefs
+
+-- the atom counts agents, over at least one variable, and 2^k of them are enough
+pub record IsOffset (coefs : List ℤ) (bound : ℤ) (k : ℕ) : Type 0 where
+  pub some : 1 ≤ length coefs
+  pub few : length coefs ≤ VARIABLE_LIMIT
+  pub are : list_all (is_counted (says_enough bound)) coefs ≡ true
+  pub high : k ≤ POWER_LIMIT
+  pub within : enough_for bound ≤ 2 ^ k
+
+-- ---- states and moves
 
 -- how many agents a state stands for: `0` is state 0, and 2^i is state i + 1
 abbrev pub size_in : ℕ → ℕ
@@ -55,12 +97,49 @@ flock_state_count k = k + 2
 abbrev pub flock_state_name : ℕ → List ℕ
 flock_state_name q = decimal (size_in q)
 
-abbrev pub flock_leaf_of : List ℤ → ℕ → LeafModel
-flock_leaf_of coefs k =
+-- 2^k alone says that there are enough
+abbrev pub flock_output : Bool → ℕ → ℕ → Bool
+flock_output true k q = q == k + 1
+flock_output false k q = not (q == k + 1)
+
+-- ---- helpers
+
+-- the states 2^i for which bit i of a number is set
+abbrev pub bit_states : ℕ → ℕ → List ℕ
+bit_states n k = filter (λ q. has_bit n (q - 1)) (range_with_len 1 k)
+
+-- one for each one of the binary numeral of 2^k - c
+abbrev pub offset_helpers : ℤ → ℕ → List ℕ
+offset_helpers bound k = bit_states (2 ^ k - enough_for bound) k
+
+abbrev pub offset_helper_count : ℤ → ℕ → ℕ
+offset_helper_count bound k = length (offset_helpers bound k)
+
+-- spare ones are in `0`
+abbrev pub all_offset_helpers : ℤ → ℕ → ℕ → List ℕ
+all_offset_helpers bound k spare = offset_helpers bound k ++ replicate spare 0
+
+-- there is room for this many spare helpers
+abbrev pub HasSpareRoom : ℤ → ℕ → ℕ → Type 0
+HasSpareRoom bound k spare = offset_helper_count bound k + spare ≤ HELPER_LIMIT
+
+-- ---- the leaf
+
+abbrev pub flock_leaf_with : List ℤ → Bool → ℕ → List ℕ → LeafModel
+flock_leaf_with coefs says k helpers =
     record {
       states = map flock_state_name (range_with_len 0 (flock_state_count k));
       moves = flock_moves k;
       inputs = map flock_start coefs;
-      outputs = map (λ q. q == k + 1) (range_with_len 0 (flock_state_count k));
-      helpers = [];
+      outputs = map (flock_output says k) (range_with_len 0 (flock_state_count k));
+      helpers = helpers;
     }
+
+-- for `x >= 2^k`
+abbrev pub flock_leaf_of : List ℤ → ℕ → LeafModel
+flock_leaf_of coefs k = flock_leaf_with coefs true k []
+
+-- for `x >= c` or `x < c`, with this many spare helpers
+abbrev pub offset_leaf_of : List ℤ → ℤ → ℕ → ℕ → LeafModel
+offset_leaf_of coefs bound k spare =
+    flock_leaf_with coefs (says_enough bound) k (all_offset_helpers bound k spare)

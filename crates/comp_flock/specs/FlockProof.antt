@@ -1,6 +1,7 @@
--- FlockProof: the layer, the trees and the whole proof for a built leaf of a flock atom. The state 2^k is state k + 1.
-use Rattle.std.specs.Prelude.{ℕ, ◌+◌, ◌^◌, ◌==◌, if◌then◌else◌, List, [], ◌∷◌, ◌++◌, map, length, replicate, ℤ, pos}
-use Rattle.std.specs.Prelude.{negsuc, neg_ℤ}
+-- FlockProof: the layer, the trees and the whole proof for a built leaf of a flock atom, with an offset or without. The
+-- state 2^k is state k + 1.
+use Rattle.std.specs.Prelude.{ℕ, ◌+◌, ◌^◌, ◌==◌, if◌then◌else◌, Bool, true, false, not, List, [], ◌∷◌, ◌++◌, map}
+use Rattle.std.specs.Prelude.{length, replicate, ℤ, pos, negsuc, neg_ℤ}
 use Rattle.std.specs.List.{range_with_len}
 use Rattle.pres_ast.specs.PredTree.{LessThan}
 use Rattle.pres_ast.specs.PredModel.{PredModel}
@@ -10,7 +11,7 @@ use Rattle.cert_base.specs.declared.node.Node.TheVariants.{Present, Twin, Siphon
 use Rattle.cert_base.specs.declared.proof.LeafProof.{LeafProof}
 use Rattle.cert_base.specs.Rows.{zeros}
 use Rattle.comp_trees.specs.LeaderTree.{weighed_node}
-use Rattle.comp_flock.specs.FlockLeaf.{flock_bound, size_in, flock_state_count}
+use Rattle.comp_flock.specs.FlockLeaf.{flock_bound, says_enough, size_in, flock_state_count}
 
 -- ---- the layer
 
@@ -51,40 +52,53 @@ converted_mix k = flock_mix (zeros (flock_state_count k)) (pos 1) (pos 0) (pos 0
 abbrev pub first_mix : ℕ → List ℤ
 first_mix k = flock_mix (for_states k (lesser_size k)) (pos 0) (pos 1) (pos (2 ^ k) ∷ [])
 
--- no agent starts as 2^k
+-- no agent starts as 2^k; or 2^k is 1, and an agent that counts is enough
 abbrev pub start_mix : ℕ → List ℤ
-start_mix k = flock_mix (zeros (flock_state_count k)) (pos 0) (pos 0) (pos 1 ∷ [])
+start_mix k = flock_mix (zeros (flock_state_count k)) (pos 0) (if k == 0 then pos 1 else pos 0) (pos 1 ∷ [])
 
 -- 2^k never occurred, so no output is true
 abbrev pub never_mix : ℕ → List ℤ
 never_mix k = flock_mix (zeros (flock_state_count k)) (pos 1) (pos 0) (zeros (k + 1) ++ negsuc 0 ∷ [])
 
--- ---- the trees: 2^k is absent at the end, or present; 2^k was put in while absent, or was present at the start, or
--- never occurred
-abbrev pub flock_true_tree : ℕ → List Node
-flock_true_tree k =
+-- ---- the trees: where there are enough, 2^k is absent at the end, or present; where there aren't, 2^k was put in
+-- while absent, or was present at the start, or never occurred
+abbrev pub enough_tree : ℕ → List Node
+enough_tree k =
     (Open (flock_state_count k + 1) ∷ Present (k + 1) ∷ map Twin (range_with_len 1 k))
     ++ weighed_node (few_mix k) ∷ weighed_node (converted_mix k) ∷ []
 
-abbrev pub flock_false_tree : ℕ → List Node
-flock_false_tree k =
+abbrev pub too_few_tree : ℕ → List Node
+too_few_tree k =
     Open (flock_state_count k + 1) ∷ Siphon ((k + 1) ∷ []) ∷ weighed_node (first_mix k) ∷ weighed_node (start_mix k)
     ∷ weighed_node (never_mix k) ∷ []
 
+abbrev pub flock_tree : Bool → ℕ → List Node
+flock_tree true k = enough_tree k
+flock_tree false k = too_few_tree k
+
 -- ---- the whole proof of the leaf
 
--- how many steps per agent the proof allows
+-- how many steps per agent the proof allows; without a doubling one is enough
 abbrev pub flock_steps : ℕ
 flock_steps = 2
 
+abbrev pub offset_steps : ℕ → ℕ
+offset_steps k = if k == 0 then 1 else flock_steps
+
+abbrev pub offset_pred_of : List ℤ → ℤ → PredModel
+offset_pred_of coefs bound = record { variables = length coefs; tree = LessThan coefs bound }
+
 abbrev pub flock_pred_of : List ℤ → ℕ → PredModel
-flock_pred_of coefs k = record { variables = length coefs; tree = LessThan coefs (flock_bound k) }
+flock_pred_of coefs k = offset_pred_of coefs (flock_bound k)
+
+abbrev pub offset_part : List ℤ → ℤ → ℕ → LeafProof
+offset_part coefs bound k =
+    record {
+      pred = offset_pred_of coefs bound;
+      layers = flock_layers_of k;
+      on_true = flock_tree (says_enough bound) k;
+      on_false = flock_tree (not (says_enough bound)) k;
+    }
 
 abbrev pub flock_part : List ℤ → ℕ → LeafProof
-flock_part coefs k =
-    record {
-      pred = flock_pred_of coefs k;
-      layers = flock_layers_of k;
-      on_true = flock_true_tree k;
-      on_false = flock_false_tree k;
-    }
+flock_part coefs k = offset_part coefs (flock_bound k) k

@@ -1,2 +1,3 @@
 pub mod FlockLeaf
 pub mod FlockProof
+pub mod OffsetLaw

@@ -1,23 +1,35 @@
 //! The whole leaf.
 
-ghost use Rattle.std.specs.Prelude.{◌≡◌, ◌≤◌, ◌==◌, ◌+◌, map, IfOk};
+ghost use Rattle.std.specs.Prelude.{◌≡◌, ◌≤◌, map, IfOk};
 ghost use Rattle.std.specs.List.{range_with_len};
-ghost use Rattle.comp_trees.specs.DefinedLeaf.{HasInputs, IsDefined};
+ghost use Rattle.comp_trees.specs.DefinedLeaf.{IsDefined};
 ghost use Rattle.comp_flock.specs.declared.limits.TheConstants.{POWER_LIMIT};
-ghost use Rattle.comp_flock.specs.FlockLeaf.{flock_start, flock_state_count, flock_leaf_of};
+ghost use Rattle.comp_flock.specs.FlockLeaf.{flock_start, flock_state_count, flock_output};
+ghost use Rattle.comp_flock.specs.FlockLeaf.{offset_leaf_of, IsOffset, HasSpareRoom};
 
 use crate::listing::moves;
 use crate::naming::names;
+use crate::offset::{enough_for, helpers, missing, says_enough};
 use pop_io::{List, NoMemory};
 use pop_net::Leaf;
 use std::alloc::Global;
 
-fn outputs(alloc: Global, power: u16) -> Result<Vec<bool>, NoMemory>
+/// What 2^k says, and the others deny.
+fn output(says: bool, power: u16, q: u16) -> bool
+    requires { power ≤ POWER_LIMIT }
+    ensures { result ≡ flock_output says power q }
+{
+    if says { q == power + 1 } else { q != power + 1 }
+}
+
+fn outputs(alloc: Global, says: bool, power: u16) -> Result<Vec<bool>, NoMemory>
     requires { power ≤ POWER_LIMIT }
     ensures { IfOk result (λ outputs.
-        outputs.items ≡ map (λ q. q == power + 1) (range_with_len 0 (flock_state_count power))) }
+        outputs.items ≡ map (flock_output says power) (range_with_len 0 (flock_state_count power))) }
 {
-    let outputs = (0..power + 2).map(|q| q == power + 1).collect(alloc)?;
+    let outputs = (0..power + 2)
+        .map(|q| output(says, power, q))
+        .collect(alloc)?;
     Ok(outputs)
 }
 
@@ -38,17 +50,23 @@ fn inputs(alloc: Global, coefs: &[i64]) -> Result<Vec<u16>, NoMemory>
     Ok(inputs)
 }
 
-/// The leaf of the flock atom with these coefficients and this power. It has no helpers.
-pub(crate) fn flock_leaf(alloc: Global, coefs: &[i64], power: u16) -> Result<Leaf, NoMemory>
-    requires inputs { HasInputs coefs.now }
-    requires low { 1 ≤ power }
-    requires high { power ≤ POWER_LIMIT }
-    ensures { IfOk result (IsDefined (flock_leaf_of coefs.now power)) }
+/// The leaf of the atom with these numbers and this power, with this many spare helpers.
+pub(crate) fn flock_leaf(
+    alloc: Global,
+    coefs: &[i64],
+    bound: i64,
+    power: u16,
+    spare: u32,
+) -> Result<Leaf, NoMemory>
+    requires offset { IsOffset coefs.now bound power }
+    requires room { HasSpareRoom bound power spare }
+    ensures { IfOk result (IsDefined (offset_leaf_of coefs.now bound power spare)) }
 {
     let names = names(alloc, power)?;
     let moves = List::from_vec(moves(alloc, power)?);
     let inputs = List::from_vec(inputs(alloc, coefs)?);
-    let outputs = List::from_vec(outputs(alloc, power)?);
-    let helpers = List::from_vec(Vec::new(alloc));
+    let outputs = List::from_vec(outputs(alloc, says_enough(bound), power)?);
+    let missing = missing(enough_for(bound), power);
+    let helpers = List::from_vec(helpers(alloc, missing, power, spare)?);
     Leaf::of_valid(alloc, names, moves, inputs, outputs, helpers)
 }

@@ -1,26 +1,31 @@
-//! A leaf that computes `x >= 2^k` with k + 2 states, and its proof, for all coefficients and powers.
-//! It stands on `comp_trees`.
-//! The layer above uses: `flock_power` recognizes the atoms; `flock` gives exactly the built leaf, and a proof that is
-//! valid for it and within the limits.
+//! Leaves that compute `x >= c` or `x < c` with k + 2 states, for c at most 2^k, and their proofs, for all coefficients
+//! and bounds. It stands on `comp_trees`, and on `comp_powers_leaf` for bits of numbers.
+//! The layer above uses: `flock_power` and `offset_power` recognize the atoms; `flock` and `offset_flock` give exactly
+//! the built leaf, and a proof that is valid for it and within the limits.
 //!
 //! Each agent holds a power of 2 or nothing, and of two agents with the same power one takes both. An agent with 2^k
-//! converts all others to itself. Only 2^k has the output true.
+//! converts all others to itself. Only 2^k says that there are enough. Helpers hold 2^k - c, so that c agents make 2^k;
+//! where c is 2^k there are none.
 //!
 //! *It ends.* A joining leaves an agent with nothing, and an agent with 2^k converts all others. *It ends right.* The
-//! first 2^k takes 2^k agents. If it never occurred, each smaller power is present at most once, and all of them add up
-//! to at most 2^k - 1.
+//! first 2^k takes 2^k agents, with those that the helpers stand for. If it never occurred, each smaller power is
+//! present at most once, and all of them add up to at most 2^k - 1.
 #![tactic(auto)]
 
+mod law;
 mod leaf;
 mod limits;
 mod listing;
 mod multipliers;
 mod naming;
+mod offset;
 mod power;
 mod trees;
 mod weights;
 mod whole;
 
+pub use law::offset_flocks_are_right;
 pub use limits::POWER_LIMIT;
-pub use power::flock_power;
-pub use whole::flock;
+pub use offset::offset_helper_count;
+pub use power::{flock_power, offset_power};
+pub use whole::{flock, offset_flock};

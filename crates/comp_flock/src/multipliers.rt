@@ -1,6 +1,6 @@
 //! The multipliers of the nodes.
 
-ghost use Rattle.std.specs.Prelude.{◌≡◌, ◌≤◌, ◌+◌, map, pos, neg_ℤ, IfOk};
+ghost use Rattle.std.specs.Prelude.{◌≡◌, ◌≤◌, ◌+◌, ◌==◌, if◌then◌else◌, map, pos, neg_ℤ, IfOk};
 ghost use Rattle.std.specs.List.{range_with_len};
 ghost use Rattle.comp_flock.specs.declared.limits.TheConstants.{POWER_LIMIT};
 ghost use Rattle.comp_flock.specs.FlockLeaf.{size_in, flock_state_count};
@@ -110,13 +110,20 @@ pub(crate) fn first(alloc: Global, power: u16) -> Result<Vec<i64>, NoMemory>
     mix(alloc, flows.as_slice(), 0, 1, &[size(power + 1)])
 }
 
+/// How often the opened fact counts where an agent started as 2^k.
+fn opened_at_start(power: u16) -> i64
+    ensures { result ≡ (if power == 0 then pos 1 else pos 0) }
+{
+    if power == 0 { 1 } else { 0 }
+}
+
 /// An agent started as 2^k.
 pub(crate) fn start(alloc: Global, power: u16) -> Result<Vec<i64>, NoMemory>
     requires { power ≤ POWER_LIMIT }
     ensures { IfOk result (λ multipliers. multipliers.items ≡ start_mix power) }
 {
     let flows = vec![in alloc; 0i64; usize::from(power + 2)]?;
-    mix(alloc, flows.as_slice(), 0, 0, &[1])
+    mix(alloc, flows.as_slice(), 0, opened_at_start(power), &[1])
 }
 
 /// 2^k never occurred.

@@ -1,11 +1,11 @@
 //! Both trees of a leaf.
 
-ghost use Rattle.std.specs.Prelude.{◌≡◌, ◌≤◌, ◌+◌, ◌++◌, ◌∷◌, [], length, map, IfOk, OnOk};
+ghost use Rattle.std.specs.Prelude.{◌≡◌, ◌≤◌, ◌+◌, ◌++◌, ◌∷◌, [], length, map, not, IfOk, OnOk};
 ghost use Rattle.std.specs.List.{range_with_len};
 ghost use Rattle.cert_base.specs.declared.node.Node.TheVariants.{Siphon, Twin as twin_node};
 ghost use Rattle.comp_trees.specs.LeaderTree.{weighed_node};
 ghost use Rattle.comp_flock.specs.declared.limits.TheConstants.{POWER_LIMIT};
-ghost use Rattle.comp_flock.specs.FlockProof.{flock_true_tree, flock_false_tree};
+ghost use Rattle.comp_flock.specs.FlockProof.{enough_tree as tree_of_enough, too_few_tree as tree_of_few, flock_tree};
 
 use crate::multipliers::{converted, few, first, never, start};
 use cert_base::Node;
@@ -50,10 +50,10 @@ fn node(alloc: Global, multipliers: Vec<i64>) -> Result<Node, NoMemory>
     Ok(node)
 }
 
-/// If the predicate holds: 2^k is absent at the end, or it is present.
-fn true_tree(alloc: Global, power: u16) -> Result<List<Node>, NoMemory>
+/// Where there are enough: 2^k is absent at the end, or it is present.
+fn enough_tree(alloc: Global, power: u16) -> Result<List<Node>, NoMemory>
     requires { power ≤ POWER_LIMIT }
-    ensures { IfOk result (λ nodes. nodes ≡ flock_true_tree power) }
+    ensures { IfOk result (λ nodes. nodes ≡ tree_of_enough power) }
 {
     let mut nodes = Vec::new(alloc);
     nodes.push(Node::Open(opened(power)))?;
@@ -64,10 +64,10 @@ fn true_tree(alloc: Global, power: u16) -> Result<List<Node>, NoMemory>
     Ok(List::from_vec(nodes))
 }
 
-/// If it doesn't: 2^k was put together, or was present at the start, or never occurred.
-fn false_tree(alloc: Global, power: u16) -> Result<List<Node>, NoMemory>
+/// Where there aren't: 2^k was put together, or was present at the start, or never occurred.
+fn too_few_tree(alloc: Global, power: u16) -> Result<List<Node>, NoMemory>
     requires { power ≤ POWER_LIMIT }
-    ensures { IfOk result (λ nodes. nodes ≡ flock_false_tree power) }
+    ensures { IfOk result (λ nodes. nodes ≡ tree_of_few power) }
 {
     let mut nodes = Vec::new(alloc);
     nodes.push(Node::Open(opened(power)))?;
@@ -78,13 +78,28 @@ fn false_tree(alloc: Global, power: u16) -> Result<List<Node>, NoMemory>
     Ok(List::from_vec(nodes))
 }
 
-/// The trees for true and for false.
-pub(crate) fn both_trees(alloc: Global, power: u16) -> Result<(List<Node>, List<Node>), NoMemory>
+fn tree(alloc: Global, enough: bool, power: u16) -> Result<List<Node>, NoMemory>
     requires { power ≤ POWER_LIMIT }
-    ensures on_true { IfOk result (λ both. both.0 ≡ flock_true_tree power) }
-    ensures on_false { IfOk result (λ both. both.1 ≡ flock_false_tree power) }
+    ensures { IfOk result (λ nodes. nodes ≡ flock_tree enough power) }
 {
-    let on_true = true_tree(alloc, power)?;
-    let on_false = false_tree(alloc, power)?;
+    if enough {
+        enough_tree(alloc, power)
+    } else {
+        too_few_tree(alloc, power)
+    }
+}
+
+/// The trees for true and for false, if true says that there are enough, or denies it.
+pub(crate) fn both_trees(
+    alloc: Global,
+    says: bool,
+    power: u16,
+) -> Result<(List<Node>, List<Node>), NoMemory>
+    requires { power ≤ POWER_LIMIT }
+    ensures on_true { IfOk result (λ both. both.0 ≡ flock_tree says power) }
+    ensures on_false { IfOk result (λ both. both.1 ≡ flock_tree (not says) power) }
+{
+    let on_true = tree(alloc, says, power)?;
+    let on_false = tree(alloc, !says, power)?;
     Ok((on_true, on_false))
 }

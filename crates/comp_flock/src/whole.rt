@@ -2,10 +2,11 @@
 
 ghost use Rattle.std.specs.Prelude.{◌≡◌, IfOk};
 ghost use Rattle.comp_trees.specs.BuiltLeaf.{IsBuilt};
-ghost use Rattle.comp_flock.specs.FlockLeaf.{IsFlock, flock_leaf_of};
-ghost use Rattle.comp_flock.specs.FlockProof.{flock_part, flock_steps, flock_pred_of};
+ghost use Rattle.comp_flock.specs.FlockLeaf.{IsFlock, flock_leaf_of, IsOffset, HasSpareRoom, offset_leaf_of};
+ghost use Rattle.comp_flock.specs.FlockProof.{flock_steps, flock_pred_of, offset_part, offset_steps, offset_pred_of};
 
 use crate::leaf::flock_leaf;
+use crate::offset::says_enough;
 use crate::power::bound_of_power;
 use crate::trees::both_trees;
 use crate::weights::flock_layers;
@@ -15,24 +16,24 @@ use pop_net::Leaf;
 use pres_ast::{Pred, Tree};
 use std::alloc::Global;
 
-fn flock_pred(alloc: Global, coefs: &[i64], power: u32) -> Result<Pred, NoMemory>
-    requires { IsFlock coefs.now power }
-    ensures { IfOk result (λ pred. pred ≡ flock_pred_of coefs.now power) }
+fn offset_pred(alloc: Global, coefs: &[i64], bound: i64, power: u32) -> Result<Pred, NoMemory>
+    requires { IsOffset coefs.now bound power }
+    ensures { IfOk result (λ pred. pred ≡ offset_pred_of coefs.now bound) }
 {
     let tree = Tree::Less {
         coefs: List::from_vec(Vec::from_slice(alloc, coefs)?),
-        bound: bound_of_power(power),
+        bound,
     };
     Ok(Pred::new(coefs.len() as u16, tree))
 }
 
-fn leaf_proof(alloc: Global, coefs: &[i64], power: u32) -> Result<LeafProof, NoMemory>
-    requires { IsFlock coefs.now power }
-    ensures { IfOk result (λ part. part ≡ flock_part coefs.now power) }
+fn leaf_proof(alloc: Global, coefs: &[i64], bound: i64, power: u32) -> Result<LeafProof, NoMemory>
+    requires { IsOffset coefs.now bound power }
+    ensures { IfOk result (λ part. part ≡ offset_part coefs.now bound power) }
 {
-    let pred = flock_pred(alloc, coefs, power)?;
+    let pred = offset_pred(alloc, coefs, bound, power)?;
     let layers = flock_layers(alloc, power as u16)?;
-    let (on_true, on_false) = both_trees(alloc, power as u16)?;
+    let (on_true, on_false) = both_trees(alloc, says_enough(bound), power as u16)?;
     Ok(LeafProof {
         pred,
         layers,
@@ -41,14 +42,33 @@ fn leaf_proof(alloc: Global, coefs: &[i64], power: u32) -> Result<LeafProof, NoM
     })
 }
 
-/// The built leaf of the flock atom with these coefficients, each 0 or -1, and this power, and a valid proof for it. No
-/// two moves of the leaf take the same states.
+/// The built leaf of the atom `Less` with these numbers, which says that a sum of variables is at least c, or denies
+/// it, for c at most 2^k, with this many spare helpers; and a valid proof for it. No two moves of the leaf take the same
+/// states.
+pub fn offset_flock(
+    alloc: Global,
+    coefs: &[i64],
+    bound: i64,
+    power: u32,
+    spare: u32,
+) -> Result<(Leaf, LeafProof), NoMemory>
+    requires offset { IsOffset coefs.now bound power }
+    requires room { HasSpareRoom bound power spare }
+    ensures { IfOk result (λ both.
+        IsBuilt (offset_leaf_of coefs.now bound power spare) (offset_pred_of coefs.now bound) (offset_steps power)
+        both.0 both.1) }
+{
+    let leaf = flock_leaf(alloc, coefs, bound, power as u16, spare)?;
+    let proof = leaf_proof(alloc, coefs, bound, power)?;
+    Ok((leaf, proof))
+}
+
+/// The built leaf of the flock atom with these coefficients, each 0 or -1, and this power, and a valid proof for it. It
+/// has no helpers. No two moves of the leaf take the same states.
 pub fn flock(alloc: Global, coefs: &[i64], power: u32) -> Result<(Leaf, LeafProof), NoMemory>
     requires { IsFlock coefs.now power }
     ensures { IfOk result
         (λ both. IsBuilt (flock_leaf_of coefs.now power) (flock_pred_of coefs.now power) flock_steps both.0 both.1) }
 {
-    let leaf = flock_leaf(alloc, coefs, power as u16)?;
-    let proof = leaf_proof(alloc, coefs, power)?;
-    Ok((leaf, proof))
+    offset_flock(alloc, coefs, bound_of_power(power), power, 0)
 }

@@ -16,20 +16,20 @@ use Rattle.comp_threshold.specs.ThresholdLeaf.{threshold_width, place_of_value, 
 use Rattle.comp_threshold.specs.Built.{IsThreshold}
 use Rattle.comp_remainder.specs.RemainderLeaf.{residue_of, remainder_leaf_of}
 use Rattle.comp_remainder.specs.RemainderProof.{remainder_steps, remainder_part}
-use Rattle.comp_flock.specs.FlockLeaf.{flock_start, flock_leaf_of, flock_bound}
-use Rattle.comp_flock.specs.FlockProof.{flock_steps, flock_pred_of}
+use Rattle.comp_flock.specs.FlockLeaf.{flock_start, flock_leaf_of, flock_bound, offset_leaf_of, offset_helper_count}
+use Rattle.comp_flock.specs.FlockProof.{flock_steps, flock_pred_of, offset_steps, offset_pred_of}
 use Rattle.comp_trees.specs.BuiltLeaf.{IsBuilt}
 use Rattle.comp_powers_leaf.specs.PowersLeaf.{place, start_of, coefficient_of, powers_helper_count, powers_leaf_of}
 use Rattle.comp_powers.specs.PowersProof.{powers_pred_of, powers_steps}
 use Rattle.comp_net.specs.declared.choice.LeafChoice.{LeafChoice}
-use Rattle.comp_net.specs.declared.choice.LessLeaf.TheVariants.{Threshold, Flock, Powers}
+use Rattle.comp_net.specs.declared.choice.LessLeaf.TheVariants.{Threshold, Flock, Offset, Powers}
 use Rattle.comp_net.specs.Atoms.{atoms, postfix, less_leaf_for, most_helpers}
 use Rattle.comp_net.specs.declared.building.Built.{Built}
 use Rattle.comp_net.specs.BuiltNet.{less_leaf, leaf_of}
 use Rattle.comp_net.specs.BuiltBound.{less_steps}
 use Rattle.comp_net.specs.Building.{IsAtomProof, AreAtomProofs, AddProofs, AddsLeaf, AddsTree}
 
--- the leaf of a threshold, of a flock, or of powers, is that of the atom
+-- the leaf of a threshold, of a flock with an offset or without, or of powers, is that of the atom
 pub threshold_is : (choice : LeafChoice) (helpers : ℕ) (coefs : List ℤ) (bound : ℤ) (leaf : LeafModel) → less_leaf_for choice coefs bound ≡ Threshold → leaf ≡ threshold_leaf_of coefs bound
     → leaf ≡ leaf_of choice helpers (LessThan coefs bound)
 threshold_is choice helpers coefs bound leaf none is = is ∙ ap (less_leaf coefs bound helpers) (sym none)
@@ -37,6 +37,10 @@ threshold_is choice helpers coefs bound leaf none is = is ∙ ap (less_leaf coef
 pub flock_is : (choice : LeafChoice) (helpers : ℕ) (coefs : List ℤ) (bound : ℤ) (k : ℕ) (leaf : LeafModel) → less_leaf_for choice coefs bound ≡ Flock k → leaf ≡ flock_leaf_of coefs k
     → leaf ≡ leaf_of choice helpers (LessThan coefs bound)
 flock_is choice helpers coefs bound k leaf some is = is ∙ ap (less_leaf coefs bound helpers) (sym some)
+
+pub offset_is : (choice : LeafChoice) (helpers : ℕ) (coefs : List ℤ) (bound : ℤ) (k : ℕ) (leaf : LeafModel) → less_leaf_for choice coefs bound ≡ Offset k → leaf ≡ offset_leaf_of coefs bound k (helpers - offset_helper_count bound k)
+    → leaf ≡ leaf_of choice helpers (LessThan coefs bound)
+offset_is choice helpers coefs bound k leaf some is = is ∙ ap (less_leaf coefs bound helpers) (sym some)
 
 pub powers_is : (choice : LeafChoice) (helpers : ℕ) (coefs : List ℤ) (bound : ℤ) (k : ℕ) (leaf : LeafModel) → less_leaf_for choice coefs bound ≡ Powers k → leaf ≡ powers_leaf_of coefs bound k (helpers - powers_helper_count k)
     → leaf ≡ leaf_of choice helpers (LessThan coefs bound)
@@ -60,6 +64,16 @@ flock_proof choice helpers coefs bound k leaf part some same el ep valid within 
       valid = subst (λ l. ValidLeafProof l part) (flock_is choice helpers coefs bound k leaf some el) valid;
       within = subst (λ n. IsLeafProofWithin n part) long within;
       bound = steps ∙ ap (less_steps coefs bound) (sym some);
+    }
+
+pub offset_proof : (choice : LeafChoice) (helpers : ℕ) (coefs : List ℤ) (bound : ℤ) (k : ℕ) (leaf : LeafModel) (part : LeafProof) → less_leaf_for choice coefs bound ≡ Offset k → IsBuilt (offset_leaf_of coefs bound k (helpers - offset_helper_count bound k)) (offset_pred_of coefs bound) (offset_steps k) leaf part → IsAtomProof choice helpers (LessThan coefs bound) part
+offset_proof choice helpers coefs bound k leaf part some is =
+    let long : length coefs ≡ length (less_leaf coefs bound helpers (less_leaf_for choice coefs bound)).inputs = sym (length-map coefs flock_start) ∙ ap (λ o. length (less_leaf coefs bound helpers o).inputs) (sym some) in
+    record {
+      tree_is = ap (λ (p : PredModel). p.tree) is.pred_is;
+      valid = subst (λ l. ValidLeafProof l part) (offset_is choice helpers coefs bound k leaf some is.leaf_is) is.valid;
+      within = subst (λ n. IsLeafProofWithin n part) long is.within;
+      bound = is.bound ∙ ap (less_steps coefs bound) (sym some);
     }
 
 pub powers_proof : (choice : LeafChoice) (helpers : ℕ) (coefs : List ℤ) (bound : ℤ) (k : ℕ) (leaf : LeafModel) (part : LeafProof) → less_leaf_for choice coefs bound ≡ Powers k → IsBuilt (powers_leaf_of coefs bound k (helpers - powers_helper_count k)) (powers_pred_of coefs bound) (powers_steps coefs k) leaf part → IsAtomProof choice helpers (LessThan coefs bound) part

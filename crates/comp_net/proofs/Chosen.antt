@@ -13,8 +13,10 @@ use Rattle.comp_threshold.specs.ThresholdLeaf.{threshold_width}
 use Rattle.comp_threshold.specs.declared.fault.ThresholdFault.{ThresholdFault}
 use Rattle.comp_threshold.specs.declared.fault.ThresholdFault.TheVariants.{TooWide}
 use Rattle.comp_threshold.specs.Built.{IsWidthFault}
-use Rattle.comp_flock.specs.FlockLeaf.{power_of}
-use Rattle.comp_flock.proofs.PowerFound.{IsPower, power_is}
+use Rattle.comp_flock.specs.FlockLeaf.{power_of, offset_power, offset_helper_count, IsOffset}
+use Rattle.comp_flock.specs.declared.limits.TheConstants.{POWER_LIMIT}
+use Rattle.comp_flock.proofs.Offsets.{helpers-most}
+use Rattle.comp_flock.proofs.PowerFound.{IsPower, power_is, IsOffsetPower, offset_power_is}
 use Rattle.comp_powers_leaf.specs.declared.limits.TheConstants.{RANGE_LIMIT}
 use Rattle.comp_powers_leaf.specs.PowersLeaf.{roles, IsPowers}
 use Rattle.comp_powers_leaf.specs.PowersRange.{suffices, powers_range}
@@ -23,8 +25,8 @@ use Rattle.comp_net.specs.declared.limits.TheConstants.{NARROW_WIDTH_LIMIT}
 use Rattle.comp_net.specs.declared.choice.LeafChoice.{LeafChoice}
 use Rattle.comp_net.specs.declared.choice.LeafChoice.TheVariants.{Plain, Flocks, Succinct}
 use Rattle.comp_net.specs.declared.choice.LessLeaf.{LessLeaf}
-use Rattle.comp_net.specs.declared.choice.LessLeaf.TheVariants.{Threshold, Flock, Powers, NoLeaf}
-use Rattle.comp_net.specs.Atoms.{flock_or_threshold, powers_or_none, less_leaf_for, less_helpers, most_helpers, less_size, atom_size, size_limit, narrow_limit}
+use Rattle.comp_net.specs.declared.choice.LessLeaf.TheVariants.{Threshold, Flock, Offset, Powers, NoLeaf}
+use Rattle.comp_net.specs.Atoms.{flock_or_threshold, offset_or, powers_or_none, less_leaf_for, less_helpers, most_helpers, less_size, atom_size, size_limit, narrow_limit}
 
 -- the range is one of those that are tried
 pub range-low : (coefs : List ℤ) (bound : ℤ) (k : ℕ) → powers_range coefs bound ≡ Some k → k ≤ RANGE_LIMIT
@@ -45,6 +47,7 @@ abbrev pub IsChosen : LeafChoice → List ℤ → ℤ → LessLeaf → Type 0
 IsChosen choice coefs bound Threshold =
     (is_succinct choice ≡ false) × (size_limit choice ≡ WIDTH_LIMIT) × (narrow_limit choice ≡ NARROW_WIDTH_LIMIT)
 IsChosen choice coefs bound (Flock k) = (is_succinct choice ≡ false) × IsPower coefs bound k
+IsChosen choice coefs bound (Offset k) = IsOffsetPower coefs bound k
 IsChosen choice coefs bound (Powers k) =
     (size_limit choice ≡ STATE_LIMIT) × (narrow_limit choice ≡ NARROW_STATE_LIMIT) × (powers_range coefs bound ≡ Some k)
 IsChosen choice coefs bound NoLeaf = Unit {0}
@@ -56,17 +59,28 @@ chosen Flocks coefs bound = go (power_of coefs bound) refl
     go : (o : Option ℕ) → power_of coefs bound ≡ o → IsChosen Flocks coefs bound (flock_or_threshold o)
     go None e = (refl, refl, refl)
     go (Some k) e = (refl, power_is coefs bound k e)
-chosen Succinct coefs bound = go (powers_range coefs bound) refl
+chosen Succinct coefs bound = first (offset_power coefs bound) refl
   where
     go : (o : Option ℕ) → powers_range coefs bound ≡ o → IsChosen Succinct coefs bound (powers_or_none o)
     go None e = tt
     go (Some k) e = (refl, refl, e)
+
+    first : (o : Option ℕ) → offset_power coefs bound ≡ o → IsChosen Succinct coefs bound (offset_or (powers_or_none (powers_range coefs bound)) o)
+    first None e = go (powers_range coefs bound) refl
+    first (Some k) e = offset_power_is coefs bound k e
 
 pub chosen_as : (choice : LeafChoice) (coefs : List ℤ) (bound : ℤ) (leaf : LessLeaf) → less_leaf_for choice coefs bound ≡ leaf → IsChosen choice coefs bound leaf
 chosen_as choice coefs bound leaf e = subst (IsChosen choice coefs bound) e (chosen choice coefs bound)
 
 pub range_found : (choice : LeafChoice) (coefs : List ℤ) (bound : ℤ) (k : ℕ) → less_leaf_for choice coefs bound ≡ Powers k → k ≤ RANGE_LIMIT
 range_found choice coefs bound k e = let is = chosen_as choice coefs bound (Powers k) e in range-low coefs bound k is.2
+
+pub offset_low : (choice : LeafChoice) (coefs : List ℤ) (bound : ℤ) (k : ℕ) → less_leaf_for choice coefs bound ≡ Offset k → k ≤ POWER_LIMIT
+offset_low choice coefs bound k e = (chosen_as choice coefs bound (Offset k) e).high
+
+pub offset_is_one : (choice : LeafChoice) (coefs : List ℤ) (bound : ℤ) (k : ℕ) → less_leaf_for choice coefs bound ≡ Offset k → IsAtomSum coefs → IsOffset coefs bound k
+offset_is_one choice coefs bound k e sum =
+    let is = chosen_as choice coefs bound (Offset k) e in record { some = sum.some; few = sum.few; are = is.are; high = is.high; within = is.within }
 
 -- the range suffices where the leaf isn't too large
 pub powers_found : (choice : LeafChoice) (coefs : List ℤ) (bound : ℤ) (k : ℕ) → less_leaf_for choice coefs bound ≡ Powers k → IsAtomSum coefs → atom_size choice (LessThan coefs bound) ≤ size_limit choice → IsPowers coefs bound k
@@ -89,9 +103,10 @@ not_too_wide coefs bound (TooWide s) narrow wide = let same = wide.0 in let over
 
 -- ---- helpers
 
-few_helpers : (choice : LeafChoice) (coefs : List ℤ) (bound : ℤ) (leaf : LessLeaf) → IsChosen choice coefs bound leaf → less_helpers leaf ≤ RANGE_LIMIT + 2
+few_helpers : (choice : LeafChoice) (coefs : List ℤ) (bound : ℤ) (leaf : LessLeaf) → IsChosen choice coefs bound leaf → less_helpers bound leaf ≤ RANGE_LIMIT + 2
 few_helpers choice coefs bound Threshold is = omega arith
 few_helpers choice coefs bound (Flock k) is = omega arith
+few_helpers choice coefs bound (Offset k) is = let most = helpers-most bound k in let high = is.high in omega (arith, most, high)
 few_helpers choice coefs bound (Powers k) is = let low = range-low coefs bound k is.2 in omega (arith, low)
 few_helpers choice coefs bound NoLeaf is = omega arith
 
@@ -106,13 +121,13 @@ pub helpers-held : (choice : LeafChoice) (tree : PredTree) → most_helpers choi
 helpers-held choice tree = let few = helpers-few choice tree in omega (arith, few)
 
 -- only succinct nets have helpers
-no_flock_helpers : (o : Option ℕ) → less_helpers (flock_or_threshold o) ≡ 0
-no_flock_helpers None = refl
-no_flock_helpers (Some k) = refl
+no_flock_helpers : (bound : ℤ) (o : Option ℕ) → less_helpers bound (flock_or_threshold o) ≡ 0
+no_flock_helpers bound None = refl
+no_flock_helpers bound (Some k) = refl
 
 pub helpers-none : (choice : LeafChoice) (tree : PredTree) → is_succinct choice ≡ false → most_helpers choice tree ≡ 0
 helpers-none Plain (LessThan coefs bound) e = refl
-helpers-none Flocks (LessThan coefs bound) e = no_flock_helpers (power_of coefs bound)
+helpers-none Flocks (LessThan coefs bound) e = no_flock_helpers bound (power_of coefs bound)
 helpers-none Succinct (LessThan coefs bound) e = cc
 helpers-none choice (Congruent coefs m rest) e = refl
 helpers-none choice (Negation p) e = helpers-none choice p e

@@ -1,6 +1,7 @@
 pub mod Postfix
 pub mod Narrow
 pub mod Chosen
+pub mod FewerStates
 pub mod Valid
 pub mod Adding
 pub mod AtLeastTwoProof

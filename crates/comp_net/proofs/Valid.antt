@@ -1,5 +1,5 @@
 -- The built net is a net, and its proof is valid.
-use Rattle.std.proofs.Common.{◌≡◌, inl, inr, true, false, subst, ℕ, zero, suc, ◌+◌, ◌-◌, ◌≤◌, List, [], ◌∷◌, length, map, get_or, refl, ap, sym, ◌∙◌, zero-add, arith}
+use Rattle.std.proofs.Common.{◌≡◌, inl, inr, true, false, subst, ℕ, zero, suc, ◌+◌, ◌-◌, ◌≤◌, List, [], ◌∷◌, ◌++◌, length, map, get_or, refl, ap, sym, ◌∙◌, zero-add, arith}
 use Rattle.std.specs.Prelude.{ℤ, pos, Some, None, IsSomeAnd, All, replicate, AllPairs, slice_get, sum_by}
 use Rattle.std.proofs.lemmas.Bool.{le-ltb, cases_lt, false≢true}
 use Rattle.std.proofs.lemmas.List.{length-map, length-append, length-replicate}
@@ -30,8 +30,8 @@ use Rattle.comp_threshold.proofs.Single.{moves-single as threshold_single}
 use Rattle.comp_remainder.specs.RemainderLeaf.{remainder_state_name}
 use Rattle.comp_remainder.proofs.Formed.{remainder-formed}
 use Rattle.comp_remainder.proofs.SingleMoves.{moves-single as remainder_single}
-use Rattle.comp_flock.specs.FlockLeaf.{flock_start, flock_state_name}
-use Rattle.comp_flock.proofs.Formed.{flock-formed}
+use Rattle.comp_flock.specs.FlockLeaf.{flock_start, flock_state_name, offset_helpers, offset_helper_count}
+use Rattle.comp_flock.proofs.Formed.{flock-formed, offset-formed}
 use Rattle.comp_flock.proofs.SingleMoves.{moves-single as flock_single}
 use Rattle.comp_powers_leaf.specs.declared.role.Role.TheVariants.{Nothing}
 use Rattle.comp_powers_leaf.specs.PowersLeaf.{roles, place, start_of, coefficient_of, lacking, bit_role, helper_roles, all_helper_roles, state_name_at}
@@ -40,7 +40,7 @@ use Rattle.comp_powers_leaf.proofs.Formed.{powers-formed}
 use Rattle.comp_powers_leaf.proofs.Single.{moves-single as powers_single}
 use Rattle.comp_net.specs.declared.choice.LeafChoice.{LeafChoice}
 use Rattle.comp_net.specs.declared.choice.LessLeaf.{LessLeaf}
-use Rattle.comp_net.specs.declared.choice.LessLeaf.TheVariants.{Threshold, Flock, Powers, NoLeaf}
+use Rattle.comp_net.specs.declared.choice.LessLeaf.TheVariants.{Threshold, Flock, Offset, Powers, NoLeaf}
 use Rattle.comp_net.specs.Atoms.{atoms, postfix, less_leaf_for, is_none, less_helpers, most_helpers, less_size, atom_size, size_limit, narrow_limit, AreBuildable}
 use Rattle.comp_net.specs.BuiltNet.{less_leaf, leaf_of, net_with}
 use Rattle.comp_net.specs.BuiltBound.{atom_steps}
@@ -79,7 +79,7 @@ net_helped choice tree = record {
   none = helpers-none choice tree;
 }
 
-less_built : (choice : LeafChoice) (helpers : ℕ) (coefs : List ℤ) (bound : ℤ) (leaf : LessLeaf) → IsChosen choice coefs bound leaf → IsAtomSum coefs → is_none leaf ≡ false → less_size coefs bound leaf ≤ size_limit choice → less_helpers leaf ≤ helpers → helpers ≤ HELPER_LIMIT → (is_succinct choice ≡ false → helpers ≡ 0)
+less_built : (choice : LeafChoice) (helpers : ℕ) (coefs : List ℤ) (bound : ℤ) (leaf : LessLeaf) → IsChosen choice coefs bound leaf → IsAtomSum coefs → is_none leaf ≡ false → less_size coefs bound leaf ≤ size_limit choice → less_helpers bound leaf ≤ helpers → helpers ≤ HELPER_LIMIT → (is_succinct choice ≡ false → helpers ≡ 0)
     → IsBuiltLeaf (length coefs) helpers (less_size coefs bound leaf ≤ narrow_limit choice) (less_leaf coefs bound helpers leaf)
 less_built choice helpers coefs bound Threshold is sum some few enough most none = record {
   formed = threshold-formed coefs bound sum.some sum.few (let limit = is.1 in omega (arith, few, limit));
@@ -95,6 +95,17 @@ less_built choice helpers coefs bound (Flock k) is sum some few enough most none
       inputs = length-map coefs flock_start;
       helped = sym (none is.0);
       narrow = λ l. le-ltb NARROW_STATE_LIMIT _ (let high = found.high in omega (arith, length-map-range_with_len flock_state_name 0 (k + 2), high));
+      single = flock_single k;
+    }
+less_built choice helpers coefs bound (Offset k) is sum some few enough most none =
+    let spare = helpers - offset_helper_count bound k in
+    let held = length-append (offset_helpers bound k) (replicate spare 0) in
+    let more = length-replicate spare (let nobody : ℕ = 0 in nobody) in
+    record {
+      formed = offset-formed coefs bound k spare (record { some = sum.some; few = sum.few; are = is.are; high = is.high; within = is.within }) (let room : offset_helper_count bound k + spare ≤ HELPER_LIMIT = omega (arith, enough, most) in room);
+      inputs = length-map coefs flock_start;
+      helped = (let h : length (offset_helpers bound k ++ replicate spare 0) ≡ helpers = omega (arith, held, more, enough) in h);
+      narrow = λ l. le-ltb NARROW_STATE_LIMIT _ (let high = is.high in omega (arith, length-map-range_with_len flock_state_name 0 (k + 2), high));
       single = flock_single k;
     }
 less_built choice helpers coefs bound (Powers k) is sum some few enough most none =

@@ -11,14 +11,14 @@ use Rattle.pres_ast.specs.PredTree.{PredTree, LessThan, Congruent, Negation, Con
 use Rattle.comp_threshold.specs.declared.limits.TheConstants.{WIDTH_LIMIT}
 use Rattle.comp_threshold.specs.ThresholdLeaf.{threshold_width}
 use Rattle.comp_remainder.specs.RemainderLeaf.{remainder_state_count}
-use Rattle.comp_flock.specs.FlockLeaf.{power_of}
+use Rattle.comp_flock.specs.FlockLeaf.{power_of, offset_power, flock_state_count, offset_helper_count}
 use Rattle.comp_powers_leaf.specs.PowersLeaf.{roles, powers_helper_count}
 use Rattle.comp_powers_leaf.specs.PowersRange.{powers_range}
 use Rattle.comp_net.specs.declared.limits.TheConstants.{NARROW_WIDTH_LIMIT}
 use Rattle.comp_net.specs.declared.choice.LeafChoice.{LeafChoice}
 use Rattle.comp_net.specs.declared.choice.LeafChoice.TheVariants.{Plain, Flocks, Succinct}
 use Rattle.comp_net.specs.declared.choice.LessLeaf.{LessLeaf}
-use Rattle.comp_net.specs.declared.choice.LessLeaf.TheVariants.{Threshold, Flock, Powers, NoLeaf}
+use Rattle.comp_net.specs.declared.choice.LessLeaf.TheVariants.{Threshold, Flock, Offset, Powers, NoLeaf}
 
 -- each atom is a tree itself
 abbrev pub atoms : PredTree → List PredTree
@@ -46,14 +46,21 @@ abbrev pub powers_or_none : Option ℕ → LessLeaf
 powers_or_none None = NoLeaf
 powers_or_none (Some range) = Powers range
 
+-- a flock with an offset, which has k + 2 states where powers have 2k + 5 at least
+abbrev pub offset_or : LessLeaf → Option ℕ → LessLeaf
+offset_or other None = other
+offset_or other (Some power) = Offset power
+
 abbrev pub less_leaf_for : LeafChoice → List ℤ → ℤ → LessLeaf
 less_leaf_for Plain coefs bound = Threshold
 less_leaf_for Flocks coefs bound = flock_or_threshold (power_of coefs bound)
-less_leaf_for Succinct coefs bound = powers_or_none (powers_range coefs bound)
+less_leaf_for Succinct coefs bound =
+    offset_or (powers_or_none (powers_range coefs bound)) (offset_power coefs bound)
 
 abbrev pub is_none : LessLeaf → Bool
 is_none Threshold = false
 is_none (Flock power) = false
+is_none (Offset power) = false
 is_none (Powers range) = false
 is_none NoLeaf = true
 
@@ -67,15 +74,16 @@ has_no_leaf choice (Disjunction p q) = false
 -- ---- helpers
 
 -- how many helpers the leaf of an atom needs
-abbrev pub less_helpers : LessLeaf → ℕ
-less_helpers Threshold = 0
-less_helpers (Flock power) = 0
-less_helpers (Powers range) = powers_helper_count range
-less_helpers NoLeaf = 0
+abbrev pub less_helpers : ℤ → LessLeaf → ℕ
+less_helpers bound Threshold = 0
+less_helpers bound (Flock power) = 0
+less_helpers bound (Offset power) = offset_helper_count bound power
+less_helpers bound (Powers range) = powers_helper_count range
+less_helpers bound NoLeaf = 0
 
 -- as many as the atom that needs most
 abbrev pub most_helpers : LeafChoice → PredTree → ℕ
-most_helpers choice (LessThan coefs bound) = less_helpers (less_leaf_for choice coefs bound)
+most_helpers choice (LessThan coefs bound) = less_helpers bound (less_leaf_for choice coefs bound)
 most_helpers choice (Congruent coefs m rest) = 0
 most_helpers choice (Negation p) = most_helpers choice p
 most_helpers choice (Conjunction p q) = max (most_helpers choice p) (most_helpers choice q)
@@ -87,6 +95,7 @@ most_helpers choice (Disjunction p q) = max (most_helpers choice p) (most_helper
 abbrev pub less_size : List ℤ → ℤ → LessLeaf → ℕ
 less_size coefs bound Threshold = threshold_width coefs bound
 less_size coefs bound (Flock power) = 0
+less_size coefs bound (Offset power) = flock_state_count power
 less_size coefs bound (Powers range) = length (roles coefs range)
 less_size coefs bound NoLeaf = 0
 

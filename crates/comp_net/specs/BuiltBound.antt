@@ -3,17 +3,18 @@ use Rattle.std.specs.Prelude.{ℕ, List, ℤ, sum_by}
 use Rattle.pres_ast.specs.PredTree.{PredTree, LessThan, Congruent, Negation, Conjunction, Disjunction}
 use Rattle.comp_threshold.specs.Built.{threshold_steps}
 use Rattle.comp_remainder.specs.RemainderProof.{remainder_steps}
-use Rattle.comp_flock.specs.FlockProof.{flock_steps}
+use Rattle.comp_flock.specs.FlockProof.{flock_steps, offset_steps}
 use Rattle.comp_powers.specs.PowersProof.{powers_steps}
 use Rattle.comp_net.specs.Atoms.{atoms, less_leaf_for}
 use Rattle.comp_net.specs.declared.choice.LeafChoice.{LeafChoice}
 use Rattle.comp_net.specs.declared.choice.LessLeaf.{LessLeaf}
-use Rattle.comp_net.specs.declared.choice.LessLeaf.TheVariants.{Threshold, Flock, Powers, NoLeaf}
+use Rattle.comp_net.specs.declared.choice.LessLeaf.TheVariants.{Threshold, Flock, Offset, Powers, NoLeaf}
 
 -- for the leaf that the atom gets
 abbrev pub less_steps : List ℤ → ℤ → LessLeaf → ℕ
 less_steps coefs bound Threshold = threshold_steps coefs bound
 less_steps coefs bound (Flock power) = flock_steps
+less_steps coefs bound (Offset power) = offset_steps power
 less_steps coefs bound (Powers range) = powers_steps coefs range
 less_steps coefs bound NoLeaf = 0
 

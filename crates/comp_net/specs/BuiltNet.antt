@@ -5,18 +5,20 @@ use Rattle.pop_net.specs.NetModel.{NetModel}
 use Rattle.pres_ast.specs.PredTree.{PredTree, LessThan, Congruent, Negation, Conjunction, Disjunction}
 use Rattle.comp_threshold.specs.ThresholdLeaf.{threshold_leaf_of}
 use Rattle.comp_remainder.specs.RemainderLeaf.{remainder_leaf_of}
-use Rattle.comp_flock.specs.FlockLeaf.{flock_leaf_of}
+use Rattle.comp_flock.specs.FlockLeaf.{flock_leaf_of, offset_leaf_of, offset_helper_count}
 use Rattle.comp_powers_leaf.specs.PowersLeaf.{powers_leaf_of, powers_helper_count}
 use Rattle.comp_net.specs.Atoms.{atoms, postfix, less_leaf_for, most_helpers}
 use Rattle.comp_net.specs.declared.choice.LeafChoice.{LeafChoice}
 use Rattle.comp_net.specs.declared.choice.LeafChoice.TheVariants.{Plain}
 use Rattle.comp_net.specs.declared.choice.LessLeaf.{LessLeaf}
-use Rattle.comp_net.specs.declared.choice.LessLeaf.TheVariants.{Threshold, Flock, Powers, NoLeaf}
+use Rattle.comp_net.specs.declared.choice.LessLeaf.TheVariants.{Threshold, Flock, Offset, Powers, NoLeaf}
 
 -- the leaf of an atom in a net with so many helpers; those that the atom has no need of are spare
 abbrev pub less_leaf : List ℤ → ℤ → ℕ → LessLeaf → LeafModel
 less_leaf coefs bound helpers Threshold = threshold_leaf_of coefs bound
 less_leaf coefs bound helpers (Flock power) = flock_leaf_of coefs power
+less_leaf coefs bound helpers (Offset power) =
+    offset_leaf_of coefs bound power (helpers - offset_helper_count bound power)
 less_leaf coefs bound helpers (Powers range) = powers_leaf_of coefs bound range (helpers - powers_helper_count range)
 less_leaf coefs bound helpers NoLeaf = threshold_leaf_of coefs bound
 

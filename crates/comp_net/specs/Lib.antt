@@ -5,3 +5,4 @@ pub mod BuiltBound
 pub mod Building
 pub mod Compiles
 pub mod AtLeastTwo
+pub mod Smaller

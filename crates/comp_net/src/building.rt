@@ -13,7 +13,8 @@ ghost use Rattle.cert_base.specs.ProofLimits.{IsProofWithin};
 ghost use Rattle.cert_base.specs.ValidProof.{ValidProof};
 ghost use Rattle.pop_checker.specs.Sound.{IsRight};
 ghost use Rattle.comp_net.specs.Atoms.{atoms, less_leaf_for, most_helpers, AreBuildable};
-ghost use Rattle.comp_net.specs.declared.choice.LessLeaf.TheVariants.{Threshold, Flock, Powers};
+ghost use Rattle.comp_net.specs.declared.choice.LessLeaf.TheVariants.{Threshold, Flock, Offset, Powers};
+ghost use Rattle.comp_flock.specs.FlockLeaf.{offset_helper_count as offset_count};
 ghost use Rattle.comp_net.specs.BuiltNet.{net_with};
 ghost use Rattle.comp_net.specs.BuiltBound.{built_bound};
 ghost use Rattle.comp_net.specs.Building.{AddsLeaf, AddsTree};
@@ -22,7 +23,7 @@ ghost use Rattle.comp_net.specs.CompileFaults.{fault_with};
 use crate::choice::{LeafChoice, LessLeaf, less_leaf};
 use crate::helpers::count_helpers;
 use cert_base::{LeafProof, Proof};
-use comp_flock::flock;
+use comp_flock::{flock, offset_flock, offset_helper_count};
 use comp_powers::powers;
 use comp_remainder::remainder;
 use comp_threshold::{ThresholdFault, threshold};
@@ -68,6 +69,9 @@ impl Built {
         match less_leaf(choice, coefs, bound) {
             LessLeaf::Threshold => self.push_threshold(alloc, choice, helpers, coefs, bound),
             LessLeaf::Flock(power) => self.push_flock(alloc, choice, helpers, coefs, bound, power),
+            LessLeaf::Offset(power) => self.push_offset(
+                alloc, choice, helpers, coefs, bound, power,
+            ),
             LessLeaf::Powers(range) => self.push_powers(
                 alloc, choice, helpers, coefs, bound, range,
             ),
@@ -90,6 +94,27 @@ impl Built {
         ensures { OnOk result (AddsTree choice helpers (LessThan coefs.now bound) self.old self.new) }
     {
         let (leaf, part) = flock(alloc, coefs, power)?;
+        self.push_atom(leaf, part)
+    }
+
+    fn push_offset(
+        &mut self,
+        alloc: Global,
+        choice: LeafChoice,
+        helpers: u32,
+        coefs: &[i64],
+        bound: i64,
+        power: u32,
+    ) -> Result<(), NoMemory>
+        requires few { length self.old.leaves.items < LEAF_LIMIT }
+        requires atom { AreBuildable choice (LessThan coefs.now bound) }
+        requires power { less_leaf_for choice coefs.now bound ≡ Offset power }
+        requires enough { offset_count bound power ≤ helpers }
+        requires most { helpers ≤ HELPER_LIMIT }
+        ensures { OnOk result (AddsTree choice helpers (LessThan coefs.now bound) self.old self.new) }
+    {
+        let spare = helpers - offset_helper_count(bound, power);
+        let (leaf, part) = offset_flock(alloc, coefs, bound, power, spare)?;
         self.push_atom(leaf, part)
     }
 

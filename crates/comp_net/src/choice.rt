@@ -1,10 +1,11 @@
 //! Which atoms have a leaf of their own.
 
 ghost use Rattle.std.specs.Prelude.{◌≡◌};
-ghost use Rattle.comp_net.specs.Atoms.{less_leaf_for, flock_or_threshold, powers_or_none, size_limit, narrow_limit};
+ghost use Rattle.comp_net.specs.Atoms.{less_leaf_for, flock_or_threshold, offset_or, powers_or_none};
+ghost use Rattle.comp_net.specs.Atoms.{size_limit, narrow_limit};
 
 use crate::limits::NARROW_WIDTH_LIMIT;
-use comp_flock::flock_power;
+use comp_flock::{flock_power, offset_power};
 use comp_powers::powers_range;
 use comp_threshold::WIDTH_LIMIT;
 use pop_net::{NARROW_STATE_LIMIT, STATE_LIMIT};
@@ -16,7 +17,8 @@ pub enum LeafChoice {
     Plain,
     /// That of a flock for a flock atom, and the plain ones for all others.
     Flocks,
-    /// That of powers for an atom `Less`, and that of a remainder, all with equally many helpers.
+    /// That of a flock with an offset for an atom that says that a sum of variables is at least c, or denies it, that
+    /// of powers for any other atom `Less`, and that of a remainder, all with equally many helpers.
     Succinct,
 }
 
@@ -26,6 +28,8 @@ pub(crate) enum LessLeaf {
     Threshold,
     /// That of a flock with this power.
     Flock(u32),
+    /// That of a flock with an offset, with this power.
+    Offset(u32),
     /// That of powers with this range.
     Powers(u32),
     /// No range suffices for its numbers.
@@ -50,6 +54,16 @@ fn by_range(range: Option<u32>) -> LessLeaf
     }
 }
 
+/// A flock with an offset has k + 2 states, and powers have 2k + 5 at least.
+fn by_offset(power: Option<u32>, other: LessLeaf) -> LessLeaf
+    ensures { result ≡ offset_or other power }
+{
+    match power {
+        Some(power) => LessLeaf::Offset(power),
+        None => other,
+    }
+}
+
 /// The leaf of the atom `Less` with these numbers.
 pub(crate) fn less_leaf(choice: LeafChoice, coefs: &[i64], bound: i64) -> LessLeaf
     ensures { result ≡ less_leaf_for choice coefs.now bound }
@@ -57,7 +71,10 @@ pub(crate) fn less_leaf(choice: LeafChoice, coefs: &[i64], bound: i64) -> LessLe
     match choice {
         LeafChoice::Plain => LessLeaf::Threshold,
         LeafChoice::Flocks => by_power(flock_power(coefs, bound)),
-        LeafChoice::Succinct => by_range(powers_range(coefs, bound)),
+        LeafChoice::Succinct => by_offset(
+            offset_power(coefs, bound),
+            by_range(powers_range(coefs, bound)),
+        ),
     }
 }
 

@@ -6,6 +6,7 @@ ghost use Rattle.pres_ast.specs.PredTree.{LessThan};
 ghost use Rattle.comp_net.specs.Atoms.{most_helpers};
 
 use crate::choice::{LeafChoice, LessLeaf, less_leaf};
+use comp_flock::offset_helper_count;
 use pop_net::HELPER_LIMIT;
 use pres_ast::Tree;
 
@@ -16,6 +17,7 @@ fn less_helpers(choice: LeafChoice, coefs: &[i64], bound: i64) -> u32
 {
     match less_leaf(choice, coefs, bound) {
         LessLeaf::Powers(range) => range + 2,
+        LessLeaf::Offset(power) => offset_helper_count(bound, power),
         LessLeaf::Threshold => 0,
         LessLeaf::Flock(_) => 0,
         LessLeaf::NoLeaf => 0,

@@ -17,6 +17,6 @@ mod whole;
 
 pub use choice::LeafChoice;
 pub use fault::CompileFault;
-pub use law::at_least_two_computes;
+pub use law::{at_least_two_computes, flocks_are_smaller};
 pub use limits::NARROW_WIDTH_LIMIT;
 pub use whole::{compile, compile_flocks, compile_succinct};

@@ -41,6 +41,7 @@ fn less_size(choice: LeafChoice, coefs: &[i64], bound: i64) -> u64
     match less_leaf(choice, coefs, bound) {
         LessLeaf::Threshold => width(coefs, bound),
         LessLeaf::Flock(_) => 0,
+        LessLeaf::Offset(power) => u64::from(power) + 2,
         LessLeaf::Powers(range) => u64::from(powers_states(coefs, range)),
         LessLeaf::NoLeaf => 0,
     }

@@ -1,22 +1,24 @@
-use Rattle.std.proofs.Common.{◌∙◌, ap, sym, subst, length}
-use Rattle.cert_base.specs.declared.proof.LeafProof.{LeafProof}
-use Rattle.cert_base.specs.ProofBound.{layers_bound}
-use Rattle.cert_base.specs.ProofLimits.{IsLeafProofWithin}
-use Rattle.comp_flock.proofs.Steps.{steps_are}
-use Rattle.comp_flock.proofs.Valid.{flock-within, whole-valid}
+use Rattle.std.proofs.Common.{◌∙◌, sym, subst, rules, w64, SFits}
+use Rattle.std.proofs.lemmas.Int.{to_z-of_z}
+use Rattle.std.proofs.lemmas.Result.{IfOk-weaker}
+use Rattle.comp_trees.specs.BuiltLeaf.{IsBuilt}
+use Rattle.comp_flock.specs.FlockLeaf.{HasSpareRoom, offset_leaf_of}
+use Rattle.comp_flock.specs.FlockProof.{offset_pred_of, offset_steps}
+use Rattle.comp_flock.proofs.Valid.{no-spare, flock-built}
 use Rattle.comp_flock.proofs.whole.flock.Goals as goal
+
+pub offset_flock-requires-clause-room : goal.offset_flock-requires-clause-room
+offset_flock-requires-clause-room c =
+    let fits : SFits w64 c.bound_of_power.result = search rules in
+    let same = to_z-of_z w64 c.bound_of_power.result fits ∙ c.bound_of_power.ensures in
+    subst (λ z. HasSpareRoom z c.args.power 0) (sym same) (no-spare c.args.power)
 
 pub returns : goal.returns
 returns c =
     let coefs = c.args.coefs.now in
-    record {
-      leaf_is = c.in_ok-leaf.ensures.built;
-      pred_is = ap (λ (part : LeafProof). part.pred) c.in_ok-proof.ensures;
-      valid = whole-valid coefs c.args.power c.in_ok-leaf.leaf _ c.in_ok-leaf.ensures.built c.in_ok-proof.ensures c.requires;
-      bound = ap (λ (part : LeafProof). layers_bound part.layers) c.in_ok-proof.ensures ∙ steps_are c.args.power c.requires.low;
-      within = subst (IsLeafProofWithin (length coefs)) (sym c.in_ok-proof.ensures) (flock-within coefs c.args.power c.requires);
-      single = c.in_ok-leaf.ensures.single;
-    }
-
-pub flock_leaf-requires-clause-inputs : goal.flock_leaf-requires-clause-inputs
-flock_leaf-requires-clause-inputs c = record { some = c.requires.some; few = c.requires.few }
+    let k = c.args.power in
+    let fits : SFits w64 c.bound_of_power.result = search rules in
+    let same = to_z-of_z w64 c.bound_of_power.result fits ∙ c.bound_of_power.ensures in
+    IfOk-weaker c.offset_flock.result _ _
+    (λ both h. flock-built coefs k both.0 both.1 c.requires (subst (λ z. IsBuilt (offset_leaf_of coefs z k 0) (offset_pred_of coefs z) (offset_steps k) both.0 both.1) same h))
+    c.offset_flock.ensures

@@ -1,14 +1,14 @@
--- The nodes of the tree for false close.
+-- The nodes of the tree where there are too few close.
 use Rattle.std.proofs.Common.{◌≡◌, ◌≢◌, ◌⊎◌, ◌∙◌, inl, inr, subst, ℕ, ◌+◌, ◌^◌, ◌<◌, ◌≤◌, Bool, true, false, ◌&&◌, ◌||◌, List, [], ◌∷◌, ◌++◌, length, map, get_or, refl, ap, sym, arith}
-use Rattle.std.specs.Prelude.{ℤ, pos, negsuc, neg_ℤ, ◌+ℤ◌, ◌-ℤ◌, ◌*ℤ◌, ◌≤ℤ◌, if◌then◌else◌, ◌==◌, not, All}
+use Rattle.std.specs.Prelude.{ℤ, pos, negsuc, neg_ℤ, ◌+ℤ◌, ◌-ℤ◌, ◌*ℤ◌, ◌≤ℤ◌, if◌then◌else◌, ◌==◌, not, All, int_le}
 use Rattle.std.specs.List.{range_with_len, list_all}
 use Rattle.std.specs.Ordering.{int_eq}
 use Rattle.std.proofs.lemmas.Int.{ints}
 use Rattle.std.proofs.Math.IntN.{*ℤ-zero, zero-*ℤ}
-use Rattle.std.proofs.lemmas.Bool.{cases_lt, eq-eqb, ne_eqb}
+use Rattle.std.proofs.lemmas.Bool.{cases_lt, cases_eq, eq-eqb, ne_eqb}
 use Rattle.std.proofs.lemmas.Bool.Decides.{eqb_tells}
 use Rattle.std.proofs.lemmas.List.{length-map, length-append, get_or-map, get_or_past, length-replicate}
-use Rattle.std.proofs.lemmas.List.Elements.{All-get_or}
+use Rattle.std.proofs.lemmas.List.Elements.{All-get_or, All-from_get_or}
 use Rattle.std.proofs.lemmas.List.FromFn.{length-range_with_len, length-map-range_with_len}
 use Rattle.std.proofs.Math.Bool.{and-false}
 use Rattle.pop_net.specs.declared.leaf.Move.{Move}
@@ -18,20 +18,21 @@ use Rattle.cert_base.specs.declared.fact.Fact.{Fact}
 use Rattle.cert_base.specs.declared.fact.Fact.TheVariants.{Ge, Eq}
 use Rattle.cert_base.specs.Rows.{terms_from, zeros, input_row, single_row, move_variable}
 use Rattle.cert_base.specs.ClosingTests.{closes_by_sum, may_add}
-use Rattle.cert_base.specs.FactsAndCases.{indicator, states_of, is_in, takes_from, puts_into, places_from, some_taken_fact, no_moves, count_row}
-use Rattle.cert_base.specs.WeightedSums.{sum_of_facts, coefficient, constant_of, may_weigh}
+use Rattle.cert_base.specs.FactsAndCases.{indicator, differs, states_of, is_in, helpers_among, takes_from, puts_into, places_from, some_taken_fact, no_moves, count_row}
+use Rattle.cert_base.specs.WeightedSums.{sum_of_facts, coefficient, constant_of, may_weigh, total}
 use Rattle.cert_base.proofs.WeightedSums.{weighted_sum-append, weighted_sum-zeros, may_weigh-append, may_weigh-zeros}
-use Rattle.cert_base.proofs.FlowSums.{coefficient-dense, times-one, mul-neg, one-times}
+use Rattle.cert_base.proofs.FlowSums.{coefficient-dense, total-none, times-one, mul-neg, one-times}
 use Rattle.comp_trees.proofs.LeaderEnds.{is_wrong}
 use Rattle.comp_trees.proofs.TrapNodes.{range-constant, states-state, states-input, states-past, places-all}
-use Rattle.comp_flock.specs.FlockLeaf.{is_flock_coefficient, flock_bound, size_in, flock_start, doubling_move, conversion_move, flock_moves, flock_leaf_of}
-use Rattle.comp_flock.specs.FlockProof.{flock_mix, lesser_size, first_mix, start_mix, never_mix, flock_pred_of}
+use Rattle.comp_flock.specs.FlockLeaf.{says_enough, size_in, flock_start, doubling_move, conversion_move, flock_moves, flock_leaf_with}
+use Rattle.comp_flock.specs.FlockProof.{flock_mix, lesser_size, first_mix, start_mix, never_mix, offset_pred_of}
 use Rattle.comp_flock.proofs.Powers.{power-double, size-power, size-at, zero_le}
 use Rattle.comp_flock.proofs.MoveLists.{all_moves, all_doublings, all_conversions}
 use Rattle.comp_flock.proofs.Formed.{start-low, states-long}
 use Rattle.comp_flock.proofs.Mixes.{IsPlain, all_facts, IsLow, mix_closes}
 use Rattle.comp_flock.proofs.OwnFacts.{taken-before, taken-move, taken-past, places-none}
-use Rattle.comp_flock.proofs.TrueNodes.{start-size, coefficient-at, is_plain, output-at}
+use Rattle.comp_flock.proofs.Offsets.{opened_row, opened_constant, too-few-constant, too-few-row, output-at, wrong-too-few, total-where, count-none, IsFilled}
+use Rattle.comp_flock.proofs.EnoughNodes.{is_plain}
 
 -- ---- the set of 2^k
 
@@ -76,18 +77,70 @@ size-positive k q = go (q == k + 1)
 times-yes : (a : ℤ) → (a *ℤ indicator true) ≡ a
 times-yes a = times-one a
 
-module _ (coefs : List ℤ) (k : ℕ) (some : 1 ≤ k) (are : list_all is_flock_coefficient coefs ≡ true) (formed : IsLeaf (flock_leaf_of coefs k)) where
+-- the size of a state, and whether it is 2^k, at the start
+size-most : (k q : ℕ) → lesser_size k q ≤ℤ pos (size_in q)
+size-most k q = go (q == k + 1)
+  where
+    go : (b : Bool) → (if b then pos 0 else pos (size_in q)) ≤ℤ pos (size_in q)
+    go true = omega (arith, ints)
+    go false = omega (arith, ints)
+
+start-held : (k : ℕ) (a : ℤ) → indicator (is_in (full k) (flock_start a)) ≤ℤ pos (size_in (flock_start a))
+start-held k a = go (int_eq a (pos 0))
+  where
+    most : (c : Bool) → indicator c ≤ℤ pos 1
+    most true = omega (arith, ints)
+    most false = omega (arith, ints)
+
+    go : (b : Bool) → indicator (is_in (full k) (if b then 0 else 1)) ≤ℤ pos (size_in (if b then 0 else 1))
+    go true = let e = ap indicator (in-no k 0 (λ e. omega arith)) in omega (arith, ints, e)
+    go false = most (is_in (full k) 1)
+
+-- the multiplier of the opened fact where no agent starts as 2^k
+abbrev opening : ℕ → ℤ
+opening k = if k == 0 then pos 1 else pos 0
+
+opening-cases : (k : ℕ) → (k ≡ 0) × (opening k ≡ pos 1) ⊎ (1 ≤ k) × (opening k ≡ pos 0)
+opening-cases k = elim (cases_eq k 0) [
+  | inl e ↦ inl (e, (let h = eq-eqb k 0 e in rw h refl))
+  | inr ne ↦ inr (omega (arith, ne), (let h = ne_eqb k 0 ne in rw h refl))
+]
+
+opening-may : (k : ℕ) → (int_eq (opening k) (pos 0) || int_le (pos 0) (opening k)) ≡ true
+opening-may k = go (k == 0)
+  where
+    go : (b : Bool) → (int_eq (if b then pos 1 else pos 0) (pos 0) || int_le (pos 0) (if b then pos 1 else pos 0)) ≡ true
+    go true = refl
+    go false = refl
+
+module _ (coefs : List ℤ) (bound : ℤ) (k : ℕ) (helpers : List ℕ) (is : IsFilled coefs bound k helpers) where
+  -- the value that says that there are enough
+  abbrev says : Bool
+  says = says_enough bound
+
   abbrev leaf : LeafModel
-  leaf = flock_leaf_of coefs k
+  leaf = flock_leaf_with coefs says k helpers
 
   abbrev pred : PredModel
-  pred = flock_pred_of coefs k
+  pred = offset_pred_of coefs bound
+
+  abbrev row : List ℤ
+  row = opened_row coefs (not says)
+
+  abbrev constant : ℤ
+  constant = opened_constant bound (not says)
 
   abbrev n : ℕ
   n = length leaf.inputs
 
-  plain : IsPlain leaf coefs
-  plain = is_plain coefs coefs k formed refl
+  plain : IsPlain leaf row
+  plain = is_plain coefs bound k helpers (not says) is
+
+  row-at : (i : ℕ) → i < n → get_or row i (pos 0) ≡ neg_ℤ (pos (size_in (flock_start (get_or coefs i (pos 0)))))
+  row-at i l = too-few-row says coefs i is.are (omega (arith, length-map coefs flock_start))
+
+  no_helped : total (λ (q : ℕ). pos 0) helpers ≡ pos 0
+  no_helped = total-none (λ (q : ℕ). pos 0) helpers (λ q. refl)
 
   long : length leaf.states ≡ k + 2
   long = states-long k
@@ -151,18 +204,19 @@ module _ (coefs : List ℤ) (k : ℕ) (some : 1 ≤ k) (are : list_all is_flock_
           let counts = ap (λ j. full_size *ℤ indicator j) none ∙ *ℤ-zero full_size in
           omega (arith, ints, a, b, counts)
 
-  first_low : IsLow leaf pred false coefs (neg_ℤ (flock_bound k)) first_facts below (pos 0) (pos 1) (full_size ∷ [])
+  first_low : IsLow leaf pred (not says) row constant first_facts below (pos 0) (pos 1) (full_size ∷ [])
   first_low = record {
     at_inputs = λ i l. (
         let a = get_or coefs i (pos 0) in
-        let low = start-low a in
-        let first = ap below (start-at i l) ∙ size-other k (flock_start a) (λ e. omega arith) ∙ start-size a (coefficient-at coefs i are (omega (arith, length-map coefs flock_start))) in
+        let first = ap below (start-at i l) in
+        let most = size-most k (flock_start a) in
         let none = first_none i (taken-before leaf (joins k) i (omega arith)) in
-        let one = one-times a in
-        omega (arith, ints, first, none, one));
+        let one = one-times (get_or row i (pos 0)) in
+        let counts = row-at i l in
+        omega (arith, ints, first, most, none, one, counts));
     at_states = λ z l. (
         let none = first_none (n + z) (taken-before leaf (joins k) (n + z) (omega arith)) in
-        let right = zero-*ℤ (indicator (is_wrong leaf false z)) in
+        let right = zero-*ℤ (indicator (is_wrong leaf (not says) z)) in
         let high = size-positive k z in
         omega (arith, ints, none, right, high));
     at_moves = λ t d l. (
@@ -172,9 +226,12 @@ module _ (coefs : List ℤ) (k : ℕ) (some : 1 ≤ k) (are : list_all is_flock_
         omega (arith, ints, sum, here, low));
     at_past = λ j. (let none = first_none (n + length leaf.states + (length leaf.moves + j)) (taken-past leaf (joins k) j) in omega (arith, ints, none));
     at_end = (
-        let one = one-times (neg_ℤ (flock_bound k)) in
+        let one = one-times constant in
+        let least = too-few-constant bound in
         let sum : sum_of_facts constant_of first_facts (full_size ∷ []) ≡ neg_ℤ full_size = first_sum constant_of ∙ mul-neg full_size (pos 1) ∙ ap neg_ℤ (times-one full_size) in
-        omega (arith, ints, one, sum));
+        let helped = total-where below (λ q. pos (size_in q)) helpers (All-from_get_or (λ q. below q ≡ pos (size_in q)) helpers 0 (λ i l. size-other k (get_or helpers i 0) (λ e. let low = All-get_or (λ q. q ≤ k) helpers i 0 l is.low in omega arith))) in
+        let filled = is.filled in
+        omega (arith, ints, one, least, sum, helped, filled));
   }
 
   first_may : may_weigh may_add first_facts (full_size ∷ []) ≡ true
@@ -184,49 +241,97 @@ module _ (coefs : List ℤ) (k : ℕ) (some : 1 ≤ k) (are : list_all is_flock_
       or_yes true = refl
       or_yes false = refl
 
-  pub first_closes : closes_by_sum (all_facts leaf pred false coefs (neg_ℤ (flock_bound k)) first_facts) (terms_from 0 (first_mix k)) ≡ true
+  pub first_closes : closes_by_sum (all_facts leaf pred (not says) row constant first_facts) (terms_from 0 (first_mix k)) ≡ true
   first_closes =
-      subst (λ m. closes_by_sum (all_facts leaf pred false coefs (neg_ℤ (flock_bound k)) first_facts) (terms_from 0 (flock_mix (map below (range_with_len 0 m)) (pos 0) (pos 1) (full_size ∷ []))) ≡ true) long
-      (mix_closes leaf pred false coefs (neg_ℤ (flock_bound k)) first_facts below (pos 0) (pos 1) (full_size ∷ []) plain refl refl first_may first_low)
+      subst (λ m. closes_by_sum (all_facts leaf pred (not says) row constant first_facts) (terms_from 0 (flock_mix (map below (range_with_len 0 m)) (pos 0) (pos 1) (full_size ∷ []))) ≡ true) long
+      (mix_closes leaf pred (not says) row constant first_facts below (pos 0) (pos 1) (full_size ∷ []) plain refl refl first_may first_low)
 
   -- ---- no agent starts as 2^k
 
   abbrev starts : ℕ → ℤ
   starts start = indicator (is_in (full k) start)
 
+  abbrev start_constant : ℤ
+  start_constant = pos (helpers_among leaf (full k)) -ℤ pos 1
+
   abbrev pub start_facts : List Fact
-  start_facts = Ge (input_row (map starts leaf.inputs) (negsuc 0)) ∷ []
+  start_facts = Ge (input_row (map starts leaf.inputs) start_constant) ∷ []
 
-  start_none : (x : ℕ) → sum_of_facts (coefficient x) start_facts (pos 1 ∷ []) ≡ pos 0
-  start_none x =
-      let row = coefficient-dense (map starts leaf.inputs) x ∙ zero_at (cases_lt x n) in
-      omega (arith, ints, row)
+  -- nor does a helper
+  no_helper : helpers_among leaf (full k) ≡ 0
+  no_helper =
+      count-none (is_in (full k)) helpers
+      (All-from_get_or (λ q. is_in (full k) q ≡ false) helpers 0 (λ i l. in-no k (get_or helpers i 0) (λ e. let low = All-get_or (λ q. q ≤ k) helpers i 0 l is.low in omega arith)))
+
+  start_sum : (x : ℕ) → sum_of_facts (coefficient x) start_facts (pos 1 ∷ []) ≡ get_or (map starts leaf.inputs) x (pos 0)
+  start_sum x = let row = coefficient-dense (map starts leaf.inputs) x in omega (arith, ints, row)
+
+  start_past : (x : ℕ) → n ≤ x → sum_of_facts (coefficient x) start_facts (pos 1 ∷ []) ≡ pos 0
+  start_past x l = start_sum x ∙ get_or_past (map starts leaf.inputs) x (pos 0) (omega (arith, length-map leaf.inputs starts))
+
+  start_at : (i : ℕ) → i < n → sum_of_facts (coefficient i) start_facts (pos 1 ∷ []) ≡ indicator (is_in (full k) (flock_start (get_or coefs i (pos 0))))
+  start_at i l = start_sum i ∙ get_or-map starts leaf.inputs i 0 (pos 0) l ∙ ap starts (start-at i l)
+
+  start_input : (i : ℕ) → i < n → ((pos 0 +ℤ (opening k *ℤ get_or row i (pos 0))) +ℤ sum_of_facts (coefficient i) start_facts (pos 1 ∷ [])) ≤ℤ pos 0
+  start_input i l = go (opening-cases k)
     where
-      zero_at : (x < n) ⊎ (n ≤ x) → get_or (map starts leaf.inputs) x (pos 0) ≡ pos 0
-      zero_at (inl l) =
-          let low = start-low (get_or coefs x (pos 0)) in
-          get_or-map starts leaf.inputs x 0 (pos 0) l ∙ ap indicator (in-no k (get_or leaf.inputs x 0) (λ e. let f = start-at x l in omega arith))
-      zero_at (inr l) = get_or_past (map starts leaf.inputs) x (pos 0) (omega (arith, length-map leaf.inputs starts))
+      go : (k ≡ 0) × (opening k ≡ pos 1) ⊎ (1 ≤ k) × (opening k ≡ pos 0) → ((pos 0 +ℤ (opening k *ℤ get_or row i (pos 0))) +ℤ sum_of_facts (coefficient i) start_facts (pos 1 ∷ [])) ≤ℤ pos 0
+      go (inl h) =
+          let sum = start_at i l in
+          let once = ap (λ a. a *ℤ get_or row i (pos 0)) h.1 ∙ one-times (get_or row i (pos 0)) in
+          let counts = row-at i l in
+          let held = start-held k (get_or coefs i (pos 0)) in
+          omega (arith, ints, sum, once, counts, held)
+      go (inr h) =
+          let low = start-low (get_or coefs i (pos 0)) in
+          let some = h.0 in
+          let sum = start_at i l ∙ ap indicator (in-no k (flock_start (get_or coefs i (pos 0))) (λ e. omega (arith, e, low, some))) in
+          let none = ap (λ a. a *ℤ get_or row i (pos 0)) h.1 ∙ zero-*ℤ (get_or row i (pos 0)) in
+          omega (arith, ints, sum, none)
 
-  start_low : IsLow leaf pred false coefs (neg_ℤ (flock_bound k)) start_facts (λ q. pos 0) (pos 0) (pos 0) (pos 1 ∷ [])
+  start_end : (((total (λ (q : ℕ). pos 0) helpers -ℤ pos 0) +ℤ (opening k *ℤ constant)) +ℤ sum_of_facts constant_of start_facts (pos 1 ∷ [])) ≤ℤ negsuc 0
+  start_end = go (opening-cases k)
+    where
+      start_sum_is : sum_of_facts constant_of start_facts (pos 1 ∷ []) ≡ negsuc 0
+      start_sum_is =
+          let none = ap {B = ℤ} (λ m. pos m -ℤ pos 1) no_helper in
+          let sum = one-times start_constant in
+          omega (arith, ints, none, sum)
+
+      go : (k ≡ 0) × (opening k ≡ pos 1) ⊎ (1 ≤ k) × (opening k ≡ pos 0) → (((total (λ (q : ℕ). pos 0) helpers -ℤ pos 0) +ℤ (opening k *ℤ constant)) +ℤ sum_of_facts constant_of start_facts (pos 1 ∷ [])) ≤ℤ negsuc 0
+      go (inl h) =
+          let sum = start_sum_is in
+          let helped = no_helped in
+          let once = ap (λ a. a *ℤ constant) h.1 ∙ one-times constant in
+          let least = too-few-constant bound in
+          let within = is.within in
+          let unit : 2 ^ k ≡ 1 = ap (λ m. 2 ^ m) h.0 in
+          omega (arith, ints, sum, helped, once, least, within, unit)
+      go (inr h) =
+          let sum = start_sum_is in
+          let helped = no_helped in
+          let once = ap (λ a. a *ℤ constant) h.1 ∙ zero-*ℤ constant in
+          omega (arith, ints, sum, helped, once)
+
+  start_low : IsLow leaf pred (not says) row constant start_facts (λ q. pos 0) (pos 0) (opening k) (pos 1 ∷ [])
   start_low = record {
-    at_inputs = λ i l. (let none = start_none i in let row = zero-*ℤ (get_or coefs i (pos 0)) in omega (arith, ints, none, row));
-    at_states = λ z l. (let none = start_none (n + z) in let right = zero-*ℤ (indicator (is_wrong leaf false z)) in omega (arith, ints, none, right));
-    at_moves = λ t d l. (let none = start_none (n + length leaf.states + t) in omega (arith, ints, none));
-    at_past = λ j. (let none = start_none (n + length leaf.states + (length leaf.moves + j)) in omega (arith, ints, none));
-    at_end = (let row = zero-*ℤ (neg_ℤ (flock_bound k)) in omega (arith, ints, row));
+    at_inputs = start_input;
+    at_states = λ z l. (let none = start_past (n + z) (omega arith) in let right = zero-*ℤ (indicator (is_wrong leaf (not says) z)) in omega (arith, ints, none, right));
+    at_moves = λ t d l. (let none = start_past (n + length leaf.states + t) (omega arith) in omega (arith, ints, none));
+    at_past = λ j. (let none = start_past (n + length leaf.states + (length leaf.moves + j)) (omega arith) in omega (arith, ints, none));
+    at_end = start_end;
   }
 
   -- the states' flows aren't added
-  no_flows : (wrong : ℤ) (own : List ℤ) → flock_mix (map (λ (q : ℕ). pos 0) (states_of leaf)) wrong (pos 0) own ≡ flock_mix (zeros (k + 2)) wrong (pos 0) own
-  no_flows wrong own =
-      ap (λ m. flock_mix (map (λ (q : ℕ). pos 0) (range_with_len 0 m)) wrong (pos 0) own) long
-      ∙ ap (λ zs. flock_mix zs wrong (pos 0) own) (range-constant (pos 0) 0 (k + 2))
+  no_flows : (wrong add : ℤ) (own : List ℤ) → flock_mix (map (λ (q : ℕ). pos 0) (states_of leaf)) wrong add own ≡ flock_mix (zeros (k + 2)) wrong add own
+  no_flows wrong add own =
+      ap (λ m. flock_mix (map (λ (q : ℕ). pos 0) (range_with_len 0 m)) wrong add own) long
+      ∙ ap (λ zs. flock_mix zs wrong add own) (range-constant (pos 0) 0 (k + 2))
 
-  pub start_closes : closes_by_sum (all_facts leaf pred false coefs (neg_ℤ (flock_bound k)) start_facts) (terms_from 0 (start_mix k)) ≡ true
+  pub start_closes : closes_by_sum (all_facts leaf pred (not says) row constant start_facts) (terms_from 0 (start_mix k)) ≡ true
   start_closes =
-      subst (λ ms. closes_by_sum (all_facts leaf pred false coefs (neg_ℤ (flock_bound k)) start_facts) (terms_from 0 ms) ≡ true) (no_flows (pos 0) (pos 1 ∷ []))
-      (mix_closes leaf pred false coefs (neg_ℤ (flock_bound k)) start_facts (λ q. pos 0) (pos 0) (pos 0) (pos 1 ∷ []) plain refl refl refl start_low)
+      subst (λ ms. closes_by_sum (all_facts leaf pred (not says) row constant start_facts) (terms_from 0 ms) ≡ true) (no_flows (pos 0) (opening k) (pos 1 ∷ []))
+      (mix_closes leaf pred (not says) row constant start_facts (λ q. pos 0) (pos 0) (opening k) (pos 1 ∷ []) plain refl (opening-may k) refl start_low)
 
   -- ---- 2^k never occurred
 
@@ -272,16 +377,16 @@ module _ (coefs : List ℤ) (k : ℕ) (some : 1 ≤ k) (are : list_all is_flock_
   never_none x e = never_sum (coefficient x) ∙ ap (λ c. negsuc 0 *ℤ c) e
 
   -- a wrong output is that of 2^k
-  wrong-at : (z : ℕ) → z < k + 2 → indicator (is_wrong leaf false z) ≡ held z
-  wrong-at z l = ap indicator (output-at coefs k z l) ∙ same (eqb_tells z (k + 1))
+  wrong-at : (z : ℕ) → z < k + 2 → indicator (is_wrong leaf (not says) z) ≡ held z
+  wrong-at z l = ap indicator (ap (differs (not says)) (output-at coefs says k helpers z l) ∙ wrong-too-few says k z) ∙ same (eqb_tells z (k + 1))
     where
       same : ((z == k + 1) ≡ true) × (z ≡ k + 1) ⊎ ((z == k + 1) ≡ false) × (z ≢ k + 1) → indicator (z == k + 1) ≡ held z
       same (inl h) = ap indicator h.0 ∙ sym (ap held h.1 ∙ ap indicator (in-yes k))
       same (inr h) = ap indicator h.0 ∙ sym (ap indicator (in-no k z h.1))
 
-  never_low : IsLow leaf pred false coefs (neg_ℤ (flock_bound k)) never_facts (λ q. pos 0) (pos 1) (pos 0) never_own
+  never_low : IsLow leaf pred (not says) row constant never_facts (λ q. pos 0) (pos 1) (pos 0) never_own
   never_low = record {
-    at_inputs = λ i l. (let none = never_none i (states-input leaf held i l) in let row = zero-*ℤ (get_or coefs i (pos 0)) in omega (arith, ints, none, row));
+    at_inputs = λ i l. (let none = never_none i (states-input leaf held i l) in let zero_row = zero-*ℤ (get_or row i (pos 0)) in omega (arith, ints, none, zero_row));
     at_states = λ z l. (
         let sum = never_sum (coefficient (n + z)) in
         let here = states-state leaf held z l in
@@ -289,10 +394,10 @@ module _ (coefs : List ℤ) (k : ℕ) (some : 1 ≤ k) (are : list_all is_flock_
         omega (arith, ints, sum, here, wrong));
     at_moves = λ t d l. (let none = never_none (n + length leaf.states + t) (states-past leaf held t) in omega (arith, ints, none));
     at_past = λ j. (let none = never_none (n + length leaf.states + (length leaf.moves + j)) (states-past leaf held (length leaf.moves + j)) in omega (arith, ints, none));
-    at_end = (let sum = never_sum constant_of in let row = zero-*ℤ (neg_ℤ (flock_bound k)) in omega (arith, ints, sum, row));
+    at_end = (let sum = never_sum constant_of in let zero_row = zero-*ℤ constant in let helped = no_helped in omega (arith, ints, sum, zero_row, helped));
   }
 
-  pub never_closes : closes_by_sum (all_facts leaf pred false coefs (neg_ℤ (flock_bound k)) never_facts) (terms_from 0 (never_mix k)) ≡ true
+  pub never_closes : closes_by_sum (all_facts leaf pred (not says) row constant never_facts) (terms_from 0 (never_mix k)) ≡ true
   never_closes =
-      subst (λ ms. closes_by_sum (all_facts leaf pred false coefs (neg_ℤ (flock_bound k)) never_facts) (terms_from 0 ms) ≡ true) (no_flows (pos 1) never_own)
-      (mix_closes leaf pred false coefs (neg_ℤ (flock_bound k)) never_facts (λ q. pos 0) (pos 1) (pos 0) never_own plain refl refl never_may never_low)
+      subst (λ ms. closes_by_sum (all_facts leaf pred (not says) row constant never_facts) (terms_from 0 ms) ≡ true) (no_flows (pos 1) (pos 0) never_own)
+      (mix_closes leaf pred (not says) row constant never_facts (λ q. pos 0) (pos 1) (pos 0) never_own plain refl refl never_may never_low)

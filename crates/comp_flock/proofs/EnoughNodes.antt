@@ -1,4 +1,4 @@
--- The nodes of the tree for true close.
+-- The nodes of the tree where there are enough close.
 use Rattle.std.proofs.Common.{◌≡◌, ◌⊎◌, ◌∙◌, inl, inr, subst, ℕ, zero, suc, ◌+◌, ◌^◌, ◌<◌, ◌≤◌, Bool, true, false, ◌&&◌, ◌||◌, List, [], ◌∷◌, ◌++◌, length, map, get_or, refl, ap, sym, zero-add, arith}
 use Rattle.std.specs.Prelude.{ℤ, pos, negsuc, neg_ℤ, ◌+ℤ◌, ◌-ℤ◌, ◌*ℤ◌, ◌≤ℤ◌, ◌==◌, not, All, int_le}
 use Rattle.std.specs.List.{range_with_len, list_all}
@@ -17,64 +17,52 @@ use Rattle.pres_ast.specs.PredModel.{PredModel}
 use Rattle.cert_base.specs.declared.fact.Fact.{Fact}
 use Rattle.cert_base.specs.Rows.{terms_from, zeros}
 use Rattle.cert_base.specs.ClosingTests.{closes_by_sum, may_add}
-use Rattle.cert_base.specs.FactsAndCases.{indicator, states_of, absent_fact, occurs_fact, not_twice}
+use Rattle.cert_base.specs.FactsAndCases.{indicator, differs, states_of, absent_fact, occurs_fact, not_twice}
 use Rattle.cert_base.specs.WeightedSums.{sum_of_facts, coefficient, constant_of, may_weigh, total}
 use Rattle.cert_base.proofs.WeightedSums.{weighted_sum-append, may_weigh-append, none_weighted}
 use Rattle.cert_base.proofs.FlowSums.{weighted_sum-map, total-same, total-none, total-neg, mul-neg, one-times}
 use Rattle.comp_trees.proofs.LeaderEnds.{absent-at, is_wrong, may_weigh-eqs}
 use Rattle.comp_trees.proofs.TrapNodes.{range-constant}
-use Rattle.comp_flock.specs.FlockLeaf.{is_flock_coefficient, flock_bound, size_in, flock_start, flock_moves, flock_leaf_of}
-use Rattle.comp_flock.specs.FlockProof.{flock_mix, few_mix, converted_mix, flock_pred_of}
+use Rattle.comp_flock.specs.FlockLeaf.{says_enough, size_in, flock_start, flock_moves, flock_leaf_with}
+use Rattle.comp_flock.specs.FlockProof.{flock_mix, few_mix, converted_mix, offset_pred_of}
 use Rattle.comp_flock.proofs.Powers.{power-double, size-power, size-at, size-le, sizes-total, zero_le}
 use Rattle.comp_flock.proofs.MoveLists.{all_moves}
 use Rattle.comp_flock.proofs.Formed.{states-long}
 use Rattle.comp_flock.proofs.Mixes.{IsPlain, all_facts, IsLow, mix_closes}
+use Rattle.comp_flock.proofs.Offsets.{opened_row, opened_constant, opened-long, enough-constant, enough-row, output-at, wrong-enough, IsFilled}
 use Rattle.comp_flock.proofs.OwnFacts.{not_twice-at, total-append, total-counts, total-others}
 use Rattle.list_laws.proofs.Ranges.{range_one_more}
 
--- ---- coefficients are 0 or -1
-
-pub coefficient-cases : (a : ℤ) → is_flock_coefficient a ≡ true → (a ≡ pos 0) ⊎ (a ≡ negsuc 0)
-coefficient-cases a e = go (int_eq a (pos 0)) (int_eq a (negsuc 0)) refl refl e
-  where
-    go : (c d : Bool) → int_eq a (pos 0) ≡ c → int_eq a (negsuc 0) ≡ d → (c || d) ≡ true → (a ≡ pos 0) ⊎ (a ≡ negsuc 0)
-    go true d f g h = inl ((Decides-int_eq a (pos 0)).0 f)
-    go false true f g h = inr ((Decides-int_eq a (negsuc 0)).0 g)
-    go false false f g h = absurd (let n : false ≡ true = h in cc)
-
-pub start-size : (a : ℤ) → is_flock_coefficient a ≡ true → pos (size_in (flock_start a)) ≡ neg_ℤ a
-start-size a e = elim (coefficient-cases a e) [ inl h ↦ rw h refl | inr h ↦ rw h refl ]
-
-pub coefficient-at : (coefs : List ℤ) (i : ℕ) → list_all is_flock_coefficient coefs ≡ true → i < length coefs → is_flock_coefficient (get_or coefs i (pos 0)) ≡ true
-coefficient-at coefs i all l = AllPass-from_list_all is_flock_coefficient coefs all i (pos 0) l
-
-pub is_plain : (coefs others : List ℤ) (k : ℕ) → IsLeaf (flock_leaf_of coefs k) → length others ≡ length coefs → IsPlain (flock_leaf_of coefs k) others
-is_plain coefs others k formed e = record {
-  helpers = refl;
-  inputs = formed.inputs;
-  moves = formed.moves;
-  long = e ∙ sym (length-map coefs flock_start);
+pub is_plain : (coefs : List ℤ) (bound : ℤ) (k : ℕ) (helpers : List ℕ) (b : Bool) → IsFilled coefs bound k helpers → IsPlain (flock_leaf_with coefs (says_enough bound) k helpers) (opened_row coefs b)
+is_plain coefs bound k helpers b is = record {
+  helpers = is.formed.helpers;
+  inputs = is.formed.inputs;
+  moves = is.formed.moves;
+  long = opened-long coefs b ∙ sym (length-map coefs flock_start);
 }
 
--- the output of a state
-pub output-at : (coefs : List ℤ) (k z : ℕ) → z < k + 2 → get_or (flock_leaf_of coefs k).outputs z false ≡ (z == k + 1)
-output-at coefs k z l = get_or-map-range_with_len (λ q. q == k + 1) 0 (k + 2) z z false l (zero-add z)
+module _ (coefs : List ℤ) (bound : ℤ) (k : ℕ) (helpers : List ℕ) (is : IsFilled coefs bound k helpers) where
+  -- the value that says that there are enough
+  abbrev says : Bool
+  says = says_enough bound
 
-module _ (coefs : List ℤ) (k : ℕ) (are : list_all is_flock_coefficient coefs ≡ true) (formed : IsLeaf (flock_leaf_of coefs k)) where
   abbrev leaf : LeafModel
-  leaf = flock_leaf_of coefs k
+  leaf = flock_leaf_with coefs says k helpers
 
   abbrev pred : PredModel
-  pred = flock_pred_of coefs k
+  pred = offset_pred_of coefs bound
 
-  abbrev pub true_row : List ℤ
-  true_row = map neg_ℤ coefs
+  abbrev row : List ℤ
+  row = opened_row coefs says
+
+  abbrev constant : ℤ
+  constant = opened_constant bound says
 
   abbrev n : ℕ
   n = length leaf.inputs
 
-  plain : IsPlain leaf true_row
-  plain = is_plain coefs true_row k formed (length-map coefs neg_ℤ)
+  plain : IsPlain leaf row
+  plain = is_plain coefs bound k helpers says is
 
   long : length leaf.states ≡ k + 2
   long = states-long k
@@ -138,22 +126,21 @@ module _ (coefs : List ℤ) (k : ℕ) (are : list_all is_flock_coefficient coefs
       (λ i l. let e = power-double i in let f = size-power i in let g = size-at (i + 2) (i + 1) (omega arith) in omega (arith, ints, e, f, g))
       (λ q l. let e = size-le k q (omega arith) in let f = size-power k in omega (arith, ints, e, f))
 
-  few_low : IsLow leaf pred true true_row (flock_bound k -ℤ pos 1) (few_facts k) (λ q. neg_ℤ (size q)) (pos 0) (pos 1) few_own
+  few_low : IsLow leaf pred says row constant (few_facts k) (λ q. neg_ℤ (size q)) (pos 0) (pos 1) few_own
   few_low = record {
     at_inputs = λ i l. (
         let below : i < length coefs = omega (arith, length-map coefs flock_start) in
         let start = get_or-map flock_start coefs i (pos 0) 0 below in
-        let a = get_or coefs i (pos 0) in
-        let row = get_or-map neg_ℤ coefs i (pos 0) (pos 0) below in
-        let first = ap (λ q. neg_ℤ (size q)) start ∙ ap neg_ℤ (start-size a (coefficient-at coefs i are below)) in
+        let counts = enough-row says coefs i is.are below in
+        let first = ap (λ q. neg_ℤ (size q)) start in
         let sum = few_sum i in
         let none = total-others n size (k + 2) i (λ q m e. omega arith) in
-        let one = one-times (get_or true_row i (pos 0)) in
-        omega (arith, ints, first, row, sum, none, one));
+        let one = one-times (get_or row i (pos 0)) in
+        omega (arith, ints, first, counts, sum, none, one));
     at_states = λ z l. (
         let sum = few_sum (n + z) in
         let here = total-counts n size (k + 2) z (omega (arith, long)) in
-        let none = zero-*ℤ (indicator (is_wrong leaf true z)) in
+        let none = zero-*ℤ (indicator (is_wrong leaf says z)) in
         omega (arith, ints, sum, here, none));
     at_moves = λ t d l. (
         let sum = few_sum (n + length leaf.states + t) in
@@ -164,13 +151,19 @@ module _ (coefs : List ℤ) (k : ℕ) (are : list_all is_flock_coefficient coefs
         let sum = few_sum (n + length leaf.states + (length leaf.moves + j)) in
         let none = total-others n size (k + 2) (n + length leaf.states + (length leaf.moves + j)) (λ q m e. omega (arith, long)) in
         omega (arith, ints, sum, none));
-    at_end = (let sum = few_constant in let one = one-times (flock_bound k -ℤ pos 1) in omega (arith, ints, sum, one));
+    at_end = (
+        let sum = few_constant in
+        let one = one-times constant in
+        let least = enough-constant bound in
+        let helped = total-neg size helpers in
+        let filled = is.filled in
+        omega (arith, ints, sum, one, least, helped, filled));
   }
 
-  pub few_closes : closes_by_sum (all_facts leaf pred true true_row (flock_bound k -ℤ pos 1) (few_facts k)) (terms_from 0 (few_mix k)) ≡ true
+  pub few_closes : closes_by_sum (all_facts leaf pred says row constant (few_facts k)) (terms_from 0 (few_mix k)) ≡ true
   few_closes =
-      subst (λ m. closes_by_sum (all_facts leaf pred true true_row (flock_bound k -ℤ pos 1) (few_facts k)) (terms_from 0 (flock_mix (map (λ q. neg_ℤ (size q)) (range_with_len 0 m)) (pos 0) (pos 1) few_own)) ≡ true) long
-      (mix_closes leaf pred true true_row (flock_bound k -ℤ pos 1) (few_facts k) (λ q. neg_ℤ (size q)) (pos 0) (pos 1) few_own plain refl refl few_may few_low)
+      subst (λ m. closes_by_sum (all_facts leaf pred says row constant (few_facts k)) (terms_from 0 (flock_mix (map (λ q. neg_ℤ (size q)) (range_with_len 0 m)) (pos 0) (pos 1) few_own)) ≡ true) long
+      (mix_closes leaf pred says row constant (few_facts k) (λ q. neg_ℤ (size q)) (pos 0) (pos 1) few_own plain refl refl few_may few_low)
 
   -- ---- all are converted
 
@@ -209,15 +202,15 @@ module _ (coefs : List ℤ) (k : ℕ) (are : list_all is_flock_coefficient coefs
       rest (f ∷ extra) = refl
 
   -- a state's output is wrong unless the state is 2^k
-  wrong-at : (z : ℕ) → z < k + 2 → is_wrong leaf true z ≡ not (z == k + 1)
-  wrong-at z l = ap (λ (c : Bool). not c) (output-at coefs k z l)
+  wrong-at : (z : ℕ) → z < k + 2 → is_wrong leaf says z ≡ not (z == k + 1)
+  wrong-at z l = ap (differs says) (output-at coefs says k helpers z l) ∙ wrong-enough says k z
 
-  converted_low : (extra : List Fact) → IsLow leaf pred true true_row (flock_bound k -ℤ pos 1) (converted_facts extra) (λ q. pos 0) (pos 1) (pos 0) converted_own
+  converted_low : (extra : List Fact) → IsLow leaf pred says row constant (converted_facts extra) (λ q. pos 0) (pos 1) (pos 0) converted_own
   converted_low extra = record {
     at_inputs = λ i l. (
         let sum = converted_at extra i in
         let none = total-others n minus_one (k + 1) i (λ q m e. omega arith) in
-        let zero_row = zero-*ℤ (get_or true_row i (pos 0)) in
+        let zero_row = zero-*ℤ (get_or row i (pos 0)) in
         omega (arith, ints, sum, none, zero_row));
     at_states = λ z l. state z (omega (arith, long)) (cases_lt z (k + 1));
     at_moves = λ t d l. (
@@ -231,11 +224,12 @@ module _ (coefs : List ℤ) (k : ℕ) (are : list_all is_flock_coefficient coefs
     at_end = (
         let sum = converted_sum extra constant_of in
         let none = total-none (λ q. negsuc 0 *ℤ constant_of (absent_fact leaf q)) (range_with_len 0 (k + 1)) (λ q. refl) in
-        let zero_row = zero-*ℤ (flock_bound k -ℤ pos 1) in
-        omega (arith, ints, sum, none, zero_row));
+        let zero_row = zero-*ℤ constant in
+        let helped = total-none (λ (q : ℕ). pos 0) helpers (λ q. refl) in
+        omega (arith, ints, sum, none, zero_row, helped));
   }
     where
-      state : (z : ℕ) → z < k + 2 → (z < k + 1) ⊎ (k + 1 ≤ z) → ((neg_ℤ (pos 0) +ℤ (pos 1 *ℤ indicator (is_wrong leaf true z))) +ℤ sum_of_facts (coefficient (n + z)) (converted_facts extra) converted_own) ≤ℤ pos 0
+      state : (z : ℕ) → z < k + 2 → (z < k + 1) ⊎ (k + 1 ≤ z) → ((neg_ℤ (pos 0) +ℤ (pos 1 *ℤ indicator (is_wrong leaf says z))) +ℤ sum_of_facts (coefficient (n + z)) (converted_facts extra) converted_own) ≤ℤ pos 0
       state z l (inl m) =
           let sum = converted_at extra (n + z) in
           let here = total-counts n minus_one (k + 1) z m in
@@ -247,10 +241,10 @@ module _ (coefs : List ℤ) (k : ℕ) (are : list_all is_flock_coefficient coefs
           let right = ap indicator (wrong-at z l ∙ ap (λ (c : Bool). not c) (eq-eqb z (k + 1) (omega arith))) in
           omega (arith, ints, sum, none, right)
 
-  pub converted_closes : (extra : List Fact) → closes_by_sum (all_facts leaf pred true true_row (flock_bound k -ℤ pos 1) (converted_facts extra)) (terms_from 0 (converted_mix k)) ≡ true
+  pub converted_closes : (extra : List Fact) → closes_by_sum (all_facts leaf pred says row constant (converted_facts extra)) (terms_from 0 (converted_mix k)) ≡ true
   converted_closes extra =
-      subst (λ ms. closes_by_sum (all_facts leaf pred true true_row (flock_bound k -ℤ pos 1) (converted_facts extra)) (terms_from 0 ms) ≡ true) same
-      (mix_closes leaf pred true true_row (flock_bound k -ℤ pos 1) (converted_facts extra) (λ q. pos 0) (pos 1) (pos 0) converted_own plain refl refl (converted_may extra) (converted_low extra))
+      subst (λ ms. closes_by_sum (all_facts leaf pred says row constant (converted_facts extra)) (terms_from 0 ms) ≡ true) same
+      (mix_closes leaf pred says row constant (converted_facts extra) (λ q. pos 0) (pos 1) (pos 0) converted_own plain refl refl (converted_may extra) (converted_low extra))
     where
       same : flock_mix (map (λ (q : ℕ). pos 0) (states_of leaf)) (pos 1) (pos 0) converted_own ≡ converted_mix k
       same =

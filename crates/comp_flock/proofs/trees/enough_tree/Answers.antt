@@ -1,7 +1,7 @@
 use Rattle.std.proofs.Common.{length, ap, arith}
 use Rattle.std.proofs.lemmas.Grind.{common_steps}
 use Rattle.comp_flock.proofs.Within.{few-short, converted-short}
-use Rattle.comp_flock.proofs.trees.true_tree.Goals as goal
+use Rattle.comp_flock.proofs.trees.enough_tree.Goals as goal
 
 pub node-requires : goal.node-requires
 node-requires c = omega (arith, ap length c.in_ok-few.ensures, few-short c.args.power c.requires)

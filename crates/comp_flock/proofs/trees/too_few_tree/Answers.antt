@@ -1,6 +1,6 @@
 use Rattle.std.proofs.Common.{length, ap, arith}
 use Rattle.comp_flock.proofs.Within.{first-short, start-short, never-short}
-use Rattle.comp_flock.proofs.trees.false_tree.Goals as goal
+use Rattle.comp_flock.proofs.trees.too_few_tree.Goals as goal
 
 pub node-requires : goal.node-requires
 node-requires c = omega (arith, ap length c.in_ok-first.ensures, first-short c.args.power c.requires)
