@@ -48,25 +48,34 @@ def too_likely(leaf: Leaf, t: int) -> bool:
 
 
 Outcome = tuple[tuple[int, int], Fraction]
+Way = tuple[int, tuple[int, int], Fraction]
 
 
-def leaf_outcomes(leaf: Leaf) -> dict[tuple[int, int], list[Outcome]]:
-    """For the states of the initiator and of the responder what they may become, and by which chance; the chances make 1.
+def leaf_ways(leaf: Leaf) -> dict[tuple[int, int], list[Way]]:
+    """For the states of the initiator and of the responder the moves they may take, what they become, and by which chance.
 
-    Moves without a chance have equal parts of what those with one leave; where there are none, nothing happens instead.
+    Moves without a chance have equal parts of what those with one leave.
     """
-    out: dict[tuple[int, int], list[Outcome]] = {}
+    out: dict[tuple[int, int], list[Way]] = {}
     for (p, q), moves in _matching(leaf).items():
         laws = [leaf.laws[t] if leaf.laws else PLAIN for t in moves]
         left = 1 - sum((law.chance for law in laws if law.chance is not None), Fraction(0))
         free = sum(law.chance is None for law in laws)
-        made = []
+        out[p, q] = []
         for t, law in zip(moves, laws):
             r, s = leaf.moves[t][2:] if leaf.moves[t][:2] == (p, q) else leaf.moves[t][:1:-1]
-            made.append(((r, s), left / free if law.chance is None else law.chance))
-        if left and not free:
-            made.append(((p, q), left))
-        out[p, q] = made
+            out[p, q].append((t, (r, s), left / free if law.chance is None else law.chance))
+    return out
+
+
+def leaf_outcomes(leaf: Leaf) -> dict[tuple[int, int], list[Outcome]]:
+    """The same without the moves; where chances are left, nothing happens instead, so that they make 1."""
+    out: dict[tuple[int, int], list[Outcome]] = {}
+    for both, ways in leaf_ways(leaf).items():
+        out[both] = [(made, chance) for _, made, chance in ways]
+        left = 1 - sum((chance for _, _, chance in ways), Fraction(0))
+        if left:
+            out[both].append((both, left))
     return out
 
 

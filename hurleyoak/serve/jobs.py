@@ -10,10 +10,10 @@ import os
 import signal
 import sys
 from contextlib import suppress
-from typing import Any, AsyncIterator
+from typing import Any, AsyncIterator, Iterator
 
 from ..engine.places import TOP
-from .limits import GRACE, JOBS_LIMIT, LINE_LIMIT, LOOK, MEMORY_LIMIT, MOST_SECONDS, SECONDS, TOTAL_LIMIT
+from .limits import BUSY, GRACE, JOBS_LIMIT, LINE_LIMIT, LOOK, MEMORY_LIMIT, MOST_SECONDS, SECONDS, TOTAL_LIMIT
 
 
 class TooMany(Exception):
@@ -34,17 +34,42 @@ def seconds_of(request: dict[str, Any]) -> float:
     return usual + GRACE
 
 
-def memory_of(group: int) -> int:
-    """The bytes of memory that the processes of a group hold."""
-    pages = 0
+def _fields_of(group: int) -> Iterator[list[bytes]]:
+    """What the system tells of each process of a group, from its state on."""
     for name in filter(str.isdigit, os.listdir("/proc")):
         with suppress(OSError, ValueError, IndexError):
             with open(f"/proc/{name}/stat", "rb") as file:
                 # (the command's name, in parentheses, may have blanks)
                 fields = file.read().rpartition(b")")[2].split()
             if int(fields[2]) == group:
-                pages += int(fields[21])
-    return pages * os.sysconf("SC_PAGE_SIZE")
+                yield fields
+
+
+def memory_of(group: int) -> int:
+    """The bytes of memory that the processes of a group hold."""
+    return sum(int(fields[21]) for fields in _fields_of(group)) * os.sysconf("SC_PAGE_SIZE")
+
+
+def work_of(group: int) -> float:
+    """The seconds of processors that the processes of a group have taken, those that ended among them."""
+    return sum(sum(map(int, fields[11:15])) for fields in _fields_of(group)) / os.sysconf("SC_CLK_TCK")
+
+
+class Clock:
+    """The time that a job may take: it is up where its processes have worked so long, or much later on a machine that is busy otherwise."""
+
+    def __init__(self, group: int, seconds: float) -> None:
+        self.group, self.seconds = group, seconds
+        self.now = asyncio.get_running_loop().time
+        self.start = self.now()
+
+    @property
+    def left(self) -> float:
+        """Seconds to the next look at it; 0 where the time is up."""
+        taken = self.now() - self.start
+        if taken < self.seconds:
+            return self.seconds - taken
+        return max(0.0, min(self.seconds - work_of(self.group), BUSY * self.seconds - taken))
 
 
 class Worker:
@@ -76,15 +101,13 @@ class Worker:
         """The messages of a job, each one line of JSON; the last one tells of its end."""
         stdin, stdout = self.process.stdin, self.process.stdout
         assert stdin is not None and stdout is not None
-        seconds = seconds_of(request)
-        stop = asyncio.get_running_loop().time() + seconds
+        clock = Clock(self.process.pid, seconds_of(request))
         size = 0
         try:
             # (it stays open: its end tells the job that nobody listens)
             stdin.write(json.dumps(request).encode() + b"\n")
             while True:
-                left = stop - asyncio.get_running_loop().time()
-                line = await asyncio.wait_for(stdout.readline(), max(left, 0.0))
+                line = await self._line(stdout, clock)
                 size += len(line)
                 if not line:
                     yield trouble(self.ended_for or "the job ended without an answer; it was ended from elsewhere")
@@ -96,13 +119,23 @@ class Worker:
                 if line.startswith((b'{"event": "done"', b'{"event": "fault"')):
                     return
         except asyncio.TimeoutError:
-            yield trouble(f"the time was up after {seconds:.0f} seconds; the job was ended")
+            yield trouble(f"the time was up after {clock.seconds:.0f} seconds; the job was ended")
         except ValueError:
             yield trouble(f"a message of the job has over {LINE_LIMIT >> 20} MiB; it was ended")
         except (BrokenPipeError, ConnectionResetError):
             yield trouble("the job ended before it began")
         finally:
             self.end()
+
+    async def _line(self, stdout: asyncio.StreamReader, clock: Clock) -> bytes:
+        """The next message; TimeoutError where the time is up."""
+        while True:
+            left = clock.left
+            try:
+                return await asyncio.wait_for(stdout.readline(), left)
+            except asyncio.TimeoutError:
+                if not left:
+                    raise
 
     def end(self) -> None:
         """Ends the process and all that it started."""

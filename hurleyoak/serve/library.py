@@ -24,6 +24,7 @@ EDITOR_FILES = (
     "addon/hint/show-hint.css",
 )
 EXAMPLES = TOP / "examples"
+GROUPS = ("examples", "families", "succinct", "found")  # in the order of the menu
 
 
 def needs_editor() -> None:
@@ -40,6 +41,7 @@ def page_files() -> dict[str, Path]:
         if path.suffix in TYPES and path.name != "index.html"
     }
     out["/"] = STATIC / "index.html"
+    out["/favicon.ico"] = STATIC / "icon.svg"
     out.update({f"/editor/{name}": EDITOR / name for name in EDITOR_FILES})
     return out
 
@@ -55,17 +57,18 @@ def _about(path: Path) -> str:
     return text.removeprefix(f"{path.stem}: ").split(". ")[0].rstrip(".")
 
 
+def _group(path: Path) -> str:
+    """What an example is of: its folder, or `examples` where it has one of its own."""
+    folder = path.parent.name
+    return folder if folder in GROUPS else GROUPS[0]
+
+
 def examples() -> dict[str, Path]:
-    """The examples by their names; none where they aren't installed."""
-    return {
-        path.stem: path
-        for path in sorted(EXAMPLES.glob("*/*.pop"), key=lambda path: (path.parent.name == "found", path.stem))
-    }
+    """The examples by their names, those with folders of their own first; none where they aren't installed."""
+    paths = sorted(EXAMPLES.glob("*/*.pop"), key=lambda path: (GROUPS.index(_group(path)), path.stem))
+    return {path.stem if _group(path) == GROUPS[0] else f"{path.parent.name}/{path.stem}": path for path in paths}
 
 
 def examples_told() -> list[dict[str, str]]:
     """The examples for the menu."""
-    return [
-        {"name": name, "about": _about(path), "group": "found" if path.parent.name == "found" else "examples"}
-        for name, path in examples().items()
-    ]
+    return [{"name": name, "about": _about(path), "group": _group(path)} for name, path in examples().items()]

@@ -8,6 +8,7 @@ JOBS_LIMIT = 5  # jobs at the same time
 WRITTEN_LIMIT = 1 << 20  # bytes of a file that a job may write: caches of Python, semaphores
 MEMORY_LIMIT = 6 << 30  # bytes of memory that a job and all that it started may hold
 LOOK = 1.0  # seconds between two looks at that
+BUSY = 4  # so many times as long a job may take where the machine has other work to do
 GRACE = 30.0  # seconds that a job has beyond the time it was asked to take
 
 # seconds that each kind of job may take, where the request doesn't say

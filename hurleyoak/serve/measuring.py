@@ -85,6 +85,8 @@ def simulate_task(request: Request, tell: Tell) -> dict[str, Any]:
     """One run by counts; rows of its curve are told as they come."""
     loaded = loaded_of(request)
     counts = counts_of(loaded.net, counts_in(request))
+    if not loaded.meets(counts):
+        raise Fault([f"this crowd doesn't meet what the text assumes: {', '.join(loaded.assumed)}"])
     seed = whole_in(request, "seed", 0, 0, SEED_LIMIT)
     limits = _limits(request)
     value = _value(loaded, counts)
@@ -149,7 +151,8 @@ def growth_task(request: Request, tell: Tell) -> dict[str, Any]:
     runs = whole_in(request, "runs", 10, 1, RUNS_LIMIT)
     changes = whole_in(request, "changes", 10**6, 1, MOST_CHANGES)
     first = whole_in(request, "seed", 0, 0, SEED_LIMIT - RUNS_LIMIT)
-    crowds = [counts_of(loaded.net, [f"{name}={k}" for name, k in size.items()]) for size in sizes]
+    asked = [counts_of(loaded.net, [f"{name}={k}" for name, k in size.items()]) for size in sizes]
+    crowds = [counts for counts in asked if loaded.meets(counts)]
     rows: list[Row] = []
     last = 0.0
     for at, counts in enumerate(crowds):

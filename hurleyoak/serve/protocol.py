@@ -10,12 +10,13 @@ from ..faults import InputFault
 from ..text.families import MEMBER_LIMIT, member_name
 from ..text.files import READ_AS, Loaded, LoadedBundle, bundle_in, load, predicates_differ, with_predicate
 from ..search.explore import first_moves
-from ..text.membersof import load_member, members_of
+from ..text.membersof import load_member, member_faults, members_of
 from ..text.reading_on import faults_in
 from ..text.relaxed import in_form
 from ..proof.names import Names
 from ..protocol.nets import Leaf, Net
 from ..protocol.predicates import PredicateFault, read_predicate
+from ..protocol.reactions import leaf_ways
 from ..protocol.naming import state_text
 from ..text.scanner import TextFault, without_comment
 from ..text.writer import combine_text, leaf_names, text_of
@@ -82,9 +83,14 @@ def faults_of(fault: Exception) -> list[Mark]:
 def all_faults(request: Request, fault: Exception) -> list[Mark]:
     """The marks of all that is wrong with a text, of which a fault is known."""
     text = text_in(request, "text")
-    if text.lstrip()[:1] in ("{", "[") or not getattr(fault, "line", 0) or is_family(text):
+    if text.lstrip()[:1] in ("{", "[") or not getattr(fault, "line", 0):
         return faults_of(fault)
-    return [one for each in faults_in(text) for one in faults_of(each)] or faults_of(fault)
+    try:
+        values = _values(request, text)
+    except InputFault:
+        return faults_of(fault)
+    found = faults_in(text) if values is None else member_faults(text, values)
+    return [one for each in found for one in faults_of(each)] or faults_of(fault)
 
 
 def is_family(text: str) -> bool:
@@ -98,12 +104,18 @@ def members_told(request: Request) -> list[str]:
     return [member_name(values) for values in members_of(text, NAME)] if is_family(text) else []
 
 
+def _values(request: Request, text: str) -> dict[str, int] | None:
+    """Which member of a family is worked with; None where the text is of one protocol."""
+    found = members_of(text, NAME) if is_family(text) else []
+    return found[min(whole_in(request, "member", 0, 0, MEMBER_LIMIT), len(found) - 1)] if found else None
+
+
 def _load(request: Request) -> Loaded:
     text = text_in(request, "text")
-    found = members_of(text, NAME) if is_family(text) else []
-    if not found:
+    values = _values(request, text)
+    if values is None:
         return load(text, NAME)
-    loaded = load_member(text, found[min(whole_in(request, "member", 0, 0, MEMBER_LIMIT), len(found) - 1)], NAME)
+    loaded = load_member(text, values, NAME)
     # (its lines are not those of the family's text)
     return replace(loaded, written=replace(loaded.written, leaves=[])) if loaded.written else loaded
 
@@ -155,6 +167,14 @@ def _lines(loaded: Loaded, at: int) -> list[int]:
     return [place.line for place in loaded.written.leaves[at].places] if has_lines(loaded) and loaded.written else []
 
 
+def _ways(leaf: Leaf) -> list[list[float]] | None:
+    """Where chances or orders are given: states of the initiator and of the responder, what they become, the move and its chance."""
+    if not leaf.laws:
+        return None
+    found = leaf_ways(leaf)
+    return [[p, q, r, s, t, float(chance)] for (p, q), ways in found.items() for t, (r, s), chance in ways]
+
+
 def _leaf(loaded: Loaded, at: int, label: str) -> dict[str, Any]:
     leaf: Leaf = loaded.net.leaves[at]
     names = Names(loaded.net.names, leaf)
@@ -168,6 +188,8 @@ def _leaf(loaded: Loaded, at: int, label: str) -> dict[str, Any]:
         "helpers": list(leaf.helpers),
         # (the program's meetings take the first move for two states that changes something)
         "moves": [[*leaf.moves[t], t] for t in leaf.active],
+        "ways": _ways(leaf),
+        "ordered": [t for t, law in enumerate(leaf.laws) if law.ordered],
         "lines": _lines(loaded, at),
         "hidden": len(leaf.active) - len(taken),
     }

@@ -9,6 +9,7 @@ from ..show.explaining import bundle_to_explain, explain
 from ..faults import InputFault
 from ..text.files import Loaded, load, strict_bundle
 from ..text.saving import with_proof
+from ..search.howfar import Going
 from ..search.jobs import Result, Task, processors
 from ..engine.inputs import Asked
 from ..proof.bundles import Bundle
@@ -95,6 +96,16 @@ def _begins(loaded: Loaded, seconds: int, tell: Tell) -> Callable[[list[Task]], 
     )
 
 
+def _comes(tell: Tell) -> Callable[[Result], None]:
+    """Tells what came of a task."""
+    return lambda result: tell("came", _told_result(result))
+
+
+def _goes_on(tell: Tell) -> Going:
+    """Tells how far each task is."""
+    return lambda shares: tell("going", {"shares": [round(share, 3) for share in shares]})
+
+
 def _text_with(request: Request, loaded: Loaded, bundle: Bundle) -> str:
     """The text with the proof in it; its comments stay where that can be."""
     text = text_in(request, "text")
@@ -120,16 +131,7 @@ def find_task(request: Request, tell: Tell) -> dict[str, Any]:
     seconds = _seconds(request)
     small = whole_in(request, "small", 4, 0, MOST_SMALL)
     begins = _begins(loaded, seconds, tell)
-    found = find(
-        loaded,
-        seconds,
-        small,
-        processors(),
-        flag_in(request, "anew"),
-        begins,
-        lambda result: tell("came", _told_result(result)),
-        lambda shares: tell("going", {"shares": [round(share, 3) for share in shares]}),
-    )
+    found = find(loaded, seconds, small, processors(), flag_in(request, "anew"), begins, _comes(tell), _goes_on(tell))
     if found.flaw is not None:
         return {"found": "flaw", **flaw_value(loaded, found.flaw)}
     if found.bundle is None:
@@ -148,9 +150,7 @@ def mend_task(request: Request, tell: Tell) -> dict[str, Any]:
 
     def look(one: Loaded) -> Bundle | None:
         begins = _begins(loaded, seconds, tell)
-        outcomes.append(
-            find(one, seconds, 0, processors(), False, begins, lambda result: tell("came", _told_result(result)))
-        )
+        outcomes.append(find(one, seconds, 0, processors(), False, begins, _comes(tell), _goes_on(tell)))
         return outcomes[-1].bundle
 
     bundle = strict_bundle(loaded)

@@ -3,6 +3,7 @@ from __future__ import annotations
 
 from .families import Values, member, member_name, members
 from .files import Loaded, load_pop
+from .reading_on import faults_in
 from .scanner import TextFault
 
 
@@ -22,3 +23,15 @@ def members_of(text: str, name: str) -> list[dict[str, int]]:
         return [] if text.lstrip()[:1] in ("{", "[") else members(text)
     except TextFault as fault:
         raise fault.of_input(name) from None
+
+
+def member_faults(text: str, values: Values) -> list[TextFault]:
+    """All that is wrong with a member of a family, at the family's own lines: the first fault of each line."""
+    try:
+        made = member(text, values)
+    except TextFault as fault:
+        return [fault]
+    found: dict[int, TextFault] = {}
+    for own in map(made.back, faults_in(made.text)):
+        found.setdefault(own.line, own)
+    return [found[line] for line in sorted(found)]

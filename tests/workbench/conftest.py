@@ -13,6 +13,8 @@ from hypothesis import settings
 from hurleyoak.engine import program
 from hurleyoak.proof.bundles import Bundle, bundle_of
 
+from . import alarm
+
 if TYPE_CHECKING:
     from .browsing import Page
 
@@ -61,6 +63,22 @@ def compiled(text: str) -> Bundle:
     answer = program.ask(["compile", "--flocks"], text)
     assert answer.status == program.DONE, answer.text
     return bundle_of(json.loads(answer.text))
+
+
+def pytest_runtest_setup(item: pytest.Item) -> None:
+    """A test in a browser comes to its end within the time of `alarm`, or fails."""
+    alarm.skip_after_slow(item)
+    alarm.begin(item)
+
+
+def pytest_runtest_teardown(item: pytest.Item) -> None:
+    """So does what comes after it."""
+    alarm.begin(item)
+
+
+def pytest_runtest_logfinish() -> None:
+    """The test is over."""
+    alarm.end()
 
 
 @pytest.fixture(scope="session")

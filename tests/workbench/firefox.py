@@ -12,7 +12,7 @@ from contextlib import suppress
 from pathlib import Path
 from typing import Any
 
-from .serving import wait_for
+from .serving import PATIENCE, wait_for
 
 FIREFOX = shutil.which("firefox-esr") or shutil.which("firefox")
 PORT_FILE = "MarionetteActivePort"  # in the profile: where the browser listens
@@ -29,7 +29,7 @@ PREFERENCES = {
     "termsofuse.bypassNotification": True,
 }
 ELEMENT = "element-6066-11e4-a52e-4f735466cecf"  # the key of an element's reference, by the WebDriver standard
-START_SECONDS, ANSWER_SECONDS = 180, 180
+START_SECONDS = ANSWER_SECONDS = 2 * PATIENCE
 CONSOLE = """return Services.console.getMessageArray()
     .filter((one) => one instanceof Ci.nsIScriptError && !(one.flags & Ci.nsIScriptError.warningFlag))
     .filter((one) => String(one.sourceName).startsWith(arguments[0]))

@@ -11,10 +11,10 @@ import time
 from pathlib import Path
 from typing import Any, Iterator
 
+from .alarm import PATIENCE as PATIENCE
 from .conftest import TOP
 
 LOOK = 0.1  # seconds between two looks
-PATIENCE = 90  # seconds, on a busy machine
 POP = str(TOP / "bin" / "pop")
 
 
@@ -43,7 +43,7 @@ class Server:
         usual.update({name.replace("_", "-"): value for name, value in changed.items()})
         return {name: value for name, value in usual.items() if value is not None}
 
-    def connection(self, seconds: float = 60) -> http.client.HTTPConnection:
+    def connection(self, seconds: float = PATIENCE) -> http.client.HTTPConnection:
         """A connection to it."""
         return http.client.HTTPConnection("127.0.0.1", self.port, timeout=seconds)
 
@@ -71,7 +71,7 @@ class Server:
 
     def begin(self, kind: str, **request: Any) -> tuple[http.client.HTTPConnection, http.client.HTTPResponse]:
         """A job whose messages are read by the caller."""
-        connection = self.connection(120)
+        connection = self.connection(2 * PATIENCE)
         connection.request("POST", "/job", json.dumps({"kind": kind, **request}), self.headers())
         return connection, connection.getresponse()
 

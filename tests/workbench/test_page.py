@@ -64,6 +64,8 @@ def test_it_shows_all_from_the_disk(shared: Page, tmp_path: Path) -> None:
     page.sees("#panel-play .said", "played by the page")
     page.tab("net")
     assert page.has("#panel-net .state") and page.has("#panel-net .link.taken")
+    page.one("#panel-net input[type=checkbox]").click()
+    page.sees("#panel-net .legend", "layer 0layer 1")
     page.tab("proof")
     page.sees("#panel-proof .badge.certified", "when this page was made")
     assert page.has("#panel-proof .tree li[data-node='8']")
@@ -177,7 +179,7 @@ def test_other_inputs(path: str) -> None:
 
 def test_the_modules_are_one_script() -> None:
     script = one_script("stillpage", {"api": "still"})
-    assert script.index("const module_dom") < script.index("const module_play") < script.index("const module_stillpage")
+    assert script.index("const module_dom") < script.index("const module_timeline") < script.index("const module_play")
     assert "module_api" not in script and "fetch(" not in script
 
 

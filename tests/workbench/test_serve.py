@@ -1,10 +1,12 @@
 """`pop serve` without a browser: who may ask, what jobs answer, and that they end with who asked for them."""
 from __future__ import annotations
 
+import asyncio
 import json
 import os
 import signal
 import subprocess
+import sys
 import time
 from pathlib import Path
 from typing import Iterator
@@ -27,6 +29,7 @@ MAJORITY = (EXAMPLES / "majority/majority.pop").read_text()
 NET = MAJORITY.split("\nlayer")[0]
 WRONG = (EXAMPLES / "found/approximate-majority.pop").read_text()
 SLOW = (EXAMPLES / "found/twice.pop").read_text()
+NOBODY = 65534  # the user who owns nothing
 
 
 @pytest.fixture(scope="module")
@@ -367,7 +370,23 @@ def test_times() -> None:
     assert jobs.seconds_of({"kind": "find", "seconds": 5}) == 5 + limits.GRACE
     for odd in (-1, 1e9, True, "5", None, float("nan")):
         assert jobs.seconds_of({"kind": "find", "seconds": odd}) == limits.SECONDS["find"] + limits.GRACE
-    assert jobs.memory_of(os.getpgid(0)) > 1 << 20
+    assert jobs.memory_of(os.getpgid(0)) > 1 << 20 and jobs.work_of(os.getpgid(0)) > 0
+
+
+@pytest.mark.parametrize(
+    "taken, worked, left", [(2.0, 2.0, 8.0), (12.0, 3.0, 7.0), (12.0, 10.0, 0.0), (39.0, 0.0, 1.0), (40.0, 0.0, 0.0)]
+)
+def test_the_time_of_a_job_is_that_of_its_work(
+    monkeypatch: pytest.MonkeyPatch, taken: float, worked: float, left: float
+) -> None:
+    async def found() -> float:
+        clock = jobs.Clock(0, 10.0)
+        now = clock.start + taken
+        clock.now = lambda: now
+        return clock.left
+
+    monkeypatch.setattr(jobs, "work_of", lambda group: worked)
+    assert abs(asyncio.run(found()) - left) < 1e-6
 
 
 # ---- the file
@@ -513,6 +532,56 @@ def test_a_family_s_member_is_read(server: Server) -> None:
         done = server.done("read", text=text, member=member)
         assert done["members"] == ["k=2", "k=3", "k=4"] and len(done["net"]["leaves"][0]["states"]) == states
     assert server.done("read", text=text.replace("k-1", "j"))["faults"][0]["line"] == 3
+
+
+def test_examples_of_one_name_are_told_apart(server: Server) -> None:
+    names = [one["name"] for one in server.post("/start", {})[1]["examples"]]
+    assert len(set(names)) == len(names) and {"majority", "families/majority"} <= set(names)
+    assert "\nfamily" not in server.post("/example", {"name": "majority"})[1]["text"]
+    assert "\nfamily" in server.post("/example", {"name": "families/majority"})[1]["text"]
+
+
+def test_what_a_file_assumes_holds_for_runs(server: Server) -> None:
+    text = f"{NET}\nassume x != y\n"
+    assert server.fault("simulate", text=text, counts={"x": 3, "y": 3}) == [
+        "this crowd doesn't meet what the text assumes: x - y != 0"
+    ]
+    rows = server.done("growth", text=text, sizes="x=3,4 y=3", runs=1)["rows"]
+    assert [row["crowd"] for row in rows] == ["x=4 y=3"]
+
+
+def test_all_faults_of_a_family_are_told(server: Server) -> None:
+    text = "family k in 2..4\ninputs x: 1\nfor i in 1..k-1\n  1 + {i} => {i+1} + 0\n1 + 1 -> 2\nyes {k}\n"
+    found = server.done("read", text=text, member=2)["faults"]
+    assert [(one["line"], one["column"]) for one in found] == [(4, 7), (5, 11)]
+
+
+# ---- two users of one machine
+
+
+def test_what_every_user_can_read_has_no_key(server: Server) -> None:
+    for pid in [server.process.pid, *workers(server.process.pid)]:
+        assert server.key.encode() not in Path(f"/proc/{pid}/cmdline").read_bytes()
+        assert server.key.encode() not in Path(f"/proc/{pid}/environ").read_bytes()
+
+
+def test_the_key_of_another_server_is_refused(server: Server) -> None:
+    other = Server()
+    try:
+        assert other.key != server.key
+        for path in ("/start", "/job", "/save", "/example"):
+            assert server.send("POST", path, "{}", X_Pop_Key=other.key)[0] == 401
+    finally:
+        assert other.close() == 0
+
+
+@pytest.mark.skipif(os.geteuid() != 0, reason="another user is one that root becomes")
+def test_another_user_reads_no_key_and_ends_no_job(server: Server) -> None:
+    looks = f"import os, sys; os.setuid({NOBODY}); sys.stdout.write(open('/proc/{server.process.pid}/environ').read())"
+    ends = f"import os; os.setuid({NOBODY}); os.kill({server.process.pid}, 15)"
+    for text in (looks, ends):
+        run = subprocess.run([sys.executable, "-c", text], capture_output=True, text=True, cwd="/")
+        assert run.stdout == "" and "PermissionError" in run.stderr
 
 
 # ---- a disk that is full

@@ -2,6 +2,7 @@
 from __future__ import annotations
 
 import http.server
+import subprocess
 import threading
 from pathlib import Path
 from typing import Any, Iterator
@@ -14,8 +15,9 @@ from hurleyoak.show.page import page
 
 from .conftest import EXAMPLES, needs_program
 from .browsing import Actions, Keys, Page
+from .frames import FASTEST, begin, measured
 from .hostile import MAJORITY, NET, hostile_text
-from .serving import Server, wait_for, workers
+from .serving import POP, Server, wait_for, workers
 
 pytest.importorskip("tornado", reason="Tornado isn't installed: apt-get install python3-tornado")
 if not Path("/usr/share/javascript/codemirror").is_dir():
@@ -23,6 +25,8 @@ if not Path("/usr/share/javascript/codemirror").is_dir():
 
 WRONG = (EXAMPLES / "found/approximate-majority.pop").read_text()
 SLOW = (EXAMPLES / "found/twice.pop").read_text()
+SCRIPT_LIMIT = 5  # milliseconds of a processor that the page's script may take for a frame
+PAGE_LIMIT = 30  # that all of the page may, on a busy machine
 
 
 @pytest.fixture(scope="module")
@@ -78,6 +82,8 @@ def test_find_certifies_majority(there: Page) -> None:
     assert there.text("#panel-proof .tasks").count("small crowds") == 1 and there.has(
         "#panel-proof .tree li[data-node='8']"
     )
+    look = "return getComputedStyle(document.querySelector('#panel-proof .tasks .what')).position"
+    assert there.js(look) == "static"
     there.press("proof", "Put the proof into the text")
     there.sees("#verdict", "certified 2 by the program")
     assert "when false" in there.js("return document.querySelector('.CodeMirror').CodeMirror.getValue()")
@@ -133,7 +139,7 @@ def test_simulate_draws(there: Page) -> None:
     )
     there.js("document.getElementById('sizes').value = 'x=10..80*2 y=x/4'")
     there.press("behaviour", "Repeat over sizes")
-    there.sees("#panel-behaviour .outcome", "meetings to the end", 90)
+    there.sees("#panel-behaviour .outcome", "meetings to the end")
     assert len(there.browser.find_elements("css selector", "#panel-behaviour .series circle")) >= 4
 
 
@@ -149,6 +155,7 @@ def test_two_agents_meet_by_the_mouse_and_by_keys(there: Page) -> None:
         )
     there.sees("#panel-play .way", "A + B → a + b")
     there.sees("#panel-play .said", "1 meeting")
+    assert "in a, which says true" in there.one(".agent[data-i='0']").get_attribute("aria-label")
     there.one('[aria-label="Back"]').click()
     there.sees("#panel-play .chips", "B5")
     there.js("document.querySelector('.agent[tabindex=\"0\"]').focus()")
@@ -297,32 +304,77 @@ def test_a_run_of_the_program_is_watched(there: Page) -> None:
 
 
 @needs_program
+def test_a_journal_that_is_opened_is_watched(there: Page) -> None:
+    words = [POP, "run", str(EXAMPLES / "majority/majority.pop"), "x=6", "y=3", "--seed", "1"]
+    journal = subprocess.run(words, capture_output=True, text=True, check=True).stdout
+    there.js(
+        "const data = new DataTransfer(); data.items.add(new File([arguments[0]], 'six.journal')); const one = document.getElementById('picked'); one.files = data.files; one.dispatchEvent(new Event('change'))",
+        journal,
+    )
+    there.sees("#panel-play .banner", "A journal. The program replays it: holds")
+    there.js(
+        "const time = document.querySelector('.time'); time.value = time.max; time.dispatchEvent(new Event('input'))"
+    )
+    there.sees("#panel-play .said", "verdict true. The program comes to this same crowd")
+
+
+@needs_program
 def test_what_is_refused_is_mended_by_a_button(there: Page) -> None:
     pytest.importorskip("scipy")
     there.put(MAJORITY.replace("absent: lin wrong - absent(A) - absent(a)", "absent: lin wrong - absent(A)"))
     there.sees("#verdict", "rejected by the program")
     there.tab("proof")
     there.press("proof", "Mend what is refused")
-    there.sees("#panel-proof .line", "certified 2", 90)
+    there.sees("#panel-proof .line", "certified 2")
     there.sees("#panel-proof .outcome", "mended")
 
 
 @needs_program
-def test_two_nets_are_joined(there: Page) -> None:
+def test_two_nets_stand_side_by_side_and_are_joined(there: Page) -> None:
     there.put((EXAMPLES / "flock/flock.pop").read_text())
-    there.tab("compile")
+    there.tab("join")
+    there.sees("#panel-join .side:first-child .small", "x >= 3, with a whole proof")
+    there.sees("#panel-join .side:last-child .small", "take an example")
     there.js(
-        "document.querySelector('#panel-compile textarea').value = arguments[0]",
-        (EXAMPLES / "remainder/remainder.pop").read_text(),
+        "const one = document.querySelector('#panel-join select'); one.value = 'remainder'; one.dispatchEvent(new Event('change'))"
     )
-    there.press("compile", "Both: and")
-    there.sees("#panel-compile .badge.certified", "certified")
+    there.sees("#panel-join .side:last-child .small", "with a whole proof")
+    assert there.has("#panel-join .side:first-child .state") and there.has("#panel-join .side:last-child .state")
+    there.press("join", "Both: and")
+    there.sees("#panel-join .badge.certified", "certified 5 by the program")
+    there.press("join", "Put it into the editor")
+    there.sees("#verdict", "certified")
+    there.js(
+        "const one = document.querySelector('#panel-join textarea'); one.value = 'inputs x: A\\nA + A => B\\n'; one.dispatchEvent(new Event('input'))"
+    )
+    there.sees("#panel-join .side:last-child .small", "line 2: expected `->`")
+
+
+@pytest.mark.quick
+def test_three_hundred_agents_cost_little(there: Page) -> None:
+    """The page's own work leaves room for 60 frames a second; how many there are is the machine's matter."""
+    begin(there)
+    _, cost = measured(there, FASTEST, 1.0)
+    assert cost["script"] < SCRIPT_LIMIT and cost["all"] < PAGE_LIMIT, cost
 
 
 def test_coins_are_tossed(there: Page) -> None:
     there.put("inputs x: A\nA + A -> B + A\nA + A -> A + C\nyes B\n")
     there.sees("#panel-play .inputs", "coins are tossed")
     there.one('[aria-label="Random meetings"]').click()
+    there.sees("#panel-play .said", "played by the page")
+
+
+def test_who_begins_a_meeting_counts(there: Page) -> None:
+    there.put("inputs x: A  y: B\nA , B -> A , A\nyes A\n")
+    there.sees("#panel-play .chips", "B5")
+    for pair, told in (((12, 0), "nothing changes"), ((0, 12), "A , B → A , A")):
+        for agent in pair:
+            there.js(
+                "document.querySelector(`.agent[data-i='${arguments[0]}']`).dispatchEvent(new MouseEvent('click', {bubbles: true}))",
+                agent,
+            )
+        there.sees("#panel-play .way li:first-child", told)
     there.sees("#panel-play .said", "played by the page")
 
 
@@ -379,8 +431,7 @@ def test_hostile_names_do_nothing(there: Page) -> None:
             there.press(view, words)
             assert wait_for(
                 lambda v=view: there.text(f"#panel-{v} .outcome") != ""
-                and not there.browser.find_elements("css selector", f"#panel-{v} button[disabled]"),
-                90,
+                and not there.browser.find_elements("css selector", f"#panel-{v} button[disabled]")
             )
         there.tab("net")
         assert there.has("#panel-net .state")
@@ -472,7 +523,7 @@ def test_it_fits(browser: Page, server: Server, width: int, height: int) -> None
     assert browser.js("return document.documentElement.scrollWidth") <= width
     browser.one("#tour .plain").click()
     assert not browser.one("#tour").is_displayed()
-    for name in (["text"] if width < 800 else []) + ["play", "behaviour", "proof", "wrong", "net", "compile"]:
+    for name in (["text"] if width < 800 else []) + ["play", "behaviour", "proof", "wrong", "net", "compile", "join"]:
         browser.tab(name)
         if name == "net":
             assert browser.has("#panel-net .state")

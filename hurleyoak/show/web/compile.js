@@ -36,7 +36,7 @@ export class Compile {
       clear(
         this.told,
         done.own ? badge("compiled") : badge("told", "made by the workbench"),
-        done.answer.good ? badge("certified", done.answer.line) : badge("rejected", done.answer.line),
+        badge(done.answer.good ? "certified" : "rejected", `${done.answer.line} by the program`),
         h("p", { class: "summary" }, "Read as ", h("code", {}, done.form), `: ${done.leaves.length} lea${done.leaves.length === 1 ? "f" : "ves"}, ${size}.`),
         done.told.map((line) => h("p", { class: "small" }, line)),
         h(

@@ -8,14 +8,17 @@ export class Crowd {
   constructor(net) {
     this.model = new Model(net);
     this.agents = [];
-    this.history = []; // [a, b, kinds before, moves, kinds after]; where nothing changes, null for the last three
+    this.counts = {}; // of the input
+    this.history = []; // [a, b, kinds before, moves, kinds after, whether the program's `play` does the same]; null for three of them where nothing changes
     this.at = 0; // meetings made, of those of the history
     this.tally = new Map();
+    this.known = undefined; // whether it is terminal, where that was asked since it changed
     this.random = generator(1);
   }
 
   // The input's crowd; empty where it has more agents than are drawn.
   start(counts, seed = 1) {
+    this.counts = { ...counts };
     this.history = [];
     this.at = 0;
     this.random = generator(seed);
@@ -39,12 +42,15 @@ export class Crowd {
 
   // How many agents there are of each kind.
   recount() {
+    this.known = undefined;
     this.tally = new Map();
     for (const kind of this.agents) this.tally.set(kind, (this.tally.get(kind) || 0) + 1);
   }
 
   become(i, kind) {
     const before = this.agents[i];
+    if (before === kind) return;
+    this.known = undefined;
     const left = this.tally.get(before) - 1;
     if (left) this.tally.set(before, left);
     else this.tally.delete(before);
@@ -52,31 +58,35 @@ export class Crowd {
     this.agents[i] = kind;
   }
 
-  // Two agents meet; whether that changes something.
-  meet(a, b) {
+  // Two agents meet, the first as the initiator; whether that changes something. It is sure to where only such meetings are made.
+  meet(a, b, isSure = false) {
     this.history.length = this.at;
-    this.history.push(this.tossed(a, b) || this.item(a, b, this.agents[a], this.agents[b]));
+    const way = this.drawn(a, b, isSure);
+    const isPlain = way ? way.isPlain : !this.model.after(this.agents[a], this.agents[b]);
+    this.history.push(this.made(a, b, this.agents[a], this.agents[b], way, isPlain));
     return this.advance()[2];
   }
 
-  // A meeting for which several moves stand: one of them, each as likely as another.
-  tossed(a, b) {
-    const [one, two] = [this.agents[a], this.agents[b]];
-    const ways = this.model.options(one, two);
-    if (ways.length < 2) return null;
-    const made = ways[Math.floor(this.random() * ways.length)];
-    return [a, b, [one, two], made.moves, [made.first, made.second]];
+  // What comes of a meeting, by chance where it may come out in several ways; null where nothing changes.
+  drawn(a, b, isSure) {
+    const ways = this.model.options(this.agents[a], this.agents[b]);
+    if (!ways.length || ways[0].chance === 1) return ways[0] || null;
+    let left = this.random() * (isSure ? this.model.share(this.agents[a], this.agents[b]) : 1);
+    return ways.find((way) => (left -= way.chance) < 0) || (isSure ? ways.at(-1) : null);
   }
 
   // Whether the meetings so far are those of the program's `play`, which takes the first move of each two states.
   isPlain() {
-    return this.history.slice(0, this.at).every(([, , before, moves]) => !before || String(this.model.after(...before)?.moves) === String(moves));
+    return this.history.slice(0, this.at).every((item) => item[5]);
   }
 
-  // What the history says of a meeting.
-  item(a, b, one, two, take = []) {
-    const made = take.length ? this.model.taken(one, two, ...take) : this.model.after(one, two);
-    return made ? [a, b, [one, two], made.moves, [made.first, made.second]] : [a, b, null, null, null];
+  made(a, b, one, two, way, isPlain) {
+    return way ? [a, b, [one, two], way.moves, [way.first, way.second], isPlain] : [a, b, null, null, null, isPlain];
+  }
+
+  // A meeting of a list, as the program makes it: by a move of a leaf that is taken there alone, or by the first moves.
+  item(a, b, one, two, take) {
+    return this.made(a, b, one, two, take.length ? this.model.taken(one, two, ...take) : this.model.after(one, two), true);
   }
 
   // The next meeting of the history: its two agents, and whether it changes something.
@@ -118,23 +128,21 @@ export class Crowd {
     return [a, b >= a ? b + 1 : b];
   }
 
-  // A pair whose meeting changes something, each as likely as another.
+  // An initiator and a responder whose meeting may change something, as likely as it does.
   changing() {
     const pairs = [];
     let sum = 0;
+    const add = (one, two, many) => {
+      const weight = many && many * this.model.share(one, two);
+      if (weight) pairs.push([one, two, (sum += weight)]);
+    };
     const here = [...this.tally];
-    here.forEach(([one, m], i) =>
-      here.slice(i).forEach(([two, k], j) => {
-        const weight = j ? m * k : (m * (m - 1)) / 2;
-        if (weight && this.model.after(one, two)) pairs.push([one, two, (sum += weight)]);
-      }),
-    );
+    here.forEach(([one, m]) => here.forEach(([two, k]) => add(one, two, one === two ? m * (m - 1) : m * k)));
     if (!sum) return null;
     const drawn = this.random() * sum;
     const [one, two] = pairs.find(([, , upTo]) => drawn < upTo);
     const a = this.someone(one, -1);
-    const b = this.someone(two, a);
-    return this.random() < 0.5 ? [a, b] : [b, a];
+    return [a, this.someone(two, a)];
   }
 
   // An agent of a kind, other than one.
@@ -144,9 +152,15 @@ export class Crowd {
     return all[Math.floor(this.random() * all.length)];
   }
 
+  // Whether no meeting changes anything any more.
   isTerminal() {
+    this.known ??= !this.someChange();
+    return this.known;
+  }
+
+  someChange() {
     const here = [...this.tally];
-    return !here.some(([one, m], i) => here.slice(i).some(([two], j) => (j || m > 1) && this.model.after(one, two)));
+    return here.some(([one, m], i) => here.slice(i).some(([two], j) => (j || m > 1) && this.model.after(one, two)));
   }
 
   // The kinds that are here, those that say true first.
@@ -155,7 +169,7 @@ export class Crowd {
   }
 
   sayTrue() {
-    return this.kinds().filter((kind) => kind.output).reduce((sum, kind) => sum + this.tally.get(kind), 0);
+    return [...this.tally].reduce((sum, [kind, k]) => sum + (kind.output ? k : 0), 0);
   }
 }
 

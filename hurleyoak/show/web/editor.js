@@ -41,7 +41,7 @@ export class Editor {
     this.code.on("change", () => store.setText(this.code.getValue()));
     store.on("read", () => this.show());
     store.on("crowd", ({ tally }) => (this.tally = tally));
-    this.tip = h("div", { class: "what", role: "tooltip", hidden: true });
+    this.tip = h("div", { class: "meaning", role: "tooltip", hidden: true });
     document.body.append(this.tip);
     const wrapper = this.code.getWrapperElement();
     wrapper.addEventListener("mousemove", (event) => this.point(event));

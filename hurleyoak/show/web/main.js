@@ -23,6 +23,7 @@ A + B -> A + A             # what an A and a B become when they meet
 yes       A                # states that say true; the others say false
 computes  x >= 1           # what all agents are to say in the end
 `;
+const GROUPS = { examples: "Examples", families: "Families: one text for many protocols", succinct: "Succinct: few states for great constants", found: "More, with found proofs" };
 const $ = (id) => document.getElementById(id);
 const VIEWS = [
   ["text", "Text"],
@@ -32,6 +33,7 @@ const VIEWS = [
   ["wrong", "Wrong?"],
   ["net", "Net"],
   ["compile", "Compile"],
+  ["join", "Join"],
 ];
 
 const editor = new Editor($("editor"), $("faults"));
@@ -40,6 +42,8 @@ let saved = ""; // the text as it was read or saved
 const views = {};
 const tabs = new Tabs(VIEWS, (name) => {
   if (views.net) views.net.show(name === "net");
+  if (views.join) views.join.show(name === "join");
+  if (views.proof) views.proof.show(name === "proof");
   if (name === "text") editor.code.refresh();
 });
 
@@ -149,7 +153,7 @@ function build() {
   views.wrong = new Wrong($("panel-wrong"), { animate });
   views.net = new NetTab($("panel-net"));
   views.compile = new Compile($("panel-compile"), { replace });
-  views.join = new Join($("panel-compile"), { replace });
+  views.join = new Join($("panel-join"), { replace });
   views.tour = new Tour($("tour"), { begin: tourText, choose, own: begin });
   $("help").addEventListener("click", () => mayLeave() && views.tour.start());
   choose(kept("pop-view") || "play");
@@ -270,9 +274,8 @@ async function start() {
   const isOfSources = found.program.includes("is that of the sources");
   setProgram(isOfSources);
   clear($("foot"), h("span", { class: isOfSources ? "" : "warning" }, found.program), h("span", {}, "The page and the workbench decide nothing: what is certified, the program has certified."));
-  const groups = { examples: h("optgroup", { label: "Examples" }), found: h("optgroup", { label: "More, with found proofs" }) };
-  for (const one of found.examples) groups[one.group].append(h("option", { value: one.name }, `${one.name} — ${one.about}`.slice(0, 90)));
-  $("examples").append(...Object.values(groups));
+  const groups = Object.entries(GROUPS).map(([name, label]) => h("optgroup", { label }, found.examples.filter((one) => one.group === name).map((one) => h("option", { value: one.name }, `${one.name.split("/").at(-1)} — ${one.about}`.slice(0, 90)))));
+  $("examples").append(...groups);
   views.join.offer(found.examples);
   $("examples").closest("label").hidden = !found.examples.length;
   if (found.told) toast(found.told, true);

@@ -1,4 +1,6 @@
-// The net as the page plays it: a meeting takes the first move for two states that changes something, in each leaf.
+// The net as the page plays it: a meeting takes a move for its two states in each leaf, by chance where there are several.
+
+const LEAST = 1e-9; // a chance that is none, but for the rounding of sums
 
 export function combined(combine, values) {
   const stack = [];
@@ -14,9 +16,34 @@ export function combined(combine, values) {
   return stack[0];
 }
 
-// By which two states are found, whichever comes first.
+// By which two states are found, the first agent's and the second's.
 function pairKey(p, q) {
-  return Math.min(p, q) * 512 + Math.max(p, q);
+  return p * 65536 + q;
+}
+
+// The first move for two states, which the program takes.
+function firstMoves(leaf) {
+  const table = new Map();
+  for (const [p, q, r, s, t] of leaf.moves) {
+    if (table.has(pairKey(p, q))) continue;
+    table.set(pairKey(p, q), [r, s, t]);
+    if (!table.has(pairKey(q, p))) table.set(pairKey(q, p), [s, r, t]);
+  }
+  return table;
+}
+
+// All moves for the states of an initiator and a responder, each with its chance: an equal one where none is given.
+function allMoves(leaf) {
+  const table = new Map();
+  const add = (p, q, way) => table.set(pairKey(p, q), [...(table.get(pairKey(p, q)) || []), way]);
+  for (const [p, q, r, s, t, chance] of leaf.ways || []) add(p, q, [r, s, t, chance]);
+  if (leaf.ways) return table;
+  for (const [p, q, r, s, t] of leaf.moves) {
+    add(p, q, [r, s, t, 1]);
+    if (p !== q) add(q, p, [s, r, t, 1]);
+  }
+  for (const ways of table.values()) for (const way of ways) way[3] = 1 / ways.length;
+  return table;
 }
 
 // What an agent is, once for each: its state in every leaf, with what is shown of it.
@@ -37,18 +64,12 @@ class Kind {
 export class Model {
   constructor(net) {
     this.net = net;
-    this.tables = net.leaves.map((leaf) => {
-      const table = new Map();
-      for (const [p, q, r, s, t] of leaf.moves) {
-        const key = pairKey(p, q);
-        if (!table.has(key)) table.set(key, []);
-        table.get(key).push([p, r, s, t]);
-      }
-      return table;
-    });
+    this.firsts = net.leaves.map(firstMoves);
+    this.tables = net.leaves.map(allMoves);
     this.kinds = [];
     this.byKey = new Map();
-    this.made = new Map();
+    this.plain = new Map(); // what two kinds become by first moves
+    this.made = new Map(); // all that they may become
     this.used = [0, 0];
     if (net.leaves.length === 1) net.leaves[0].states.forEach((_, q) => this.kind([q]));
   }
@@ -74,36 +95,50 @@ export class Model {
     return agents;
   }
 
+  // What is known of two kinds, asked for once.
+  known(table, one, two, make) {
+    const key = one.id * 1e7 + two.id;
+    if (!table.has(key)) table.set(key, make());
+    return table.get(key);
+  }
+
   // What two agents become, with the move of each leaf, where each leaf takes its first move; null where nothing changes.
   after(one, two) {
-    return this.options(one, two)[0] || null;
+    return this.known(this.plain, one, two, () => this.byFirst(one.word, two.word));
   }
 
-  // All that two agents may become: where a leaf has several moves for the same two states, a coin decides among them.
-  options(one, two) {
-    const key = one.id * 1e7 + two.id;
-    let found = this.made.get(key);
-    if (found === undefined) {
-      found = this.reactions(one.word, two.word);
-      this.made.set(key, found);
-    }
-    return found;
-  }
-
-  reactions(one, two) {
-    let ways = [[[], [], []]];
-    this.tables.forEach((table, i) => {
-      const [p, q] = [one[i], two[i]];
-      const made = table.get(pairKey(p, q)) || [null];
-      ways = ways.flatMap(([first, second, moves]) =>
-        made.map((move) => {
-          if (!move) return [[...first, p], [...second, q], moves];
-          const [r, s] = move[0] === p ? [move[1], move[2]] : [move[2], move[1]];
-          return [[...first, r], [...second, s], [...moves, [i, move[3]]]];
-        }),
-      );
+  byFirst(one, two) {
+    const [first, second, moves] = [[...one], [...two], []];
+    this.firsts.forEach((table, i) => {
+      const made = table.get(pairKey(one[i], two[i]));
+      if (!made) return;
+      [first[i], second[i]] = made;
+      moves.push([i, made[2]]);
     });
-    return ways.filter(([, , moves]) => moves.length).map(([first, second, moves]) => ({ first: this.kind(first), second: this.kind(second), moves }));
+    return moves.length ? { first: this.kind(first), second: this.kind(second), moves } : null;
+  }
+
+  // All that an initiator and a responder may become, each with its chance; what the chances leave is that nothing changes.
+  options(one, two) {
+    return this.known(this.made, one, two, () => this.byChance(one, two));
+  }
+
+  byChance(one, two) {
+    let ways = [[[], [], [], 1]];
+    this.tables.forEach((table, i) => {
+      const [p, q] = [one.word[i], two.word[i]];
+      const made = table.get(pairKey(p, q)) || [];
+      const stays = [p, q, null, 1 - made.reduce((sum, way) => sum + way[3], 0)];
+      const all = stays[3] > LEAST ? [...made, stays] : made;
+      ways = ways.flatMap(([first, second, moves, chance]) => all.map(([r, s, t, part]) => [[...first, r], [...second, s], t === null || (r === p && s === q) ? moves : [...moves, [i, t]], chance * part]));
+    });
+    const plain = String(this.after(one, two)?.moves);
+    return ways.filter(([, , moves]) => moves.length).map(([first, second, moves, chance]) => ({ first: this.kind(first), second: this.kind(second), moves, chance, isPlain: String(moves) === plain }));
+  }
+
+  // By which chance something changes.
+  share(one, two) {
+    return this.options(one, two).reduce((sum, way) => sum + way.chance, 0);
   }
 
   // What two agents become by one move of one leaf, the first of them as its first.

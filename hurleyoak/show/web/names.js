@@ -2,6 +2,8 @@
 import { store } from "./store.js";
 
 const KEYWORDS = {
+  family: "a parameter of the text, as in `family k in 2..4`: one protocol for each of its values",
+  for: "the lines below, set in, stand once for each value, as in `for i in 1..k-1`",
   format: "the format of the net's file, 1 or 2",
   variables: "the input variables in their order",
   predicate: "what the whole net computes",

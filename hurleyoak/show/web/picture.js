@@ -5,6 +5,9 @@ import { s } from "./svg.js";
 const LABELS = 130; // agents, up to which their states are written in them
 const LEAST_LABEL = 8; // pixels of a dot's radius below which nothing is written in it
 const LINES = 12; // meetings shown at once while many are made
+const ROUND = 1; // what a circle's side is of a dot's size
+const SQUARE = 0.88; // what a square's is, so that both look as large
+const CORNER = 0.3;
 const NARROW = 460; // pixels of a stage whose hint takes two lines
 
 export class Picture {
@@ -13,15 +16,19 @@ export class Picture {
     this.stage = stage;
     this.crowd = null;
     this.dots = [];
-    this.painted = [];
+    this.painted = []; // the state that each dot shows
+    this.parts = []; // shape and label of each dot
+    this.unnamed = new Set(); // agents whose names are those of earlier states
     this.places = null;
+    this.looks = null; // attributes of a circle and of a square, once there is room
     this.chosen = -1;
     this.focus = 0;
     this.ended = undefined; // what all have to say at the end, once that is known
     this.field = s("svg", { class: "field", role: "group", "aria-label": "Agents. Arrow keys go from one to another, Enter chooses two that meet.", tabindex: "-1" });
     this.lines = s("g", { class: "meetings" });
+    this.traces = ["met", "idle"].map((word) => s("path", { class: word }));
     this.group = s("g", { class: "agents" });
-    this.field.append(this.lines, this.group);
+    this.field.append(this.lines, s("g", { class: "traces" }, this.traces), this.group);
     this.field.addEventListener("click", (event) => {
       const dot = event.target.closest(".agent");
       if (dot) chosen(Number(dot.dataset.i));
@@ -43,7 +50,9 @@ export class Picture {
     this.order = order;
     this.dots = crowd.agents.map((_, i) => s("g", { class: "agent", role: "button", tabindex: i === 0 ? 0 : -1, data: { i } }));
     this.group.replaceChildren(...this.dots);
-    this.lines.replaceChildren();
+    this.places = this.looks = null;
+    this.painted = [];
+    this.wipe();
     this.focus = 0;
     this.place();
     this.paintAll();
@@ -75,39 +84,78 @@ export class Picture {
       this.places[i] = at;
       this.dots[i].setAttribute("transform", `translate(${at[0].toFixed(1)} ${at[1].toFixed(1)})`);
     });
-    this.painted = [];
+    this.look(radius);
     this.paintAll();
   }
 
-  paintAll() {
-    this.crowd.agents.forEach((_, i) => this.paint(i));
+  // What a dot is made of, at a size.
+  look(r) {
+    const text = (value) => value.toFixed(1);
+    const box = (share, corner) => ({ x: text(-share * r), y: text(-share * r), width: text(2 * share * r), height: text(2 * share * r), rx: text(corner * r) });
+    this.looks = { true: box(ROUND, ROUND), false: box(SQUARE, CORNER) };
+    this.painted = [];
+    const hasLabels = this.dots.length <= LABELS && r >= LEAST_LABEL;
+    this.parts = this.dots.map((dot) => {
+      const shape = s("rect");
+      const label = hasLabels ? s("text", { dy: "0.35em" }) : null;
+      dot.replaceChildren(s("circle", { class: "halo", r: text(r + 4) }), shape, ...(label ? [label] : []));
+      return { shape, label, output: undefined };
+    });
   }
 
-  paint(i) {
+  // All dots, and their names.
+  paintAll() {
+    if (!this.crowd) return;
+    this.crowd.agents.forEach((_, i) => {
+      this.mark(i);
+      this.paint(i);
+    });
+    this.name();
+  }
+
+  // Who is chosen, whom a meeting with that one would not change, and who says the wrong thing at the end.
+  mark(i) {
     const { agents, model } = this.crowd;
-    const kind = agents[i];
-    const dot = this.dots[i];
-    dot.classList.toggle("chosen", i === this.chosen);
-    dot.classList.toggle("dim", this.chosen >= 0 && i !== this.chosen && !model.after(agents[this.chosen], kind));
-    dot.classList.toggle("wrong", this.ended !== undefined && this.ended !== null && kind.output !== this.ended);
-    if (this.painted[i] === kind || !this.radius) return;
+    const { classList } = this.dots[i];
+    classList.toggle("chosen", i === this.chosen);
+    classList.toggle("dim", this.chosen >= 0 && i !== this.chosen && !model.after(agents[this.chosen], agents[i]));
+    classList.toggle("wrong", this.ended !== undefined && this.ended !== null && agents[i].output !== this.ended);
+  }
+
+  // An agent in its state: what stays as it was is left alone.
+  paint(i) {
+    const kind = this.crowd.agents[i];
+    if (this.painted[i] === kind) return;
+    this.unnamed.add(i);
+    if (!this.looks) return;
     this.painted[i] = kind;
-    const { fill, ink } = model.colour(kind);
-    const r = this.radius;
-    const { name, output } = kind;
-    const side = (1.76 * r).toFixed(1);
-    const corner = (-0.88 * r).toFixed(1);
-    const shape = output ? s("circle", { r: r.toFixed(1) }) : s("rect", { x: corner, y: corner, width: side, height: side, rx: (0.3 * r).toFixed(1) });
-    const size = `${Math.min(r * 0.95, (r * 2.6) / Math.max(1, name.length)).toFixed(1)}px`;
-    const label = agents.length <= LABELS && r >= LEAST_LABEL ? s("text", { vars: { "font-size": size }, dy: "0.35em" }, name) : null;
-    dot.style.setProperty("--fill", fill);
-    dot.style.setProperty("--ink", ink);
-    dot.setAttribute("aria-label", `agent ${i} in ${name}, which says ${output}`);
-    dot.replaceChildren(s("circle", { class: "halo", r: (r + 4).toFixed(1) }), shape, ...(label ? [label] : []));
+    const part = this.parts[i];
+    const { fill, ink } = this.crowd.model.colour(kind);
+    part.shape.setAttribute("fill", fill);
+    if (part.output !== kind.output) {
+      part.output = kind.output;
+      for (const [name, value] of Object.entries(this.looks[kind.output])) part.shape.setAttribute(name, value);
+    }
+    if (part.label) this.write(part.label, kind, ink);
+  }
+
+  write(label, { name }, ink) {
+    label.style.setProperty("font-size", `${Math.min(this.radius * 0.95, (this.radius * 2.6) / Math.max(1, name.length)).toFixed(1)}px`);
+    label.setAttribute("fill", ink);
+    label.textContent = name;
+  }
+
+  // What a screen reader says of the agents: only at rest, as nobody can follow it while many meet.
+  name() {
+    for (const i of this.unnamed) {
+      const { name, output } = this.crowd.agents[i];
+      this.dots[i].setAttribute("aria-label", `agent ${i} in ${name}, which says ${output}`);
+    }
+    this.unnamed.clear();
   }
 
   // Shows two agents that met.
-  flash(a, b, changed, quick) {
+  flash(a, b, changed, quick = false) {
     for (const i of [a, b]) {
       const dot = this.dots[i];
       dot.classList.remove("met", "idle");
@@ -115,17 +163,39 @@ export class Picture {
       dot.classList.add(changed ? "met" : "idle");
     }
     if (!this.places) return;
+    this.untrace();
     const [x1, y1] = this.places[a];
     const [x2, y2] = this.places[b];
     this.lines.append(s("line", { x1, y1, x2, y2, class: changed ? "met" : "idle" }));
     while (this.lines.childElementCount > (quick ? LINES : 1)) this.lines.firstChild.remove();
   }
 
+  // Shows the last of many meetings at once: two lines of the drawing, with nothing that moves by itself.
+  trace(met) {
+    if (!this.places) return;
+    if (this.lines.firstChild) this.lines.replaceChildren();
+    const ways = ["", ""];
+    for (const [a, b, changed] of met.slice(-LINES)) {
+      const [[x1, y1], [x2, y2]] = [this.places[a], this.places[b]];
+      ways[changed ? 0 : 1] += `M${x1.toFixed(1)} ${y1.toFixed(1)}L${x2.toFixed(1)} ${y2.toFixed(1)}`;
+    }
+    this.traces.forEach((path, i) => path.setAttribute("d", ways[i]));
+  }
+
+  untrace() {
+    this.traces.forEach((path) => path.removeAttribute("d"));
+  }
+
+  wipe() {
+    this.lines.replaceChildren();
+    this.untrace();
+  }
+
   // No meeting is shown, and nobody is chosen.
   calm() {
     this.chosen = -1;
     this.ended = undefined;
-    this.lines.replaceChildren();
+    this.wipe();
     this.dots.forEach((dot) => dot.classList.remove("met", "idle"));
     this.paintAll();
   }

@@ -135,6 +135,11 @@ function leafPart(leaf, many, call) {
   ];
 }
 
+// Of each leaf, the moves of each layer.
+export function layersOf(explanation) {
+  return explanation.leaves.map((leaf) => leaf.layers.map((one) => one.moves.map(([t]) => t)));
+}
+
 // `call` has `onLine(line)` and `onSays(text)`, where these are of use.
 export function render(explanation, call = {}) {
   return h(

@@ -3,7 +3,7 @@ import { Slot, download, stopped } from "./api.js";
 import { badge, meaning } from "./badge.js";
 import { clear, h } from "./dom.js";
 import { flawShown, knowFlaw } from "./flaw.js";
-import { render } from "./proof.js";
+import { layersOf, render } from "./proof.js";
 import { store } from "./store.js";
 
 const QUICK = 200_000; // signs of a text whose proof is checked as soon as it is read
@@ -17,6 +17,7 @@ export class Proofs {
     this.replace = replace;
     this.slot = new Slot((busy) => this.busy(busy));
     this.version = -1;
+    this.bad = null; // what is refused, and was not seen yet
     this.build();
     store.on("net", () => this.renew());
     store.on("read", () => this.renew());
@@ -120,6 +121,7 @@ export class Proofs {
   async doFind(anew, kind = "find") {
     const isAnew = anew || store.proof === "whole";
     this.begin();
+    clear(this.head, h("p", { class: "small" }, "The search begins…"));
     const start = performance.now();
     const rows = new Map();
     let order = [];
@@ -127,6 +129,7 @@ export class Proofs {
     try {
       const done = await this.slot.run(kind, { text: store.text, seconds, anew: isAnew }, (message) => {
         if (message.event === "tasks") {
+          clear(this.head);
           const many = message.labels.length > 1;
           clear(
             this.tasks,
@@ -164,6 +167,13 @@ export class Proofs {
     const share = Number(row.dataset.share || 0);
     const far = share >= 1 ? "found, and made smaller" : share > 0 ? `${Math.floor(100 * share)} %` : "";
     clear(row.querySelector(".what"), h("progress", { max: 1, value: share, "aria-label": "how far it is" }), ` ${far ? `${far}, ` : ""}${now.toFixed(0)} s of ${seconds}`);
+  }
+
+  // What is refused is seen at once, as soon as the view is.
+  show(isShown) {
+    if (!isShown || !this.bad) return;
+    this.bad.scrollIntoView({ block: "center" });
+    this.bad = null;
   }
 
   fault(error) {
@@ -204,7 +214,7 @@ export class Proofs {
       more,
       h("div", { class: "row" }, h("button", { type: "button", onclick: () => download(`${name}.bundle.json`, `${bundle}\n`, "application/json") }, "Download bundle.json"), answer.good ? h("button", { type: "button", onclick: () => store.tell("journal") }, "Run it, for a journal") : null),
     );
-    store.layers = { net: JSON.stringify(store.net), leaves: explanation.leaves.map((leaf) => leaf.layers.map((layer) => layer.moves.map(([t]) => t))) };
+    store.layers = { net: JSON.stringify(store.net), leaves: layersOf(explanation) };
     store.tell("layers");
     const own = this.inText;
     clear(
@@ -212,8 +222,8 @@ export class Proofs {
       h("p", { class: "small" }, "Below: the proof as the workbench reads it."),
       render(explanation, { onLine: (line) => (this.inText || own) && store.tell("line", line), onSays: (text) => store.tell("says", text) }),
     );
-    const bad = this.shown.querySelector("li.bad, tr.bad, p.refused");
+    this.bad = this.shown.querySelector("li.bad, tr.bad, p.refused");
     this.panel.scrollTop = 0;
-    if (bad && !this.panel.hidden) bad.scrollIntoView({ block: "center" });
+    this.show(!this.panel.hidden);
   }
 }

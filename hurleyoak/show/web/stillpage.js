@@ -6,7 +6,7 @@ import { h } from "./dom.js";
 import { Listing } from "./listing.js";
 import { NetTab } from "./nettab.js";
 import { Play } from "./play.js";
-import { render } from "./proof.js";
+import { layersOf, render } from "./proof.js";
 import { download, given } from "./still.js";
 import { store } from "./store.js";
 import { NARROW, Tabs } from "./tabs.js";
@@ -70,6 +70,7 @@ function build() {
   document.addEventListener("keydown", (event) => event.key === "Escape" && ($("says").hidden = true));
   const { check } = page;
   $("verdict").append(check ? badge(check.good ? "certified" : "rejected", check.line) : badge("told", "not proved"));
+  if (check) store.layers = { net: JSON.stringify(page.net), leaves: layersOf(check.explanation) };
   store.given(page.name, page.text, page.net, check ? "whole" : "none");
   tabs.choose("play");
   document.body.classList.add("ready");

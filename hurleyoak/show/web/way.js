@@ -8,7 +8,8 @@ const MOST_ROWS = 200;
 export function moveText(net, leaf, t) {
   const one = net.leaves[leaf];
   const [p, q, r, z] = one.moves.find((move) => move[4] === t);
-  const text = `${one.shown[p]} + ${one.shown[q]} → ${one.shown[r]} + ${one.shown[z]}`;
+  const sign = one.ordered.includes(t) ? "," : "+";
+  const text = `${one.shown[p]} ${sign} ${one.shown[q]} → ${one.shown[r]} ${sign} ${one.shown[z]}`;
   const line = one.lines[t];
   return line
     ? h("button", { type: "button", class: "move", title: `line ${line}`, onclick: () => store.tell("line", line) }, text)
