@@ -15,6 +15,7 @@ import argparse
 import sys
 import time
 from collections import Counter
+from concurrent.futures import ProcessPoolExecutor
 from pathlib import Path
 from typing import Iterator
 
@@ -38,6 +39,7 @@ DENSE = 400  # crowds, up to which a whole matrix is faster
 LONGEST = 100_000  # meetings
 BIAS = 0.01
 DOUBT = 1e-4
+FIRST_SEED = 1_000
 CELLS = 40  # of the time of the last change
 
 COIN = "inputs x: X  y: Y\nX + Y -> X + U\nX + Y -> U + Y\nX + U -> X + X\nY + U -> Y + Y\nyes X\n"
@@ -227,37 +229,44 @@ def plant() -> None:
     Batcher._good = biased  # type: ignore[method-assign]
 
 
+def _task(task: tuple[str, str, int, int]) -> tuple[float, str]:
+    """The least p-value of a protocol and a way, and its line of the table."""
+    name, way, seed, runs = task
+    always()
+    if way == "biased":
+        plant()
+    start = time.process_time()
+    found = held(name, runs, way != "meetings", seed)
+    took = time.process_time() - start
+    return min(found), f"{name:<20}  {way:<8}  {found[0]:>8.4f}  {found[1]:>11.4f}  {found[2]:>8.4f}  {took:>7.0f}"
+
+
 def main() -> int:
     """Prints the table; 1 where a p-value is too small, or the bias isn't found."""
     words = argparse.ArgumentParser(description=__doc__, formatter_class=argparse.RawDescriptionHelpFormatter)
     words.add_argument("runs", nargs="?", type=int, default=RUNS)
     words.add_argument("names", nargs="*", default=[*PROTOCOLS])
     words.add_argument("-o", "--output", type=Path)
+    words.add_argument("--jobs", type=int, default=1, help="processes at once")
     given = words.parse_args()
-    always()
     lines = [
         f"# p-values against exact chains, {given.runs:,} runs each (bench/exact.py)",
         f"{'protocol':<20}  {'way':<8}  {'crowd':>8}  {'last change':>11}  {'by KS':>8}  {'seconds':>7}",
     ]
     print("\n".join(lines), flush=True)
-    least = 1.0
-
-    def told(name: str, way: str, seed: int, runs: int) -> float:
-        start = time.process_time()
-        found = held(name, runs, way != "meetings", seed)
-        took = time.process_time() - start
-        lines.append(f"{name:<20}  {way:<8}  {found[0]:>8.4f}  {found[1]:>11.4f}  {found[2]:>8.4f}  {took:>7.0f}")
-        print(lines[-1], flush=True)
-        if given.output:
-            given.output.write_text("\n".join(lines) + "\n")
-        return min(found)
-
-    for number, name in enumerate(given.names):
-        for way in ("meetings", "batches"):
-            least = min(least, told(name, way, 1_000 + number, given.runs))
-    plant()
-    biased = told("coin", "biased", 1, max(given.runs, RUNS))  # (with fewer runs so small a bias may hide)
-    return int(least < DOUBT or biased >= DOUBT)
+    ways = ("meetings", "batches")
+    tasks = [(name, way, FIRST_SEED + number, given.runs) for number, name in enumerate(given.names) for way in ways]
+    tasks.append(("coin", "biased", 1, max(given.runs, RUNS)))  # (with fewer runs so small a bias may hide)
+    least: list[float] = []
+    # (each task has a process of its own, so that the planted bias stays there)
+    with ProcessPoolExecutor(given.jobs, max_tasks_per_child=1) as pool:
+        for value, line in pool.map(_task, tasks):
+            least.append(value)
+            lines.append(line)
+            print(line, flush=True)
+            if given.output:
+                given.output.write_text("\n".join(lines) + "\n")
+    return int(min(least[:-1]) < DOUBT or least[-1] >= DOUBT)
 
 
 if __name__ == "__main__":

@@ -23,6 +23,7 @@ from .popsections import (
 from .scanner import WORD, Line, Place, TextFault, lines_of
 from ..wholes import is_whole, whole_of
 
+LOOP = re.compile(r"for\s+[A-Za-z_]\w*\s+in\b")
 CHANCE = re.compile(r"[0-9]{1,18}(?:\.[0-9]{1,18}|/[0-9]{1,18})?(?![0-9./])")
 
 
@@ -154,6 +155,8 @@ class _Reader:
     def leaf_line(self, word: str, line: Line, leaf: LeafText) -> None:
         place = line.start()
         if word == "":
+            if LOOP.match(line.whole, line.indent):
+                raise place.fault("a `for` belongs to a family: a line such as `family m in 3` above it makes this file one")
             move = read_move(line)
             for name, at in zip(move.states, move.places):
                 leaf.mention(Named(name, at))

@@ -105,3 +105,10 @@ def test_a_fault_of_a_member_is_told_at_the_family_s_line() -> None:
     with pytest.raises(TextFault) as caught:
         load_pop(made.text, "flock")
     assert "{i} + {j}" in text.split("\n")[made.back(caught.value).line - 1]
+
+
+def test_a_loop_outside_a_family_is_told() -> None:
+    """With the line that is missing."""
+    with pytest.raises(TextFault) as caught:
+        load_pop("inputs x: 0\nfor i in 0..2\n  {i} + 0 -> 0 + 0\n", "file")
+    assert caught.value.line == 2 and "`family m in 3`" in caught.value.told
