@@ -185,10 +185,14 @@ def test_who_is_ended_leaves_nothing(number: int, status: int, tmp_path: Path) -
     run = subprocess.Popen(
         [POP, "simulate", MAJORITY, "x=70000", "y=69000", "--changes", "100000000", "--trace", str(trace)],
         stderr=subprocess.PIPE,
+        preexec_fn=lambda: signal.signal(signal.SIGINT, signal.SIG_DFL),  # (a test in the background ignores it)
     )
-    time.sleep(2.0)
-    run.send_signal(number)
-    assert run.wait(20) == status and run.stderr is not None and b"Traceback" not in run.stderr.read()
+    try:
+        time.sleep(2.0)
+        run.send_signal(number)
+        assert run.wait(20) == status and run.stderr is not None and b"Traceback" not in run.stderr.read()
+    finally:
+        run.kill()
     assert not list(tmp_path.iterdir())
 
 
