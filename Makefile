@@ -1,10 +1,11 @@
-# make install PREFIX=DIR puts the built program, bin/pop, the workbench, the manual page and completions in their places.
-# POP_MAIN=FILE installs that program in place of the built one. The work is bin/install's, which quotes every path.
+# make install PREFIX=DIR puts the built program, bin/pop, the workbench, the manual page and completions in their
+# places. POP_MAIN=FILE installs that program in place of the built one. The work is bin/install's, which quotes every
+# path.
 PREFIX = /usr/local
 PROGRAM =
 PYTHON = /usr/bin/python3
 BROWSERS = test_serve_page.py test_page.py test_serve_fuzz.py test_serve_firefox.py
-SCRIPTS = bin/pop bin/install bin/test bin/test_pop bin/gallery docs/pictures/draw
+SCRIPTS = bin/pop bin/install bin/test tests/test_pop tests/gallery docs/pictures/draw tests/types .ci/run
 export PREFIX DESTDIR PROGRAM POP_MAIN
 
 .PHONY: texts docs lint test test-fast install uninstall
@@ -18,14 +19,17 @@ texts:
 	$(PYTHON) -m hurleyoak.cli.help.completion bash >completion/pop.bash
 	$(PYTHON) -m hurleyoak.cli.help.completion zsh >completion/_pop
 
-# all of docs/ that is made, the pictures of README and of the tutorials among it
+# all of docs/ that is made: pages, and the pictures of README, of the tutorials, of the gallery and of the page in
+# chromium
 docs: texts
 	$(PYTHON) tests/theorems.py --write
 	docs/pictures/draw
+	$(PYTHON) -m bench.finder.curves
+	$(PYTHON) tests/page_pictures.py
 
 lint:
 	$(PYTHON) -m black --check --quiet hurleyoak tests bench bin/recheck
-	$(PYTHON) -m mypy hurleyoak bench/finder tests/workbench
+	tests/types
 	shellcheck -x $(SCRIPTS)
 
 # what a change of the workbench needs, on a program that is built

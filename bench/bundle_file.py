@@ -6,6 +6,8 @@ bench/bundle_file.py [MEGABYTES]
 Both programs stand below; they are proved and built in a folder of their own over copies of the crates they call. A
 proof has at most 2,000,000 nodes for a leaf, so the nodes are long where the bundle is to be long.
 """
+from __future__ import annotations
+
 import os
 import shutil
 import subprocess
@@ -47,7 +49,7 @@ PROGRAMS = {
 NODE = '["lin",[[0,-1],[1,1],[7,1],[8,-1]%s]]'
 
 
-def built(folder):
+def built(folder: str) -> dict[str, str]:
     lines = [line for line in open(os.path.join(TOP, "crates.txt")) if line.split(":")[0] in CRATES]
     for name in CRATES:
         shutil.copytree(
@@ -64,12 +66,15 @@ def built(folder):
     subprocess.run(["git", "init", "-q"], cwd=folder, check=True)
     for name in PROGRAMS:
         subprocess.run(
-            ["rt", "run"], cwd=os.path.join(folder, "crates", name), stdin=subprocess.DEVNULL, stdout=subprocess.DEVNULL
+            ["rt", "run"],
+            cwd=os.path.join(folder, "crates", name),
+            stdin=subprocess.DEVNULL,
+            stdout=subprocess.DEVNULL,
         )
     return {name: os.path.join(folder, "crates", name, "out", name) for name in PROGRAMS}
 
 
-def measured(program, path):
+def measured(program: str, path: str) -> tuple[float, int, int]:
     """The least of three wall clock times in seconds, the greatest resident memory in bytes, and the exit status."""
     times, memory, status = [], 0, 0
     for _ in range(3):
@@ -82,7 +87,7 @@ def measured(program, path):
     return min(times), memory, os.waitstatus_to_exitcode(status)
 
 
-def main():
+def main() -> None:
     size = int(sys.argv[1]) * 1_000_000 if len(sys.argv) > 1 else 100_000_000
     count = 1_000_000 if size > 80_000_000 else size // 80
     node = NODE % (",[9,1]" * max(0, (size // (2 * count) - len(NODE) + 1) // 6))
@@ -99,7 +104,9 @@ def main():
                 f"{name}: {seconds[name]:.2f} s, {len(line) / seconds[name] / 1e6:.0f} MB/s, "
                 f"{memory / len(line):.1f} times the bytes in memory, exit status {status}"
             )
-        print(f'{2 * count} nodes, {len(line)} bytes: {seconds["reader"] / seconds["plain"]:.2f} times the parse alone')
+        print(
+            f'{2 * count} nodes, {len(line)} bytes: {seconds["reader"] / seconds["plain"]:.2f} times the parse alone'
+        )
 
 
 if __name__ == "__main__":

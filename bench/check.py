@@ -1,16 +1,19 @@
 #!/usr/bin/python3
 """Takes the processor time of `check` of the built program beside a plain Rust program that does the same work.
 
-Run from the top of the repository: bench/check.py [--short]
-The plain program is bench/plain/check.rs. Both must say the same, byte for byte: first of each bundle in examples/, then of those
-that are timed: the widest leaf of bench/tree.py, and compiled bundles with 16 variables.
+Run from the top of the repository: bench/check.py [--short] The plain program is bench/plain/check.rs. Both must say
+the same, byte for byte: first of each bundle in examples/, then of those that are timed: the widest leaf of
+bench/tree.py, and compiled bundles with 16 variables.
 """
+
+from __future__ import annotations
 
 import glob
 import os
 import subprocess
 import sys
 import tempfile
+from collections.abc import Iterator
 
 from common import PROGRAM, TOP, expect_program, few, row, run_apart
 import tree
@@ -18,7 +21,7 @@ import tree
 RUNS = few(5, 1)
 
 
-def examples():
+def examples() -> Iterator[tuple[str, str]]:
     """Each bundle, with the line that is expected of it."""
     for expected in sorted(glob.glob(os.path.join(TOP, "examples/*/*.expected"))):
         folder, name = os.path.split(expected)
@@ -29,12 +32,12 @@ def examples():
             yield bundle, expected
 
 
-def atom(width):
+def atom(width: int) -> str:
     """A sum of all variables whose atom has this width."""
     return " + ".join(f"{width if i == 0 else 1 + i % 7}*x{i}" for i in range(16)) + " < 1"
 
 
-def bundles(folder):
+def bundles(folder: str) -> Iterator[tuple[str, str]]:
     """What is timed, and the file of its bundle."""
     names = ["the widest leaf of 42 values"]
     paths = [os.path.join(folder, "tree")]
@@ -50,23 +53,23 @@ def bundles(folder):
     return zip(names, paths)
 
 
-def timed(command, standard_input, said):
+def timed(command: list[str], standard_input: str, said: str) -> tuple[float, int]:
     with open(standard_input, "rb") as source, open(said, "wb") as sink:
         return run_apart(command, source, sink)[1:3]
 
 
-def best(command, standard_input, said):
+def best(command: list[str], standard_input: str, said: str) -> tuple[float, int]:
     """The least time of some runs, and the memory of the first."""
     runs = [timed(command, standard_input, said) for _ in range(RUNS)]
     return min(run[0] for run in runs), runs[0][1]
 
 
-def contents(path):
+def contents(path: str) -> bytes:
     with open(path, "rb") as f:
         return f.read()
 
 
-def main():
+def main() -> None:
     expect_program()
     with tempfile.TemporaryDirectory() as folder:
         plain, ours, theirs = (os.path.join(folder, name) for name in ("plain", "ours", "theirs"))
@@ -87,8 +90,9 @@ def main():
                 sys.exit(f"{name}: pop {contents(ours)!r}, plain {contents(theirs)!r}")
             size = os.path.getsize(bundle)
             print(
-                f"{name}, {size} bytes, {contents(ours).decode().strip()}: pop {our_time:.3f} s, plain {plain_time:.3f} s, "
-                f"ratio {our_time / plain_time:.2f}; memory: pop {memory / size:.1f} times the bytes, plain {plain_memory / size:.1f}"
+                f"{name}, {size} bytes, {contents(ours).decode().strip()}: pop {our_time:.3f} s, plain"
+                f" {plain_time:.3f} s, ratio {our_time / plain_time:.2f}; memory: pop {memory / size:.1f} times the"
+                f" bytes, plain {plain_memory / size:.1f}"
             )
             row("check", f"{name}, {size / 1e6:.1f} MB", our_time, plain_time, f"{memory / size:.0f} times the input")
 

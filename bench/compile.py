@@ -4,10 +4,12 @@
 Run from the top of the repository: bench/compile.py [--short]
 """
 
+from __future__ import annotations
+
 from common import PROGRAM, expect_program, few, least, row
 
 
-def main():
+def main() -> None:
     expect_program()
     for count, width in few([(1, 80), (4, 80)], [(1, 20)]):
         predicate = " && ".join(f"x - y < {width - 1 - number}" for number in range(count))

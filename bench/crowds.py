@@ -1,5 +1,6 @@
 #!/usr/bin/python3
-"""Seconds of `simulate` beside a plain simulator of agents in C (bench/plain/agents.c), of six protocols and 10^3 to 10^9 agents.
+"""Seconds of `simulate` beside a plain simulator of agents in C (bench/plain/agents.c), of six protocols and 10^3 to
+10^9 agents.
 
 Run from anywhere: /usr/bin/python3 bench/crowds.py [--short] [--write]. With --write the table goes into
 docs/develop/performance.md; --kept puts the one there that bench/results/crowds.txt has, and measures nothing.
@@ -18,7 +19,7 @@ from pathlib import Path
 TOP = Path(__file__).resolve().parents[1]
 sys.path.insert(0, str(TOP))
 
-from bench.common import IS_SHORT, WORDS, write_between  # noqa: E402
+from common import IS_SHORT, WORDS, write_between  # noqa: E402
 from hurleyoak.protocol.reactions import Reactions  # noqa: E402
 from hurleyoak.text.files import load, load_path  # noqa: E402
 

@@ -1,11 +1,12 @@
 #!/usr/bin/python3
 """Runs demo cases, and takes the time of each.
 
-Run from the top of the repository: bench/demo.py [--short]
-The cases 0 to 99 are run twice and must say the same both times, with the status 0 or 4; then 200 cases spread over all 10,000.
-The first four lines of each summary are compared with the definition of the case, written again here, and a verdict with the
-predicate's value.
+Run from the top of the repository: bench/demo.py [--short] The cases 0 to 99 are run twice and must say the same both
+times, with the status 0 or 4; then 200 cases spread over all 10,000. The first four lines of each summary are compared
+with the definition of the case, written again here, and a verdict with the predicate's value.
 """
+
+from __future__ import annotations
 
 import subprocess
 import time
@@ -17,7 +18,7 @@ TWICE = few(100, 2)
 ENDINGS = {0: "verdict ", 4: "undecided "}
 
 
-def case(number):
+def case(number: int) -> tuple[str, bool, int]:
     """The predicate's text, its value, and the number of agents."""
     i = number // 4
     bound, modulus = i % 41 - 20, 2 + i % 19
@@ -34,13 +35,13 @@ def case(number):
     return text, value, x + y
 
 
-def run(number):
+def run(number: int) -> tuple[int, str, float]:
     start = time.monotonic()
     done = subprocess.run([PROGRAM, "demo", str(number)], stdin=subprocess.DEVNULL, capture_output=True, text=True)
     return done.returncode, done.stdout, time.monotonic() - start
 
 
-def check(number, status, text):
+def check(number: int, status: int, text: str) -> None:
     pred, value, agents = case(number)
     lines = text.split("\n")
     assert lines[:3] == [f"demo {number}", f"pred {pred}", f"agents {agents}"], text
@@ -50,7 +51,7 @@ def check(number, status, text):
         assert lines[5] == f"verdict {str(value).lower()}", text
 
 
-def main():
+def main() -> None:
     expect_program()
     ended = 0
     for number in range(TWICE):
@@ -59,7 +60,7 @@ def main():
         assert run(number)[:2] == (status, text), number
         ended += status == 0
     print(f"cases 0 to {TWICE - 1}: {ended} ended with a verdict, {TWICE - ended} with their turns used up")
-    times = []
+    times: list[tuple[float, int]] = []
     ended = 0
     for number in SPREAD:
         status, text, seconds = run(number)
@@ -69,7 +70,8 @@ def main():
     seconds, slowest = max(times)
     mean = sum(time for time, _ in times) / len(times)
     print(
-        f"{len(times)} of 10,000: {ended} with a verdict; {mean:.3f} s on the average, at most {seconds:.3f} s (case {slowest})"
+        f"{len(times)} of 10,000: {ended} with a verdict; {mean:.3f} s on the average, at most {seconds:.3f} s (case"
+        f" {slowest})"
     )
     row("demo", f"{len(times)} cases over all 10,000, of which {ended} come to their end; each", mean)
 

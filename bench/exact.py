@@ -3,10 +3,10 @@
 
     /usr/bin/python3 bench/exact.py [RUNS] [-o FILE] [NAME..]
 
-For each protocol the chain of all its crowds is made from the moves alone, here, by no code of the simulation. Then RUNS
-runs (200,000) are made each way. Printed are the p-values: of the crowd after some meetings, and of the meeting of the
-last change. A p-value below 0.0001 is a mistake, or a chance of one in ten thousand. The last line plants a bias of one
-per cent into the draws of the batches, which has to be found.
+For each protocol the chain of all its crowds is made from the moves alone, here, by no code of the simulation. Then
+RUNS runs (200,000) are made each way. Printed are the p-values: of the crowd after some meetings, and of the meeting
+of the last change. A p-value below 0.0001 is a mistake, or a chance of one in ten thousand. The last line plants a
+bias of one per cent into the draws of the batches, which has to be found.
 """
 
 from __future__ import annotations
@@ -20,6 +20,7 @@ from pathlib import Path
 from typing import Iterator
 
 import numpy as np
+from numpy.typing import NDArray
 from scipy import sparse, stats
 
 TOP = Path(__file__).resolve().parents[1]
@@ -29,7 +30,8 @@ from hurleyoak.protocol.nets import Leaf  # noqa: E402
 from hurleyoak.simulation import batches  # noqa: E402
 from hurleyoak.simulation.batches import Batcher  # noqa: E402
 from hurleyoak.simulation.simulation import Simulation  # noqa: E402
-from hurleyoak.text.files import Loaded, load, load_path  # noqa: E402
+from hurleyoak.text.files import load, load_path  # noqa: E402
+from hurleyoak.text.loaded import Loaded  # noqa: E402
 
 RUNS = 200_000
 MOST_CROWDS = 20_000
@@ -59,10 +61,12 @@ PROTOCOLS: dict[str, tuple[str, tuple[int, ...]]] = {
     "order": (ORDER, (5, 4)),
 }
 Crowd = tuple[int, ...]
+Floats = NDArray[np.float64]
 
 
 def outcomes(leaf: Leaf, p: int, q: int) -> list[tuple[int, int, float]]:
-    """What an agent in p that begins a meeting with one in q becomes with it, and by which chance; from the moves alone."""
+    """What an agent in p that begins a meeting with one in q becomes with it, and by which chance; from the moves
+    alone."""
     found = []
     for t, (a, b, r, s) in enumerate(leaf.moves):
         law = leaf.laws[t] if leaf.laws else None
@@ -119,8 +123,9 @@ class Chain:
                     new[state] += k
                 yield tuple(new), part * chance
 
-    def times(self) -> tuple[list[np.ndarray], np.ndarray]:
-        """The distributions after 0, 1, .. meetings, as far as they are asked for; the probability of an end by each meeting."""
+    def times(self) -> tuple[list[Floats], Floats]:
+        """The distributions after 0, 1, .. meetings, as far as they are asked for; the probability of an end by each
+        meeting."""
         matrix = self.matrix.toarray() if len(self.crowds) <= DENSE else self.matrix
         now = np.zeros(len(self.crowds))
         now[0] = 1.0
@@ -167,7 +172,7 @@ class Runs:
         return tuple(crowd), run.last_change
 
 
-def chi_square(found: Counter[int], expected: np.ndarray, runs: int) -> float:
+def chi_square(found: Counter[int], expected: Floats, runs: int) -> float:
     """The p-value of counts by number; rare ones are one cell."""
     order = [i for i in np.argsort(-expected) if expected[i] * runs >= LEAST_EXPECTED]
     seen = [float(found[int(i)]) for i in order]
@@ -180,8 +185,9 @@ def chi_square(found: Counter[int], expected: np.ndarray, runs: int) -> float:
     return float(stats.chisquare(seen, np.array(wanted) * sum(seen) / sum(wanted)).pvalue) if len(seen) > 1 else 1.0
 
 
-def by_time(found: list[int], ended: np.ndarray) -> tuple[float, float]:
-    """The p-values of the last changes, by chi-square in equal cells and by Kolmogorov-Smirnov (which is cautious for whole numbers)."""
+def by_time(found: list[int], ended: Floats) -> tuple[float, float]:
+    """The p-values of the last changes, by chi-square in equal cells and by Kolmogorov-Smirnov (which is cautious for
+    whole numbers)."""
     runs = len(found)
     edges = sorted({int(np.searchsorted(ended, part)) for part in np.arange(1, CELLS) / CELLS} | {len(ended) - 1})
     parts = np.diff([0.0, *(ended[edge] for edge in edges)])
@@ -215,7 +221,7 @@ def held(name: str, runs: int, by_batches: bool, seed: int) -> tuple[float, floa
 def always() -> None:
     """Batches of any length for crowds of any size."""
     batches.SHORTEST = 1
-    Batcher.pays = lambda self, most: self.share() > 0  # type: ignore[method-assign]
+    setattr(Batcher, "pays", lambda self, most: self.share() > 0)
 
 
 def plant() -> None:
@@ -226,7 +232,7 @@ def plant() -> None:
         drawn = good(self, of, bad, taken)
         return drawn + int(drawn < min(of, taken) and self.generator.random() < BIAS)
 
-    Batcher._good = biased  # type: ignore[method-assign]
+    setattr(Batcher, "_good", biased)
 
 
 def _task(task: tuple[str, str, int, int]) -> tuple[float, str]:

@@ -1,13 +1,17 @@
 #!/usr/bin/python3
 """Meetings per second of `run` on threads, beside one worker and beside a plain Rust program with a mutex per shard.
 
-Run from the top of the repository: bench/field.py [--short]
-Majority with 1,000 and with 65,536 agents, nearly as many of one kind as of the other, so that the turns are used up. The times are
-of whole commands, the printing of the journal included. The plain program does the same work: it has a word of 64 bits for each agent's
-tuple and a table for each leaf, makes rounds of the same length, and looks before each round whether the crowd is terminal, first at the
-pair that was found last. Its mutexes serve all rounds, its text is reserved, and it keeps each agent's digits. With one worker both must make the same rounds, byte for byte.
+Run from the top of the repository: bench/field.py [--short] Majority with 1,000 and with 65,536 agents, nearly as many
+of one kind as of the other, so that the turns are used up. The times are of whole commands, the printing of the
+journal included. The plain program does the same work: it has a word of 64 bits for each agent's tuple and a table for
+each leaf, makes rounds of the same length, and looks before each round whether the crowd is terminal, first at the
+pair that was found last. Its mutexes serve all rounds, its text is reserved, and it keeps each agent's digits. With
+one worker both must make the same rounds, byte for byte.
 """
 
+from __future__ import annotations
+
+import math
 import os
 import subprocess
 import sys
@@ -22,24 +26,24 @@ MEETINGS = few(1_000_000, 10_000)
 PLAIN = source("plain/field.rs")
 
 
-def timed(command, standard_input):
+def timed(command: list[str], standard_input: str) -> tuple[float, list[bytes]]:
     """The least of three times, and the lines of the rounds."""
-    best, lines = None, []
+    best, lines = math.inf, list[bytes]()
     for _ in range(few(3, 1)):
         with open(standard_input) as given:
             start = time.perf_counter()
             out = subprocess.run(command, stdin=given, stdout=subprocess.PIPE).stdout
             seconds = time.perf_counter() - start
         lines = [line for line in out.split(b"\n") if line.startswith(b"round ") or line[:1].isdigit()]
-        best = seconds if best is None else min(best, seconds)
+        best = min(best, seconds)
     return best, lines
 
 
-def meetings(lines):
+def meetings(lines: list[bytes]) -> int:
     return sum(1 for line in lines if line[:1].isdigit())
 
 
-def main():
+def main() -> None:
     with tempfile.TemporaryDirectory() as folder:
         source = os.path.join(folder, "plain.rs")
         plain = os.path.join(folder, "plain")

@@ -1,18 +1,22 @@
 #!/usr/bin/python3
-"""Runs the merge gate from nothing in a clone, and prints the processor minutes of each crate's proofs, tests and edits,
-and those of the seed of its edits: the check of the crate as it stands with which they begin.
+"""Runs the merge gate from nothing in a clone, and prints the processor minutes of each crate's proofs, tests and
+edits, and those of the seed of its edits: the check of the crate as it stands with which they begin.
 
 Run from the top of the repository: bench/gate.py [FOLDER [COMMIT]], or bench/gate.py --from LOG
 
-The clone is made in FOLDER, or in a new temporary folder. `rt ci --anew` proves and tries all, whatever earlier runs kept. With a COMMIT it is that
-one's gate, so that an earlier gate and this one can be measured on one machine; nothing is written then. Without one what is printed of a
-gate that passed goes into bench/results/gate.txt too, and the table of docs/develop/proving.md is made of it. --from does both with what an earlier run printed.
-A process counts for the crate that its command line names. Times are read twice a second, so the last half second of each
-process is missing; what a process took that names no crate stands in the last line.
+The clone is made in FOLDER, or in a new temporary folder. `rt ci --anew` proves and tries all, whatever earlier runs
+kept. With a COMMIT it is that one's gate, so that an earlier gate and this one can be measured on one machine; nothing
+is written then. Without one what is printed of a gate that passed goes into bench/results/gate.txt too, and the table
+of docs/develop/proving.md is made of it. --from does both with what an earlier run printed. A process counts for the
+crate that its command line names. Times are read twice a second, so the last half second of each process is missing;
+what a process took that names no crate stands in the last line.
 
-Virtual machines differ in speed, from one to the next and within minutes. So one crate of one commit is checked beside the gate, at its start and
-every ten minutes, and the seconds of these checks are printed too: minutes of two gates compare by them. They count for nothing else.
+Virtual machines differ in speed, from one to the next and within minutes. So one crate of one commit is checked beside
+the gate, at its start and every ten minutes, and the seconds of these checks are printed too: minutes of two gates
+compare by them. They count for nothing else.
 """
+
+from __future__ import annotations
 
 import os
 import shutil
@@ -22,6 +26,7 @@ import tempfile
 import textwrap
 import time
 from collections import defaultdict
+from collections.abc import Collection, Iterator
 from pathlib import Path
 
 from common import first_line, heading, write_between
@@ -37,16 +42,23 @@ GAUGE_COMMIT, GAUGE_CRATE = "e11a5bb", "pop_lines"
 GAUGE_PAUSE = 600
 
 
+# the crate, the kind of work and the seconds of a process; the minutes of a crate by kind
+Taken = tuple[str, str, float]
+Minutes = dict[str, float]
+
+
 class Gauge:
     """How fast the machine is: the seconds of one check from nothing, by one job, taken again and again."""
 
-    def __init__(self, top, folder):
-        self.folder, self.seconds, self.check, self.next = folder, [], None, 0
+    def __init__(self, top: Path, folder: str) -> None:
+        self.folder, self.next = folder, 0.0
+        self.seconds: list[float] = []
+        self.check: subprocess.Popen[bytes] | None = None
         subprocess.run(["git", "clone", "-q", str(top), folder], check=True)
         subprocess.run(["git", "checkout", "-q", GAUGE_COMMIT], cwd=folder, check=True)
         shutil.rmtree(f"{folder}/crates/{GAUGE_CRATE}/must-fail")
 
-    def step(self):
+    def step(self) -> None:
         """Takes in a check that has ended, or begins one when it is time."""
         if self.check:
             ended, _, usage = os.wait4(self.check.pid, os.WNOHANG)
@@ -60,9 +72,9 @@ class Gauge:
             self.check = subprocess.Popen(words, cwd=self.folder, env=one, stdout=quiet, stderr=quiet)
 
 
-def children():
+def children() -> dict[int, list[int]]:
     """Maps each process to its children."""
-    table = defaultdict(list)
+    table: dict[int, list[int]] = defaultdict(list)
     for entry in Path("/proc").iterdir():
         if entry.name.isdigit():
             try:
@@ -73,9 +85,10 @@ def children():
     return table
 
 
-def below(root):
+def below(root: int) -> list[int]:
     """All processes that descend from this one, itself among them."""
-    table, found, left = children(), [], [root]
+    table, left = children(), [root]
+    found: list[int] = []
     while left:
         process = left.pop()
         found.append(process)
@@ -83,12 +96,12 @@ def below(root):
     return found
 
 
-def is_seed(words):
+def is_seed(words: list[str]) -> bool:
     """Whether a check of an edit's kind writes into the seed, as the first and the last one of a crate do."""
     return "--incremental" in words and words[words.index("--incremental") + 1].endswith("/seed")
 
 
-def place(process):
+def place(process: int) -> tuple[str, str, str, float]:
     """The crate and the kind of work of a process, its start and its seconds so far."""
     folder = Path(f"/proc/{process}")
     words = (folder / "cmdline").read_bytes().decode(errors="replace").split("\0")
@@ -105,9 +118,9 @@ def place(process):
     return crate, kind, stat[19], (int(stat[11]) + int(stat[12])) / TICKS
 
 
-def watch(gate, gauge):
+def watch(gate: subprocess.Popen[bytes], gauge: Gauge) -> Collection[Taken]:
     """The seconds of each process of the gate, by its number and start."""
-    seconds = {}
+    seconds: dict[tuple[int, str], Taken] = {}
     while gate.poll() is None:
         gauge.step()
         for process in below(gate.pid):
@@ -116,15 +129,16 @@ def watch(gate, gauge):
             except (OSError, ValueError, IndexError):
                 continue
             # (one that has just ended has no command line left)
-            earlier = seconds.get((process, start), (crate, kind, 0))
-            seconds[(process, start)] = (*(earlier[:2] if not crate else (crate, kind)), taken)
+            earlier = seconds.get((process, start), (crate, kind, 0.0))
+            now = (crate, kind) if crate else earlier[:2]
+            seconds[(process, start)] = (*now, taken)
         time.sleep(0.5)
     return seconds.values()
 
 
-def report(seconds, folder):
+def report(seconds: Collection[Taken], folder: str) -> Iterator[str]:
     """The lines of all crates, with how many edits each has."""
-    minutes = defaultdict(lambda: dict.fromkeys(KINDS, 0.0))
+    minutes: dict[str, Minutes] = defaultdict(lambda: dict.fromkeys(KINDS, 0.0))
     for crate, kind, taken in seconds:
         minutes[crate or "none"][kind] += taken / 60
     yield f"{'crate':20}" + "".join(f"{kind:>10}" for kind in [*KINDS, "tried"])
@@ -133,15 +147,17 @@ def report(seconds, folder):
         yield f"{crate:20}" + "".join(f"{row[kind]:10.1f}" for kind in KINDS) + f"{tried:10}"
 
 
-def order():
+def order() -> list[str]:
     """The crates from the bottom up, as crates.txt lists them."""
     lines = (TOP / "crates.txt").read_text().splitlines()
     return [line.split(":")[0].strip() for line in lines if ":" in line and not line.startswith("#")]
 
 
-def read_log(lines):
-    """The minutes of each crate of a log by kind of work, with the number of its edits, and what stands around them."""
-    rows, told = {}, {}
+def read_log(lines: list[str]) -> tuple[dict[str, Minutes], dict[str, str]]:
+    """The minutes of each crate of a log by kind of work, with the number of its edits, and what stands around
+    them."""
+    rows: dict[str, Minutes] = {}
+    told: dict[str, str] = {}
     for line in lines:
         words = line.split()
         if len(words) == len(KINDS) + 2 and words[1][0].isdigit():
@@ -151,13 +167,13 @@ def read_log(lines):
     return rows, told
 
 
-def cells(name, row):
+def cells(name: str, row: Minutes) -> list[str]:
     """A crate's part of the table; what was not done is left blank."""
     proofs, tests, seeds, edits = (f"{row[kind]:.1f}" if row[kind] >= 0.05 else "" for kind in KINDS[:4])
     return [f"`{name}`", proofs, tests, seeds, f"{edits} for {row['tried']:.0f}" if row["tried"] else edits]
 
 
-def table(lines):
+def table(lines: list[str]) -> list[str]:
     """The table of docs/develop/proving.md, some crates a row, and a sentence with the sums."""
     rows, told = read_log(lines)
     known = order()
@@ -172,22 +188,27 @@ def table(lines):
         out.append("| " + " | ".join(sum(found + [[""] * 5] * (ACROSS - len(found)), [])) + " |")
     sums = {kind: sum(row[kind] for row in rows.values()) for kind in [*KINDS, "tried"]}
     everything = sum(sums[kind] for kind in KINDS)
-    parts = f"proofs {sums['proofs']:.0f}, tests {sums['tests']:.0f}, seeds {sums['seeds']:.0f}, {sums['tried']:.0f} edits {sums['edits']:.0f}"
+    parts = (
+        f"proofs {sums['proofs']:.0f}, tests {sums['tests']:.0f}, seeds {sums['seeds']:.0f}, {sums['tried']:.0f} edits"
+        f" {sums['edits']:.0f}"
+    )
     sentence = (
-        f"In all {everything:.0f} processor minutes ({parts}, no crate {sums['other']:.0f}), {told.get('wall', '').removeprefix('clock ')}. The gate is that of "
-        f"{told.get('commit', 'unknown')}, on {told.get('machine', 'unknown')}. Beside it a check of `{GAUGE_CRATE}` {told.get(GAUGE_CRATE, 'was not timed')}."
+        f"In all {everything:.0f} processor minutes ({parts}, no crate {sums['other']:.0f}),"
+        f" {told.get('wall', '').removeprefix('clock ')}. The gate is that of {told.get('commit', 'unknown')}, on"
+        f" {told.get('machine', 'unknown')}. Beside it a check of `{GAUGE_CRATE}`"
+        f" {told.get(GAUGE_CRATE, 'was not timed')}."
     )
     return [*out, "", *textwrap.wrap(sentence, 120)]
 
 
-def keep(lines):
+def keep(lines: list[str]) -> None:
     """Keeps a log as the raw figures, and writes the table."""
     RESULT.parent.mkdir(exist_ok=True)
     RESULT.write_text("\n".join(lines) + "\n")
     write_between("develop/proving.md", "gate", table(lines))
 
 
-def measure(words):
+def measure(words: list[str]) -> tuple[list[str], int]:
     """Runs a gate; its lines and its status."""
     top = TOP
     folder = words[0] if words else tempfile.mkdtemp()
@@ -200,15 +221,16 @@ def measure(words):
     gate = subprocess.Popen(["rt", "ci", "--anew"], cwd=folder, stdout=sys.stderr)
     seconds = watch(gate, gauge)
     gauge_seconds = " ".join(f"{taken:.0f}" for taken in gauge.seconds)
-    return [
+    lines = [
         *heading(commit),
         *report(seconds, folder),
         f"{GAUGE_CRATE} of {GAUGE_COMMIT} by one job: {gauge_seconds} seconds",
         f"wall clock {(time.time() - start) / 60:.1f} minutes, status {gate.returncode}",
-    ], gate.returncode
+    ]
+    return lines, gate.returncode
 
 
-def main():
+def main() -> int:
     if sys.argv[1:2] == ["--from"]:
         keep(Path(sys.argv[2]).read_text().splitlines())
         return 0

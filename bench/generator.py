@@ -1,4 +1,5 @@
-"""Pieces of the plain Rust programs: random words, Xoshiro256++ with a state that SplitMix64 makes from a seed; and numerals that are kept."""
+"""Pieces of the plain Rust programs: random words, Xoshiro256++ with a state that SplitMix64 makes from a seed; and
+numerals that are kept."""
 
 from common import source
 

@@ -5,6 +5,8 @@ bench/layers.py
 
 The program stands below; it is proved and built in a folder of its own over copies of the crates it calls.
 """
+from __future__ import annotations
+
 import os
 import shutil
 import subprocess
@@ -14,7 +16,7 @@ import time
 from common import source
 
 TOP = os.path.dirname(os.path.dirname(os.path.abspath(__file__)))
-CRATES = {
+CRATES: dict[str, list[str]] = {
     "pop_io": [],
     "pop_net": ["pop_io"],
     "cert_base": ["pop_io", "pop_net"],
@@ -27,7 +29,7 @@ MAIN = source("kit/layers.rt.in")
 WEIGHTS = source("kit/layers_weights.antt.in")
 
 
-def built(folder):
+def built(folder: str) -> str:
     crate = os.path.join(folder, "crates", "layers")
     for name in CRATES:
         shutil.copytree(
@@ -50,7 +52,7 @@ def built(folder):
     return os.path.join(crate, "out", "layers")
 
 
-def main():
+def main() -> None:
     with tempfile.TemporaryDirectory() as folder:
         program = built(folder)
         times = []

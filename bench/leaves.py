@@ -1,23 +1,27 @@
 #!/usr/bin/python3
 """Writes the table of succinct leaves beside the program's own into docs/develop/performance.md.
 
-Run from the top of the repository: bench/leaves.py [--short]; with --short it prints a part of the table and writes nothing.
-Seconds are of a processor. Meetings are those to the end, the median of some seeds, by the workbench's simulation.
+Run from the top of the repository: bench/leaves.py [--short]; with --short it prints a part of the table and writes
+nothing. Seconds are of a processor. Meetings are those to the end, the median of some seeds, by the workbench's
+simulation.
 """
+
+from __future__ import annotations
 
 import json
 import os
 import statistics
 import sys
 import time
+from collections.abc import Iterator
 
 from common import IS_SHORT, PROGRAM, TOP, expect_program, few, measured
 
 sys.path.insert(0, TOP)
 
 from hurleyoak.compiler.whole import compiled  # noqa: E402
-from hurleyoak.protocol.predicates import read_predicate  # noqa: E402
-from hurleyoak.protocol.nets import net_of  # noqa: E402
+from hurleyoak.protocol.predicatereader import read_predicate  # noqa: E402
+from hurleyoak.protocol.nets import Net, net_of  # noqa: E402
 from hurleyoak.simulation.carrying import Limits, carry_out  # noqa: E402
 from hurleyoak.simulation.simulation import Simulation  # noqa: E402
 
@@ -46,7 +50,7 @@ OWN_BOUND = 79  # above it the program builds no leaf of its own
 SEEDS = few(5, 2)
 
 
-def checked(line):
+def checked(line: str) -> tuple[str, float]:
     """The bound that the program certifies, and its seconds."""
     text, seconds, _, _ = measured([PROGRAM, "check"], line.encode() + b"\n")
     words = text.decode().split()
@@ -55,13 +59,13 @@ def checked(line):
     return words[1], seconds
 
 
-def size_of(line):
+def size_of(line: str) -> tuple[int, int, int]:
     """States, moves and helpers of the first leaf."""
     leaf = json.loads(line)["net"]["leaves"][0]
     return len(leaf["states"]), len(leaf["moves"]), len(leaf.get("helpers", []))
 
 
-def cells_of(line, seconds):
+def cells_of(line: str, seconds: float) -> list[str]:
     """The cells of a bundle that took so long to make."""
     states, moves, helpers = size_of(line)
     bound, check_seconds = checked(line)
@@ -70,21 +74,21 @@ def cells_of(line, seconds):
     return [f"{states}, {moves}{helped}", size, f"{seconds:.2f}, {check_seconds:.2f}", bound]
 
 
-def own(atom):
+def own(atom: str) -> list[str]:
     """The cells of the program's own leaf."""
     text, seconds, _, _ = measured([PROGRAM, "compile"], f"vars {' '.join(NAMES)}\n{atom}\n".encode())
     line = text.decode().split("\n", 1)[0]
     return cells_of(line, seconds) if line.startswith("{") else [line.removeprefix("fault: "), "", "", ""]
 
 
-def succinct(atom):
+def succinct(atom: str) -> list[str]:
     """The cells of the succinct leaf."""
     start = time.process_time()
     line = compiled(read_predicate(atom, NAMES), NAMES).bundle.line()
     return cells_of(line, time.process_time() - start)
 
 
-def meetings(net, counts):
+def meetings(net: Net, counts: tuple[int, int]) -> str:
     """The median of the meetings to the end, in thousands."""
     found = []
     for seed in range(SEEDS):
@@ -94,7 +98,7 @@ def meetings(net, counts):
     return f"{statistics.median(found) / 1000:,.0f}"
 
 
-def meeting_rows():
+def meeting_rows() -> Iterator[list[str]]:
     """For each leaf its meetings over sizes."""
     for bound in BOUNDS:
         atom = f"x - y < {bound}"
@@ -106,12 +110,12 @@ def meeting_rows():
         yield [f"`{atom}`", *(meetings(net, counts) for counts in CROWDS)]
 
 
-def table(head, rows):
+def table(head: list[str], rows: list[list[str]]) -> str:
     """The lines of a table."""
     return "".join(f"| {' | '.join(row)} |\n" for row in [head, ["---"] * len(head), *rows])
 
 
-def main():
+def main() -> None:
     expect_program()
     head = ["Atom", "Own: states, moves", "bytes", "`compile`, `check`", "K"]
     head += ["Succinct: states, moves (helpers)", "bytes", "making, `check`", "K"]

@@ -1,14 +1,17 @@
 #!/usr/bin/python3
 """How often meetings that follow one another have no agent in common, in runs on threads and in runs by one worker.
 
-Run from the top of the repository: bench/neighbours.py [--short]
-A crowd of 7 agents: of two pairs that are drawn at random 10 in 21 are disjoint, 47.6 percent. Workers wait for each other at locks, so
-where the worker changes in the journal the share is greater. Printed are the share, and by how many standard deviations it is off.
+Run from the top of the repository: bench/neighbours.py [--short] A crowd of 7 agents: of two pairs that are drawn at
+random 10 in 21 are disjoint, 47.6 percent. Workers wait for each other at locks, so where the worker changes in the
+journal the share is greater. Printed are the share, and by how many standard deviations it is off.
 """
+
+from __future__ import annotations
 
 import math
 import os
 import subprocess
+from collections.abc import Iterator
 
 from common import PROGRAM, TOP, expect_program, few
 
@@ -17,7 +20,7 @@ FAIR = math.comb(AGENTS - 2, 2) / math.comb(AGENTS, 2)
 TURNS, RUNS = few(20_000, 500), few(10, 1)
 
 
-def meetings(workers, shards, seed):
+def meetings(workers: int, shards: int, seed: int) -> Iterator[tuple[int, int, int]]:
     """The worker and the two agents of each meeting of a run, round by round."""
     with open(os.path.join(TOP, "examples/majority/bundle.json"), "rb") as file:
         data = file.read() + b"crowd x=4 y=3\n"
@@ -26,14 +29,14 @@ def meetings(workers, shards, seed):
     for line in text.split("\n"):
         parts = line.split()
         if len(parts) >= 3 and all(part.isdigit() for part in parts[:3]):
-            yield tuple(map(int, parts[:3]))
+            yield int(parts[0]), int(parts[1]), int(parts[2])
 
 
-def share(workers, shards, is_other):
+def share(workers: int, shards: int, is_other: bool) -> tuple[int, int]:
     """How many neighbouring meetings there are, by two workers or by one, and how many of them are disjoint."""
     pairs = disjoint = 0
     for seed in range(RUNS):
-        before = None
+        before: tuple[int, int, int] | None = None
         for now in meetings(workers, shards, seed):
             if before and (before[0] != now[0]) == is_other:
                 pairs += 1
@@ -42,7 +45,7 @@ def share(workers, shards, is_other):
     return pairs, disjoint
 
 
-def main():
+def main() -> None:
     expect_program()
     for told, workers, shards, is_other in (
         ("one worker", 1, 16, False),

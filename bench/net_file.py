@@ -6,6 +6,8 @@ bench/net_file.py [MEGABYTES]
 The program is crates/pop_main/out/pop_main (bin/pop builds it). The plain parse is a small Rattle program that this
 script writes and builds in a folder of its own, over a copy of crates/pop_io.
 """
+from __future__ import annotations
+
 import os
 import shutil
 import subprocess
@@ -22,7 +24,7 @@ NET = (
 PLAIN = source("kit/net_file.rt.in")
 
 
-def built_plain(folder):
+def built_plain(folder: str) -> str:
     os.makedirs(os.path.join(folder, "crates", "plain", "src"))
     shutil.copytree(
         os.path.join(TOP, "crates", "pop_io"),
@@ -44,7 +46,7 @@ def built_plain(folder):
     return os.path.join(folder, "crates", "plain", "out", "plain")
 
 
-def measured(program, words, path):
+def measured(program: str, words: list[str], path: str) -> tuple[float, int]:
     """The least of three wall clock times in seconds, and the greatest resident memory in bytes."""
     times, memory = [], 0
     for _ in range(3):
@@ -57,7 +59,7 @@ def measured(program, words, path):
     return min(times), memory
 
 
-def main():
+def main() -> None:
     size = int(WORDS[0]) * 1_000_000 if WORDS else few(100_000_000, 1_000_000)
     with tempfile.TemporaryDirectory() as folder:
         line = NET % ",".join(["1234567"] * ((size - len(NET)) // 8))
@@ -66,7 +68,7 @@ def main():
             file.write(line)
         with open(play, "w") as file:
             file.write(line + "crowd x=2 y=1\n0 2\n")
-        programs = [("play", PROGRAM, ["play"], play)]
+        programs: list[tuple[str, str, list[str], str]] = [("play", PROGRAM, ["play"], play)]
         if not IS_SHORT:
             programs.insert(0, ("serde_json alone", built_plain(os.path.join(folder, "plain")), [], net))
         taken = {}

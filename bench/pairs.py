@@ -3,10 +3,12 @@
 
 bench/pairs.py
 
-No command makes such a crowd. So a program of its own, which stands below, is proved and built in a folder over copies of
-the crates it calls. It reads a net and a number of agents, gives agent n the states that the digits of n to the base four
-name, and looks for a pair that changes. Beside it a plain Rust program does the same work.
+No command makes such a crowd. So a program of its own, which stands below, is proved and built in a folder over copies
+of the crates it calls. It reads a net and a number of agents, gives agent n the states that the digits of n to the
+base four name, and looks for a pair that changes. Beside it a plain Rust program does the same work.
 """
+from __future__ import annotations
+
 import json
 import os
 import shutil
@@ -28,8 +30,9 @@ INVARIANT = source("kit/pairs_words.antt.in")
 PLAIN = source("plain/pairs.rs")
 
 
-def net_line():
-    """Eight leaves of eight states, of which the agents have the first four; each of the others reacts with every state."""
+def net_line() -> str:
+    """Eight leaves of eight states, of which the agents have the first four; each of the others reacts with every
+    state."""
     states = ["q" + str(q) for q in range(8)]
     moves = [[p, q, q, q] for p in range(8) for q in range(4, 8) if p != q]
     leaf = {"states": states, "moves": moves, "input": [0], "output": [q % 2 == 0 for q in range(8)]}
@@ -38,7 +41,7 @@ def net_line():
     return json.dumps(net, separators=(",", ":"))
 
 
-def built(folder):
+def built(folder: str) -> str:
     lines = [line for line in open(os.path.join(TOP, "crates.txt")) if line.split(":")[0] in CRATES]
     crate = os.path.join(folder, "crates", "pairs")
     for name in CRATES:
@@ -60,7 +63,7 @@ def built(folder):
     return os.path.join(crate, "out", "pairs")
 
 
-def built_plain(folder):
+def built_plain(folder: str) -> str:
     source = os.path.join(folder, "plain.rs")
     with open(source, "w") as file:
         file.write(PLAIN)
@@ -69,7 +72,7 @@ def built_plain(folder):
     return program
 
 
-def main():
+def main() -> None:
     with tempfile.TemporaryDirectory() as folder:
         programs = [("built", built(os.path.join(folder, "crate"))), ("plain", built_plain(folder))]
         path = os.path.join(folder, "input")
@@ -79,8 +82,10 @@ def main():
             for what, program in programs:
                 seconds, worked, memory, status = measured(program, path)
                 print(
-                    f"{agents} agents, {what}: {seconds:.4f} s, {worked:.4f} s of a processor, {memory / 1e6:.0f} MB, "
-                    f"exit status {status}",
+                    (
+                        f"{agents} agents, {what}: {seconds:.4f} s, {worked:.4f} s of a processor,"
+                        f" {memory / 1e6:.0f} MB, exit status {status}"
+                    ),
                     flush=True,
                 )
 

@@ -1,9 +1,11 @@
 #!/usr/bin/python3
 """Where the time of `run` goes, by part: samples of Linux's `perf`, put to the parts that their functions belong to.
 
-Run from the top of the repository: bench/parts.py
-Majority with 65,536 agents, 1,024 shards and 1,000,000 meetings. The parts of each run add up to 100 percent of the processors' time.
+Run from the top of the repository: bench/parts.py Majority with 65,536 agents, 1,024 shards and 1,000,000 meetings.
+The parts of each run add up to 100 percent of the processors' time.
 """
+
+from __future__ import annotations
 
 import os
 import subprocess
@@ -46,11 +48,11 @@ PARTS = [
 REST = "reading, checking, memory, the rest"
 
 
-def part_of(name):
+def part_of(name: str) -> str:
     return next((part for part, words in PARTS if any(word in name for word in words)), REST)
 
 
-def shares(folder, workers, given):
+def shares(folder: str, workers: int, given: str) -> dict[str, float]:
     """The percentage of each part."""
     data = os.path.join(folder, "data")
     words = ["run", "--workers", str(workers), "--shards", str(SHARDS), "--turns", str(MEETINGS // workers)]
@@ -58,7 +60,7 @@ def shares(folder, workers, given):
         record = ["perf", "record", "-q", "-e", "cpu-clock", "-F", "10000", "-o", data, PROGRAM]
         subprocess.run(record + words, stdin=lines, stdout=subprocess.DEVNULL, stderr=subprocess.DEVNULL)
     report = ["perf", "report", "-i", data, "--stdio", "--no-children", "-F", "overhead,symbol"]
-    found = defaultdict(float)
+    found: dict[str, float] = defaultdict(float)
     for line in subprocess.run(report, capture_output=True, text=True).stdout.splitlines():
         share, _, name = line.strip().partition("%")
         if name and not line.startswith("#"):
@@ -66,7 +68,7 @@ def shares(folder, workers, given):
     return found
 
 
-def main():
+def main() -> None:
     with tempfile.TemporaryDirectory() as folder:
         given = os.path.join(folder, "input")
         with open(os.path.join(TOP, "examples/majority/bundle.json")) as bundle, open(given, "w") as to:

@@ -1,14 +1,17 @@
 #!/usr/bin/python3
 """Which functions take the time of each command's largest case: samples of Linux's `perf`.
 
-Run from the top of the repository: bench/profile.py
-Each function with a twentieth of a command's samples or more has a row; the shares are percent of the command's own time.
+Run from the top of the repository: bench/profile.py Each function with a twentieth of a command's samples or more has
+a row; the shares are percent of the command's own time.
 """
+
+from __future__ import annotations
 
 import os
 import re
 import subprocess
 import tempfile
+from collections.abc import Iterator
 
 from common import PROGRAM, TOP
 
@@ -16,16 +19,16 @@ LEAST_SHARE = 5.0
 FOUR_WIDE_ATOMS = b"vars x y\nx - y < 79 && x - y < 78 && x - y < 77 && x - y < 76\n"
 
 
-def made(words, given):
+def made(words: list[str], given: bytes) -> bytes:
     return subprocess.run([PROGRAM, *words], input=given, stdout=subprocess.PIPE).stdout
 
 
-def read(name):
+def read(name: str) -> bytes:
     with open(os.path.join(TOP, "examples/majority", name), "rb") as file:
         return file.read().rstrip() + b"\n"
 
 
-def cases():
+def cases() -> Iterator[tuple[str, list[str], bytes]]:
     """The name of each case, its words and its input."""
     bundle, net = read("bundle.json"), read("net.json")
     run = bundle + b"crowd x=501 y=500\n"
@@ -41,7 +44,7 @@ def cases():
     yield "demo 7", ["demo", "7"], b""
 
 
-def shares(folder, words, given):
+def shares(folder: str, words: list[str], given: bytes) -> Iterator[tuple[float, str]]:
     """The functions and their shares, the largest first."""
     data, path = os.path.join(folder, "data"), os.path.join(folder, "input")
     with open(path, "wb") as to:
@@ -56,7 +59,7 @@ def shares(folder, words, given):
             yield float(share), re.sub(r"^\[.\]\s*", "", name.strip())
 
 
-def main():
+def main() -> None:
     print("| Case | Function | Percent |\n|---|---|---|")
     with tempfile.TemporaryDirectory() as folder:
         for name, words, given in cases():

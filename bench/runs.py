@@ -1,18 +1,21 @@
 #!/usr/bin/python3
 """Takes the processor time of `run` of the built program beside a plain Rust program that does the same work.
 
-Run from the top of the repository: bench/runs.py [--short]
-Both run 1,000,000 turns of one worker, on majority with 1,000 and with 65,536 agents and on a threshold leaf of 255 states, and
-must print the same journal. The built program reads a bundle and checks its proof first, which the plain one does not. The plain
-one keeps each agent's digits and puts lines together on a page, as the built one does, in a text whose room is reserved. The least
-of seven runs each, in turn.
+Run from the top of the repository: bench/runs.py [--short] Both run 1,000,000 turns of one worker, on majority with
+1,000 and with 65,536 agents and on a threshold leaf of 255 states, and must print the same journal. The built program
+reads a bundle and checks its proof first, which the plain one does not. The plain one keeps each agent's digits and
+puts lines together on a page, as the built one does, in a text whose room is reserved. The least of seven runs each,
+in turn.
 """
+
+from __future__ import annotations
 
 import json
 import os
 import subprocess
 import sys
 import tempfile
+from typing import Any
 
 import generator
 from common import PROGRAM, TOP, expect_program, few, row, run_apart, source
@@ -24,22 +27,22 @@ TURNS = few(1_000_000, 10_000)
 PLAIN = source("plain/runs.rs")
 
 
-def majority():
+def majority() -> Any:
     with open(os.path.join(TOP, "examples/majority/bundle.json")) as f:
         return json.load(f)
 
 
-def threshold():
+def threshold() -> Any:
     """The bundle of the widest leaf that is built."""
     return json.loads(list(tree.bundles())[-1][1])
 
 
-def timed(command, standard_input):
+def timed(command: list[str], standard_input: str) -> tuple[bytes, float, int]:
     with open(standard_input, "rb") as given:
         return run_apart(command, given, subprocess.PIPE)[:3]
 
 
-def measure(name, bundle, counts, plain, folder):
+def measure(name: str, bundle: Any, counts: list[int], plain: str, folder: str) -> None:
     leaf = bundle["net"]["leaves"][0]
     crowd = "crowd " + " ".join(f"{v}={n}" for v, n in zip(bundle["net"]["vars"], counts))
     head = json.dumps(bundle, separators=(",", ":")) + "\n" + crowd + "\n"
@@ -64,8 +67,9 @@ def measure(name, bundle, counts, plain, folder):
         sys.exit(f"{name}: the journals differ")
     meetings = sum(1 for line in journal.split(b"\n") if line[:1].isdigit())
     print(
-        f"{name}: {meetings} meetings, pop {our_time:.3f} s, plain {plain_time:.3f} s, ratio {our_time / plain_time:.2f}; "
-        f"memory per meeting: pop {memory / max(meetings, 1):.0f} bytes, plain {plain_memory / max(meetings, 1):.0f} bytes"
+        f"{name}: {meetings} meetings, pop {our_time:.3f} s, plain {plain_time:.3f} s, ratio"
+        f" {our_time / plain_time:.2f}; memory per meeting: pop {memory / max(meetings, 1):.0f} bytes, plain"
+        f" {plain_memory / max(meetings, 1):.0f} bytes"
     )
     row(
         "run",
@@ -76,7 +80,7 @@ def measure(name, bundle, counts, plain, folder):
     )
 
 
-def main():
+def main() -> None:
     expect_program()
     with tempfile.TemporaryDirectory() as folder:
         source = os.path.join(folder, "plain.rs")

@@ -5,20 +5,23 @@ Run from the top of the repository: bench/stack.py [--short]
 The sizes are those of `ulimit -s`, in KB, in steps of 8; the usual limit is 8,192.
 """
 
+from __future__ import annotations
+
 import os
 import subprocess
+from collections.abc import Iterator
 
 from common import PROGRAM, TOP, expect_program
 
 STEP = 8
 
 
-def read(name):
+def read(name: str) -> bytes:
     with open(os.path.join(TOP, "examples/majority", name), "rb") as file:
         return file.read()
 
 
-def cases():
+def cases() -> Iterator[tuple[str, list[str], bytes]]:
     """What is done, its words, its input."""
     bundle, crowd = read("bundle.json"), read("crowd.txt")
     yield "`check` of majority", ["check"], bundle
@@ -29,12 +32,12 @@ def cases():
     yield "`check` of JSON nested 127 deep", ["check"], b"[" * 127 + b"]" * 127 + b"\n"
 
 
-def status(kilobytes, words, data):
+def status(kilobytes: int, words: list[str], data: bytes) -> int:
     script = f'ulimit -s {kilobytes}; exec "$0" "$@"'
     return subprocess.run(["sh", "-c", script, PROGRAM, *words], input=data, capture_output=True).returncode
 
 
-def least_stack(words, data):
+def least_stack(words: list[str], data: bytes) -> int:
     """By halving; a program that lacks stack is ended by a signal."""
     wanted = status(8192, words, data)
     low, high = 0, 8192 // STEP
@@ -47,7 +50,7 @@ def least_stack(words, data):
     return high * STEP
 
 
-def main():
+def main() -> None:
     expect_program()
     for name, words, data in cases():
         print(f"stack\t{name}\t{least_stack(words, data)}", flush=True)

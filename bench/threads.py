@@ -5,6 +5,8 @@ Run from the top of the repository: bench/threads.py [--short]
 Majority with 65,536 agents and 1,024 shards, 1,000,000 meetings, the journal among it; the least of fifteen runs each.
 """
 
+from __future__ import annotations
+
 import os
 
 from common import PROGRAM, TOP, expect_program, few, least
@@ -12,7 +14,7 @@ from common import PROGRAM, TOP, expect_program, few, least
 MEETINGS = few(1_000_000, 10_000)
 
 
-def main():
+def main() -> None:
     expect_program()
     with open(os.path.join(TOP, "examples/majority/bundle.json"), "rb") as file:
         data = file.read() + b"crowd x=32769 y=32767\n"

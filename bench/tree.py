@@ -6,12 +6,16 @@ bench/tree.py
 The program stands below; it is proved and built in a folder of its own over copies of the crates it calls. It reads a
 bundle and checks its proof, whose parts are examined in order, so a bundle whose later parts are empty stops there.
 """
+from __future__ import annotations
+
 import json
 import os
 import shutil
 import subprocess
 import tempfile
 import time
+from collections.abc import Iterator
+from typing import Any
 
 from common import source
 
@@ -39,26 +43,28 @@ TOP_VALUE, BOUND, COEFS = 42, 41, [42, -42]
 VALUES = range(-TOP_VALUE, TOP_VALUE + 1)
 WIDE = len(VALUES)
 
+Node = list[Any]
 MAIN = source("kit/tree.rt.in")
 
 
-def leader(u):
+def leader(u: int) -> int:
     return u + TOP_VALUE
 
 
-def follower(bit, v):
+def follower(bit: int, v: int) -> int:
     return WIDE * (1 + bit) + v + TOP_VALUE
 
 
-def meeting(u, v):
+def meeting(u: int, v: int) -> tuple[int, int]:
     """The leader's value and the follower after a leader of value u has met a value v."""
     q = max(-TOP_VALUE, min(TOP_VALUE, u + v))
     return q, follower(q < BOUND, u + v - q)
 
 
-def moves_of_leaf():
+def moves_of_leaf() -> tuple[list[list[int]], list[int]]:
     """The moves, and the number of the layer that each is in."""
-    moves, layers = [], []
+    moves: list[list[int]] = []
+    layers: list[int] = []
     for u in VALUES:
         for v in range(u, TOP_VALUE + 1):
             q, left = meeting(u, v)
@@ -74,7 +80,7 @@ def moves_of_leaf():
     return moves, layers
 
 
-def layers_of(numbers):
+def layers_of(numbers: list[int]) -> list[dict[str, list[int]]]:
     weights = [
         [TOP_VALUE + 1] * WIDE + [abs(v) for v in VALUES] * 2,
         [0] * WIDE + [1] * WIDE + [0] * WIDE,
@@ -83,16 +89,21 @@ def layers_of(numbers):
     return [{"moves": [t for t, layer in enumerate(numbers) if layer == i], "weights": weights[i]} for i in range(3)]
 
 
-def tree_of(moves, outputs, value):
+def tree_of(moves: list[list[int]], outputs: list[bool], value: bool) -> list[Node]:
     """The nodes: the predicate, the trap of all leaders, and each leader state in turn."""
     count = len(outputs)
-    partners = [set() for _ in range(count)]
+    partners: list[set[int]] = [set() for _ in range(count)]
     for p, q, _, _ in moves:
         partners[p].add(q)
         partners[q].add(p)
     trap = count + 4
     inputs = [[trap + len(moves) + i, -1] for i in range(len(COEFS))]
-    nodes = [["open", count + 1], ["trap", list(range(WIDE))], ["lin", [[trap, 1]]], ["lin", [[count, 1]] + inputs]]
+    nodes: list[Node] = [
+        ["open", count + 1],
+        ["trap", list(range(WIDE))],
+        ["lin", [[trap, 1]]],
+        ["lin", [[count, 1]] + inputs],
+    ]
     nodes += [["present", p] for p in range(WIDE)]
     nodes.append(["lin", [[trap, 1]] + [[trap + 1 + p, -1] for p in range(WIDE)]])
     for p in reversed(range(WIDE)):
@@ -100,8 +111,9 @@ def tree_of(moves, outputs, value):
     return nodes
 
 
-def leaf_terms(p, partners, outputs, value):
-    """The facts that are named where leader state p is left: it occurs once, and the states that it meets are absent."""
+def leaf_terms(p: int, partners: list[int], outputs: list[bool], value: bool) -> list[list[int]]:
+    """The facts that are named where leader state p is left: it occurs once, and the states that it meets are
+    absent."""
     count = len(outputs)
     first = count + 5
     absent = {q: first + q for q in range(p)}
@@ -115,7 +127,7 @@ def leaf_terms(p, partners, outputs, value):
     return [[count + 3, 1]] + [term for term in terms if term[1] != 0]
 
 
-def bundles():
+def bundles() -> Iterator[tuple[str, str]]:
     """What is examined, and the bundle."""
     moves, numbers = moves_of_leaf()
     outputs = [u < BOUND for u in VALUES] + [False] * WIDE + [True] * WIDE
@@ -140,7 +152,7 @@ def bundles():
         yield what, json.dumps({"net": net, "pred": pred, "proof": [part]})
 
 
-def built(folder):
+def built(folder: str) -> str:
     lines = [line for line in open(os.path.join(TOP, "crates.txt")) if line.split(":")[0] in CRATES]
     crate = os.path.join(folder, "crates", "trees")
     for name in CRATES:
@@ -161,8 +173,9 @@ def built(folder):
     return os.path.join(crate, "out", "trees")
 
 
-def measured(program, path):
-    """The least wall clock and processor times of three runs in seconds, the greatest memory in bytes, the exit status."""
+def measured(program: str, path: str) -> tuple[float, float, int, int]:
+    """The least wall clock and processor times of three runs in seconds, the greatest memory in bytes, the exit
+    status."""
     times, worked, memory, status = [], [], 0, 0
     for _ in range(3):
         with open(path, "rb") as data:
@@ -175,7 +188,7 @@ def measured(program, path):
     return min(times), min(worked), memory, os.waitstatus_to_exitcode(status)
 
 
-def main():
+def main() -> None:
     with tempfile.TemporaryDirectory() as folder:
         program = built(os.path.join(folder, "crate"))
         path = os.path.join(folder, "bundle")
@@ -184,8 +197,10 @@ def main():
                 file.write(line + "\n")
             seconds, worked, memory, status = measured(program, path)
             print(
-                f"{len(line)} bytes read and {what} checked: {seconds:.3f} s, {worked:.3f} s of a processor, "
-                f"{memory / 1e6:.0f} MB, exit status {status}",
+                (
+                    f"{len(line)} bytes read and {what} checked: {seconds:.3f} s, {worked:.3f} s of a processor, "
+                    f"{memory / 1e6:.0f} MB, exit status {status}"
+                ),
                 flush=True,
             )
 

@@ -1,10 +1,12 @@
 #!/usr/bin/python3
 """Counts the meetings of `watch` of the built program beside those of `run`, and replays what `watch` wrote.
 
-Run from the top of the repository: bench/watch.py [--short]
-Both run a certified epidemic with 1,000 agents, one of them infected, by four workers with 20 seeds; `watch` must need fewer
-meetings on average. Then `replay --watched` must count the meetings of each of 100 watched runs, by 1 to 63 workers.
+Run from the top of the repository: bench/watch.py [--short] Both run a certified epidemic with 1,000 agents, one of
+them infected, by four workers with 20 seeds; `watch` must need fewer meetings on average. Then `replay --watched` must
+count the meetings of each of 100 watched runs, by 1 to 63 workers.
 """
+
+from __future__ import annotations
 
 import json
 import os
@@ -21,14 +23,14 @@ REPLAYS = few(100, 3)
 WATCHED_WORKERS = 63
 
 
-def head():
+def head() -> bytes:
     """The two input lines."""
     with open(os.path.join(TOP, "examples/epidemic/bundle.json")) as f:
         bundle = json.load(f)
     return (json.dumps(bundle, separators=(",", ":")) + "\n" + CROWD + "\n").encode()
 
 
-def written(command, workers, seed):
+def written(command: str, workers: int, seed: int) -> bytes:
     """The text of a run that comes to its verdict."""
     words = [PROGRAM, command, "--workers", str(workers), "--turns", str(TURNS), "--seed", str(seed)]
     done = subprocess.run(words, input=head(), stdout=subprocess.PIPE)
@@ -37,16 +39,16 @@ def written(command, workers, seed):
     return done.stdout
 
 
-def meetings(text):
+def meetings(text: bytes) -> int:
     """How many meeting lines a text has: the only ones that begin with a digit."""
     return sum(1 for line in text.split(b"\n") if line[:1].isdigit())
 
 
-def average(command):
+def average(command: str) -> float:
     return sum(meetings(written(command, WORKERS, seed)) for seed in range(SEEDS)) / SEEDS
 
 
-def expect_held(workers, seed):
+def expect_held(workers: int, seed: int) -> None:
     """Ends the bench where the replay of a watched run does not count its meetings."""
     text = written("watch", workers, seed)
     done = subprocess.run([PROGRAM, "replay", "--watched"], input=text, stdout=subprocess.PIPE)
@@ -55,7 +57,7 @@ def expect_held(workers, seed):
         sys.exit(f"{workers} workers, seed {seed}: {done.stdout[:200]!r} for {wanted!r}")
 
 
-def main():
+def main() -> None:
     expect_program()
     whole, watched = average("run"), average("watch")
     print(

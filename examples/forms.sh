@@ -1,4 +1,4 @@
-# What the documents say of forms and limits, one command a line, from the top of the repository. bin/gallery runs them.
+# What the documents say of forms and limits, one command a line, from the top of the repository. tests/gallery runs them.
 # a net where a bundle is due; a bundle of two lines; a missing member
 bin/pop check < examples/epidemic/net.json
 printf '{\n}\n' | bin/pop check

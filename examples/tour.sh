@@ -1,4 +1,4 @@
-# The command lines of a tour, one a line, from the top of the repository. bin/gallery runs them.
+# The command lines of a tour, one a line, from the top of the repository. tests/gallery runs them.
 bin/pop bundle < examples/majority/majority.pop | bin/pop check
 bin/pop explain examples/majority/majority.pop | tail -n 3
 bin/pop explain examples/rejected/wrong-trap.json | grep '>>>'

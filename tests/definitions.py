@@ -76,7 +76,8 @@ class Definition:
 
 
 def imports(lines: Iterable[str]) -> dict[str, Key]:
-    """What each imported name of definitions means: crate, module, name. A module that is named whole stands as `alias.`."""
+    """What each imported name of definitions means: crate, module, name. A module that is named whole stands as
+    `alias.`."""
     out: dict[str, Key] = {}
     for line in lines:
         found = IMPORT.match(line.strip().removeprefix("ghost "))
@@ -92,7 +93,8 @@ def imports(lines: Iterable[str]) -> dict[str, Key]:
 
 
 def rust_types(lines: Iterable[str]) -> dict[str, tuple[str, str]]:
-    """What each imported name of a Rust type, a variant or a constant means: crate, and the name of the type or constant."""
+    """What each imported name of a Rust type, a variant or a constant means: crate, and the name of the type or
+    constant."""
     out: dict[str, tuple[str, str]] = {}
     for line in lines:
         found = IMPORT.match(line.strip().removeprefix("ghost "))

@@ -1,8 +1,10 @@
 #!/usr/bin/python3
-"""Finds what documents name and the repository doesn't have: paths, commands, options, crates, functions, clauses, sections.
+"""Finds what documents name and the repository doesn't have: paths, commands, options, crates, functions, clauses,
+sections.
 
-Run at the top of the repository. Looked at are code spans, also those that a line's end divides, the command lines of blocks of code,
-links, and the names of files in running text. Lines of documents have at most 120 columns, but for tables and code, and sentences at most 30 words (tests/sentences.py)."""
+Run at the top of the repository. Looked at are code spans, also those that a line's end divides, the command lines of
+blocks of code, links, and the names of files in running text. Lines of documents have at most 120 columns, but for
+tables and code. Sentences of documents, of help and of messages have at most 30 words (tests/sentences.py)."""
 from __future__ import annotations
 
 import re
@@ -13,7 +15,7 @@ from dataclasses import dataclass, field
 from functools import cached_property
 from pathlib import Path
 
-from sentences import long_sentences
+from sentences import long_messages, long_sentences
 
 TOP = Path(__file__).resolve().parent.parent
 COLUMNS = 120
@@ -34,6 +36,8 @@ ELSEWHERE = {"CRATE", "div_ceil", "lang", "made", "Over", "Deserialize", "Lts", 
 KIT = {"all", "check", "ci", "fmt", "must-fail", "new", "plant", "run", "tidy", "try", "verdict", "version"}
 KIT_OPTIONS = {"--anew", "--fail-alloc", "--only", "--stage-times", "--test"}
 BUILT = "out"
+# its rows are comments of the crates
+THEOREMS = "docs/trust/theorems.md"
 
 
 @dataclass
@@ -106,7 +110,8 @@ class Repository:
         return found
 
     def has_path(self, path: str) -> bool:
-        """Whether a path, from the top or from within crates/, is that of a file or a folder, with or without its ending."""
+        """Whether a path, from the top or from within crates/, is that of a file or a folder, with or without its
+        ending."""
         parts = path.strip("/").split("/")
         if BUILT in parts:
             return True
@@ -196,6 +201,11 @@ def without_code(text: str) -> tuple[str, list[tuple[int, str]]]:
     return "\n".join(prose), code
 
 
+def without_rows(text: str) -> str:
+    """A text with blank lines in place of the rows of its tables."""
+    return re.sub(r"^\|.*", "", text, flags=re.MULTILINE)
+
+
 def document_faults(file: str, repository: Repository) -> Iterator[tuple[int, str]]:
     """What is wrong in a document: a line, and what it names."""
     prose, code = without_code((TOP / file).read_text())
@@ -214,11 +224,12 @@ def document_faults(file: str, repository: Repository) -> Iterator[tuple[int, st
     for number, line in enumerate(prose.split("\n"), 1):
         if len(line) > COLUMNS and not line.startswith(("|", "<!--")):
             yield number, f"{len(line)} columns"
-    yield from long_sentences(prose)
+    yield from long_sentences(prose if file != THEOREMS else without_rows(prose))
 
 
 def crate_faults(repository: Repository) -> Iterator[str]:
-    """Crates that the map of docs/develop/architecture.md lacks, or has too many; and a version that the changes don't begin with."""
+    """Crates that the map of docs/develop/architecture.md lacks, or has too many; and a version that the changes don't
+    begin with."""
     listed = {
         line.split(":")[0].split()[0]
         for line in repository.texts["crates.txt"].splitlines()
@@ -241,6 +252,12 @@ def main() -> int:
         for file in repository.files
         if file.endswith(".md")
         for number, fault in sorted(set(document_faults(file, repository)))
+    ]
+    faults += [
+        f"{file}:{number}: {fault}"
+        for file, text in repository.texts.items()
+        if file.startswith("hurleyoak/") and file.endswith(".py")
+        for number, fault in sorted(long_messages(text))
     ]
     faults += crate_faults(repository)
     for fault in faults:

@@ -1,8 +1,9 @@
 #!/usr/bin/python3
-"""Names that nothing uses: lemmas and definitions that stand nowhere else, and names of `ghost use` that a scope lacks.
+"""Names that nothing uses: lemmas and definitions that stand nowhere else, and names of `ghost use` that a scope
+lacks.
 
-Run it at the top of the repository; with folders of crates it looks at these alone. It prints a line for each name, and
-ends with the status 1 where there is one."""
+Run it at the top of the repository; with folders of crates it looks at these alone. It prints a line for each name,
+and ends with the status 1 where there is one."""
 
 import re
 import sys

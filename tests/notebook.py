@@ -1,4 +1,5 @@
-"""Runs the code cells of a notebook as Jupyter does, without Jupyter: /usr/bin/python3 tests/notebook.py FILE [--write]"""
+"""Runs the code cells of a notebook as Jupyter does, without Jupyter: /usr/bin/python3 tests/notebook.py FILE
+[--write]"""
 from __future__ import annotations
 
 import ast
@@ -19,7 +20,9 @@ def cell_output(source: str, space: dict[str, Any]) -> str:
     out = io.StringIO()
     with redirect_stdout(out):
         exec(compile(tree, "cell", "exec"), space)
-        value = eval(compile(ast.Expression(last.value), "cell", "eval"), space) if isinstance(last, ast.Expr) else None
+        value = (
+            eval(compile(ast.Expression(last.value), "cell", "eval"), space) if isinstance(last, ast.Expr) else None
+        )
     return out.getvalue() + ("" if value is None else f"{value!r}\n")
 
 

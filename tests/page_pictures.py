@@ -61,7 +61,8 @@ def behaviour(page: Page) -> None:
     certified(page)
     page.tab("behaviour")
     page.js(
-        "document.querySelectorAll('#panel-behaviour .count-of input').forEach((one, i) => (one.value = [450, 550][i]))"
+        "document.querySelectorAll('#panel-behaviour .count-of input').forEach((one, i) => (one.value = [450,"
+        " 550][i]))"
     )
     page.press("behaviour", "Simulate")
     page.sees("#panel-behaviour .badge.measured", "measured, not proved")

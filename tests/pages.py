@@ -4,8 +4,8 @@
     POP_MAIN=PROGRAM tests/pages.py [--write] DOCUMENT.md..
 
 A line `$ COMMAND` in a block of code is a command, and what follows up to the next one is its output, errors among it.
-Commands run at the repository's top, in one folder for files that they make. `<!-- file: NAME -->` before a block writes
-it to a file there. Seconds are not compared. With --write a document gets the output that was found."""
+Commands run at the repository's top, in one folder for files that they make. `<!-- file: NAME -->` before a block
+writes it to a file there. Seconds are not compared. With --write a document gets the output that was found."""
 from __future__ import annotations
 
 import os
@@ -82,7 +82,9 @@ def differing(path: Path, folder: Path, writes: bool) -> tuple[int, int]:
             if plain(found) != plain(step.told):
                 bad += 1
                 changes.append((step, found))
-                print(f"DIFFERS {path.name}:{step.line + 1}: {step.command}\n--- told\n{step.told}\n--- found\n{found}")
+                print(
+                    f"DIFFERS {path.name}:{step.line + 1}: {step.command}\n--- told\n{step.told}\n--- found\n{found}"
+                )
     if writes:
         for step, found in reversed(changes):
             lines[step.line + 1 : step.end] = found.split("\n") if found else []

@@ -1,15 +1,16 @@
 #!/usr/bin/python3
 """Refuses each request for memory in turn, in runs of the built program of their own.
 
-Run from the top of the repository: tests/refused.py [--short | --long] [PROGRAM]; --short is the usual, and --long has the cases
-with most requests too.
-The C library's allocating calls are replaced, for the program alone, by ones of which the call with a given number gives
-nothing; they stand below, and gcc builds them. For each case the number counts up from 1, until a run in which nothing was
-refused. A run in which something was refused must end with the status 8 and print nothing, or give the whole answer. The
-status of the script is 1 where one does neither, or where no call of a case was refused. On threads the runs differ, so there the
-whole answer is one that `replay` holds, with a status of an end. Last, the same is done to a test of the field, which `rt ci`
-builds: no assertion of it may fail.
+Run from the top of the repository: tests/refused.py [--short | --long] [PROGRAM]; --short is the usual, and --long has
+the cases with most requests too. The C library's allocating calls are replaced, for the program alone, by ones of
+which the call with a given number gives nothing; they stand below, and gcc builds them. For each case the number
+counts up from 1, until a run in which nothing was refused. A run in which something was refused must end with the
+status 8 and print nothing, or give the whole answer. The status of the script is 1 where one does neither, or where no
+call of a case was refused. On threads the runs differ, so there the whole answer is one that `replay` holds, with a
+status of an end. Last, the same is done to a test of the field, which `rt ci` builds: no assertion of it may fail.
 """
+
+from __future__ import annotations
 
 import os
 import subprocess
@@ -25,6 +26,8 @@ FIELD_TEST = "refusals::a_refusal_leaves_the_seats"
 EXAMPLES = os.path.join(TOP, "examples")
 OUT_OF_MEMORY = 8
 ENDED = (0, 4)
+# the words, the input, and the words that judge the text, if it is no function of both
+Case = tuple[list[str], bytes, list[str] | None]
 REPLAY = ["replay"]
 REPLAY_WATCHED = ["replay", "--watched"]
 
@@ -70,22 +73,22 @@ int posix_memalign(void **out, size_t align, size_t size) {
 """
 
 
-def contents(path):
+def contents(path: str) -> bytes:
     with open(os.path.join(EXAMPLES, path), "rb") as file:
         return file.read()
 
 
-def bundle_and_crowd(name):
+def bundle_and_crowd(name: str) -> bytes:
     return contents(f"{name}/bundle.json") + contents(f"{name}/crowd.txt")
 
 
-def written(words, data):
+def written(words: list[str], data: bytes) -> bytes:
     """What the program writes with all memory."""
     return subprocess.run([PROGRAM, *words], input=data, capture_output=True, timeout=60).stdout
 
 
-def cases():
-    """The words, the input, and the words that judge the text where it is no function of both, of each case."""
+def cases() -> dict[str, Case]:
+    """Each case by its name."""
     majority, short_run = contents("majority/bundle.json"), ["run", "--turns", "2"]
     compiled, crowded = written(["compile"], b"vars x\nx = 2\n"), ["run", "--workers", "4", "--shards", "2"]
     many = majority + b"crowd x=120 y=80\n"
@@ -113,27 +116,27 @@ def cases():
 LONG = {"check of two leaves", "run of two compiled leaves", "demo"}
 
 
-def run(library, words, data, call):
+def run(library: str, words: list[str], data: bytes, call: int) -> tuple[int, bytes, bool]:
     """The status, the text, and whether the call with this number was refused."""
     environment = {"LD_PRELOAD": library, "REFUSED_CALL": str(call)}
     done = subprocess.run([PROGRAM, *words], input=data, capture_output=True, env=environment, timeout=60)
     return done.returncode, done.stdout, b"refused" in done.stderr
 
 
-def holds(words, text):
+def holds(words: list[str], text: bytes) -> bool:
     """Whether the program, with these words and with all memory, replays the text as a journal that holds."""
     done = subprocess.run([PROGRAM, *words], input=text, capture_output=True, timeout=60)
     return done.returncode == 0 and done.stdout.startswith(b"holds ")
 
 
-def is_whole(answer, judge, status, text):
+def is_whole(answer: tuple[int, bytes], judge: list[str] | None, status: int, text: bytes) -> bool:
     """Whether this is the whole answer: the one that came with all memory, or a journal that holds."""
     if judge is None:
         return (status, text) == answer
     return status in ENDED and holds(judge, text)
 
 
-def count(library, name, words, data, judge):
+def count(library: str, name: str, words: list[str], data: bytes, judge: list[str] | None) -> int:
     """Prints how many calls were refused in turn, and gives the number of runs that did what they may not."""
     answer = run(library, words, data, 0)[:2]
     silent, wrong, call = 0, 0, 1
@@ -151,13 +154,16 @@ def count(library, name, words, data, judge):
         wrong += 1
         print(f"DIFFERS {name}: no call was refused, so it takes no memory of the C library, as a program of `rt try`")
     print(
-        f"{name}: {call - 1} calls refused in turn, {silent} times out of memory, {call - 1 - silent} times the whole answer",
+        (
+            f"{name}: {call - 1} calls refused in turn, {silent} times out of memory, {call - 1 - silent} times the"
+            " whole answer"
+        ),
         flush=True,
     )
     return wrong
 
 
-def count_test(library):
+def count_test(library: str) -> int:
     """The same of the test of the field, whose own requests end it where they are refused."""
     wrong, call = 0, 1
     while True:
@@ -171,7 +177,7 @@ def count_test(library):
     return wrong + (done.returncode != 0)
 
 
-def main():
+def main() -> int:
     with tempfile.TemporaryDirectory() as folder:
         source, library = os.path.join(folder, "refusing.c"), os.path.join(folder, "refusing.so")
         with open(source, "w") as file:

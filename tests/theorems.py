@@ -1,8 +1,8 @@
 #!/usr/bin/python3
 """Makes docs/trust/theorems.md: every public contract, clause by clause, with the definitions that it rests on.
 
-Run it at the top of the repository: `tests/theorems.py` compares the file with the sources, and its status is 1 where they
-differ; `tests/theorems.py --write` writes it."""
+Run it at the top of the repository: `tests/theorems.py` compares the file with the sources, and its status is 1 where
+they differ; `tests/theorems.py --write` writes it."""
 from __future__ import annotations
 
 import re
@@ -59,11 +59,20 @@ PROMISES = (
     ("a journal that holds has one spelling; what a run wrote holds", "one_spelling, written_holds, replay_holds"),
     ("layers end every crowd within a bound; a tree leaves no wrong end", "check_layers, check_tree"),
     (
-        "every fair execution stabilises where a right terminal crowd can always be reached; each finite one begins a fair one",
-        "fair_executions_stabilise, finite_executions_extend, fair_maps_are_fair_multisets, standing_crowds, times_are_found",
+        (
+            "every fair execution stabilises where a right terminal crowd can always be reached; each finite one"
+            " begins a fair one"
+        ),
+        (
+            "fair_executions_stabilise, finite_executions_extend, fair_maps_are_fair_multisets, standing_crowds,"
+            " times_are_found"
+        ),
     ),
     (
-        "meetings of uniformly random pairs settle with probability 1 where few meetings can always lead there, and how soon",
+        (
+            "meetings of uniformly random pairs settle with probability 1 where few meetings can always lead there,"
+            " and how soon"
+        ),
         "random_meetings_compute, falling_is_cubic, runs_are_uniform",
     ),
     ("a crowd's only settlement, within the proof's bound, and its last crowd is terminal", "settle, settlements_end"),
@@ -91,7 +100,10 @@ PROMISES = (
     ),
     ("the predicate's value", "Pred::eval"),
     (
-        "the text and the status are the answer to the words and the bytes; what `certified`, a journal, a verdict and `holds` say",
+        (
+            "the text and the status are the answer to the words and the bytes; what `certified`, a journal, a verdict"
+            " and `holds` say"
+        ),
         "run_plain, run_tool",
     ),
     ("the words and the input have one answer, where nothing is left to threads or to the compiler", "one_answer"),
@@ -168,7 +180,8 @@ class Told:
         return f"{code(statement)}: {about}"
 
     def fields(self, call: str, key: Key | None) -> Iterator[Clause]:
-        """Where a clause is a record of this repository, its fields are clauses too: they stand at the first such clause."""
+        """Where a clause is a record of this repository, its fields are clauses too: they stand at the first such
+        clause."""
         if key not in self.rests.known or not self.rests.known[key].is_record or key in self.records:
             return
         self.records.add(key)
@@ -230,7 +243,10 @@ def reading_list(title: str, told: str, keys: set[Key], rests: Rests, but: froze
     for key in keys:
         definition = rests.known[key]
         files.setdefault((order.get(definition.crate, -1), definition.file), []).append(definition)
-    counted = f"{rests.lines(keys)} lines in {len(files)} files, and {rests.rust_lines(keys)} of Rust types and limits that they name:"
+    counted = (
+        f"{rests.lines(keys)} lines in {len(files)} files, and {rests.rust_lines(keys)} of Rust types and limits that"
+        " they name:"
+    )
     out = [f"## {title}", "", told, "", counted, "", "| File | Lines | Definitions |", "|---|---|---|"]
     for (_, file), definitions in sorted(files.items()):
         names = ", ".join(f"`{d.name}`" for d in sorted(definitions, key=lambda d: d.line))
@@ -245,7 +261,8 @@ def headline(rests: Rests) -> list[str]:
         record = rests.known[key]
         where = record.file.removeprefix("crates/")
         out.append(
-            f"| `{record.name}` |  | {cell(record.comment)} | {where}:{record.line} | {rests.lines(rests.beneath([key]))} |"
+            f"| `{record.name}` |  | {cell(record.comment)} | {where}:{record.line} |"
+            f" {rests.lines(rests.beneath([key]))} |"
         )
         for part in record.fields():
             if not part.comment and DATA.fullmatch(part.statement):
@@ -302,30 +319,53 @@ def document() -> str:
     out = [
         "# Theorems",
         "",
-        "Every clause that a public call promises: the headline first, then crate by crate downwards. Each row has what the",
-        "clause says: its comment, or the clause with the comment of its definition. Then come its place, and how many lines",
+        (
+            "Every clause that a public call promises: the headline first, then crate by crate downwards. Each row has"
+            " what the"
+        ),
+        (
+            "clause says: its comment, or the clause with the comment of its definition. Then come its place, and how"
+            " many lines"
+        ),
         "of this repository's definitions it rests on. `tests/theorems.py --write` writes this file.",
         "",
-        "Before that come the trusted definitions. `tests/theorems.py` stops if a listed definition uses one that isn't",
-        "listed. `certified` is printed exactly for valid proofs, and a valid proof gives that the net computes the predicate.",
+        (
+            "Before that come the trusted definitions. `tests/theorems.py` stops if a listed definition uses one that"
+            " isn't"
+        ),
+        (
+            "listed. `certified` is printed exactly for valid proofs, and a valid proof gives that the net computes"
+            " the predicate."
+        ),
         "If you ask only what `certified` tells of a protocol, you need not read what a valid proof is.",
-        "[The model](model.md) says the definitions in words, and [Reading](reading.md) how to read them. JSON's values are",
-        "those of the kit's `serde_json` and `json`, some 370 lines. Lists, texts and numbers are those of its std. Neither is",
+        (
+            "[The model](model.md) says the definitions in words, and [Reading](reading.md) how to read them. JSON's"
+            " values are"
+        ),
+        (
+            "those of the kit's `serde_json` and `json`, some 370 lines. Lists, texts and numbers are those of its"
+            " std. Neither is"
+        ),
         "in a list.",
         "",
         *reading_list(
             "To believe `certified`",
-            "The printed line and the status, the file of a bundle, and what it means that its net computes the predicate, for\n"
-            "fair executions too. Left out are what a valid proof is and how its part of the file is written (`ValidProof`,\n"
-            "`IsProofFile`, `IsProofWithin`), and the bounds of the next list. The words need no list: `check_is_meant` says that\n"
-            "the word `check` alone means the command.",
+            (
+                "The printed line and the status, the file of a bundle, and what it means that its net computes the"
+                " predicate, for\nfair executions too. Left out are what a valid proof is and how its part of the file"
+                " is written (`ValidProof`,\n`IsProofFile`, `IsProofWithin`), and the bounds of the next list. The"
+                " words need no list: `check_is_meant` says that\nthe word `check` alone means the command."
+            ),
             narrow,
             rests,
             PROOFS | BOUNDS,
         ),
         *reading_list(
             "To believe the bounds too",
-            "What more `certified` says of meetings of uniformly random pairs, and of runs by a proof with one layer for each leaf.",
+            (
+                "What more `certified` says of meetings of uniformly random pairs, and of runs by a proof with one"
+                " layer for each leaf."
+            ),
             wide - narrow,
             rests,
             PROOFS | frozenset(key[2] for key in narrow),

@@ -1,8 +1,10 @@
-"""Measures `find` over published families, wrong nets and mutants, in seconds of the processor, and writes the tables of it.
+"""Measures `find` over published families, wrong nets and mutants, in seconds of the processor, and writes the tables
+of it.
 
-`python3 -m bench.finder.benchmark PART.. [--seconds N]` measures the nets of parts that have no line in bench/results/find.txt yet:
-`published`, `late`, `mutants`. `--write` puts the tables between the marks of docs/guide/finding.md. No verdict rests on a clock on
-the wall: each limit counts the work of this process, so that a busy machine has the same table.
+`python3 -m bench.finder.benchmark PART.. [--seconds N]` measures the nets of parts that have no line in
+bench/results/find.txt yet: `published`, `late`, `mutants`. `--write` puts the tables between the marks of
+docs/guide/finding.md. No verdict rests on a clock on the wall: each limit counts the work of this process, so that a
+busy machine has the same table.
 """
 from __future__ import annotations
 
@@ -16,7 +18,7 @@ from hurleyoak.engine.places import TOP
 from hurleyoak.protocol.predicates import value_at
 from hurleyoak.search.finding import find
 from hurleyoak.search.playing import play
-from hurleyoak.text.files import LoadedNet
+from hurleyoak.text.loaded import LoadedNet
 from .late import late_nets
 from .making import Case
 from .mutants import mutants
@@ -74,7 +76,7 @@ def _result(case: Case, loaded: LoadedNet, seconds: float) -> tuple[str, str]:
         nodes = " ".join(f"{len(part.true)},{len(part.false)}" for part in found.bundle.proof)
         return program.check(found.bundle.line()).first_line, nodes
     if found.flaw is None:
-        return f"neither: {found.failures[0].why}", ""
+        return f"neither: {found.failures[0].reason}", ""
     if not found.flaw.by_meetings:
         return "a hidden move", ""
     played = play(case.net, found.flaw, value_at(loaded.whole_tree(), found.flaw.counts))
@@ -119,7 +121,10 @@ def _published(lines: list[Line]) -> Iterator[str]:
     yield "|---|---|---|---|---|---|---|"
     for line in lines:
         nodes = line.nodes.replace(",", ", ")
-        yield f"| {line.family}: {line.name} | {line.states} | {line.moves} | {line.seconds:g} | {nodes} | {line.result} | {line.quoted} |"
+        yield (
+            f"| {line.family}: {line.name} | {line.states} | {line.moves} | {line.seconds:g} | {nodes} |"
+            f" {line.result} | {line.quoted} |"
+        )
 
 
 def _late(lines: list[Line]) -> Iterator[str]:
@@ -130,7 +135,10 @@ def _late(lines: list[Line]) -> Iterator[str]:
         if some:
             good = [line for line in some if line.result.startswith("played, ")]
             least = sum(line.result == f"played, {line.least} agents" for line in good)
-            yield f"| {low + 1:,} to {high:,} agents | {len(some)} | {len(good)} | {least} | {max(line.seconds for line in some):g} |"
+            yield (
+                f"| {low + 1:,} to {high:,} agents | {len(some)} | {len(good)} | {least} |"
+                f" {max(line.seconds for line in some):g} |"
+            )
 
 
 def _mutants(lines: list[Line]) -> Iterator[str]:

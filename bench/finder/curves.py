@@ -1,4 +1,5 @@
-"""Measures the gallery: `python3 -m bench.finder.curves` writes docs/pictures and a list in CURVES.md beside this file.
+"""Measures the gallery: `python3 -m bench.finder.curves` writes docs/pictures and a list in CURVES.md beside this
+file.
 
 Each protocol has a run for its picture, and a sweep for its growth. All of it is a function of the words below.
 """
@@ -17,7 +18,8 @@ from hurleyoak.simulation.simulation import Simulation
 from hurleyoak.simulation.sizes import sizes_of
 from hurleyoak.simulation.sweepjobs import BY_SIMULATE, Job, mark_of, result_of
 from hurleyoak.simulation.table import Row, points, row_of
-from hurleyoak.text.files import Loaded, load_path
+from hurleyoak.text.files import load_path
+from hurleyoak.text.loaded import Loaded
 from hurleyoak.engine.places import TOP
 
 PICTURES = "docs/pictures"
@@ -146,7 +148,9 @@ def main() -> None:
     if asked:
         return
     lines = ["| | |", "|---|---|"]
-    lines += ["| " + " | ".join(one for one in cells[at : at + COLUMNS]) + " |" for at in range(0, len(cells), COLUMNS)]
+    lines += [
+        "| " + " | ".join(one for one in cells[at : at + COLUMNS]) + " |" for at in range(0, len(cells), COLUMNS)
+    ]
     before, rest = PAGE.read_text().split(BEGIN)
     PAGE.write_text(before + BEGIN + "\n\n" + "\n".join(lines) + "\n\n" + END + rest.split(END)[1])
 

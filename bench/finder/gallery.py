@@ -1,4 +1,5 @@
-"""Writes the gallery of `examples/found`: `python3 -m bench.finder.gallery FOLDER`; each proof is found and then certified."""
+"""Writes the gallery of `examples/found`: `python3 -m bench.finder.gallery FOLDER`; each proof is found and then
+certified."""
 from __future__ import annotations
 
 import sys
@@ -7,7 +8,7 @@ from dataclasses import replace
 from pathlib import Path
 
 from hurleyoak.engine import program
-from hurleyoak.text.files import LoadedNet
+from hurleyoak.text.loaded import LoadedNet
 from hurleyoak.search.finding import find
 from hurleyoak.text.writer import text_of
 from . import own_protocols as own
@@ -85,9 +86,10 @@ GALLERY: list[tuple[str, Case, str, str]] = [
     ("unequal", own.same(False), "Agents of x and y cancel out, and who is left over says yes", "ours"),
 ]
 
-APPROXIMATE = """# approximate-majority: y - x < 0. Agents of x and y make each other undecided, and the undecided follow whom they meet.
-# A reaction network that is right with high probability only: x and y meet, one of them becomes undecided and follows the
-# other, whichever was more. So a crowd that outputs the wrong value is terminal and can be reached, and no proof
+APPROXIMATE = """# approximate-majority: y - x < 0. Agents of x and y make each other undecided, and the undecided
+# follow the agent that they meet.
+# A reaction network that is right with high probability only: x and y meet, one of them becomes undecided and follows
+# the other, whichever was more. So a crowd that outputs the wrong value is terminal and can be reached, and no proof
 # excludes it. Source: Angluin, Aspnes and Eisenstat 2008.
 
 inputs    x: X   y: Y
@@ -123,7 +125,10 @@ def main(folder: Path) -> None:
         (folder / f"{name}.expected").write_text(expected)
         print(f"{name}: {expected}", end="")
     (folder / "approximate-majority.pop").write_text(APPROXIMATE)
-    answer = "the protocol is wrong: at x=1 y=1 the predicate `y - x < 0` is false, and 2 moves lead to a terminal crowd in which X outputs true\n"
+    answer = (
+        "the protocol is wrong: at x=1 y=1 the predicate `y - x < 0` is false, and 2 moves lead to a terminal crowd in"
+        " which X outputs true\n"
+    )
     (folder / "approximate-majority.expected").write_text(answer)
 
 

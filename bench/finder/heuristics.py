@@ -1,6 +1,6 @@
-"""What each heuristic of the search gains: `python3 -m bench.finder.heuristics [--large] [--small] [WORD..]`, a table row for
-each whose name has one of the words, with it left out; with `--large` for one net of 93 states and 2,357 moves; with `--small` those
-that make a found tree smaller."""
+"""What each heuristic of the search gains: `python3 -m bench.finder.heuristics [--large] [--small] [WORD..]`, a table
+row for each whose name has one of the words, with it left out; with `--large` for one net of 93 states and 2,357
+moves; with `--small` those that make a found tree smaller."""
 from __future__ import annotations
 
 import sys
@@ -8,7 +8,7 @@ import time
 from contextlib import ExitStack, contextmanager
 from typing import Any, Iterator
 
-from hurleyoak.text.files import LoadedNet
+from hurleyoak.text.loaded import LoadedNet
 from hurleyoak.search import branch, frames, layers, lemmas, solver, treefinder
 from hurleyoak.search.finding import find
 from hurleyoak.search.search import Way

@@ -1,6 +1,8 @@
-"""Wrong nets whose least wrong crowd is known, and is late: a right net for a threshold, with the next one as its predicate.
+"""Wrong nets whose least wrong crowd is known, and is late: a right net for a threshold, with the next one as its
+predicate.
 
-With one agent of x fewer than the predicate asks for, the net says that there are enough, and with any fewer it is right.
+With one agent of x fewer than the predicate asks for, the net says that there are enough, and with any fewer it is
+right.
 """
 from __future__ import annotations
 

@@ -1,4 +1,5 @@
-"""Fast exact majorities: an agent's value is halved until it cancels, and a slow majority stands behind it where that fails."""
+"""Fast exact majorities: an agent's value is halved until it cancels, and a slow majority stands behind it where that
+fails."""
 from __future__ import annotations
 
 from typing import Callable, Optional
@@ -69,8 +70,9 @@ def name(state: State) -> str:
 
 
 def cancel_split(most: int) -> Case:
-    """Cancelling and splitting down to a level (as Doty, Eftekhari, Gasieniec, Severson, Stachowiak and Uznanski 2021 do), without
-    a clock: opposite signs two levels apart are an error, behind which the slow majority's answer counts."""
+    """Cancelling and splitting down to a level (as Doty, Eftekhari, Gasieniec, Severson, Stachowiak and Uznanski 2021
+    do), without a clock: opposite signs two levels apart are an error, behind which the slow majority's answer
+    counts."""
     rule = _rule(most)
     states = _closure([((1, 0), "A"), ((-1, 0), "B")], rule)
     moves: list[NamedMove] = []

@@ -11,7 +11,8 @@ NamedMove = tuple[str, str, str, str]
 
 @dataclass(frozen=True)
 class Case:
-    """One net of a family, with the predicate that it is to compute; `leaves` has the leaves' predicates where there are several."""
+    """One net of a family, with the predicate that it is to compute; `leaves` has the leaves' predicates where there
+    are several."""
 
     family: str
     name: str

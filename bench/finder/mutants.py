@@ -1,6 +1,7 @@
 """Right protocols with one move's result changed: `python3 -m bench.finder.mutants [COUNT]`, what `find` says of each.
 
-The program certifies or plays whatever is shown, so nothing can be certified wrongly; what is counted is how often there is an answer.
+The program certifies or plays whatever is shown, so nothing can be certified wrongly; what is counted is how often
+there is an answer.
 """
 from __future__ import annotations
 
@@ -11,7 +12,7 @@ from dataclasses import replace
 from typing import Iterator
 
 from hurleyoak.engine import program
-from hurleyoak.text.files import LoadedNet
+from hurleyoak.text.loaded import LoadedNet
 from hurleyoak.search.finding import find
 from hurleyoak.search.playing import play
 from hurleyoak.protocol.predicates import value_at
@@ -68,7 +69,8 @@ def mutants(count: int) -> Iterator[Case]:
 
 
 def answer(case: Case) -> str:
-    """What `find` says: `certified` by the program, `counterexample` that the program played, or why there is neither."""
+    """What `find` says: `certified` by the program, `counterexample` that the program played, or why there is
+    neither."""
     loaded = LoadedNet(case.name, case.net, case.predicate, [case.predicate])
     found = find(loaded, SECONDS, 0.0, jobs=1)
     if found.bundle is not None:
@@ -78,7 +80,7 @@ def answer(case: Case) -> str:
             return "counterexample by a hidden move"
         played = play(case.net, found.flaw, value_at(loaded.whole_tree(), found.flaw.counts))
         return f"counterexample, {found.flaw.kind}" if played.is_as_told else "NOT AS PLAYED"
-    return found.failures[0].why
+    return found.failures[0].reason
 
 
 def main(arguments: list[str]) -> None:

@@ -30,7 +30,8 @@ def majority(tie: bool) -> Case:
 
 
 def flock(c: int, rest: bool = False) -> Case:
-    """Agents add up their values, and who has c tells all (Angluin and others 2006); with `rest`, what is over c stays with the other."""
+    """Agents add up their values, and who has c tells all (Angluin and others 2006); with `rest`, what is over c stays
+    with the other."""
     states = [str(i) for i in range(c + 1)]
     moves: list[NamedMove] = []
     for i in range(1, c):
@@ -84,7 +85,8 @@ def log_flock(k: int) -> Case:
 
 
 def binary_flock(c: int) -> Case:
-    """Any threshold in some 2 log c states: powers of 2, and the sums of the highest bits of c (after Blondin, Esparza and Jaax 2018)."""
+    """Any threshold in some 2 log c states: powers of 2, and the sums of the highest bits of c (after Blondin, Esparza
+    and Jaax 2018)."""
     bits = [i for i in range(c.bit_length() - 1, -1, -1) if c >> i & 1]
     top = bits[0]
     sums = [sum(1 << b for b in bits[: j + 1]) for j in range(len(bits))]
@@ -159,7 +161,8 @@ def remainder(m: int, r: int) -> Case:
 
 
 def average(m: int) -> Case:
-    """Average-and-conquer majority: odd values up to m are averaged, and who has none follows (Alistarh, Gelashvili and Vojnovic 2015)."""
+    """Average-and-conquer majority: odd values up to m are averaged, and who has none follows (Alistarh, Gelashvili
+    and Vojnovic 2015)."""
     values = list(range(-m, m + 1, 2))
     name = {v: f"{v:+d}" for v in values}
     moves: list[NamedMove] = []

@@ -1,4 +1,5 @@
-"""Measures `find` in seconds of processor time: `python3 -m bench.finder.run [--large] [--seconds N] [--small N] [WORD..]`, a line for each net."""
+"""Measures `find` in seconds of processor time: `python3 -m bench.finder.run [--large] [--seconds N] [--small N]
+[WORD..]`, a line for each net."""
 from __future__ import annotations
 
 import sys
@@ -7,7 +8,7 @@ from typing import Iterable
 
 from hurleyoak.engine import program
 from hurleyoak.proof.checking import bound
-from hurleyoak.text.files import LoadedNet
+from hurleyoak.text.loaded import LoadedNet
 from hurleyoak.search.finding import find
 from .families import large_nets, small_nets
 from .making import Case
@@ -33,7 +34,7 @@ def measured(case: Case, seconds: float, small: float) -> str:
         result = (
             "counterexample"
             if found.flaw
-            else f"{found.failures[0].kind}: {found.failures[0].why} {found.failures[0].told}"
+            else f"{found.failures[0].kind}: {found.failures[0].reason} {found.failures[0].told}"
         )
     return f"{case.family}\t{case.name}\t{states}\t{moves}\t{took:.1f}\t{nodes}\t{result}"
 

@@ -1,4 +1,5 @@
-"""The tables of MEASURED.md, beside this file, from the lines of `run`: `python3 -m bench.finder.table FILE [--each]`."""
+"""The tables of MEASURED.md, beside this file, from the lines of `run`: `python3 -m bench.finder.table FILE
+[--each]`."""
 from __future__ import annotations
 
 import sys
@@ -33,7 +34,8 @@ def by_family(rows: list[list[str]]) -> list[str]:
         )
         bounds = _range([row[6].split()[1] for row in good])
         out.append(
-            f"| {family} | {len(some)} | {len(good)} | {_range([r[2] for r in some])} | {_range([r[3] for r in some])} | {max(float(r[4]) for r in some):g} | {', '.join(nodes)} | {bounds} |"
+            f"| {family} | {len(some)} | {len(good)} | {_range([r[2] for r in some])} |"
+            f" {_range([r[3] for r in some])} | {max(float(r[4]) for r in some):g} | {', '.join(nodes)} | {bounds} |"
         )
     return out
 
@@ -44,7 +46,8 @@ def each(rows: list[list[str]]) -> list[str]:
     for family, name, states, moves, seconds, nodes, result in rows:
         name = name.replace("|", "\\|")
         out.append(
-            f"| {family}: {name} | {states} | {moves} | {seconds} | {nodes.replace(',', ', ')} | {result.removeprefix('certified ')} |"
+            f"| {family}: {name} | {states} | {moves} | {seconds} | {nodes.replace(',', ', ')} |"
+            f" {result.removeprefix('certified ')} |"
         )
     return out
 

@@ -1,6 +1,6 @@
-"""Compares the sizes of the trees that `find` finds with those of an earlier finder:
-`python3 -m bench.finder.trees [--small N] [--each] [WORD..]`, a table by families, of the nets whose family or name has one of
-the words; with `--each` a line for each net whose sizes differ. The status is 1 where a tree is larger.
+"""Compares the sizes of the trees that `find` finds with those of an earlier finder: `python3 -m bench.finder.trees
+[--small N] [--each] [WORD..]`, a table by families, of the nets whose family or name has one of the words; with
+`--each` a line for each net whose sizes differ. The status is 1 where a tree is larger.
 
 `trial_trees.txt`, beside this file, has the sizes of the earlier finder: for true and for false, for each leaf."""
 from __future__ import annotations
@@ -11,7 +11,7 @@ from dataclasses import dataclass
 from pathlib import Path
 from typing import Iterable
 
-from hurleyoak.text.files import LoadedNet
+from hurleyoak.text.loaded import LoadedNet
 from hurleyoak.search.jobs import deep
 from hurleyoak.search.treefinder import find_tree
 from hurleyoak.search.limits import clock
